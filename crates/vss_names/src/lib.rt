@@ -6,10 +6,12 @@
 //! every object of the outside says that a call failed only where its count of faults rose.
 #![tactic(auto)]
 
+mod failed;
 mod numbers;
 mod out_of_memory;
 mod text;
 
+pub use failed::Failed;
 pub use numbers::Numbers;
 pub use out_of_memory::OutOfMemory;
 pub use text::Text;
