@@ -1,2 +1,12 @@
+pub mod ComponentType
+pub mod Context
 pub mod Faults
+pub mod Level
+pub mod LookUp
+pub mod Order
+pub mod SourceKind
 pub mod TextValue
+pub mod Usage
+pub mod VssResult
+pub mod WriterError
+pub mod WriterState

@@ -42,18 +42,21 @@ impl Numbers {
         })
     }
 
+    /// Lends the numbers.
     pub fn items(&self) -> &[u32]
         ensures { result.now ≡ self.now }
     {
         &self.items
     }
 
+    /// How many numbers there are.
     pub fn len(&self) -> usize
         ensures { result ≡ length self.now }
     {
         self.items.len()
     }
 
+    /// Whether there are no numbers.
     pub fn is_empty(&self) -> bool
         ensures { IsTrue result ↔ (self.now ≡ []) }
     {
@@ -65,5 +68,18 @@ impl Numbers {
         ensures { result.items ≡ self }
     {
         self.items
+    }
+}
+
+#[cfg(test)]
+mod tests {
+    use super::*;
+    use std::test::Fail;
+
+    #[test]
+    fn a_copy_has_the_items(rt: HostRuntime) -> Result<(), Fail> {
+        let numbers = Numbers::copy(rt.alloc(), &[1, 2])?;
+        assert_eq!(rt; numbers.items(), [1, 2].as_slice());
+        Ok(())
     }
 }

@@ -77,18 +77,21 @@ impl Text {
         self.bytes.truncate(len);
     }
 
+    /// Lends the bytes.
     pub fn bytes(&self) -> &[u8]
         ensures { result.now ≡ self.now.bytes }
     {
         &self.bytes
     }
 
+    /// How many bytes there are.
     pub fn len(&self) -> usize
         ensures { result ≡ length self.now.bytes }
     {
         self.bytes.len()
     }
 
+    /// Whether there are no bytes.
     pub fn is_empty(&self) -> bool
         ensures { IsTrue result ↔ (self.now.bytes ≡ []) }
     {
@@ -101,5 +104,22 @@ impl Text {
         ensures spare { vec_capacity result - vec_len result ≡ self.spare }
     {
         self.bytes
+    }
+}
+
+#[cfg(test)]
+mod tests {
+    use super::*;
+    use std::test::Fail;
+
+    #[test]
+    fn a_copy_takes_room_and_grows(rt: HostRuntime) -> Result<(), Fail> {
+        let mut text = Text::copy(rt.alloc(), b"ab")?;
+        assert_eq!(rt; text.len(), 2);
+        text.reserve(10)?;
+        assert_eq!(rt; text.bytes(), b"ab".as_slice());
+        text.add(b"c")?;
+        assert_eq!(rt; text.bytes(), b"abc".as_slice());
+        Ok(())
     }
 }

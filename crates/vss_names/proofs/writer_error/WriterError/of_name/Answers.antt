@@ -1,0 +1,15 @@
+use Rattle.std.proofs.Common.{rules, tests, ◌≡◌, ◌∙◌}
+use Rattle.std.specs.Str.{bytes_eq}
+use Rattle.std.proofs.lemmas.Iterator.{YieldsList-from_slice}
+use Rattle.std.proofs.lemmas.Iterator.Search.{find_from_yields_List}
+use Rattle.vss_names.specs.WriterError.{name_of, error_of_name, errors}
+use Rattle.vss_names.proofs.WriterErrorRows.{IsLookUp-error_of_name}
+use Rattle.vss_names.proofs.writer_error.WriterError.of_name.Goals as goal
+
+pub returns : goal.returns
+unfolding error_of_name
+returns c =
+    let value : c.copied.result ≡ error_of_name c.args.name.now =
+    c.copied.ensures
+    ∙ find_from_yields_List (λ row. bytes_eq (name_of row) c.args.name.now) _ _ c.find.result c.find.ensures.ran (YieldsList-from_slice errors cc) (λ x b q k. search (rules, tests)) in
+    record { value = value; row = IsLookUp-error_of_name _ _ value }

@@ -1,0 +1,14 @@
+use Rattle.std.proofs.Common.{rules, tests, ◌≡◌, ◌∙◌, nat_eq}
+use Rattle.std.proofs.lemmas.Iterator.{YieldsList-from_slice}
+use Rattle.std.proofs.lemmas.Iterator.Search.{find_from_yields_List}
+use Rattle.vss_names.specs.WriterState.{number_of, state_of_number, states}
+use Rattle.vss_names.proofs.WriterStateRows.{IsLookUp-state_of_number}
+use Rattle.vss_names.proofs.writer_state.WriterState.of_number.Goals as goal
+
+pub returns : goal.returns
+unfolding state_of_number
+returns c =
+    let value : c.copied.result ≡ state_of_number c.args.number =
+    c.copied.ensures
+    ∙ find_from_yields_List (λ row. nat_eq (number_of row) c.args.number) _ _ c.find.result c.find.ensures.ran (YieldsList-from_slice states cc) (λ x b q k. search (rules, tests)) in
+    record { value = value; row = IsLookUp-state_of_number _ _ value }
