@@ -16,6 +16,7 @@
 
 mod component_type;
 mod context;
+mod failed;
 mod level;
 mod numbers;
 mod order;
@@ -30,6 +31,7 @@ mod writer_state;
 
 pub use component_type::ComponentType;
 pub use context::Context;
+pub use failed::Failed;
 pub use level::Level;
 pub use numbers::Numbers;
 pub use order::Order;

@@ -1,0 +1,3 @@
+pub mod JoinedParts
+pub mod PayloadLemmas
+pub mod RunsOfBytes

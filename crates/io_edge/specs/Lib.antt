@@ -1,0 +1,4 @@
+pub mod CallsValue
+pub mod MemSinkValue
+pub mod MemSourceValue
+pub mod Streams

@@ -1,0 +1,16 @@
+pub mod Lists
+pub mod Histories
+pub mod Owners
+pub mod Words
+pub mod Seats
+pub mod Looking
+pub mod Drawing
+pub mod Awaiting
+pub mod Serving
+pub mod Ringing
+pub mod Making
+pub mod TakingIn
+pub mod Opening
+pub mod Closing
+pub mod Calling
+pub mod Callers

@@ -1,0 +1,70 @@
+-- Lists of views: sums over them when one of them changes, and where their members stand.
+use Rattle.std.proofs.Common.{◌≡◌, ◌≢◌, ℕ, zero, suc, ◌+◌, ◌<◌, ◌≤◌, ◌⊎◌, inl, inr, ⊎_elim, List, [], ◌∷◌, ◌++◌, length, set, refl, ap, sym, ◌∙◌, subst, arith, length-append, get_or}
+use Rattle.std.specs.List.{sum_by, All}
+use Rattle.std.proofs.lemmas.List.Sums.{sum_by-cons}
+use mathlib.Core.Option.{some, some-ne-none, some-injective}
+use lib.ListN.{get_elem?}
+
+module _ {A : Type 0} where
+  pub at_inside : (l : List A) (i : ℕ) (a : A) → get_elem? l i ≡ some a → i < length l
+  at_inside [] i a e = absurd (some-ne-none a (sym e))
+  at_inside (x ∷ xs) zero a e = omega arith
+  at_inside (x ∷ xs) (suc i) a e = let r = at_inside xs i a e in omega arith
+
+  pub at_one : (l : List A) (i : ℕ) (a b : A) → get_elem? l i ≡ some a → get_elem? l i ≡ some b → a ≡ b
+  at_one l i a b e f = some-injective a b (sym e ∙ f)
+
+  -- the last one, or one of the others
+  pub at_end : (l : List A) (a b : A) (j : ℕ) → get_elem? (l ++ a ∷ []) j ≡ some b → (get_elem? l j ≡ some b) ⊎ ((j ≡ length l) × (a ≡ b))
+  at_end [] a b zero e = inr (refl, some-injective a b e)
+  at_end [] a b (suc j) e = absurd (some-ne-none b (sym e))
+  at_end (x ∷ xs) a b zero e = inl e
+  at_end (x ∷ xs) a b (suc j) e = ⊎_elim (λ t. inl t) (λ t. inr (omega (arith, t.0), t.1)) (at_end xs a b j e)
+
+  pub sum_at : (f : A → ℕ) (l : List A) (i : ℕ) (v w : A) → get_elem? l i ≡ some v → sum_by f (set l i w) + f v ≡ sum_by f l + f w
+  sum_at f [] i v w e = absurd (some-ne-none v (sym e))
+  sum_at f (x ∷ xs) zero v w e = let is : f x ≡ f v = ap f (some-injective x v e) in omega (arith, sum_by-cons f x xs, sum_by-cons f w xs)
+  sum_at f (x ∷ xs) (suc i) v w e = let r = sum_at f xs i v w e in omega (arith, sum_by-cons f x xs, sum_by-cons f x (set xs i w))
+
+  pub sum_has : (f : A → ℕ) (l : List A) (i : ℕ) (v : A) → get_elem? l i ≡ some v → f v ≤ sum_by f l
+  sum_has f [] i v e = absurd (some-ne-none v (sym e))
+  sum_has f (x ∷ xs) zero v e = let is : f x ≡ f v = ap f (some-injective x v e) in omega (arith, sum_by-cons f x xs)
+  sum_has f (x ∷ xs) (suc i) v e = let r = sum_has f xs i v e in omega (arith, sum_by-cons f x xs)
+
+  -- two members of a list count apart
+  pub sum_two : (f : A → ℕ) (l : List A) (i j : ℕ) (v w : A) → i ≢ j → get_elem? l i ≡ some v → get_elem? l j ≡ some w → f v + f w ≤ sum_by f l
+  sum_two f [] i j v w n e g = absurd (some-ne-none v (sym e))
+  sum_two f (x ∷ xs) zero zero v w n e g = absurd (n refl)
+  sum_two f (x ∷ xs) zero (suc j) v w n e g = let is : f x ≡ f v = ap f (some-injective x v e) in omega (arith, sum_by-cons f x xs, sum_has f xs j w g)
+  sum_two f (x ∷ xs) (suc i) zero v w n e g = let is : f x ≡ f w = ap f (some-injective x w g) in omega (arith, sum_by-cons f x xs, sum_has f xs i v e)
+  sum_two f (x ∷ xs) (suc i) (suc j) v w n e g = let r = sum_two f xs i j v w (λ s. n (omega arith)) e g in omega (arith, sum_by-cons f x xs)
+
+  -- a sum of numbers of at most one
+  pub sum_few : (f : A → ℕ) → ((a : A) → f a ≤ 1) → (l : List A) → sum_by f l ≤ length l
+  sum_few f h [] = omega arith
+  sum_few f h (x ∷ xs) = omega (arith, sum_by-cons f x xs, sum_few f h xs, h x)
+
+  pub all_one : (P : A → Type 0) (x : A) → P x → All P (x ∷ [])
+  all_one P x p zero d l = p
+  all_one P x p (suc k) d l = absurd (omega arith)
+
+  pub all_tail : (P : A → Type 0) (x : A) (xs : List A) → All P (x ∷ xs) → All P xs
+  all_tail P x xs h k d l = h (suc k) d (omega arith)
+
+  pub all_front : (P : A → Type 0) (xs ys : List A) → All P (xs ++ ys) → All P xs
+  all_front P [] ys h k d l = absurd (omega arith)
+  all_front P (x ∷ xs) ys h zero d l = h zero d (omega arith)
+  all_front P (x ∷ xs) ys h (suc k) d l = all_front P xs ys (all_tail P x (xs ++ ys) h) k d (omega arith)
+
+  pub all_last : (P : A → Type 0) (xs : List A) (y : A) → All P (xs ++ y ∷ []) → P y
+  all_last P [] y h = h zero y (omega arith)
+  all_last P (x ∷ xs) y h = all_last P xs y (all_tail P x (xs ++ y ∷ []) h)
+
+  -- one more place, where the last one fits its place
+  pub places_more : (P : ℕ → A → Type 0) (xs : List A) (y : A) → ((k : ℕ) (d : A) → k < length xs → P k (get_or xs k d)) → P (length xs) y
+      → (k : ℕ) (d : A) → k < length (xs ++ y ∷ []) → P k (get_or (xs ++ y ∷ []) k d)
+  places_more P [] y h p zero d l = p
+  places_more P [] y h p (suc k) d l = absurd (omega arith)
+  places_more P (x ∷ xs) y h p zero d l = h zero d (omega arith)
+  places_more P (x ∷ xs) y h p (suc k) d l =
+      places_more (λ (i : ℕ) (a : A). P (suc i) a) xs y (λ i e m. h (suc i) e (omega arith)) p k d (omega arith)

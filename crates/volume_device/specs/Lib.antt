@@ -1,0 +1,7 @@
+pub mod Blocks
+pub mod InMemory
+pub mod Made
+pub mod OnHost
+pub mod Plans
+pub mod Schedules
+pub mod Stores

@@ -1,0 +1,22 @@
+-- What a contract sees of a device of the host: that of the memory or of the file it stands for. A file tells
+-- nothing and lends nothing. (This project's own.)
+use Rattle.std.specs.Prelude.{ℕ, Bool, false, List, length, Option, Some, None}
+use Rattle.volume_device.specs.InMemory.{blocks_of, faults_of, lends_of}
+use Rattle.volume_device.specs.declared.host_device.HostDevice.{HostDevice}
+use Rattle.volume_device.specs.declared.host_device.HostDevice.TheVariants.{Memory, File}
+
+abbrev pub host_told : HostDevice → Option (List (List ℕ))
+host_told (Memory device) = Some (blocks_of device)
+host_told (File device) = None
+
+abbrev pub host_size : HostDevice → ℕ
+host_size (Memory device) = length (blocks_of device)
+host_size (File device) = device.blocks
+
+abbrev pub host_faults : HostDevice → ℕ
+host_faults (Memory device) = faults_of device
+host_faults (File device) = device.count
+
+abbrev pub host_lends : HostDevice → Bool
+host_lends (Memory device) = lends_of device
+host_lends (File device) = false

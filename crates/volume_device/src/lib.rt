@@ -1,0 +1,33 @@
+//! Devices of blocks, and the makers that they come from.
+//!
+//! The traits `Device` and `Maker` are all that the crates above know of storage. Contracts see a device as its
+//! blocks, where it tells them, its size, its count of faults and whether it lends; and a maker as the devices that
+//! it got back, its free places and its count. A call fails only where the count rose, and leaves what is told as
+//! it was. Devices in memory fail exactly where they were planned to. Devices in files tell nothing.
+#![tactic(auto)]
+
+mod device;
+mod failing_calls;
+mod file_device;
+mod host_device;
+mod host_maker;
+mod make_fault;
+mod maker;
+mod mem_device;
+mod mem_maker;
+mod plan;
+mod planned;
+mod store;
+#[cfg(test)]
+mod tests;
+
+pub use device::Device;
+pub use file_device::FileDevice;
+pub use host_device::HostDevice;
+pub use host_maker::HostMaker;
+pub use make_fault::MakeFault;
+pub use maker::Maker;
+pub use mem_device::MemDevice;
+pub use mem_maker::MemMaker;
+pub use planned::Planned;
+pub use store::Store;

@@ -1,0 +1,2 @@
+pub mod WriterRow
+pub mod WriterState
