@@ -1,0 +1,9 @@
+pub mod Finds
+pub mod Images
+pub mod Kept
+pub mod Leaving
+pub mod Noting
+pub mod Places
+pub mod Renewal
+pub mod Ruling
+pub mod Settling

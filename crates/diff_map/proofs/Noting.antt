@@ -1,0 +1,196 @@
+-- A slot that is noted for a block of the newest image: its entry goes in at its place, and there is room for it.
+use Rattle.std.proofs.Common.{ℕ, suc, ◌≡◌, ◌≢◌, ◌+◌, ◌-◌, ◌<◌, ◌≤◌, ◌^◌, ◌⊎◌, inl, inr, true, false, eqb, List, ◌∷◌, length, get_or, set, take, drop, map, Option, Some, None, ap, sym, ◌∙◌, subst, arith, All, Contains, Vec, vec_capacity}
+use Rattle.std.specs.List.{AllWithin, insert, slice_get, IsDistinct}
+use Rattle.std.specs.declared.alloc.Global.{Global}
+use Rattle.std.proofs.lemmas.Bool.{cases_eq, cases_lt}
+use Rattle.std.proofs.lemmas.Bool.Decides.{nat_tests}
+use Rattle.std.proofs.lemmas.List.{length-map, length-set, get_or-set_same, get_or-set_other, get_or_default, get_or-map, take-append-drop}
+use Rattle.std.proofs.lemmas.List.Edits.{get_or-insert_below, get_or-insert_at, get_or-insert_above, length-insert}
+use Rattle.std.proofs.lemmas.List.Elements.{All-append, All-cons, All-take, All-drop, All-map, recursion_from_All, Contains-append_cases, Contains-append_left, Contains-append_right}
+use Rattle.std.proofs.lemmas.List.Folds.{Any-from_list_any}
+use Rattle.std.proofs.lemmas.Map.Keys.{IsDistinct-cons, IsDistinct-from_apart}
+use Rattle.std.proofs.lemmas.Map.Steps.{length-le_from_distinct_below}
+use Rattle.std.proofs.lemmas.Option.{same_Some, none-some, get_or_from_slice_get, slice_get_within}
+use Rattle.diff_map.specs.declared.copied.Copied.{Copied}
+use Rattle.diff_map.specs.declared.entry.Entry.{Entry}
+use Rattle.diff_map.specs.Copies.{copied_at, copy_of, HasCopy}
+use Rattle.diff_map.specs.MapValue.{AreImages, IsMap}
+use Rattle.diff_map.specs.Index.{place, place_of, IsInOrder, IsIndex, IsNoted, KeepsIndex}
+use Rattle.diff_map.proofs.Renewal.{slots_apart, row_within}
+
+-- no two slots are noted for one block of one image
+pub noted_once : (entries : List Entry) (copies : List (Option Copied)) → IsIndex entries copies → (slot other : ℕ) (c : Copied) → copied_at copies slot ≡ Some c → copied_at copies other ≡ Some c → slot ≡ other
+noted_once entries copies index slot other c row row2 =
+    let f : Entry = record { block = c.block; set = c.set; slot = slot } in
+    let g : Entry = record { block = c.block; set = c.set; slot = other } in
+    let a = index.all slot c row in
+    let b = index.all other c row2 in
+    let a_is : get_or entries a.0 f ≡ f = a.2 in
+    let b_is : get_or entries b.0 f ≡ g = get_or_default entries b.0 f g b.1 ∙ b.2 in
+    let a_place : place (get_or entries a.0 f) ≡ place f = ap place a_is in
+    let b_place : place (get_or entries b.0 f) ≡ place g = ap place b_is in
+    elim (cases_eq a.0 b.0) [
+      | inl same ↦ ap (λ x. x.slot) (sym a_is ∙ ap (λ k. get_or entries k f) same ∙ b_is)
+      | inr apart ↦ absurd (elim (cases_lt a.0 b.0) [
+        | inl low ↦ let up = index.in_order a.0 b.0 f low b.1 in omega arith
+        | inr high ↦ let up = index.in_order b.0 a.0 f (omega arith) a.1 in omega arith
+      ])
+    ]
+
+-- what holds of each map
+pub IsMap-kept : (blocks : ℕ) (images : Vec ℕ Global) (entries : Vec Entry Global) (copies : List (Option Copied)) → KeepsIndex blocks images entries copies → IsMap (record { blocks = blocks; images = images.items; copies = copies })
+IsMap-kept blocks images entries copies keeps = record {
+  images = keeps.are_images;
+  of_images = keeps.of_images;
+  of_blocks = keeps.of_blocks;
+  once = noted_once entries.items copies keeps.index;
+}
+
+module _ (entries : List Entry) (copies : List (Option Copied)) (slot image block n : ℕ) (index : IsIndex entries copies) (unnoted : slice_get copies slot ≡ Some None) (lacks : HasCopy copies image block → ⊥) (narrow : image < 2 ^ 32) (within : n ≤ length entries) (before : AllWithin (λ e. place e < place_of block image) entries 0 n) (onward : AllWithin (λ e. place_of block image ≤ place e) entries n (length entries)) where
+  is_none : copied_at copies slot ≡ None
+  is_none = get_or_from_slice_get copies slot None None unnoted
+
+  inside : slot < length copies
+  inside = slice_get_within copies slot None unnoted
+
+  abbrev rows : List (Option Copied)
+  rows = set copies slot (Some (copy_of image block))
+
+  abbrev e : Entry
+  e = record { block = block; set = image; slot = slot }
+
+  other_slot : (x : Entry) → IsNoted copies x → x.slot ≢ slot
+  other_slot x noted same = none-some (copy_of x.set x.block) (sym is_none ∙ ap (copied_at copies) (sym same) ∙ noted.row)
+
+  still_noted : (x : Entry) → IsNoted copies x → IsNoted rows x
+  still_noted x noted = record { row = get_or-set_other copies slot x.slot (Some (copy_of image block)) None (other_slot x noted) ∙ noted.row; narrow = noted.narrow }
+
+  -- the entries from the place on stand behind the new one
+  behind : (k : ℕ) (d : Entry) → n ≤ k → k < length entries → place_of block image < place (get_or entries k d)
+  behind k d le inside_k =
+      let high = onward k d le inside_k in
+      let noted = index.each k d inside_k in
+      let x_narrow = noted.narrow in
+      elim (cases_eq (place (get_or entries k d)) (place_of block image)) [
+        | inl same ↦
+            let blocks : (get_or entries k d).block ≡ block = omega arith in
+            let sets : (get_or entries k d).set ≡ image = omega arith in
+            absurd (lacks ((get_or entries k d).slot, noted.row ∙ ap (λ s. Some (copy_of s (get_or entries k d).block)) sets ∙ ap (λ b. Some (copy_of image b)) blocks))
+        | inr apart ↦ omega arith
+      ]
+
+  noted_order : IsInOrder (insert entries n e)
+  noted_order i j d low inside_j =
+      let long = length-insert entries n e within in
+      elim (cases_lt j n) [
+        | inl j_low ↦
+            let a = ap place (get_or-insert_below entries n e d i (omega arith) within) in
+            let b = ap place (get_or-insert_below entries n e d j j_low within) in
+            let up = index.in_order i j d low (omega arith) in
+            omega arith
+        | inr j_high ↦ elim (cases_eq j n) [
+          | inl j_here ↦
+              let a = ap place (get_or-insert_below entries n e d i (omega arith) within) in
+              let b : place (get_or (insert entries n e) j d) ≡ place e = ap (λ k. place (get_or (insert entries n e) k d)) j_here ∙ ap place (get_or-insert_at entries n e d within) in
+              let up = before i d (omega arith) (omega arith) in
+              omega arith
+          | inr j_past ↦
+              let step : (j - 1) + 1 ≡ j = omega arith in
+              let b : place (get_or (insert entries n e) j d) ≡ place (get_or entries (j - 1) d) = ap (λ k. place (get_or (insert entries n e) k d)) (sym step) ∙ ap place (get_or-insert_above entries n e d (j - 1) (omega arith) within) in
+              let past = behind (j - 1) d (omega arith) (omega arith) in
+              elim (cases_lt i n) [
+                | inl i_low ↦
+                    let a = ap place (get_or-insert_below entries n e d i i_low within) in
+                    let up = before i d (omega arith) i_low in
+                    omega arith
+                | inr i_high ↦ elim (cases_eq i n) [
+                  | inl i_here ↦
+                      let a : place (get_or (insert entries n e) i d) ≡ place e = ap (λ k. place (get_or (insert entries n e) k d)) i_here ∙ ap place (get_or-insert_at entries n e d within) in
+                      omega arith
+                  | inr i_past ↦
+                      let step_i : (i - 1) + 1 ≡ i = omega arith in
+                      let a : place (get_or (insert entries n e) i d) ≡ place (get_or entries (i - 1) d) = ap (λ k. place (get_or (insert entries n e) k d)) (sym step_i) ∙ ap place (get_or-insert_above entries n e d (i - 1) (omega arith) within) in
+                      let up = index.in_order (i - 1) (j - 1) d (omega arith) (omega arith) in
+                      omega arith
+                ]
+              ]
+        ]
+      ]
+
+  new_row : copied_at rows slot ≡ Some (copy_of image block)
+  new_row = get_or-set_same copies slot (Some (copy_of image block)) None inside
+
+  contains_new : Contains (insert entries n e) e
+  contains_new = (n, let long = length-insert entries n e within in omega arith, get_or-insert_at entries n e e within)
+
+  contains_old : (x : Entry) → Contains entries x → Contains (insert entries n e) x
+  contains_old x found = elim (Contains-append_cases (take n entries) (drop n entries) x (subst (λ (xs : List Entry). Contains xs x) (sym (take-append-drop n entries)) found)) [
+    | inl front ↦ Contains-append_left (take n entries) (e ∷ drop n entries) x front
+    | inr back ↦ Contains-append_right (take n entries) (e ∷ drop n entries) x (suc back.0, let l = back.1 in omega arith, back.2)
+  ]
+
+  noted_all : (k : ℕ) (c : Copied) → copied_at rows k ≡ Some c → Contains (insert entries n e) (record { block = c.block; set = c.set; slot = k })
+  noted_all k c row = elim (cases_eq k slot) [
+    | inl same ↦
+        let is : copy_of image block ≡ c = same_Some (copy_of image block) c (sym new_row ∙ ap (copied_at rows) (sym same) ∙ row) in
+        subst (λ (x : Entry). Contains (insert entries n e) x) (ap (λ (y : Copied). record { block = y.block; set = y.set; slot = slot }) is ∙ ap (λ (s : ℕ). record { block = c.block; set = c.set; slot = s }) (sym same)) contains_new
+    | inr other ↦ contains_old (record { block = c.block; set = c.set; slot = k }) (index.all k c (sym (get_or-set_other copies slot k (Some (copy_of image block)) None other) ∙ row))
+  ]
+
+  pub IsIndex-noted : IsIndex (insert entries n e) rows
+  IsIndex-noted =
+      let each : All (IsNoted rows) entries = λ k d i. still_noted (get_or entries k d) (index.each k d i) in
+      record {
+        in_order = noted_order;
+        each = All-append (IsNoted rows) (take n entries) (e ∷ drop n entries) (All-take (IsNoted rows) n entries each) (All-cons (IsNoted rows) e (drop n entries) (record { row = new_row; narrow = narrow }) (All-drop (IsNoted rows) n entries each));
+        all = noted_all;
+      }
+
+  -- a slot that is not noted leaves room for an entry
+  pub room_for_one : length entries < length copies
+  room_for_one =
+      let slots : List ℕ = map (λ (x : Entry). x.slot) entries in
+      let long = length-map entries (λ (x : Entry). x.slot) in
+      let apart : IsDistinct eqb slots = IsDistinct-from_apart eqb slots (λ i j d low inside_j.
+      let dd : Entry = e in
+      let a : get_or slots i d ≡ (get_or entries i dd).slot = get_or-map (λ (x : Entry). x.slot) entries i dd d (omega arith) in
+      let b : get_or slots j d ≡ (get_or entries j dd).slot = get_or-map (λ (x : Entry). x.slot) entries j dd d (omega arith) in
+      let differ = slots_apart entries copies index i j dd dd low (omega arith) in
+      let other : get_or slots i d ≢ get_or slots j d = λ same. differ (sym a ∙ same ∙ b) in
+      grind (arith, nat_tests)) in
+      let news : All (λ y. eqb slot y ≡ false) slots = All-map (λ y. eqb slot y ≡ false) (λ (x : Entry). x.slot) entries (λ k d i. let other = other_slot (get_or entries k d) (index.each k d i) in grind (arith, nat_tests)) in
+      let distinct = IsDistinct-cons eqb slot slots (recursion_from_All (λ y. eqb slot y ≡ false) slots news) apart in
+      let low : All (λ y. y < length copies) (slot ∷ slots) = All-cons (λ y. y < length copies) slot slots inside (All-map (λ y. y < length copies) (λ (x : Entry). x.slot) entries (λ k d i. row_within copies (get_or entries k d).slot _ (index.each k d i).row)) in
+      let most = length-le_from_distinct_below (slot ∷ slots) (length copies) distinct (λ q found.
+      let any = Any-from_list_any (eqb q) (slot ∷ slots) found in
+      let at : get_or (slot ∷ slots) any.0 any.1 ≡ any.1 = any.3 in
+      let test : eqb q any.1 ≡ true = any.4 in
+      let bound = low any.0 any.1 any.2 in
+      let same : q ≡ any.1 = grind (arith, nat_tests) in
+      omega arith) in
+      omega arith
+
+pub image_narrow : (images : List ℕ) (image : ℕ) → AreImages images → Contains images image → image < 2 ^ 32
+image_narrow images image are at =
+    let is : get_or images at.0 image ≡ image = at.2 in
+    let narrow = (are.above_zero at.0 image at.1).1 in
+    omega arith
+
+pub KeepsIndex-noted : (blocks : ℕ) (images : Vec ℕ Global) (entries later : Vec Entry Global) (copies : List (Option Copied)) (slot image block n : ℕ) → KeepsIndex blocks images entries copies → slice_get copies slot ≡ Some None → (HasCopy copies image block → ⊥) → Contains images.items image → block < blocks → n ≤ length entries.items → AllWithin (λ e. place e < place_of block image) entries.items 0 n → AllWithin (λ e. place_of block image ≤ place e) entries.items n (length entries.items) → later.items ≡ insert entries.items n (record { block = block; set = image; slot = slot }) → vec_capacity entries ≤ vec_capacity later → KeepsIndex blocks images later (set copies slot (Some (copy_of image block)))
+KeepsIndex-noted blocks images entries later copies slot image block n keeps unnoted lacks at low within before onward items cap =
+    let narrow = image_narrow images.items image keeps.are_images at in
+    let is_new : copied_at (set copies slot (Some (copy_of image block))) slot ≡ Some (copy_of image block) = get_or-set_same copies slot (Some (copy_of image block)) None (slice_get_within copies slot None unnoted) in
+    let from : (k : ℕ) (c : Copied) → copied_at (set copies slot (Some (copy_of image block))) k ≡ Some c → (copied_at copies k ≡ Some c) ⊎ (copy_of image block ≡ c) = λ k c row. elim (cases_eq k slot) [
+      | inl same ↦ inr (same_Some (copy_of image block) c (sym is_new ∙ ap (copied_at (set copies slot (Some (copy_of image block)))) (sym same) ∙ row))
+      | inr other ↦ inl (sym (get_or-set_other copies slot k (Some (copy_of image block)) None other) ∙ row)
+    ] in
+    record {
+      index = subst (λ (xs : List Entry). IsIndex xs (set copies slot (Some (copy_of image block)))) (sym items) (IsIndex-noted entries.items copies slot image block n keeps.index unnoted lacks narrow within before onward);
+      are_images = keeps.are_images;
+      of_images = λ k c row. elim (from k c row) [ inl old ↦ keeps.of_images k c old | inr new ↦ subst (λ (x : Copied). Contains images.items x.set) new at ];
+      of_blocks = λ k c row. elim (from k c row) [ inl old ↦ keeps.of_blocks k c old | inr new ↦ subst (λ (x : Copied). x.block < blocks) new low ];
+      room = let long = length-set copies slot (Some (copy_of image block)) in let r = keeps.room in omega arith;
+      narrow =
+          let long = length-set copies slot (Some (copy_of image block)) in let r = keeps.narrow in omega arith;
+      image_room = keeps.image_room;
+    }

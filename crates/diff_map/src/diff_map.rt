@@ -1,0 +1,259 @@
+ghost use Rattle.std.specs.Prelude.{◌≡◌, ◌≢◌, ◌<◌, ◌≤◌, ◌++◌, ◌∷◌, [], List, Option, Some, None, length, replicate, slice_get, slice_set, slice_index, filter, not, ◌==◌, nat_le, nat_lt, map, drop, All, Contains, IsTrue, IfOk, IfSome, IsNone, ◌↔◌};
+ghost use Rattle.diff_map.specs.MapValue.{IsMap, newest};
+ghost use Rattle.diff_map.specs.Copies.{HasCopy, AllTaken, copied_at, copy_of};
+ghost use Rattle.diff_map.specs.Chains.{IsFound, IsAbsent, KeepsFinds};
+ghost use Rattle.diff_map.specs.Rules.{renewed, dropped, cleared, merged, next_older, GivesBack};
+
+use crate::copied::Copied;
+use crate::entry::Entry;
+use crate::going::Going;
+use crate::index::{first_from, free_images, merge_rows, next_older, settle};
+use slot_pool::SlotPool;
+use std::alloc::Global;
+use std::marker::Model;
+use vss_names::OutOfMemory;
+
+/// The most images that a volume has at a time.
+pub const MOST_IMAGES: usize = 512;
+
+/// The images of a volume, and which slot of the diff area holds which old block of which image. Several maps may
+/// share one pool of slots.
+#[derive(Drop)]
+pub struct DiffMap {
+    blocks: u32,
+    images: Vec<u32>,
+    entries: Vec<Entry>,
+    copies: Vec<Option<Copied>>,
+}
+
+impl Model for DiffMap {
+    ghost use Rattle.diff_map.specs.MapValue.{MapValue};
+    ghost use Rattle.diff_map.specs.Index.{KeepsIndex};
+
+    ghost Value = { MapValue };
+
+    ghost view = { λ m. record { blocks = m.blocks; images = m.images.items; copies = m.copies.items } };
+
+    ghost invariant = { λ m. KeepsIndex m.blocks m.images m.entries m.copies.items };
+}
+
+impl DiffMap {
+    /// A map without images for a volume of `blocks` blocks over a diff area of `slots` slots. It takes all memory
+    /// that the map ever needs.
+    pub fn new(alloc: Global, blocks: u32, slots: u32) -> Result<DiffMap, OutOfMemory>
+        ensures { IfOk result (λ m. m ≡ record { blocks = blocks; images = []; copies = replicate slots None }) }
+    {
+        Ok(DiffMap {
+            blocks,
+            images: Vec::with_capacity(alloc, MOST_IMAGES)?,
+            entries: Vec::with_capacity(alloc, slots as usize)?,
+            copies: vec![in alloc; None; slots as usize]?,
+        })
+    }
+
+    /// How many blocks the volume has.
+    pub fn blocks(&self) -> u32
+        ensures { result ≡ self.now.blocks }
+    {
+        self.blocks
+    }
+
+    /// How many slots the diff area has.
+    pub fn slots(&self) -> u32
+        ensures { result ≡ length self.now.copies }
+    {
+        self.copies.len() as u32
+    }
+
+    /// The sets of the images, oldest first.
+    pub fn images(&self) -> &[u32]
+        ensures images { result.now ≡ self.now.images }
+        ensures valid { IsMap self.now }
+    {
+        &self.images
+    }
+
+    /// For what the slot is noted.
+    pub fn held_by(&self, slot: u32) -> Option<Copied>
+        requires { slot < length self.now.copies }
+        ensures { result ≡ copied_at self.now.copies slot }
+    {
+        self.copies[slot as usize]
+    }
+
+    /// The slot that shows what the image of `set` holds at this block: that of the first image, from the asked one
+    /// to the newest, that has the block.
+    pub fn find(&self, set: u32, block: u32) -> Option<u32>
+        ensures found { IfSome result (IsFound self.now.copies set block) }
+        ensures none { IsNone result ↔ IsAbsent self.now.copies set block }
+    {
+        let at = first_from(&self.entries, block, set);
+        if at == self.entries.len() {
+            return None;
+        }
+        let entry = self.entries[at];
+        if entry.block == block {
+            Some(entry.slot)
+        } else {
+            None
+        }
+    }
+
+    /// Whether the newest image has a copy of this block.
+    pub fn newest_has(&self, block: u32) -> bool
+        ensures { IsTrue result ↔ HasCopy self.now.copies (newest self.now.images) block }
+    {
+        match self.images.last() {
+            Some(&set) => self.find(set, block).is_some(),
+            None => false,
+        }
+    }
+
+    /// Adds an image, the newest, without copies.
+    pub fn add_image(&mut self, set: u32)
+        requires room { length self.old.images < 512 }
+        requires above_zero { 0 < set }
+        requires newest { All (λ image. image < set) self.old.images }
+        ensures { self.new ≡ record self.old { images = self.old.images ++ set ∷ [] } }
+    {
+        let _ = self.images.push(set);
+    }
+
+    /// Notes the slot for this block of the newest image.
+    pub fn note(&mut self, block: u32, slot: u32)
+        requires image { 0 < length self.old.images }
+        requires in_range { block < self.old.blocks }
+        requires lacks { HasCopy self.old.copies (newest self.old.images) block → ⊥ }
+        requires unnoted { slice_get self.old.copies slot ≡ Some None }
+        ensures { self.new ≡ record self.old { copies = slice_set self.old.copies slot (Some (copy_of (newest self.old.images) block)) } }
+    {
+        let set = self.images[self.images.len() - 1];
+        let at = first_from(&self.entries, block, set);
+        let _ = self.entries.insert(at, Entry { block, set, slot });
+        self.copies[slot as usize] = Some(Copied { set, block });
+    }
+
+    /// Takes the oldest image out and gives its slots back. It walks the map's list of copies twice.
+    pub fn drop_oldest(&mut self, pool: &mut SlotPool)
+        requires image { 0 < length self.old.images }
+        requires taken { AllTaken self.old.copies pool.old }
+        ensures map { self.new ≡ record { blocks = self.old.blocks; images = drop 1 self.old.images; copies = renewed (dropped (slice_index self.old.images 0)) self.old.copies } }
+        ensures slots { GivesBack self.old.copies self.new.copies pool.old pool.new }
+        ensures others { KeepsFinds self.old self.new (slice_index self.old.images 0) }
+    {
+        let oldest = self.images[0];
+        self.merge_down(oldest, pool);
+    }
+
+    /// Takes the image of `set` out. The next older image gets the copies of those blocks that it lacks; the other
+    /// copies' slots, or all where no image is older, are given back. It walks the map's list of copies twice.
+    pub fn merge_down(&mut self, set: u32, pool: &mut SlotPool)
+        requires image { Contains self.old.images set }
+        requires taken { AllTaken self.old.copies pool.old }
+        ensures map { self.new ≡ record { blocks = self.old.blocks; images = filter (λ image. not (image == set)) self.old.images; copies = renewed (merged self.old.copies (next_older self.old.images set) set) self.old.copies } }
+        ensures slots { GivesBack self.old.copies self.new.copies pool.old pool.new }
+        ensures others { KeepsFinds self.old self.new set }
+    {
+        let older = next_older(&self.images, set);
+        merge_rows(&self.entries, &mut self.copies, pool, set, older);
+        self.images.retain(|&image| image != set);
+        settle(&mut self.entries, &self.copies);
+    }
+
+    /// Takes each image newer than `set` out and empties the image of `set`, which stays; all their slots are given
+    /// back. It walks the map's list of copies twice, however many images go.
+    pub fn clear_from(&mut self, set: u32, pool: &mut SlotPool)
+        requires image { Contains self.old.images set }
+        requires taken { AllTaken self.old.copies pool.old }
+        ensures map { self.new ≡ record { blocks = self.old.blocks; images = filter (λ image. nat_le image set) self.old.images; copies = renewed (cleared set) self.old.copies } }
+        ensures slots { GivesBack self.old.copies self.new.copies pool.old pool.new }
+    {
+        self.images.retain(|&image| image <= set);
+        free_images(&self.entries, &mut self.copies, pool, Going::From(set));
+        settle(&mut self.entries, &self.copies);
+    }
+}
+
+#[cfg(test)]
+mod tests {
+    use super::DiffMap;
+    use crate::copied::Copied;
+    use slot_pool::SlotPool;
+    use std::process::Abort;
+    use std::test::Fail;
+
+    fn all_taken(map: &DiffMap, pool: &SlotPool) -> bool
+        ensures { IsTrue result → AllTaken map.now.copies pool.now }
+    {
+        for slot in 0..map.slots() {
+            if map.held_by(slot).is_some() && (slot >= pool.slots() || !pool.is_taken(slot)) {
+                return false;
+            }
+        }
+        true
+    }
+
+    fn add_image(rt: &impl Abort, map: &mut DiffMap, set: u32) {
+        assert!(rt; map.images().len() < 512);
+        assert!(rt; set > 0);
+        assert!(rt; map.images().iter().all(|image| *image < set));
+        map.add_image(set);
+    }
+
+    fn copy_block(rt: &impl Abort, map: &mut DiffMap, pool: &mut SlotPool, block: u32) {
+        let slot = pool.take().expect(rt, "no slot is free");
+        assert!(rt; map.images().len() > 0);
+        assert!(rt; block < map.blocks());
+        assert!(rt; !map.newest_has(block));
+        assert!(rt; slot < map.slots());
+        assert!(rt; map.held_by(slot).is_none());
+        map.note(block, slot);
+    }
+
+    #[test]
+    fn the_first_image_from_the_asked_one_on_has_the_block(rt: HostRuntime) -> Result<(), Fail> {
+        let mut pool = SlotPool::new(rt.alloc(), 2)?;
+        let mut map = DiffMap::new(rt.alloc(), 4, 2)?;
+        add_image(&rt, &mut map, 1);
+        copy_block(&rt, &mut map, &mut pool, 3);
+        add_image(&rt, &mut map, 2);
+        copy_block(&rt, &mut map, &mut pool, 1);
+        for (set, block, slot) in [(1, 3, Some(0)), (1, 1, Some(1)), (2, 3, None)] {
+            assert_eq!(rt; map.find(set, block), slot, "block {block} of image {set}");
+        }
+        assert_eq!(rt; map.images(), [1, 2].as_slice());
+        Ok(())
+    }
+
+    #[test]
+    fn an_image_that_goes_leaves_what_the_others_find(rt: HostRuntime) -> Result<(), Fail> {
+        let mut pool = SlotPool::new(rt.alloc(), 8)?;
+        let mut map = DiffMap::new(rt.alloc(), 4, 8)?;
+        for set in [1, 2, 3] {
+            add_image(&rt, &mut map, set);
+            copy_block(&rt, &mut map, &mut pool, set);
+            copy_block(&rt, &mut map, &mut pool, 0);
+        }
+        assert!(rt; map.images().contains(&2));
+        assert!(rt; all_taken(&map, &pool));
+        map.merge_down(2, &mut pool);
+        assert_eq!(rt; map.images(), [1, 3].as_slice());
+        assert!(rt; map.slots() == 8);
+        assert_eq!(rt; map.held_by(2), Some(Copied { set: 1, block: 2 }));
+        assert_eq!(rt; map.held_by(3), None);
+        assert_eq!(rt; map.find(1, 2), Some(2));
+        assert_eq!(rt; map.find(1, 0), Some(1));
+        assert_eq!(rt; pool.used(), 5);
+        assert!(rt; map.images().len() > 0);
+        assert!(rt; all_taken(&map, &pool));
+        map.drop_oldest(&mut pool);
+        assert_eq!(rt; map.images(), [3].as_slice());
+        assert_eq!(rt; pool.used(), 2);
+        assert!(rt; map.images().contains(&3));
+        assert!(rt; all_taken(&map, &pool));
+        map.clear_from(3, &mut pool);
+        assert_eq!(rt; map.images(), [3].as_slice());
+        assert_eq!(rt; pool.used(), 0);
+        Ok(())
+    }
+}

@@ -1,0 +1,20 @@
+ghost use Rattle.std.specs.Prelude.{◌≡◌, nat_lt};
+
+/// A noted slot, in the map's list in order of block and then of set.
+#[derive(Clone, Copy, Debug, PartialEq, Eq)]
+pub struct Entry {
+    pub block: u32,
+    pub set: u32,
+    pub slot: u32,
+}
+
+impl Entry {
+    ghost use Rattle.diff_map.specs.Index.{place, place_of};
+
+    /// Whether this entry stands before those of this block from this set on.
+    pub fn is_before(self, block: u32, set: u32) -> bool
+        ensures { result ≡ nat_lt (place self) (place_of block set) }
+    {
+        self.block < block || (self.block == block && self.set < set)
+    }
+}

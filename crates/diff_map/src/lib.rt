@@ -1,0 +1,17 @@
+//! Which slot holds which old block of which image: the chains of copies of one volume.
+//!
+//! Contracts see a `DiffMap` as the volume's number of blocks, its images in order of sets, and one row for each slot
+//! of the diff area: the image and block for which the slot is noted, if any. They say nothing of how the map finds
+//! a copy. They promise that `find` answers the slot of the first image, from the asked one to the newest, that has
+//! the block; that an image which goes gives exactly its own slots back to the pool, or its copies to the next older
+//! image; and that every other image keeps what is found for it. After `new` no call takes memory.
+#![tactic(auto)]
+
+mod copied;
+mod diff_map;
+mod entry;
+mod going;
+mod index;
+
+pub use copied::Copied;
+pub use diff_map::DiffMap;

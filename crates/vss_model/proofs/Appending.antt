@@ -1,0 +1,81 @@
+-- What one more move adds to the state, the acts, the legality and the faults of a trail.
+use Rattle.std.proofs.Common.{◌≡◌, ◌+◌, List, [], ◌∷◌, ◌++◌, Option, Some, None, refl, Bool, true, false, ap, sym, ◌∙◌, fold, cond}
+use Rattle.std.specs.Prelude.{◌&&◌}
+use Rattle.std.proofs.lemmas.List.{append_assoc}
+use Rattle.std.proofs.lemmas.List.Sums.{fold-append, sum_by-append}
+use Rattle.write_history.specs.declared.mark.Mark.{Mark}
+use Rattle.write_history.specs.declared.move_item.Move.{Move}
+use Rattle.scenario.specs.Plan.{Plan}
+use Rattle.vss_model.specs.declared.event.Event.{Event}
+use Rattle.vss_model.specs.State.{State, start}
+use Rattle.vss_model.specs.Acts.{Act, after, state}
+use Rattle.vss_model.specs.Trail.{Run, begin, event_of, acts_if, after_event, moved, run_from, run, acts_from, acts, is_legal_move, is_legal_from, is_legal, is_fault, faults}
+
+pub state-append : (s : Plan) (before : List Act) (act : Act) → state s (before ++ act ∷ []) ≡ after s (state s before) act
+state-append s before act = fold-append (after s) (start s) before (act ∷ [])
+
+pub run-append : (s : Plan) (trail : List Move) (m : Move) → run s (trail ++ m ∷ []) ≡ moved s (run s trail) m
+run-append s trail m = fold-append (moved s) (begin s) trail (m ∷ [])
+
+-- a run keeps its moves
+moves-run_from : (s : Plan) (r : Run) (ms : List Move) → (run_from s r ms).moves ≡ r.moves ++ ms
+moves-run_from s r [] = sym (append_nil r.moves)
+  where
+    append_nil : (xs : List Move) → xs ++ [] ≡ xs
+    append_nil [] = refl
+    append_nil (x ∷ xs) = ap (λ ys. x ∷ ys) (append_nil xs)
+moves-run_from s r (m ∷ ms) = moves-run_from s (moved s r m) ms ∙ append_assoc r.moves (m ∷ []) ms
+
+pub moves-run : (s : Plan) (trail : List Move) → (run s trail).moves ≡ trail
+moves-run s trail = moves-run_from s (begin s) trail
+
+-- the state of a run is that after its acts
+after-acts_if : (s : Plan) (st : State) (event : Option Event) (mark : Mark) → fold (after s) st (acts_if event mark) ≡ after_event s st event mark
+after-acts_if s st None mark = refl
+after-acts_if s st (Some event) mark = refl
+
+fold-acts_from : (s : Plan) (r : Run) (ms : List Move) → fold (after s) r.state (acts_from s r ms) ≡ (run_from s r ms).state
+fold-acts_from s r [] = refl
+fold-acts_from s r (m ∷ ms) =
+    fold-append (after s) r.state (acts_if (event_of s r m.actor) m.mark) (acts_from s (moved s r m) ms)
+    ∙ ap (λ st. fold (after s) st (acts_from s (moved s r m) ms)) (after-acts_if s r.state (event_of s r m.actor) m.mark)
+    ∙ fold-acts_from s (moved s r m) ms
+
+pub state-run : (s : Plan) (trail : List Move) → (run s trail).state ≡ state s (acts s trail)
+state-run s trail = sym (fold-acts_from s (begin s) trail)
+
+-- the acts of one more move
+append_nothing : {X : Type 0} (xs : List X) → xs ++ [] ≡ xs
+append_nothing [] = refl
+append_nothing (x ∷ xs) = ap (λ ys. x ∷ ys) (append_nothing xs)
+
+acts_from-append : (s : Plan) (r : Run) (ms : List Move) (m : Move) → acts_from s r (ms ++ m ∷ []) ≡ acts_from s r ms ++ acts_if (event_of s (run_from s r ms) m.actor) m.mark
+acts_from-append s r [] m = append_nothing (acts_if (event_of s r m.actor) m.mark)
+acts_from-append s r (n ∷ ms) m =
+    ap (λ xs. acts_if (event_of s r n.actor) n.mark ++ xs) (acts_from-append s (moved s r n) ms m)
+    ∙ sym (append_assoc (acts_if (event_of s r n.actor) n.mark) (acts_from s (moved s r n) ms) (acts_if (event_of s (run_from s (moved s r n) ms) m.actor) m.mark))
+
+pub acts-append : (s : Plan) (trail : List Move) (m : Move) → acts s (trail ++ m ∷ []) ≡ acts s trail ++ acts_if (event_of s (run s trail) m.actor) m.mark
+acts-append s trail m = acts_from-append s (begin s) trail m
+
+-- the legality of one more move
+and_true : (b : Bool) → (b && true) ≡ b
+and_true true = refl
+and_true false = refl
+
+and_assoc : (a b c : Bool) → (a && (b && c)) ≡ (a && b && c)
+and_assoc true b c = refl
+and_assoc false b c = refl
+
+is_legal_from-append : (s : Plan) (r : Run) (ms : List Move) (m : Move) → is_legal_from s r (ms ++ m ∷ []) ≡ (is_legal_from s r ms && is_legal_move s (run_from s r ms) m)
+is_legal_from-append s r [] m = and_true (is_legal_move s r m)
+is_legal_from-append s r (n ∷ ms) m =
+    ap (λ b. is_legal_move s r n && b) (is_legal_from-append s (moved s r n) ms m)
+    ∙ and_assoc (is_legal_move s r n) (is_legal_from s (moved s r n) ms) (is_legal_move s (run_from s (moved s r n) ms) m)
+
+pub is_legal-append : (s : Plan) (trail : List Move) (m : Move) → is_legal s (trail ++ m ∷ []) ≡ (is_legal s trail && is_legal_move s (run s trail) m)
+is_legal-append s trail m = is_legal_from-append s (begin s) trail m
+
+-- the faults of one more move
+pub faults-append : (trail : List Move) (m : Move) → faults (trail ++ m ∷ []) ≡ faults trail + faults (m ∷ [])
+faults-append trail m = sum_by-append (λ (x : Move). cond (is_fault x.mark) 1 0) trail (m ∷ [])

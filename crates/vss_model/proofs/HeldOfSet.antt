@@ -1,0 +1,424 @@
+-- A running snapshot agenda is that of the one set in progress, with its volumes and participants.
+use Rattle.std.proofs.Common.{◌≡◌, ℕ, ◌+◌, ◌==◌, List, [], ◌∷◌, Option, Some, None, refl, Bool, true, false, map, ap, sym, ◌∙◌, subst, find, fold}
+use Rattle.std.specs.Prelude.{option_map, is_some, ◌&&◌, not, if◌then◌else◌}
+use Rattle.vss_names.specs.declared.context.Context.{Context}
+use Rattle.vss_names.specs.declared.order.Order.{Order}
+use Rattle.vss_names.specs.declared.vss_result.VssResult.{VssResult}
+use Rattle.vss_names.specs.declared.vss_result.VssResult.TheVariants.{BadState, AsyncCancelled}
+use Rattle.vss_names.specs.declared.set_outcome.SetOutcome.{SetOutcome}
+use Rattle.vss_names.specs.declared.set_outcome.SetOutcome.TheVariants.{Running, Complete as CompleteSet, Failed}
+use Rattle.writer_state.specs.declared.said.Said.{Said}
+use Rattle.writer_state.specs.declared.said.Said.TheVariants.{Ok}
+use Rattle.writer_state.specs.WriterState.{is_ok}
+use Rattle.write_history.specs.declared.mark.Mark.{Mark}
+use Rattle.write_history.specs.declared.mark.Mark.TheVariants.{Clean, Fault, FaultAfter}
+use Rattle.write_history.specs.History.{Write}
+use Rattle.set_agenda.specs.declared.group.Group.{Group}
+use Rattle.set_agenda.specs.declared.group.Group.TheVariants.{Orders, PreCommit, Flush, Hold, Cut, Commit, Release, PostCommit}
+use Rattle.set_agenda.specs.declared.kind.Kind.{Kind}
+use Rattle.set_agenda.specs.declared.kind.Kind.TheVariants.{Gather, Prepare, Snapshot, Complete}
+use Rattle.set_agenda.specs.declared.limit.Limit.{Limit}
+use Rattle.set_agenda.specs.declared.limit.Limit.TheVariants.{Hold as HoldLimit, Freeze as FreezeLimit, Answer as AnswerLimit}
+use Rattle.set_agenda.specs.declared.member.Member.{Member}
+use Rattle.set_agenda.specs.Agenda.{Agenda, groups_left, left, all_say, is_done, is_snapshot, open_order, order_now, open_group, waits_now, next_member, has_said, has_frozen, has_thawed, plain, is_held as holds, is_frozen as freezes}
+use Rattle.set_agenda.specs.Limits.{Running as RunningLimit, spent_of}
+use Rattle.set_agenda.specs.Course.{Course, posted, failed as course_failed, settled_if, settled_in, settled, begun, snapshot_begun, is_decisive, told, decided, answered_to, answered as course_answered, worked, stepped_as as course_stepped_as, stepped as course_stepped, limits_now, lost_to, lost, fails_set, lost_decided, treated_as, treated, timed as course_timed, released}
+use Rattle.requestor.specs.Session.{Session}
+use Rattle.scenario.specs.Plan.{Plan}
+use Rattle.vss_model.specs.State.{State, SetRow, Kept, start, is_running, in_progress, left_now, is_held, is_frozen}
+use Rattle.vss_model.specs.Ending.{Ending, NothingEnds, AgendaEnds, SetFails, ending, concluded, followed, runs, failed_in, failed}
+use Rattle.vss_model.specs.Images.{Replied, refused, put, reverted_as}
+use Rattle.vss_model.specs.Sessions.{begin_in, pending, has_no_volume, volumes_of, closed}
+use Rattle.vss_model.specs.Steps.{answered, row_cut, cut_set, step_made, is_flush, is_failed_step, stepped_as, stepped, ticked, later}
+use Rattle.vss_model.specs.Acts.{Act, after, state}
+use Rattle.vss_model.specs.Laws.{IsKeptByChanges, IsKeptByWrites, RunsSnapshot}
+use Rattle.vss_model.proofs.Rule.{on_after}
+
+-- ## the fact
+
+-- a snapshot agenda, by its kind, has the set's volumes and participants
+abbrev pub IsOf : Kind → List ℕ → List Member → List Member → Option SetRow → Type 0
+IsOf Gather vs ms participants r = Unit {0}
+IsOf Prepare vs ms participants r = Unit {0}
+IsOf Complete vs ms participants r = Unit {0}
+IsOf Snapshot vs ms participants None = ⊥
+IsOf Snapshot vs ms participants (Some r) = (vs ≡ r.volumes) × (ms ≡ participants)
+
+abbrev pub Tied : Option Agenda → List Member → Option SetRow → Type 0
+Tied None participants r = Unit {0}
+Tied (Some a) participants r = IsOf a.kind a.volumes a.members participants r
+
+abbrev pub IsTied : State → Type 0
+IsTied st = Tied st.course.agenda st.course.members (in_progress st)
+
+tied_none : (a : Option Agenda) (ms : List Member) (r : Option SetRow) → a ≡ None → Tied a ms r
+tied_none None ms r e = tt
+tied_none (Some a) ms r e = absurd cc
+
+-- ## what calls do to the agenda
+
+-- the agenda goes on, with the same kind, volumes, members, participants and outcome
+record IsSameAgenda (a b : Agenda) (ms ns : List Member) (o p : SetOutcome) : Type 0 where
+  kind : b.kind ≡ a.kind
+  volumes : b.volumes ≡ a.volumes
+  members : b.members ≡ a.members
+  participants : ns ≡ ms
+  outcome : p ≡ o
+
+-- it stops, or it goes on
+abbrev Follows : Option Agenda → List Member → SetOutcome → Option Agenda → List Member → SetOutcome → Type 0
+Follows a ms o None ns p = Unit {0}
+Follows None ms o (Some b) ns p = ⊥
+Follows (Some a) ms o (Some b) ns p = IsSameAgenda a b ms ns o p
+
+abbrev GoesOn : Course → Course → Type 0
+GoesOn c d = Follows c.agenda c.members c.outcome d.agenda d.members d.outcome
+
+follows_same : (a : Option Agenda) (ms : List Member) (o : SetOutcome) → Follows a ms o a ms o
+follows_same None ms o = tt
+follows_same (Some a) ms o = record { kind = refl; volumes = refl; members = refl; participants = refl; outcome = refl }
+
+follows_said : (said : Said) (now : ℕ) (ws : List ℕ) (a : Option Agenda) (ms : List Member) (o : SetOutcome) → Follows a ms o (option_map (all_say said now ws) a) ms o
+follows_said said now ws None ms o = tt
+follows_said said now ws (Some a) ms o = record { kind = refl; volumes = refl; members = refl; participants = refl; outcome = refl }
+
+goes_told : (o : Order) (said : Said) (now : ℕ) (ws : List ℕ) (c : Course) → GoesOn c (told o said now ws c)
+unfolding told
+goes_told o said now ws c = follows_said said now ws c.agenda c.members c.outcome
+
+goes_worked : (now : ℕ) (c : Course) → GoesOn c (worked now c)
+unfolding worked
+goes_worked now c = follows_said Ok now (next_member (left c.agenda) ∷ []) c.agenda c.members c.outcome
+
+goes_failed : (why : VssResult) (c d : Course) → GoesOn c (course_failed why d)
+unfolding course_failed
+goes_failed why c d = tt
+
+goes_posted : (before c d : Course) → GoesOn c d → GoesOn c (posted before d)
+unfolding posted
+goes_posted before c d h = h
+
+goes_settled_if : (b : Bool) (k : Kind) (c d : Course) → GoesOn c d → GoesOn c (settled_if b k d)
+goes_settled_if false k c d h = h
+goes_settled_if true k c d h = tt
+
+goes_settled_in : (a : Option Agenda) (c d : Course) → GoesOn c d → GoesOn c (settled_in a d)
+goes_settled_in None c d h = h
+goes_settled_in (Some a) c d h = goes_settled_if (is_done (groups_left a)) a.kind c d h
+
+goes_settled : (c d : Course) → GoesOn c d → GoesOn c (settled d)
+unfolding settled
+goes_settled c d h = goes_settled_in d.agenda c d h
+
+goes_decided : (b : Bool) (said : Said) (c d : Course) → GoesOn c d → GoesOn c (decided b said d)
+goes_decided true said c d h = goes_failed _ c d
+goes_decided false said c d h = goes_settled c d h
+
+goes_answered_to : (o : Option Order) (w : ℕ) (said : Said) (now : ℕ) (c : Course) → GoesOn c (answered_to o w said now c)
+goes_answered_to None w said now c = follows_same c.agenda c.members c.outcome
+goes_answered_to (Some o) w said now c = goes_decided (is_decisive o && not (is_ok said)) said c (told o said now (w ∷ []) c) (goes_told o said now (w ∷ []) c)
+
+goes_answered : (w : ℕ) (said : Said) (now : ℕ) (c : Course) → GoesOn c (course_answered w said now c)
+goes_answered w said now c = goes_posted c c _ (goes_answered_to (open_order (left c.agenda) w) w said now c)
+
+goes_stepped_as : (ok : Bool) (now : ℕ) (c : Course) → GoesOn c (course_stepped_as ok now c)
+goes_stepped_as true now c = goes_settled c (worked now c) (goes_worked now c)
+goes_stepped_as false now c = goes_failed _ c c
+
+goes_stepped : (ok : Bool) (now : ℕ) (c : Course) → GoesOn c (course_stepped ok now c)
+goes_stepped ok now c = goes_posted c c _ (goes_stepped_as ok now c)
+
+goes_lost_to : (o : Option Order) (now : ℕ) (c : Course) → GoesOn c (lost_to o now c)
+goes_lost_to None now c = follows_same c.agenda c.members c.outcome
+goes_lost_to (Some o) now c = goes_told o _ now (waits_now (left c.agenda)) c
+
+goes_lost_decided : (b : Bool) (c d : Course) → GoesOn c d → GoesOn c (lost_decided b d)
+goes_lost_decided true c d h = goes_failed _ c d
+goes_lost_decided false c d h = goes_settled c d h
+
+goes_treated_as : (l : Limit) (now : ℕ) (c : Course) → GoesOn c (treated_as l now c)
+goes_treated_as HoldLimit now c = goes_failed _ c c
+goes_treated_as FreezeLimit now c = goes_failed _ c (lost now c)
+goes_treated_as AnswerLimit now c = goes_lost_decided (fails_set (order_now (left c.agenda))) c (lost now c) (goes_lost_to (order_now (left c.agenda)) now c)
+
+goes_treated : (l : Option RunningLimit) (now : ℕ) (c : Course) → GoesOn c (treated l now c)
+goes_treated None now c = follows_same c.agenda c.members c.outcome
+goes_treated (Some l) now c = goes_treated_as l.limit now c
+
+goes_timed : (now : ℕ) (c : Course) → GoesOn c (course_timed now c)
+goes_timed now c = goes_posted c c _ (goes_treated (spent_of now (limits_now c)) now c)
+
+-- ## what follows
+
+-- where something ends, no agenda runs
+abbrev EndsNone : Ending → Option Agenda → Type 0
+EndsNone NothingEnds a = Unit {0}
+EndsNone AgendaEnds a = a ≡ None
+EndsNone (SetFails why) a = a ≡ None
+
+ends_at_none : (e : Ending) → EndsNone e None
+ends_at_none NothingEnds = tt
+ends_at_none AgendaEnds = refl
+ends_at_none (SetFails why) = refl
+
+ending_same : (o : SetOutcome) (ran : Bool) (b : Agenda) → ending o o ran (Some b) ≡ NothingEnds
+ending_same Running true b = refl
+ending_same Running false b = refl
+ending_same CompleteSet true b = refl
+ending_same CompleteSet false b = refl
+ending_same (Failed why) true b = refl
+ending_same (Failed why) false b = refl
+
+ends_where_same : (o p : SetOutcome) (ran : Bool) (b : Agenda) → p ≡ o → EndsNone (ending o p ran (Some b)) (Some b)
+ends_where_same o p ran b e =
+    let Q : SetOutcome → Type 0 = λ x. EndsNone (ending o x ran (Some b)) (Some b) in
+    let R : Ending → Type 0 = λ x. EndsNone x (Some b) in
+    subst Q (sym e) (subst R (sym (ending_same o ran b)) tt)
+
+ends_none : (a : Option Agenda) (ms : List Member) (o : SetOutcome) (ran : Bool) (b : Option Agenda) (ns : List Member) (p : SetOutcome) → Follows a ms o b ns p → EndsNone (ending o p ran b) b
+ends_none a ms o ran None ns p f = ends_at_none (ending o p ran None)
+ends_none None ms o ran (Some b) ns p f = absurd f
+ends_none (Some a) ms o ran (Some b) ns p f = ends_where_same o p ran b f.outcome
+
+tied_concluded : (e : Ending) (st : State) → EndsNone e st.course.agenda → IsTied st → IsTied (concluded e st)
+tied_concluded NothingEnds st n h = h
+tied_concluded AgendaEnds st n h = tied_none st.course.agenda st.course.members _ n
+tied_concluded (SetFails why) st n h = tied_none st.course.agenda st.course.members _ n
+
+is_of_same : (a b : Agenda) (ms ns : List Member) (o p : SetOutcome) (r : Option SetRow) → IsSameAgenda a b ms ns o p → IsOf a.kind a.volumes a.members ms r → IsOf b.kind b.volumes b.members ns r
+is_of_same a b ms ns o p r f h =
+    let K : Kind → Type 0 = λ k. IsOf k b.volumes b.members ns r in
+    let V : List ℕ → Type 0 = λ vs. IsOf a.kind vs b.members ns r in
+    let M : List Member → Type 0 = λ xs. IsOf a.kind a.volumes xs ns r in
+    let N : List Member → Type 0 = λ xs. IsOf a.kind a.volumes a.members xs r in
+    subst K (sym f.kind) (subst V (sym f.volumes) (subst M (sym f.members) (subst N (sym f.participants) h)))
+
+tied_follows : (a : Option Agenda) (ms : List Member) (o : SetOutcome) (b : Option Agenda) (ns : List Member) (p : SetOutcome) (r : Option SetRow) → Follows a ms o b ns p → Tied a ms r → Tied b ns r
+tied_follows a ms o None ns p r f h = tt
+tied_follows None ms o (Some b) ns p r f h = absurd f
+tied_follows (Some a) ms o (Some b) ns p r f h = is_of_same a b ms ns o p r f h
+
+-- a course that is tied to the set, and ends nothing while its agenda runs
+tied_course : (ran : Bool) (c : Course) (st : State) → EndsNone (ending st.course.outcome c.outcome ran c.agenda) c.agenda → Tied c.agenda c.members (in_progress st) → IsTied (followed ran c st)
+unfolding followed
+tied_course ran c st n h = tied_concluded (ending st.course.outcome c.outcome ran c.agenda) (record st { course = c }) n h
+
+tied_followed : (ran : Bool) (c : Course) (st : State) → GoesOn st.course c → IsTied st → IsTied (followed ran c st)
+tied_followed ran c st g h =
+    tied_course ran c st
+    (ends_none st.course.agenda st.course.members st.course.outcome ran c.agenda c.members c.outcome g)
+    (tied_follows st.course.agenda st.course.members st.course.outcome c.agenda c.members c.outcome (in_progress st) g h)
+
+-- ## an agenda begins
+
+-- its course is tied to the set, and ends nothing while it runs
+record IsBegunWell (o : SetOutcome) (ran : Bool) (r : Option SetRow) (c : Course) : Type 0 where
+  ends : EndsNone (ending o c.outcome ran c.agenda) c.agenda
+  tied : Tied c.agenda c.members r
+
+begun_if : (done : Bool) (k : Kind) (a : Agenda) (c : Course) (o : SetOutcome) (ran : Bool) (r : Option SetRow) → c.agenda ≡ Some a → c.outcome ≡ o → Tied (Some a) c.members r → IsBegunWell o ran r (settled_if done k c)
+begun_if true k a c o ran r e f h = record { ends = ends_at_none _; tied = tt }
+begun_if false k a c o ran r e f h =
+    let E : Option Agenda → Type 0 = λ x. EndsNone (ending o c.outcome ran x) x in
+    let T : Option Agenda → Type 0 = λ x. Tied x c.members r in
+    record { ends = subst E (sym e) (ends_where_same o c.outcome ran a f); tied = subst T (sym e) h }
+
+posted_well : (before c : Course) (o : SetOutcome) (ran : Bool) (r : Option SetRow) → IsBegunWell o ran r c → IsBegunWell o ran r (posted before c)
+unfolding posted
+posted_well before c o ran r h = record { ends = h.ends; tied = h.tied }
+
+begun_well : (k : Kind) (ms : List Member) (vs : List ℕ) (now : ℕ) (c : Course) (o : SetOutcome) (ran : Bool) (r : Option SetRow) → c.outcome ≡ o → IsOf k vs ms c.members r → IsBegunWell o ran r (begun k ms vs now c)
+unfolding begun settled
+begun_well k ms vs now c o ran r f h =
+    let a : Agenda = record { kind = k; members = ms; volumes = vs; begun = now; log = [] } in
+    posted_well c _ o ran r (begun_if (is_done (groups_left a)) k a (record c { agenda = Some a }) o ran r refl f h)
+
+tied_begun : (k : Kind) (ms : List Member) (vs : List ℕ) (now : ℕ) (c : Course) (st : State) → c.outcome ≡ st.course.outcome → IsOf k vs ms c.members (in_progress st) → IsTied (followed true (begun k ms vs now c) st)
+tied_begun k ms vs now c st f h =
+    let well = begun_well k ms vs now c st.course.outcome true (in_progress st) f h in
+    tied_course true (begun k ms vs now c) st well.ends well.tied
+
+-- ## the Cut step
+
+volumes-row_cut_if : (b : Bool) (now : ℕ) (r : SetRow) → (if b then record r { cut_at = Some now } else r).volumes ≡ r.volumes
+volumes-row_cut_if true now r = refl
+volumes-row_cut_if false now r = refl
+
+result-row_cut_if : (b : Bool) (now : ℕ) (r : SetRow) → (if b then record r { cut_at = Some now } else r).result ≡ r.result
+result-row_cut_if true now r = refl
+result-row_cut_if false now r = refl
+
+find_if : (test : SetRow → Bool) (b c : Bool) (f : SetRow → SetRow) (r : SetRow) (found other : Option SetRow) → c ≡ b → other ≡ option_map f found → (if c then Some (f r) else other) ≡ option_map f (if b then Some r else found)
+find_if test true true f r found other e h = refl
+find_if test false false f r found other e h = h
+find_if test true false f r found other e h = absurd cc
+find_if test false true f r found other e h = absurd cc
+
+-- the set in progress is found by its result, which a cut leaves
+find-row_cut : (n now : ℕ) (rows : List SetRow) → find (λ r. is_running r.result) (map (row_cut n now) rows) ≡ option_map (row_cut n now) (find (λ r. is_running r.result) rows)
+find-row_cut n now [] = refl
+find-row_cut n now (r ∷ rows) =
+    find_if (λ q. is_running q.result) (is_running r.result) (is_running (row_cut n now r).result) (row_cut n now) r _ _ (ap is_running (result-row_cut_if (r.number == n) now r)) (find-row_cut n now rows)
+
+is_of-row_cut : (k : Kind) (vs : List ℕ) (ms participants : List Member) (n now : ℕ) (o : Option SetRow) → IsOf k vs ms participants o → IsOf k vs ms participants (option_map (row_cut n now) o)
+is_of-row_cut Gather vs ms participants n now o h = tt
+is_of-row_cut Prepare vs ms participants n now o h = tt
+is_of-row_cut Complete vs ms participants n now o h = tt
+is_of-row_cut Snapshot vs ms participants n now None h = absurd h
+is_of-row_cut Snapshot vs ms participants n now (Some r) h = (h.0 ∙ sym (volumes-row_cut_if (r.number == n) now r), h.1)
+
+tied-row_cut : (a : Option Agenda) (ms : List Member) (n now : ℕ) (o : Option SetRow) → Tied a ms o → Tied a ms (option_map (row_cut n now) o)
+tied-row_cut None ms n now o h = tt
+tied-row_cut (Some a) ms n now o h = is_of-row_cut a.kind a.volumes a.members ms n now o h
+
+tied_cut : (o : Option SetRow) (st : State) → IsTied st → IsTied (cut_set o st)
+tied_cut None st h = h
+tied_cut (Some r) st h =
+    let Q : Option SetRow → Type 0 = λ x. Tied st.course.agenda st.course.members x in
+    subst Q (sym (find-row_cut r.number st.clock st.sets)) (tied-row_cut st.course.agenda st.course.members r.number st.clock (in_progress st) h)
+
+tied_step : (g : Option Group) (st : State) → IsTied st → IsTied (step_made g st)
+tied_step None st h = h
+tied_step (Some (Orders o)) st h = h
+tied_step (Some PreCommit) st h = h
+tied_step (Some Flush) st h = h
+tied_step (Some Hold) st h = h
+tied_step (Some Cut) st h = tied_cut (in_progress st) st h
+tied_step (Some Commit) st h = h
+tied_step (Some Release) st h = h
+tied_step (Some PostCommit) st h = h
+
+course-cut_set : (o : Option SetRow) (st : State) → (cut_set o st).course ≡ st.course
+course-cut_set None st = refl
+course-cut_set (Some r) st = refl
+
+course-step_made : (g : Option Group) (st : State) → (step_made g st).course ≡ st.course
+course-step_made None st = refl
+course-step_made (Some (Orders o)) st = refl
+course-step_made (Some PreCommit) st = refl
+course-step_made (Some Flush) st = refl
+course-step_made (Some Hold) st = refl
+course-step_made (Some Cut) st = course-cut_set (in_progress st) st
+course-step_made (Some Commit) st = refl
+course-step_made (Some Release) st = refl
+course-step_made (Some PostCommit) st = refl
+
+-- ## each change keeps it
+
+on_answers : (w : ℕ) (said : Said) (st : State) → IsTied st → IsTied (answered w said st)
+unfolding answered
+on_answers w said st h = tied_followed (runs st) _ st (goes_answered w said st.clock st.course) h
+
+on_stepped_as : (fails : Bool) (g : Option Group) (st : State) → IsTied st → IsTied (stepped_as fails g st)
+on_stepped_as true g st h = tied_followed (runs st) _ st (goes_stepped false st.clock st.course) h
+on_stepped_as false g st h =
+    let Q : Course → Type 0 = λ c. GoesOn c (course_stepped true st.clock st.course) in
+    tied_followed (runs st) _ (step_made g st) (subst Q (sym (course-step_made g st)) (goes_stepped true st.clock st.course)) (tied_step g st h)
+
+on_steps : (mark : Mark) (st : State) → IsTied st → IsTied (stepped mark st)
+unfolding stepped
+on_steps mark st h = on_stepped_as (is_failed_step (is_flush (open_group (left_now st))) mark) (open_group (left_now st)) st h
+
+on_ticks : (n : ℕ) (st : State) → IsTied st → IsTied (ticked n st)
+unfolding ticked
+on_ticks n st h = tied_followed (runs st) _ (later n st) (goes_timed (st.clock + n) st.course) h
+
+on_failed_in : (o : Option SetRow) (why : VssResult) (st : State) → IsTied st → IsTied (failed_in o why st)
+unfolding course_failed
+on_failed_in None why st h = h
+on_failed_in (Some r) why st h = tied_concluded (SetFails why) (record st { course = course_failed why st.course }) refl tt
+
+on_begins : (lane : ℕ) (all : Bool) (c : Option Context) (st : State) → IsTied st → IsTied (begin_in lane all c st).1
+on_begins lane all None st h = h
+on_begins lane all (Some c) st h = h
+
+either_tied : (b : Bool) (x y : Replied) → IsTied x.1 → IsTied y.1 → IsTied (if b then x else y).1
+either_tied true x y h i = h
+either_tied false x y h i = i
+
+on_snapshot : (o : Option SetRow) (st : State) → in_progress st ≡ o → IsTied st → IsTied (if has_no_volume o then refused BadState st else pending (snapshot_begun (volumes_of o) st.clock st.course) st).1
+on_snapshot None st e h = h
+on_snapshot (Some r) st e h =
+    let Q : Option SetRow → Type 0 = λ x. IsOf Snapshot r.volumes st.course.members st.course.members x in
+    either_tied (has_no_volume (Some r)) _ _ h (tied_begun Snapshot st.course.members r.volumes st.clock st.course st refl (subst Q (sym e) (refl, refl)))
+
+none_runs : (a : Option Agenda) → is_some a ≡ false → a ≡ None
+none_runs None e = refl
+none_runs (Some a) e = absurd cc
+
+on_closes : (q : Session) (st : State) → IsTied (closed q st)
+unfolding closed released
+on_closes q st = tt
+
+kept_by_changes : IsKeptByChanges IsTied
+kept_by_changes = record {
+  answers = λ w said st e h. on_answers w said st h;
+  steps = λ mark st e h. on_steps mark st h;
+  ticks = on_ticks;
+  fails = λ why st h. on_failed_in (in_progress st) why st h;
+  gathers = λ s q st e h. tied_begun Gather _ [] st.clock _ st refl tt;
+  prepares = λ s q st e h. either_tied (has_no_volume (in_progress st)) _ _ h (tied_begun Prepare _ [] st.clock _ st refl tt);
+  snapshots = λ q st e h. on_snapshot (in_progress st) st refl h;
+  completes = λ q st e h. tied_begun Complete _ [] st.clock _ st refl tt;
+  clears = λ s v b st h. h;
+  deletes_set = λ n st h. h;
+  deletes_image = λ n v st h. h;
+  begins = λ lane all c st e h. on_begins lane all c st h;
+  names = λ q explicit st e h. h;
+  disables = λ w q st e h. h;
+  starts = λ q st e f h. tied_none st.course.agenda st.course.members _ (none_runs st.course.agenda e.quiet);
+  adds = λ v r q st e f h. tied_none st.course.agenda st.course.members _ (none_runs st.course.agenda e.quiet);
+  ends = λ q st e h. on_closes q (failed AsyncCancelled st);
+}
+
+on_puts : (v : ℕ) (w : Write) (mark : Mark) (x : State) → IsTied x → IsTied (put v w mark x)
+on_puts v w Clean x h = h
+on_puts v w Fault x h = h
+on_puts v w (FaultAfter k) x h = h
+
+on_reverts : (s : Plan) (v : ℕ) (k : Kept) (mark : Mark) (st : State) → IsTied st → IsTied (reverted_as s v k mark st).1
+on_reverts s v k Clean st h = h
+on_reverts s v k Fault st h = h
+on_reverts s v k (FaultAfter n) st h = h
+
+kept_by_writes : (st : State) → IsKeptByWrites IsTied st
+kept_by_writes st = record {
+  puts = λ v e w mark x h. on_puts v w mark x h;
+  reverts = λ s n v k mark e f h. on_reverts s v k mark st h;
+}
+
+tied_fold : (s : Plan) (st : State) (acts : List Act) → IsTied st → IsTied (fold (after s) st acts)
+tied_fold s st [] h = h
+tied_fold s st (act ∷ acts) h = tied_fold s (after s st act) acts (on_after IsTied kept_by_changes s st act (kept_by_writes st) h)
+
+pub tied : (s : Plan) (acts : List Act) → IsTied (state s acts)
+tied s acts = tied_fold s (start s) acts tt
+
+-- ## what a held volume and a frozen writer mean
+
+first_true : (a b c : Bool) → (a && b && c) ≡ true → a ≡ true
+first_true true b c e = refl
+first_true false b c e = absurd cc
+
+runs_set : (st : State) (a : Agenda) (k : Kind) (r : Option SetRow) → st.course.agenda ≡ Some a → a.kind ≡ k → in_progress st ≡ r → is_snapshot k ≡ true → IsOf k a.volumes a.members st.course.members r → RunsSnapshot st
+runs_set st a Gather r e f g i h = absurd cc
+runs_set st a Prepare r e f g i h = absurd cc
+runs_set st a Complete r e f g i h = absurd cc
+runs_set st a Snapshot None e f g i h = absurd h
+runs_set st a Snapshot (Some r) e f g i h = record { agenda = a; set = r; runs = e; kind = ap is_snapshot f; in_progress_is = g; volumes = h.0; members = h.1 }
+
+held_runs : (st : State) (v : ℕ) (a : Option Agenda) → st.course.agenda ≡ a → holds a v ≡ true → Tied a st.course.members (in_progress st) → RunsSnapshot st
+held_runs st v None e i h = absurd cc
+held_runs st v (Some a) e i h =
+    runs_set st a a.kind (in_progress st) e refl refl (first_true (is_snapshot a.kind) (has_said a.log (plain Hold) v) (not (has_said a.log (plain Release) v)) i) h
+
+frozen_runs : (st : State) (w : ℕ) (a : Option Agenda) → st.course.agenda ≡ a → freezes a w ≡ true → Tied a st.course.members (in_progress st) → RunsSnapshot st
+frozen_runs st w None e i h = absurd cc
+frozen_runs st w (Some a) e i h =
+    runs_set st a a.kind (in_progress st) e refl refl (first_true (is_snapshot a.kind) (has_frozen a.log w) (not (has_thawed a.log w)) i) h
+
+pub held_means : (s : Plan) (acts : List Act) (v : ℕ) → is_held (state s acts) v ≡ true → RunsSnapshot (state s acts)
+held_means s acts v h = let st = state s acts in held_runs st v st.course.agenda refl h (tied s acts)
+
+pub frozen_means : (s : Plan) (acts : List Act) (w : ℕ) → is_frozen (state s acts) w ≡ true → RunsSnapshot (state s acts)
+frozen_means s acts w h = let st = state s acts in frozen_runs st w st.course.agenda refl h (tied s acts)

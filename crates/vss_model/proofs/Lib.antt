@@ -1,0 +1,4 @@
+pub mod Appending
+pub mod GoingOn
+pub mod Rule
+pub mod HeldOfSet

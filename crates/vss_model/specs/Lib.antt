@@ -1,0 +1,14 @@
+pub mod State
+pub mod Reply
+pub mod Ending
+pub mod Images
+pub mod Sessions
+pub mod Steps
+pub mod Lines
+pub mod Acts
+pub mod Effects
+pub mod Cut
+pub mod Trail
+pub mod Told
+pub mod Laws
+pub mod Facts

@@ -1,0 +1,41 @@
+//! What holds for every run: functions that do nothing, whose contracts are the laws.
+
+ghost use Rattle.std.specs.Prelude.{◌≡◌, ◌+◌, ◌++◌, ◌∷◌, ◌&&◌, [], true, Bool, ℕ, List};
+ghost use Rattle.write_history.specs.declared.move_item.Move.{Move};
+ghost use Rattle.scenario.specs.Plan.{Plan};
+ghost use Rattle.vss_model.specs.State.{State, is_held, is_frozen};
+ghost use Rattle.vss_model.specs.Acts.{Act, after, state};
+ghost use Rattle.vss_model.specs.Trail.{run, moved, acts, acts_if, event_of, is_legal, is_legal_move, faults};
+ghost use Rattle.vss_model.specs.Laws.{IsKeptByChanges, IsKeptByWrites, Passes, RunsSnapshot};
+
+/// One more act, or one more move, adds to a run just what it is itself.
+pub fn one_more_move()
+    ensures state { (s : Plan) (before : List Act) (act : Act) →
+        state s (before ++ act ∷ []) ≡ after s (state s before) act }
+    ensures run { (s : Plan) (trail : List Move) (m : Move) →
+        run s (trail ++ m ∷ []) ≡ moved s (run s trail) m }
+    ensures acts { (s : Plan) (trail : List Move) (m : Move) →
+        acts s (trail ++ m ∷ []) ≡ acts s trail ++ acts_if (event_of s (run s trail) m.actor) m.mark }
+    ensures legal { (s : Plan) (trail : List Move) (m : Move) →
+        is_legal s (trail ++ m ∷ []) ≡ (is_legal s trail && is_legal_move s (run s trail) m) }
+    ensures faults { (trail : List Move) (m : Move) →
+        faults (trail ++ m ∷ []) ≡ faults trail + faults (m ∷ []) }
+{}
+
+/// A run stands where its acts have led, and it keeps its moves.
+pub fn run_of_acts()
+    ensures state { (s : Plan) (trail : List Move) → (run s trail).state ≡ state s (acts s trail) }
+    ensures moves { (s : Plan) (trail : List Move) → (run s trail).moves ≡ trail }
+{}
+
+/// The rule of cases: what each named change keeps, every act keeps.
+pub fn rule_of_cases()
+    ensures { (test : State → Bool) → IsKeptByChanges (Passes test) → ((st : State) → IsKeptByWrites (Passes test) st)
+        → (s : Plan) (st : State) (act : Act) → Passes test st → Passes test (after s st act) }
+{}
+
+/// A volume is held, and a writer stands frozen, only while the one set in progress has its snapshot agenda.
+pub fn held_in_snapshot()
+    ensures held { (s : Plan) (acts : List Act) (v : ℕ) → is_held (state s acts) v ≡ true → RunsSnapshot (state s acts) }
+    ensures frozen { (s : Plan) (acts : List Act) (w : ℕ) → is_frozen (state s acts) w ≡ true → RunsSnapshot (state s acts) }
+{}

@@ -1,0 +1,23 @@
+//! What holds for every report: functions that do nothing, whose contracts are the laws.
+
+ghost use Rattle.std.specs.Prelude.{◌++◌, ◌∷◌, [], Bool, ℕ, List};
+ghost use Rattle.write_history.specs.declared.move_item.Move.{Move};
+ghost use Rattle.scenario.specs.Plan.{Plan};
+ghost use Rattle.vss_model.specs.Trail.{run};
+ghost use Rattle.vss_report.specs.Report.{IsMoveText, IsReport, IsReportSoFar, first_line};
+ghost use Rattle.vss_report.specs.ToldReport.{all_tell, told_report};
+
+/// The report of a trail grows by the lines of each move.
+pub fn one_more_line()
+    ensures none { (s : Plan) (tells : List Bool) → IsReportSoFar s tells [] first_line }
+    ensures one { (s : Plan) (tells : List Bool) (trail : List Move) (m : Move) (text own : List ℕ)
+        → IsReportSoFar s tells trail text → IsMoveText s tells (run s trail) m own
+        → IsReportSoFar s tells (trail ++ m ∷ []) (text ++ own) }
+{
+}
+
+/// Where every device tells its blocks, the report is one text.
+pub fn report_where_all_tell()
+    ensures { (s : Plan) (trail : List Move) → IsReport s (all_tell s) trail (told_report s trail) }
+{
+}

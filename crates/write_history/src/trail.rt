@@ -1,0 +1,152 @@
+ghost use Rattle.std.specs.Prelude.{◌≡◌, ◌+◌, ◌-◌, ◌<◌, ◌≤◌, ◌++◌, ◌∷◌, ◌↔◌, [], length, slice_get, vec_len, vec_capacity, IsOk, IsTrue, OnOk, OnErr, IsErrOf, Some};
+ghost use Rattle.write_history.specs.TrailValue.{TrailValue};
+ghost use Rattle.write_history.specs.declared.trail.TheConstants.{MOST_MOVES};
+
+use crate::move_item::Move;
+use std::alloc::Global;
+use std::error::Error;
+use std::fmt;
+use std::marker::Model;
+
+/// How many moves a trail may have.
+pub const MOST_MOVES: usize = 2_097_152;
+
+/// Why a trail takes no further move. It stays as it was.
+#[derive(Clone, Copy, Debug, PartialEq, Eq)]
+pub enum TrailFault {
+    /// It has `MOST_MOVES` moves. This is decided before memory is asked for.
+    Full,
+    OutOfMemory,
+}
+
+impl fmt::Display for TrailFault {
+    fn fmt<W: fmt::Write>(&self, f: &mut fmt::Formatter<W>) -> fmt::Result {
+        f.write_str(match self {
+            TrailFault::Full => "the trail is full",
+            TrailFault::OutOfMemory => "out of memory",
+        })
+    }
+}
+
+impl Error for TrailFault {}
+
+/// The moves of a run, in order. Contracts see them, and the trail's spare: for how many further moves it has room.
+#[derive(Debug, Drop)]
+pub struct Trail {
+    moves: Vec<Move>,
+}
+
+impl Model for Trail {
+    ghost Value = { TrailValue };
+
+    ghost view = { λ t. record { moves = t.moves.items; spare = vec_capacity t.moves - vec_len t.moves } };
+
+    ghost invariant = { λ t. vec_len t.moves ≤ MOST_MOVES };
+}
+
+impl Trail {
+    /// A trail of no moves, which has taken no memory.
+    pub fn new(alloc: Global) -> Trail
+        ensures { result.moves ≡ [] }
+    {
+        Trail {
+            moves: Vec::new(alloc),
+        }
+    }
+
+    /// Appends a move.
+    pub fn push(&mut self, item: Move) -> Result<(), TrailFault>
+        ensures ok { OnOk result (self.new.moves ≡ self.old.moves ++ item ∷ []) }
+        ensures err { OnErr result (self.new ≡ self.old) }
+        ensures full { IsErrOf result TrailFault.Full ↔ (length self.old.moves ≡ MOST_MOVES) }
+        ensures succeeds { length self.old.moves < MOST_MOVES → 1 ≤ self.old.spare → IsOk result }
+        ensures spare { self.old.spare ≤ self.new.spare + 1 }
+    {
+        self.reserve()?;
+        let _ = self.moves.push(item);
+        Ok(())
+    }
+
+    /// Makes the spare at least 1.
+    pub fn reserve(&mut self) -> Result<(), TrailFault>
+        ensures moves { self.new.moves ≡ self.old.moves }
+        ensures ok { OnOk result (1 ≤ self.new.spare) }
+        ensures room { OnOk result (length self.new.moves < MOST_MOVES) }
+        ensures err { OnErr result (self.new ≡ self.old) }
+        ensures full { IsErrOf result TrailFault.Full ↔ (length self.old.moves ≡ MOST_MOVES) }
+        ensures succeeds { length self.old.moves < MOST_MOVES → 1 ≤ self.old.spare → IsOk result }
+        ensures spare { self.old.spare ≤ self.new.spare }
+    {
+        if self.moves.len() == MOST_MOVES {
+            return Err(TrailFault::Full);
+        }
+        if self.moves.reserve(1).is_err() {
+            return Err(TrailFault::OutOfMemory);
+        }
+        Ok(())
+    }
+
+    pub fn len(&self) -> u32
+        ensures len { result ≡ length self.now.moves }
+        ensures most { result ≤ MOST_MOVES }
+    {
+        self.moves.len() as u32
+    }
+
+    pub fn is_empty(&self) -> bool
+        ensures { IsTrue result ↔ (self.now.moves ≡ []) }
+    {
+        self.moves.is_empty()
+    }
+
+    /// Move `i`, counted from 0.
+    pub fn get(&self, i: u32) -> Move
+        requires { i < length self.now.moves }
+        ensures { slice_get self.now.moves i ≡ Some result }
+    {
+        self.moves[i as usize]
+    }
+
+    pub fn moves(&self) -> &[Move]
+        ensures { result.now ≡ self.now.moves }
+    {
+        &self.moves
+    }
+}
+
+#[cfg(test)]
+mod tests {
+    use super::*;
+    use crate::actor::Actor;
+    use crate::mark::Mark;
+    use std::test::Fail;
+
+    const IDLE: Move = Move {
+        actor: Actor::Idle,
+        mark: Mark::Clean,
+    };
+
+    #[test]
+    fn a_trail_keeps_its_moves(rt: HostRuntime) -> Result<(), Fail> {
+        let mut trail = Trail::new(rt.alloc());
+        assert!(rt; trail.is_empty());
+        trail.reserve()?;
+        trail.push(IDLE)?;
+        assert!(rt; trail.len() == 1);
+        assert_eq!(rt; trail.get(0), IDLE);
+        assert_eq!(rt; trail.moves().len(), 1);
+        Ok(())
+    }
+
+    #[test]
+    fn a_full_trail_takes_no_further_move(rt: HostRuntime) -> Result<(), Fail> {
+        let mut trail = Trail::new(rt.alloc());
+        for _count in 0..MOST_MOVES {
+            trail.push(IDLE)?;
+        }
+        assert_eq!(rt; trail.push(IDLE), Err(TrailFault::Full));
+        assert_eq!(rt; trail.reserve(), Err(TrailFault::Full));
+        assert_eq!(rt; trail.len(), 2_097_152);
+        Ok(())
+    }
+}
