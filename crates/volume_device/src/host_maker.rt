@@ -1,5 +1,6 @@
 ghost use Rattle.std.specs.Prelude.{◌≡◌, ◌≤◌, None, IfOk, IsErrOf};
 ghost use Rattle.vss_names.specs.Faults.{Rose};
+ghost use Rattle.volume_device.specs.OnHost.{host_maker_faults, devices_out};
 ghost use Rattle.volume_device.specs.Stores.{is_memory};
 
 use crate::device::Device;
@@ -48,7 +49,11 @@ fn new_file(rt: &HostRuntime, path: &str, blocks: u32) -> io::Result<File> {
 }
 
 impl HostMaker {
-    pub fn new(rt: HostRuntime) -> HostMaker {
+    /// A maker of devices of this host, none of which is out.
+    pub fn new(rt: HostRuntime) -> HostMaker
+        ensures faults { host_maker_faults result ≡ 0 }
+        ensures places { devices_out result ≡ 0 }
+    {
         HostMaker {
             rt,
             out: 0,
@@ -90,9 +95,9 @@ impl Maker for HostMaker {
 
     ghost kept = { λ m. None };
 
-    ghost places = { λ m. m.out };
+    ghost places = { devices_out };
 
-    ghost count = { λ m. m.count };
+    ghost count = { host_maker_faults };
 
     fn make(
         &mut self,
