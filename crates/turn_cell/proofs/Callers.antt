@@ -1,13 +1,12 @@
 -- Callers are made one after another, and taken in one after another.
-use Rattle.std.proofs.Common.{◌≡◌, ℕ, ◌+◌, ◌<◌, false, List, [], ◌∷◌, ◌++◌, length, map, refl, ap, sym, ◌∙◌, subst, append_assoc}
+use Rattle.std.proofs.Common.{◌≡◌, ℕ, ◌<◌, false, List, [], ◌∷◌, ◌++◌, map, ap, sym, ◌∙◌, subst, append_assoc}
 use Rattle.std.proofs.lemmas.List.{map-append}
-use Rattle.atomic_table.specs.Table.{Me, Splits, Joins}
-use Rattle.turn_cell.specs.declared.desk.Desk.{Desk}
+use Rattle.atomic_table.specs.Table.{Splits, Joins}
 use Rattle.turn_cell.specs.declared.view.Known.{Known}
 use Rattle.turn_cell.specs.declared.view.View.{View}
-use Rattle.turn_cell.specs.declared.view.View.TheVariants.{Maker, Idle, Keeper}
+use Rattle.turn_cell.specs.declared.view.View.TheVariants.{Maker, Idle}
 use Rattle.turn_cell.specs.Rule.{knowns, tickets, is_out, Orderly}
-use Rattle.turn_cell.specs.Steps.{known, newcomer, one_more, made_by, taken_in, spent}
+use Rattle.turn_cell.specs.Steps.{known, one_more, made_by, taken_in, spent}
 use Rattle.turn_cell.proofs.Making.{makes_caller}
 use Rattle.turn_cell.proofs.TakingIn.{takes_in}
 

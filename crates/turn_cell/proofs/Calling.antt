@@ -9,8 +9,7 @@ use Rattle.turn_cell.specs.declared.view.Known.{Known}
 use Rattle.turn_cell.specs.declared.view.View.{View}
 use Rattle.turn_cell.specs.declared.view.View.TheVariants.{Idle, Waiting, Holding}
 use Rattle.turn_cell.specs.History.{Makes, entries_of, GoesOnTo}
-use Rattle.turn_cell.specs.Rule.{is_out}
-use Rattle.turn_cell.specs.Steps.{known, ticket_of, seeing, having, noted, Takes, Carries}
+use Rattle.turn_cell.specs.Steps.{known, ticket_of, seeing, having, Takes, Carries}
 
 abbrev Sat : Type 0 → Type 0 → Type 0 → Type 0
 Sat M C R = Me (Desk M C R) (View M C R)

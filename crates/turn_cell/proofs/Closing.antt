@@ -1,20 +1,19 @@
 -- One seat speaks for all callers: the machine is at home, in the state after the history.
-use Rattle.std.proofs.Common.{◌≡◌, ◌≢◌, ℕ, ◌+◌, ◌<◌, ◌≤◌, false, List, [], ◌∷◌, length, sym, refl, ap, ◌∙◌, subst, arith}
-use Rattle.std.specs.List.{All, sum_by}
+use Rattle.std.proofs.Common.{◌≡◌, ℕ, ◌+◌, ◌≤◌, false, List, length, sym, refl, ap, ◌∙◌, subst, arith}
+use Rattle.std.specs.List.{sum_by}
 use mathlib.Core.Logic.{dite}
 use mathlib.Core.Option.{some}
 use native.Mathlib.Decide.{ℕ_discrete}
 use lib.ListN.{get_elem?}
 use Rattle.atomic_table.specs.Table.{State, Final, Seen}
-use Rattle.turn_cell.specs.declared.entry.Entry.{Entry}
 use Rattle.turn_cell.specs.declared.desk.Desk.{Desk}
 use Rattle.turn_cell.specs.declared.view.Known.{Known}
 use Rattle.turn_cell.specs.declared.view.View.{View}
 use Rattle.turn_cell.specs.declared.view.View.TheVariants.{Maker, Idle, Waiting, Holding, Keeper}
 use Rattle.turn_cell.specs.History.{Leads}
-use Rattle.turn_cell.specs.Rule.{callers_in, is_out, knowns, Knows, NoneOut, Orderly}
-use Rattle.turn_cell.specs.Standing.{Stands, Ended}
-use Rattle.turn_cell.proofs.Lists.{at_one, sum_has, sum_two}
+use Rattle.turn_cell.specs.Rule.{callers_in, is_out, knowns, NoneOut, Orderly}
+use Rattle.turn_cell.specs.Standing.{Ended}
+use Rattle.turn_cell.proofs.Lists.{at_one, sum_two}
 use Rattle.turn_cell.proofs.TakingIn.{all_fit}
 
 -- a seat that speaks for nobody has not the turn

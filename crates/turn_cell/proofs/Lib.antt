@@ -14,3 +14,4 @@ pub mod Opening
 pub mod Closing
 pub mod Calling
 pub mod Callers
+pub mod Crossing

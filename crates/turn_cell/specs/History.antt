@@ -1,7 +1,7 @@
 -- The history of a machine: a list of entries, each a caller's number, its call and the answer. From an opening
 -- state it leads to a later one by the machine's own moves; an entry that found no memory leaves the state.
 -- (This project's own.)
-use Rattle.std.specs.Prelude.{ℕ, ◌≡◌, ◌==◌, ◌+◌, Result, Ok, Err, MatchResult, List, [], ◌∷◌, ◌++◌}
+use Rattle.std.specs.Prelude.{ℕ, ◌≡◌, ◌==◌, Result, Ok, Err, MatchResult, List, [], ◌∷◌, ◌++◌}
 use Rattle.std.specs.List.{filter}
 use Rattle.vss_names.specs.declared.out_of_memory.OutOfMemory.{OutOfMemory}
 use Rattle.turn_cell.specs.declared.entry.Entry.{Entry}

@@ -1,5 +1,17 @@
 -- The rule of the turn: what holds between any two steps of the words, of the machine at home and of what each seat
--- knows. (This project's own.)
+-- knows. In words (this project's own):
+-- - what each caller has seen begins the history; a seat that speaks for nobody has seen nothing, holds no ticket and
+--   has made no call (`Fits`, `Keeper []`);
+-- - the ticket that is served is the number of entries, and the next one to be drawn is that number and the tickets
+--   that are held (`serving`, `ticket`, `held`);
+-- - the tickets that are held differ, since each has one holder, and lie from the one that is served up to below the
+--   next one to be drawn (`Held`);
+-- - the entries that the history has of a caller are its own, also where another seat speaks for it (`Fits`);
+-- - no entry has the number of a caller that was not made (`callers`);
+-- - only the holder of the ticket that is served has the machine out, and it has seen the whole history (`Knows`);
+-- - where no seat has it out, the machine at home is in the state after the history (`home`).
+-- An entry is noted beside the machine while it is out, and is in the history from the step on by which the machine
+-- comes home. The words are those numbers modulo 2^64.
 use Rattle.std.specs.Prelude.{ℕ, ◌≡◌, ◌+◌, ◌%◌, ◌^◌, ◌<◌, ◌≤◌, Bool, true, false, List, [], ◌∷◌, length, slice_index}
 use Rattle.std.specs.List.{All, sum_by}
 use mathlib.Core.List.{IsPrefix}
