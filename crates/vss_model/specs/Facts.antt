@@ -41,11 +41,18 @@ is_early Finished = false
 is_early Failed = false
 
 -- the set in progress is the session's, and its stage says so
+abbrev pub IsOfStage : Stage → Option ℕ → SetOutcome → Option SetRow → Type 0
+IsOfStage stage set o None = (makes_set stage ≡ false) × (is_early stage ≡ true → o ≡ Running)
+IsOfStage stage set o (Some r) = (makes_set stage ≡ true) × (set ≡ Some r.number) × (o ≡ Running)
+
+-- without a session no set is in progress
+abbrev pub IsOfNone : SetOutcome → Option SetRow → Type 0
+IsOfNone o None = o ≡ Running
+IsOfNone o (Some r) = ⊥
+
 abbrev pub IsOfSession : Option Session → SetOutcome → Option SetRow → Type 0
-IsOfSession None o None = o ≡ Running
-IsOfSession None o (Some r) = ⊥
-IsOfSession (Some q) o None = (makes_set q.stage ≡ false) × (is_early q.stage ≡ true → o ≡ Running)
-IsOfSession (Some q) o (Some r) = (makes_set q.stage ≡ true) × (q.set ≡ Some r.number) × (o ≡ Running)
+IsOfSession None o found = IsOfNone o found
+IsOfSession (Some q) o found = IsOfStage q.stage q.set o found
 
 -- the stage in which `snapshot` is called, in a context with writers or in one without
 abbrev pub snapshot_stage : Bool → Stage

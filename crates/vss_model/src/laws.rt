@@ -1,9 +1,11 @@
 //! What holds for every run: functions that do nothing, whose contracts are the laws.
 
-ghost use Rattle.std.specs.Prelude.{◌≡◌, ◌+◌, ◌++◌, ◌∷◌, ◌&&◌, [], true, Bool, ℕ, List};
+ghost use Rattle.std.specs.Prelude.{◌≡◌, ◌+◌, ◌++◌, ◌∷◌, ◌&&◌, [], true, false, Bool, ℕ, List, Some, None};
 ghost use Rattle.write_history.specs.declared.move_item.Move.{Move};
 ghost use Rattle.scenario.specs.Plan.{Plan};
-ghost use Rattle.vss_model.specs.State.{State, is_held, is_frozen};
+ghost use Rattle.write_history.specs.History.{point_in};
+ghost use Rattle.vss_model.specs.State.{State, SetRow, in_progress, row_of, history_of, is_held, is_frozen};
+ghost use Rattle.vss_model.specs.Facts.{IsOrderly, has_failed};
 ghost use Rattle.vss_model.specs.Acts.{Act, after, state};
 ghost use Rattle.vss_model.specs.Trail.{run, moved, acts, acts_if, event_of, is_legal, is_legal_move, faults};
 ghost use Rattle.vss_model.specs.Laws.{IsKeptByChanges, IsKeptByWrites, Passes, RunsSnapshot};
@@ -38,4 +40,24 @@ pub fn rule_of_cases()
 pub fn held_in_snapshot()
     ensures held { (s : Plan) (acts : List Act) (v : ℕ) → is_held (state s acts) v ≡ true → RunsSnapshot (state s acts) }
     ensures frozen { (s : Plan) (acts : List Act) (w : ℕ) → is_frozen (state s acts) w ≡ true → RunsSnapshot (state s acts) }
+{}
+
+/// Sets are numbered from 1 on and at most the newest is in progress, as the session's stage says; a running agenda is
+/// the one that the stage waits for; and an image stands only of a set that has not failed.
+pub fn state_in_order()
+    ensures { (s : Plan) (acts : List Act) → IsOrderly (state s acts) }
+{}
+
+/// Of a set that has failed no image stands, on any volume.
+pub fn failed_set_keeps_no_image()
+    ensures { (s : Plan) (acts : List Act) (n v : ℕ) (r : SetRow) → row_of (state s acts) n ≡ Some r
+        → has_failed r.result ≡ true → point_in n (history_of (state s acts) v).images ≡ None }
+{}
+
+/// While no set is in progress, no volume is held and no writer stands frozen.
+pub fn free_without_a_set()
+    ensures held { (s : Plan) (acts : List Act) (v : ℕ) → in_progress (state s acts) ≡ None
+        → is_held (state s acts) v ≡ false }
+    ensures frozen { (s : Plan) (acts : List Act) (w : ℕ) → in_progress (state s acts) ≡ None
+        → is_frozen (state s acts) w ≡ false }
 {}

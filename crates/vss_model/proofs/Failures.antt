@@ -1,0 +1,92 @@
+-- What a failed set leaves, and what holds while no set is in progress.
+use Rattle.std.proofs.Common.{◌≡◌, ℕ, ◌+◌, ◌==◌, ◌<◌, zero, suc, List, [], ◌∷◌, Option, Some, None, refl, Bool, true, false, ap, sym, ◌∙◌, subst, find, arith}
+use Rattle.std.specs.Prelude.{◌&&◌, ◌||◌, not, if◌then◌else◌, slice_get}
+use Rattle.write_history.specs.History.{Image, History, point_in}
+use Rattle.scenario.specs.Plan.{Plan}
+use Rattle.vss_model.specs.State.{State, SetRow, in_progress, row_of, history_in, history_of, is_held, is_frozen}
+use Rattle.vss_model.specs.Acts.{Act, state}
+use Rattle.vss_model.specs.Laws.{RunsSnapshot}
+use Rattle.vss_model.specs.Facts.{NumberedFrom, has_failed, is_live, AreLive, AllLive}
+use Rattle.vss_model.proofs.HeldOfSet.{held_means, frozen_means}
+use Rattle.vss_model.proofs.OrderlyActs.{orderly}
+use Rattle.vss_model.proofs.Orderly.{true_not_false}
+
+-- ## images of a failed set
+
+live_at : (rows : List SetRow) (hs : List History) (v : ℕ) → AllLive rows hs → AreLive rows (history_in (slice_get hs v)).images
+live_at rows [] zero h = tt
+live_at rows [] (suc v) h = tt
+live_at rows (x ∷ hs) zero h = h.0
+live_at rows (x ∷ hs) (suc v) h = live_at rows hs v h.1
+
+-- numbers below the first are of no row
+no_live_below : (k n : ℕ) (rows : List SetRow) → NumberedFrom k rows → n < k → is_live rows n ≡ false
+no_live_below k n [] h l = refl
+no_live_below k n (r ∷ rows) h l =
+    let head : (r.number == n) ≡ false = differs r.number n (rw h.0 l) in
+    or_false (r.number == n) (not (has_failed r.result)) (is_live rows n) head (no_live_below (k + 1) n rows h.1 (omega arith))
+  where
+    differs : (a b : ℕ) → b < a → (a == b) ≡ false
+    differs a b l = grind arith
+
+    or_false : (a b c : Bool) → a ≡ false → c ≡ false → ((a && b) || c) ≡ false
+    or_false true b c e f = absurd cc
+    or_false false b c e f = f
+
+failed_head : (b : Bool) (k n : ℕ) (r q : SetRow) (rows : List SetRow) → (q.number == n) ≡ b → q.number ≡ k → NumberedFrom (k + 1) rows
+    → (if b then Some q else find (λ x. x.number == n) rows) ≡ Some r → has_failed r.result ≡ true
+    → (find (λ x. x.number == n) rows ≡ Some r → is_live rows n ≡ false)
+    → ((b && not (has_failed q.result)) || is_live rows n) ≡ false
+failed_head true k n r q rows e f g h i ih =
+    let same : q ≡ r = cc in
+    let Q : SetRow → Type 0 = λ x. has_failed x.result ≡ true in
+    let failed : has_failed q.result ≡ true = subst Q (sym same) i in
+    rw failed (no_live_below (k + 1) n rows g (equal_below q.number n k e f))
+  where
+    equal_below : (a b c : ℕ) → (a == b) ≡ true → a ≡ c → b < c + 1
+    equal_below a b c e f = grind arith
+failed_head false k n r q rows e f g h i ih = ih h
+
+-- a set that has failed is not live
+failed_not_live : (k n : ℕ) (rows : List SetRow) (r : SetRow) → NumberedFrom k rows → find (λ x. x.number == n) rows ≡ Some r → has_failed r.result ≡ true → is_live rows n ≡ false
+failed_not_live k n [] r h e f = absurd cc
+failed_not_live k n (q ∷ rows) r h e f =
+    failed_head (q.number == n) k n r q rows refl h.0 h.1 e f (λ g. failed_not_live (k + 1) n rows r h.1 g f)
+
+none_point_if : (b : Bool) (rows : List SetRow) (n : ℕ) (i : Image) (images : List Image) → (i.set == n) ≡ b → is_live rows n ≡ false → is_live rows i.set ≡ true → point_in n images ≡ None → (if b then Some i.point else point_in n images) ≡ None
+none_point_if true rows n i images e f g h =
+    let same : i.set ≡ n = equal i.set n e in
+    absurd (true_not_false (is_live rows n) (ap (is_live rows) (sym same) ∙ g) f)
+  where
+    equal : (a b : ℕ) → (a == b) ≡ true → a ≡ b
+    equal a b e = grind arith
+none_point_if false rows n i images e f g h = h
+
+none_point : (rows : List SetRow) (n : ℕ) (images : List Image) → is_live rows n ≡ false → AreLive rows images → point_in n images ≡ None
+none_point rows n [] f h = refl
+none_point rows n (i ∷ images) f h = none_point_if (i.set == n) rows n i images refl f h.0 (none_point rows n images f h.1)
+
+pub failed_keeps_nothing : (s : Plan) (acts : List Act) (n v : ℕ) (r : SetRow) → row_of (state s acts) n ≡ Some r → has_failed r.result ≡ true → point_in n (history_of (state s acts) v).images ≡ None
+failed_keeps_nothing s acts n v r e f =
+    let st = state s acts in
+    let h = orderly s acts in
+    none_point st.sets n (history_of st v).images (failed_not_live 1 n st.sets r h.numbered e f) (live_at st.sets st.volumes v h.live)
+
+-- ## while no set is in progress
+
+false_where_not_true : (b : Bool) → (b ≡ true → ⊥) → b ≡ false
+false_where_not_true true h = absurd (h refl)
+false_where_not_true false h = refl
+
+no_set : (st : State) → in_progress st ≡ None → RunsSnapshot st → ⊥
+no_set st e r = none_some (in_progress st) r.set e r.in_progress_is
+  where
+    none_some : (o : Option SetRow) (x : SetRow) → o ≡ None → o ≡ Some x → ⊥
+    none_some None x e f = cc
+    none_some (Some y) x e f = cc
+
+pub none_held : (s : Plan) (acts : List Act) (v : ℕ) → in_progress (state s acts) ≡ None → is_held (state s acts) v ≡ false
+none_held s acts v e = false_where_not_true (is_held (state s acts) v) (λ h. no_set (state s acts) e (held_means s acts v h))
+
+pub none_frozen : (s : Plan) (acts : List Act) (w : ℕ) → in_progress (state s acts) ≡ None → is_frozen (state s acts) w ≡ false
+none_frozen s acts w e = false_where_not_true (is_frozen (state s acts) w) (λ h. no_set (state s acts) e (frozen_means s acts w h))

@@ -1,0 +1,262 @@
+-- The facts that every act keeps together.
+use Rattle.std.proofs.Common.{◌≡◌, ℕ, ◌+◌, ◌==◌, zero, suc, List, [], ◌∷◌, ◌++◌, Option, Some, None, refl, Bool, true, false, map, filter, ap, sym, ◌∙◌, subst, find, length, arith}
+use Rattle.std.specs.Prelude.{option_map, ◌&&◌, ◌||◌, not, if◌then◌else◌}
+use Rattle.vss_names.specs.declared.set_outcome.SetOutcome.{SetOutcome}
+use Rattle.vss_names.specs.declared.set_outcome.SetOutcome.TheVariants.{Running, Complete as CompleteSet, Failed as FailedSet}
+use Rattle.write_history.specs.History.{Image, History, dropped, without_set}
+use Rattle.set_agenda.specs.Course.{change_at}
+use Rattle.vss_model.specs.State.{SetRow, is_running}
+use Rattle.vss_model.specs.Ending.{row_settled, images_dropped}
+use Rattle.vss_model.specs.Facts.{NumberedFrom, OverButNewest, has_failed, is_live, AreLive, AllLive}
+
+pub true_not_false : (b : Bool) → b ≡ true → b ≡ false → ⊥
+true_not_false true e f = cc
+true_not_false false e f = cc
+
+-- ## rows that keep their numbers and results
+
+-- a change of a row that keeps its number, and whether it runs and whether it has failed
+pub record IsSameRow (f : SetRow → SetRow) : Type 0 where
+  pub number : (r : SetRow) → (f r).number ≡ r.number
+  pub running : (r : SetRow) → is_running (f r).result ≡ is_running r.result
+  pub failed : (r : SetRow) → has_failed (f r).result ≡ has_failed r.result
+
+pub numbered-map : (f : SetRow → SetRow) → ((r : SetRow) → (f r).number ≡ r.number) → (n : ℕ) (rows : List SetRow) → NumberedFrom n rows → NumberedFrom n (map f rows)
+numbered-map f same n [] h = tt
+numbered-map f same n (r ∷ rows) h = (same r ∙ h.0, numbered-map f same (n + 1) rows h.1)
+
+pub newest-map : (f : SetRow → SetRow) → IsSameRow f → (rows : List SetRow) → OverButNewest rows → OverButNewest (map f rows)
+newest-map f same [] h = tt
+newest-map f same (r ∷ []) h = tt
+newest-map f same (r ∷ q ∷ rows) h = (same.running r ∙ h.0, newest-map f same (q ∷ rows) h.1)
+
+-- the head of a search, by what the test says
+find_head : (b c : Bool) (x y : SetRow) (found other : Option SetRow) (f : SetRow → SetRow) → c ≡ b → y ≡ f x → other ≡ option_map f found → (if c then Some y else other) ≡ option_map f (if b then Some x else found)
+find_head true true x y found other f e g h = ap (λ z. Some z) g
+find_head false false x y found other f e g h = h
+find_head true false x y found other f e g h = absurd cc
+find_head false true x y found other f e g h = absurd cc
+
+pub find-map : (f : SetRow → SetRow) → ((r : SetRow) → is_running (f r).result ≡ is_running r.result) → (rows : List SetRow) → find (λ r. is_running r.result) (map f rows) ≡ option_map f (find (λ r. is_running r.result) rows)
+find-map f same [] = refl
+find-map f same (r ∷ rows) = find_head (is_running r.result) (is_running (f r).result) r (f r) _ _ f (same r) refl (find-map f same rows)
+
+pub live-map : (f : SetRow → SetRow) → IsSameRow f → (rows : List SetRow) (n : ℕ) → is_live (map f rows) n ≡ is_live rows n
+live-map f same [] n = refl
+live-map f same (r ∷ rows) n =
+    let head : ((f r).number == n && not (has_failed (f r).result)) ≡ (r.number == n && not (has_failed r.result)) =
+    ap (λ k. k == n && not (has_failed (f r).result)) (same.number r) ∙ ap (λ b. r.number == n && not b) (same.failed r) in
+    ap (λ b. b || is_live (map f rows) n) head ∙ ap (λ b. (r.number == n && not (has_failed r.result)) || b) (live-map f same rows n)
+
+-- ## live images
+
+are_live_along : (rows new : List SetRow) → ((n : ℕ) → is_live rows n ≡ true → is_live new n ≡ true) → (images : List Image) → AreLive rows images → AreLive new images
+are_live_along rows new keeps [] h = tt
+are_live_along rows new keeps (i ∷ images) h = (keeps i.set h.0, are_live_along rows new keeps images h.1)
+
+pub all_live_along : (rows new : List SetRow) → ((n : ℕ) → is_live rows n ≡ true → is_live new n ≡ true) → (hs : List History) → AllLive rows hs → AllLive new hs
+all_live_along rows new keeps [] h = tt
+all_live_along rows new keeps (x ∷ hs) h = (are_live_along rows new keeps x.images h.0, all_live_along rows new keeps hs h.1)
+
+live_if : (b : Bool) (rows : List SetRow) (i : Image) (images : List Image) → is_live rows i.set ≡ true → AreLive rows images → AreLive rows (if b then i ∷ images else images)
+live_if true rows i images e h = (e, h)
+live_if false rows i images e h = h
+
+-- fewer images
+pub live-filter : (test : Image → Bool) (rows : List SetRow) (images : List Image) → AreLive rows images → AreLive rows (filter test images)
+live-filter test rows [] h = tt
+live-filter test rows (i ∷ images) h = live_if (test i) rows i (filter test images) h.0 (live-filter test rows images h.1)
+
+pub live-append : (rows : List SetRow) (images : List Image) (i : Image) → AreLive rows images → is_live rows i.set ≡ true → AreLive rows (images ++ i ∷ [])
+live-append rows [] i h e = (e, tt)
+live-append rows (x ∷ images) i h e = (h.0, live-append rows images i h.1 e)
+
+-- a change of a history that leaves no image of another set
+pub all_live-map : (f : History → History) (rows : List SetRow) → ((x : History) → AreLive rows x.images → AreLive rows (f x).images) → (hs : List History) → AllLive rows hs → AllLive rows (map f hs)
+all_live-map f rows keeps [] h = tt
+all_live-map f rows keeps (x ∷ hs) h = (keeps x h.0, all_live-map f rows keeps hs h.1)
+
+pub all_live-change_at : (f : History → History) (rows : List SetRow) → ((x : History) → AreLive rows x.images → AreLive rows (f x).images) → (v : ℕ) (hs : List History) → AllLive rows hs → AllLive rows (change_at v f hs)
+all_live-change_at f rows keeps v [] h = tt
+all_live-change_at f rows keeps zero (x ∷ hs) h = (keeps x h.0, h.1)
+all_live-change_at f rows keeps (suc v) (x ∷ hs) h = (h.0, all_live-change_at f rows keeps v hs h.1)
+
+-- ## a set that ends
+
+number-settled_if : (b : Bool) (p : SetOutcome) (r : SetRow) → (if b then record r { result = p } else r).number ≡ r.number
+number-settled_if true p r = refl
+number-settled_if false p r = refl
+
+pub numbered-settled : (p : SetOutcome) (n : ℕ) (rows : List SetRow) → NumberedFrom n rows → NumberedFrom n (map (row_settled p) rows)
+numbered-settled p n rows h = numbered-map (row_settled p) (λ r. number-settled_if (is_running r.result) p r) n rows h
+
+over_stays : (b : Bool) (p : SetOutcome) (r : SetRow) → is_running r.result ≡ b → b ≡ false → is_running (if b then record r { result = p } else r).result ≡ false
+over_stays true p r e f = absurd cc
+over_stays false p r e f = e
+
+pub newest-settled : (p : SetOutcome) (rows : List SetRow) → OverButNewest rows → OverButNewest (map (row_settled p) rows)
+newest-settled p [] h = tt
+newest-settled p (r ∷ []) h = tt
+newest-settled p (r ∷ q ∷ rows) h = (over_stays (is_running r.result) p r refl h.0, newest-settled p (q ∷ rows) h.1)
+
+settled_over : (b : Bool) (p : SetOutcome) (r : SetRow) → is_running p ≡ false → is_running r.result ≡ b → is_running (if b then record r { result = p } else r).result ≡ false
+settled_over true p r e f = e
+settled_over false p r e f = f
+
+none_if : (c : Bool) (x : SetRow) (other : Option SetRow) → c ≡ false → other ≡ None → (if c then Some x else other) ≡ None
+none_if true x other e h = absurd cc
+none_if false x other e h = h
+
+-- where the outcome is no longer Running, no set is in progress any more
+pub find-settled_over : (p : SetOutcome) → is_running p ≡ false → (rows : List SetRow) → find (λ r. is_running r.result) (map (row_settled p) rows) ≡ None
+find-settled_over p e [] = refl
+find-settled_over p e (r ∷ rows) =
+    none_if (is_running (row_settled p r).result) (row_settled p r) _ (settled_over (is_running r.result) p r e refl) (find-settled_over p e rows)
+
+abbrev with_result : SetOutcome → SetRow → SetRow
+with_result p r = record r { result = p }
+
+running_step : (b : Bool) (r : SetRow) (found other : Option SetRow) → is_running r.result ≡ b → other ≡ option_map (with_result Running) found → (if is_running (if b then record r { result = Running } else r).result then Some (if b then record r { result = Running } else r) else other) ≡ option_map (with_result Running) (if b then Some r else found)
+running_step true r found other e h = refl
+running_step false r found other e h = rw e h
+
+-- where it still is, the set in progress is the same
+pub find-settled_running : (rows : List SetRow) → find (λ r. is_running r.result) (map (row_settled Running) rows) ≡ option_map (with_result Running) (find (λ r. is_running r.result) rows)
+find-settled_running [] = refl
+find-settled_running (r ∷ rows) = running_step (is_running r.result) r _ _ refl (find-settled_running rows)
+
+live_settled_if : (b : Bool) (p : SetOutcome) (r : SetRow) (n : ℕ) → has_failed p ≡ false → (r.number == n && not (has_failed r.result)) ≡ true → ((if b then record r { result = p } else r).number == n && not (has_failed (if b then record r { result = p } else r).result)) ≡ true
+live_settled_if false p r n e h = h
+live_settled_if true p r n e h = first_and (r.number == n) (has_failed r.result) (has_failed p) e h
+  where
+    first_and : (a b c : Bool) → c ≡ false → (a && not b) ≡ true → (a && not c) ≡ true
+    first_and true b true e h = absurd cc
+    first_and true b false e h = refl
+    first_and false b c e h = absurd cc
+
+or_both : (a b c d : Bool) → (a ≡ true → c ≡ true) → (b ≡ true → d ≡ true) → (a || b) ≡ true → (c || d) ≡ true
+or_both true b c d f g h = rw (f refl) refl
+or_both false b true d f g h = refl
+or_both false b false d f g h = g h
+
+-- a set that has not failed stays live where the set in progress does not fail
+pub live-settled : (p : SetOutcome) → has_failed p ≡ false → (rows : List SetRow) (n : ℕ) → is_live rows n ≡ true → is_live (map (row_settled p) rows) n ≡ true
+live-settled p e [] n h = h
+live-settled p e (r ∷ rows) n h =
+    or_both (r.number == n && not (has_failed r.result)) (is_live rows n) _ _ (live_settled_if (is_running r.result) p r n e) (live-settled p e rows n) h
+
+-- ## a set that fails
+
+abbrev IsOther : ℕ → Option SetRow → Type 0
+IsOther n None = Unit {0}
+IsOther n (Some r) = (r.number == n) ≡ false
+
+-- every set but the one in progress stays live
+live_fails_at : (b : Bool) (p : SetOutcome) (r : SetRow) (rows : List SetRow) (n : ℕ) → is_running r.result ≡ b → OverButNewest (r ∷ rows)
+    → IsOther n (if b then Some r else find (λ q. is_running q.result) rows)
+    → (IsOther n (find (λ q. is_running q.result) rows) → is_live rows n ≡ true → is_live (map (row_settled p) rows) n ≡ true)
+    → is_live (r ∷ rows) n ≡ true
+    → (((if b then record r { result = p } else r).number == n && not (has_failed (if b then record r { result = p } else r).result)) || is_live (map (row_settled p) rows) n) ≡ true
+live_fails_at false p r rows n e o other ih h = or_both (r.number == n && not (has_failed r.result)) (is_live rows n) _ _ (λ g. g) (ih other) h
+live_fails_at true p r [] n e o other ih h = absurd (true_not_false _ h (no_head (r.number == n) (not (has_failed r.result)) other))
+  where
+    no_head : (a b : Bool) → a ≡ false → ((a && b) || false) ≡ false
+    no_head true b e = absurd cc
+    no_head false b e = refl
+live_fails_at true p r (q ∷ rows) n e o other ih h = absurd (true_not_false _ e o.0)
+
+over_rest : (r : SetRow) (rows : List SetRow) → OverButNewest (r ∷ rows) → OverButNewest rows
+over_rest r [] o = tt
+over_rest r (q ∷ rows) o = o.1
+
+pub live-fails : (p : SetOutcome) (rows : List SetRow) (n : ℕ) → OverButNewest rows → IsOther n (find (λ r. is_running r.result) rows) → is_live rows n ≡ true → is_live (map (row_settled p) rows) n ≡ true
+live-fails p [] n o other h = h
+live-fails p (r ∷ rows) n o other h =
+    live_fails_at (is_running r.result) p r rows n refl o other (λ f g. live-fails p rows n (over_rest r rows o) f g) h
+
+-- its images go
+other_way : (a b : ℕ) → (a == b) ≡ false → (b == a) ≡ false
+other_way a b f = grind arith
+
+kept_where_other : (b : Bool) (new : List SetRow) (i : Image) (images : List Image) → (b ≡ false → is_live new i.set ≡ true) → AreLive new images → AreLive new (if not b then i ∷ images else images)
+kept_where_other true new i images head tail = tail
+kept_where_other false new i images head tail = (head refl, tail)
+
+are_live_without : (p : SetOutcome) (rows : List SetRow) (q : SetRow) → OverButNewest rows → find (λ r. is_running r.result) rows ≡ Some q → (images : List Image) → AreLive rows images → AreLive (map (row_settled p) rows) (without_set q.number images)
+are_live_without p rows q o e [] h = tt
+are_live_without p rows q o e (i ∷ images) h =
+    let Q : Option SetRow → Type 0 = λ x. IsOther i.set x in
+    kept_where_other (i.set == q.number) (map (row_settled p) rows) i (without_set q.number images)
+    (λ f. live-fails p rows i.set o (subst Q (sym e) (other_way i.set q.number f)) h.0)
+    (are_live_without p rows q o e images h.1)
+
+all_live_without : (p : SetOutcome) (rows : List SetRow) (q : SetRow) → OverButNewest rows → find (λ r. is_running r.result) rows ≡ Some q → (hs : List History) → AllLive rows hs → AllLive (map (row_settled p) rows) (map (dropped q.number) hs)
+all_live_without p rows q o e [] h = tt
+all_live_without p rows q o e (x ∷ hs) h = (are_live_without p rows q o e x.images h.0, all_live_without p rows q o e hs h.1)
+
+pub all_live-fails : (p : SetOutcome) (rows : List SetRow) (found : Option SetRow) → OverButNewest rows → find (λ r. is_running r.result) rows ≡ found → (hs : List History) → AllLive rows hs → AllLive (map (row_settled p) rows) (images_dropped found hs)
+all_live-fails p rows (Some q) o e hs h = all_live_without p rows q o e hs h
+all_live-fails p rows None o e hs h =
+    let Q : Option SetRow → ℕ → Type 0 = λ x n. IsOther n x in
+    all_live_along rows (map (row_settled p) rows) (λ n g. live-fails p rows n o (subst (λ x. Q x n) (sym e) tt) g) hs h
+
+-- ## a set that starts
+
+pub numbered-append : (n : ℕ) (rows : List SetRow) (r : SetRow) → NumberedFrom n rows → r.number ≡ length rows + n → NumberedFrom n (rows ++ r ∷ [])
+numbered-append n [] r h e = (e ∙ omega arith, tt)
+numbered-append n (q ∷ rows) r h e = (h.0, numbered-append (n + 1) rows r h.1 (e ∙ omega arith))
+
+none_head : (b : Bool) (x : SetRow) (other : Option SetRow) → (if b then Some x else other) ≡ None → b ≡ false
+none_head true x other e = absurd cc
+none_head false x other e = refl
+
+none_tail : (b : Bool) (x : SetRow) (other : Option SetRow) → (if b then Some x else other) ≡ None → other ≡ None
+none_tail true x other e = absurd cc
+none_tail false x other e = e
+
+pub newest-append : (rows : List SetRow) (r : SetRow) → find (λ q. is_running q.result) rows ≡ None → OverButNewest (rows ++ r ∷ [])
+newest-append [] r e = tt
+newest-append (q ∷ []) r e = (none_head (is_running q.result) q _ e, tt)
+newest-append (q ∷ x ∷ rows) r e = (none_head (is_running q.result) q _ e, newest-append (x ∷ rows) r (none_tail (is_running q.result) q _ e))
+
+append_if : (b : Bool) (q r : SetRow) (found other : Option SetRow) → (if b then Some q else found) ≡ None → other ≡ Some r → (if b then Some q else other) ≡ Some r
+append_if true q r found other e h = absurd cc
+append_if false q r found other e h = h
+
+pub find-append_new : (rows : List SetRow) (r : SetRow) → find (λ q. is_running q.result) rows ≡ None → is_running r.result ≡ true → find (λ q. is_running q.result) (rows ++ r ∷ []) ≡ Some r
+find-append_new [] r e f = rw f refl
+find-append_new (q ∷ rows) r e f = append_if (is_running q.result) q r _ _ e (find-append_new rows r (none_tail (is_running q.result) q _ e) f)
+
+live_append : (rows : List SetRow) (r : SetRow) (n : ℕ) → is_live rows n ≡ true → is_live (rows ++ r ∷ []) n ≡ true
+live_append [] r n h = absurd cc
+live_append (q ∷ rows) r n h = or_both (q.number == n && not (has_failed q.result)) (is_live rows n) _ _ (λ g. g) (live_append rows r n) h
+
+pub all_live-append : (rows : List SetRow) (r : SetRow) (hs : List History) → AllLive rows hs → AllLive (rows ++ r ∷ []) hs
+all_live-append rows r hs h = all_live_along rows (rows ++ r ∷ []) (λ n g. live_append rows r n g) hs h
+
+-- the set in progress is live
+running_is_live : (o : SetOutcome) → is_running o ≡ true → has_failed o ≡ false
+running_is_live Running e = refl
+running_is_live CompleteSet e = absurd cc
+running_is_live (FailedSet why) e = absurd cc
+
+some_head : (r q : SetRow) → Some r ≡ Some q → r ≡ q
+some_head r q e = cc
+
+live_found_if : (b : Bool) (q r : SetRow) (rows : List SetRow) → is_running q.result ≡ b → (if b then Some q else find (λ x. is_running x.result) rows) ≡ Some r → (find (λ x. is_running x.result) rows ≡ Some r → is_live rows r.number ≡ true) → ((q.number == r.number && not (has_failed q.result)) || is_live rows r.number) ≡ true
+live_found_if true q r rows f e ih =
+    let same : q ≡ r = some_head q r e in
+    let Q : SetRow → Type 0 = λ x. ((q.number == x.number && not (has_failed q.result)) || is_live rows x.number) ≡ true in
+    subst Q same (rw (running_is_live q.result f) (own q.number (is_live rows q.number)))
+  where
+    own : (n : ℕ) (b : Bool) → ((n == n && not false) || b) ≡ true
+    own n b = grind arith
+live_found_if false q r rows f e ih = or_right (q.number == r.number && not (has_failed q.result)) _ (ih e)
+  where
+    or_right : (a b : Bool) → b ≡ true → (a || b) ≡ true
+    or_right true b h = refl
+    or_right false b h = h
+
+pub live_found : (rows : List SetRow) (r : SetRow) → find (λ q. is_running q.result) rows ≡ Some r → is_live rows r.number ≡ true
+live_found [] r e = absurd cc
+live_found (q ∷ rows) r e = live_found_if (is_running q.result) q r rows refl e (live_found rows r)

@@ -1,0 +1,697 @@
+-- Every act keeps the state orderly.
+use Rattle.std.proofs.Common.{◌≡◌, ℕ, ◌+◌, ◌==◌, List, [], ◌∷◌, Option, Some, None, refl, Bool, true, false, map, ap, sym, ◌∙◌, subst, find, fold, inl, inr, length}
+use Rattle.std.specs.Prelude.{option_map, is_some, ◌&&◌, ◌⊎◌, not, if◌then◌else◌, nat_lt}
+use Rattle.vss_names.specs.declared.context.Context.{Context}
+use Rattle.vss_names.specs.declared.context.Context.TheVariants.{Backup, AppRollback, NasRollback}
+use Rattle.vss_names.specs.declared.order.Order.{Order}
+use Rattle.vss_names.specs.declared.vss_result.VssResult.{VssResult}
+use Rattle.vss_names.specs.declared.vss_result.VssResult.TheVariants.{AsyncCancelled}
+use Rattle.vss_names.specs.declared.set_outcome.SetOutcome.{SetOutcome}
+use Rattle.vss_names.specs.declared.set_outcome.SetOutcome.TheVariants.{Running, Complete as CompleteSet, Failed as FailedSet}
+use Rattle.writer_state.specs.declared.said.Said.{Said}
+use Rattle.writer_state.specs.declared.said.Said.TheVariants.{Ok}
+use Rattle.writer_state.specs.WriterState.{is_ok}
+use Rattle.write_history.specs.declared.mark.Mark.{Mark}
+use Rattle.write_history.specs.declared.mark.Mark.TheVariants.{Clean, Fault, FaultAfter}
+use Rattle.write_history.specs.History.{Write, History, fresh, written, dropped, reverted, after_set}
+use Rattle.write_history.specs.Slots.{Placed, gone_up_to}
+use Rattle.set_agenda.specs.declared.group.Group.{Group}
+use Rattle.set_agenda.specs.declared.group.Group.TheVariants.{Orders, PreCommit, Flush, Hold, Cut, Commit, Release, PostCommit}
+use Rattle.set_agenda.specs.declared.kind.Kind.{Kind}
+use Rattle.set_agenda.specs.declared.kind.Kind.TheVariants.{Gather, Prepare, Snapshot, Complete}
+use Rattle.set_agenda.specs.declared.limit.Limit.{Limit}
+use Rattle.set_agenda.specs.declared.limit.Limit.TheVariants.{Hold as HoldLimit, Freeze as FreezeLimit, Answer as AnswerLimit}
+use Rattle.set_agenda.specs.declared.member.Member.{Member}
+use Rattle.set_agenda.specs.Agenda.{Agenda, groups_left, left, all_say, is_done, is_working, is_among, open_order, order_now, open_group, waits_now, next_member}
+use Rattle.set_agenda.specs.Limits.{Running as RunningLimit, running_limits, spent_of}
+use Rattle.set_agenda.specs.Course.{Course, posted, failed as course_failed, outcome_after, settled_if, settled_in, settled, begun, is_decisive, told, decided, answered_to, answered as course_answered, worked, stepped_as as course_stepped_as, stepped as course_stepped, freeze_limit, lost_to, lost, fails_set, lost_decided, treated_as, treated, timed as course_timed, released}
+use Rattle.requestor.specs.declared.stage.Stage.{Stage}
+use Rattle.requestor.specs.declared.stage.Stage.TheVariants.{Opened, Gathered, Started, Prepared, Done, Finished, Failed}
+use Rattle.requestor.specs.declared.session_call.SessionCall.TheVariants as call
+use Rattle.requestor.specs.Session.{Session, has_writers, makes_set, stage_after, agenda_ended, set_failed}
+use Rattle.requestor.specs.Check.{is_stage}
+use Rattle.scenario.specs.declared.volume_row.VolumeRow.{VolumeRow}
+use Rattle.scenario.specs.Plan.{Plan}
+use Rattle.vss_model.specs.State.{State, SetRow, Kept, start, is_running, in_progress, row_changed, left_now}
+use Rattle.vss_model.specs.Ending.{Ending, NothingEnds, AgendaEnds, SetFails, ending, row_settled, concluded, followed, runs, failed_in, failed}
+use Rattle.vss_model.specs.Images.{Replied, put, reverted_as}
+use Rattle.vss_model.specs.Sessions.{begin_in, has_no_volume, start_set, new_set, with_volume, change_set, images_released, closed}
+use Rattle.vss_model.specs.Steps.{answered, with_cut, row_cut, cut_if, cut_each, cut_set, step_made, is_flush, is_failed_step, stepped_as, stepped, ticked, later}
+use Rattle.vss_model.specs.Acts.{Act, after, state}
+use Rattle.vss_model.specs.Laws.{IsKeptByChanges, IsKeptByWrites, LetsGo}
+use Rattle.vss_model.specs.Facts.{is_early, IsOfStage, IsOfNone, IsOfSession, snapshot_stage, WaitsFor, IsAgendaOf, has_failed, is_live, AreLive, AllLive, IsOrderly}
+use Rattle.vss_model.proofs.Rule.{on_after}
+use Rattle.vss_model.proofs.Orderly.{IsSameRow, numbered-map, newest-map, find-map, live-map, all_live_along, live-filter, live-append, all_live-map, all_live-change_at, numbered-settled, newest-settled, find-settled_over, find-settled_running, live-settled, all_live-fails, numbered-append, newest-append, find-append_new, all_live-append, live_found, true_not_false}
+
+-- ## what calls do to the agenda and the outcome
+
+abbrev EndsIn : Kind → SetOutcome → SetOutcome → Type 0
+EndsIn k o p = (p ≡ outcome_after k o) ⊎ (has_failed p ≡ true)
+
+-- an agenda goes on with its kind and the outcome, or it ends; where none ran, nothing changes
+abbrev Moves : Option Agenda → SetOutcome → Option Agenda → SetOutcome → Type 0
+Moves None o None p = p ≡ o
+Moves None o (Some b) p = ⊥
+Moves (Some a) o None p = EndsIn a.kind o p
+Moves (Some a) o (Some b) p = (b.kind ≡ a.kind) × (p ≡ o)
+
+abbrev MovesOn : Course → Course → Type 0
+MovesOn c d = Moves c.agenda c.outcome d.agenda d.outcome
+
+moves_same : (a : Option Agenda) (o : SetOutcome) → Moves a o a o
+moves_same None o = refl
+moves_same (Some a) o = (refl, refl)
+
+moves_said : (said : Said) (now : ℕ) (ws : List ℕ) (a : Option Agenda) (o : SetOutcome) → Moves a o (option_map (all_say said now ws) a) o
+moves_said said now ws None o = refl
+moves_said said now ws (Some a) o = (refl, refl)
+
+moves_told : (o : Order) (said : Said) (now : ℕ) (ws : List ℕ) (c : Course) → MovesOn c (told o said now ws c)
+unfolding told
+moves_told o said now ws c = moves_said said now ws c.agenda c.outcome
+
+moves_worked : (now : ℕ) (c : Course) → MovesOn c (worked now c)
+unfolding worked
+moves_worked now c = moves_said Ok now (next_member (left c.agenda) ∷ []) c.agenda c.outcome
+
+moves_failed : (why : VssResult) (c d : Course) (a : Agenda) → c.agenda ≡ Some a → MovesOn c (course_failed why d)
+unfolding course_failed
+moves_failed why c d a e =
+    let Q : Option Agenda → Type 0 = λ x. Moves x c.outcome None (FailedSet why) in
+    subst Q (sym e) (inr refl)
+
+moves_posted : (before c d : Course) → MovesOn c d → MovesOn c (posted before d)
+unfolding posted
+moves_posted before c d h = h
+
+ends_from : (a : Option Agenda) (o : SetOutcome) (b : Agenda) (p : SetOutcome) → Moves a o (Some b) p → Moves a o None (outcome_after b.kind p)
+ends_from None o b p h = absurd h
+ends_from (Some a) o b p h = inl (ap (λ k. outcome_after k p) h.0 ∙ ap (λ x. outcome_after a.kind x) h.1)
+
+moves_settled_if : (done : Bool) (b : Agenda) (c d : Course) → d.agenda ≡ Some b → MovesOn c d → MovesOn c (settled_if done b.kind d)
+moves_settled_if false b c d e h = h
+moves_settled_if true b c d e h =
+    let Q : Option Agenda → Type 0 = λ x. Moves c.agenda c.outcome x d.outcome in
+    ends_from c.agenda c.outcome b d.outcome (subst Q e h)
+
+moves_settled_in : (x : Option Agenda) (c d : Course) → d.agenda ≡ x → MovesOn c d → MovesOn c (settled_in x d)
+moves_settled_in None c d e h = h
+moves_settled_in (Some b) c d e h = moves_settled_if (is_done (groups_left b)) b c d e h
+
+moves_settled : (c d : Course) → MovesOn c d → MovesOn c (settled d)
+unfolding settled
+moves_settled c d h = moves_settled_in d.agenda c d refl h
+
+moves_decided : (fails : Bool) (said : Said) (c d : Course) (a : Agenda) → c.agenda ≡ Some a → MovesOn c d → MovesOn c (decided fails said d)
+moves_decided true said c d a e h = moves_failed _ c d a e
+moves_decided false said c d a e h = moves_settled c d h
+
+moves_answered_to : (o : Option Order) (w : ℕ) (said : Said) (now : ℕ) (c : Course) (a : Agenda) → c.agenda ≡ Some a → MovesOn c (answered_to o w said now c)
+moves_answered_to None w said now c a e = moves_same c.agenda c.outcome
+moves_answered_to (Some o) w said now c a e =
+    moves_decided (is_decisive o && not (is_ok said)) said c (told o said now (w ∷ []) c) a e (moves_told o said now (w ∷ []) c)
+
+moves_answered_at : (x : Option Agenda) (w : ℕ) (said : Said) (now : ℕ) (c : Course) → c.agenda ≡ x → MovesOn c (answered_to (open_order (left x) w) w said now c)
+moves_answered_at None w said now c e = moves_same c.agenda c.outcome
+moves_answered_at (Some a) w said now c e = moves_answered_to (open_order (left (Some a)) w) w said now c a e
+
+moves_answered : (w : ℕ) (said : Said) (now : ℕ) (c : Course) → MovesOn c (course_answered w said now c)
+moves_answered w said now c = moves_posted c c _ (moves_answered_at c.agenda w said now c refl)
+
+moves_stepped_as : (ok : Bool) (x : Option Agenda) (now : ℕ) (c : Course) → c.agenda ≡ x → is_working (left x) ≡ true → MovesOn c (course_stepped_as ok now c)
+moves_stepped_as true x now c e w = moves_settled c (worked now c) (moves_worked now c)
+moves_stepped_as false None now c e w = absurd cc
+moves_stepped_as false (Some a) now c e w = moves_failed _ c c a e
+
+moves_stepped : (ok : Bool) (now : ℕ) (c : Course) → is_working (left c.agenda) ≡ true → MovesOn c (course_stepped ok now c)
+moves_stepped ok now c w = moves_posted c c _ (moves_stepped_as ok c.agenda now c refl w)
+
+moves_lost_to : (o : Option Order) (now : ℕ) (c : Course) → MovesOn c (lost_to o now c)
+moves_lost_to None now c = moves_same c.agenda c.outcome
+moves_lost_to (Some o) now c = moves_told o _ now (waits_now (left c.agenda)) c
+
+moves_lost_decided : (b : Bool) (c d : Course) (a : Agenda) → c.agenda ≡ Some a → MovesOn c d → MovesOn c (lost_decided b d)
+moves_lost_decided true c d a e h = moves_failed _ c d a e
+moves_lost_decided false c d a e h = moves_settled c d h
+
+moves_treated_as : (l : Limit) (now : ℕ) (c : Course) (a : Agenda) → c.agenda ≡ Some a → MovesOn c (treated_as l now c)
+moves_treated_as HoldLimit now c a e = moves_failed _ c c a e
+moves_treated_as FreezeLimit now c a e = moves_failed _ c (lost now c) a e
+moves_treated_as AnswerLimit now c a e = moves_lost_decided (fails_set (order_now (left c.agenda))) c (lost now c) a e (moves_lost_to (order_now (left c.agenda)) now c)
+
+moves_treated : (l : Option RunningLimit) (now : ℕ) (c : Course) (a : Agenda) → c.agenda ≡ Some a → MovesOn c (treated l now c)
+moves_treated None now c a e = moves_same c.agenda c.outcome
+moves_treated (Some l) now c a e = moves_treated_as l.limit now c a e
+
+moves_timed_at : (x : Option Agenda) (now : ℕ) (c : Course) → c.agenda ≡ x → MovesOn c (treated (spent_of now (running_limits (freeze_limit c) x)) now c)
+moves_timed_at None now c e = moves_same c.agenda c.outcome
+moves_timed_at (Some a) now c e = moves_treated (spent_of now (running_limits (freeze_limit c) (Some a))) now c a e
+
+moves_timed : (now : ℕ) (c : Course) → MovesOn c (course_timed now c)
+moves_timed now c = moves_posted c c _ (moves_timed_at c.agenda now c refl)
+
+-- ## what follows
+
+-- the course goes on, and nothing ends
+goes_on : (c : Course) (st : State) → c.outcome ≡ st.course.outcome → IsAgendaOf c.agenda st.session → IsOrderly st → IsOrderly (record st { course = c })
+goes_on c st e f h =
+    let Q : SetOutcome → Type 0 = λ o. IsOfSession st.session o (in_progress st) in
+    record { numbered = h.numbered; newest = h.newest; session = subst Q (sym e) h.session; agenda = f; live = h.live }
+
+-- the set fails
+session_failed : (why : VssResult) (q : Option Session) (s : Session) (o p : SetOutcome) → q ≡ Some s → IsOfSession (option_map (set_failed why) q) p None
+session_failed why None s o p e = absurd cc
+session_failed why (Some q) s o p e = (refl, λ f. absurd cc)
+
+agenda_none : (a : Option Agenda) (q : Option Session) → a ≡ None → IsAgendaOf a q
+agenda_none None q e = tt
+agenda_none (Some a) q e = absurd cc
+
+over_failed : (o : SetOutcome) → has_failed o ≡ true → is_running o ≡ false
+over_failed Running e = absurd cc
+over_failed CompleteSet e = refl
+over_failed (FailedSet why) e = refl
+
+fails : (why : VssResult) (c : Course) (st : State) (q : Session) → st.session ≡ Some q → c.agenda ≡ None → has_failed c.outcome ≡ true → IsOrderly st → IsOrderly (concluded (SetFails why) (record st { course = c }))
+fails why c st q e f g h =
+    let none = find-settled_over c.outcome (over_failed c.outcome g) st.sets in
+    let Q : Option SetRow → Type 0 = λ x. IsOfSession (option_map (set_failed why) st.session) c.outcome x in
+    record {
+      numbered = numbered-settled c.outcome 1 st.sets h.numbered;
+      newest = newest-settled c.outcome st.sets h.newest;
+      session = subst Q (sym none) (session_failed why st.session q st.course.outcome c.outcome e);
+      agenda = agenda_none c.agenda _ f;
+      live = all_live-fails c.outcome st.sets (in_progress st) h.newest refl st.volumes h.live;
+    }
+
+-- ## an agenda ends
+
+-- the set in progress once the rows have the outcome of a session whose set was still running
+abbrev found_after : Kind → Option SetRow → Option SetRow
+found_after Gather found = option_map (λ (r : SetRow). record r { result = Running }) found
+found_after Prepare found = option_map (λ (r : SetRow). record r { result = Running }) found
+found_after Snapshot found = None
+found_after Complete found = option_map (λ (r : SetRow). record r { result = Running }) found
+
+find-after : (k : Kind) (rows : List SetRow) → find (λ r. is_running r.result) (map (row_settled (outcome_after k Running)) rows) ≡ found_after k (find (λ r. is_running r.result) rows)
+find-after Gather rows = find-settled_running rows
+find-after Prepare rows = find-settled_running rows
+find-after Snapshot rows = find-settled_over CompleteSet refl rows
+find-after Complete rows = find-settled_running rows
+
+gather_ends : (c : Context) (set : Option ℕ) (found : Option SetRow) → IsOfStage Opened set Running found → IsOfStage (stage_after c Opened) set Running (found_after Gather found)
+gather_ends c set None h = (refl, λ e. refl)
+gather_ends c set (Some r) h = absurd (true_not_false false h.0 refl)
+
+prepare_ends : (c : Context) (set : Option ℕ) (found : Option SetRow) → has_writers c ≡ true → IsOfStage Started set Running found → IsOfStage (stage_after c Started) set Running (found_after Prepare found)
+prepare_ends c set None w h = absurd (true_not_false true refl h.0)
+prepare_ends Backup set (Some r) w h = (refl, h.1, refl)
+prepare_ends AppRollback set (Some r) w h = (refl, h.1, refl)
+prepare_ends NasRollback set (Some r) w h = absurd (true_not_false false w refl)
+
+snapshot_ends : (c : Context) (set : Option ℕ) → IsOfStage (stage_after c (snapshot_stage (has_writers c))) set CompleteSet None
+snapshot_ends Backup set = (refl, λ e. absurd (true_not_false false e refl))
+snapshot_ends AppRollback set = (refl, λ e. absurd (true_not_false false e refl))
+snapshot_ends NasRollback set = (refl, λ e. absurd (true_not_false false e refl))
+
+complete_ends : (c : Context) (set : Option ℕ) (found : Option SetRow) → IsOfStage Done set Running found → IsOfStage (stage_after c Done) set Running (found_after Complete found)
+complete_ends c set None h = (refl, λ e. refl)
+complete_ends c set (Some r) h = absurd (true_not_false false h.0 refl)
+
+stage_ends : (k : Kind) (c : Context) (s : Stage) (set : Option ℕ) (found : Option SetRow) → WaitsFor k c s → IsOfStage s set Running found → IsOfStage (stage_after c s) set (outcome_after k Running) (found_after k found)
+stage_ends Gather c s set found w h =
+    let Q : Stage → Type 0 = λ x. IsOfStage x set Running found → IsOfStage (stage_after c x) set Running (found_after Gather found) in
+    subst Q (sym w) (gather_ends c set found) h
+stage_ends Prepare c s set found w h =
+    let Q : Stage → Type 0 = λ x. IsOfStage x set Running found → IsOfStage (stage_after c x) set Running (found_after Prepare found) in
+    subst Q (sym w.0) (prepare_ends c set found w.1) h
+stage_ends Snapshot c s set found w h =
+    let Q : Stage → Type 0 = λ x. IsOfStage (stage_after c x) set CompleteSet None in
+    subst Q (sym w) (snapshot_ends c set)
+stage_ends Complete c s set found w h =
+    let Q : Stage → Type 0 = λ x. IsOfStage x set Running found → IsOfStage (stage_after c x) set Running (found_after Complete found) in
+    subst Q (sym w) (complete_ends c set found) h
+
+not_failed_after : (k : Kind) → has_failed (outcome_after k Running) ≡ false
+not_failed_after Gather = refl
+not_failed_after Prepare = refl
+not_failed_after Snapshot = refl
+not_failed_after Complete = refl
+
+session_along : (q : Option Session) (s : Session) (o : SetOutcome) (found : Option SetRow) → q ≡ Some s → IsOfSession q o found → IsOfStage s.stage s.set o found
+session_along q s o found e h = let Q : Option Session → Type 0 = λ x. IsOfSession x o found in subst Q e h
+
+session_back : (q : Option Session) (s : Session) (o : SetOutcome) (found : Option SetRow) → q ≡ Some s → IsOfStage (stage_after s.context s.stage) s.set o found → IsOfSession (option_map agenda_ended q) o found
+session_back q s o found e h = let Q : Option Session → Type 0 = λ x. IsOfSession (option_map agenda_ended x) o found in subst Q (sym e) h
+
+-- the agenda ends, and the set was not over
+ends_running : (k : Kind) (c : Course) (st : State) (q : Session) → st.session ≡ Some q → WaitsFor k q.context q.stage → c.agenda ≡ None → st.course.outcome ≡ Running → c.outcome ≡ outcome_after k Running → IsOrderly st → IsOrderly (concluded AgendaEnds (record st { course = c }))
+ends_running k c st q e w f g i h =
+    let was : IsOfStage q.stage q.set Running (in_progress st) =
+    (let R : SetOutcome → Type 0 = λ o. IsOfStage q.stage q.set o (in_progress st) in subst R g (session_along st.session q st.course.outcome (in_progress st) e h.session)) in
+    let now : IsOfStage (stage_after q.context q.stage) q.set (outcome_after k Running) (find (λ r. is_running r.result) (map (row_settled (outcome_after k Running)) st.sets)) =
+    (let R : Option SetRow → Type 0 = λ x. IsOfStage (stage_after q.context q.stage) q.set (outcome_after k Running) x in subst R (sym (find-after k st.sets)) (stage_ends k q.context q.stage q.set (in_progress st) w was)) in
+    let P : SetOutcome → Type 0 = λ o. IsOfStage (stage_after q.context q.stage) q.set o (find (λ r. is_running r.result) (map (row_settled o) st.sets)) in
+    let L : SetOutcome → Type 0 = λ o. AllLive (map (row_settled o) st.sets) st.volumes in
+    record {
+      numbered = numbered-settled c.outcome 1 st.sets h.numbered;
+      newest = newest-settled c.outcome st.sets h.newest;
+      session = session_back st.session q c.outcome _ e (subst P (sym i) now);
+      agenda = agenda_none c.agenda _ f;
+      live = subst L (sym i) (all_live_along st.sets _ (λ n live. live-settled (outcome_after k Running) (not_failed_after k) st.sets n live) st.volumes h.live);
+    }
+
+-- the agenda ends, and the set was over
+over_found : (s : Stage) (set : Option ℕ) (o : SetOutcome) (found : Option SetRow) → is_running o ≡ false → IsOfStage s set o found → found ≡ None
+over_found s set o None e h = refl
+over_found s set o (Some r) e h = absurd (true_not_false (is_running o) (ap is_running h.2) e)
+
+over_stage : (s : Stage) (set : Option ℕ) (o : SetOutcome) (found : Option SetRow) → is_running o ≡ false → IsOfStage s set o found → IsOfStage s set o None
+over_stage s set o None e h = h
+over_stage s set o (Some r) e h = absurd (true_not_false (is_running o) (ap is_running h.2) e)
+
+early_over : (o : SetOutcome) → is_running o ≡ false → o ≡ Running → ⊥
+early_over o e f = true_not_false (is_running o) (ap is_running f) e
+
+snapshot_waits : (c : Context) → makes_set (snapshot_stage (has_writers c)) ≡ true
+snapshot_waits Backup = refl
+snapshot_waits AppRollback = refl
+snapshot_waits NasRollback = refl
+
+stage_over : (k : Kind) (c : Context) (s : Stage) (set : Option ℕ) (o p : SetOutcome) → is_running o ≡ false → WaitsFor k c s → IsOfStage s set o None → IsOfStage (stage_after c s) set p None
+stage_over Gather c s set o p e w h = absurd (early_over o e (h.1 (ap is_early w)))
+stage_over Prepare c s set o p e w h = absurd (true_not_false (makes_set s) (ap makes_set w.0) h.0)
+stage_over Snapshot c s set o p e w h = absurd (true_not_false (makes_set s) (ap makes_set w ∙ snapshot_waits c) h.0)
+stage_over Complete c s set o p e w h =
+    let Q : Stage → Type 0 = λ x. IsOfStage (stage_after c x) set p None in
+    subst Q (sym w) (refl, λ f. absurd (true_not_false false f refl))
+
+ends_over : (k : Kind) (c : Course) (st : State) (q : Session) → st.session ≡ Some q → WaitsFor k q.context q.stage → c.agenda ≡ None → is_running st.course.outcome ≡ false → is_running c.outcome ≡ false → IsOrderly st → IsOrderly (concluded AgendaEnds (record st { course = c }))
+ends_over k c st q e w f g i h =
+    let was = session_along st.session q st.course.outcome (in_progress st) e h.session in
+    let found : in_progress st ≡ None = over_found q.stage q.set st.course.outcome (in_progress st) g was in
+    let P : Option SetRow → Type 0 = λ x. IsOfStage (stage_after q.context q.stage) q.set c.outcome x in
+    record {
+      numbered = numbered-settled c.outcome 1 st.sets h.numbered;
+      newest = newest-settled c.outcome st.sets h.newest;
+      session = session_back st.session q c.outcome _ e (subst P (sym (find-settled_over c.outcome i st.sets)) (stage_over k q.context q.stage q.set st.course.outcome c.outcome g w (over_stage q.stage q.set st.course.outcome (in_progress st) g was)));
+      agenda = agenda_none c.agenda _ f;
+      live = all_live-fails c.outcome st.sets None h.newest found st.volumes h.live;
+    }
+
+outcome_over : (k : Kind) (o p : SetOutcome) → is_running o ≡ false → EndsIn k o p → is_running p ≡ false
+outcome_over Gather o p e (inl f) = ap is_running f ∙ e
+outcome_over Prepare o p e (inl f) = ap is_running f ∙ e
+outcome_over Snapshot o p e (inl f) = ap is_running f
+outcome_over Complete o p e (inl f) = ap is_running f ∙ e
+outcome_over k o p e (inr f) = over_failed p f
+
+ending_regular : (k : Kind) → ending Running (outcome_after k Running) true None ≡ AgendaEnds
+ending_regular Gather = refl
+ending_regular Prepare = refl
+ending_regular Snapshot = refl
+ending_regular Complete = refl
+
+-- by how the set stood, and by what ended the agenda
+fails_at : (p : SetOutcome) (c : Course) (st : State) (q : Session) → c.outcome ≡ p → has_failed p ≡ true → st.session ≡ Some q → c.agenda ≡ None → IsOrderly st → IsOrderly (concluded (ending Running p true None) (record st { course = c }))
+fails_at Running c st q d g e f h = absurd (true_not_false false g refl)
+fails_at CompleteSet c st q d g e f h = absurd (true_not_false false g refl)
+fails_at (FailedSet why) c st q d g e f h = fails why c st q e f (ap has_failed d) h
+
+ends_at : (o : SetOutcome) (k : Kind) (c : Course) (st : State) (q : Session) → st.course.outcome ≡ o → EndsIn k o c.outcome → st.session ≡ Some q → WaitsFor k q.context q.stage → c.agenda ≡ None → IsOrderly st → IsOrderly (concluded (ending o c.outcome true None) (record st { course = c }))
+ends_at Running k c st q d (inl i) e w f h =
+    let Q : SetOutcome → Type 0 = λ p. IsOrderly (concluded (ending Running p true None) (record st { course = c })) in
+    let R : Ending → Type 0 = λ x. IsOrderly (concluded x (record st { course = c })) in
+    subst Q (sym i) (subst R (sym (ending_regular k)) (ends_running k c st q e w f d i h))
+ends_at Running k c st q d (inr g) e w f h = fails_at c.outcome c st q refl g e f h
+ends_at CompleteSet k c st q d i e w f h = ends_over k c st q e w f (ap is_running d) (outcome_over k CompleteSet c.outcome refl i) h
+ends_at (FailedSet why) k c st q d i e w f h = ends_over k c st q e w f (ap is_running d) (outcome_over k (FailedSet why) c.outcome refl i) h
+
+ends_well : (k : Kind) (c : Course) (st : State) (q : Session) → EndsIn k st.course.outcome c.outcome → st.session ≡ Some q → WaitsFor k q.context q.stage → c.agenda ≡ None → IsOrderly st → IsOrderly (concluded (ending st.course.outcome c.outcome true None) (record st { course = c }))
+ends_well k c st q i e w f h = ends_at st.course.outcome k c st q refl i e w f h
+
+-- ## the course goes on to another
+
+ending_idle : (o p : SetOutcome) → p ≡ o → ending o p false None ≡ NothingEnds
+ending_idle o p e = let Q : SetOutcome → Type 0 = λ x. ending o x false None ≡ NothingEnds in subst Q (sym e) (idle o)
+  where
+    idle : (x : SetOutcome) → ending x x false None ≡ NothingEnds
+    idle Running = refl
+    idle CompleteSet = refl
+    idle (FailedSet why) = refl
+
+ending_on : (o p : SetOutcome) (ran : Bool) (b : Agenda) → p ≡ o → ending o p ran (Some b) ≡ NothingEnds
+ending_on o p ran b e = let Q : SetOutcome → Type 0 = λ x. ending o x ran (Some b) ≡ NothingEnds in subst Q (sym e) (on o ran)
+  where
+    on : (x : SetOutcome) (r : Bool) → ending x x r (Some b) ≡ NothingEnds
+    on Running true = refl
+    on Running false = refl
+    on CompleteSet true = refl
+    on CompleteSet false = refl
+    on (FailedSet why) true = refl
+    on (FailedSet why) false = refl
+
+agenda_along : (a b : Agenda) (q : Option Session) → b.kind ≡ a.kind → IsAgendaOf (Some a) q → IsAgendaOf (Some b) q
+agenda_along a b None e h = absurd h
+agenda_along a b (Some q) e h = let Q : Kind → Type 0 = λ k. WaitsFor k q.context q.stage in subst Q (sym e) h
+
+ends_session : (q : Option Session) (a : Agenda) (c : Course) (st : State) → st.session ≡ q → IsAgendaOf (Some a) q → EndsIn a.kind st.course.outcome c.outcome → c.agenda ≡ None → IsOrderly st → IsOrderly (concluded (ending st.course.outcome c.outcome true None) (record st { course = c }))
+ends_session None a c st e w i f h = absurd w
+ends_session (Some q) a c st e w i f h = ends_well a.kind c st q i e w f h
+
+orderly_at : (a b : Option Agenda) (c : Course) (st : State) → st.course.agenda ≡ a → c.agenda ≡ b → Moves a st.course.outcome b c.outcome → IsOrderly st → IsOrderly (concluded (ending st.course.outcome c.outcome (is_some a) b) (record st { course = c }))
+orderly_at None None c st e f m h =
+    let R : Ending → Type 0 = λ x. IsOrderly (concluded x (record st { course = c })) in
+    subst R (sym (ending_idle st.course.outcome c.outcome m)) (goes_on c st m (agenda_none c.agenda st.session f) h)
+orderly_at None (Some b) c st e f m h = absurd m
+orderly_at (Some a) (Some b) c st e f m h =
+    let R : Ending → Type 0 = λ x. IsOrderly (concluded x (record st { course = c })) in
+    let A : Option Agenda → Type 0 = λ x. IsAgendaOf x st.session in
+    subst R (sym (ending_on st.course.outcome c.outcome true b m.1)) (goes_on c st m.1 (subst A (sym f) (agenda_along a b st.session m.0 (subst A e h.agenda))) h)
+orderly_at (Some a) None c st e f m h =
+    let A : Option Agenda → Type 0 = λ x. IsAgendaOf x st.session in
+    ends_session st.session a c st refl (subst A e h.agenda) m f h
+
+orderly_followed : (c : Course) (st : State) → MovesOn st.course c → IsOrderly st → IsOrderly (followed (runs st) c st)
+unfolding followed
+orderly_followed c st m h = orderly_at st.course.agenda c.agenda c st refl refl m h
+
+-- ## an agenda begins
+
+begun_at : (done : Bool) (a : Agenda) (before d : Course) (st : State) (q : Session) → d.agenda ≡ Some a → d.outcome ≡ st.course.outcome → st.session ≡ Some q → WaitsFor a.kind q.context q.stage → IsOrderly st
+    → IsOrderly (concluded (ending st.course.outcome (settled_if done a.kind d).outcome true (settled_if done a.kind d).agenda) (record st { course = posted before (settled_if done a.kind d) }))
+unfolding posted
+begun_at true a before d st q e f g w h =
+    ends_well a.kind (posted before (settled_if true a.kind d)) st q (inl (ap (λ o. outcome_after a.kind o) f)) g w refl h
+begun_at false a before d st q e f g w h =
+    let R : Ending → Type 0 = λ x. IsOrderly (concluded x (record st { course = posted before d })) in
+    let B : Option Agenda → Type 0 = λ x. ending st.course.outcome d.outcome true x ≡ NothingEnds in
+    let A : Option Agenda → Type 0 = λ x. IsAgendaOf x st.session in
+    let S : Option Session → Type 0 = λ x. IsAgendaOf (Some a) x in
+    subst R (sym (subst B (sym e) (ending_on st.course.outcome d.outcome true a f)))
+    (goes_on (posted before d) st f (subst A (sym e) (subst S (sym g) w)) h)
+
+begun_well : (k : Kind) (ms : List Member) (vs : List ℕ) (now : ℕ) (c : Course) (st : State) (q : Session) → c.outcome ≡ st.course.outcome → st.session ≡ Some q → WaitsFor k q.context q.stage → IsOrderly st → IsOrderly (followed true (begun k ms vs now c) st)
+unfolding followed begun posted settled
+begun_well k ms vs now c st q f g w h =
+    let a : Agenda = record { kind = k; members = ms; volumes = vs; begun = now; log = [] } in
+    begun_at (is_done (groups_left a)) a c (record c { agenda = Some a }) st q refl f g w h
+
+and_first : (a b : Bool) → (a && b) ≡ true → a ≡ true
+and_first true b e = refl
+and_first false b e = absurd cc
+
+and_second : (a b : Bool) → (a && b) ≡ true → b ≡ true
+and_second true b e = e
+and_second false b e = absurd cc
+
+-- ## what the table of calls says
+
+is_opened : (s : Stage) → is_stage s Opened ≡ true → s ≡ Opened
+is_opened Opened e = refl
+is_opened Gathered e = absurd cc
+is_opened Started e = absurd cc
+is_opened Prepared e = absurd cc
+is_opened Done e = absurd cc
+is_opened Finished e = absurd cc
+is_opened Failed e = absurd cc
+
+is_started : (s : Stage) → is_stage s Started ≡ true → s ≡ Started
+is_started Opened e = absurd cc
+is_started Gathered e = absurd cc
+is_started Started e = refl
+is_started Prepared e = absurd cc
+is_started Done e = absurd cc
+is_started Finished e = absurd cc
+is_started Failed e = absurd cc
+
+is_prepared : (s : Stage) → is_stage s Prepared ≡ true → s ≡ Prepared
+is_prepared Opened e = absurd cc
+is_prepared Gathered e = absurd cc
+is_prepared Started e = absurd cc
+is_prepared Prepared e = refl
+is_prepared Done e = absurd cc
+is_prepared Finished e = absurd cc
+is_prepared Failed e = absurd cc
+
+is_done_stage : (s : Stage) → is_stage s Done ≡ true → s ≡ Done
+is_done_stage Opened e = absurd cc
+is_done_stage Gathered e = absurd cc
+is_done_stage Started e = absurd cc
+is_done_stage Prepared e = absurd cc
+is_done_stage Done e = refl
+is_done_stage Finished e = absurd cc
+is_done_stage Failed e = absurd cc
+
+snapshot_allowed : (w : Bool) (s : Stage) → (if w then is_stage s Prepared else is_stage s Started) ≡ true → s ≡ snapshot_stage w
+snapshot_allowed true s e = is_prepared s e
+snapshot_allowed false s e = is_started s e
+
+early_gathered : (s : Stage) → is_stage s Gathered ≡ true → is_early s ≡ true
+early_gathered Opened e = absurd cc
+early_gathered Gathered e = refl
+early_gathered Started e = absurd cc
+early_gathered Prepared e = absurd cc
+early_gathered Done e = absurd cc
+early_gathered Finished e = absurd cc
+early_gathered Failed e = absurd cc
+
+start_allowed : (w : Bool) (s : Stage) → (if w then is_stage s Gathered else is_stage s Opened) ≡ true → is_early s ≡ true
+start_allowed true s e = early_gathered s e
+start_allowed false s e = ap is_early (is_opened s e)
+
+-- ## steps
+
+same_row_of_number : (q : Option Session) (o : SetOutcome) (f : SetRow → SetRow) → ((r : SetRow) → (f r).number ≡ r.number) → (found : Option SetRow) → IsOfSession q o found → IsOfSession q o (option_map f found)
+same_row_of_number None o f same None h = h
+same_row_of_number None o f same (Some r) h = absurd h
+same_row_of_number (Some q) o f same None h = h
+same_row_of_number (Some q) o f same (Some r) h = (h.0, h.1 ∙ ap (λ n. Some n) (sym (same r)), h.2)
+
+-- rows that keep number, running and failed
+rows_same : (f : SetRow → SetRow) → IsSameRow f → (hs : List History) (st : State) → AllLive st.sets hs → IsOrderly st → IsOrderly (record st { sets = map f st.sets; volumes = hs })
+rows_same f same hs st live h =
+    let Q : Option SetRow → Type 0 = λ x. IsOfSession st.session st.course.outcome x in
+    record {
+      numbered = numbered-map f same.number 1 st.sets h.numbered;
+      newest = newest-map f same st.sets h.newest;
+      session = subst Q (sym (find-map f same.running st.sets)) (same_row_of_number st.session st.course.outcome f same.number (in_progress st) h.session);
+      agenda = h.agenda;
+      live = all_live_along st.sets (map f st.sets) (λ n e. live-map f same st.sets n ∙ e) hs live;
+    }
+
+changed_number : (b : Bool) (f : SetRow → SetRow) (r : SetRow) → (f r).number ≡ r.number → (if b then f r else r).number ≡ r.number
+changed_number true f r e = e
+changed_number false f r e = refl
+
+changed_result : (b : Bool) (f : SetRow → SetRow) (r : SetRow) → (f r).result ≡ r.result → (if b then f r else r).result ≡ r.result
+changed_result true f r e = e
+changed_result false f r e = refl
+
+same_changed : (n : ℕ) (f : SetRow → SetRow) → ((r : SetRow) → (f r).number ≡ r.number) → ((r : SetRow) → (f r).result ≡ r.result) → IsSameRow (row_changed n f)
+same_changed n f number result = record {
+  number = λ r. changed_number (r.number == n) f r (number r);
+  running = λ r. ap is_running (changed_result (r.number == n) f r (result r));
+  failed = λ r. ap has_failed (changed_result (r.number == n) f r (result r));
+}
+
+live_cut_if : (b : Bool) (n : ℕ) (rows : List SetRow) (x : History) → is_live rows n ≡ true → AreLive rows x.images → AreLive rows (cut_if b n x).images
+live_cut_if true n rows x e h = live-append rows x.images _ h e
+live_cut_if false n rows x e h = h
+
+live_cut_each : (n : ℕ) (vs : List ℕ) (v : ℕ) (rows : List SetRow) (hs : List History) → is_live rows n ≡ true → AllLive rows hs → AllLive rows (cut_each n vs v hs)
+live_cut_each n vs v rows [] e h = tt
+live_cut_each n vs v rows (x ∷ hs) e h = (live_cut_if (is_among v vs) n rows x e h.0, live_cut_each n vs (v + 1) rows hs e h.1)
+
+orderly_cut : (r : SetRow) (st : State) → in_progress st ≡ Some r → IsOrderly st → IsOrderly (cut_set (Some r) st)
+orderly_cut r st e h =
+    rows_same (row_cut r.number st.clock) (same_changed r.number (with_cut st.clock) (λ x. refl) (λ x. refl))
+    (cut_each r.number r.volumes 0 st.volumes) st
+    (live_cut_each r.number r.volumes 0 st.sets st.volumes (live_found st.sets r e) h.live) h
+
+on_cut : (o : Option SetRow) (c : Course) (st : State) → in_progress st ≡ o → MovesOn st.course c → IsOrderly st → IsOrderly (followed (runs st) c (cut_set o st))
+on_cut None c st e m h = orderly_followed c st m h
+on_cut (Some r) c st e m h = orderly_followed c (cut_set (Some r) st) m (orderly_cut r st e h)
+
+on_step_made : (g : Option Group) (c : Course) (st : State) → MovesOn st.course c → IsOrderly st → IsOrderly (followed (runs st) c (step_made g st))
+on_step_made None c st m h = orderly_followed c st m h
+on_step_made (Some (Orders o)) c st m h = orderly_followed c st m h
+on_step_made (Some PreCommit) c st m h = orderly_followed c st m h
+on_step_made (Some Flush) c st m h = orderly_followed c st m h
+on_step_made (Some Hold) c st m h = orderly_followed c st m h
+on_step_made (Some Cut) c st m h = on_cut (in_progress st) c st refl m h
+on_step_made (Some Commit) c st m h = orderly_followed c st m h
+on_step_made (Some Release) c st m h = orderly_followed c st m h
+on_step_made (Some PostCommit) c st m h = orderly_followed c st m h
+
+on_stepped_as : (fails : Bool) (g : Option Group) (st : State) → is_working (left_now st) ≡ true → IsOrderly st → IsOrderly (stepped_as fails g st)
+on_stepped_as true g st w h = orderly_followed _ st (moves_stepped false st.clock st.course w) h
+on_stepped_as false g st w h = on_step_made g _ st (moves_stepped true st.clock st.course w) h
+
+on_steps : (mark : Mark) (st : State) → is_working (left_now st) ≡ true → IsOrderly st → IsOrderly (stepped mark st)
+unfolding stepped
+on_steps mark st w h = on_stepped_as (is_failed_step (is_flush (open_group (left_now st))) mark) (open_group (left_now st)) st w h
+
+on_answers : (w : ℕ) (said : Said) (st : State) → IsOrderly st → IsOrderly (answered w said st)
+unfolding answered
+on_answers w said st h = orderly_followed _ st (moves_answered w said st.clock st.course) h
+
+later_orderly : (n : ℕ) (st : State) → IsOrderly st → IsOrderly (later n st)
+later_orderly n st h = record { numbered = h.numbered; newest = h.newest; session = h.session; agenda = h.agenda; live = h.live }
+
+on_ticks : (n : ℕ) (st : State) → IsOrderly st → IsOrderly (ticked n st)
+unfolding ticked
+on_ticks n st h = orderly_followed _ (later n st) (moves_timed (st.clock + n) st.course) (later_orderly n st h)
+
+-- ## the set fails
+
+fails_session : (x : Option Session) (r : SetRow) (why : VssResult) (st : State) → st.session ≡ x → in_progress st ≡ Some r → IsOfSession x st.course.outcome (Some r) → IsOrderly st → IsOrderly (concluded (SetFails why) (record st { course = course_failed why st.course }))
+unfolding course_failed
+fails_session None r why st e f s h = absurd s
+fails_session (Some q) r why st e f s h = fails why (course_failed why st.course) st q e refl refl h
+
+on_failed_in : (o : Option SetRow) (why : VssResult) (st : State) → in_progress st ≡ o → IsOrderly st → IsOrderly (failed_in o why st)
+on_failed_in None why st e h = h
+on_failed_in (Some r) why st e h =
+    let Q : Option SetRow → Type 0 = λ x. IsOfSession st.session st.course.outcome x in
+    fails_session st.session r why st refl e (subst Q e h.session) h
+
+none_after : (o : Option SetRow) (why : VssResult) (st : State) → in_progress st ≡ o → in_progress (failed_in o why st) ≡ None
+unfolding course_failed
+none_after None why st e = e
+none_after (Some r) why st e = find-settled_over (FailedSet why) refl st.sets
+
+-- ## volumes and sessions
+
+volumes_orderly : (hs : List History) (st : State) → AllLive st.sets hs → IsOrderly st → IsOrderly (record st { volumes = hs })
+volumes_orderly hs st live h = record { numbered = h.numbered; newest = h.newest; session = h.session; agenda = h.agenda; live = live }
+
+gone_if : (b : Bool) (m : ℕ) (rows : List SetRow) (x : History) → AreLive rows x.images → AreLive rows (if b then record { writes = x.writes; images = after_set m x.images } else x).images
+gone_if true m rows x h = live-filter (λ i. nat_lt m i.set) rows x.images h
+gone_if false m rows x h = h
+
+live_gone : (m : ℕ) (rows : List SetRow) (ps : List Placed) (hs : List History) → AllLive rows hs → AllLive rows (gone_up_to m ps hs)
+live_gone m rows [] hs h = h
+live_gone m rows (p ∷ ps) [] h = tt
+live_gone m rows (p ∷ ps) (x ∷ hs) h = (gone_if p.within m rows x h.0, live_gone m rows ps hs h.1)
+
+live_dropped : (n : ℕ) (rows : List SetRow) (x : History) → AreLive rows x.images → AreLive rows (dropped n x).images
+live_dropped n rows x h = live-filter (λ i. not (i.set == n)) rows x.images h
+
+on_puts : (v : ℕ) (w : Write) (mark : Mark) (x : State) → IsOrderly x → IsOrderly (put v w mark x)
+on_puts v w Clean x h = volumes_orderly _ x (all_live-change_at (written w) x.sets (λ y g. g) v x.volumes h.live) h
+on_puts v w Fault x h = h
+on_puts v w (FaultAfter k) x h = h
+
+on_reverts : (s : Plan) (v : ℕ) (k : Kept) (mark : Mark) (st : State) → IsOrderly st → IsOrderly (reverted_as s v k mark st).1
+on_reverts s v k Clean st h = volumes_orderly _ st (all_live-change_at (reverted k.row.number k.point) st.sets (λ y g. live-filter (λ i. not (nat_lt k.row.number i.set)) st.sets y.images g) v st.volumes h.live) h
+on_reverts s v k Fault st h = h
+on_reverts s v k (FaultAfter n) st h = volumes_orderly _ st (all_live-change_at _ st.sets (λ y g. live-filter (λ i. not (nat_lt k.row.number i.set)) st.sets y.images g) v st.volumes h.live) h
+
+none_of_none : (o : SetOutcome) (found : Option SetRow) → IsOfNone o found → (found ≡ None) × (o ≡ Running)
+none_of_none o None h = (refl, h)
+none_of_none o (Some r) h = absurd h
+
+agenda_of_none : (a : Option Agenda) (q : Option Session) (s : Session) → IsAgendaOf a None → IsAgendaOf a (Some s)
+agenda_of_none None q s h = tt
+agenda_of_none (Some a) q s h = absurd h
+
+on_begins : (lane : ℕ) (all : Bool) (c : Option Context) (st : State) → st.session ≡ None → IsOrderly st → IsOrderly (begin_in lane all c st).1
+on_begins lane all None st e h = h
+on_begins lane all (Some c) st e h =
+    let S : Option Session → Type 0 = λ x. IsOfSession x st.course.outcome (in_progress st) in
+    let A : Option Session → Type 0 = λ x. IsAgendaOf st.course.agenda x in
+    let was = none_of_none st.course.outcome (in_progress st) (subst S e h.session) in
+    let F : Option SetRow → Type 0 = λ x. IsOfStage Opened None st.course.outcome x in
+    record {
+      numbered = h.numbered;
+      newest = h.newest;
+      session = subst F (sym was.0) (refl, λ f. was.1);
+      agenda = agenda_of_none st.course.agenda None _ (subst A e h.agenda);
+      live = h.live;
+    }
+
+none_runs : (a : Option Agenda) → is_some a ≡ false → a ≡ None
+none_runs None e = refl
+none_runs (Some a) e = absurd cc
+
+stage_none : (s : Stage) (set : Option ℕ) (o : SetOutcome) (found : Option SetRow) → makes_set s ≡ false → IsOfStage s set o found → (found ≡ None) × (is_early s ≡ true → o ≡ Running)
+stage_none s set o None e h = (refl, h.1)
+stage_none s set o (Some r) e h = absurd (true_not_false (makes_set s) h.0 e)
+
+on_starts : (q : Session) (st : State) → LetsGo call.Start q st → makes_set q.stage ≡ false → IsOrderly st → IsOrderly (start_set q st).1
+on_starts q st g e h =
+    let was = stage_none q.stage q.set st.course.outcome (in_progress st) e (session_along st.session q st.course.outcome (in_progress st) g.stands h.session) in
+    let F : Option SetRow → Type 0 = λ x. IsOfStage Started (Some (length st.sets + 1)) st.course.outcome x in
+    record {
+      numbered = numbered-append 1 st.sets (new_set (length st.sets + 1) q.context) h.numbered refl;
+      newest = newest-append st.sets (new_set (length st.sets + 1) q.context) was.0;
+      session = subst F (sym (find-append_new st.sets (new_set (length st.sets + 1) q.context) was.0 refl)) (refl, refl, was.1 (start_allowed (has_writers q.context) q.stage g.allowed));
+      agenda = agenda_none st.course.agenda _ (none_runs st.course.agenda g.quiet);
+      live = all_live-append st.sets (new_set (length st.sets + 1) q.context) st.volumes h.live;
+    }
+
+on_adds : (v n : ℕ) (st : State) → IsOrderly st → IsOrderly (change_set n (with_volume v) st)
+on_adds v n st h = rows_same (row_changed n (with_volume v)) (same_changed n (with_volume v) (λ x. refl) (λ x. refl)) st.volumes st h.live h
+
+live_released : (c : Context) (set : Option ℕ) (rows : List SetRow) (hs : List History) → AllLive rows hs → AllLive rows (images_released c set hs)
+live_released Backup None rows hs h = h
+live_released Backup (Some n) rows hs h = all_live-map (dropped n) rows (λ x g. live_dropped n rows x g) hs h
+live_released AppRollback set rows hs h = h
+live_released NasRollback set rows hs h = h
+
+on_closed : (q : Session) (x : State) → in_progress x ≡ None → IsOrderly x → IsOrderly (closed q x)
+unfolding closed released
+on_closed q x e h =
+    let F : Option SetRow → Type 0 = λ y. IsOfNone Running y in
+    record {
+      numbered = h.numbered;
+      newest = h.newest;
+      session = subst F (sym e) refl;
+      agenda = tt;
+      live = live_released q.context q.set x.sets x.volumes h.live;
+    }
+
+-- ## every act
+
+either_orderly : (b : Bool) (x y : Replied) → IsOrderly x.1 → IsOrderly y.1 → IsOrderly (if b then x else y).1
+either_orderly true x y h i = h
+either_orderly false x y h i = i
+
+kept_by_changes : IsKeptByChanges IsOrderly
+kept_by_changes = record {
+  answers = λ w said st e h. on_answers w said st h;
+  steps = λ mark st e h. on_steps mark st e h;
+  ticks = on_ticks;
+  fails = λ why st h. on_failed_in (in_progress st) why st refl h;
+  gathers = λ s q st g h. begun_well Gather _ [] st.clock _ st q refl g.stands (is_opened q.stage (and_first (is_stage q.stage Opened) (has_writers q.context) g.allowed)) h;
+  prepares = λ s q st g h. either_orderly (has_no_volume (in_progress st)) _ _ h (begun_well Prepare _ [] st.clock _ st q refl g.stands (is_started q.stage (and_first (is_stage q.stage Started) (has_writers q.context) g.allowed), and_second (is_stage q.stage Started) (has_writers q.context) g.allowed) h);
+  snapshots = λ q st g h. either_orderly (has_no_volume (in_progress st)) _ _ h (begun_well Snapshot st.course.members _ st.clock st.course st q refl g.stands (snapshot_allowed (has_writers q.context) q.stage g.allowed) h);
+  completes = λ q st g h. begun_well Complete _ [] st.clock _ st q refl g.stands (is_done_stage q.stage (and_first (is_stage q.stage Done) (has_writers q.context) g.allowed)) h;
+  clears = λ s v b st h. volumes_orderly _ st (live_gone _ st.sets _ st.volumes h.live) h;
+  deletes_set = λ n st h. volumes_orderly _ st (all_live-map (dropped n) st.sets (λ x g. live_dropped n st.sets x g) st.volumes h.live) h;
+  deletes_image = λ n v st h. volumes_orderly _ st (all_live-change_at (dropped n) st.sets (λ x g. live_dropped n st.sets x g) v st.volumes h.live) h;
+  begins = on_begins;
+  names = λ q explicit st g h. record { numbered = h.numbered; newest = h.newest; session = h.session; agenda = h.agenda; live = h.live };
+  disables = λ w q st g h. record { numbered = h.numbered; newest = h.newest; session = h.session; agenda = h.agenda; live = h.live };
+  starts = on_starts;
+  adds = λ v r q st g e h. on_adds v r.number st h;
+  ends = λ q st e h. on_closed q (failed AsyncCancelled st) (none_after (in_progress st) AsyncCancelled st refl) (on_failed_in (in_progress st) AsyncCancelled st refl h);
+}
+
+kept_by_writes : (st : State) → IsKeptByWrites IsOrderly st
+kept_by_writes st = record {
+  puts = λ v e w mark x h. on_puts v w mark x h;
+  reverts = λ s n v k mark e f h. on_reverts s v k mark st h;
+}
+
+orderly_fold : (s : Plan) (st : State) (acts : List Act) → IsOrderly st → IsOrderly (fold (after s) st acts)
+orderly_fold s st [] h = h
+orderly_fold s st (act ∷ acts) h = orderly_fold s (after s st act) acts (on_after IsOrderly kept_by_changes s st act (kept_by_writes st) h)
+
+fresh_live : (rows : List SetRow) (vs : List VolumeRow) → AllLive rows (map (λ _. fresh) vs)
+fresh_live rows [] = tt
+fresh_live rows (v ∷ vs) = (tt, fresh_live rows vs)
+
+pub orderly : (s : Plan) (acts : List Act) → IsOrderly (state s acts)
+orderly s acts = orderly_fold s (start s) acts (record { numbered = tt; newest = tt; session = refl; agenda = tt; live = fresh_live [] s.volumes })
