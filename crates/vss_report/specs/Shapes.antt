@@ -77,13 +77,13 @@ IsVolumeOf s false (Some v) = ⊥
 -- after the number, the line of an actor's move
 pub data IsMoveOf (s : Plan) : Move → List ℕ → Type 0 where
   of_lane : (i : ℕ) (line : List ℕ) (mark : Mark) (told : List ℕ) → i < length s.lanes → is_number line ≡ true → IsMarkedReply s mark told
-    → IsMoveOf s (record { actor = Lane i; mark = mark }) (codes "lane " ++ lane_text s i ++ spaced line ++ spaced told)
+      → IsMoveOf s (record { actor = Lane i; mark = mark }) (codes "lane " ++ lane_text s i ++ spaced line ++ spaced told)
   of_writer : (w : ℕ) (o : Order) (a : Answer) → w < length s.writers
-    → IsMoveOf s (record { actor = Writer w; mark = Clean }) (codes "writer " ++ writer_text s w ++ spaced (order.name_of o) ++ spaced (answer_text a))
+      → IsMoveOf s (record { actor = Writer w; mark = Clean }) (codes "writer " ++ writer_text s w ++ spaced (order.name_of o) ++ spaced (answer_text a))
   of_provider : (g : Group) (v : Option ℕ) → is_orders g ≡ false → IsVolumeOf s (is_over_volumes g) v
-    → IsMoveOf s (record { actor = Advance; mark = Clean }) (codes "provider " ++ step_text g ++ of_volume s v)
+      → IsMoveOf s (record { actor = Advance; mark = Clean }) (codes "provider " ++ step_text g ++ of_volume s v)
   of_failed_flush : (v : ℕ) → v < length s.volumes
-    → IsMoveOf s (record { actor = Advance; mark = Fault }) (codes "provider " ++ step_text Flush ++ of_volume s (Some v) ++ codes " fault")
+      → IsMoveOf s (record { actor = Advance; mark = Fault }) (codes "provider " ++ step_text Flush ++ of_volume s (Some v) ++ codes " fault")
   of_idle : (ticks : List ℕ) → is_number ticks ≡ true → IsMoveOf s (record { actor = Idle; mark = Clean }) (codes "idle " ++ ticks)
 
 -- the line of move n, with its newline

@@ -54,7 +54,7 @@ told_lines s r (m ∷ ms) = told_move s r m ++ told_lines s (moved s r m) ms
 abbrev pub told_volume : Plan → ℕ → VolumeRow → History → List ℕ
 told_volume s v row h =
     as_line (codes "volume " ++ volume_text s v ++ codes " used " ++ decimal (used row.blocks h.writes h.images) ++ codes " of " ++ decimal row.slots
-      ++ spaced (encode_lower (sha256 (concat (contents row.blocks h.writes (length h.writes))))))
+    ++ spaced (encode_lower (sha256 (concat (contents row.blocks h.writes (length h.writes))))))
 
 abbrev pub told_image : Plan → ℕ → VolumeRow → History → Image → List ℕ
 told_image s v row h i =

@@ -13,11 +13,9 @@ pub fn one_more_line()
     ensures one { (s : Plan) (tells : List Bool) (trail : List Move) (m : Move) (text own : List ℕ)
         → IsReportSoFar s tells trail text → IsMoveText s tells (run s trail) m own
         → IsReportSoFar s tells (trail ++ m ∷ []) (text ++ own) }
-{
-}
+{}
 
 /// Where every device tells its blocks, the report is one text.
 pub fn report_where_all_tell()
     ensures { (s : Plan) (trail : List Move) → IsReport s (all_tell s) trail (told_report s trail) }
-{
-}
+{}
