@@ -7,21 +7,16 @@ use Rattle.vss_names.specs.declared.context.Context.TheVariants.{Backup, AppRoll
 use Rattle.vss_names.specs.Context.{context_of_number}
 use Rattle.vss_names.specs.declared.vss_result.VssResult.{VssResult}
 use Rattle.vss_names.specs.declared.vss_result.VssResult.TheVariants.{AsyncFinished}
+use Rattle.requestor.specs.declared.session.Session.{Session as SessionParts}
 use Rattle.requestor.specs.declared.mode.Mode.{Mode}
 use Rattle.requestor.specs.declared.mode.Mode.TheVariants.{Components, All}
 use Rattle.requestor.specs.declared.stage.Stage.{Stage}
 use Rattle.requestor.specs.declared.stage.Stage.TheVariants.{Opened, Gathered, Started, Prepared, Done, Finished, Failed}
 
-pub record Session : Type 0 where
-  -- the lane that opened it
-  pub owner : ℕ
-  pub context : Context
-  pub mode : Mode
-  pub stage : Stage
-  -- the number of the session's set, once it is started
-  pub set : Option ℕ
-  -- what the last agenda, or the failure of the set, came to
-  pub last : Option VssResult
+-- a session has an owner, the lane that opened it, a context, a mode and a stage; the number of its set, once that is
+-- started; and a last result: what the last agenda, or the failure of the set, came to
+abbrev pub Session : Type 0
+Session = SessionParts
 
 -- contexts 0 and 9 have writers
 abbrev pub has_writers : Context → Bool

@@ -1,5 +1,5 @@
 ghost use Rattle.std.specs.Prelude.{◌≡◌};
-ghost use Rattle.set_agenda.specs.Agenda.{order_of};
+ghost use Rattle.set_agenda.specs.Agenda.{is_orders, is_over_volumes, order_of};
 
 use vss_names::Order;
 
@@ -35,6 +35,26 @@ impl Group {
             | Group::Commit
             | Group::Release
             | Group::PostCommit => None,
+        }
+    }
+
+    /// Whether the group's members are writers; else it is a step of the provider, or one for each volume.
+    pub fn is_orders(self) -> bool
+        ensures { result ≡ is_orders self }
+    {
+        match self {
+            Group::Orders(_) => true,
+            _ => false,
+        }
+    }
+
+    /// Whether the provider makes one step for each volume.
+    pub fn is_over_volumes(self) -> bool
+        ensures { result ≡ is_over_volumes self }
+    {
+        match self {
+            Group::Flush | Group::Hold | Group::Commit | Group::Release => true,
+            _ => false,
         }
     }
 }

@@ -1,12 +1,14 @@
 -- What a failed set leaves, and what holds while no set is in progress.
 use Rattle.std.proofs.Common.{◌≡◌, ℕ, ◌+◌, ◌==◌, ◌<◌, zero, suc, List, [], ◌∷◌, Option, Some, None, refl, Bool, true, false, ap, sym, ◌∙◌, subst, find, arith}
-use Rattle.std.specs.Prelude.{◌&&◌, ◌||◌, not, if◌then◌else◌, slice_get}
-use Rattle.write_history.specs.History.{Image, History, point_in}
+use Rattle.std.specs.Prelude.{◌++◌, map, ◌&&◌, ◌||◌, not, if◌then◌else◌, slice_get}
+use Rattle.std.proofs.lemmas.List.Folds.{list_any-append}
+use Rattle.write_history.specs.History.{Write, Image, History, point_in}
+use Rattle.write_history.specs.Slots.{Copy, Placed, named, copy_of, copies_of, copies_from, copies}
 use Rattle.scenario.specs.Plan.{Plan}
 use Rattle.vss_model.specs.State.{State, SetRow, in_progress, row_of, history_in, history_of, is_held, is_frozen}
 use Rattle.vss_model.specs.Acts.{Act, state}
 use Rattle.vss_model.specs.Laws.{RunsSnapshot}
-use Rattle.vss_model.specs.Facts.{NumberedFrom, has_failed, is_live, AreLive, AllLive}
+use Rattle.vss_model.specs.Facts.{NumberedFrom, has_failed, is_live, AreLive, AllLive, holds_for}
 use Rattle.vss_model.proofs.HeldOfSet.{held_means, frozen_means}
 use Rattle.vss_model.proofs.OrderlyActs.{orderly}
 use Rattle.vss_model.proofs.Orderly.{true_not_false}
@@ -71,6 +73,56 @@ failed_keeps_nothing s acts n v r e f =
     let st = state s acts in
     let h = orderly s acts in
     none_point st.sets n (history_of st v).images (failed_not_live 1 n st.sets r h.numbered e f) (live_at st.sets st.volumes v h.live)
+
+-- ## copies for a failed set
+
+none_mapped : (n v : ℕ) (ws : List Write) (i : Image) (blocks : List ℕ) → (i.set == n) ≡ false → holds_for n (map (copy_of v ws i) blocks) ≡ false
+none_mapped n v ws i [] e = refl
+none_mapped n v ws i (b ∷ blocks) e = rw e (none_mapped n v ws i blocks e)
+
+-- neither part has one
+none_in_either : (n : ℕ) (xs ys : List Copy) → holds_for n xs ≡ false → holds_for n ys ≡ false → holds_for n (xs ++ ys) ≡ false
+none_in_either n xs ys e f = list_any-append (λ (c : Copy). c.set == n) xs ys ∙ rw e f
+
+other_set : (rows : List SetRow) (n m : ℕ) → is_live rows n ≡ false → is_live rows m ≡ true → (m == n) ≡ false
+other_set rows n m f g = by_cases (m == n) refl
+  where
+    equal : (a b : ℕ) → (a == b) ≡ true → a ≡ b
+    equal a b e = grind arith
+
+    by_cases : (b : Bool) → (m == n) ≡ b → b ≡ false
+    by_cases true e = absurd (true_not_false (is_live rows n) (ap (is_live rows) (sym (equal m n e)) ∙ g) f)
+    by_cases false e = refl
+
+none_of_volume : (rows : List SetRow) (n v blocks : ℕ) (ws : List Write) (images : List Image) → is_live rows n ≡ false → AreLive rows images
+    → holds_for n (copies_of v blocks ws images) ≡ false
+none_of_volume rows n v blocks ws [] f h = refl
+none_of_volume rows n v blocks ws (i ∷ newer) f h =
+    none_in_either n (map (copy_of v ws i) (named blocks ws i newer)) (copies_of v blocks ws newer)
+    (none_mapped n v ws i (named blocks ws i newer) (other_set rows n i.set f h.0))
+    (none_of_volume rows n v blocks ws newer f h.1)
+
+none_from_if : (b : Bool) (n : ℕ) (xs ys zs : List Copy) → holds_for n xs ≡ false → holds_for n ys ≡ false → holds_for n zs ≡ false
+    → holds_for n (if b then xs ++ ys else zs) ≡ false
+none_from_if true n xs ys zs e f g = none_in_either n xs ys e f
+none_from_if false n xs ys zs e f g = g
+
+none_from : (rows : List SetRow) (n v : ℕ) (ps : List Placed) (hs : List History) → is_live rows n ≡ false → AllLive rows hs
+    → holds_for n (copies_from v ps hs) ≡ false
+none_from rows n v [] hs f h = refl
+none_from rows n v (p ∷ ps) [] f h = refl
+none_from rows n v (p ∷ ps) (x ∷ hs) f h =
+    none_from_if p.within n (copies_of v p.blocks x.writes x.images) (copies_from (v + 1) ps hs) (copies_from v ps hs)
+    (none_of_volume rows n v p.blocks x.writes x.images f h.0)
+    (none_from rows n (v + 1) ps hs f h.1)
+    (none_from rows n v ps hs f h.1)
+
+pub failed_has_no_copy : (s : Plan) (acts : List Act) (n : ℕ) (r : SetRow) (group : List Placed) → row_of (state s acts) n ≡ Some r → has_failed r.result ≡ true
+    → holds_for n (copies group (state s acts).volumes) ≡ false
+failed_has_no_copy s acts n r group e f =
+    let st = state s acts in
+    let h = orderly s acts in
+    none_from st.sets n 0 group st.volumes (failed_not_live 1 n st.sets r h.numbered e f) h.live
 
 -- ## while no set is in progress
 

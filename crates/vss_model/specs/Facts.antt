@@ -7,6 +7,7 @@ use Rattle.vss_names.specs.declared.context.Context.{Context}
 use Rattle.vss_names.specs.declared.set_outcome.SetOutcome.{SetOutcome}
 use Rattle.vss_names.specs.declared.set_outcome.SetOutcome.TheVariants.{Running, Complete as CompleteSet, Failed as FailedSet}
 use Rattle.write_history.specs.History.{Image, History}
+use Rattle.write_history.specs.Slots.{Copy}
 use Rattle.set_agenda.specs.declared.kind.Kind.{Kind}
 use Rattle.set_agenda.specs.declared.kind.Kind.TheVariants.{Gather, Prepare, Snapshot, Complete}
 use Rattle.set_agenda.specs.Agenda.{Agenda}
@@ -98,3 +99,9 @@ pub record IsOrderly (st : State) : Type 0 where
   pub session : IsOfSession st.session st.course.outcome (in_progress st)
   pub agenda : IsAgendaOf st.course.agenda st.session
   pub live : AllLive st.sets st.volumes
+
+-- ## copies
+
+-- whether one of these copies is for set n
+abbrev pub holds_for : ℕ → List Copy → Bool
+holds_for n copies = list_any (λ c. c.set == n) copies

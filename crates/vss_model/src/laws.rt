@@ -4,8 +4,9 @@ ghost use Rattle.std.specs.Prelude.{◌≡◌, ◌+◌, ◌++◌, ◌∷◌, ◌
 ghost use Rattle.write_history.specs.declared.move_item.Move.{Move};
 ghost use Rattle.scenario.specs.Plan.{Plan};
 ghost use Rattle.write_history.specs.History.{point_in};
+ghost use Rattle.write_history.specs.Slots.{Placed, copies};
 ghost use Rattle.vss_model.specs.State.{State, SetRow, in_progress, row_of, history_of, is_held, is_frozen};
-ghost use Rattle.vss_model.specs.Facts.{IsOrderly, has_failed};
+ghost use Rattle.vss_model.specs.Facts.{IsOrderly, has_failed, holds_for};
 ghost use Rattle.vss_model.specs.Acts.{Act, after, state};
 ghost use Rattle.vss_model.specs.Trail.{run, moved, acts, acts_if, event_of, is_legal, is_legal_move, faults};
 ghost use Rattle.vss_model.specs.Laws.{IsKeptByChanges, IsKeptByWrites, Passes, RunsSnapshot};
@@ -52,6 +53,12 @@ pub fn state_in_order()
 pub fn failed_set_keeps_no_image()
     ensures { (s : Plan) (acts : List Act) (n v : ℕ) (r : SetRow) → row_of (state s acts) n ≡ Some r
         → has_failed r.result ≡ true → point_in n (history_of (state s acts) v).images ≡ None }
+{}
+
+/// For a set that has failed no copy of an overwritten block is kept, in any area, whichever volumes share it.
+pub fn failed_set_keeps_no_copy()
+    ensures { (s : Plan) (acts : List Act) (n : ℕ) (r : SetRow) (group : List Placed) → row_of (state s acts) n ≡ Some r
+        → has_failed r.result ≡ true → holds_for n (copies group (state s acts).volumes) ≡ false }
 {}
 
 /// While no set is in progress, no volume is held and no writer stands frozen.

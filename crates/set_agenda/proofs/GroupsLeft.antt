@@ -1,0 +1,236 @@
+-- The one law that ties the groups left to the log: whoever says something in the open group, one member or several,
+-- well or not, the groups left advance.
+use Rattle.std.proofs.Common.{◌≡◌, ℕ, List, [], ◌∷◌, ◌++◌, Option, refl, Bool, true, false, map, ap, sym, ◌∙◌, subst, filter, arith}
+use Rattle.std.specs.Prelude.{◌&&◌, ◌||◌, not, ◌==◌}
+use Rattle.std.specs.List.{list_any}
+use Rattle.std.proofs.lemmas.Bool.Decides.{nat_tests}
+use Rattle.std.proofs.lemmas.List.Elements.{filter_agree}
+use Rattle.vss_names.specs.declared.level.Level.{Level}
+use Rattle.vss_names.specs.declared.order.Order.TheVariants.{Identify, PrepareBackup, PrepareSnapshot, Freeze, Thaw, PostSnapshot, BackupComplete}
+use Rattle.writer_state.specs.declared.said.Said.{Said}
+use Rattle.writer_state.specs.WriterState.{is_ok}
+use Rattle.set_agenda.specs.declared.group.Group.{Group}
+use Rattle.set_agenda.specs.declared.group.Group.TheVariants.{Orders, PreCommit, Flush, Hold, Cut, Commit, Release, PostCommit}
+use Rattle.set_agenda.specs.declared.kind.Kind.{Kind}
+use Rattle.set_agenda.specs.declared.kind.Kind.TheVariants.{Gather, Prepare, Snapshot, Complete}
+use Rattle.set_agenda.specs.declared.place.Place.{Place}
+use Rattle.set_agenda.specs.Agenda.{Agenda, Entry, Open, all_say, at_place, groups_left, has_failed, has_said, is_among, is_asking, is_orders, left_from, members_of, open_place, places, same_place, waited_for, waits_now, with_group, writers_at}
+use Rattle.set_agenda.specs.Advance.{advance, asks_unfailed, others, others_if, unasked, unasked_if}
+use Rattle.set_agenda.specs.WriterSet.{is_nil}
+use Rattle.set_agenda.proofs.WriterSets.{and-false, and-true, filter-and, or-false}
+
+-- ## truth values and filters
+
+de_morgan : (b c : Bool) → not (b || c) ≡ (not b && not c)
+de_morgan true c = refl
+de_morgan false c = refl
+
+and-swap : (b c : Bool) → (b && c) ≡ (c && b)
+and-swap true true = refl
+and-swap true false = refl
+and-swap false true = refl
+and-swap false false = refl
+
+and-same : (b : Bool) → (b && b) ≡ b
+and-same true = refl
+and-same false = refl
+
+others_if-filter : (h : ℕ → Bool) (b : Bool) (whos xs : List ℕ) → filter (λ x. not (h x || (b && is_among x whos))) xs ≡ others_if b whos (filter (λ x. not (h x)) xs)
+others_if-filter h true whos xs = filter_agree _ (λ x. not (h x) && not (is_among x whos)) (λ x. de_morgan (h x) (is_among x whos)) xs ∙ filter-and (λ x. not (h x)) (λ x. not (is_among x whos)) xs
+others_if-filter h false whos xs = filter_agree _ (λ x. not (h x)) (λ x. ap not (or-false (h x))) xs
+
+filter-others_if : (b : Bool) (whos : List ℕ) (q : ℕ → Bool) (xs : List ℕ) → filter q (others_if b whos xs) ≡ others_if b whos (filter q xs)
+filter-others_if true whos q xs = sym (filter-and (λ x. not (is_among x whos)) q xs) ∙ filter_agree _ (λ x. q x && not (is_among x whos)) (λ x. and-swap (not (is_among x whos)) (q x)) xs ∙ filter-and q (λ x. not (is_among x whos)) xs
+filter-others_if false whos q xs = refl
+
+others_if-twice : (b c : Bool) (whos xs : List ℕ) → others_if b whos (others_if c whos xs) ≡ others_if (b || c) whos xs
+others_if-twice true true whos xs = sym (filter-and (λ x. not (is_among x whos)) (λ x. not (is_among x whos)) xs) ∙ filter_agree _ (λ x. not (is_among x whos)) (λ x. and-same (not (is_among x whos))) xs
+others_if-twice true false whos xs = refl
+others_if-twice false c whos xs = refl
+
+pub others_if-nil : (b : Bool) (whos : List ℕ) → others_if b whos [] ≡ []
+others_if-nil true whos = refl
+others_if-nil false whos = refl
+
+pub unasked_if-nil : (b : Bool) (whos : List ℕ) → unasked_if b whos [] ≡ []
+unasked_if-nil true whos = refl
+unasked_if-nil false whos = refl
+
+pub unasked_if-group : (b : Bool) (whos : List ℕ) (p : Place) (xs : List ℕ) (os : List Open) → with_group p (others_if (asks_unfailed p.group && b) whos xs) (unasked_if b whos os) ≡ unasked_if b whos (with_group p xs os)
+unasked_if-group false whos p xs os = ap (λ b. with_group p (others_if b whos xs) os) (and-false (asks_unfailed p.group))
+unasked_if-group true whos p [] os = ap (λ b. with_group p b (unasked whos os)) (others_if-nil (asks_unfailed p.group && true) whos)
+unasked_if-group true whos p (x ∷ xs) os = ap (λ b. with_group p (others_if b whos (x ∷ xs)) (unasked whos os)) (and-true (asks_unfailed p.group))
+
+-- ## entries at the end of a log
+
+pub any-append : {X : Type 0} (p : X → Bool) (xs ys : List X) → list_any p (xs ++ ys) ≡ (list_any p xs || list_any p ys)
+any-append p [] ys = refl
+any-append p (x ∷ xs) ys = elim (p x) as (λ b. (b || list_any p (xs ++ ys)) ≡ ((b || list_any p xs) || list_any p ys)) [ true ↦ refl | false ↦ any-append p xs ys ]
+
+pub any-among : (c : Bool) (x : ℕ) (ws : List ℕ) → list_any (λ w. c && (w == x)) ws ≡ (c && is_among x ws)
+any-among true x ws = refl
+any-among false x [] = refl
+any-among false x (w ∷ ws) = any-among false x ws
+
+pub any-map : {X Y : Type 0} (p : Y → Bool) (g : X → Y) (xs : List X) → list_any p (map g xs) ≡ list_any (λ x. p (g x)) xs
+any-map p g [] = refl
+any-map p g (x ∷ xs) = ap (λ b. p (g x) || b) (any-map p g xs)
+
+-- b is a in which these said the same at p, and have failed by it or not
+record Adds (a b : Agenda) (p : Place) (whos : List ℕ) (failed : Bool) : Type 0 where
+  kind : b.kind ≡ a.kind
+  members : b.members ≡ a.members
+  volumes : b.volumes ≡ a.volumes
+  said : (q : Place) (x : ℕ) → has_said b.log q x ≡ (has_said a.log q x || (same_place p q && is_among x whos))
+  failing : (x : ℕ) → has_failed b.log x ≡ (has_failed a.log x || ((is_orders p.group && failed) && is_among x whos))
+
+says_at : Place → Said → ℕ → List ℕ → Agenda → Agenda
+says_at p said now whos a = record { kind = a.kind; members = a.members; volumes = a.volumes; begun = a.begun; log = a.log ++ map (at_place p said now) whos }
+
+adds-says_at : (p : Place) (said : Said) (now : ℕ) (whos : List ℕ) (a : Agenda) → Adds a (says_at p said now whos a) p whos (not (is_ok said))
+unfolding says_at
+adds-says_at p said now whos a = record {
+  kind = refl;
+  members = refl;
+  volumes = refl;
+  said = λ q x. any-append (λ (e : Entry). same_place e.place q && (e.who == x)) a.log (map (at_place p said now) whos)
+      ∙ ap (λ b. has_said a.log q x || b) (any-map (λ (e : Entry). same_place e.place q && (e.who == x)) (at_place p said now) whos ∙ any-among (same_place p q) x whos);
+  failing = λ x. any-append (λ (e : Entry). is_orders e.place.group && not (is_ok e.said) && (e.who == x)) a.log (map (at_place p said now) whos)
+      ∙ ap (λ b. has_failed a.log x || b) (any-map (λ (e : Entry). is_orders e.place.group && not (is_ok e.said) && (e.who == x)) (at_place p said now) whos ∙ any-among (is_orders p.group && not (is_ok said)) x whos);
+}
+
+-- ## who is waited for
+
+members-add : (a b : Agenda) (p : Place) (whos : List ℕ) (f : Bool) → Adds a b p whos f → (g : Group) (l : Option Level) → members_of b g l ≡ others_if (asks_unfailed g && (is_orders p.group && f)) whos (members_of a g l)
+members-add a b p whos f h (Orders PostSnapshot) l =
+    ap (λ ms. filter (λ w. not (has_failed b.log w)) (writers_at ms l)) h.members
+    ∙ filter_agree _ (λ w. not (has_failed a.log w || ((is_orders p.group && f) && is_among w whos))) (λ w. ap not (h.failing w)) (writers_at a.members l)
+    ∙ others_if-filter (has_failed a.log) (is_orders p.group && f) whos (writers_at a.members l)
+members-add a b p whos f h (Orders Identify) l = ap (λ ms. writers_at ms l) h.members
+members-add a b p whos f h (Orders PrepareBackup) l = ap (λ ms. writers_at ms l) h.members
+members-add a b p whos f h (Orders PrepareSnapshot) l = ap (λ ms. writers_at ms l) h.members
+members-add a b p whos f h (Orders Freeze) l = ap (λ ms. writers_at ms l) h.members
+members-add a b p whos f h (Orders Thaw) l = ap (λ ms. writers_at ms l) h.members
+members-add a b p whos f h (Orders BackupComplete) l = ap (λ ms. writers_at ms l) h.members
+members-add a b p whos f h PreCommit l = refl
+members-add a b p whos f h Flush l = h.volumes
+members-add a b p whos f h Hold l = h.volumes
+members-add a b p whos f h Cut l = refl
+members-add a b p whos f h Commit l = h.volumes
+members-add a b p whos f h Release l = h.volumes
+members-add a b p whos f h PostCommit l = refl
+
+abbrev takes : Place → Bool → Place → Bool
+takes p f q = same_place p q || (asks_unfailed q.group && (is_orders p.group && f))
+
+waited-add : (a b : Agenda) (p : Place) (whos : List ℕ) (f : Bool) → Adds a b p whos f → (q : Place) → waited_for b q ≡ others_if (takes p f q) whos (waited_for a q)
+waited-add a b p whos f h q =
+    filter_agree _ (λ x. not (has_said a.log q x || (same_place p q && is_among x whos))) (λ x. ap not (h.said q x)) (members_of b q.group q.level)
+    ∙ others_if-filter (has_said a.log q) (same_place p q) whos (members_of b q.group q.level)
+    ∙ ap (λ xs. others_if (same_place p q) whos (filter (λ x. not (has_said a.log q x)) xs)) (members-add a b p whos f h q.group q.level)
+    ∙ ap (others_if (same_place p q) whos) (filter-others_if (asks_unfailed q.group && (is_orders p.group && f)) whos (λ x. not (has_said a.log q x)) (members_of a q.group q.level))
+    ∙ others_if-twice (same_place p q) (asks_unfailed q.group && (is_orders p.group && f)) whos (waited_for a q)
+
+-- ## the places of an agenda are apart
+
+abbrev IsApartFrom : Place → List Place → Type 0
+IsApartFrom p [] = Unit {0}
+IsApartFrom p (q ∷ qs) = (same_place p q ≡ false) × IsApartFrom p qs
+
+abbrev AreApart : List Place → Type 0
+AreApart [] = Unit {0}
+AreApart (p ∷ ps) = IsApartFrom p ps × AreApart ps
+
+abbrev apart_from : Place → List Place → Bool
+apart_from p [] = true
+apart_from p (q ∷ qs) = not (same_place p q) && apart_from p qs
+
+abbrev apart : List Place → Bool
+apart [] = true
+apart (p ∷ ps) = apart_from p ps && apart ps
+
+both : (b c : Bool) → (b && c) ≡ true → (b ≡ true) × (c ≡ true)
+both true c e = (refl, e)
+both false c e = cc
+
+unless : (b : Bool) → not b ≡ true → b ≡ false
+unless true e = cc
+unless false e = refl
+
+apart_from-is : (p : Place) (ps : List Place) → apart_from p ps ≡ true → IsApartFrom p ps
+apart_from-is p [] e = tt
+apart_from-is p (q ∷ qs) e = let h : (not (same_place p q) ≡ true) × (apart_from p qs ≡ true) = both _ _ e in (unless (same_place p q) h.0, apart_from-is p qs h.1)
+
+apart-is : (ps : List Place) → apart ps ≡ true → AreApart ps
+apart-is [] e = tt
+apart-is (p ∷ ps) e = let h : (apart_from p ps ≡ true) × (apart ps ≡ true) = both _ _ e in (apart_from-is p ps h.0, apart-is ps h.1)
+
+places-apart : (k : Kind) → AreApart (places k)
+places-apart Gather = apart-is (places Gather) refl
+places-apart Prepare = apart-is (places Prepare) refl
+places-apart Snapshot = apart-is (places Snapshot) refl
+places-apart Complete = apart-is (places Complete) refl
+
+same_place-self : (p : Place) → same_place p p ≡ true
+same_place-self p = grind (arith, nat_tests)
+
+-- ## the groups left
+
+-- the place is that of the open group, if there is one
+abbrev IsOpen : Place → List Open → Type 0
+IsOpen p [] = Unit {0}
+IsOpen p (o ∷ os) = p ≡ o.place
+
+open_place-open : (os : List Open) → IsOpen (open_place os) os
+open_place-open [] = tt
+open_place-open (o ∷ os) = refl
+
+later-add : (a b : Agenda) (p : Place) (whos : List ℕ) (f : Bool) → Adds a b p whos f → (ps : List Place) → IsApartFrom p ps → left_from b ps ≡ unasked_if (is_orders p.group && f) whos (left_from a ps)
+later-add a b p whos f h [] d = sym (unasked_if-nil (is_orders p.group && f) whos)
+later-add a b p whos f h (q ∷ qs) d =
+    ap (with_group q (waited_for b q)) (later-add a b p whos f h qs d.1)
+    ∙ ap (λ ws. with_group q ws (unasked_if (is_orders p.group && f) whos (left_from a qs))) (waited-add a b p whos f h q ∙ ap (λ c. others_if (c || (asks_unfailed q.group && (is_orders p.group && f))) whos (waited_for a q)) d.0)
+    ∙ unasked_if-group (is_orders p.group && f) whos q (waited_for a q) (left_from a qs)
+
+step-add : (a b : Agenda) (p : Place) (whos : List ℕ) (f : Bool) → Adds a b p whos f → (q : Place) (qs : List Place) → IsApartFrom q qs → (xs : List ℕ)
+    → (IsOpen p (left_from a qs) → left_from b qs ≡ advance whos f (left_from a qs))
+    → IsOpen p (with_group q xs (left_from a qs))
+    → with_group q (others_if (takes p f q) whos xs) (left_from b qs) ≡ advance whos f (with_group q xs (left_from a qs))
+step-add a b p whos f h q qs d [] later first = ap (λ ws. with_group q ws (left_from b qs)) (others_if-nil (takes p f q) whos) ∙ later first
+step-add a b p whos f h q qs d (x ∷ xs) later first =
+    ap (λ c. with_group q (others_if (c || (asks_unfailed q.group && (is_orders p.group && f))) whos (x ∷ xs)) (left_from b qs)) (ap (λ r. same_place r q) first ∙ same_place-self q)
+    ∙ ap (with_group q (others whos (x ∷ xs))) (later-add a b p whos f h qs (subst (λ r. IsApartFrom r qs) (sym first) d) ∙ ap (λ (r : Place). unasked_if (is_orders r.group && f) whos (left_from a qs)) first)
+
+left_from-add : (a b : Agenda) (p : Place) (whos : List ℕ) (f : Bool) → Adds a b p whos f → (qs : List Place) → AreApart qs → IsOpen p (left_from a qs) → left_from b qs ≡ advance whos f (left_from a qs)
+left_from-add a b p whos f h [] d first = refl
+left_from-add a b p whos f h (q ∷ qs) d first =
+    ap (λ ws. with_group q ws (left_from b qs)) (waited-add a b p whos f h q)
+    ∙ step-add a b p whos f h q qs d.0 (waited_for a q) (λ z. left_from-add a b p whos f h qs d.1 z) first
+
+left-add : (a b : Agenda) (p : Place) (whos : List ℕ) (f : Bool) → Adds a b p whos f → IsOpen p (groups_left a) → groups_left b ≡ advance whos f (groups_left a)
+left-add a b p whos f h first = ap (λ k. left_from b (places k)) h.kind ∙ left_from-add a b p whos f h (places a.kind) (places-apart a.kind) first
+
+-- what any members say in the open group, all of them the same
+pub groups_left-all_say : (said : Said) (now : ℕ) (whos : List ℕ) (a : Agenda) → groups_left (all_say said now whos a) ≡ advance whos (not (is_ok said)) (groups_left a)
+unfolding says_at
+groups_left-all_say said now whos a =
+    left-add a (says_at (open_place (groups_left a)) said now whos a) (open_place (groups_left a)) whos (not (is_ok said))
+    (adds-says_at (open_place (groups_left a)) said now whos a) (open_place-open (groups_left a))
+
+-- ## a group that is left waits for somebody
+
+waits-from : (p : Place) (ws : List ℕ) (rest os : List Open) (o : Open) → (rest ≡ o ∷ os → is_nil o.waits ≡ false) → with_group p ws rest ≡ o ∷ os → is_nil o.waits ≡ false
+waits-from p [] rest os o h e = h e
+waits-from p (w ∷ ws) rest os o h e = let f : record { place = p; waits = w ∷ ws } ≡ o = cc in ap (λ (x : Open). is_nil x.waits) (sym f)
+
+left_from-waits : (a : Agenda) (ps : List Place) (o : Open) (os : List Open) → left_from a ps ≡ o ∷ os → is_nil o.waits ≡ false
+left_from-waits a [] o os e = cc
+left_from-waits a (p ∷ ps) o os e = waits-from p (waited_for a p) (left_from a ps) os o (λ f. left_from-waits a ps o os f) e
+
+waits-at : (a : Agenda) (os : List Open) → groups_left a ≡ os → is_asking os ≡ true → is_nil (waits_now os) ≡ false
+waits-at a [] e h = cc
+waits-at a (o ∷ os) e h = left_from-waits a (places a.kind) o os e
+
+-- an open group of writers waits for somebody
+pub groups_left-waits : (a : Agenda) → is_asking (groups_left a) ≡ true → is_nil (waits_now (groups_left a)) ≡ false
+groups_left-waits a h = waits-at a (groups_left a) refl h

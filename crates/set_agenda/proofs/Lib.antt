@@ -1,0 +1,5 @@
+pub mod GroupsLeft
+pub mod WriterSets
+pub mod Cursors
+pub mod Closings
+pub mod Beginnings

@@ -1,0 +1,194 @@
+-- Sets of writers as bits and as ascending lists.
+use Rattle.std.proofs.Common.{◌≡◌, ◌≢◌, ℕ, zero, suc, ◌+◌, ◌-◌, ◌*◌, ◌%◌, ◌/◌, ◌^◌, ◌<◌, ◌≤◌, min, max, List, [], ◌∷◌, refl, Bool, true, false, cond, ap, sym, ◌∙◌, subst, filter, arith, bit_and, bit_or, w64, nat_eq}
+use Rattle.std.specs.Prelude.{◌&&◌, ◌||◌, not, ◌==◌}
+use Rattle.std.specs.List.{range_with_len}
+use Rattle.std.specs.Int.{bit_at}
+use Rattle.std.proofs.lemmas.Bool.Decides.{nat_tests}
+use Rattle.std.proofs.lemmas.Nat.Bits.{shr_and_one, bit_at-lt, bit_at-zero, same_from_bits_below, bit_at_set_same, bit_at_set_other, bit_at_and, bit_at_not, bit_at_or}
+use Rattle.set_agenda.specs.Agenda.{is_among}
+use Rattle.set_agenda.specs.Advance.{others}
+use Rattle.set_agenda.specs.WriterSet.{has_bit, is_nil, writers, writers_of}
+
+-- ## truth values
+
+pub or-false : (b : Bool) → (b || false) ≡ b
+or-false true = refl
+or-false false = refl
+
+pub and-false : (b : Bool) → (b && false) ≡ false
+and-false true = refl
+and-false false = refl
+
+pub and-true : (b : Bool) → (b && true) ≡ b
+and-true true = refl
+and-true false = refl
+
+and_false : (b c : Bool) → c ≡ false → (b && c) ≡ false
+and_false true c e = e
+and_false false c e = refl
+
+and_true-or : (b : Bool) → ((b && true) || false) ≡ b
+and_true-or true = refl
+and_true-or false = refl
+
+and_false-or : (b d : Bool) → ((b && false) || d) ≡ d
+and_false-or true d = refl
+and_false-or false d = refl
+
+same_from : (a w : ℕ) → (a == w) ≡ true → a ≡ w
+same_from a w e = grind (arith, nat_tests)
+
+other_from : (a w : ℕ) → (a == w) ≡ false → a ≢ w
+other_from a w e = grind (arith, nat_tests)
+
+-- ## filters of a range
+
+-- tests that agree in a range filter it alike
+pub filter-within : (p q : ℕ → Bool) (a n : ℕ) → ((i : ℕ) → i < a + n → p i ≡ q i) → filter p (range_with_len a n) ≡ filter q (range_with_len a n)
+filter-within p q a zero same = refl
+filter-within p q a (suc n) same = rw (same a (omega arith)) (ap (λ ys. cond (q a) (a ∷ ys) ys) (filter-within p q (a + 1) n (λ i h. same i (omega arith))))
+
+-- two filters, one after the other
+pub filter-and : {X : Type 0} (p q : X → Bool) (xs : List X) → filter (λ x. p x && q x) xs ≡ filter q (filter p xs)
+filter-and p q [] = refl
+filter-and p q (x ∷ xs) = elim (p x) as (λ b. cond (b && q x) (x ∷ filter (λ y. p y && q y) xs) (filter (λ y. p y && q y) xs) ≡ filter q (cond b (x ∷ filter p xs) (filter p xs)))
+    [ true ↦ ap (λ ys. cond (q x) (x ∷ ys) ys) (filter-and p q xs) | false ↦ filter-and p q xs ]
+
+-- nothing passes
+pub filter-none : {X : Type 0} (xs : List X) → filter (λ x. false) xs ≡ []
+filter-none [] = refl
+filter-none (x ∷ xs) = filter-none xs
+
+among-cond : (b : Bool) (x w : ℕ) (ys : List ℕ) → is_among w (cond b (x ∷ ys) ys) ≡ ((b && (x == w)) || is_among w ys)
+among-cond true x w ys = refl
+among-cond false x w ys = refl
+
+among-below : (p : ℕ → Bool) (a n w : ℕ) → w < a → is_among w (filter p (range_with_len a n)) ≡ false
+among-below p a zero w h = refl
+among-below p a (suc n) w h =
+    let e : (a == w) ≡ false = grind (arith, nat_tests) in
+    among-cond (p a) a w _ ∙ ap (λ b. b || is_among w (filter p (range_with_len (a + 1) n))) (and_false (p a) (a == w) e) ∙ among-below p (a + 1) n w (omega arith)
+
+among-step : (p : ℕ → Bool) (a w : ℕ) (d c : Bool) → (a == w) ≡ c → ((a == w) ≡ true → d ≡ false) → ((a == w) ≡ false → d ≡ p w) → ((p a && c) || d) ≡ p w
+among-step p a w d true e f g = rw (f e) (and_true-or (p a) ∙ ap p (same_from a w e))
+among-step p a w d false e f g = and_false-or (p a) d ∙ g e
+
+-- a number of a range is among those that pass where it passes
+among-filter : (p : ℕ → Bool) (a n w : ℕ) → a ≤ w → w < a + n → is_among w (filter p (range_with_len a n)) ≡ p w
+among-filter p a zero w h l = absurd (omega arith)
+among-filter p a (suc n) w h l =
+    among-cond (p a) a w _
+    ∙ among-step p a w (is_among w (filter p (range_with_len (a + 1) n))) (a == w) refl
+    (λ e. among-below p (a + 1) n w (let s : a ≡ w = same_from a w e in omega (arith, s)))
+    (λ e. among-filter p (a + 1) n w (let s : a ≢ w = other_from a w e in omega (arith, s)) (omega arith))
+
+-- nobody of a range above w is w
+filter-above : (a n w : ℕ) → w < a → filter (λ i. w == i) (range_with_len a n) ≡ []
+filter-above a zero w h = refl
+filter-above a (suc n) w h = let e : (w == a) ≡ false = grind (arith, nat_tests) in rw e (filter-above (a + 1) n w (omega arith))
+
+one-step : (a n w : ℕ) (c : Bool) → (w == a) ≡ c → w < a + suc n → ((w == a) ≡ false → filter (λ i. w == i) (range_with_len (a + 1) n) ≡ w ∷ []) → cond c (a ∷ filter (λ i. w == i) (range_with_len (a + 1) n)) (filter (λ i. w == i) (range_with_len (a + 1) n)) ≡ w ∷ []
+one-step a n w true e h f = let s : w ≡ a = same_from w a e in ap (λ ys. a ∷ ys) (filter-above (a + 1) n w (omega (arith, s))) ∙ ap (λ x. x ∷ []) (sym s)
+one-step a n w false e h f = f e
+
+filter-one : (a n w : ℕ) → a ≤ w → w < a + n → filter (λ i. w == i) (range_with_len a n) ≡ w ∷ []
+filter-one a zero w h l = absurd (omega arith)
+filter-one a (suc n) w h l = one-step a n w (w == a) refl l (λ e. filter-one (a + 1) n w (let s : w ≢ a = other_from w a e in omega (arith, s)) (omega arith))
+
+-- ## sets of writers
+
+-- the tests of a set of writers count below 64 alone
+pub writers-agree : (p q : ℕ → Bool) → ((w : ℕ) → w < 64 → p w ≡ q w) → writers p ≡ writers q
+unfolding writers
+writers-agree p q h = filter-within p q 0 64 (λ i l. h i (omega arith))
+
+pub among-writers : (p : ℕ → Bool) (w : ℕ) → w < 64 → is_among w (writers p) ≡ p w
+unfolding writers
+among-writers p w h = among-filter p 0 64 w (omega arith) (omega arith)
+
+pub others-writers : (whos : List ℕ) (p : ℕ → Bool) → others whos (writers p) ≡ writers (λ w. p w && not (is_among w whos))
+unfolding writers
+others-writers whos p = sym (filter-and p (λ w. not (is_among w whos)) (range_with_len 0 64))
+
+pub writers-none : writers (λ w. false) ≡ []
+unfolding writers
+writers-none = filter-none (range_with_len 0 64)
+
+-- ## bits
+
+pub new-is : writers_of 0 ≡ []
+new-is = writers-agree (has_bit 0) (λ w. false) (λ i h. grind (arith, nat_tests, bit_at-zero i)) ∙ writers-none
+
+pub contains-is : (bits w : ℕ) → w < 64 → nat_eq (bit_and (bits / 2 ^ w) 1) 1 ≡ is_among w (writers_of bits)
+contains-is bits w h = ap (λ b. nat_eq b 1) (shr_and_one bits w) ∙ sym (among-writers (has_bit bits) w h)
+
+no_bit : (bits i : ℕ) → has_bit bits i ≡ false → bit_at bits i ≡ 0
+no_bit bits i e = grind (arith, nat_tests, bit_at-lt bits i)
+
+none-set : (bits : ℕ) → bits < 2 ^ 64 → writers_of bits ≡ [] → bits ≡ 0
+none-set bits h e = same_from_bits_below 64 bits 0 h (omega arith) (λ i l. no_bit bits i (sym (among-writers (has_bit bits) i (omega arith)) ∙ ap (is_among i) e) ∙ sym (bit_at-zero i))
+
+empty-at : (bits : ℕ) (xs : List ℕ) → bits < 2 ^ 64 → writers_of bits ≡ xs → nat_eq bits 0 ≡ is_nil xs
+empty-at bits [] h e = ap (λ b. nat_eq b 0) (none-set bits h e)
+empty-at zero (x ∷ xs) h e = cc (sym e ∙ new-is)
+empty-at (suc bits) (x ∷ xs) h e = grind (arith, nat_tests)
+
+pub empty-is : (bits : ℕ) → bits < 2 ^ 64 → nat_eq bits 0 ≡ is_nil (writers_of bits)
+empty-is bits h = empty-at bits (writers_of bits) h refl
+
+or_true : (b : Bool) → (b || true) ≡ true
+or_true true = refl
+or_true false = refl
+
+set-at : (bits w i : ℕ) (c : Bool) → w < 64 → (w == i) ≡ c → has_bit (bit_or bits (1 * 2 ^ w % 18446744073709551616)) i ≡ (has_bit bits i || c)
+set-at bits w i true h e = subst (λ k. has_bit (bit_or bits (1 * 2 ^ w % 18446744073709551616)) k ≡ (has_bit bits k || true)) (same_from w i e)
+    (ap (λ b. b == 1) (bit_at_set_same w64 bits w h) ∙ sym (or_true (has_bit bits w)))
+set-at bits w i false h e = ap (λ b. b == 1) (bit_at_set_other w64 bits w h i (λ s. other_from w i e (sym s))) ∙ sym (or-false (has_bit bits i))
+
+-- the bit of w put in
+pub insert-is : (bits w : ℕ) → w < 64 → writers_of (bit_or bits (1 * 2 ^ w % 18446744073709551616)) ≡ writers (λ i. is_among i (writers_of bits) || (w == i))
+insert-is bits w h = writers-agree _ (λ i. is_among i (writers_of bits) || (w == i)) (λ i l. set-at bits w i (w == i) h refl ∙ ap (λ b. b || (w == i)) (sym (among-writers (has_bit bits) i l)))
+
+minus_bit : (x y : ℕ) → x < 2 → y < 2 → (min x (1 - y) == 1) ≡ ((x == 1) && not (y == 1))
+minus_bit zero zero a b = refl
+minus_bit (suc zero) zero a b = refl
+minus_bit zero (suc zero) a b = refl
+minus_bit (suc zero) (suc zero) a b = refl
+minus_bit (suc (suc x)) y a b = absurd (omega arith)
+minus_bit x (suc (suc y)) a b = absurd (omega arith)
+
+minus-at : (a b i : ℕ) → b < 2 ^ 64 → i < 64 → has_bit (bit_and a (18446744073709551615 - b)) i ≡ (has_bit a i && not (is_among i (writers_of b)))
+minus-at a b i l h =
+    ap (λ n. n == 1) (bit_at_and a (18446744073709551615 - b) i ∙ ap (min (bit_at a i)) (bit_at_not w64 b i l h))
+    ∙ minus_bit (bit_at a i) (bit_at b i) (bit_at-lt a i) (bit_at-lt b i)
+    ∙ ap (λ c. has_bit a i && not c) (sym (among-writers (has_bit b) i h))
+
+pub minus-is : (a b : ℕ) → b < 2 ^ 64 → writers_of (bit_and a (18446744073709551615 - b)) ≡ others (writers_of b) (writers_of a)
+minus-is a b l = writers-agree _ (λ i. has_bit a i && not (is_among i (writers_of b))) (λ i h. minus-at a b i l h) ∙ sym (others-writers (writers_of b) (has_bit a))
+
+or_bit : (x y : ℕ) → x < 2 → y < 2 → (max x y == 1) ≡ ((x == 1) || (y == 1))
+or_bit zero zero a b = refl
+or_bit (suc zero) zero a b = refl
+or_bit zero (suc zero) a b = refl
+or_bit (suc zero) (suc zero) a b = refl
+or_bit (suc (suc x)) y a b = absurd (omega arith)
+or_bit x (suc (suc y)) a b = absurd (omega arith)
+
+either-at : (a b i : ℕ) → i < 64 → has_bit (bit_or a b) i ≡ (is_among i (writers_of a) || is_among i (writers_of b))
+either-at a b i h =
+    ap (λ n. n == 1) (bit_at_or a b i) ∙ or_bit (bit_at a i) (bit_at b i) (bit_at-lt a i) (bit_at-lt b i)
+    ∙ ap (λ c. c || has_bit b i) (sym (among-writers (has_bit a) i h))
+    ∙ ap (λ c. is_among i (writers_of a) || c) (sym (among-writers (has_bit b) i h))
+
+pub with-is : (a b : ℕ) → writers_of (bit_or a b) ≡ writers (λ w. is_among w (writers_of a) || is_among w (writers_of b))
+with-is a b = writers-agree _ (λ w. is_among w (writers_of a) || is_among w (writers_of b)) (λ i h. either-at a b i h)
+
+writers-one : (w : ℕ) → w < 64 → writers (λ i. w == i) ≡ w ∷ []
+unfolding writers
+writers-one w h = filter-one 0 64 w (omega arith) (omega arith)
+
+zero_or-at : (w i : ℕ) → w < 64 → has_bit (1 * 2 ^ w % 18446744073709551616) i ≡ (w == i)
+zero_or-at w i h = set-at 0 w i (w == i) h refl ∙ ap (λ b. b || (w == i)) (let z : bit_at 0 i ≡ 0 = bit_at-zero i in ap (λ n. n == 1) z)
+
+pub of-is : (w : ℕ) → w < 64 → writers_of (1 * 2 ^ w % 18446744073709551616) ≡ w ∷ []
+of-is w h = writers-agree _ (λ i. w == i) (λ i l. zero_or-at w i h) ∙ writers-one w h

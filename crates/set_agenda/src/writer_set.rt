@@ -1,0 +1,103 @@
+ghost use Rattle.std.specs.Prelude.{◌≡◌, ◌<◌, ◌==◌, ◌||◌, List, [], ◌∷◌, ℕ};
+ghost use Rattle.set_agenda.specs.Agenda.{is_among};
+ghost use Rattle.set_agenda.specs.Advance.{others};
+ghost use Rattle.set_agenda.specs.WriterSet.{is_nil, writers, writers_of};
+
+use std::marker::Model;
+
+/// A set of writers, each of which is below 64.
+#[derive(Drop)]
+pub struct WriterSet {
+    bits: u64,
+}
+
+impl Model for WriterSet {
+    ghost Value = { List ℕ };
+
+    ghost view = { λ s. writers_of s.bits };
+}
+
+impl WriterSet {
+    /// No writer.
+    pub fn new() -> WriterSet
+        ensures { result ≡ [] }
+    {
+        WriterSet { bits: 0 }
+    }
+
+    /// One writer.
+    pub fn of(writer: u32) -> WriterSet
+        requires { writer < 64 }
+        ensures { result ≡ writer ∷ [] }
+    {
+        WriterSet { bits: 1 << writer }
+    }
+
+    /// The same set once more.
+    pub fn copied(&self) -> WriterSet
+        ensures { result ≡ self.now }
+    {
+        WriterSet { bits: self.bits }
+    }
+
+    /// Bit w is set exactly for a writer w of the set.
+    pub fn bits(&self) -> u64
+        ensures { writers_of result ≡ self.now }
+    {
+        self.bits
+    }
+
+    pub fn is_empty(&self) -> bool
+        ensures { result ≡ is_nil self.now }
+    {
+        self.bits == 0
+    }
+
+    pub fn contains(&self, writer: u32) -> bool
+        requires { writer < 64 }
+        ensures { result ≡ is_among writer self.now }
+    {
+        (self.bits >> writer) & 1 == 1
+    }
+
+    pub fn insert(&mut self, writer: u32)
+        requires { writer < 64 }
+        ensures { self.new ≡ writers (λ w. is_among w self.old || (writer == w)) }
+    {
+        self.bits |= 1 << writer;
+    }
+
+    /// Those that the other set lacks.
+    pub fn minus(&self, other: &WriterSet) -> WriterSet
+        ensures { result ≡ others other.now self.now }
+    {
+        WriterSet {
+            bits: self.bits & !other.bits,
+        }
+    }
+
+    /// Those of either set.
+    pub fn with(&self, other: &WriterSet) -> WriterSet
+        ensures { result ≡ writers (λ w. is_among w self.now || is_among w other.now) }
+    {
+        WriterSet {
+            bits: self.bits | other.bits,
+        }
+    }
+}
+
+#[cfg(test)]
+mod tests {
+    use super::*;
+
+    #[test]
+    fn a_set_has_a_bit_for_each_writer(rt: HostRuntime) {
+        let mut set = WriterSet::of(3);
+        set.insert(63);
+        assert_eq!(rt; set.bits(), 0x8000_0000_0000_0008);
+        assert!(rt; set.contains(63));
+        assert_eq!(rt; set.minus(&WriterSet::of(63)).bits(), 8);
+        assert_eq!(rt; set.with(&WriterSet::of(0)).bits(), 0x8000_0000_0000_0009);
+        assert!(rt; WriterSet::new().copied().is_empty());
+    }
+}
