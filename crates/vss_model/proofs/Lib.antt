@@ -5,3 +5,5 @@ pub mod HeldOfSet
 pub mod Orderly
 pub mod OrderlyActs
 pub mod Failures
+pub mod CutLog
+pub mod AtCut

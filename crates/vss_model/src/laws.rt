@@ -5,7 +5,10 @@ ghost use Rattle.write_history.specs.declared.move_item.Move.{Move};
 ghost use Rattle.scenario.specs.Plan.{Plan};
 ghost use Rattle.write_history.specs.History.{point_in};
 ghost use Rattle.write_history.specs.Slots.{Placed, copies};
-ghost use Rattle.vss_model.specs.State.{State, SetRow, in_progress, row_of, history_of, is_held, is_frozen};
+ghost use Rattle.set_agenda.specs.Agenda.{open_group, is_among};
+ghost use Rattle.set_agenda.specs.Course.{is_member};
+ghost use Rattle.vss_model.specs.State.{State, SetRow, in_progress, row_of, history_of, left_now, is_held, is_frozen};
+ghost use Rattle.vss_model.specs.Cut.{is_cut_group};
 ghost use Rattle.vss_model.specs.Facts.{IsOrderly, has_failed, holds_for};
 ghost use Rattle.vss_model.specs.Acts.{Act, after, state};
 ghost use Rattle.vss_model.specs.Trail.{run, moved, acts, acts_if, event_of, is_legal, is_legal_move, faults};
@@ -41,6 +44,14 @@ pub fn rule_of_cases()
 pub fn held_in_snapshot()
     ensures held { (s : Plan) (acts : List Act) (v : ℕ) → is_held (state s acts) v ≡ true → RunsSnapshot (state s acts) }
     ensures frozen { (s : Plan) (acts : List Act) (w : ℕ) → is_frozen (state s acts) w ≡ true → RunsSnapshot (state s acts) }
+{}
+
+/// Where the Cut step is the next one, every volume of the set is held and every participant stands frozen.
+pub fn all_stand_still_at_the_cut()
+    ensures held { (s : Plan) (acts : List Act) (r : SetRow) (v : ℕ) → is_cut_group (open_group (left_now (state s acts))) ≡ true
+        → in_progress (state s acts) ≡ Some r → is_among v r.volumes ≡ true → is_held (state s acts) v ≡ true }
+    ensures frozen { (s : Plan) (acts : List Act) (r : SetRow) (w : ℕ) → is_cut_group (open_group (left_now (state s acts))) ≡ true
+        → in_progress (state s acts) ≡ Some r → is_member (state s acts).course.members w ≡ true → is_frozen (state s acts) w ≡ true }
 {}
 
 /// Sets are numbered from 1 on and at most the newest is in progress, as the session's stage says; a running agenda is
