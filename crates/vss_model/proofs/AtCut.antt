@@ -24,12 +24,15 @@ use Rattle.vss_model.proofs.CutLog.{undoes, is_refusal, is_undoing, is_cut_made,
 
 -- ## what is closed at the cut
 
-record IsAtCut (a : Agenda) : Type 0 where
-  front : waited_for a (at_level Freeze FrontEnd) ≡ []
-  back : waited_for a (at_level Freeze BackEnd) ≡ []
-  system : waited_for a (at_level Freeze System) ≡ []
-  hold : waited_for a (plain Hold) ≡ []
-  cut : is_cut_made a.log ≡ false
+pub record IsAtCut (a : Agenda) : Type 0 where
+  pub prepared : waited_for a (plain (Orders PrepareSnapshot)) ≡ []
+  pub before : waited_for a (plain PreCommit) ≡ []
+  pub flush : waited_for a (plain Flush) ≡ []
+  pub front : waited_for a (at_level Freeze FrontEnd) ≡ []
+  pub back : waited_for a (at_level Freeze BackEnd) ≡ []
+  pub system : waited_for a (at_level Freeze System) ≡ []
+  pub hold : waited_for a (plain Hold) ≡ []
+  pub cut : is_cut_made a.log ≡ false
 
 -- a group before the cut is closed
 closed : (p : Place) (ws : List ℕ) (later : List Open) → is_cut_group (Some p.group) ≡ false → is_cut_group (open_group (with_group p ws later)) ≡ true → (ws ≡ []) × (is_cut_group (open_group later) ≡ true)
@@ -64,7 +67,33 @@ at_cut a h =
     let before = closed (plain PreCommit) (waited_for a (plain PreCommit)) _ refl system.1 in
     let flush = closed (plain Flush) (waited_for a (plain Flush)) _ refl before.1 in
     let hold = closed (plain Hold) (waited_for a (plain Hold)) _ refl flush.1 in
-    record { front = front.0; back = back.0; system = system.0; hold = hold.0; cut = cut_open (is_cut_made a.log) _ (none_after a) hold.1 }
+    record { prepared = prepared.0; before = before.0; flush = flush.0; front = front.0; back = back.0; system = system.0; hold = hold.0; cut = cut_open (is_cut_made a.log) _ (none_after a) hold.1 }
+
+-- the open group, where all before are closed
+passed : (p : Place) (ws : List ℕ) (later : List Open) → ws ≡ [] → with_group p ws later ≡ later
+passed p [] later e = refl
+passed p (w ∷ ws) later e = absurd cc
+
+cut_waits : (b : Bool) (later : List Open) → b ≡ false → with_group (plain Cut) (if not b then 0 ∷ [] else []) later ≡ record { place = plain Cut; waits = 0 ∷ [] } ∷ later
+cut_waits true later e = absurd cc
+cut_waits false later e = refl
+
+abbrev pub cut_group : Open
+cut_group = record { place = plain Cut; waits = 0 ∷ [] }
+
+abbrev pub later_places : List Place
+later_places = plain Commit ∷ plain Release ∷ plain PostCommit ∷ at_level Thaw System ∷ at_level Thaw BackEnd ∷ at_level Thaw FrontEnd ∷ plain (Orders PostSnapshot) ∷ []
+
+pub cut_is_open : (a : Agenda) → IsAtCut a → left_from a (places Snapshot) ≡ cut_group ∷ left_from a later_places
+cut_is_open a c =
+    passed (plain (Orders PrepareSnapshot)) (waited_for a (plain (Orders PrepareSnapshot))) _ c.prepared
+    ∙ passed (at_level Freeze FrontEnd) (waited_for a (at_level Freeze FrontEnd)) _ c.front
+    ∙ passed (at_level Freeze BackEnd) (waited_for a (at_level Freeze BackEnd)) _ c.back
+    ∙ passed (at_level Freeze System) (waited_for a (at_level Freeze System)) _ c.system
+    ∙ passed (plain PreCommit) (waited_for a (plain PreCommit)) _ c.before
+    ∙ passed (plain Flush) (waited_for a (plain Flush)) _ c.flush
+    ∙ passed (plain Hold) (waited_for a (plain Hold)) _ c.hold
+    ∙ cut_waits (is_cut_made a.log) (left_from a later_places) c.cut
 
 -- only a snapshot's agenda has a Cut group
 no_cut : (p : Place) (ws : List ℕ) → is_cut_group (Some p.group) ≡ false → is_cut_group (open_group (with_group p ws [])) ≡ true → ⊥
@@ -254,13 +283,13 @@ frozen_in a w k c h e =
 -- ## in the state
 
 -- the running agenda at its cut
-record CutsNow (st : State) : Type 0 where
-  agenda : Agenda
-  runs : st.course.agenda ≡ Some agenda
-  kind : agenda.kind ≡ Snapshot
-  at : IsAtCut agenda
-  log : IsSound agenda.log
-  of_set : Tied (Some agenda) st.course.members (in_progress st)
+pub record CutsNow (st : State) : Type 0 where
+  pub agenda : Agenda
+  pub runs : st.course.agenda ≡ Some agenda
+  pub kind : agenda.kind ≡ Snapshot
+  pub at : IsAtCut agenda
+  pub log : IsSound agenda.log
+  pub of_set : Tied (Some agenda) st.course.members (in_progress st)
 
 cuts_in : (o : Option Agenda) (st : State) → st.course.agenda ≡ o → is_cut_group (open_group (left o)) ≡ true → SoundLog o → Tied o st.course.members (in_progress st) → CutsNow st
 cuts_in None st e h l t = absurd cc
@@ -269,7 +298,7 @@ cuts_in (Some a) st e h l t =
     let Q : Kind → Type 0 = λ x. is_cut_group (open_group (left_from a (places x))) ≡ true in
     record { agenda = a; runs = e; kind = k; at = at_cut a (subst Q k h); log = l; of_set = t }
 
-cuts : (s : Plan) (acts : List Act) → is_cut_group (open_group (left_now (state s acts))) ≡ true → CutsNow (state s acts)
+pub cuts : (s : Plan) (acts : List Act) → is_cut_group (open_group (left_now (state s acts))) ≡ true → CutsNow (state s acts)
 cuts s acts h = cuts_in (state s acts).course.agenda (state s acts) refl h (sound s acts) (tied s acts)
 
 tied_to : (a : Agenda) (k : Kind) (ms : List Member) (o : Option SetRow) (r : SetRow) → k ≡ Snapshot → o ≡ Some r → IsOf k a.volumes a.members ms o → (a.volumes ≡ r.volumes) × (a.members ≡ ms)

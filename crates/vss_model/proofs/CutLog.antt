@@ -98,7 +98,7 @@ left_part : (a b : Bool) → a ≡ true → (a || b) ≡ true
 left_part true b e = refl
 left_part false b e = absurd cc
 
-cut_stays : (log new : List Entry) → is_cut_made log ≡ true → is_cut_made (log ++ new) ≡ true
+pub cut_stays : (log new : List Entry) → is_cut_made log ≡ true → is_cut_made (log ++ new) ≡ true
 cut_stays log new e =
     list_any-append (λ (x : Entry). same_place x.place (plain Cut) && (x.who == 0)) log new ∙ left_part (is_cut_made log) (is_cut_made new) e
 

@@ -20,7 +20,7 @@ use Rattle.set_agenda.specs.declared.kind.Kind.TheVariants.{Gather, Prepare, Sna
 use Rattle.set_agenda.specs.declared.limit.Limit.{Limit}
 use Rattle.set_agenda.specs.declared.limit.Limit.TheVariants.{Hold as HoldLimit, Freeze as FreezeLimit, Answer as AnswerLimit}
 use Rattle.set_agenda.specs.declared.member.Member.{Member}
-use Rattle.set_agenda.specs.Agenda.{Agenda, groups_left, left, all_say, is_done, is_snapshot, open_order, order_now, open_group, waits_now, next_member, has_said, has_frozen, has_thawed, plain, is_held as holds, is_frozen as freezes}
+use Rattle.set_agenda.specs.Agenda.{Agenda, groups_left, left, open_place, at_place, all_say, is_done, is_snapshot, open_order, order_now, open_group, waits_now, next_member, has_said, has_frozen, has_thawed, plain, is_held as holds, is_frozen as freezes}
 use Rattle.set_agenda.specs.Limits.{Running as RunningLimit, spent_of}
 use Rattle.set_agenda.specs.Course.{Course, posted, failed as course_failed, settled_if, settled_in, settled, begun, snapshot_begun, is_decisive, told, decided, answered_to, answered as course_answered, worked, stepped_as as course_stepped_as, stepped as course_stepped, limits_now, lost_to, lost, fails_set, lost_decided, treated_as, treated, timed as course_timed, released}
 use Rattle.requestor.specs.Session.{Session}
@@ -33,6 +33,7 @@ use Rattle.vss_model.specs.Steps.{answered, row_cut, cut_set, step_made, is_flus
 use Rattle.vss_model.specs.Acts.{Act, after, state}
 use Rattle.vss_model.specs.Laws.{IsKeptByChanges, IsKeptByWrites, RunsSnapshot}
 use Rattle.vss_model.proofs.Rule.{on_after}
+use Rattle.vss_model.proofs.CutLog.{is_cut_made, cut_stays}
 
 -- ## the fact
 
@@ -58,29 +59,31 @@ tied_none (Some a) ms r e = absurd cc
 -- ## what calls do to the agenda
 
 -- the agenda goes on, with the same kind, volumes, members, participants and outcome
-record IsSameAgenda (a b : Agenda) (ms ns : List Member) (o p : SetOutcome) : Type 0 where
-  kind : b.kind ≡ a.kind
-  volumes : b.volumes ≡ a.volumes
-  members : b.members ≡ a.members
-  participants : ns ≡ ms
-  outcome : p ≡ o
+pub record IsSameAgenda (a b : Agenda) (ms ns : List Member) (o p : SetOutcome) : Type 0 where
+  pub kind : b.kind ≡ a.kind
+  pub volumes : b.volumes ≡ a.volumes
+  pub members : b.members ≡ a.members
+  pub participants : ns ≡ ms
+  pub outcome : p ≡ o
+  -- what was said stays said
+  pub cut : is_cut_made a.log ≡ true → is_cut_made b.log ≡ true
 
 -- it stops, or it goes on
-abbrev Follows : Option Agenda → List Member → SetOutcome → Option Agenda → List Member → SetOutcome → Type 0
+abbrev pub Follows : Option Agenda → List Member → SetOutcome → Option Agenda → List Member → SetOutcome → Type 0
 Follows a ms o None ns p = Unit {0}
 Follows None ms o (Some b) ns p = ⊥
 Follows (Some a) ms o (Some b) ns p = IsSameAgenda a b ms ns o p
 
-abbrev GoesOn : Course → Course → Type 0
+abbrev pub GoesOn : Course → Course → Type 0
 GoesOn c d = Follows c.agenda c.members c.outcome d.agenda d.members d.outcome
 
 follows_same : (a : Option Agenda) (ms : List Member) (o : SetOutcome) → Follows a ms o a ms o
 follows_same None ms o = tt
-follows_same (Some a) ms o = record { kind = refl; volumes = refl; members = refl; participants = refl; outcome = refl }
+follows_same (Some a) ms o = record { kind = refl; volumes = refl; members = refl; participants = refl; outcome = refl; cut = λ e. e }
 
 follows_said : (said : Said) (now : ℕ) (ws : List ℕ) (a : Option Agenda) (ms : List Member) (o : SetOutcome) → Follows a ms o (option_map (all_say said now ws) a) ms o
 follows_said said now ws None ms o = tt
-follows_said said now ws (Some a) ms o = record { kind = refl; volumes = refl; members = refl; participants = refl; outcome = refl }
+follows_said said now ws (Some a) ms o = record { kind = refl; volumes = refl; members = refl; participants = refl; outcome = refl; cut = cut_stays a.log (map (at_place (open_place (groups_left a)) said now) ws) }
 
 goes_told : (o : Order) (said : Said) (now : ℕ) (ws : List ℕ) (c : Course) → GoesOn c (told o said now ws c)
 unfolding told
@@ -118,14 +121,14 @@ goes_answered_to : (o : Option Order) (w : ℕ) (said : Said) (now : ℕ) (c : C
 goes_answered_to None w said now c = follows_same c.agenda c.members c.outcome
 goes_answered_to (Some o) w said now c = goes_decided (is_decisive o && not (is_ok said)) said c (told o said now (w ∷ []) c) (goes_told o said now (w ∷ []) c)
 
-goes_answered : (w : ℕ) (said : Said) (now : ℕ) (c : Course) → GoesOn c (course_answered w said now c)
+pub goes_answered : (w : ℕ) (said : Said) (now : ℕ) (c : Course) → GoesOn c (course_answered w said now c)
 goes_answered w said now c = goes_posted c c _ (goes_answered_to (open_order (left c.agenda) w) w said now c)
 
 goes_stepped_as : (ok : Bool) (now : ℕ) (c : Course) → GoesOn c (course_stepped_as ok now c)
 goes_stepped_as true now c = goes_settled c (worked now c) (goes_worked now c)
 goes_stepped_as false now c = goes_failed _ c c
 
-goes_stepped : (ok : Bool) (now : ℕ) (c : Course) → GoesOn c (course_stepped ok now c)
+pub goes_stepped : (ok : Bool) (now : ℕ) (c : Course) → GoesOn c (course_stepped ok now c)
 goes_stepped ok now c = goes_posted c c _ (goes_stepped_as ok now c)
 
 goes_lost_to : (o : Option Order) (now : ℕ) (c : Course) → GoesOn c (lost_to o now c)
@@ -145,7 +148,7 @@ goes_treated : (l : Option RunningLimit) (now : ℕ) (c : Course) → GoesOn c (
 goes_treated None now c = follows_same c.agenda c.members c.outcome
 goes_treated (Some l) now c = goes_treated_as l.limit now c
 
-goes_timed : (now : ℕ) (c : Course) → GoesOn c (course_timed now c)
+pub goes_timed : (now : ℕ) (c : Course) → GoesOn c (course_timed now c)
 goes_timed now c = goes_posted c c _ (goes_treated (spent_of now (limits_now c)) now c)
 
 -- ## what follows

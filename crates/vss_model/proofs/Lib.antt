@@ -7,3 +7,5 @@ pub mod OrderlyActs
 pub mod Failures
 pub mod CutLog
 pub mod AtCut
+pub mod CutHistory
+pub mod OneCut

@@ -45,17 +45,17 @@ use Rattle.vss_model.proofs.Orderly.{IsSameRow, numbered-map, newest-map, find-m
 
 -- ## what calls do to the agenda and the outcome
 
-abbrev EndsIn : Kind → SetOutcome → SetOutcome → Type 0
+abbrev pub EndsIn : Kind → SetOutcome → SetOutcome → Type 0
 EndsIn k o p = (p ≡ outcome_after k o) ⊎ (has_failed p ≡ true)
 
 -- an agenda goes on with its kind and the outcome, or it ends; where none ran, nothing changes
-abbrev Moves : Option Agenda → SetOutcome → Option Agenda → SetOutcome → Type 0
+abbrev pub Moves : Option Agenda → SetOutcome → Option Agenda → SetOutcome → Type 0
 Moves None o None p = p ≡ o
 Moves None o (Some b) p = ⊥
 Moves (Some a) o None p = EndsIn a.kind o p
 Moves (Some a) o (Some b) p = (b.kind ≡ a.kind) × (p ≡ o)
 
-abbrev MovesOn : Course → Course → Type 0
+abbrev pub MovesOn : Course → Course → Type 0
 MovesOn c d = Moves c.agenda c.outcome d.agenda d.outcome
 
 moves_same : (a : Option Agenda) (o : SetOutcome) → Moves a o a o
@@ -115,7 +115,7 @@ moves_answered_at : (x : Option Agenda) (w : ℕ) (said : Said) (now : ℕ) (c :
 moves_answered_at None w said now c e = moves_same c.agenda c.outcome
 moves_answered_at (Some a) w said now c e = moves_answered_to (open_order (left (Some a)) w) w said now c a e
 
-moves_answered : (w : ℕ) (said : Said) (now : ℕ) (c : Course) → MovesOn c (course_answered w said now c)
+pub moves_answered : (w : ℕ) (said : Said) (now : ℕ) (c : Course) → MovesOn c (course_answered w said now c)
 moves_answered w said now c = moves_posted c c _ (moves_answered_at c.agenda w said now c refl)
 
 moves_stepped_as : (ok : Bool) (x : Option Agenda) (now : ℕ) (c : Course) → c.agenda ≡ x → is_working (left x) ≡ true → MovesOn c (course_stepped_as ok now c)
@@ -123,7 +123,7 @@ moves_stepped_as true x now c e w = moves_settled c (worked now c) (moves_worked
 moves_stepped_as false None now c e w = absurd cc
 moves_stepped_as false (Some a) now c e w = moves_failed _ c c a e
 
-moves_stepped : (ok : Bool) (now : ℕ) (c : Course) → is_working (left c.agenda) ≡ true → MovesOn c (course_stepped ok now c)
+pub moves_stepped : (ok : Bool) (now : ℕ) (c : Course) → is_working (left c.agenda) ≡ true → MovesOn c (course_stepped ok now c)
 moves_stepped ok now c w = moves_posted c c _ (moves_stepped_as ok c.agenda now c refl w)
 
 moves_lost_to : (o : Option Order) (now : ℕ) (c : Course) → MovesOn c (lost_to o now c)
@@ -147,7 +147,7 @@ moves_timed_at : (x : Option Agenda) (now : ℕ) (c : Course) → c.agenda ≡ x
 moves_timed_at None now c e = moves_same c.agenda c.outcome
 moves_timed_at (Some a) now c e = moves_treated (spent_of now (running_limits (freeze_limit c) (Some a))) now c a e
 
-moves_timed : (now : ℕ) (c : Course) → MovesOn c (course_timed now c)
+pub moves_timed : (now : ℕ) (c : Course) → MovesOn c (course_timed now c)
 moves_timed now c = moves_posted c c _ (moves_timed_at c.agenda now c refl)
 
 -- ## what follows
@@ -332,7 +332,7 @@ ends_well k c st q i e w f h = ends_at st.course.outcome k c st q refl i e w f h
 
 -- ## the course goes on to another
 
-ending_idle : (o p : SetOutcome) → p ≡ o → ending o p false None ≡ NothingEnds
+pub ending_idle : (o p : SetOutcome) → p ≡ o → ending o p false None ≡ NothingEnds
 ending_idle o p e = let Q : SetOutcome → Type 0 = λ x. ending o x false None ≡ NothingEnds in subst Q (sym e) (idle o)
   where
     idle : (x : SetOutcome) → ending x x false None ≡ NothingEnds
@@ -340,7 +340,7 @@ ending_idle o p e = let Q : SetOutcome → Type 0 = λ x. ending o x false None 
     idle CompleteSet = refl
     idle (FailedSet why) = refl
 
-ending_on : (o p : SetOutcome) (ran : Bool) (b : Agenda) → p ≡ o → ending o p ran (Some b) ≡ NothingEnds
+pub ending_on : (o p : SetOutcome) (ran : Bool) (b : Agenda) → p ≡ o → ending o p ran (Some b) ≡ NothingEnds
 ending_on o p ran b e = let Q : SetOutcome → Type 0 = λ x. ending o x ran (Some b) ≡ NothingEnds in subst Q (sym e) (on o ran)
   where
     on : (x : SetOutcome) (r : Bool) → ending x x r (Some b) ≡ NothingEnds
@@ -556,7 +556,7 @@ on_failed_in (Some r) why st e h =
     let Q : Option SetRow → Type 0 = λ x. IsOfSession st.session st.course.outcome x in
     fails_session st.session r why st refl e (subst Q e h.session) h
 
-none_after : (o : Option SetRow) (why : VssResult) (st : State) → in_progress st ≡ o → in_progress (failed_in o why st) ≡ None
+pub none_after : (o : Option SetRow) (why : VssResult) (st : State) → in_progress st ≡ o → in_progress (failed_in o why st) ≡ None
 unfolding course_failed
 none_after None why st e = e
 none_after (Some r) why st e = find-settled_over (FailedSet why) refl st.sets

@@ -1,6 +1,6 @@
 -- The rule of cases: a fact of the state that each named change keeps is kept by every act.
 use Rattle.std.proofs.Common.{◌≡◌, ℕ, List, Option, Some, None, refl, Bool, true, false, sym, subst}
-use Rattle.std.specs.Prelude.{◌&&◌, not, if◌then◌else◌, nat_lt}
+use Rattle.std.specs.Prelude.{map, is_some, ◌&&◌, not, if◌then◌else◌, nat_lt}
 use Rattle.vss_names.specs.declared.vss_result.VssResult.{VssResult}
 use Rattle.vss_names.specs.declared.vss_result.VssResult.TheVariants.{InsufficientStorage, AsyncCancelled}
 use Rattle.write_history.specs.declared.mark.Mark.{Mark}
@@ -22,12 +22,21 @@ use Rattle.scenario.specs.declared.op.Op.TheVariants.{WriteFill, WriteStamp, Rea
 use Rattle.scenario.specs.Plan.{Plan, token, acts_as}
 use Rattle.vss_model.specs.declared.event.Event.{Event}
 use Rattle.vss_model.specs.declared.event.Event.TheVariants.{Line, Answer as AnswerEvent, Provider, Idle}
-use Rattle.vss_model.specs.State.{State, SetRow, Kept, in_progress, is_held, kept_image, is_kept_set}
-use Rattle.vss_model.specs.Ending.{runs}
+use Rattle.vss_model.specs.State.{State, SetRow, Kept, in_progress, left_now, is_held, kept_image, is_kept_set}
+use Rattle.vss_model.specs.Cut.{is_provider}
+use Rattle.vss_model.specs.Steps.{answered, stepped, ticked}
+use Rattle.set_agenda.specs.Agenda.{is_working}
+use Rattle.set_agenda.specs.Course.{change_at}
+use Rattle.requestor.specs.Session.{makes_set}
+use Rattle.writer_state.specs.declared.said.Said.{Said}
+use Rattle.vss_names.specs.declared.context.Context.{Context}
+use Rattle.component_doc.specs.Selection.{Pair}
+use Rattle.write_history.specs.History.{dropped}
+use Rattle.vss_model.specs.Ending.{runs, failed}
 use Rattle.vss_model.specs.Images.{Replied, cleared, set_loses_image, with_room_if, put, write, image_block, image_blocks, properties, count_images, delete_set, delete_kept, delete_image, is_backup, is_in_set, revert_refusal, revert_to, revert}
-use Rattle.vss_model.specs.Sessions.{named_as, component_in, known_metas, add_refusal, add_to, add, await_last, line_in, session_line, judged}
+use Rattle.vss_model.specs.Sessions.{begin_in, disable, gather, prepare, snapshot, complete, start_set, change_set, with_volume, end_session, named_as, component_in, known_metas, add_refusal, add_to, add, await_last, line_in, session_line, judged}
 use Rattle.vss_model.specs.Lines.{called, line}
-use Rattle.vss_model.specs.Acts.{Act, is_free, line_enabled, enabled, happens, idle_now, after_if, after}
+use Rattle.vss_model.specs.Acts.{Act, order_of_writer, is_free, line_enabled, enabled, happens, idle_now, after_if, after}
 use Rattle.vss_model.specs.Laws.{IsKeptByChanges, IsKeptByWrites, LetsGo}
 use Rattle.vss_model.proofs.GoingOn.{Goes, other_goes}
 
@@ -40,7 +49,46 @@ in_no_set true in_set x y e = absurd cc
 in_no_set false true x y e = absurd cc
 in_no_set false false x y e = refl
 
-module _ (P : State → Type 0) (k : IsKeptByChanges P) where
+-- the changes but the provider's steps
+pub record IsKeptButSteps (P : State → Type 0) : Type 0 where
+  pub answers : (w : ℕ) (said : Said) (st : State) → is_some (order_of_writer st w) ≡ true → P st → P (answered w said st)
+  pub ticks : (n : ℕ) (st : State) → P st → P (ticked n st)
+  pub fails : (why : VssResult) (st : State) → P st → P (failed why st)
+  pub gathers : (s : Plan) (q : Session) (st : State) → LetsGo call.Gather q st → P st → P (gather s st).1
+  pub prepares : (s : Plan) (q : Session) (st : State) → LetsGo call.Prepare q st → P st → P (prepare s q st).1
+  pub snapshots : (q : Session) (st : State) → LetsGo call.Snapshot q st → P st → P (snapshot st).1
+  pub completes : (q : Session) (st : State) → LetsGo call.Complete q st → P st → P (complete st).1
+  pub clears : (s : Plan) (v b : ℕ) (st : State) → P st → P (cleared s v b st)
+  pub deletes_set : (n : ℕ) (st : State) → P st → P (record st { volumes = map (dropped n) st.volumes })
+  pub deletes_image : (n v : ℕ) (st : State) → P st → P (record st { volumes = change_at v (dropped n) st.volumes })
+  pub begins : (lane : ℕ) (all : Bool) (c : Option Context) (st : State) → st.session ≡ None → P st → P (begin_in lane all c st).1
+  pub names : (q : Session) (explicit : List Pair) (st : State) → LetsGo call.Component q st → P st → P (record st { explicit = explicit })
+  pub disables : (w : ℕ) (q : Session) (st : State) → LetsGo call.Disable q st → P st → P (disable w st).1
+  pub starts : (q : Session) (st : State) → LetsGo call.Start q st → makes_set q.stage ≡ false → P st → P (start_set q st).1
+  pub adds : (v : ℕ) (r : SetRow) (q : Session) (st : State) → LetsGo call.Add q st → in_progress st ≡ Some r → P st → P (change_set r.number (with_volume v) st)
+  pub ends : (q : Session) (st : State) → st.session ≡ Some q → P st → P (end_session q st).1
+
+pub but_steps : (P : State → Type 0) → IsKeptByChanges P → IsKeptButSteps P
+but_steps P k = record {
+  answers = k.answers;
+  ticks = k.ticks;
+  fails = k.fails;
+  gathers = k.gathers;
+  prepares = k.prepares;
+  snapshots = k.snapshots;
+  completes = k.completes;
+  clears = k.clears;
+  deletes_set = k.deletes_set;
+  deletes_image = k.deletes_image;
+  begins = k.begins;
+  names = k.names;
+  disables = k.disables;
+  starts = k.starts;
+  adds = k.adds;
+  ends = k.ends;
+}
+
+module _ (P : State → Type 0) (k : IsKeptButSteps P) where
   either_out : (b : Bool) (x y : Replied) → P x.1 → P y.1 → P (if b then x else y).1
   either_out true x y h i = h
   either_out false x y h i = i
@@ -170,16 +218,26 @@ module _ (P : State → Type 0) (k : IsKeptByChanges P) where
 
   -- ## every act
 
-  on_happens : (s : Plan) (event : Event) (mark : Mark) (st : State) → IsKeptByWrites P st → enabled s st event ≡ true → P st → P (happens s event mark st).1
-  on_happens s (Line lane op) mark st at e h = on_line s lane op mark st at e h
-  on_happens s (AnswerEvent w answer) mark st at e h = k.answers w (said_of answer) st e h
-  on_happens s Provider mark st at e h = k.steps mark st e h
-  on_happens s Idle mark st at e h = k.ticks (idle_now st) st h
+  on_happens : (s : Plan) (event : Event) (mark : Mark) (st : State) → IsKeptByWrites P st → enabled s st event ≡ true → (is_provider event ≡ true → P (stepped mark st)) → P st → P (happens s event mark st).1
+  on_happens s (Line lane op) mark st at e steps h = on_line s lane op mark st at e h
+  on_happens s (AnswerEvent w answer) mark st at e steps h = k.answers w (said_of answer) st e h
+  on_happens s Provider mark st at e steps h = steps refl
+  on_happens s Idle mark st at e steps h = k.ticks (idle_now st) st h
 
-  on_after_if : (b : Bool) (s : Plan) (st : State) (act : Act) → enabled s st act.event ≡ b → IsKeptByWrites P st → P st → P (after_if b s st act)
-  on_after_if true s st act e at h = on_happens s act.event act.mark st at e h
-  on_after_if false s st act e at h = h
+  on_after_if : (b : Bool) (s : Plan) (st : State) (act : Act) → enabled s st act.event ≡ b → IsKeptByWrites P st → (enabled s st act.event ≡ true → is_provider act.event ≡ true → P (stepped act.mark st)) → P st → P (after_if b s st act)
+  on_after_if true s st act e at steps h = on_happens s act.event act.mark st at e (steps e) h
+  on_after_if false s st act e at steps h = h
 
-  pub on_after : (s : Plan) (st : State) (act : Act) → IsKeptByWrites P st → P st → P (after s st act)
+  -- where the provider's step keeps it
+  pub on_after_steps : (s : Plan) (st : State) (act : Act) → IsKeptByWrites P st → (enabled s st act.event ≡ true → is_provider act.event ≡ true → P (stepped act.mark st)) → P st → P (after s st act)
   unfolding after
-  on_after s st act at h = on_after_if (enabled s st act.event) s st act refl at h
+  on_after_steps s st act at steps h = on_after_if (enabled s st act.event) s st act refl at steps h
+
+pub working_of : (s : Plan) (st : State) (event : Event) → enabled s st event ≡ true → is_provider event ≡ true → is_working (left_now st) ≡ true
+working_of s st (Line lane op) e f = absurd cc
+working_of s st (AnswerEvent w answer) e f = absurd cc
+working_of s st Provider e f = e
+working_of s st Idle e f = absurd cc
+
+pub on_after : (P : State → Type 0) (k : IsKeptByChanges P) (s : Plan) (st : State) (act : Act) → IsKeptByWrites P st → P st → P (after s st act)
+on_after P k s st act at h = on_after_steps P (but_steps P k) s st act at (λ e f. k.steps act.mark st (working_of s st act.event e f) h) h

@@ -1,6 +1,7 @@
 -- The cut of a set: the acts before its one Cut step. It is one prefix for all volumes of the set; the image of the set on
 -- a volume shows the volume at it, and the participants of the set are those of the course there. (This project's own.)
-use Rattle.std.specs.Prelude.{ℕ, Bool, true, false, List, [], ◌∷◌, ◌++◌, length, ◌==◌, ◌&&◌, Option, Some, None, option_map}
+use Rattle.std.specs.Prelude.{ℕ, ◌≡◌, take, Bool, true, false, List, [], ◌∷◌, ◌++◌, length, ◌==◌, ◌&&◌, Option, Some, None, option_map}
+use Rattle.write_history.specs.History.{Write}
 use Rattle.set_agenda.specs.declared.group.Group.{Group}
 use Rattle.set_agenda.specs.declared.group.Group.TheVariants.{Orders, PreCommit, Flush, Hold, Cut, Commit, Release, PostCommit}
 use Rattle.set_agenda.specs.Agenda.{open_group}
@@ -51,3 +52,14 @@ cut s n acts = cut_from s n [] (start s) acts
 -- how many effective writes a volume had at the cut of set n
 abbrev pub point : Plan → ℕ → ℕ → List Act → Option ℕ
 point s n v acts = option_map (λ before. length (history_of (state s before) v).writes) (cut s n acts)
+
+-- an image of volume v with this point shows the volume as it was at the cut of its set: the point is the number of
+-- effective writes there, and the effective writes since then begin with those
+abbrev pub IsShownAt : Plan → ℕ → ℕ → List Write → Option (List Act) → Type 0
+IsShownAt s v p writes None = ⊥
+IsShownAt s v p writes (Some before) = (length (history_of (state s before) v).writes ≡ p) × (take p writes ≡ (history_of (state s before) v).writes)
+
+-- after these acts the Cut step of set n is the next one
+pub record IsCutAt (s : Plan) (n : ℕ) (before : List Act) : Type 0 where
+  pub step : is_cut_group (open_group (left_now (state s before))) ≡ true
+  pub set : is_set n (in_progress (state s before)) ≡ true

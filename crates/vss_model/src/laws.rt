@@ -8,7 +8,7 @@ ghost use Rattle.write_history.specs.Slots.{Placed, copies};
 ghost use Rattle.set_agenda.specs.Agenda.{open_group, is_among};
 ghost use Rattle.set_agenda.specs.Course.{is_member};
 ghost use Rattle.vss_model.specs.State.{State, SetRow, in_progress, row_of, history_of, left_now, is_held, is_frozen};
-ghost use Rattle.vss_model.specs.Cut.{is_cut_group};
+ghost use Rattle.vss_model.specs.Cut.{cut, is_cut_group, IsShownAt, IsCutAt};
 ghost use Rattle.vss_model.specs.Facts.{IsOrderly, has_failed, holds_for};
 ghost use Rattle.vss_model.specs.Acts.{Act, after, state};
 ghost use Rattle.vss_model.specs.Trail.{run, moved, acts, acts_if, event_of, is_legal, is_legal_move, faults};
@@ -52,6 +52,15 @@ pub fn all_stand_still_at_the_cut()
         → in_progress (state s acts) ≡ Some r → is_among v r.volumes ≡ true → is_held (state s acts) v ≡ true }
     ensures frozen { (s : Plan) (acts : List Act) (r : SetRow) (w : ℕ) → is_cut_group (open_group (left_now (state s acts))) ≡ true
         → in_progress (state s acts) ≡ Some r → is_member (state s acts).course.members w ≡ true → is_frozen (state s acts) w ≡ true }
+{}
+
+/// An image shows its volume as it was at its set's cut, which is one part of the acts for all volumes of the set: its
+/// point is the number of effective writes there, and since then the writes begin with those. There the set's Cut step
+/// was the next one, so all stood still.
+pub fn image_shows_the_cut()
+    ensures image { (s : Plan) (acts : List Act) (n v p : ℕ) → point_in n (history_of (state s acts) v).images ≡ Some p
+        → IsShownAt s v p (history_of (state s acts) v).writes (cut s n acts) }
+    ensures cut { (s : Plan) (n : ℕ) (acts before : List Act) → cut s n acts ≡ Some before → IsCutAt s n before }
 {}
 
 /// Sets are numbered from 1 on and at most the newest is in progress, as the session's stage says; a running agenda is

@@ -1,0 +1,280 @@
+-- What the images of a volume show: each a beginning of its effective writes, namely those at its set's cut.
+use Rattle.std.proofs.Common.{◌≡◌, ℕ, ◌+◌, ◌-◌, ◌==◌, ◌<◌, ◌≤◌, zero, suc, List, [], ◌∷◌, ◌++◌, Option, Some, None, refl, Bool, true, false, map, filter, length, take, ap, sym, ◌∙◌, subst, arith}
+use Rattle.std.specs.Prelude.{not, if◌then◌else◌, nat_lt, slice_get}
+use Rattle.std.proofs.lemmas.List.{append_assoc}
+use Rattle.std.proofs.Math.Seq.{take-append-add}
+use Rattle.write_history.specs.History.{Write, Image, History, point_in, up_to_set, after_set, dropped, written, reverted, reverted_in_part, cut}
+use Rattle.write_history.specs.Slots.{Placed, gone_up_to}
+use Rattle.set_agenda.specs.Course.{change_at}
+use Rattle.vss_model.specs.State.{history_in}
+
+-- the volumes as they were at the cut of each set that was cut
+abbrev pub Known : Type 0
+Known = ℕ → Option (List History)
+
+abbrev pub writes_at : List History → ℕ → List Write
+writes_at hs v = (history_in (slice_get hs v)).writes
+
+pub record Begins (first ws : List Write) : Type 0 where
+  pub rest : List Write
+  pub is : ws ≡ first ++ rest
+
+-- an image of volume v: its set was cut, and the writes begin with those at the cut, as many as its point says
+abbrev pub ShownIn : Option (List History) → ℕ → ℕ → List Write → Type 0
+ShownIn None v point ws = ⊥
+ShownIn (Some hs) v point ws = (length (writes_at hs v) ≡ point) × Begins (writes_at hs v) ws
+
+-- the images after one have later sets, and points that are no less
+abbrev pub Above : Image → List Image → Type 0
+Above i [] = Unit {0}
+Above i (j ∷ js) = (i.set < j.set) × (i.point ≤ j.point) × Above i js
+
+abbrev pub Shown : Known → ℕ → List Write → List Image → Type 0
+Shown k v ws [] = Unit {0}
+Shown k v ws (i ∷ images) = ShownIn (k i.set) v i.point ws × Above i images × Shown k v ws images
+
+abbrev pub IsShown : Known → ℕ → History → Type 0
+IsShown k v h = Shown k v h.writes h.images
+
+abbrev pub AllShown : Known → ℕ → List History → Type 0
+AllShown k v [] = Unit {0}
+AllShown k v (h ∷ hs) = IsShown k v h × AllShown k (v + 1) hs
+
+-- ## fewer images
+
+above_if : (b : Bool) (i j : Image) (js : List Image) → i.set < j.set → i.point ≤ j.point → Above i js → Above i (if b then j ∷ js else js)
+above_if true i j js e f h = (e, f, h)
+above_if false i j js e f h = h
+
+above-filter : (test : Image → Bool) (i : Image) (js : List Image) → Above i js → Above i (filter test js)
+above-filter test i [] h = tt
+above-filter test i (j ∷ js) h = above_if (test j) i j (filter test js) h.0 h.1 (above-filter test i js h.2)
+
+shown_if : (b : Bool) (k : Known) (v : ℕ) (ws : List Write) (i : Image) (images : List Image) → (b ≡ true → ShownIn (k i.set) v i.point ws) → Above i images → Shown k v ws images → Shown k v ws (if b then i ∷ images else images)
+shown_if true k v ws i images e f h = (e refl, f, h)
+shown_if false k v ws i images e f h = h
+
+pub shown-filter : (test : Image → Bool) (k : Known) (v : ℕ) (ws : List Write) (images : List Image) → Shown k v ws images → Shown k v ws (filter test images)
+shown-filter test k v ws [] h = tt
+shown-filter test k v ws (i ∷ images) h = shown_if (test i) k v ws i (filter test images) (λ e. h.0) (above-filter test i images h.1) (shown-filter test k v ws images h.2)
+
+-- ## more writes
+
+begins-append : (first ws more : List Write) → Begins first ws → Begins first (ws ++ more)
+begins-append first ws more h = record { rest = h.rest ++ more; is = ap (λ x. x ++ more) h.is ∙ append_assoc first h.rest more }
+
+in-append : (o : Option (List History)) (v point : ℕ) (ws more : List Write) → ShownIn o v point ws → ShownIn o v point (ws ++ more)
+in-append None v point ws more h = absurd h
+in-append (Some hs) v point ws more h = (h.0, begins-append (writes_at hs v) ws more h.1)
+
+pub shown-writes : (k : Known) (v : ℕ) (ws more : List Write) (images : List Image) → Shown k v ws images → Shown k v (ws ++ more) images
+shown-writes k v ws more [] h = tt
+shown-writes k v ws more (i ∷ images) h = (in-append (k i.set) v i.point ws more h.0, h.1, shown-writes k v ws more images h.2)
+
+-- ## back to a point
+
+begins-take : (first ws : List Write) (n : ℕ) → length first ≤ n → Begins first ws → Begins first (take n ws)
+begins-take first ws n l h = record {
+  rest = take (n - length first) h.rest;
+  is = ap (take n) h.is
+      ∙ ap (λ m. take m (first ++ h.rest)) (split (length first) n l)
+      ∙ take-append-add first h.rest (n - length first);
+}
+  where
+    split : (a b : ℕ) → a ≤ b → b ≡ a + (b - a)
+    split a b l = omega arith
+
+in-take : (o : Option (List History)) (v point n : ℕ) (ws : List Write) → point ≤ n → ShownIn o v point ws → ShownIn o v point (take n ws)
+in-take None v point n ws l h = absurd h
+in-take (Some hs) v point n ws l h = (h.0, begins-take (writes_at hs v) ws n (along (length (writes_at hs v)) point n h.0 l) h.1)
+  where
+    along : (a b n : ℕ) → a ≡ b → b ≤ n → a ≤ n
+    along a b n e l = rw e l
+
+-- an image that is kept by a revert has no greater point
+abbrev Within : ℕ → ℕ → List Image → Type 0
+Within n p [] = Unit {0}
+Within n p (i ∷ images) = (nat_lt n i.set ≡ false → i.point ≤ p) × Within n p images
+
+above_point_if : (b : Bool) (i j : Image) (n p : ℕ) (js : List Image) → i.point ≤ j.point → (if b then Some j.point else point_in n js) ≡ Some p → (point_in n js ≡ Some p → i.point ≤ p) → i.point ≤ p
+above_point_if true i j n p js l e ih = let same : j.point ≡ p = cc in subst (λ x. i.point ≤ x) same l
+above_point_if false i j n p js l e ih = ih e
+
+above_point : (i : Image) (n p : ℕ) (js : List Image) → Above i js → point_in n js ≡ Some p → i.point ≤ p
+above_point i n p [] h e = absurd cc
+above_point i n p (j ∷ js) h e = above_point_if (j.set == n) i j n p js h.1 e (above_point i n p js h.2)
+
+later_within : (i : Image) (n p : ℕ) (js : List Image) → i.set ≡ n → Above i js → Within n p js
+later_within i n p [] e h = tt
+later_within i n p (j ∷ js) e h = ((λ f. absurd (past i.set n j.set e h.0 f)), later_within i n p js e h.2)
+  where
+    past : (a n b : ℕ) → a ≡ n → a < b → nat_lt n b ≡ false → ⊥
+    past a n b e l f = grind arith
+
+within_if : (b : Bool) (i : Image) (n p : ℕ) (images : List Image) → (i.set == n) ≡ b → (if b then Some i.point else point_in n images) ≡ Some p → Above i images → (point_in n images ≡ Some p → Within n p images) → Within n p (i ∷ images)
+within_if true i n p images e f h ih =
+    let same : i.point ≡ p = cc in
+    ((λ g. subst (λ x. i.point ≤ x) same (own i.point)), later_within i n p images (equal i.set n e) h)
+  where
+    own : (a : ℕ) → a ≤ a
+    own a = omega arith
+
+    equal : (a b : ℕ) → (a == b) ≡ true → a ≡ b
+    equal a b e = grind arith
+within_if false i n p images e f h ih = ((λ g. above_point i n p images h f), ih f)
+
+within : (k : Known) (v : ℕ) (ws : List Write) (n p : ℕ) (images : List Image) → Shown k v ws images → point_in n images ≡ Some p → Within n p images
+within k v ws n p [] h e = absurd cc
+within k v ws n p (i ∷ images) h e = within_if (i.set == n) i n p images refl e h.1 (within k v ws n p images h.2)
+
+back : (k : Known) (v : ℕ) (ws : List Write) (n p : ℕ) (images : List Image) → Shown k v ws images → Within n p images → Shown k v (take p ws) (up_to_set n images)
+back k v ws n p [] h l = tt
+back k v ws n p (i ∷ images) h l =
+    shown_if (not (nat_lt n i.set)) k v (take p ws) i (up_to_set n images)
+    (λ e. in-take (k i.set) v i.point p ws (l.0 (not_true (nat_lt n i.set) e)) h.0)
+    (above-filter (λ x. not (nat_lt n x.set)) i images h.1)
+    (back k v ws n p images h.2 l.1)
+  where
+    not_true : (b : Bool) → not b ≡ true → b ≡ false
+    not_true true e = absurd cc
+    not_true false e = refl
+
+pub shown-reverted : (k : Known) (v n p : ℕ) (h : History) → point_in n h.images ≡ Some p → IsShown k v h → IsShown k v (reverted n p h)
+shown-reverted k v n p h e shown = back k v h.writes n p h.images shown (within k v h.writes n p h.images shown e)
+
+pub shown-reverted_in_part : (blocks : ℕ) (k : Known) (v n p m : ℕ) (h : History) → IsShown k v h → IsShown k v (reverted_in_part blocks n p m h)
+shown-reverted_in_part blocks k v n p m h shown = shown-filter (λ i. not (nat_lt n i.set)) k v _ h.images (shown-writes k v h.writes _ h.images shown)
+
+-- ## all volumes
+
+pub all-map : (k : Known) (f : History → History) → ((v : ℕ) (h : History) → IsShown k v h → IsShown k v (f h)) → (v : ℕ) (hs : List History) → AllShown k v hs → AllShown k v (map f hs)
+all-map k f keeps v [] h = tt
+all-map k f keeps v (x ∷ hs) h = (keeps v x h.0, all-map k f keeps (v + 1) hs h.1)
+
+-- at the volume at a place
+pub all-change_at : (k : Known) (f : History → History) (at : ℕ) (v : ℕ) (hs : List History) → ((u : ℕ) (h : History) → slice_get hs at ≡ Some h → IsShown k u h → IsShown k u (f h)) → AllShown k v hs → AllShown k v (change_at at f hs)
+all-change_at k f at v [] keeps h = tt
+all-change_at k f zero v (x ∷ hs) keeps h = (keeps v x refl h.0, h.1)
+all-change_at k f (suc at) v (x ∷ hs) keeps h = (h.0, all-change_at k f at (v + 1) hs (λ u y e g. keeps u y e g) h.1)
+
+gone_if : (b : Bool) (k : Known) (v m : ℕ) (h : History) → IsShown k v h → IsShown k v (if b then record { writes = h.writes; images = after_set m h.images } else h)
+gone_if true k v m h shown = shown-filter (λ i. nat_lt m i.set) k v h.writes h.images shown
+gone_if false k v m h shown = shown
+
+pub all-gone : (k : Known) (m : ℕ) (ps : List Placed) (v : ℕ) (hs : List History) → AllShown k v hs → AllShown k v (gone_up_to m ps hs)
+all-gone k m [] v hs h = h
+all-gone k m (p ∷ ps) v [] h = tt
+all-gone k m (p ∷ ps) v (x ∷ hs) h = (gone_if p.within k v m x h.0, all-gone k m ps (v + 1) hs h.1)
+
+pub shown-dropped : (n : ℕ) (k : Known) (v : ℕ) (h : History) → IsShown k v h → IsShown k v (dropped n h)
+shown-dropped n k v h shown = shown-filter (λ i. not (i.set == n)) k v h.writes h.images shown
+
+pub shown-written : (w : Write) (k : Known) (v : ℕ) (h : History) → IsShown k v h → IsShown k v (written w h)
+shown-written w k v h shown = shown-writes k v h.writes (w ∷ []) h.images shown
+
+-- ## the same that is known
+
+along_known : (o p : Option (List History)) (v point : ℕ) (ws : List Write) → o ≡ p → ShownIn o v point ws → ShownIn p v point ws
+along_known o p v point ws e h = subst (λ x. ShownIn x v point ws) e h
+
+shown_along : (k l : Known) (v : ℕ) (ws : List Write) (images : List Image) → ((n : ℕ) (hs : List History) → k n ≡ Some hs → l n ≡ Some hs) → Shown k v ws images → Shown l v ws images
+shown_along k l v ws [] same h = tt
+shown_along k l v ws (i ∷ images) same h = (in_along (k i.set) refl h.0, h.1, shown_along k l v ws images same h.2)
+  where
+    in_along : (o : Option (List History)) → k i.set ≡ o → ShownIn o v i.point ws → ShownIn (l i.set) v i.point ws
+    in_along None e g = absurd g
+    in_along (Some hs) e g = along_known (Some hs) (l i.set) v i.point ws (sym (same i.set hs e)) g
+
+-- more may be known
+pub all_along : (k l : Known) → ((n : ℕ) (hs : List History) → k n ≡ Some hs → l n ≡ Some hs) → (v : ℕ) (hs : List History) → AllShown k v hs → AllShown l v hs
+all_along k l same v [] h = tt
+all_along k l same v (x ∷ hs) h = (shown_along k l v x.writes x.images same h.0, all_along k l same (v + 1) hs h.1)
+
+-- ## a new image
+
+-- all of these have an earlier set, and a point that is no greater
+abbrev Below : List Image → ℕ → ℕ → Type 0
+Below [] n p = Unit {0}
+Below (i ∷ images) n p = (i.set < n) × (i.point ≤ p) × Below images n p
+
+above-append : (i j : Image) (js : List Image) → Above i js → i.set < j.set → i.point ≤ j.point → Above i (js ++ j ∷ [])
+above-append i j [] h e f = (e, f, tt)
+above-append i j (x ∷ js) h e f = (h.0, h.1, above-append i j js h.2 e f)
+
+shown-append : (k : Known) (v : ℕ) (ws : List Write) (images : List Image) (j : Image) → Shown k v ws images → Below images j.set j.point → ShownIn (k j.set) v j.point ws → Shown k v ws (images ++ j ∷ [])
+shown-append k v ws [] j h b e = (e, tt, tt)
+shown-append k v ws (i ∷ images) j h b e = (h.0, above-append i j images h.1 b.0 b.1, shown-append k v ws images j h.2 b.2 e)
+
+-- what is not known from n on was cut before n
+below : (k : Known) (v : ℕ) (ws : List Write) (n : ℕ) (images : List Image) → ((m : ℕ) → n ≤ m → k m ≡ None) → Shown k v ws images → Below images n (length ws)
+below k v ws n [] none h = tt
+below k v ws n (i ∷ images) none h = (earlier (nat_lt i.set n) refl (k i.set) refl h.0, no_greater (k i.set) h.0, below k v ws n images none h.2)
+  where
+    earlier : (b : Bool) → nat_lt i.set n ≡ b → (o : Option (List History)) → k i.set ≡ o → ShownIn o v i.point ws → i.set < n
+    earlier true e o f g = less i.set n e
+      where
+        less : (a b : ℕ) → nat_lt a b ≡ true → a < b
+        less a b e = grind arith
+    earlier false e None f g = absurd g
+    earlier false e (Some hs) f g = absurd (clash (k i.set) hs (none i.set (least i.set n e)) f)
+      where
+        least : (a b : ℕ) → nat_lt a b ≡ false → b ≤ a
+        least a b e = grind arith
+
+        clash : (o : Option (List History)) (hs : List History) → o ≡ None → o ≡ Some hs → ⊥
+        clash None hs e f = cc
+        clash (Some x) hs e f = cc
+
+    no_greater : (o : Option (List History)) → ShownIn o v i.point ws → i.point ≤ length ws
+    no_greater None g = absurd g
+    no_greater (Some hs) g = rw (sym g.0) (rw g.1.is (part (writes_at hs v) g.1.rest))
+      where
+        part : (xs ys : List Write) → length xs ≤ length (xs ++ ys)
+        part [] ys = omega arith
+        part (x ∷ xs) ys = step (length xs) (length (xs ++ ys)) (part xs ys)
+          where
+            step : (a b : ℕ) → a ≤ b → suc a ≤ suc b
+            step a b l = omega arith
+
+append_none : (ws : List Write) → ws ≡ ws ++ []
+append_none [] = refl
+append_none (w ∷ ws) = ap (λ x. w ∷ x) (append_none ws)
+
+pub shown-cut : (k : Known) (v n : ℕ) (hs : List History) (h : History) → k n ≡ Some hs → writes_at hs v ≡ h.writes → Below h.images n (length h.writes) → IsShown k v h → IsShown k v (cut n h)
+shown-cut k v n hs h e f b shown =
+    shown-append k v h.writes h.images (record { set = n; point = length h.writes }) shown b
+    (along_known (Some hs) (k n) v (length h.writes) h.writes (sym e) (ap length f, record { rest = []; is = append_none h.writes ∙ ap (λ x. x ++ []) (sym f) }))
+
+pub below-known : (k : Known) (v n : ℕ) (h : History) → ((m : ℕ) → n ≤ m → k m ≡ None) → IsShown k v h → Below h.images n (length h.writes)
+below-known k v n h none shown = below k v h.writes n h.images none shown
+
+-- ## the image of a set
+
+point_if : (b : Bool) (k : Known) (v n p : ℕ) (ws : List Write) (i : Image) (images : List Image) → (i.set == n) ≡ b → (if b then Some i.point else point_in n images) ≡ Some p → ShownIn (k i.set) v i.point ws → (point_in n images ≡ Some p → ShownIn (k n) v p ws) → ShownIn (k n) v p ws
+point_if true k v n p ws i images e f h ih =
+    let point : i.point ≡ p = cc in
+    let set : i.set ≡ n = equal i.set n e in
+    subst (λ x. ShownIn (k n) v x ws) point (subst (λ x. ShownIn (k x) v i.point ws) set h)
+  where
+    equal : (a b : ℕ) → (a == b) ≡ true → a ≡ b
+    equal a b e = grind arith
+point_if false k v n p ws i images e f h ih = ih f
+
+point_shown : (k : Known) (v n p : ℕ) (ws : List Write) (images : List Image) → point_in n images ≡ Some p → Shown k v ws images → ShownIn (k n) v p ws
+point_shown k v n p ws [] e h = absurd cc
+point_shown k v n p ws (i ∷ images) e h = point_if (i.set == n) k v n p ws i images refl e h.0 (λ f. point_shown k v n p ws images f h.2)
+
+pub shown_at : (k : Known) (base v u n p : ℕ) (hs : List History) → u ≡ base + v → AllShown k base hs → point_in n (history_in (slice_get hs v)).images ≡ Some p → ShownIn (k n) u p (history_in (slice_get hs v)).writes
+shown_at k base v u n p [] e h f = absurd (nothing v f)
+  where
+    nothing : (v : ℕ) → point_in n (history_in (slice_get [] v)).images ≡ Some p → ⊥
+    nothing zero f = cc
+    nothing (suc v) f = cc
+shown_at k base zero u n p (x ∷ hs) e h f = subst (λ y. ShownIn (k n) y p x.writes) (rw e (zero_more base)) (point_shown k base n p x.writes x.images f h.0)
+  where
+    zero_more : (a : ℕ) → a ≡ a + zero
+    zero_more a = omega arith
+shown_at k base (suc v) u n p (x ∷ hs) e h f = shown_at k (base + 1) v u n p hs (rw e (one_more base v)) h.1 f
+  where
+    one_more : (a b : ℕ) → a + suc b ≡ (a + 1) + b
+    one_more a b = omega arith
