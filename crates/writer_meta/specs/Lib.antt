@@ -1,1 +1,6 @@
+pub mod Allowed
+pub mod Document
 pub mod Metadata
+pub mod Refusal
+pub mod Values
+pub mod Written

@@ -1,0 +1,139 @@
+-- What a document says is allowed.
+use Rattle.std.proofs.Common.{◌≡◌, ℕ, ◌+◌, ◌≤◌, ◌&&◌, List, [], ◌∷◌, length, Bool, true, false, Option, Some, None, Result, Ok, Err, ok_or, codes, nat_le, if◌then◌else◌, refl, sym, subst, arith}
+use Rattle.std.proofs.lemmas.Bool.Decides.{nat_tests}
+use Rattle.std.specs.List.{list_all}
+use Rattle.serde_json.specs.Data.{Data, null, boolean, number, string, array, object, Num, unsigned, negative, float, Items, no_items, item, Members}
+use Rattle.serde_json.specs.Find.{get, as_object}
+use Rattle.writer_meta.specs.declared.field.Field.{Field}
+use Rattle.writer_meta.specs.declared.field.Field.TheVariants as field
+use Rattle.writer_meta.specs.Metadata.{Part}
+use Rattle.writer_meta.specs.Refusal.{Refusal}
+use Rattle.writer_meta.specs.Values.{is_writer_name, is_component_name, is_path, is_freeze_timeout, some_if, string_value, freeze_timeout_value, name_value, path_value, component_name_value}
+use Rattle.writer_meta.specs.Document.{then_on, value_at, required, optional, name_in, freeze_timeout_in, path_in, component_name_in, kind_in, selectable_in, rows_of_part, part_of_members, part_in, parts_in, count_of, double_after, unless_double, unless_unknown, list_of_parts}
+use Rattle.writer_meta.specs.Allowed.{is_allowed_part}
+
+both : (a b : Bool) → a ≡ true → b ≡ true → (a && b) ≡ true
+both a b x y = rw (x, y) refl
+
+same_value : {A : Type 0} (x y : A) → ◌≡◌ {A = Result A Refusal} (Ok x) (Ok y) → x ≡ y
+same_value x y e = cc
+
+some_if-passes : {A : Type 0} (passes : A → Bool) (b : Bool) (x y : A) → b ≡ passes x → some_if b x ≡ Some y → passes y ≡ true
+some_if-passes passes true x y is e = let same : x ≡ y = cc in subst (λ z. passes z ≡ true) same (sym is)
+some_if-passes passes false x y is e = absurd (cc)
+
+string_value-passes : (passes : List ℕ → Bool) (d : Data) (text : List ℕ) → string_value passes d ≡ Some text → passes text ≡ true
+string_value-passes passes null text e = absurd (cc)
+string_value-passes passes (boolean b) text e = absurd (cc)
+string_value-passes passes (number n) text e = absurd (cc)
+string_value-passes passes (string s) text e = some_if-passes passes (passes s) s text refl e
+string_value-passes passes (array ds) text e = absurd (cc)
+string_value-passes passes (object ms) text e = absurd (cc)
+
+number-passes : (n : Num) (ticks : ℕ) → freeze_timeout_value (number n) ≡ Some ticks → is_freeze_timeout ticks ≡ true
+number-passes (unsigned t) ticks e = some_if-passes is_freeze_timeout (is_freeze_timeout t) t ticks refl e
+number-passes (negative z) ticks e = absurd (cc)
+number-passes (float x) ticks e = absurd (cc)
+
+freeze_timeout_value-passes : (d : Data) (ticks : ℕ) → freeze_timeout_value d ≡ Some ticks → is_freeze_timeout ticks ≡ true
+freeze_timeout_value-passes null ticks e = absurd (cc)
+freeze_timeout_value-passes (boolean b) ticks e = absurd (cc)
+freeze_timeout_value-passes (number n) ticks e = number-passes n ticks e
+freeze_timeout_value-passes (string s) ticks e = absurd (cc)
+freeze_timeout_value-passes (array ds) ticks e = absurd (cc)
+freeze_timeout_value-passes (object ms) ticks e = absurd (cc)
+
+from_ok_or : {A : Type 0} (found : Option A) (refusal : Refusal) (x : A) → ok_or found refusal ≡ Ok x → found ≡ Some x
+from_ok_or None refusal x e = absurd (cc)
+from_ok_or (Some y) refusal x e = cc
+
+then_on-Ok : {A B : Type 0} (said : Result A Refusal) (more : A → Result B Refusal) (y : B) → then_on said more ≡ Ok y → (x : A) × (said ≡ Ok x) × (more x ≡ Ok y)
+then_on-Ok (Ok x) more y e = (x, refl, e)
+then_on-Ok (Err refusal) more y e = absurd (cc)
+
+required-Ok : {A : Type 0} (value : Data → Option A) (place : Field) (d : Data) (x : A) → required value place d ≡ Ok x → (v : Data) × (value v ≡ Some x)
+required-Ok value place d x e =
+    let found = then_on-Ok _ (value_at value place) x e in
+    (found.0, from_ok_or (value found.0) _ x found.2)
+
+optional-Ok : {A : Type 0} (default : A) (value : Data → Option A) (place : Field) (passes : A → Bool) (found : Option Data) (x : A) → passes default ≡ true
+    → ((v : Data) (y : A) → value v ≡ Some y → passes y ≡ true) → optional default value place found ≡ Ok x → passes x ≡ true
+optional-Ok default value place passes None x usual good e = subst (λ z. passes z ≡ true) (same_value default x e) usual
+optional-Ok default value place passes (Some v) x usual good e = good v x (from_ok_or (value v) _ x e)
+
+pub name_in-allowed : (d : Data) (name : List ℕ) → name_in d ≡ Ok name → is_writer_name name ≡ true
+unfolding name_in
+name_in-allowed d name e =
+    let found = required-Ok name_value field.Name d name e in
+    string_value-passes is_writer_name found.0 name found.1
+
+pub freeze_timeout_in-allowed : (d : Data) (ticks : ℕ) → freeze_timeout_in d ≡ Ok ticks → is_freeze_timeout ticks ≡ true
+unfolding freeze_timeout_in
+freeze_timeout_in-allowed d ticks e = optional-Ok 60000 freeze_timeout_value field.FreezeTimeout is_freeze_timeout (get (codes "freeze_timeout") d) ticks refl freeze_timeout_value-passes e
+
+path_in-allowed : (d : Data) (path : List ℕ) → path_in d ≡ Ok path → is_path path ≡ true
+unfolding path_in
+path_in-allowed d path e = optional-Ok [] path_value field.Path is_path (get (codes "path") d) path refl (string_value-passes is_path) e
+
+component_name_in-allowed : (d : Data) (name : List ℕ) → component_name_in d ≡ Ok name → is_component_name name ≡ true
+unfolding component_name_in
+component_name_in-allowed d name e =
+    let found = required-Ok component_name_value field.Name d name e in
+    string_value-passes is_component_name found.0 name found.1
+
+rows_of_part-allowed : (d : Data) (part : Part) → rows_of_part d ≡ Ok part → is_allowed_part part ≡ true
+unfolding rows_of_part
+rows_of_part-allowed d part e =
+    let kind = then_on-Ok (kind_in d) _ part e in
+    let path = then_on-Ok (path_in d) _ part kind.2 in
+    let name = then_on-Ok (component_name_in d) _ part path.2 in
+    let selectable = then_on-Ok (selectable_in d) _ part name.2 in
+    subst (λ p. is_allowed_part p ≡ true) (same_value _ part selectable.2)
+    (both _ _ (path_in-allowed d path.0 path.1) (component_name_in-allowed d name.0 name.1))
+
+from_unless_unknown : {A : Type 0} (unknown : Option (List ℕ)) (said : Result A Refusal) (x : A) → unless_unknown unknown said ≡ Ok x → said ≡ Ok x
+from_unless_unknown None said x e = e
+from_unless_unknown (Some name) said x e = absurd (cc)
+
+part_of_members-allowed : (d : Data) (members : Option Members) (part : Part) → part_of_members d members ≡ Ok part → is_allowed_part part ≡ true
+part_of_members-allowed d None part e = absurd (cc)
+part_of_members-allowed d (Some ms) part e = rows_of_part-allowed d part (from_unless_unknown _ _ part e)
+
+part_in-allowed : (d : Data) (part : Part) → part_in d ≡ Ok part → is_allowed_part part ≡ true
+unfolding part_in
+part_in-allowed d part e = part_of_members-allowed d (as_object d) part e
+
+parts_in-allowed : (items : Items) (parts : List Part) → parts_in items ≡ Ok parts → (list_all is_allowed_part parts ≡ true) × (length parts ≡ count_of items)
+unfolding parts_in
+parts_in-allowed no_items parts e =
+    let none : [] ≡ parts = same_value [] parts e in
+    subst (λ ps. (list_all is_allowed_part ps ≡ true) × (length ps ≡ 0)) none (refl, refl)
+parts_in-allowed (item d more) parts e =
+    let part = then_on-Ok (part_in d) _ parts e in
+    let others = then_on-Ok (parts_in more) _ parts part.2 in
+    let rest = parts_in-allowed more others.0 others.1 in
+    subst (λ ps. (list_all is_allowed_part ps ≡ true) × (length ps ≡ count_of more + 1)) (same_value (part.0 ∷ others.0) parts others.2)
+    (both _ _ (part_in-allowed d part.0 part.1) rest.0, omega (arith, rest.1))
+
+from_unless_double : (double : Option (List ℕ)) (parts found : List Part) → unless_double double parts ≡ Ok found → (double ≡ None) × (parts ≡ found)
+from_unless_double None parts found e = (refl, same_value parts found e)
+from_unless_double (Some name) parts found e = absurd (cc)
+
+from_limit : {A : Type 0} (b : Bool) (said : Result A Refusal) (refusal : Refusal) (x : A) → (if b then said else Err refusal) ≡ Ok x → (b ≡ true) × (said ≡ Ok x)
+from_limit true said refusal x e = (refl, e)
+from_limit false said refusal x e = absurd (cc)
+
+le_limit : (n : ℕ) → nat_le n 1024 ≡ true → n ≤ 1024
+le_limit n passes = grind (arith, nat_tests)
+
+-- the components of a document are few, allowed, and of different full names
+pub list_of_parts-allowed : (items : Items) (parts : List Part) → list_of_parts items ≡ Ok parts
+    → (length parts ≤ 1024) × (list_all is_allowed_part parts ≡ true) × (double_after [] parts ≡ None)
+unfolding list_of_parts
+list_of_parts-allowed items parts e =
+    let limit = from_limit (nat_le (count_of items) 1024) _ _ parts e in
+    let found = then_on-Ok (parts_in items) _ parts limit.1 in
+    let apart = from_unless_double (double_after [] found.0) found.0 parts found.2 in
+    let each = parts_in-allowed items found.0 found.1 in
+    let within : count_of items ≤ 1024 = le_limit _ limit.0 in
+    subst (λ ps. (length ps ≤ 1024) × (list_all is_allowed_part ps ≡ true) × (double_after [] ps ≡ None)) apart.1 (omega (arith, each.1), each.0, apart.0)

@@ -1,0 +1,127 @@
+-- The lists of a JSON value, step by step.
+use Rattle.std.proofs.Common.{◌≡◌, ◌↔◌, ℕ, ◌+◌, ◌<◌, ◌≤◌, List, [], ◌∷◌, ◌++◌, length, get_or, drop, map, Option, Some, None, Result, Ok, Err, IsOk, refl, sym, ap, ◌∙◌, arith, append_assoc, append-nil, Bool, true, false, true≢false, ◌||◌, cond, nat_le, string_bytes}
+use Rattle.std.proofs.lemmas.Bool.Decides.{nat_tests}
+use Rattle.std.proofs.lemmas.List.{drop_more, drop_all, map-append}
+use Rattle.std.specs.List.{list_any}
+use Rattle.std.specs.Str.{bytes_eq}
+use Rattle.serde_json.specs.View.{view, items_view, members_view}
+use Rattle.serde_json.proofs.Views.{Entry}
+use Rattle.serde_json.specs.declared.value.Value.{Value}
+use Rattle.writer_meta.specs.declared.component.Component.{Component}
+use Rattle.writer_meta.specs.Metadata.{Part, part_of, full_name}
+use Rattle.writer_meta.specs.declared.meta_fault.MetaFault.{MetaFault}
+use Rattle.writer_meta.specs.Refusal.{Refusal, HasTooMany, Tells}
+use Rattle.writer_meta.proofs.Refusals.{Tells-then_on}
+use Rattle.writer_meta.specs.Document.{then_on, part_in, parts_in, list_of_parts, distinct, count_of, unknown_in, double_after}
+
+-- a text that is no identifier parses to none
+pub none_parsed : {E : Type 0} (e : E) (found : Option (List ℕ)) → (IsOk {T = List ℕ} (Err e) ↔ ((u : List ℕ) × (found ≡ Some u))) → found ≡ None
+none_parsed e None same = refl
+none_parsed e (Some u) same = absurd (true≢false (sym (same.1 (u, refl))))
+
+pub count_of-items_view : (vs : List Value) → count_of (items_view vs) ≡ length vs
+count_of-items_view [] = refl
+count_of-items_view (v ∷ vs) = omega (arith, count_of-items_view vs)
+
+within_limit : (values : List Value) → length values ≤ 1024 → nat_le (count_of (items_view values)) 1024 ≡ true
+within_limit values few = rw (count_of-items_view values) (grind (arith, nat_tests))
+
+past_limit : (values : List Value) → 1024 < length values → nat_le (count_of (items_view values)) 1024 ≡ false
+past_limit values many = rw (count_of-items_view values) (grind (arith, nat_tests))
+
+pub few : (values : List Value) → length values ≤ 1024 → list_of_parts (items_view values) ≡ then_on (parts_in (items_view values)) distinct
+unfolding list_of_parts
+few values within = rw (within_limit values within) refl
+
+pub too_many : (values : List Value) → 1024 < length values → list_of_parts (items_view values) ≡ Err HasTooMany
+unfolding list_of_parts
+too_many values many = rw (past_limit values many) refl
+
+-- these parts, and then the others
+abbrev pub after : List Part → Result (List Part) Refusal → Result (List Part) Refusal
+after parts more = then_on more (λ others. Ok (parts ++ others))
+
+after_one_more : (parts : List Part) (part : Part) (more : Result (List Part) Refusal) → after parts (then_on more (λ others. Ok (part ∷ others))) ≡ after (parts ++ part ∷ []) more
+after_one_more parts part (Ok others) = ap Ok (sym (append_assoc parts (part ∷ []) others))
+after_one_more parts part (Err refusal) = refl
+
+-- one value more
+pub after-more : (values : List Value) (i : ℕ) (v : Value) (parts : List Part) (part : Part) → i < length values → v ≡ get_or values i v → part_in (view v) ≡ Ok part
+    → after parts (parts_in (items_view (drop i values))) ≡ after (parts ++ part ∷ []) (parts_in (items_view (drop (i + 1) values)))
+unfolding parts_in
+after-more values i v parts part within is read =
+    let here : drop i values ≡ v ∷ drop (i + 1) values = drop_more values i v within ∙ ap (λ w. w ∷ drop (i + 1) values) (sym is) in
+    rw here (rw read (after_one_more parts part (parts_in (items_view (drop (i + 1) values)))))
+
+-- a value that is no component
+pub Tells-after : (fault : MetaFault) (values : List Value) (i : ℕ) (v : Value) (parts : List Part) → i < length values → v ≡ get_or values i v → Tells fault (part_in (view v))
+    → Tells fault (after parts (parts_in (items_view (drop i values))))
+unfolding parts_in
+Tells-after fault values i v parts within is refused =
+    let here : drop i values ≡ v ∷ drop (i + 1) values = drop_more values i v within ∙ ap (λ w. w ∷ drop (i + 1) values) (sym is) in
+    rw here (Tells-then_on fault (then_on (part_in (view v)) _) _ (Tells-then_on fault (part_in (view v)) _ refused))
+
+-- the end
+pub after-all : (values : List Value) (i : ℕ) (parts : List Part) → length values ≤ i → after parts (parts_in (items_view (drop i values))) ≡ Ok parts
+unfolding parts_in
+after-all values i parts past = rw (drop_all i values past) (ap Ok (append-nil parts))
+
+-- ## unknown members
+
+pub unknown-here : (known : List ℕ → Bool) (left more : List Entry) (e : Entry) → left ≡ e ∷ more → known (string_bytes e.0) ≡ false → unknown_in known (members_view left) ≡ Some (string_bytes e.0)
+unfolding unknown_in
+unknown-here known left more e step absent = rw step (rw absent refl)
+
+pub unknown-further : (known : List ℕ → Bool) (left more : List Entry) (e : Entry) → left ≡ e ∷ more → known (string_bytes e.0) ≡ true → unknown_in known (members_view left) ≡ unknown_in known (members_view more)
+unfolding unknown_in
+unknown-further known left more e step present = rw step (rw present refl)
+
+-- ## full names
+
+pub double-here : (so_far : List (List ℕ)) (components : List Component) (i : ℕ) (c : Component) (name : List ℕ) → i < length components → c ≡ get_or components i c
+    → name ≡ full_name (part_of c) → list_any (λ n. bytes_eq n name) so_far ≡ true → double_after so_far (map part_of (drop i components)) ≡ Some name
+unfolding double_after
+double-here so_far components i c name within is named found =
+    let here : drop i components ≡ c ∷ drop (i + 1) components = drop_more components i c within ∙ ap (λ w. w ∷ drop (i + 1) components) (sym is) in
+    let had : list_any (λ n. bytes_eq n (full_name (part_of c))) so_far ≡ true = rw (← named) found in
+    rw here (rw had (ap Some (sym named)))
+
+pub double-further : (so_far : List (List ℕ)) (components : List Component) (i : ℕ) (c : Component) (name : List ℕ) → i < length components → c ≡ get_or components i c
+    → name ≡ full_name (part_of c) → list_any (λ n. bytes_eq n name) so_far ≡ false
+    → double_after so_far (map part_of (drop i components)) ≡ double_after (name ∷ so_far) (map part_of (drop (i + 1) components))
+unfolding double_after
+double-further so_far components i c name within is named new =
+    let here : drop i components ≡ c ∷ drop (i + 1) components = drop_more components i c within ∙ ap (λ w. w ∷ drop (i + 1) components) (sym is) in
+    let had : list_any (λ n. bytes_eq n (full_name (part_of c))) so_far ≡ false = rw (← named) new in
+    rw here (rw had (ap (λ n. double_after (n ∷ so_far) (map part_of (drop (i + 1) components))) (sym named)))
+
+pub double-none : (so_far : List (List ℕ)) (components : List Component) (i : ℕ) → length components ≤ i → double_after so_far (map part_of (drop i components)) ≡ None
+unfolding double_after
+double-none so_far components i past = rw (drop_all i components past) refl
+
+or_cond : (b x : Bool) → cond b true x ≡ (b || x)
+or_cond true x = refl
+or_cond false x = refl
+
+-- a set with one name more
+pub has-one_more : (same old new among : Bool) (x y : List ℕ) → new ≡ cond same true old → same ≡ bytes_eq x y → old ≡ among → new ≡ (bytes_eq x y || among)
+has-one_more same old new among x y updated is had =
+    updated ∙ ap (λ b. cond b true old) is ∙ ap (λ b. cond (bytes_eq x y) true b) had ∙ or_cond (bytes_eq x y) among
+
+-- ## copies
+
+pub copied-more : (components copies : List Component) (i : ℕ) (c copy : Component) → i < length components → c ≡ get_or components i c → part_of copy ≡ part_of c
+    → map part_of copies ++ map part_of (drop i components) ≡ map part_of components
+    → map part_of (copies ++ copy ∷ []) ++ map part_of (drop (i + 1) components) ≡ map part_of components
+copied-more components copies i c copy within is same so_far =
+    let here : drop i components ≡ c ∷ drop (i + 1) components = drop_more components i c within ∙ ap (λ w. w ∷ drop (i + 1) components) (sym is) in
+    ap (λ ps. ps ++ map part_of (drop (i + 1) components)) (map-append part_of copies (copy ∷ []))
+    ∙ append_assoc (map part_of copies) (part_of copy ∷ []) (map part_of (drop (i + 1) components))
+    ∙ ap (λ p. map part_of copies ++ (p ∷ map part_of (drop (i + 1) components))) same
+    ∙ ap (λ cs. map part_of copies ++ map part_of cs) (sym here)
+    ∙ so_far
+
+pub copied-all : (components copies : List Component) (i : ℕ) → length components ≤ i
+    → map part_of copies ++ map part_of (drop i components) ≡ map part_of components → map part_of copies ≡ map part_of components
+copied-all components copies i past so_far =
+    sym (append-nil (map part_of copies)) ∙ ap (λ cs. map part_of copies ++ map part_of cs) (sym (drop_all i components past)) ∙ so_far

@@ -1,0 +1,175 @@
+-- A metadata document: what a text says of a writer, or why it is refused. The checks stand in the order in which the
+-- format makes them, so the refusal is the first. (This project's own format.)
+use Rattle.std.specs.Prelude.{ℕ, ◌+◌, Bool, List, [], ◌∷◌, codes, nat_le, if◌then◌else◌, Option, Some, None, ok_or, Result, Ok, Err}
+use Rattle.std.specs.List.{list_any}
+use Rattle.std.specs.Str.{bytes_eq, is_utf8}
+use Rattle.serde_json.specs.Data.{Data, Items, no_items, item, Members, no_members, member}
+use Rattle.serde_json.specs.Read.{read}
+use Rattle.serde_json.specs.Find.{get, as_array, as_object}
+use Rattle.vss_names.specs.declared.level.Level.{Level}
+use Rattle.vss_names.specs.declared.usage.Usage.{Usage}
+use Rattle.vss_names.specs.declared.source_kind.SourceKind.{SourceKind}
+use Rattle.vss_names.specs.declared.component_type.ComponentType.{ComponentType}
+use Rattle.writer_meta.specs.declared.field.Field.{Field}
+use Rattle.writer_meta.specs.declared.field.Field.TheVariants as field
+use Rattle.writer_meta.specs.Metadata.{Part, Meta, full_name}
+use Rattle.writer_meta.specs.Refusal.{Refusal, IsNotJson, Misses, HasWrong, HasUnknown, HasDouble, HasTooMany, member_name}
+use Rattle.writer_meta.specs.Values.{class_value, name_value, level_value, usage_value, source_value, freeze_timeout_value, kind_value, path_value, component_name_value, selectable_value}
+
+-- what comes of a value, if there is one
+abbrev pub then_on : {A B : Type 0} → Result A Refusal → (A → Result B Refusal) → Result B Refusal
+then_on (Ok x) more = more x
+then_on (Err refusal) more = Err refusal
+
+-- ## members
+
+-- the value as the format says, where it is
+abbrev pub value_at : {A : Type 0} → (Data → Option A) → Field → Data → Result A Refusal
+value_at value field d = ok_or (value d) (HasWrong field)
+
+-- a member that has to be there
+abbrev pub required : {A : Type 0} → (Data → Option A) → Field → Data → Result A Refusal
+required value field d = then_on (ok_or (get (member_name field) d) (Misses field)) (value_at value field)
+
+-- a member that may be missing
+abbrev pub optional : {A : Type 0} → A → (Data → Option A) → Field → Option Data → Result A Refusal
+optional default value field None = Ok default
+optional default value field (Some d) = value_at value field d
+
+-- ## the rows of the document
+
+unfoldable pub class_in : Data → Result ℕ Refusal
+class_in d = required class_value field.Class d
+
+unfoldable pub name_in : Data → Result (List ℕ) Refusal
+name_in d = required name_value field.Name d
+
+unfoldable pub level_in : Data → Result Level Refusal
+level_in d = required level_value field.Level d
+
+unfoldable pub usage_in : Data → Result Usage Refusal
+usage_in d = required usage_value field.Usage d
+
+unfoldable pub source_in : Data → Result SourceKind Refusal
+source_in d = required source_value field.Source d
+
+-- 60,000 ticks, where nothing is said
+unfoldable pub freeze_timeout_in : Data → Result ℕ Refusal
+freeze_timeout_in d = optional 60000 freeze_timeout_value field.FreezeTimeout (get (codes "freeze_timeout") d)
+
+unfoldable pub components_in : Data → Result Items Refusal
+components_in d = required as_array field.Components d
+
+-- ## the rows of a component
+
+unfoldable pub kind_in : Data → Result ComponentType Refusal
+kind_in d = required kind_value field.Kind d
+
+-- the empty path, where nothing is said
+unfoldable pub path_in : Data → Result (List ℕ) Refusal
+path_in d = optional [] path_value field.Path (get (codes "path") d)
+
+unfoldable pub component_name_in : Data → Result (List ℕ) Refusal
+component_name_in d = required component_name_value field.Name d
+
+unfoldable pub selectable_in : Data → Result Bool Refusal
+selectable_in d = required selectable_value field.Selectable d
+
+-- ## unknown members
+
+abbrev pub document_members : List (List ℕ)
+document_members =
+    codes "class" ∷ codes "components" ∷ codes "freeze_timeout" ∷ codes "level" ∷ codes "name" ∷ codes "source" ∷ codes "usage" ∷ []
+
+abbrev pub component_members : List (List ℕ)
+component_members = codes "name" ∷ codes "path" ∷ codes "selectable" ∷ codes "type" ∷ []
+
+abbrev pub is_known : List (List ℕ) → List ℕ → Bool
+is_known known name = list_any (λ k. bytes_eq k name) known
+
+-- the first member that the format does not have; members stand in byte order of their names
+unfoldable pub unknown_in : (List ℕ → Bool) → Members → Option (List ℕ)
+unknown_in known no_members = None
+unknown_in known (member name d more) = if known name then unknown_in known more else Some name
+
+-- what is said, unless a member is unknown
+abbrev pub unless_unknown : {A : Type 0} → Option (List ℕ) → Result A Refusal → Result A Refusal
+unless_unknown None said = said
+unless_unknown (Some name) said = Err (HasUnknown name)
+
+-- ## components
+
+unfoldable pub rows_of_part : Data → Result Part Refusal
+rows_of_part d =
+    then_on (kind_in d) (λ kind.
+    then_on (path_in d) (λ path.
+    then_on (component_name_in d) (λ name.
+    then_on (selectable_in d) (λ selectable.
+    Ok (record { kind = kind; path = path; name = name; selectable = selectable })))))
+
+-- a component is an object
+abbrev pub part_of_members : Data → Option Members → Result Part Refusal
+part_of_members d None = Err (HasWrong field.Components)
+part_of_members d (Some members) = unless_unknown (unknown_in (is_known component_members) members) (rows_of_part d)
+
+unfoldable pub part_in : Data → Result Part Refusal
+part_in d = part_of_members d (as_object d)
+
+unfoldable pub parts_in : Items → Result (List Part) Refusal
+parts_in no_items = Ok []
+parts_in (item d more) = then_on (part_in d) (λ part. then_on (parts_in more) (λ parts. Ok (part ∷ parts)))
+
+-- how many items
+abbrev pub count_of : Items → ℕ
+count_of no_items = 0
+count_of (item d more) = count_of more + 1
+
+-- the first full name that an earlier component has, or one of these
+unfoldable pub double_after : List (List ℕ) → List Part → Option (List ℕ)
+double_after names [] = None
+double_after names (part ∷ parts) =
+    if list_any (λ name. bytes_eq name (full_name part)) names
+    then Some (full_name part)
+    else double_after (full_name part ∷ names) parts
+
+abbrev pub unless_double : Option (List ℕ) → List Part → Result (List Part) Refusal
+unless_double None parts = Ok parts
+unless_double (Some name) parts = Err (HasDouble name)
+
+-- no two components of one full name
+abbrev pub distinct : List Part → Result (List Part) Refusal
+distinct parts = unless_double (double_after [] parts) parts
+
+-- at most 1,024 components
+unfoldable pub list_of_parts : Items → Result (List Part) Refusal
+list_of_parts items = if nat_le (count_of items) 1024 then then_on (parts_in items) distinct else Err HasTooMany
+
+-- ## the whole
+
+unfoldable pub rows_of_meta : Data → Result Meta Refusal
+rows_of_meta d =
+    then_on (class_in d) (λ class.
+    then_on (name_in d) (λ name.
+    then_on (level_in d) (λ level.
+    then_on (usage_in d) (λ usage.
+    then_on (source_in d) (λ source.
+    then_on (freeze_timeout_in d) (λ freeze_timeout.
+    then_on (components_in d) (λ components.
+    then_on (list_of_parts components) (λ parts.
+    Ok (record { class = class; name = name; level = level; usage = usage; source = source; freeze_timeout = freeze_timeout; parts = parts })))))))))
+
+abbrev pub meta_of_members : Data → Option Members → Result Meta Refusal
+meta_of_members d None = Err (HasWrong field.Document)
+meta_of_members d (Some members) = unless_unknown (unknown_in (is_known document_members) members) (rows_of_meta d)
+
+-- the metadata of a JSON value, or the first refusal
+unfoldable pub meta_in : Data → Result Meta Refusal
+meta_in d = meta_of_members d (as_object d)
+
+-- the JSON value of a text, where it is UTF-8
+unfoldable pub value_of_text : List ℕ → Option Data
+value_of_text text = if is_utf8 text then read text else None
+
+-- the metadata that a text is, or the first refusal
+unfoldable pub metadata_in : List ℕ → Result Meta Refusal
+metadata_in text = then_on (ok_or (value_of_text text) IsNotJson) meta_in

@@ -1,0 +1,48 @@
+-- Why a metadata document is refused. (This project's own.)
+use Rattle.std.specs.Prelude.{◌≡◌, ℕ, List, codes, Option, Some, None, Result, Err, ⊤}
+use Rattle.writer_meta.specs.declared.field.Field.{Field}
+use Rattle.writer_meta.specs.declared.field.Field.TheVariants.{Document, Class, Name, Level, Usage, Source, FreezeTimeout, Components, Kind, Path, Selectable}
+use Rattle.writer_meta.specs.declared.meta_fault.MetaFault.{MetaFault}
+use Rattle.writer_meta.specs.declared.meta_fault.MetaFault.TheVariants.{NotJson, MissingField, WrongKind, UnknownName, DoubleComponent, TooMany, OutOfMemory}
+
+-- the text is no JSON; a member is missing; a value is not as the format says; a member is not of the format; a
+-- component has the full name of an earlier one; there are too many components
+pub data Refusal : Type 0 where
+  IsNotJson : Refusal
+  Misses : Field → Refusal
+  HasWrong : Field → Refusal
+  HasUnknown : List ℕ → Refusal
+  HasDouble : List ℕ → Refusal
+  HasTooMany : Refusal
+
+-- the refusal that a fault tells; want of memory tells none
+abbrev pub refusal_of : MetaFault → Option Refusal
+refusal_of NotJson = Some IsNotJson
+refusal_of (MissingField field) = Some (Misses field)
+refusal_of (WrongKind field) = Some (HasWrong field)
+refusal_of (UnknownName name) = Some (HasUnknown name.bytes)
+refusal_of (DoubleComponent name) = Some (HasDouble name.bytes)
+refusal_of TooMany = Some HasTooMany
+refusal_of OutOfMemory = None
+
+abbrev pub IsRefused : {A : Type 0} → Option Refusal → Result A Refusal → Type 0
+IsRefused None said = ⊤
+IsRefused (Some refusal) said = said ≡ Err refusal
+
+-- what is said is the refusal that the fault tells, unless the fault is want of memory
+abbrev pub Tells : {A : Type 0} → MetaFault → Result A Refusal → Type 0
+Tells fault said = IsRefused (refusal_of fault) said
+
+-- the name of a member
+abbrev pub member_name : Field → List ℕ
+member_name Document = codes "document"
+member_name Class = codes "class"
+member_name Name = codes "name"
+member_name Level = codes "level"
+member_name Usage = codes "usage"
+member_name Source = codes "source"
+member_name FreezeTimeout = codes "freeze_timeout"
+member_name Components = codes "components"
+member_name Kind = codes "type"
+member_name Path = codes "path"
+member_name Selectable = codes "selectable"

@@ -1,0 +1,94 @@
+use crate::field::Field;
+use std::alloc::{AllocError, AllocFailed};
+use std::error::Error;
+use std::fmt;
+use vss_names::{OutOfMemory, Text};
+
+/// Why a text is no metadata document. The first cause in the order of the format is told.
+#[derive(Debug, Drop)]
+pub enum MetaFault {
+    /// The text is no JSON, or nests deeper than 127 levels.
+    NotJson,
+    MissingField(Field),
+    /// The value is not as the format says: of another type, or out of range.
+    WrongKind(Field),
+    /// A member that the format does not have, the least of them in byte order.
+    UnknownName(Text),
+    /// The first full name that an earlier component has.
+    DoubleComponent(Text),
+    /// More than 1,024 components.
+    TooMany,
+    OutOfMemory,
+}
+
+impl fmt::Display for MetaFault {
+    fn fmt<W: fmt::Write>(&self, f: &mut fmt::Formatter<W>) -> fmt::Result {
+        match self {
+            MetaFault::NotJson => f.write_str("no JSON"),
+            MetaFault::MissingField(field) => write!(f, "`{}` is missing", field.member()),
+            MetaFault::WrongKind(field) => {
+                write!(f, "`{}` has a value that is not allowed", field.member())
+            }
+            MetaFault::UnknownName(name) => {
+                f.write_str("unknown member `")?;
+                write_bytes(f, name.bytes())?;
+                f.write_str("`")
+            }
+            MetaFault::DoubleComponent(name) => {
+                f.write_str("a second component `")?;
+                write_bytes(f, name.bytes())?;
+                f.write_str("`")
+            }
+            MetaFault::TooMany => f.write_str("more than 1024 components"),
+            MetaFault::OutOfMemory => f.write_str("out of memory"),
+        }
+    }
+}
+
+/// Writes the printable ASCII characters as they are, and `?` for each other byte.
+fn write_bytes<W: fmt::Write>(f: &mut fmt::Formatter<W>, bytes: &[u8]) -> fmt::Result {
+    for byte in bytes {
+        let shown = if byte.is_ascii_graphic() || *byte == b' ' {
+            char::from(*byte)
+        } else {
+            '?'
+        };
+        f.write_char(shown)?;
+    }
+    Ok(())
+}
+
+impl Error for MetaFault {}
+
+impl From<OutOfMemory> for MetaFault {
+    ghost use Rattle.std.specs.Prelude.{◌≡◌};
+    ghost use Rattle.writer_meta.specs.declared.meta_fault.MetaFault.TheVariants.{OutOfMemory as memory};
+
+    ghost from_gives = { λ _ fault. fault ≡ memory };
+
+    fn from(_error: OutOfMemory) -> MetaFault {
+        MetaFault::OutOfMemory
+    }
+}
+
+impl From<AllocError> for MetaFault {
+    ghost use Rattle.std.specs.Prelude.{◌≡◌};
+    ghost use Rattle.writer_meta.specs.declared.meta_fault.MetaFault.TheVariants.{OutOfMemory as memory};
+
+    ghost from_gives = { λ _ fault. fault ≡ memory };
+
+    fn from(_error: AllocError) -> MetaFault {
+        MetaFault::OutOfMemory
+    }
+}
+
+impl<T: Drop> From<AllocFailed<T>> for MetaFault {
+    ghost use Rattle.std.specs.Prelude.{◌≡◌};
+    ghost use Rattle.writer_meta.specs.declared.meta_fault.MetaFault.TheVariants.{OutOfMemory as memory};
+
+    ghost from_gives = { λ _ fault. fault ≡ memory };
+
+    fn from(_error: AllocFailed<T>) -> MetaFault {
+        MetaFault::OutOfMemory
+    }
+}
