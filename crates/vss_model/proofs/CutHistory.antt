@@ -205,10 +205,22 @@ shown-append : (k : Known) (v : ℕ) (ws : List Write) (images : List Image) (j 
 shown-append k v ws [] j h b e = (e, tt, tt)
 shown-append k v ws (i ∷ images) j h b e = (h.0, above-append i j images h.1 b.0 b.1, shown-append k v ws images j h.2 b.2 e)
 
+-- no point is past the end
+pub no_greater : (o : Option (List History)) (v point : ℕ) (ws : List Write) → ShownIn o v point ws → point ≤ length ws
+no_greater None v point ws g = absurd g
+no_greater (Some hs) v point ws g = rw (sym g.0) (rw g.1.is (part (writes_at hs v) g.1.rest))
+  where
+    part : (xs ys : List Write) → length xs ≤ length (xs ++ ys)
+    part [] ys = omega arith
+    part (x ∷ xs) ys = step (length xs) (length (xs ++ ys)) (part xs ys)
+      where
+        step : (a b : ℕ) → a ≤ b → suc a ≤ suc b
+        step a b l = omega arith
+
 -- what is not known from n on was cut before n
 below : (k : Known) (v : ℕ) (ws : List Write) (n : ℕ) (images : List Image) → ((m : ℕ) → n ≤ m → k m ≡ None) → Shown k v ws images → Below images n (length ws)
 below k v ws n [] none h = tt
-below k v ws n (i ∷ images) none h = (earlier (nat_lt i.set n) refl (k i.set) refl h.0, no_greater (k i.set) h.0, below k v ws n images none h.2)
+below k v ws n (i ∷ images) none h = (earlier (nat_lt i.set n) refl (k i.set) refl h.0, no_greater (k i.set) v i.point ws h.0, below k v ws n images none h.2)
   where
     earlier : (b : Bool) → nat_lt i.set n ≡ b → (o : Option (List History)) → k i.set ≡ o → ShownIn o v i.point ws → i.set < n
     earlier true e o f g = less i.set n e
@@ -224,17 +236,6 @@ below k v ws n (i ∷ images) none h = (earlier (nat_lt i.set n) refl (k i.set) 
         clash : (o : Option (List History)) (hs : List History) → o ≡ None → o ≡ Some hs → ⊥
         clash None hs e f = cc
         clash (Some x) hs e f = cc
-
-    no_greater : (o : Option (List History)) → ShownIn o v i.point ws → i.point ≤ length ws
-    no_greater None g = absurd g
-    no_greater (Some hs) g = rw (sym g.0) (rw g.1.is (part (writes_at hs v) g.1.rest))
-      where
-        part : (xs ys : List Write) → length xs ≤ length (xs ++ ys)
-        part [] ys = omega arith
-        part (x ∷ xs) ys = step (length xs) (length (xs ++ ys)) (part xs ys)
-          where
-            step : (a b : ℕ) → a ≤ b → suc a ≤ suc b
-            step a b l = omega arith
 
 append_none : (ws : List Write) → ws ≡ ws ++ []
 append_none [] = refl

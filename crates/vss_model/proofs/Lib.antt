@@ -9,3 +9,4 @@ pub mod CutLog
 pub mod AtCut
 pub mod CutHistory
 pub mod OneCut
+pub mod HeldWrites

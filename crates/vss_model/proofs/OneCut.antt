@@ -1,5 +1,5 @@
 -- Every act keeps what the images show.
-use Rattle.std.proofs.Common.{◌≡◌, ℕ, ◌+◌, ◌==◌, ◌<◌, ◌≤◌, suc, List, [], ◌∷◌, ◌++◌, Option, Some, None, refl, Bool, true, false, map, length, take, ap, sym, ◌∙◌, subst, find, fold, inl, inr, arith}
+use Rattle.std.proofs.Common.{◌≡◌, ℕ, ◌+◌, ◌==◌, ◌<◌, ◌≤◌, zero, suc, List, [], ◌∷◌, ◌++◌, Option, Some, None, refl, Bool, true, false, map, length, take, ap, sym, ◌∙◌, subst, find, fold, inl, inr, arith}
 use Rattle.std.specs.Prelude.{option_map, is_some, ◌&&◌, ◌||◌, not, if◌then◌else◌, nat_lt, slice_get}
 use Rattle.std.proofs.lemmas.List.Folds.{list_any-append}
 use Rattle.std.proofs.Math.Seq.{take-append_seam}
@@ -14,7 +14,7 @@ use Rattle.writer_state.specs.declared.said.Said.{Said}
 use Rattle.writer_state.specs.declared.said.Said.TheVariants.{Ok}
 use Rattle.write_history.specs.declared.mark.Mark.{Mark}
 use Rattle.write_history.specs.declared.mark.Mark.TheVariants.{Clean, Fault, FaultAfter}
-use Rattle.write_history.specs.History.{Write, History, fresh, point_in, dropped, written, reverted}
+use Rattle.write_history.specs.History.{Write, Image, History, fresh, point_in, dropped, written, reverted}
 use Rattle.set_agenda.specs.declared.group.Group.{Group}
 use Rattle.set_agenda.specs.declared.group.Group.TheVariants.{Orders, PreCommit, Flush, Hold, Cut, Commit, Release, PostCommit}
 use Rattle.set_agenda.specs.declared.kind.Kind.{Kind}
@@ -34,7 +34,7 @@ use Rattle.vss_model.specs.declared.event.Event.TheVariants.{Line, Answer as Ans
 use Rattle.set_agenda.specs.declared.member.Member.{Member}
 use Rattle.vss_model.specs.Acts.{Act, after, state, enabled, happens, after_if}
 use Rattle.vss_model.specs.Laws.{IsKeptByWrites}
-use Rattle.vss_model.specs.Facts.{NumberedFrom, OverButNewest, IsOrderly}
+use Rattle.vss_model.specs.Facts.{AreLater, AreInTime, NumberedFrom, OverButNewest, IsOrderly}
 use Rattle.vss_model.specs.Cut.{is_provider, is_cut_group, is_set, is_cut_of, cut_if, cut_from, cut, IsShownAt, IsCutAt}
 use Rattle.vss_model.proofs.Rule.{IsKeptButSteps, on_after_steps, working_of}
 use Rattle.vss_model.proofs.Appending.{state-append}
@@ -43,7 +43,7 @@ use Rattle.vss_model.proofs.OrderlyActs.{EndsIn, Moves, MovesOn, moves_answered,
 use Rattle.vss_model.proofs.HeldOfSet.{IsOf, Follows, GoesOn, goes_answered, goes_stepped, goes_timed}
 use Rattle.vss_model.proofs.CutLog.{is_cut_made}
 use Rattle.vss_model.proofs.AtCut.{IsAtCut, CutsNow, cuts, cut_group, later_places, cut_is_open}
-use Rattle.vss_model.proofs.CutHistory.{Known, writes_at, ShownIn, IsShown, AllShown, all-map, all-change_at, all-gone, all_along, shown-reverted, shown-reverted_in_part, shown-dropped, shown-written, shown-cut, below-known, shown_at}
+use Rattle.vss_model.proofs.CutHistory.{Above, Shown, no_greater, Known, writes_at, ShownIn, IsShown, AllShown, all-map, all-change_at, all-gone, all_along, shown-reverted, shown-reverted_in_part, shown-dropped, shown-written, shown-cut, below-known, shown_at}
 
 -- ## the fact
 
@@ -809,3 +809,22 @@ cut_at_from s n past before (act ∷ acts) e =
 
 pub cut_is_at : (s : Plan) (n : ℕ) (acts before : List Act) → cut s n acts ≡ Some before → IsCutAt s n before
 cut_is_at s n acts before e = cut_at_from s n [] before acts e
+
+-- ## images in time
+
+later_of : (i : Image) (js : List Image) → Above i js → AreLater i js
+later_of i [] h = tt
+later_of i (j ∷ js) h = (h.0, h.1, later_of i js h.2)
+
+in_time : (k : Known) (v : ℕ) (ws : List Write) (images : List Image) → Shown k v ws images → AreInTime (length ws) images
+in_time k v ws [] h = tt
+in_time k v ws (i ∷ images) h = (no_greater (k i.set) v i.point ws h.0, later_of i images h.1, in_time k v ws images h.2)
+
+in_time_at : (k : Known) (u v : ℕ) (hs : List History) → AllShown k u hs → AreInTime (length (history_in (slice_get hs v)).writes) (history_in (slice_get hs v)).images
+in_time_at k u zero [] h = tt
+in_time_at k u (suc v) [] h = tt
+in_time_at k u zero (x ∷ hs) h = in_time k u x.writes x.images h.0
+in_time_at k u (suc v) (x ∷ hs) h = in_time_at k (u + 1) v hs h.1
+
+pub images_in_time : (s : Plan) (acts : List Act) (v : ℕ) → AreInTime (length (history_of (state s acts) v).writes) (history_of (state s acts) v).images
+images_in_time s acts v = in_time_at (known_from s nothing_known (start s) acts) 0 v (state s acts).volumes (cut_all s acts).shown

@@ -1,7 +1,7 @@
 -- The facts that every list of acts keeps together: sets are numbered 1, 2, 3 and at most the newest is in progress; the
 -- session's stage says whether its set is; a running agenda is the one that its stage waits for; and an image stands only
 -- of a set that has not failed.
-use Rattle.std.specs.Prelude.{ℕ, ◌≡◌, ◌+◌, Bool, true, false, List, [], ◌∷◌, ◌==◌, ◌&&◌, not, Option, Some, None}
+use Rattle.std.specs.Prelude.{ℕ, ◌≡◌, ◌<◌, ◌≤◌, ◌+◌, Bool, true, false, List, [], ◌∷◌, ◌==◌, ◌&&◌, not, Option, Some, None}
 use Rattle.std.specs.List.{list_any}
 use Rattle.vss_names.specs.declared.context.Context.{Context}
 use Rattle.vss_names.specs.declared.set_outcome.SetOutcome.{SetOutcome}
@@ -105,3 +105,15 @@ pub record IsOrderly (st : State) : Type 0 where
 -- whether one of these copies is for set n
 abbrev pub holds_for : ℕ → List Copy → Bool
 holds_for n copies = list_any (λ c. c.set == n) copies
+
+-- ## images in time
+
+-- the images after one are of later sets, and have points that are no less
+abbrev pub AreLater : Image → List Image → Type 0
+AreLater i [] = Unit {0}
+AreLater i (j ∷ js) = (i.set < j.set) × (i.point ≤ j.point) × AreLater i js
+
+-- images rise in set, their points do not fall, and none is past the end of so many effective writes
+abbrev pub AreInTime : ℕ → List Image → Type 0
+AreInTime writes [] = Unit {0}
+AreInTime writes (i ∷ images) = (i.point ≤ writes) × AreLater i images × AreInTime writes images

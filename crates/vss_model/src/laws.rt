@@ -1,6 +1,6 @@
 //! What holds for every run: functions that do nothing, whose contracts are the laws.
 
-ghost use Rattle.std.specs.Prelude.{◌≡◌, ◌+◌, ◌++◌, ◌∷◌, ◌&&◌, [], true, false, Bool, ℕ, List, Some, None};
+ghost use Rattle.std.specs.Prelude.{length, ◌≡◌, ◌+◌, ◌++◌, ◌∷◌, ◌&&◌, [], true, false, Bool, ℕ, List, Some, None};
 ghost use Rattle.write_history.specs.declared.move_item.Move.{Move};
 ghost use Rattle.scenario.specs.Plan.{Plan};
 ghost use Rattle.write_history.specs.History.{point_in};
@@ -9,7 +9,7 @@ ghost use Rattle.set_agenda.specs.Agenda.{open_group, is_among};
 ghost use Rattle.set_agenda.specs.Course.{is_member};
 ghost use Rattle.vss_model.specs.State.{State, SetRow, in_progress, row_of, history_of, left_now, is_held, is_frozen};
 ghost use Rattle.vss_model.specs.Cut.{cut, is_cut_group, IsShownAt, IsCutAt};
-ghost use Rattle.vss_model.specs.Facts.{IsOrderly, has_failed, holds_for};
+ghost use Rattle.vss_model.specs.Facts.{AreInTime, IsOrderly, has_failed, holds_for};
 ghost use Rattle.vss_model.specs.Acts.{Act, after, state};
 ghost use Rattle.vss_model.specs.Trail.{run, moved, acts, acts_if, event_of, is_legal, is_legal_move, faults};
 ghost use Rattle.vss_model.specs.Laws.{IsKeptByChanges, IsKeptByWrites, Passes, RunsSnapshot};
@@ -61,6 +61,19 @@ pub fn image_shows_the_cut()
     ensures image { (s : Plan) (acts : List Act) (n v p : ℕ) → point_in n (history_of (state s acts) v).images ≡ Some p
         → IsShownAt s v p (history_of (state s acts) v).writes (cut s n acts) }
     ensures cut { (s : Plan) (n : ℕ) (acts before : List Act) → cut s n acts ≡ Some before → IsCutAt s n before }
+{}
+
+/// While a volume of the set in progress is held, no act changes its effective writes.
+pub fn held_volume_keeps_its_writes()
+    ensures { (s : Plan) (acts : List Act) (act : Act) (r : SetRow) (v : ℕ) → in_progress (state s acts) ≡ Some r
+        → is_among v r.volumes ≡ true → is_held (state s acts) v ≡ true
+        → (history_of (after s (state s acts) act) v).writes ≡ (history_of (state s acts) v).writes }
+{}
+
+/// The images of a volume rise in set, their points do not fall, and none is past the end of its effective writes.
+pub fn images_in_time()
+    ensures { (s : Plan) (acts : List Act) (v : ℕ)
+        → AreInTime (length (history_of (state s acts) v).writes) (history_of (state s acts) v).images }
 {}
 
 /// Sets are numbered from 1 on and at most the newest is in progress, as the session's stage says; a running agenda is
