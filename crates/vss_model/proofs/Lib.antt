@@ -10,3 +10,4 @@ pub mod AtCut
 pub mod CutHistory
 pub mod OneCut
 pub mod HeldWrites
+pub mod Waiting

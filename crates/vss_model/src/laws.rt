@@ -1,16 +1,18 @@
 //! What holds for every run: functions that do nothing, whose contracts are the laws.
 
-ghost use Rattle.std.specs.Prelude.{length, ◌≡◌, ◌+◌, ◌++◌, ◌∷◌, ◌&&◌, [], true, false, Bool, ℕ, List, Some, None};
+ghost use Rattle.std.specs.Prelude.{is_some, ◌⊎◌, length, ◌≡◌, ◌+◌, ◌++◌, ◌∷◌, ◌&&◌, [], true, false, Bool, ℕ, List, Some, None};
 ghost use Rattle.write_history.specs.declared.move_item.Move.{Move};
 ghost use Rattle.scenario.specs.Plan.{Plan};
 ghost use Rattle.write_history.specs.History.{point_in};
 ghost use Rattle.write_history.specs.Slots.{Placed, copies};
-ghost use Rattle.set_agenda.specs.Agenda.{open_group, is_among};
-ghost use Rattle.set_agenda.specs.Course.{is_member};
+ghost use Rattle.set_agenda.specs.Agenda.{open_group, is_among, is_asking, is_working, next_member};
+ghost use Rattle.set_agenda.specs.Limits.{spent_of};
+ghost use Rattle.set_agenda.specs.Course.{is_member, limits_now};
+ghost use Rattle.vss_model.specs.Ending.{runs};
 ghost use Rattle.vss_model.specs.State.{State, SetRow, in_progress, row_of, history_of, left_now, is_held, is_frozen};
 ghost use Rattle.vss_model.specs.Cut.{cut, is_cut_group, IsShownAt, IsCutAt};
 ghost use Rattle.vss_model.specs.Facts.{AreInTime, IsOrderly, has_failed, holds_for};
-ghost use Rattle.vss_model.specs.Acts.{Act, after, state};
+ghost use Rattle.vss_model.specs.Acts.{Act, after, state, order_of_writer, idle_now};
 ghost use Rattle.vss_model.specs.Trail.{run, moved, acts, acts_if, event_of, is_legal, is_legal_move, faults};
 ghost use Rattle.vss_model.specs.Laws.{IsKeptByChanges, IsKeptByWrites, Passes, RunsSnapshot};
 
@@ -100,4 +102,16 @@ pub fn free_without_a_set()
         → is_held (state s acts) v ≡ false }
     ensures frozen { (s : Plan) (acts : List Act) (w : ℕ) → in_progress (state s acts) ≡ None
         → is_frozen (state s acts) w ≡ false }
+{}
+
+/// While an agenda runs, the provider has a step to make, or the first writer that is waited for has an order to answer.
+pub fn running_agenda_goes_on()
+    ensures { (s : Plan) (acts : List Act) → runs (state s acts) ≡ true → (is_working (left_now (state s acts)) ≡ true)
+        ⊎ (is_some (order_of_writer (state s acts) (next_member (left_now (state s acts)))) ≡ true) }
+{}
+
+/// Where an agenda waits for writers a limit runs, and an idle stretch spends it.
+pub fn idle_stretch_spends_a_limit()
+    ensures { (s : Plan) (acts : List Act) → is_asking (left_now (state s acts)) ≡ true
+        → is_some (spent_of ((state s acts).clock + idle_now (state s acts)) (limits_now (state s acts).course)) ≡ true }
 {}
