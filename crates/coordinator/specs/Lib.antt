@@ -1,1 +1,2 @@
+pub mod KeptLimits
 pub mod RunningAgenda

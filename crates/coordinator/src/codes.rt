@@ -1,6 +1,6 @@
 ghost use Rattle.std.specs.Prelude.{◌≡◌};
 ghost use Rattle.set_agenda.specs.Agenda.{group_code, is_freeze, is_snapshot, is_thaw, level_code, same_place};
-ghost use Rattle.set_agenda.specs.Limits.{is_hold, is_prepare_snapshot};
+ghost use Rattle.set_agenda.specs.Limits.{answer_runs, freeze_runs, hold_runs, is_hold, is_prepare_snapshot};
 
 use set_agenda::{Group, Kind, Place};
 use vss_names::{Level, Order};
@@ -83,6 +83,38 @@ pub fn is_snapshot(kind: Kind) -> bool
 {
     match kind {
         Kind::Snapshot => true,
+        _ => false,
+    }
+}
+
+/// Whether the hold limit runs while the group is open, if the volumes are held.
+pub fn hold_runs(group: Group) -> bool
+    ensures { result ≡ hold_runs group }
+{
+    match group {
+        Group::Hold | Group::Cut | Group::Commit | Group::Release => true,
+        _ => false,
+    }
+}
+
+/// Whether the freeze limit runs while the group is open.
+pub fn freeze_runs(group: Group) -> bool
+    ensures { result ≡ freeze_runs group }
+{
+    match group {
+        Group::Orders(Order::Freeze) => true,
+        Group::Orders(_) => false,
+        _ => true,
+    }
+}
+
+/// Whether the answer limit runs while the group is open.
+pub fn answer_runs(group: Group) -> bool
+    ensures { result ≡ answer_runs group }
+{
+    match group {
+        Group::Orders(Order::Freeze) => false,
+        Group::Orders(_) => true,
         _ => false,
     }
 }

@@ -1,14 +1,21 @@
-ghost use Rattle.std.specs.Prelude.{◌≡◌, ◌&&◌, ◌<◌, ◌∷◌, [], All, IfOk, Some, map, true};
+ghost use Rattle.std.specs.Prelude.{◌≡◌, ◌&&◌, ◌<◌, ◌≤◌, ◌^◌, ◌∷◌, [], All, IfOk, Some, map, option_map, true};
+ghost use Rattle.std.specs.Option.{ForSome};
 ghost use Rattle.writer_state.specs.declared.said.Said.TheVariants.{Lost, Ok as SaidOk};
 ghost use Rattle.writer_state.specs.WriterState.{is_ok};
 ghost use Rattle.set_agenda.specs.Begin.{are_distinct, by_writer, unspoken};
 ghost use Rattle.set_agenda.specs.WriterSet.{writers};
 ghost use Rattle.set_agenda.specs.Agenda.{all_say, groups_left, is_asked, is_asking, is_freeze, is_frozen, is_thaw, is_working, next_member, open_place, waits_now, Agenda as AgendaWithLog};
+ghost use Rattle.set_agenda.specs.Limits.{running_limits, spent_of, ticks_to_spend};
+ghost use Rattle.coordinator.specs.KeptLimits.{NoneAfter, running_since, sooner, spent_since, until_since};
 ghost use Rattle.coordinator.specs.RunningAgenda.{Fits, entered, freeze_opened_after, held_after, opened_after, taken_if};
 
-use crate::codes::{is_freeze, is_hold, is_prepare_snapshot, is_same_place, is_snapshot, is_thaw};
-use set_agenda::{Agenda, Kind, Member, Place, WriterSet};
+use crate::codes::{
+    answer_runs, freeze_runs, hold_runs, is_freeze, is_hold, is_prepare_snapshot, is_same_place,
+    is_snapshot, is_thaw,
+};
+use set_agenda::{Agenda, Kind, Limit, Member, Place, WriterSet};
 use std::alloc::Global;
+use tick_limits::{ANSWER_LIMIT, HOLD_LIMIT, is_spent, ticks_until};
 use vss_names::OutOfMemory;
 use writer_state::Said;
 
@@ -41,7 +48,8 @@ impl RunningAgenda {
         requires writers { All (λ m. m.writer < 64) members.now }
         requires no_writer_twice { are_distinct (map (λ m. m.writer) members.now) ≡ true }
         requires no_volume_twice { are_distinct volumes.now ≡ true }
-        ensures { IfOk result (λ r. Fits r (unspoken kind (by_writer members.now) volumes.now now)) }
+        ensures fits { IfOk result (λ r. Fits r (unspoken kind (by_writer members.now) volumes.now now)) }
+        ensures times { IfOk result (λ r. NoneAfter now r) }
     {
         let agenda = Agenda::new(alloc, kind, members, volumes)?;
         Ok(RunningAgenda {
@@ -59,7 +67,8 @@ impl RunningAgenda {
     pub fn hear(&mut self, writer: u32, said: Said, now: u64)
         requires small { writer < 64 }
         requires open { is_asked writer self.old.agenda ≡ true }
-        ensures { (a : AgendaWithLog) → Fits self.old a → Fits self.new (all_say said now (writer ∷ []) a) }
+        ensures fits { (a : AgendaWithLog) → Fits self.old a → Fits self.new (all_say said now (writer ∷ []) a) }
+        ensures times { NoneAfter now self.old → NoneAfter now self.new }
     {
         let place = self.agenda.place();
         let ok = said.is_ok();
@@ -71,7 +80,8 @@ impl RunningAgenda {
     /// All writers with an open order are lost.
     pub fn lose(&mut self, now: u64)
         requires { is_asking self.old.agenda ≡ true }
-        ensures { (a : AgendaWithLog) → Fits self.old a → Fits self.new (all_say Lost now (waits_now self.old.agenda) a) }
+        ensures fits { (a : AgendaWithLog) → Fits self.old a → Fits self.new (all_say Lost now (waits_now self.old.agenda) a) }
+        ensures times { NoneAfter now self.old → NoneAfter now self.new }
     {
         let place = self.agenda.place();
         let writers = self.agenda.waited();
@@ -83,7 +93,8 @@ impl RunningAgenda {
     /// The provider has made its next step.
     pub fn work(&mut self, now: u64)
         requires { is_working self.old.agenda ≡ true }
-        ensures { (a : AgendaWithLog) → Fits self.old a → Fits self.new (all_say SaidOk now (next_member self.old.agenda ∷ []) a) }
+        ensures fits { (a : AgendaWithLog) → Fits self.old a → Fits self.new (all_say SaidOk now (next_member self.old.agenda ∷ []) a) }
+        ensures times { NoneAfter now self.old → NoneAfter now self.new }
     {
         let place = self.agenda.place();
         self.agenda.close_step();
@@ -98,6 +109,57 @@ impl RunningAgenda {
             self.froze.minus(&self.thawed)
         } else {
             WriterSet::new()
+        }
+    }
+
+    /// The limit that is spent at the tick `now`: the first of them in the order hold, freeze, answer. The freeze
+    /// limit is the set's, in ticks.
+    pub fn spent(&self, freeze_limit: u32, now: u64) -> Option<Limit>
+        requires { NoneAfter now self.now }
+        ensures { (a : AgendaWithLog) → Fits self.now a → result ≡ option_map (λ l. l.limit) (spent_of now (running_limits freeze_limit (Some a))) }
+    {
+        if is_spent_since(self.since(Limit::Hold), HOLD_LIMIT, now) {
+            Some(Limit::Hold)
+        } else if is_spent_since(self.since(Limit::Freeze), u64::from(freeze_limit), now) {
+            Some(Limit::Freeze)
+        } else if is_spent_since(self.since(Limit::Answer), ANSWER_LIMIT, now) {
+            Some(Limit::Answer)
+        } else {
+            None
+        }
+    }
+
+    /// The least number of ticks, counted from the tick `now`, after which a limit is spent: 0 where one is spent at
+    /// `now`, or where none runs, as of an agenda that is done. The freeze limit is the set's, in ticks.
+    pub fn until_limit(&self, freeze_limit: u32, now: u64) -> u64
+        requires { NoneAfter now self.now }
+        ensures { (a : AgendaWithLog) → Fits self.now a → result ≡ ticks_to_spend now (running_limits freeze_limit (Some a)) }
+    {
+        let hold = until_since(self.since(Limit::Hold), HOLD_LIMIT, now);
+        let freeze = until_since(self.since(Limit::Freeze), u64::from(freeze_limit), now);
+        let answer = until_since(self.since(Limit::Answer), ANSWER_LIMIT, now);
+        sooner(sooner(hold, freeze), answer).unwrap_or(0)
+    }
+
+    /// Since when the limit runs, where it runs.
+    fn since(&self, limit: Limit) -> Option<u64>
+        ensures { result ≡ running_since limit self.now }
+    {
+        let Some(group) = self.agenda.open_group() else {
+            return None;
+        };
+        let runs = match limit {
+            Limit::Hold => hold_runs(group),
+            Limit::Freeze => freeze_runs(group),
+            Limit::Answer => answer_runs(group),
+        };
+        if !runs {
+            return None;
+        }
+        match limit {
+            Limit::Hold => self.held,
+            Limit::Freeze => Some(self.freeze_opened),
+            Limit::Answer => Some(self.opened),
         }
     }
 
@@ -142,6 +204,40 @@ fn taken_if(really: bool, writers: &WriterSet) -> WriterSet
     }
 }
 
+/// Whether a limit that runs since then, if it runs, is spent at the tick `now`.
+fn is_spent_since(since: Option<u64>, limit: u64, now: u64) -> bool
+    requires { ForSome since (λ t. t ≤ now) }
+    ensures { result ≡ spent_since now since limit }
+{
+    match since {
+        None => false,
+        Some(since) => is_spent(now, since, limit),
+    }
+}
+
+/// How many ticks from the tick `now` on spend a limit that runs since then, if it runs.
+fn until_since(since: Option<u64>, limit: u64, now: u64) -> Option<u64>
+    requires begun { ForSome since (λ t. t ≤ now) }
+    requires limited { limit < 2 ^ 32 }
+    ensures { result ≡ until_since now since limit }
+{
+    match since {
+        None => None,
+        Some(since) => Some(ticks_until(now, since, limit)),
+    }
+}
+
+/// The sooner of two, where there are two.
+fn sooner(first: Option<u64>, second: Option<u64>) -> Option<u64>
+    ensures { result ≡ sooner first second }
+{
+    match (first, second) {
+        (None, _) => second,
+        (Some(_), None) => first,
+        (Some(t), Some(u)) => Some(t.min(u)),
+    }
+}
+
 #[cfg(test)]
 mod tests {
     use super::*;
@@ -179,6 +275,57 @@ mod tests {
         assert!(rt; running.agenda.is_asking());
         running.lose(30);
         assert!(rt; running.agenda.is_done());
+        Ok(())
+    }
+
+    /// Fails where a time that is kept is after `now`.
+    fn assert_none_after(rt: &impl Abort, running: &RunningAgenda, now: u64)
+        ensures { NoneAfter now running.now }
+    {
+        assert!(rt; running.opened <= now);
+        assert!(rt; running.freeze_opened <= now);
+        assert!(rt; running.held.unwrap_or(0) <= now);
+    }
+
+    #[test]
+    fn each_limit_runs_while_its_groups_are_open(rt: HostRuntime) -> Result<(), Fail> {
+        let mut running = RunningAgenda::new(rt.alloc(), Kind::Snapshot, &[LONE], &[5], 0)?;
+        let expected = [
+            (300_001, None),
+            (60_001, Some(Limit::Freeze)),
+            (59_901, Some(Limit::Freeze)),
+            (59_801, Some(Limit::Freeze)),
+            (59_701, Some(Limit::Freeze)),
+            (10_001, Some(Limit::Hold)),
+            (9_901, Some(Limit::Hold)),
+            (9_801, Some(Limit::Hold)),
+            (59_301, Some(Limit::Freeze)),
+            (300_001, None),
+            (300_001, None),
+        ];
+        for (i, (ticks, spent)) in expected.iter().enumerate() {
+            let now = 100 * i as u64;
+            assert_none_after(&rt, &running, now);
+            assert_eq!(rt; running.until_limit(60_000, now), *ticks, "{i}");
+            assert_none_after(&rt, &running, 70_000);
+            assert_eq!(rt; running.spent(60_000, 70_000), *spent, "{i}");
+            go_on(&rt, &mut running, now + 100);
+        }
+        assert_none_after(&rt, &running, 70_000);
+        assert_eq!(rt; running.until_limit(60_000, 70_000), 0);
+        assert_eq!(rt; running.spent(60_000, 70_000), None);
+        Ok(())
+    }
+
+    #[test]
+    fn a_limit_passes_at_equality(rt: HostRuntime) -> Result<(), Fail> {
+        let mut running = RunningAgenda::new(rt.alloc(), Kind::Gather, &[LONE], &[], 50)?;
+        assert_none_after(&rt, &running, 300_050);
+        assert_eq!(rt; running.spent(60_000, 300_050), None);
+        assert_eq!(rt; running.until_limit(60_000, 300_050), 1);
+        assert_none_after(&rt, &running, 300_051);
+        assert_eq!(rt; running.spent(60_000, 300_051), Some(Limit::Answer));
+        assert_eq!(rt; running.until_limit(60_000, 300_051), 0);
         Ok(())
     }
 }

@@ -11,3 +11,4 @@ pub mod CutHistory
 pub mod OneCut
 pub mod HeldWrites
 pub mod Waiting
+pub mod GoesOn

@@ -387,7 +387,6 @@ kept_but_steps k = record {
   clears = λ s v b st h. with_volumes k _ st (all-gone k _ _ 0 st.volumes h.shown) h;
   deletes_set = λ n st h. with_volumes k _ st (all-map k (dropped n) (shown-dropped n k) 0 st.volumes h.shown) h;
   deletes_image = λ n v st h. with_volumes k _ st (all-change_at k (dropped n) v 0 st.volumes (λ u y e g. shown-dropped n k u y g) h.shown) h;
-  begins = λ lane all c st e h. on_begins k lane all c st h;
   names = λ q explicit st g h. record { shown = h.shown; progress = h.progress; fresh = h.fresh };
   disables = λ w q st g h. record { shown = h.shown; progress = h.progress; fresh = h.fresh };
   starts = λ q st g e h. on_starts k q st h;
@@ -720,7 +719,7 @@ on_act_if false s past act k e h =
     know_more k (next_known k st act) (after s st act)
     (λ n. not_cut_now k st act n (parts_not (is_provider act.event) (is_cut_group (open_group (left_now st))) (is_set n (in_progress st)) e))
     (on_after_steps (IsCut k) (kept_but_steps k) s st act (kept_by_writes k st)
-    (λ f g. on_steps k act.mark st (second_not (is_provider act.event) (is_cut_group (open_group (left_now st))) e g) (working_of s st act.event f g) h) h)
+    (λ f g. on_steps k act.mark st (second_not (is_provider act.event) (is_cut_group (open_group (left_now st))) e g) (working_of s st act.event f g) h) (λ lane all c f g. on_begins k lane all c st h) h)
 on_act_if true s past act k e h =
     let st = state s past in
     let parts = both (is_provider act.event) (is_cut_group (open_group (left_now st))) e in

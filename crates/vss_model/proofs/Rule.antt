@@ -1,5 +1,5 @@
 -- The rule of cases: a fact of the state that each named change keeps is kept by every act.
-use Rattle.std.proofs.Common.{◌≡◌, ℕ, List, Option, Some, None, refl, Bool, true, false, sym, subst}
+use Rattle.std.proofs.Common.{◌≡◌, ℕ, ◌==◌, List, Option, Some, None, refl, Bool, true, false, sym, subst, arith}
 use Rattle.std.specs.Prelude.{map, is_some, ◌&&◌, not, if◌then◌else◌, nat_lt}
 use Rattle.vss_names.specs.declared.vss_result.VssResult.{VssResult}
 use Rattle.vss_names.specs.declared.vss_result.VssResult.TheVariants.{InsufficientStorage, AsyncCancelled}
@@ -24,6 +24,7 @@ use Rattle.vss_model.specs.declared.event.Event.{Event}
 use Rattle.vss_model.specs.declared.event.Event.TheVariants.{Line, Answer as AnswerEvent, Provider, Idle}
 use Rattle.vss_model.specs.State.{State, SetRow, Kept, in_progress, left_now, is_held, kept_image, is_kept_set}
 use Rattle.vss_model.specs.Cut.{is_provider}
+use Rattle.vss_model.specs.GoesOn.{is_begin}
 use Rattle.vss_model.specs.Steps.{answered, stepped, ticked}
 use Rattle.set_agenda.specs.Agenda.{is_working}
 use Rattle.set_agenda.specs.Course.{change_at}
@@ -49,7 +50,23 @@ in_no_set true in_set x y e = absurd cc
 in_no_set false true x y e = absurd cc
 in_no_set false false x y e = refl
 
--- the changes but the provider's steps
+-- ## a session's beginning
+
+-- the event is a `begin` line of this lane
+abbrev pub begins_at : ℕ → Event → Bool
+begins_at lane (Line l op) = is_begin op && (l == lane)
+begins_at lane (AnswerEvent w answer) = false
+begins_at lane Provider = false
+begins_at lane Idle = false
+
+at_lane : (b : Bool) (lane : ℕ) → b ≡ true → (b && (lane == lane)) ≡ true
+at_lane true lane e = own lane
+  where
+    own : (a : ℕ) → (a == a) ≡ true
+    own a = grind arith
+at_lane false lane e = absurd cc
+
+-- the changes but the provider's steps and a session's beginning
 pub record IsKeptButSteps (P : State → Type 0) : Type 0 where
   pub answers : (w : ℕ) (said : Said) (st : State) → is_some (order_of_writer st w) ≡ true → P st → P (answered w said st)
   pub ticks : (n : ℕ) (st : State) → P st → P (ticked n st)
@@ -61,7 +78,6 @@ pub record IsKeptButSteps (P : State → Type 0) : Type 0 where
   pub clears : (s : Plan) (v b : ℕ) (st : State) → P st → P (cleared s v b st)
   pub deletes_set : (n : ℕ) (st : State) → P st → P (record st { volumes = map (dropped n) st.volumes })
   pub deletes_image : (n v : ℕ) (st : State) → P st → P (record st { volumes = change_at v (dropped n) st.volumes })
-  pub begins : (lane : ℕ) (all : Bool) (c : Option Context) (st : State) → st.session ≡ None → P st → P (begin_in lane all c st).1
   pub names : (q : Session) (explicit : List Pair) (st : State) → LetsGo call.Component q st → P st → P (record st { explicit = explicit })
   pub disables : (w : ℕ) (q : Session) (st : State) → LetsGo call.Disable q st → P st → P (disable w st).1
   pub starts : (q : Session) (st : State) → LetsGo call.Start q st → makes_set q.stage ≡ false → P st → P (start_set q st).1
@@ -80,7 +96,6 @@ but_steps P k = record {
   clears = k.clears;
   deletes_set = k.deletes_set;
   deletes_image = k.deletes_image;
-  begins = k.begins;
   names = k.names;
   disables = k.disables;
   starts = k.starts;
@@ -140,9 +155,9 @@ module _ (P : State → Type 0) (k : IsKeptButSteps P) where
 
   -- ## session calls
 
-  on_begin_line : (s : Plan) (lane c : ℕ) (all : Bool) (q : Option Session) (st : State) → st.session ≡ q → P st → P (line_in s lane (Begin c all) q st).1
-  on_begin_line s lane c all None st e h = k.begins lane all (context_of c all) st e h
-  on_begin_line s lane c all (Some q) st e h = h
+  on_begin_line : (s : Plan) (lane c : ℕ) (all : Bool) (q : Option Session) (st : State) → ((all : Bool) (x : Option Context) → st.session ≡ None → P (begin_in lane all x st).1) → st.session ≡ q → P st → P (line_in s lane (Begin c all) q st).1
+  on_begin_line s lane c all None st begins e h = begins all (context_of c all) e
+  on_begin_line s lane c all (Some q) st begins e h = h
 
   on_named : (q : Session) (n : Naming) (st : State) → LetsGo call.Component q st → P st → P (named_as n st).1
   on_named q IsNotFound st e h = h
@@ -187,51 +202,54 @@ module _ (P : State → Type 0) (k : IsKeptButSteps P) where
 
   -- ## every line
 
-  on_line : (s : Plan) (lane : ℕ) (op : Op) (mark : Mark) (st : State) → IsKeptByWrites P st → line_enabled s st lane op ≡ true → P st → P (line s lane op mark st).1
-  on_line s lane (WriteFill v b x) mark st at e h =
+  on_line : (s : Plan) (lane : ℕ) (op : Op) (mark : Mark) (st : State) → IsKeptByWrites P st → ((all : Bool) (c : Option Context) → is_begin op ≡ true → st.session ≡ None → P (begin_in lane all c st).1) → line_enabled s st lane op ≡ true → P st → P (line s lane op mark st).1
+  on_line s lane (WriteFill v b x) mark st at begins e h =
       on_write s v (record { block = b; bytes = payload_bytes (Fill x) }) mark st (at.puts v (not_held (is_held st v) (is_free st (acts_as s lane)) e) (record { block = b; bytes = payload_bytes (Fill x) }) mark) h
-  on_line s lane (WriteStamp v b n) mark st at e h =
+  on_line s lane (WriteStamp v b n) mark st at begins e h =
       on_write s v (record { block = b; bytes = payload_bytes (Stamp n) }) mark st (at.puts v (not_held (is_held st v) (is_free st (acts_as s lane)) e) (record { block = b; bytes = payload_bytes (Stamp n) }) mark) h
-  on_line s lane (Read v b) mark st at e h = h
-  on_line s lane (ImageDigest n v) mark st at e h = on_image_blocks s v (kept_image st n v) mark st h
-  on_line s lane (ImageBlock n v b) mark st at e h = on_image_block v b (kept_image st n v) mark st h
-  on_line s lane (Query v) mark st at e h = h
-  on_line s lane (Properties n v) mark st at e h = on_properties s v (kept_image st n v) st h
-  on_line s lane (Revert n v) mark st at e h = on_revert s n v mark st at h
-  on_line s lane (DeleteSet n) mark st at e h = on_delete_set n st h
-  on_line s lane (DeleteImage n v) mark st at e h = on_delete_image n v st h
-  on_line s lane (Tick n) mark st at e h = k.ticks n st h
-  on_line s lane (Begin c all) mark st at e h = on_called (call.Begin c all) s lane (Begin c all) st (λ g. on_begin_line s lane c all st.session st refl h) h
-  on_line s lane (Disable w) mark st at e h = on_called call.Disable s lane (Disable w) st (λ g. let o = goes_of lane st call.Disable g in in_session s lane (Disable w) st call.Disable o (k.disables w o.own st (quiet_of st call.Disable o refl) h)) h
-  on_line s lane Gather mark st at e h = on_called call.Gather s lane Gather st (λ g. let o = goes_of lane st call.Gather g in in_session s lane Gather st call.Gather o (k.gathers s o.own st (quiet_of st call.Gather o refl) h)) h
-  on_line s lane (Component w full) mark st at e h = on_called call.Component s lane (Component w full) st (λ g. let o = goes_of lane st call.Component g in in_session s lane (Component w full) st call.Component o (on_component o.own o.own.mode s w (token s full) st (quiet_of st call.Component o refl) h)) h
-  on_line s lane Document mark st at e h = on_called call.Document s lane Document st (λ g. let o = goes_of lane st call.Document g in in_session s lane Document st call.Document o h) h
-  on_line s lane Start mark st at e h = on_called call.Start s lane Start st (λ g. let o = goes_of lane st call.Start g in in_session s lane Start st call.Start o (k.starts o.own st (quiet_of st call.Start o refl) (o.free refl) h)) h
-  on_line s lane (Add v) mark st at e h = on_called call.Add s lane (Add v) st (λ g. let o = goes_of lane st call.Add g in in_session s lane (Add v) st call.Add o (on_add v (in_progress st) o.own st (quiet_of st call.Add o refl) refl h)) h
-  on_line s lane Prepare mark st at e h = on_called call.Prepare s lane Prepare st (λ g. let o = goes_of lane st call.Prepare g in in_session s lane Prepare st call.Prepare o (k.prepares s o.own st (quiet_of st call.Prepare o refl) h)) h
-  on_line s lane Snapshot mark st at e h = on_called call.Snapshot s lane Snapshot st (λ g. let o = goes_of lane st call.Snapshot g in in_session s lane Snapshot st call.Snapshot o (k.snapshots o.own st (quiet_of st call.Snapshot o refl) h)) h
-  on_line s lane Await mark st at e h = on_called call.Await s lane Await st (λ g. let o = goes_of lane st call.Await g in in_session s lane Await st call.Await o (on_await o.own.last st h)) h
-  on_line s lane Status mark st at e h = on_called call.Status s lane Status st (λ g. let o = goes_of lane st call.Status g in in_session s lane Status st call.Status o h) h
-  on_line s lane Complete mark st at e h = on_called call.Complete s lane Complete st (λ g. let o = goes_of lane st call.Complete g in in_session s lane Complete st call.Complete o (k.completes o.own st (quiet_of st call.Complete o refl) h)) h
-  on_line s lane Abort mark st at e h = on_called call.Abort s lane Abort st (λ g. let o = goes_of lane st call.Abort g in in_session s lane Abort st call.Abort o (k.fails AsyncCancelled st h)) h
-  on_line s lane End mark st at e h = on_called call.End s lane End st (λ g. let o = goes_of lane st call.End g in in_session s lane End st call.End o (k.ends o.own st o.is h)) h
+  on_line s lane (Read v b) mark st at begins e h = h
+  on_line s lane (ImageDigest n v) mark st at begins e h = on_image_blocks s v (kept_image st n v) mark st h
+  on_line s lane (ImageBlock n v b) mark st at begins e h = on_image_block v b (kept_image st n v) mark st h
+  on_line s lane (Query v) mark st at begins e h = h
+  on_line s lane (Properties n v) mark st at begins e h = on_properties s v (kept_image st n v) st h
+  on_line s lane (Revert n v) mark st at begins e h = on_revert s n v mark st at h
+  on_line s lane (DeleteSet n) mark st at begins e h = on_delete_set n st h
+  on_line s lane (DeleteImage n v) mark st at begins e h = on_delete_image n v st h
+  on_line s lane (Tick n) mark st at begins e h = k.ticks n st h
+  on_line s lane (Begin c all) mark st at begins e h = on_called (call.Begin c all) s lane (Begin c all) st (λ g. on_begin_line s lane c all st.session st (λ all x e. begins all x refl e) refl h) h
+  on_line s lane (Disable w) mark st at begins e h = on_called call.Disable s lane (Disable w) st (λ g. let o = goes_of lane st call.Disable g in in_session s lane (Disable w) st call.Disable o (k.disables w o.own st (quiet_of st call.Disable o refl) h)) h
+  on_line s lane Gather mark st at begins e h = on_called call.Gather s lane Gather st (λ g. let o = goes_of lane st call.Gather g in in_session s lane Gather st call.Gather o (k.gathers s o.own st (quiet_of st call.Gather o refl) h)) h
+  on_line s lane (Component w full) mark st at begins e h = on_called call.Component s lane (Component w full) st (λ g. let o = goes_of lane st call.Component g in in_session s lane (Component w full) st call.Component o (on_component o.own o.own.mode s w (token s full) st (quiet_of st call.Component o refl) h)) h
+  on_line s lane Document mark st at begins e h = on_called call.Document s lane Document st (λ g. let o = goes_of lane st call.Document g in in_session s lane Document st call.Document o h) h
+  on_line s lane Start mark st at begins e h = on_called call.Start s lane Start st (λ g. let o = goes_of lane st call.Start g in in_session s lane Start st call.Start o (k.starts o.own st (quiet_of st call.Start o refl) (o.free refl) h)) h
+  on_line s lane (Add v) mark st at begins e h = on_called call.Add s lane (Add v) st (λ g. let o = goes_of lane st call.Add g in in_session s lane (Add v) st call.Add o (on_add v (in_progress st) o.own st (quiet_of st call.Add o refl) refl h)) h
+  on_line s lane Prepare mark st at begins e h = on_called call.Prepare s lane Prepare st (λ g. let o = goes_of lane st call.Prepare g in in_session s lane Prepare st call.Prepare o (k.prepares s o.own st (quiet_of st call.Prepare o refl) h)) h
+  on_line s lane Snapshot mark st at begins e h = on_called call.Snapshot s lane Snapshot st (λ g. let o = goes_of lane st call.Snapshot g in in_session s lane Snapshot st call.Snapshot o (k.snapshots o.own st (quiet_of st call.Snapshot o refl) h)) h
+  on_line s lane Await mark st at begins e h = on_called call.Await s lane Await st (λ g. let o = goes_of lane st call.Await g in in_session s lane Await st call.Await o (on_await o.own.last st h)) h
+  on_line s lane Status mark st at begins e h = on_called call.Status s lane Status st (λ g. let o = goes_of lane st call.Status g in in_session s lane Status st call.Status o h) h
+  on_line s lane Complete mark st at begins e h = on_called call.Complete s lane Complete st (λ g. let o = goes_of lane st call.Complete g in in_session s lane Complete st call.Complete o (k.completes o.own st (quiet_of st call.Complete o refl) h)) h
+  on_line s lane Abort mark st at begins e h = on_called call.Abort s lane Abort st (λ g. let o = goes_of lane st call.Abort g in in_session s lane Abort st call.Abort o (k.fails AsyncCancelled st h)) h
+  on_line s lane End mark st at begins e h = on_called call.End s lane End st (λ g. let o = goes_of lane st call.End g in in_session s lane End st call.End o (k.ends o.own st o.is h)) h
 
   -- ## every act
 
-  on_happens : (s : Plan) (event : Event) (mark : Mark) (st : State) → IsKeptByWrites P st → enabled s st event ≡ true → (is_provider event ≡ true → P (stepped mark st)) → P st → P (happens s event mark st).1
-  on_happens s (Line lane op) mark st at e steps h = on_line s lane op mark st at e h
-  on_happens s (AnswerEvent w answer) mark st at e steps h = k.answers w (said_of answer) st e h
-  on_happens s Provider mark st at e steps h = steps refl
-  on_happens s Idle mark st at e steps h = k.ticks (idle_now st) st h
+  on_happens : (s : Plan) (event : Event) (mark : Mark) (st : State) → IsKeptByWrites P st → enabled s st event ≡ true → (is_provider event ≡ true → P (stepped mark st))
+      → ((lane : ℕ) (all : Bool) (c : Option Context) → begins_at lane event ≡ true → st.session ≡ None → P (begin_in lane all c st).1) → P st → P (happens s event mark st).1
+  on_happens s (Line lane op) mark st at e steps begins h = on_line s lane op mark st at (λ all c f g. begins lane all c (at_lane (is_begin op) lane f) g) e h
+  on_happens s (AnswerEvent w answer) mark st at e steps begins h = k.answers w (said_of answer) st e h
+  on_happens s Provider mark st at e steps begins h = steps refl
+  on_happens s Idle mark st at e steps begins h = k.ticks (idle_now st) st h
 
-  on_after_if : (b : Bool) (s : Plan) (st : State) (act : Act) → enabled s st act.event ≡ b → IsKeptByWrites P st → (enabled s st act.event ≡ true → is_provider act.event ≡ true → P (stepped act.mark st)) → P st → P (after_if b s st act)
-  on_after_if true s st act e at steps h = on_happens s act.event act.mark st at e (steps e) h
-  on_after_if false s st act e at steps h = h
+  on_after_if : (b : Bool) (s : Plan) (st : State) (act : Act) → enabled s st act.event ≡ b → IsKeptByWrites P st → (enabled s st act.event ≡ true → is_provider act.event ≡ true → P (stepped act.mark st))
+      → ((lane : ℕ) (all : Bool) (c : Option Context) → begins_at lane act.event ≡ true → st.session ≡ None → P (begin_in lane all c st).1) → P st → P (after_if b s st act)
+  on_after_if true s st act e at steps begins h = on_happens s act.event act.mark st at e (steps e) begins h
+  on_after_if false s st act e at steps begins h = h
 
-  -- where the provider's step keeps it
-  pub on_after_steps : (s : Plan) (st : State) (act : Act) → IsKeptByWrites P st → (enabled s st act.event ≡ true → is_provider act.event ≡ true → P (stepped act.mark st)) → P st → P (after s st act)
+  -- where the provider's step keeps it, and the beginning of a session
+  pub on_after_steps : (s : Plan) (st : State) (act : Act) → IsKeptByWrites P st → (enabled s st act.event ≡ true → is_provider act.event ≡ true → P (stepped act.mark st))
+      → ((lane : ℕ) (all : Bool) (c : Option Context) → begins_at lane act.event ≡ true → st.session ≡ None → P (begin_in lane all c st).1) → P st → P (after s st act)
   unfolding after
-  on_after_steps s st act at steps h = on_after_if (enabled s st act.event) s st act refl at steps h
+  on_after_steps s st act at steps begins h = on_after_if (enabled s st act.event) s st act refl at steps begins h
 
 pub working_of : (s : Plan) (st : State) (event : Event) → enabled s st event ≡ true → is_provider event ≡ true → is_working (left_now st) ≡ true
 working_of s st (Line lane op) e f = absurd cc
@@ -240,4 +258,4 @@ working_of s st Provider e f = e
 working_of s st Idle e f = absurd cc
 
 pub on_after : (P : State → Type 0) (k : IsKeptByChanges P) (s : Plan) (st : State) (act : Act) → IsKeptByWrites P st → P st → P (after s st act)
-on_after P k s st act at h = on_after_steps P (but_steps P k) s st act at (λ e f. k.steps act.mark st (working_of s st act.event e f) h) h
+on_after P k s st act at h = on_after_steps P (but_steps P k) s st act at (λ e f. k.steps act.mark st (working_of s st act.event e f) h) (λ lane all c e f. k.begins lane all c st f h) h

@@ -304,3 +304,18 @@ spends_in now freeze (Some a) e = let h = one_at freeze a (groups_left a) e in s
 
 pub idle_spends : (s : Plan) (acts : List Act) → is_asking (left_now (state s acts)) ≡ true → is_some (spent_of ((state s acts).clock + idle_now (state s acts)) (limits_now (state s acts).course)) ≡ true
 idle_spends s acts e = let st = state s acts in spends_in st.clock (freeze_limit st.course) st.course.agenda e
+
+working_or : (os : List Open) → is_done os ≡ false → (is_working os ≡ true) ⊎ (is_asking os ≡ true)
+working_or [] e = absurd cc
+working_or (o ∷ os) e = by_orders (is_orders o.place.group) refl
+  where
+    by_orders : (b : Bool) → is_orders o.place.group ≡ b → (is_working (o ∷ os) ≡ true) ⊎ (is_asking (o ∷ os) ≡ true)
+    by_orders true f = inr f
+    by_orders false f = inl (ap not f)
+
+working_or_at : (x : Option Agenda) → is_some x ≡ true → IsOpen x → (is_working (left x) ≡ true) ⊎ (is_asking (left x) ≡ true)
+working_or_at None e h = absurd cc
+working_or_at (Some a) e h = working_or (groups_left a) h
+
+pub working_or_asking : (s : Plan) (acts : List Act) → runs (state s acts) ≡ true → (is_working (left_now (state s acts)) ≡ true) ⊎ (is_asking (left_now (state s acts)) ≡ true)
+working_or_asking s acts e = working_or_at (state s acts).course.agenda e (open_fold s (start s) acts tt)

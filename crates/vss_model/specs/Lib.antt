@@ -12,3 +12,4 @@ pub mod Trail
 pub mod Told
 pub mod Laws
 pub mod Facts
+pub mod GoesOn

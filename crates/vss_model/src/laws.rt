@@ -13,7 +13,8 @@ ghost use Rattle.vss_model.specs.State.{State, SetRow, in_progress, row_of, hist
 ghost use Rattle.vss_model.specs.Cut.{cut, is_cut_group, IsShownAt, IsCutAt};
 ghost use Rattle.vss_model.specs.Facts.{AreInTime, IsOrderly, has_failed, holds_for};
 ghost use Rattle.vss_model.specs.Acts.{Act, after, state, order_of_writer, idle_now};
-ghost use Rattle.vss_model.specs.Trail.{run, moved, acts, acts_if, event_of, is_legal, is_legal_move, faults};
+ghost use Rattle.vss_model.specs.Trail.{run, moved, acts, acts_if, event_of, is_legal, is_legal_move, is_complete, faults};
+ghost use Rattle.vss_model.specs.GoesOn.{EndsSessions, CanGoOn};
 ghost use Rattle.vss_model.specs.Laws.{IsKeptByChanges, IsKeptByWrites, Passes, RunsSnapshot};
 
 /// One more act, or one more move, adds to a run just what it is itself.
@@ -114,4 +115,10 @@ pub fn running_agenda_goes_on()
 pub fn idle_stretch_spends_a_limit()
     ensures { (s : Plan) (acts : List Act) → is_asking (left_now (state s acts)) ≡ true
         → is_some (spent_of ((state s acts).clock + idle_now (state s acts)) (limits_now (state s acts).course)) ≡ true }
+{}
+
+/// A legal trail that is not complete can go on, where every lane ends the sessions that it begins.
+pub fn legal_trail_goes_on()
+    ensures { (s : Plan) (trail : List Move) → EndsSessions s → is_legal s trail ≡ true → is_complete s trail ≡ false
+        → CanGoOn s (run s trail) }
 {}

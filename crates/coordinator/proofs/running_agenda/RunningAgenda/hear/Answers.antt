@@ -1,12 +1,17 @@
 use Rattle.std.proofs.Common.{[], ◌∷◌, ap, refl, ◌∙◌}
 use Rattle.std.specs.Prelude.{not}
 use Rattle.set_agenda.specs.Advance.{advance}
-use Rattle.coordinator.proofs.Fitting.{fits-all_say, keeps-entered}
+use Rattle.coordinator.proofs.Fitting.{Keeps, fits-all_say, keeps-entered}
+use Rattle.coordinator.proofs.KeptLimits.{none-after-keeps}
 use Rattle.coordinator.proofs.running_agenda.RunningAgenda.hear.Goals as goal
 
 pub returns : goal.returns
-returns c = fits-all_say c.args.self.now c.keep_times.new.self c.place-place.result (c.args.writer ∷ []) c.args.said c.args.now refl c.place-place.ensures
-    (keeps-entered c.args.self.now (record c.args.self.now { agenda = c.close_writer.new.self }) c.enter.new.self c.keep_times.new.self c.place-place.result (c.args.writer ∷ []) c.of.result c.args.said c.is_ok-ok.result c.args.now
+returns c =
+    let keeps : Keeps c.args.self.now c.keep_times.new.self c.place-place.result (c.args.writer ∷ []) c.args.said c.args.now = keeps-entered c.args.self.now (record c.args.self.now { agenda = c.close_writer.new.self }) c.enter.new.self c.keep_times.new.self c.place-place.result (c.args.writer ∷ []) c.of.result c.args.said c.is_ok-ok.result c.args.now
     (c.close_writer.ensures ∙ ap (λ b. advance (c.args.writer ∷ []) (not b) c.args.self.now.agenda) c.is_ok-ok.ensures) refl refl refl refl refl refl
     c.of.ensures c.is_ok-ok.ensures c.enter.ensures.froze c.enter.ensures.thawed c.enter.ensures.others
-    c.keep_times.ensures.opened c.keep_times.ensures.freeze_opened c.keep_times.ensures.held c.keep_times.ensures.others)
+    c.keep_times.ensures.opened c.keep_times.ensures.freeze_opened c.keep_times.ensures.held c.keep_times.ensures.others in
+    record {
+      fits = fits-all_say c.args.self.now c.keep_times.new.self c.place-place.result (c.args.writer ∷ []) c.args.said c.args.now refl c.place-place.ensures keeps;
+      times = none-after-keeps c.args.self.now c.keep_times.new.self c.place-place.result (c.args.writer ∷ []) c.args.said c.args.now keeps;
+    }

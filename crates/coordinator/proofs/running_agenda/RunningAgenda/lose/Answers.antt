@@ -4,13 +4,18 @@ use Rattle.writer_state.specs.declared.said.Said.TheVariants.{Lost}
 use Rattle.set_agenda.specs.Agenda.{is_asking, waits_now}
 use Rattle.set_agenda.specs.WriterSet.{is_nil}
 use Rattle.set_agenda.proofs.GroupsLeft.{groups_left-waits}
-use Rattle.coordinator.proofs.Fitting.{fits-all_say, keeps-entered}
+use Rattle.coordinator.proofs.Fitting.{Keeps, fits-all_say, keeps-entered}
+use Rattle.coordinator.proofs.KeptLimits.{none-after-keeps}
 use Rattle.coordinator.proofs.running_agenda.RunningAgenda.lose.Goals as goal
 
 pub returns : goal.returns
-returns c = λ a f. fits-all_say c.args.self.now c.keep_times.new.self c.place-place.result (waits_now c.args.self.now.agenda) Lost c.args.now
-    (ap (λ os. is_nil (waits_now os)) f.left ∙ groups_left-waits a (sym (ap is_asking f.left) ∙ c.requires)) c.place-place.ensures
-    (keeps-entered c.args.self.now (record c.args.self.now { agenda = c.lose.new.self }) c.enter.new.self c.keep_times.new.self c.place-place.result (waits_now c.args.self.now.agenda) c.waited-writers.result Lost false c.args.now
+returns c =
+    let keeps : Keeps c.args.self.now c.keep_times.new.self c.place-place.result (waits_now c.args.self.now.agenda) Lost c.args.now = keeps-entered c.args.self.now (record c.args.self.now { agenda = c.lose.new.self }) c.enter.new.self c.keep_times.new.self c.place-place.result (waits_now c.args.self.now.agenda) c.waited-writers.result Lost false c.args.now
     c.lose.ensures refl refl refl refl refl refl
     c.waited-writers.ensures refl c.enter.ensures.froze c.enter.ensures.thawed c.enter.ensures.others
-    c.keep_times.ensures.opened c.keep_times.ensures.freeze_opened c.keep_times.ensures.held c.keep_times.ensures.others) a f
+    c.keep_times.ensures.opened c.keep_times.ensures.freeze_opened c.keep_times.ensures.held c.keep_times.ensures.others in
+    record {
+      fits = λ a f. fits-all_say c.args.self.now c.keep_times.new.self c.place-place.result (waits_now c.args.self.now.agenda) Lost c.args.now
+          (ap (λ os. is_nil (waits_now os)) f.left ∙ groups_left-waits a (sym (ap is_asking f.left) ∙ c.requires)) c.place-place.ensures keeps a f;
+      times = none-after-keeps c.args.self.now c.keep_times.new.self c.place-place.result (waits_now c.args.self.now.agenda) Lost c.args.now keeps;
+    }

@@ -1,14 +1,19 @@
 use Rattle.std.proofs.Common.{[], ◌∷◌, refl}
 use Rattle.writer_state.specs.declared.said.Said.TheVariants.{Ok as SaidOk}
 use Rattle.set_agenda.specs.Agenda.{next_member}
-use Rattle.coordinator.proofs.Fitting.{enters-not, fits-all_say, keeps-timed, no-freeze, no-thaw}
+use Rattle.coordinator.proofs.Fitting.{Keeps, enters-not, fits-all_say, keeps-timed, no-freeze, no-thaw}
+use Rattle.coordinator.proofs.KeptLimits.{none-after-keeps}
 use Rattle.coordinator.proofs.running_agenda.RunningAgenda.work.Goals as goal
 
 pub returns : goal.returns
-returns c = fits-all_say c.args.self.now c.keep_times.new.self c.place-place.result (next_member c.args.self.now.agenda ∷ []) SaidOk c.args.now refl c.place-place.ensures
-    (keeps-timed c.args.self.now (record c.args.self.now { agenda = c.close_step.new.self }) c.keep_times.new.self c.place-place.result (next_member c.args.self.now.agenda ∷ []) SaidOk c.args.now
+returns c =
+    let keeps : Keeps c.args.self.now c.keep_times.new.self c.place-place.result (next_member c.args.self.now.agenda ∷ []) SaidOk c.args.now = keeps-timed c.args.self.now (record c.args.self.now { agenda = c.close_step.new.self }) c.keep_times.new.self c.place-place.result (next_member c.args.self.now.agenda ∷ []) SaidOk c.args.now
     c.close_step.ensures
     (enters-not c.args.self.now.froze (next_member c.args.self.now.agenda ∷ []) _ (no-freeze c.args.self.now.agenda c.place-place.result c.place-place.ensures c.requires))
     (enters-not c.args.self.now.thawed (next_member c.args.self.now.agenda ∷ []) _ (no-thaw c.args.self.now.agenda c.place-place.result c.place-place.ensures c.requires))
     refl refl refl refl
-    c.keep_times.ensures.opened c.keep_times.ensures.freeze_opened c.keep_times.ensures.held c.keep_times.ensures.others)
+    c.keep_times.ensures.opened c.keep_times.ensures.freeze_opened c.keep_times.ensures.held c.keep_times.ensures.others in
+    record {
+      fits = fits-all_say c.args.self.now c.keep_times.new.self c.place-place.result (next_member c.args.self.now.agenda ∷ []) SaidOk c.args.now refl c.place-place.ensures keeps;
+      times = none-after-keeps c.args.self.now c.keep_times.new.self c.place-place.result (next_member c.args.self.now.agenda ∷ []) SaidOk c.args.now keeps;
+    }

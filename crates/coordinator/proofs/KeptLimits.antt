@@ -1,0 +1,126 @@
+-- The limits that run follow from what is kept; what is kept is from no later tick than now.
+use Rattle.std.proofs.Common.{◌≡◌, ◌≤◌, ℕ, Bool, true, false, List, [], ◌∷◌, ◌++◌, Option, Some, None, cond, refl, ap, sym, ◌∙◌, append-nil, append_assoc, arith}
+use Rattle.std.specs.Prelude.{filter, not, option_map, unwrap_or}
+use Rattle.std.specs.Option.{ForSome}
+use Rattle.writer_state.specs.declared.said.Said.{Said}
+use Rattle.set_agenda.specs.declared.group.Group.{Group}
+use Rattle.set_agenda.specs.declared.limit.Limit.{Limit}
+use Rattle.set_agenda.specs.declared.limit.Limit.TheVariants.{Hold as HoldLimit, Freeze as FreezeLimit, Answer as AnswerLimit}
+use Rattle.set_agenda.specs.declared.place.Place.{Place}
+use Rattle.set_agenda.specs.Agenda.{Agenda, Entry, Open, groups_left, open_group, open_place, same_place}
+use Rattle.set_agenda.specs.Limits.{Running, answer_runs, first_hold, freeze_opened_at, freeze_runs, hold_running, hold_runs, is_hold, is_prepare_snapshot, last_time, opened_at, running_at, running_limits, runs_if, spent_of, ticks_to_spend}
+use Rattle.tick_limits.specs.Time.{answer_limit, hold_limit}
+use Rattle.coordinator.specs.declared.running_agenda.RunningAgenda.{RunningAgenda}
+use Rattle.coordinator.specs.RunningAgenda.{Fits, held_after, place_opened_at}
+use Rattle.coordinator.specs.KeptLimits.{NoneAfter, kept_limits, running_since, runs_since, since_at, sooner, spent_since, until_since}
+use Rattle.coordinator.proofs.Fitting.{Keeps}
+
+-- ## the limits that run
+
+runs-since : (b : Bool) (l : Limit) (since ticks : ℕ) → runs_if b l since ticks ≡ runs_since l (cond b (Some since) None) ticks
+runs-since true l since ticks = refl
+runs-since false l since ticks = refl
+
+no-since : (b : Bool) (l : Limit) (ticks : ℕ) → [] ≡ runs_since l (cond b None None) ticks
+no-since true l ticks = refl
+no-since false l ticks = refl
+
+hold-since : (g : Group) (held : Option ℕ) → hold_running g held ≡ runs_since HoldLimit (cond (hold_runs g) held None) hold_limit
+hold-since g None = no-since (hold_runs g) HoldLimit hold_limit
+hold-since g (Some since) = runs-since (hold_runs g) HoldLimit since hold_limit
+
+limits-at : (freeze : ℕ) (r : RunningAgenda) (a : Agenda) (os : List Open) → r.held ≡ first_hold a.log → r.freeze_opened ≡ freeze_opened_at a → r.opened ≡ place_opened_at a → groups_left a ≡ os
+    → running_at freeze a os
+    ≡ runs_since HoldLimit (since_at HoldLimit (open_group os) r) hold_limit ++ runs_since FreezeLimit (since_at FreezeLimit (open_group os) r) freeze ++ runs_since AnswerLimit (since_at AnswerLimit (open_group os) r) answer_limit
+limits-at freeze r a [] h f o l = refl
+limits-at freeze r a (x ∷ os) h f o l =
+    ap (λ ls. ls ++ runs_if (freeze_runs x.place.group) FreezeLimit (freeze_opened_at a) freeze ++ runs_if (answer_runs x.place.group) AnswerLimit (opened_at a x) answer_limit)
+    (ap (hold_running x.place.group) (sym h) ∙ hold-since x.place.group r.held)
+    ∙ ap (λ ls. runs_since HoldLimit (since_at HoldLimit (Some x.place.group) r) hold_limit ++ ls ++ runs_if (answer_runs x.place.group) AnswerLimit (opened_at a x) answer_limit)
+    (ap (λ t. runs_if (freeze_runs x.place.group) FreezeLimit t freeze) (sym f) ∙ runs-since (freeze_runs x.place.group) FreezeLimit r.freeze_opened freeze)
+    ∙ ap (λ ls. runs_since HoldLimit (since_at HoldLimit (Some x.place.group) r) hold_limit ++ runs_since FreezeLimit (since_at FreezeLimit (Some x.place.group) r) freeze ++ ls)
+    (ap (λ t. runs_if (answer_runs x.place.group) AnswerLimit t answer_limit) (sym (o ∙ ap (λ q. last_time a.begun (filter (λ (e : Entry). not (same_place e.place q)) a.log)) (ap open_place l))) ∙ runs-since (answer_runs x.place.group) AnswerLimit r.opened answer_limit)
+
+-- what is kept tells which limits run, and since when
+pub limits-kept : (freeze : ℕ) (r : RunningAgenda) (a : Agenda) → Fits r a → running_limits freeze (Some a) ≡ kept_limits freeze r
+limits-kept freeze r a f = ap (running_at freeze a) (sym f.left) ∙ limits-at freeze r a r.agenda f.held f.freeze_opened f.opened (sym f.left)
+
+-- ## the first that is spent
+
+first-spent : (now : ℕ) (l : Limit) (since : Option ℕ) (ticks : ℕ) (rest : List Running) (b : Bool) → spent_since now since ticks ≡ b
+    → option_map (λ (x : Running). x.limit) (spent_of now (runs_since l since ticks ++ rest)) ≡ cond b (Some l) (option_map (λ (x : Running). x.limit) (spent_of now rest))
+first-spent now l None ticks rest true e = cc
+first-spent now l None ticks rest false e = refl
+first-spent now l (Some since) ticks rest true e = rw e refl
+first-spent now l (Some since) ticks rest false e = rw e refl
+
+-- b, d and e say whether hold, freeze and answer are spent
+first-of-all : (now : ℕ) (h f a : Option ℕ) (freeze : ℕ) (b d e : Bool) → spent_since now h hold_limit ≡ b → spent_since now f freeze ≡ d → spent_since now a answer_limit ≡ e
+    → option_map (λ (x : Running). x.limit) (spent_of now (runs_since HoldLimit h hold_limit ++ runs_since FreezeLimit f freeze ++ runs_since AnswerLimit a answer_limit))
+    ≡ cond b (Some HoldLimit) (cond d (Some FreezeLimit) (cond e (Some AnswerLimit) None))
+first-of-all now h f a freeze b d e hb hd he =
+    ap (λ ls. option_map (λ (x : Running). x.limit) (spent_of now ls)) (append_assoc (runs_since HoldLimit h hold_limit) (runs_since FreezeLimit f freeze) (runs_since AnswerLimit a answer_limit))
+    ∙ first-spent now HoldLimit h hold_limit (runs_since FreezeLimit f freeze ++ runs_since AnswerLimit a answer_limit) b hb
+    ∙ ap (cond b (Some HoldLimit)) (first-spent now FreezeLimit f freeze (runs_since AnswerLimit a answer_limit) d hd)
+    ∙ ap (λ (x : Option Limit). cond b (Some HoldLimit) (cond d (Some FreezeLimit) x))
+    (ap (λ ls. option_map (λ (x : Running). x.limit) (spent_of now ls)) (sym (append-nil (runs_since AnswerLimit a answer_limit))) ∙ first-spent now AnswerLimit a answer_limit [] e he)
+
+pub spent-kept : (freeze now : ℕ) (r : RunningAgenda) (b d e : Bool)
+    → spent_since now (running_since HoldLimit r) hold_limit ≡ b → spent_since now (running_since FreezeLimit r) freeze ≡ d → spent_since now (running_since AnswerLimit r) answer_limit ≡ e
+    → (a : Agenda) → Fits r a
+    → cond b (Some HoldLimit) (cond d (Some FreezeLimit) (cond e (Some AnswerLimit) None)) ≡ option_map (λ (x : Running). x.limit) (spent_of now (running_limits freeze (Some a)))
+spent-kept freeze now r b d e hb hd he a f =
+    sym (first-of-all now (running_since HoldLimit r) (running_since FreezeLimit r) (running_since AnswerLimit r) freeze b d e hb hd he)
+    ∙ ap (λ ls. option_map (λ (x : Running). x.limit) (spent_of now ls)) (sym (limits-kept freeze r a f))
+
+-- ## the ticks until one is spent
+
+until-all : (now : ℕ) (h f a : Option ℕ) (freeze : ℕ)
+    → unwrap_or (sooner (sooner (until_since now h hold_limit) (until_since now f freeze)) (until_since now a answer_limit)) 0
+    ≡ ticks_to_spend now (runs_since HoldLimit h hold_limit ++ runs_since FreezeLimit f freeze ++ runs_since AnswerLimit a answer_limit)
+until-all now None None None freeze = refl
+until-all now None None (Some a) freeze = refl
+until-all now None (Some f) None freeze = refl
+until-all now None (Some f) (Some a) freeze = refl
+until-all now (Some h) None None freeze = refl
+until-all now (Some h) None (Some a) freeze = refl
+until-all now (Some h) (Some f) None freeze = refl
+until-all now (Some h) (Some f) (Some a) freeze = refl
+
+pub until-kept : (freeze now : ℕ) (r : RunningAgenda) (a : Agenda) → Fits r a
+    → unwrap_or (sooner (sooner (until_since now (running_since HoldLimit r) hold_limit) (until_since now (running_since FreezeLimit r) freeze)) (until_since now (running_since AnswerLimit r) answer_limit)) 0
+    ≡ ticks_to_spend now (running_limits freeze (Some a))
+until-kept freeze now r a f = until-all now (running_since HoldLimit r) (running_since FreezeLimit r) (running_since AnswerLimit r) freeze ∙ ap (ticks_to_spend now) (sym (limits-kept freeze r a f))
+
+-- ## no time that is kept is after now
+
+if-since : (b : Bool) (now : ℕ) (since : Option ℕ) → ForSome since (λ t. t ≤ now) → ForSome (cond b since None) (λ t. t ≤ now)
+if-since true now since h = h
+if-since false now since h = λ t e. cc
+
+some-since : (now since : ℕ) → since ≤ now → ForSome (Some since) (λ t. t ≤ now)
+some-since now since h = λ t e. grind (arith, h, e)
+
+if-before : (b : Bool) (now t u : ℕ) → t ≤ now → u ≤ now → cond b t u ≤ now
+if-before true now t u h k = h
+if-before false now t u h k = k
+
+held-before : (p : Place) (now : ℕ) (held : Option ℕ) → ForSome held (λ t. t ≤ now) → ForSome (held_after p held now) (λ t. t ≤ now)
+held-before p now None h = if-since (is_hold p.group) now (Some now) (some-since now now (grind arith))
+held-before p now (Some t) h = h
+
+-- nor after something is said now
+pub none-after-keeps : (r n : RunningAgenda) (p : Place) (whos : List ℕ) (said : Said) (now : ℕ) → Keeps r n p whos said now → NoneAfter now r → NoneAfter now n
+none-after-keeps r n p whos said now k h = record {
+  opened = rw k.opened (if-before (same_place p (open_place n.agenda)) now r.opened now h.opened (grind arith));
+  freeze_opened = rw k.freeze_opened (if-before (is_prepare_snapshot p.group) now now r.freeze_opened (grind arith) h.freeze_opened);
+  held = rw k.held (held-before p now r.held h.held);
+}
+
+-- nor as the clock goes on
+pub none-after-later : (now later : ℕ) (r : RunningAgenda) → now ≤ later → NoneAfter now r → NoneAfter later r
+none-after-later now later r l h = record {
+  opened = grind (arith, l, h.opened);
+  freeze_opened = grind (arith, l, h.freeze_opened);
+  held = λ t e. grind (arith, l, h.held t e);
+}

@@ -1,0 +1,629 @@
+-- A legal trail that is not complete can go on.
+use Rattle.std.proofs.Common.{◌≡◌, ℕ, ◌+◌, ◌==◌, zero, suc, List, [], ◌∷◌, ◌++◌, Option, Some, None, refl, Bool, true, false, ap, sym, ◌∙◌, subst, inl, inr, drop, cond, arith}
+use Rattle.std.proofs.lemmas.List.Sums.{sum_by-append}
+use Rattle.std.specs.Prelude.{◌⊎◌, option_map, is_some, is_none, length, ◌&&◌, ◌||◌, not, if◌then◌else◌, slice_get}
+use Rattle.std.specs.List.{list_all, range_with_len}
+use Rattle.vss_names.specs.declared.context.Context.{Context}
+use Rattle.vss_names.specs.declared.vss_result.VssResult.{VssResult}
+use Rattle.vss_names.specs.declared.vss_result.VssResult.TheVariants.{AsyncCancelled}
+use Rattle.writer_state.specs.declared.said.Said.{Said}
+use Rattle.write_history.specs.declared.actor.Actor.{Actor}
+use Rattle.write_history.specs.declared.actor.Actor.TheVariants.{Lane, Writer, Advance, Idle as IdleActor}
+use Rattle.write_history.specs.declared.mark.Mark.{Mark}
+use Rattle.write_history.specs.declared.mark.Mark.TheVariants.{Clean, Fault, FaultAfter}
+use Rattle.write_history.specs.declared.move_item.Move.{Move}
+use Rattle.write_history.specs.History.{Write}
+use Rattle.set_agenda.specs.declared.group.Group.{Group}
+use Rattle.set_agenda.specs.declared.group.Group.TheVariants.{Orders, PreCommit, Flush, Hold, Cut, Commit, Release, PostCommit}
+use Rattle.set_agenda.specs.Agenda.{Agenda, is_asking, is_working, is_held as holds, is_frozen as freezes}
+use Rattle.set_agenda.specs.Course.{Course, failed as course_failed, released}
+use Rattle.requestor.specs.declared.verdict.Verdict.TheVariants.{Go}
+use Rattle.requestor.specs.declared.session_call.SessionCall.{SessionCall}
+use Rattle.requestor.specs.declared.session_call.SessionCall.TheVariants as call
+use Rattle.requestor.specs.Session.{Session, has_writers, makes_set}
+use Rattle.requestor.specs.Check.{check, check_begin, begin_verdict, check_other, check_owner, owner_only, verdict_of, is_start, is_await, goes_beside_agenda, allows}
+use Rattle.scenario.specs.declared.op.Op.{Op}
+use Rattle.scenario.specs.declared.op.Op.TheVariants.{WriteFill, WriteStamp, Read, ImageDigest, ImageBlock, Query, Properties, Revert, DeleteSet, DeleteImage, Tick, Begin, Disable, Gather, Component, Document, Start, Add, Prepare, Snapshot, Await, Status, Complete, Abort, End}
+use Rattle.scenario.specs.Plan.{Plan, LaneLine, lines_of, acts_as}
+use Rattle.vss_model.specs.declared.event.Event.{Event}
+use Rattle.vss_model.specs.declared.event.Event.TheVariants.{Line, Answer as AnswerEvent, Provider, Idle}
+use Rattle.vss_model.specs.State.{State, SetRow, Kept, in_progress, left_now, is_held}
+use Rattle.vss_model.specs.Ending.{Ending, NothingEnds, AgendaEnds, SetFails, ending, concluded, followed, runs, failed_in, failed}
+use Rattle.vss_model.specs.Images.{Replied, put, reverted_as}
+use Rattle.vss_model.specs.Sessions.{begin_in, has_no_volume, closed, line_in, judged}
+use Rattle.vss_model.specs.Lines.{called, line}
+use Rattle.vss_model.specs.Steps.{answered, cut_set, step_made, stepped_as, stepped, ticked, later}
+use Rattle.vss_model.specs.Acts.{Act, after, after_if, happens, enabled, line_enabled, is_free, is_blocked, order_of_writer}
+use Rattle.vss_model.specs.Laws.{IsKeptByWrites}
+use Rattle.vss_model.specs.Trail.{Run, begin, is_lane, cursor, next_line, line_event, answer_event, script_event, event_of, act_of, after_event, moved, run_from, run, acts, event_enabled, can_act, none_can_act, may_move, allows as allows_mark, is_legal_move, is_legal_from, is_legal, is_used_up, is_complete}
+use Rattle.vss_model.specs.GoesOn.{is_begin, is_end, has_end, ends_sessions, EndsSessions, CanGoOn}
+use Rattle.vss_model.proofs.Rule.{IsKeptButSteps, begins_at, on_after_steps}
+use Rattle.vss_model.proofs.Appending.{state-run}
+use Rattle.vss_model.proofs.Orderly.{true_not_false}
+use Rattle.vss_model.proofs.Waiting.{working_or_asking}
+use Rattle.writer_calls.specs.declared.answer.Answer.{Answer}
+use Rattle.writer_calls.specs.Script.{scripted_answer}
+use Rattle.set_agenda.specs.Course.{sent}
+use Rattle.scenario.specs.Plan.{script_of}
+use Rattle.vss_names.specs.declared.order.Order.{Order}
+
+-- ## whose session stands
+
+-- the session that stands, if one does, is this lane's
+abbrev IsOf : ℕ → Option Session → Type 0
+IsOf o None = Unit {0}
+IsOf o (Some q) = q.owner ≡ o
+
+abbrev Owned : ℕ → State → Type 0
+Owned o st = IsOf o st.session
+
+owned_map : (o : ℕ) (f : Session → Session) → ((q : Session) → (f q).owner ≡ q.owner) → (q : Option Session) → IsOf o q → IsOf o (option_map f q)
+owned_map o f same None h = tt
+owned_map o f same (Some q) h = same q ∙ h
+
+owned_concluded : (o : ℕ) (e : Ending) (st : State) → Owned o st → Owned o (concluded e st)
+owned_concluded o NothingEnds st h = h
+owned_concluded o AgendaEnds st h = owned_map o _ (λ q. refl) st.session h
+owned_concluded o (SetFails why) st h = owned_map o _ (λ q. refl) st.session h
+
+owned_followed : (o : ℕ) (ran : Bool) (c : Course) (st : State) → Owned o st → Owned o (followed ran c st)
+unfolding followed
+owned_followed o ran c st h = owned_concluded o (ending st.course.outcome c.outcome ran c.agenda) (record st { course = c }) h
+
+owned_cut : (o : ℕ) (g : Option Group) (st : State) → Owned o st → Owned o (step_made g st)
+owned_cut o None st h = h
+owned_cut o (Some (Orders x)) st h = h
+owned_cut o (Some PreCommit) st h = h
+owned_cut o (Some Flush) st h = h
+owned_cut o (Some Hold) st h = h
+owned_cut o (Some Cut) st h = in_set (in_progress st)
+  where
+    in_set : (r : Option SetRow) → Owned o (cut_set r st)
+    in_set None = h
+    in_set (Some r) = h
+owned_cut o (Some Commit) st h = h
+owned_cut o (Some Release) st h = h
+owned_cut o (Some PostCommit) st h = h
+
+owned_stepped_as : (o : ℕ) (fails : Bool) (g : Option Group) (st : State) → Owned o st → Owned o (stepped_as fails g st)
+owned_stepped_as o true g st h = owned_followed o (runs st) _ st h
+owned_stepped_as o false g st h = owned_followed o (runs st) _ (step_made g st) (owned_cut o g st h)
+
+owned_stepped : (o : ℕ) (mark : Mark) (st : State) → Owned o st → Owned o (stepped mark st)
+unfolding stepped
+owned_stepped o mark st h = owned_stepped_as o _ _ st h
+
+owned_answered : (o w : ℕ) (said : Said) (st : State) → Owned o st → Owned o (answered w said st)
+unfolding answered
+owned_answered o w said st h = owned_followed o (runs st) _ st h
+
+owned_ticked : (o n : ℕ) (st : State) → Owned o st → Owned o (ticked n st)
+unfolding ticked
+owned_ticked o n st h = owned_followed o (runs st) _ (later n st) h
+
+owned_failed_in : (o : ℕ) (r : Option SetRow) (why : VssResult) (st : State) → Owned o st → Owned o (failed_in r why st)
+owned_failed_in o None why st h = h
+owned_failed_in o (Some r) why st h = owned_concluded o (SetFails why) (record st { course = course_failed why st.course }) h
+
+owned_either : (o : ℕ) (b : Bool) (x y : Replied) → Owned o x.1 → Owned o y.1 → Owned o (if b then x else y).1
+owned_either o true x y h i = h
+owned_either o false x y h i = i
+
+owned_closed : (o : ℕ) (q : Session) (st : State) → Owned o (closed q st)
+unfolding closed released
+owned_closed o q st = tt
+
+owned_by : (o : ℕ) (q : Session) (x : Option Session) → x ≡ Some q → IsOf o x → q.owner ≡ o
+owned_by o q x e h = subst (IsOf o) e h
+
+owned_changes : (o : ℕ) → IsKeptButSteps (Owned o)
+owned_changes o = record {
+  answers = λ w said st e h. owned_answered o w said st h;
+  ticks = owned_ticked o;
+  fails = λ why st h. owned_failed_in o (in_progress st) why st h;
+  gathers = λ s q st g h. owned_followed o true _ st h;
+  prepares = λ s q st g h. owned_either o (has_no_volume (in_progress st)) _ _ h (owned_followed o true _ st h);
+  snapshots = λ q st g h. owned_either o (has_no_volume (in_progress st)) _ _ h (owned_followed o true _ st h);
+  completes = λ q st g h. owned_followed o true _ st h;
+  clears = λ s v b st h. h;
+  deletes_set = λ n st h. h;
+  deletes_image = λ n v st h. h;
+  names = λ q explicit st g h. h;
+  disables = λ w q st g h. h;
+  starts = λ q st g e h. owned_by o q st.session g.stands h;
+  adds = λ v r q st g e h. h;
+  ends = λ q st e h. owned_closed o q (failed AsyncCancelled st);
+}
+
+owned_puts : (o v : ℕ) (w : Write) (mark : Mark) (x : State) → Owned o x → Owned o (put v w mark x)
+owned_puts o v w Clean x h = h
+owned_puts o v w Fault x h = h
+owned_puts o v w (FaultAfter n) x h = h
+
+owned_reverts : (o : ℕ) (s : Plan) (v : ℕ) (k : Kept) (mark : Mark) (st : State) → Owned o st → Owned o (reverted_as s v k mark st).1
+owned_reverts o s v k Clean st h = h
+owned_reverts o s v k Fault st h = h
+owned_reverts o s v k (FaultAfter n) st h = h
+
+owned_writes : (o : ℕ) (st : State) → IsKeptByWrites (Owned o) st
+owned_writes o st = record { puts = λ v e w mark x h. owned_puts o v w mark x h; reverts = λ s n v k mark e f h. owned_reverts o s v k mark st h }
+
+-- a session is begun by the lane of the act alone
+begun_by : (o lane : ℕ) (all : Bool) (c : Option Context) (st : State) → lane ≡ o → Owned o st → Owned o (begin_in lane all c st).1
+begun_by o lane all None st e h = h
+begun_by o lane all (Some c) st e h = e
+
+owned_after : (o : ℕ) (s : Plan) (st : State) (act : Act) → ((lane : ℕ) → begins_at lane act.event ≡ true → st.session ≡ None → lane ≡ o) → Owned o st → Owned o (after s st act)
+owned_after o s st act begins h =
+    on_after_steps (Owned o) (owned_changes o) s st act (owned_writes o st) (λ e f. owned_stepped o act.mark st h)
+    (λ lane all c e f. begun_by o lane all c st (begins lane e f) h) h
+
+in_both : (q : Option Session) → IsOf 0 q → IsOf 1 q → q ≡ None
+in_both None h i = refl
+in_both (Some q) h i = absurd (clash q.owner h i)
+  where
+    clash : (a : ℕ) → a ≡ 0 → a ≡ 1 → ⊥
+    clash a e f = grind arith
+
+-- no session stands, and none is begun
+none_stays : (s : Plan) (st : State) (act : Act) → ((lane : ℕ) → begins_at lane act.event ≡ true → ⊥) → st.session ≡ None → (after s st act).session ≡ None
+none_stays s st act begins e =
+    in_both (after s st act).session
+    (owned_after 0 s st act (λ lane f g. absurd (begins lane f)) (subst (IsOf 0) (sym e) tt))
+    (owned_after 1 s st act (λ lane f g. absurd (begins lane f)) (subst (IsOf 1) (sym e) tt))
+
+-- ## what a lane has left
+
+abbrev rest_of : Plan → List Move → ℕ → List LaneLine
+rest_of s moves i = drop (cursor moves i) (lines_of s i)
+
+-- the owner of the session has an `end` line left
+abbrev EndsLeft : Plan → List Move → Option Session → Type 0
+EndsLeft s moves None = Unit {0}
+EndsLeft s moves (Some q) = has_end (rest_of s moves q.owner) ≡ true
+
+cursor_as : (moves : List Move) (m : Move) (i : ℕ) (b : Bool) → is_lane i m.actor ≡ b → cursor (moves ++ m ∷ []) i ≡ cursor moves i + (0 + cond b 1 0)
+cursor_as moves m i b e = sum_by-append (λ (x : Move). cond (is_lane i x.actor) 1 0) moves (m ∷ []) ∙ ap (λ c. cursor moves i + (0 + cond c 1 0)) e
+
+cursor_more : (moves : List Move) (m : Move) (i : ℕ) → is_lane i m.actor ≡ true → cursor (moves ++ m ∷ []) i ≡ suc (cursor moves i)
+cursor_more moves m i e = cursor_as moves m i true e ∙ one (cursor moves i)
+  where
+    one : (a : ℕ) → a + (0 + 1) ≡ suc a
+    one a = omega arith
+
+cursor_same : (moves : List Move) (m : Move) (i : ℕ) → is_lane i m.actor ≡ false → cursor (moves ++ m ∷ []) i ≡ cursor moves i
+cursor_same moves m i e = cursor_as moves m i false e ∙ none (cursor moves i)
+  where
+    none : (a : ℕ) → a + (0 + 0) ≡ a
+    none a = omega arith
+
+drop_at : (lines : List LaneLine) (n : ℕ) (l : LaneLine) → slice_get lines n ≡ Some l → drop n lines ≡ l ∷ drop (suc n) lines
+drop_at [] zero l e = absurd cc
+drop_at [] (suc n) l e = absurd cc
+drop_at (x ∷ lines) zero l e = let same : x ≡ l = cc in ap (λ y. y ∷ lines) same
+drop_at (x ∷ lines) (suc n) l e = drop_at lines n l e
+
+ends_drop : (lines : List LaneLine) (n : ℕ) → ends_sessions lines ≡ true → ends_sessions (drop n lines) ≡ true
+ends_drop [] zero e = refl
+ends_drop [] (suc n) e = refl
+ends_drop (x ∷ lines) zero e = e
+ends_drop (x ∷ lines) (suc n) e = ends_drop lines n (second (not (is_begin x.op) || has_end lines) (ends_sessions lines) e)
+  where
+    second : (a b : Bool) → (a && b) ≡ true → b ≡ true
+    second true b e = e
+    second false b e = absurd cc
+
+begin_has_end : (l : LaneLine) (lines : List LaneLine) → is_begin l.op ≡ true → ends_sessions (l ∷ lines) ≡ true → has_end lines ≡ true
+begin_has_end l lines e f = by_parts (is_begin l.op) (has_end lines) (ends_sessions lines) e f
+  where
+    by_parts : (a b c : Bool) → a ≡ true → ((not a || b) && c) ≡ true → b ≡ true
+    by_parts true true c e f = refl
+    by_parts true false c e f = absurd cc
+    by_parts false b c e f = absurd cc
+
+end_left : (l : LaneLine) (lines : List LaneLine) → is_end l.op ≡ false → has_end (l ∷ lines) ≡ true → has_end lines ≡ true
+end_left l lines e f = by_parts (is_end l.op) (has_end lines) e f
+  where
+    by_parts : (a b : Bool) → a ≡ false → (a || b) ≡ true → b ≡ true
+    by_parts true b e f = absurd cc
+    by_parts false b e f = f
+
+-- ## the owner's end ends the session
+
+end_goes : (q : Session) (running : Bool) → check_owner q running call.End ≡ Go
+end_goes q true = refl
+end_goes q false = refl
+
+own_end : (s : Plan) (q : Session) (mark : Mark) (st : State) → st.session ≡ Some q → (line s q.owner End mark st).1.session ≡ None
+unfolding closed called
+own_end s q mark st e =
+    ap (λ v. (judged v s q.owner End st).1.session) (ap (λ x. check x (runs st) q.owner call.End) e ∙ ap (λ b. owner_only b (check_owner q (runs st) call.End)) (own q.owner) ∙ end_goes q (runs st))
+    ∙ ap (λ x. (line_in s q.owner End x st).1.session) e
+  where
+    own : (a : ℕ) → (a == a) ≡ true
+    own a = grind arith
+
+-- ## a legal move keeps it
+
+and_first : (a b : Bool) → (a && b) ≡ true → a ≡ true
+and_first true b e = refl
+and_first false b e = absurd cc
+
+may_can : (s : Plan) (r : Run) (a : Actor) → may_move s r a ≡ true → can_act s r a ≡ true
+may_can s r (Lane i) e = e
+may_can s r (Writer w) e = e
+may_can s r Advance e = e
+may_can s r IdleActor e = and_first (can_act s r IdleActor) (none_can_act s r) e
+
+after_enabled : (s : Plan) (st : State) (act : Act) → enabled s st act.event ≡ true → after s st act ≡ (happens s act.event act.mark st).1
+unfolding after
+after_enabled s st act e = ap (λ b. after_if b s st act) e
+
+-- the moves of others leave what a lane has left
+left_same : (s : Plan) (moves : List Move) (m : Move) (i : ℕ) → is_lane i m.actor ≡ false → has_end (rest_of s moves i) ≡ true → has_end (rest_of s (moves ++ m ∷ []) i) ≡ true
+left_same s moves m i e h = subst (λ n. has_end (drop n (lines_of s i)) ≡ true) (sym (cursor_same moves m i e)) h
+
+-- where no lane moves
+keeps_of : (s : Plan) (moves : List Move) (m : Move) (q : Session) (x : Option Session) → IsOf q.owner x → is_lane q.owner m.actor ≡ false → has_end (rest_of s moves q.owner) ≡ true → EndsLeft s (moves ++ m ∷ []) x
+keeps_of s moves m q None o e h = tt
+keeps_of s moves m q (Some p) o e h = subst (λ i. has_end (rest_of s (moves ++ m ∷ []) i) ≡ true) (sym o) (left_same s moves m q.owner e h)
+
+quiet_move : (s : Plan) (moves : List Move) (m : Move) (st : State) (event : Event) (x : Option Session) → st.session ≡ x → ((lane : ℕ) → begins_at lane event ≡ true → ⊥) → ((i : ℕ) → is_lane i m.actor ≡ false) → EndsLeft s moves x
+    → EndsLeft s (moves ++ m ∷ []) (after s st (act_of m.mark event)).session
+quiet_move s moves m st event None e never out h = subst (EndsLeft s (moves ++ m ∷ [])) (sym (none_stays s st (act_of m.mark event) never e)) tt
+quiet_move s moves m st event (Some q) e never out h =
+    keeps_of s moves m q (after s st (act_of m.mark event)).session
+    (owned_after q.owner s st (act_of m.mark event) (λ lane f g. absurd (never lane f)) (subst (IsOf q.owner) (sym e) refl)) (out q.owner) h
+
+-- where lane i makes its next line
+none_some : (x : Option Session) (q : Session) → x ≡ Some q → x ≡ None → ⊥
+none_some None q e f = cc
+none_some (Some p) q e f = cc
+
+equal : (a b : ℕ) → (a == b) ≡ true → a ≡ b
+equal a b e = grind arith
+
+same_number : (a : ℕ) → (a == a) ≡ true
+same_number a = grind arith
+
+lane_left : (s : Plan) (moves : List Move) (m : Move) (i : ℕ) (l : LaneLine) → m.actor ≡ Lane i → slice_get (lines_of s i) (cursor moves i) ≡ Some l → rest_of s moves i ≡ l ∷ rest_of s (moves ++ m ∷ []) i
+lane_left s moves m i l e f =
+    drop_at (lines_of s i) (cursor moves i) l f
+    ∙ ap (λ n. l ∷ drop n (lines_of s i)) (sym (cursor_more moves m i (ap (is_lane i) e ∙ same_number i)))
+
+-- no session stood
+from_none : (b : Bool) (s : Plan) (moves : List Move) (m : Move) (st : State) (i : ℕ) (l : LaneLine) → is_begin l.op ≡ b → EndsSessions s → m.actor ≡ Lane i → slice_get (lines_of s i) (cursor moves i) ≡ Some l → st.session ≡ None
+    → EndsLeft s (moves ++ m ∷ []) (after s st (act_of m.mark (Line i l.op))).session
+from_none false s moves m st i l b good e f g =
+    subst (EndsLeft s (moves ++ m ∷ [])) (sym (none_stays s st (act_of m.mark (Line i l.op)) (λ lane h. true_not_false (is_begin l.op) (and_first (is_begin l.op) (i == lane) h) b) g)) tt
+from_none true s moves m st i l b good e f g = by_session (after s st act).session owned
+  where
+    act : Act
+    act = act_of m.mark (Line i l.op)
+
+    second : (a b : Bool) → (a && b) ≡ true → b ≡ true
+    second true b e = e
+    second false b e = absurd cc
+
+    owned : Owned i (after s st act)
+    owned = owned_after i s st act (λ lane h x. sym (equal i lane (second (is_begin l.op) (i == lane) h))) (subst (IsOf i) (sym g) tt)
+
+    by_session : (x : Option Session) → IsOf i x → EndsLeft s (moves ++ m ∷ []) x
+    by_session None o = tt
+    by_session (Some q) o =
+        subst (λ n. has_end (rest_of s (moves ++ m ∷ []) n) ≡ true) (sym o)
+        (begin_has_end l (rest_of s (moves ++ m ∷ []) i) b
+        (subst (λ x. ends_sessions x ≡ true) (lane_left s moves m i l e f) (ends_drop (lines_of s i) (cursor moves i) (good i))))
+
+-- a session stood
+other_lane : (a b : ℕ) → (b == a) ≡ false → (a == b) ≡ false
+other_lane a b e = grind arith
+
+from_own : (b : Bool) (s : Plan) (moves : List Move) (m : Move) (st : State) (q : Session) (l : LaneLine) → is_end l.op ≡ b → m.actor ≡ Lane q.owner → slice_get (lines_of s q.owner) (cursor moves q.owner) ≡ Some l → st.session ≡ Some q → enabled s st (Line q.owner l.op) ≡ true → has_end (rest_of s moves q.owner) ≡ true
+    → EndsLeft s (moves ++ m ∷ []) (after s st (act_of m.mark (Line q.owner l.op))).session
+from_own true s moves m st q l b e f g on h =
+    subst (EndsLeft s (moves ++ m ∷ []))
+    (sym (ap (λ x. x.session) (after_enabled s st (act_of m.mark (Line q.owner l.op)) on) ∙ ap (λ op. (line s q.owner op m.mark st).1.session) (end_op l.op b) ∙ own_end s q m.mark st g)) tt
+  where
+    end_op : (op : Op) → is_end op ≡ true → op ≡ End
+    end_op End e = refl
+    end_op (WriteFill v b x) e = absurd cc
+    end_op (WriteStamp v b n) e = absurd cc
+    end_op (Read v b) e = absurd cc
+    end_op (ImageDigest n v) e = absurd cc
+    end_op (ImageBlock n v b) e = absurd cc
+    end_op (Query v) e = absurd cc
+    end_op (Properties n v) e = absurd cc
+    end_op (Revert n v) e = absurd cc
+    end_op (DeleteSet n) e = absurd cc
+    end_op (DeleteImage n v) e = absurd cc
+    end_op (Tick n) e = absurd cc
+    end_op (Begin c all) e = absurd cc
+    end_op (Disable w) e = absurd cc
+    end_op Gather e = absurd cc
+    end_op (Component w full) e = absurd cc
+    end_op Document e = absurd cc
+    end_op Start e = absurd cc
+    end_op (Add v) e = absurd cc
+    end_op Prepare e = absurd cc
+    end_op Snapshot e = absurd cc
+    end_op Await e = absurd cc
+    end_op Status e = absurd cc
+    end_op Complete e = absurd cc
+    end_op Abort e = absurd cc
+from_own false s moves m st q l b e f g on h = by_session (after s st act).session owned
+  where
+    act : Act
+    act = act_of m.mark (Line q.owner l.op)
+
+    owned : Owned q.owner (after s st act)
+    owned = owned_after q.owner s st act (λ lane i x. absurd (none_some st.session q g x)) (subst (IsOf q.owner) (sym g) refl)
+
+    by_session : (x : Option Session) → IsOf q.owner x → EndsLeft s (moves ++ m ∷ []) x
+    by_session None o = tt
+    by_session (Some p) o =
+        subst (λ n. has_end (rest_of s (moves ++ m ∷ []) n) ≡ true) (sym o)
+        (end_left l (rest_of s (moves ++ m ∷ []) q.owner) b (subst (λ x. has_end x ≡ true) (lane_left s moves m q.owner l e f) h))
+
+lane_move : (x : Option Session) (s : Plan) (moves : List Move) (m : Move) (st : State) (i : ℕ) (l : LaneLine) → st.session ≡ x → EndsSessions s → m.actor ≡ Lane i → slice_get (lines_of s i) (cursor moves i) ≡ Some l → enabled s st (Line i l.op) ≡ true → EndsLeft s moves x
+    → EndsLeft s (moves ++ m ∷ []) (after s st (act_of m.mark (Line i l.op))).session
+lane_move None s moves m st i l g good e f on h = from_none (is_begin l.op) s moves m st i l refl good e f g
+lane_move (Some q) s moves m st i l g good e f on h = by_owner (q.owner == i) refl
+  where
+    act : Act
+    act = act_of m.mark (Line i l.op)
+
+    by_owner : (b : Bool) → (q.owner == i) ≡ b → EndsLeft s (moves ++ m ∷ []) (after s st act).session
+    by_owner true j =
+        let same : q.owner ≡ i = equal q.owner i j in
+        subst (λ n. EndsLeft s (moves ++ m ∷ []) (after s st (act_of m.mark (Line n l.op))).session) same
+        (from_own (is_end l.op) s moves m st q l refl (e ∙ ap Lane (sym same)) (subst (λ n. slice_get (lines_of s n) (cursor moves n) ≡ Some l) (sym same) f) g (subst (λ n. enabled s st (Line n l.op) ≡ true) (sym same) on) h)
+    by_owner false j =
+        keeps_of s moves m q (after s st act).session
+        (owned_after q.owner s st act (λ lane k x. absurd (none_some st.session q g x)) (subst (IsOf q.owner) (sym g) refl))
+        (ap (is_lane q.owner) e ∙ other_lane i q.owner j) h
+
+-- ## every legal trail
+
+on_line_move : (s : Plan) (r : Run) (m : Move) (i : ℕ) (x : Option LaneLine) → EndsSessions s → m.actor ≡ Lane i → next_line s r i ≡ x → event_enabled s r (line_event i x) ≡ true → EndsLeft s r.moves r.state.session
+    → EndsLeft s (r.moves ++ m ∷ []) (after_event s r.state (line_event i x) m.mark).session
+on_line_move s r m i None good e f on h = absurd cc
+on_line_move s r m i (Some l) good e f on h = lane_move r.state.session s r.moves m r.state i l refl good e f on h
+
+on_answer_move : (s : Plan) (r : Run) (m : Move) (w : ℕ) (x : Option Answer) → m.actor ≡ Writer w → event_enabled s r (answer_event w x) ≡ true → EndsLeft s r.moves r.state.session
+    → EndsLeft s (r.moves ++ m ∷ []) (after_event s r.state (answer_event w x) m.mark).session
+on_answer_move s r m w None e on h = absurd cc
+on_answer_move s r m w (Some a) e on h =
+    quiet_move s r.moves m r.state (AnswerEvent w a) r.state.session refl (λ lane f. true_not_false false f refl) (λ i. ap (is_lane i) e) h
+
+on_script_move : (s : Plan) (r : Run) (m : Move) (w : ℕ) (x : Option Order) → m.actor ≡ Writer w → event_enabled s r (script_event s r.state w x) ≡ true → EndsLeft s r.moves r.state.session
+    → EndsLeft s (r.moves ++ m ∷ []) (after_event s r.state (script_event s r.state w x) m.mark).session
+on_script_move s r m w None e on h = absurd cc
+on_script_move s r m w (Some o) e on h = on_answer_move s r m w (scripted_answer (script_of s w) o (sent r.state.course w o)) e on h
+
+on_move : (s : Plan) (r : Run) (m : Move) (a : Actor) → EndsSessions s → m.actor ≡ a → can_act s r a ≡ true → EndsLeft s r.moves r.state.session
+    → EndsLeft s (r.moves ++ m ∷ []) (after_event s r.state (event_of s r a) m.mark).session
+on_move s r m (Lane i) good e on h = on_line_move s r m i (next_line s r i) good e refl on h
+on_move s r m (Writer w) good e on h = on_script_move s r m w (order_of_writer r.state w) e on h
+on_move s r m Advance good e on h = quiet_move s r.moves m r.state Provider r.state.session refl (λ lane f. true_not_false false f refl) (λ i. ap (is_lane i) e) h
+on_move s r m IdleActor good e on h = quiet_move s r.moves m r.state Idle r.state.session refl (λ lane f. true_not_false false f refl) (λ i. ap (is_lane i) e) h
+
+and_second : (a b : Bool) → (a && b) ≡ true → b ≡ true
+and_second true b e = e
+and_second false b e = absurd cc
+
+legal_ends : (s : Plan) (r : Run) (ms : List Move) → EndsSessions s → EndsLeft s r.moves r.state.session → is_legal_from s r ms ≡ true → EndsLeft s (run_from s r ms).moves (run_from s r ms).state.session
+legal_ends s r [] good h e = h
+legal_ends s r (m ∷ ms) good h e =
+    legal_ends s (moved s r m) ms good
+    (on_move s r m m.actor good refl (may_can s r m.actor (and_first (may_move s r m.actor) (allows_mark s r (event_of s r m.actor) m.mark) (and_first (is_legal_move s r m) (is_legal_from s (moved s r m) ms) e))) h)
+    (and_second (is_legal_move s r m) (is_legal_from s (moved s r m) ms) e)
+
+-- ## a move that may come
+
+allowed_clean : (s : Plan) (r : Run) (x : Option Event) → event_enabled s r x ≡ true → allows_mark s r x Clean ≡ true
+allowed_clean s r None e = absurd cc
+allowed_clean s r (Some (Line lane op)) e = refl
+allowed_clean s r (Some (AnswerEvent w a)) e = refl
+allowed_clean s r (Some Provider) e = refl
+allowed_clean s r (Some Idle) e = refl
+
+and_both : (a b : Bool) → a ≡ true → b ≡ true → (a && b) ≡ true
+and_both true true e f = refl
+and_both true false e f = absurd cc
+and_both false b e f = absurd cc
+
+can_move : (s : Plan) (r : Run) (a : Actor) → may_move s r a ≡ true → CanGoOn s r
+can_move s r a e = record {
+  actor = a;
+  legal = and_both (may_move s r a) (allows_mark s r (event_of s r a) Clean) e (allowed_clean s r (event_of s r a) (may_can s r a e));
+}
+
+line_can : (s : Plan) (r : Run) (i : ℕ) (l : LaneLine) → next_line s r i ≡ Some l → line_enabled s r.state i l.op ≡ true → CanGoOn s r
+line_can s r i l e f = can_move s r (Lane i) (subst (λ x. event_enabled s r (line_event i x) ≡ true) (sym e) f)
+
+-- ## where no agenda runs
+
+no_agenda : (a : Option Agenda) → is_some a ≡ false → a ≡ None
+no_agenda None e = refl
+no_agenda (Some a) e = absurd cc
+
+free_of : (st : State) (x : Option ℕ) → st.course.agenda ≡ None → is_free st x ≡ true
+free_of st None e = refl
+free_of st (Some w) e = ap (λ a. not (freezes a w)) e
+
+quiet_write : (s : Plan) (st : State) (lane v : ℕ) → st.course.agenda ≡ None → (not (is_held st v) && is_free st (acts_as s lane)) ≡ true
+quiet_write s st lane v e = and_both (not (is_held st v)) (is_free st (acts_as s lane)) (ap (λ a. not (holds a v)) e) (free_of st (acts_as s lane) e)
+
+verdict_free : (a b c d : Bool) → d ≡ false → not (is_blocked (verdict_of a b c d)) ≡ true
+verdict_free true b c d e = refl
+verdict_free false true c d e = refl
+verdict_free false false false d e = refl
+verdict_free false false true true e = absurd cc
+verdict_free false false true false e = refl
+
+and_false : (a b : Bool) → b ≡ false → (a && b) ≡ false
+and_false true b e = e
+and_false false b e = refl
+
+owner_free : (b : Bool) (q : Session) (running : Bool) (c : SessionCall) → running ≡ false → not (is_blocked (owner_only b (check_owner q running c))) ≡ true
+owner_free true q running c e = verdict_free (is_start c && makes_set q.stage) (running && not (goes_beside_agenda c)) (allows q.stage (has_writers q.context) c) (is_await c && running) (and_false (is_await c) running e)
+owner_free false q running c e = refl
+
+quiet_call : (q : Option Session) (running : Bool) (lane : ℕ) (c : SessionCall) → running ≡ false → not (is_blocked (check_other q running lane c)) ≡ true
+quiet_call None running lane c e = refl
+quiet_call (Some q) running lane c e = owner_free (q.owner == lane) q running c e
+
+quiet_line : (s : Plan) (st : State) (lane : ℕ) (op : Op) → st.course.agenda ≡ None → is_begin op ≡ false → line_enabled s st lane op ≡ true
+quiet_line s st lane (WriteFill v b x) e f = quiet_write s st lane v e
+quiet_line s st lane (WriteStamp v b n) e f = quiet_write s st lane v e
+quiet_line s st lane (Read v b) e f = refl
+quiet_line s st lane (ImageDigest n v) e f = refl
+quiet_line s st lane (ImageBlock n v b) e f = refl
+quiet_line s st lane (Query v) e f = refl
+quiet_line s st lane (Properties n v) e f = refl
+quiet_line s st lane (Revert n v) e f = refl
+quiet_line s st lane (DeleteSet n) e f = refl
+quiet_line s st lane (DeleteImage n v) e f = refl
+quiet_line s st lane (Tick n) e f = refl
+quiet_line s st lane (Begin c all) e f = absurd cc
+quiet_line s st lane (Disable w) e f = quiet_call st.session (runs st) lane call.Disable (ap is_some e)
+quiet_line s st lane Gather e f = quiet_call st.session (runs st) lane call.Gather (ap is_some e)
+quiet_line s st lane (Component w full) e f = quiet_call st.session (runs st) lane call.Component (ap is_some e)
+quiet_line s st lane Document e f = quiet_call st.session (runs st) lane call.Document (ap is_some e)
+quiet_line s st lane Start e f = quiet_call st.session (runs st) lane call.Start (ap is_some e)
+quiet_line s st lane (Add v) e f = quiet_call st.session (runs st) lane call.Add (ap is_some e)
+quiet_line s st lane Prepare e f = quiet_call st.session (runs st) lane call.Prepare (ap is_some e)
+quiet_line s st lane Snapshot e f = quiet_call st.session (runs st) lane call.Snapshot (ap is_some e)
+quiet_line s st lane Await e f = quiet_call st.session (runs st) lane call.Await (ap is_some e)
+quiet_line s st lane Status e f = quiet_call st.session (runs st) lane call.Status (ap is_some e)
+quiet_line s st lane Complete e f = quiet_call st.session (runs st) lane call.Complete (ap is_some e)
+quiet_line s st lane Abort e f = quiet_call st.session (runs st) lane call.Abort (ap is_some e)
+quiet_line s st lane End e f = quiet_call st.session (runs st) lane call.End (ap is_some e)
+
+-- a `begin` waits only for another lane's session
+begin_free : (q : Option Session) (lane : ℕ) → ((x : Session) → q ≡ Some x → (x.owner == lane) ≡ true) → not (is_blocked (check_begin q lane)) ≡ true
+begin_free None lane own = refl
+begin_free (Some q) lane own = ap (λ b. not (is_blocked (begin_verdict b))) (own q refl)
+
+begin_line : (s : Plan) (st : State) (lane : ℕ) (op : Op) → is_begin op ≡ true → ((x : Session) → st.session ≡ Some x → (x.owner == lane) ≡ true) → line_enabled s st lane op ≡ true
+begin_line s st lane (Begin c all) e own = begin_free st.session lane own
+begin_line s st lane (WriteFill v b x) e own = absurd cc
+begin_line s st lane (WriteStamp v b n) e own = absurd cc
+begin_line s st lane (Read v b) e own = absurd cc
+begin_line s st lane (ImageDigest n v) e own = absurd cc
+begin_line s st lane (ImageBlock n v b) e own = absurd cc
+begin_line s st lane (Query v) e own = absurd cc
+begin_line s st lane (Properties n v) e own = absurd cc
+begin_line s st lane (Revert n v) e own = absurd cc
+begin_line s st lane (DeleteSet n) e own = absurd cc
+begin_line s st lane (DeleteImage n v) e own = absurd cc
+begin_line s st lane (Tick n) e own = absurd cc
+begin_line s st lane (Disable w) e own = absurd cc
+begin_line s st lane Gather e own = absurd cc
+begin_line s st lane (Component w full) e own = absurd cc
+begin_line s st lane Document e own = absurd cc
+begin_line s st lane Start e own = absurd cc
+begin_line s st lane (Add v) e own = absurd cc
+begin_line s st lane Prepare e own = absurd cc
+begin_line s st lane Snapshot e own = absurd cc
+begin_line s st lane Await e own = absurd cc
+begin_line s st lane Status e own = absurd cc
+begin_line s st lane Complete e own = absurd cc
+begin_line s st lane Abort e own = absurd cc
+begin_line s st lane End e own = absurd cc
+
+line_or_begin : (b : Bool) (s : Plan) (st : State) (lane : ℕ) (op : Op) → is_begin op ≡ b → st.course.agenda ≡ None → ((x : Session) → st.session ≡ Some x → (x.owner == lane) ≡ true) → line_enabled s st lane op ≡ true
+line_or_begin true s st lane op e f own = begin_line s st lane op e own
+line_or_begin false s st lane op e f own = quiet_line s st lane op f e
+
+record Next (x : Option LaneLine) : Type 0 where
+  line : LaneLine
+  is : x ≡ Some line
+
+next_of : (x : Option LaneLine) → is_none x ≡ false → Next x
+next_of None e = absurd cc
+next_of (Some l) e = record { line = l; is = refl }
+
+next_left : (lines : List LaneLine) (n : ℕ) → has_end (drop n lines) ≡ true → Next (slice_get lines n)
+next_left [] zero e = absurd cc
+next_left [] (suc n) e = absurd cc
+next_left (x ∷ lines) zero e = record { line = x; is = refl }
+next_left (x ∷ lines) (suc n) e = next_left lines n e
+
+-- where a test fails
+record FailsAt (test : ℕ → Bool) : Type 0 where
+  at : ℕ
+  is : test at ≡ false
+
+not_all : (test : ℕ → Bool) (xs : List ℕ) → list_all test xs ≡ false → FailsAt test
+not_all test [] e = absurd cc
+not_all test (x ∷ xs) e = by_head (test x) refl e (not_all test xs)
+  where
+    by_head : (b : Bool) → test x ≡ b → (b && list_all test xs) ≡ false → (list_all test xs ≡ false → FailsAt test) → FailsAt test
+    by_head true f g ih = ih g
+    by_head false f g ih = record { at = x; is = f }
+
+own_session : (x : Option Session) (q p : Session) → x ≡ Some q → x ≡ Some p → p.owner ≡ q.owner
+own_session (Some y) q p e f =
+    let one : y ≡ q = cc in
+    let two : y ≡ p = cc in
+    ap (λ (z : Session). z.owner) (sym two ∙ one)
+own_session None q p e f = absurd cc
+
+waits_for_owner : (s : Plan) (r : Run) (x : Option Session) (i : ℕ) (l : LaneLine) → r.state.session ≡ x → r.state.course.agenda ≡ None → EndsLeft s r.moves x → next_line s r i ≡ Some l → CanGoOn s r
+waits_for_owner s r None i l e f h g =
+    line_can s r i l g (line_or_begin (is_begin l.op) s r.state i l.op refl f (λ y k. absurd (none_some r.state.session y k e)))
+waits_for_owner s r (Some q) i l e f h g =
+    let next = next_left (lines_of s q.owner) (cursor r.moves q.owner) h in
+    line_can s r q.owner next.line next.is
+    (line_or_begin (is_begin next.line.op) s r.state q.owner next.line.op refl f (λ p k. ap (λ n. n == q.owner) (own_session r.state.session q p e k) ∙ same_number q.owner))
+
+quiet_goes : (s : Plan) (r : Run) → r.state.course.agenda ≡ None → EndsLeft s r.moves r.state.session → list_all (is_used_up s r) (range_with_len 0 (length s.lanes)) ≡ false → CanGoOn s r
+quiet_goes s r e h f =
+    let lane = not_all (is_used_up s r) (range_with_len 0 (length s.lanes)) f in
+    let next = next_of (next_line s r lane.at) lane.is in
+    waits_for_owner s r r.state.session lane.at next.line refl e h next.is
+
+-- ## where an agenda runs
+
+not_false : (b : Bool) → not b ≡ false → b ≡ true
+not_false true e = refl
+not_false false e = absurd cc
+
+some_acts : (lanes writers provider : Bool) (s : Plan) (r : Run) → (lanes && writers && provider) ≡ false → (lanes ≡ false → CanGoOn s r) → (writers ≡ false → CanGoOn s r) → (provider ≡ false → CanGoOn s r) → CanGoOn s r
+some_acts false writers provider s r e f g h = f refl
+some_acts true false provider s r e f g h = g refl
+some_acts true true false s r e f g h = h refl
+some_acts true true true s r e f g h = absurd cc
+
+idle_or_other : (b : Bool) (s : Plan) (r : Run) → none_can_act s r ≡ b → is_asking (left_now r.state) ≡ true → CanGoOn s r
+idle_or_other true s r e a = can_move s r IdleActor (and_both (can_act s r IdleActor) (none_can_act s r) a e)
+idle_or_other false s r e a =
+    some_acts
+    (list_all (λ i. not (can_act s r (Lane i))) (range_with_len 0 (length s.lanes)))
+    (list_all (λ w. not (can_act s r (Writer w))) (range_with_len 0 (length s.writers)))
+    (not (can_act s r Advance)) s r e
+    (λ f. let x = not_all (λ i. not (can_act s r (Lane i))) (range_with_len 0 (length s.lanes)) f in can_move s r (Lane x.at) (not_false (can_act s r (Lane x.at)) x.is))
+    (λ f. let x = not_all (λ w. not (can_act s r (Writer w))) (range_with_len 0 (length s.writers)) f in can_move s r (Writer x.at) (not_false (can_act s r (Writer x.at)) x.is))
+    (λ f. can_move s r Advance (not_false (can_act s r Advance) f))
+
+running_goes : (s : Plan) (r : Run) → (is_working (left_now r.state) ≡ true) ⊎ (is_asking (left_now r.state) ≡ true) → CanGoOn s r
+running_goes s r (inl w) = can_move s r Advance w
+running_goes s r (inr a) = idle_or_other (none_can_act s r) s r refl a
+
+used_not : (used running : Bool) → (used && not running) ≡ false → running ≡ false → used ≡ false
+used_not true running e f = absurd (true_not_false (not running) (ap not f) e)
+used_not false running e f = refl
+
+by_runs : (b : Bool) (s : Plan) (trail : List Move) → runs (run s trail).state ≡ b → EndsLeft s (run s trail).moves (run s trail).state.session → is_complete s trail ≡ false → CanGoOn s (run s trail)
+by_runs true s trail e h f =
+    running_goes s (run s trail)
+    (subst (λ st. (is_working (left_now st) ≡ true) ⊎ (is_asking (left_now st) ≡ true)) (sym (state-run s trail))
+    (working_or_asking s (acts s trail) (subst (λ st. runs st ≡ true) (state-run s trail) e)))
+by_runs false s trail e h f =
+    let r = run s trail in
+    quiet_goes s r (no_agenda r.state.course.agenda e) h (used_not (list_all (is_used_up s r) (range_with_len 0 (length s.lanes))) (runs r.state) f e)
+
+pub can_go_on : (s : Plan) (trail : List Move) → EndsSessions s → is_legal s trail ≡ true → is_complete s trail ≡ false → CanGoOn s (run s trail)
+can_go_on s trail good e f = by_runs (runs (run s trail).state) s trail refl (legal_ends s (begin s) trail good tt e) f
