@@ -1,2 +1,4 @@
 pub mod Selection
 pub mod Document
+pub mod Held
+pub mod Refusal

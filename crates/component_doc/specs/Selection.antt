@@ -6,11 +6,12 @@ use Rattle.std.specs.List.{list_any, range_with_len}
 use Rattle.std.specs.Str.{bytes_eq}
 use Rattle.writer_meta.specs.Metadata.{Part, Meta, full_name, is_ancestor}
 use Rattle.component_doc.specs.declared.choice.Choice.{Choice}
+use Rattle.component_doc.specs.declared.found.Found.{Found}
+use Rattle.component_doc.specs.declared.pair.Pair.{Pair as NamedPair}
 
 -- a component by its writer and its place in the writer's metadata
-pub record Pair : Type 0 where
-  pub writer : ℕ
-  pub component : ℕ
+abbrev pub Pair : Type 0
+Pair = NamedPair
 
 -- the pairs that were named, in order of writers and then of components; or all components of these writers
 pub data Selected : Type 0 where
@@ -34,16 +35,18 @@ with_pair q [] = q ∷ []
 with_pair q (p ∷ ps) = if comes_before q p then q ∷ p ∷ ps else p ∷ with_pair q ps
 
 -- a component by its full name, with its place
-pub record Found : Type 0 where
-  pub component : ℕ
-  pub selectable : Bool
-
 abbrev pub found_from : List ℕ → ℕ → List Part → Option Found
 found_from name i [] = None
 found_from name i (p ∷ ps) = if bytes_eq (full_name p) name then Some (record { component = i; selectable = p.selectable }) else found_from name (i + 1) ps
 
 abbrev pub found_in : List ℕ → List Part → Option Found
 found_in name ps = found_from name 0 ps
+
+-- of a writer, if its metadata are known
+abbrev pub found_of : List ℕ → Option (Option Meta) → Option Found
+found_of name None = None
+found_of name (Some None) = None
+found_of name (Some (Some m)) = found_in name m.parts
 
 -- what it comes to that a component is named: there is none of that name, it is not selectable, it was named already;
 -- or it is named now

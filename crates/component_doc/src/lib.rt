@@ -4,6 +4,23 @@
 //! `specs/Selection.antt` has who takes part and what is chosen, `specs/Document.antt` the component document.
 #![tactic(auto)]
 
+mod add_fault;
+mod ancestors;
 mod choice;
+mod choices;
+mod chosen;
+mod found;
+mod metas;
+mod pair;
+mod pairs;
+mod selection;
+mod taken;
+#[cfg(test)]
+mod tests;
 
+pub use add_fault::AddFault;
 pub use choice::Choice;
+pub use choices::Choices;
+pub use metas::Metas;
+pub use pair::Pair;
+pub use selection::Selection;

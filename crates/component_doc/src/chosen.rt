@@ -1,0 +1,124 @@
+//! The choices of one writer, put behind those of the writers before it.
+ghost use Rattle.std.specs.Prelude.{◌≡◌, ◌≤◌, ◌++◌, [], map, length, option_map, IfOk, OnOk, IsTrue};
+ghost use Rattle.writer_meta.specs.Metadata.{part_of, meta_of};
+ghost use Rattle.component_doc.specs.Held.{selected_of, has_few};
+ghost use Rattle.component_doc.specs.Selection as selection;
+ghost use Rattle.component_doc.specs.Selection.{Named, AllOf, choice_if, choices_from, choices_of};
+
+use crate::choice::Choice;
+use crate::pair::Pair;
+use crate::taken::Taken;
+use crate::{ancestors, pairs};
+use std::alloc::Global;
+use vss_names::OutOfMemory;
+use writer_meta::{Component, Metadata};
+
+/// Adds the choices of a writer, if it takes part.
+pub(crate) fn choose_of_writer(
+    alloc: Global,
+    taken: &Taken,
+    writer: u32,
+    known: &Option<Metadata>,
+    choices: &mut Vec<Choice>,
+) -> Result<(), OutOfMemory>
+    requires { IsTrue (has_few (option_map meta_of known.now)) }
+    ensures { OnOk result (choices.new.items
+        ≡ choices.old.items ++ choices_of (selected_of taken.now) writer (option_map meta_of known.now)) }
+{
+    let Some(metadata) = known else {
+        return Ok(());
+    };
+    if !taken.takes(writer) {
+        return Ok(());
+    }
+    let components = metadata.components.items();
+    match taken {
+        Taken::Named(pairs) => choose_by_names(alloc, pairs, writer, components, choices),
+        Taken::AllOf(_) => choose_all(writer, components, choices),
+    }
+}
+
+fn choose_by_names(
+    alloc: Global,
+    pairs: &[Pair],
+    writer: u32,
+    components: &[Component],
+    choices: &mut Vec<Choice>,
+) -> Result<(), OutOfMemory>
+    requires { length components.now ≤ 1024 }
+    ensures { OnOk result (choices.new.items ≡ choices.old.items
+        ++ choices_from (Named pairs.now) (map part_of components.now) writer 0 (map part_of components.now)) }
+{
+    for (i, component) in components.iter().enumerate() {
+        let pair = Pair {
+            writer,
+            component: i as u32,
+        };
+        let chosen = is_chosen(alloc, pairs, components, pair, component)?;
+        let explicit = pairs::has(pairs, pair);
+        choose_if(chosen, pair, explicit, choices)?;
+    }
+    Ok(())
+}
+
+fn choose_all(
+    writer: u32,
+    components: &[Component],
+    choices: &mut Vec<Choice>,
+) -> Result<(), OutOfMemory>
+    requires { length components.now ≤ 1024 }
+    ensures { OnOk result (choices.new.items ≡ choices.old.items
+        ++ choices_from (AllOf []) (map part_of components.now) writer 0 (map part_of components.now)) }
+{
+    for (i, _component) in components.iter().enumerate() {
+        let pair = Pair {
+            writer,
+            component: i as u32,
+        };
+        choose_if(true, pair, false, choices)?;
+    }
+    Ok(())
+}
+
+fn choose_if(
+    chosen: bool,
+    pair: Pair,
+    explicit: bool,
+    choices: &mut Vec<Choice>,
+) -> Result<(), OutOfMemory>
+    ensures { OnOk result (choices.new.items
+        ≡ choices.old.items ++ choice_if chosen pair.writer pair.component explicit) }
+{
+    if chosen {
+        choices.push(Choice {
+            writer: pair.writer,
+            component: pair.component,
+            explicit,
+        })?;
+    }
+    Ok(())
+}
+
+/// Whether a component is chosen by the pairs that were named.
+fn is_chosen(
+    alloc: Global,
+    pairs: &[Pair],
+    components: &[Component],
+    pair: Pair,
+    component: &Component,
+) -> Result<bool, OutOfMemory>
+    requires { length components.now ≤ 1024 }
+    ensures { IfOk result (λ answer. answer
+        ≡ selection.is_chosen pairs.now (map part_of components.now) pair.writer pair.component (part_of component.now)) }
+{
+    if pairs::has(pairs, pair) {
+        return Ok(true);
+    }
+    if ancestors::has_named_ancestor(alloc, pairs, pair.writer, component, components)? {
+        return Ok(true);
+    }
+    if component.selectable {
+        return Ok(false);
+    }
+    Ok(!ancestors::has_selectable_ancestor(alloc, component, components)?)
+}

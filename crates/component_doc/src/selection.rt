@@ -1,0 +1,127 @@
+ghost use Rattle.std.specs.Prelude.{◌≡◌, ◌<◌, ◌^◌, [], Ok, length, IfOk, IfErr, OnOk, OnErr, IsTrue};
+ghost use Rattle.component_doc.specs.Held.{Held, selected_of};
+
+use crate::add_fault::AddFault;
+use crate::choices::Choices;
+use crate::chosen::choose_of_writer;
+use crate::metas::Metas;
+use crate::pair::Pair;
+use crate::pairs;
+use crate::taken::Taken;
+use std::alloc::Global;
+use std::marker::Model;
+use vss_names::{Numbers, OutOfMemory};
+
+/// The selection of a session: the components that a requestor has named, or all components of the writers that are
+/// known. Contracts see over how many writers it is, and what is selected.
+#[derive(Debug, Drop)]
+pub struct Selection {
+    writers: u32,
+    taken: Taken,
+}
+
+impl Model for Selection {
+    ghost Value = { Held };
+
+    ghost view = { λ s. record { writers = s.writers; selected = selected_of s.taken } };
+}
+
+impl Selection {
+    ghost use Rattle.component_doc.specs.Held.{metas_of, all_have_few, pairs_of, is_named};
+    ghost use Rattle.component_doc.specs.Selection.{Named, Names, naming, all_of, takers, chosen};
+    ghost use Rattle.component_doc.specs.Refusal.{Tells};
+
+    /// A selection over this many writers in which nothing is named yet.
+    pub fn new(alloc: Global, writers: u32) -> Result<Selection, OutOfMemory>
+        ensures { result ≡ Ok (record { writers = writers; selected = Named [] }) }
+    {
+        Ok(Selection {
+            writers,
+            taken: Taken::Named(Vec::new(alloc)),
+        })
+    }
+
+    /// A selection of all components of the writers that are known.
+    pub fn all(alloc: Global, metas: &Metas) -> Result<Selection, OutOfMemory>
+        requires { length metas.now < 2 ^ 32 }
+        ensures { IfOk result (λ selection. selection
+            ≡ record { writers = length metas.now; selected = all_of (metas_of metas.now) }) }
+    {
+        Ok(Selection {
+            writers: metas.items().len() as u32,
+            taken: Taken::AllOf(metas.known(alloc)?),
+        })
+    }
+
+    /// Names a component by its writer and its full name.
+    pub fn add(
+        &mut self,
+        alloc: Global,
+        metas: &Metas,
+        writer: u32,
+        path: &[u8],
+    ) -> Result<(), AddFault>
+        requires few { IsTrue (all_have_few (metas_of metas.now)) }
+        requires named { IsTrue (is_named self.old.selected) }
+        ensures added { OnOk result (naming (metas_of metas.now) writer path.now (pairs_of self.old.selected)
+            ≡ Names (pairs_of self.new.selected)) }
+        ensures refused { IfErr result
+            (λ fault. Tells fault (naming (metas_of metas.now) writer path.now (pairs_of self.old.selected))) }
+        ensures unchanged { OnErr result (self.new ≡ self.old) }
+        ensures writers { self.new.writers ≡ self.old.writers }
+        ensures named { IsTrue (is_named self.new.selected) }
+    {
+        let Some(found) = metas.find(alloc, writer, path)? else {
+            return Err(AddFault::NotFound);
+        };
+        if !found.selectable {
+            return Err(AddFault::NotSelectable);
+        }
+        let pair = Pair {
+            writer,
+            component: found.component,
+        };
+        let Taken::Named(named) = &mut self.taken else {
+            unreachable!()
+        };
+        if pairs::has(named, pair) {
+            return Err(AddFault::AlreadyExists);
+        }
+        pairs::insert(named, pair)?;
+        Ok(())
+    }
+
+    /// The writers that take part, in order.
+    pub fn participants(&self, alloc: Global) -> Result<Numbers, OutOfMemory>
+        ensures { IfOk result (λ writers. writers ≡ takers self.now.writers self.now.selected) }
+    {
+        let mut writers = Vec::new(alloc);
+        for writer in 0..self.writers {
+            if self.taken.takes(writer) {
+                writers.push(writer)?;
+            }
+        }
+        Ok(Numbers::of(writers))
+    }
+
+    /// The components that the backup takes, of all writers.
+    #[tactic(auto, using(crate::proofs::Few::few_item))]
+    pub fn chosen(&self, alloc: Global, metas: &Metas) -> Result<Choices, OutOfMemory>
+        requires few { IsTrue (all_have_few (metas_of metas.now)) }
+        requires writers { length metas.now ≡ self.now.writers }
+        ensures { IfOk result (λ choices. choices ≡ chosen self.now.selected (metas_of metas.now)) }
+    {
+        let mut choices = Vec::new(alloc);
+        let known = metas.items();
+        for writer in 0..self.writers {
+            choose_of_writer(
+                alloc,
+                &self.taken,
+                writer,
+                &known[writer as usize],
+                &mut choices,
+            )?;
+        }
+        Ok(Choices::of(choices))
+    }
+}
