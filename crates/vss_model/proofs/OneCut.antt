@@ -14,7 +14,8 @@ use Rattle.writer_state.specs.declared.said.Said.{Said}
 use Rattle.writer_state.specs.declared.said.Said.TheVariants.{Ok}
 use Rattle.write_history.specs.declared.mark.Mark.{Mark}
 use Rattle.write_history.specs.declared.mark.Mark.TheVariants.{Clean, Fault, FaultAfter}
-use Rattle.write_history.specs.History.{Write, Image, History, fresh, point_in, dropped, written, reverted}
+use Rattle.write_history.specs.History.{Write, Image, History, content, last_bytes, fresh, point_in, dropped, written, reverted}
+use Rattle.block_data.specs.Runs.{zeros}
 use Rattle.set_agenda.specs.declared.group.Group.{Group}
 use Rattle.set_agenda.specs.declared.group.Group.TheVariants.{Orders, PreCommit, Flush, Hold, Cut, Commit, Release, PostCommit}
 use Rattle.set_agenda.specs.declared.kind.Kind.{Kind}
@@ -827,3 +828,25 @@ in_time_at k u (suc v) (x ∷ hs) h = in_time_at k (u + 1) v hs h.1
 
 pub images_in_time : (s : Plan) (acts : List Act) (v : ℕ) → AreInTime (length (history_of (state s acts) v).writes) (history_of (state s acts) v).images
 images_in_time s acts v = in_time_at (known_from s nothing_known (start s) acts) 0 v (state s acts).volumes (cut_all s acts).shown
+
+-- ## what an image reads
+
+all_taken : (ws : List Write) → take (length ws) ws ≡ ws
+all_taken ws = ap (take (length ws)) (more ws) ∙ take-append_seam ws []
+  where
+    more : (xs : List Write) → xs ≡ xs ++ []
+    more [] = refl
+    more (x ∷ xs) = ap (λ ys. x ∷ ys) (more xs)
+
+reads_at : (s : Plan) (v p b : ℕ) (ws : List Write) (o : Option (List Act)) (before : List Act) → o ≡ Some before → IsShownAt s v p ws o
+    → content ws p b ≡ content (history_of (state s before) v).writes (length (history_of (state s before) v).writes) b
+reads_at s v p b ws None before e h = absurd h
+reads_at s v p b ws (Some x) before e h =
+    let same : x ≡ before = cc in
+    let old : List Act → List Write = λ y. (history_of (state s y) v).writes in
+    ap (last_bytes b zeros) (h.1 ∙ sym (all_taken (old x)))
+    ∙ ap (λ y. content (old y) (length (old y)) b) same
+
+pub image_reads : (s : Plan) (acts before : List Act) (n v p b : ℕ) → point_in n (history_of (state s acts) v).images ≡ Some p → cut s n acts ≡ Some before
+    → content (history_of (state s acts) v).writes p b ≡ content (history_of (state s before) v).writes (length (history_of (state s before) v).writes) b
+image_reads s acts before n v p b e f = reads_at s v p b (history_of (state s acts) v).writes (cut s n acts) before f (image_shown s acts n v p e)

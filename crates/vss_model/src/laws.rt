@@ -3,7 +3,7 @@
 ghost use Rattle.std.specs.Prelude.{is_some, ◌⊎◌, length, ◌≡◌, ◌+◌, ◌++◌, ◌∷◌, ◌&&◌, [], true, false, Bool, ℕ, List, Some, None};
 ghost use Rattle.write_history.specs.declared.move_item.Move.{Move};
 ghost use Rattle.scenario.specs.Plan.{Plan};
-ghost use Rattle.write_history.specs.History.{point_in};
+ghost use Rattle.write_history.specs.History.{content, point_in};
 ghost use Rattle.write_history.specs.Slots.{Placed, copies};
 ghost use Rattle.set_agenda.specs.Agenda.{open_group, is_among, is_asking, is_working, next_member};
 ghost use Rattle.set_agenda.specs.Limits.{spent_of};
@@ -58,11 +58,15 @@ pub fn all_stand_still_at_the_cut()
 {}
 
 /// An image shows its volume as it was at its set's cut, which is one part of the acts for all volumes of the set: its
-/// point is the number of effective writes there, and since then the writes begin with those. There the set's Cut step
+/// point is the number of effective writes there, and since then the writes begin with those, so each block reads as it did
+/// there. There the set's Cut step
 /// was the next one, so all stood still.
 pub fn image_shows_the_cut()
     ensures image { (s : Plan) (acts : List Act) (n v p : ℕ) → point_in n (history_of (state s acts) v).images ≡ Some p
         → IsShownAt s v p (history_of (state s acts) v).writes (cut s n acts) }
+    ensures reads { (s : Plan) (acts before : List Act) (n v p b : ℕ) → point_in n (history_of (state s acts) v).images ≡ Some p
+        → cut s n acts ≡ Some before → content (history_of (state s acts) v).writes p b
+        ≡ content (history_of (state s before) v).writes (length (history_of (state s before) v).writes) b }
     ensures cut { (s : Plan) (n : ℕ) (acts before : List Act) → cut s n acts ≡ Some before → IsCutAt s n before }
 {}
 
