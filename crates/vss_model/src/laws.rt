@@ -58,9 +58,8 @@ pub fn all_stand_still_at_the_cut()
 {}
 
 /// An image shows its volume as it was at its set's cut, which is one part of the acts for all volumes of the set: its
-/// point is the number of effective writes there, and since then the writes begin with those, so each block reads as it did
-/// there. There the set's Cut step
-/// was the next one, so all stood still.
+/// point is the number of effective writes there, and since then the writes begin with those, so each block reads as it
+/// did there. The set's Cut step was the next one there, so all stood still.
 pub fn image_shows_the_cut()
     ensures image { (s : Plan) (acts : List Act) (n v p : ℕ) → point_in n (history_of (state s acts) v).images ≡ Some p
         → IsShownAt s v p (history_of (state s acts) v).writes (cut s n acts) }
