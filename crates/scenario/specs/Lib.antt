@@ -1,2 +1,14 @@
 pub mod Plan
 pub mod Calls
+pub mod Bounds
+pub mod Built
+pub mod Views
+pub mod Grammar
+pub mod Lines
+pub mod Fields
+pub mod Numbers
+pub mod Names
+pub mod Words
+pub mod Drafts
+pub mod Ops
+pub mod Entries

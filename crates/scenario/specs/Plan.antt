@@ -4,7 +4,7 @@ use Rattle.std.specs.Prelude.{ℕ, List, [], map, ◌==◌, Option, Some, None, 
 use Rattle.write_history.specs.Slots.{Placed}
 use Rattle.writer_meta.specs.Metadata.{Meta}
 use Rattle.writer_calls.specs.declared.scripted.Scripted.{Scripted}
-use Rattle.scenario.specs.declared.op.Op.{Op}
+use Rattle.scenario.specs.declared.lane_line.LaneLine.{LaneLine as DeclaredLine}
 use Rattle.scenario.specs.declared.span.Span.{Span}
 use Rattle.scenario.specs.declared.volume_row.VolumeRow.{VolumeRow}
 
@@ -20,9 +20,8 @@ pub record WriterPlan : Type 0 where
 
 -- a line, with its number in the text. A lane that has a `begin` line and no `end` line after its last `begin` gets one
 -- further line `end`, whose number is 0.
-pub record LaneLine : Type 0 where
-  pub number : ℕ
-  pub op : Op
+abbrev pub LaneLine : Type 0
+LaneLine = DeclaredLine
 
 pub record LanePlan : Type 0 where
   pub name : Span

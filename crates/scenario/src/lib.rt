@@ -1,14 +1,41 @@
 //! A scenario: what it declares, and the lines of its lanes.
 //!
-//! `specs/Plan.antt` has what a scenario says, as the definitions read it.
+//! `specs/Plan.antt` has what a scenario says, as the definitions read it. `specs/Grammar.antt` says which text is which
+//! scenario: the text is cut into lines, each line says something after the lines before it or is refused
+//! (`specs/Entries.antt`, and `specs/Ops.antt` for the lines of a lane), and the first refused line is told. `parse` is
+//! proved to answer exactly that, unless memory runs out. Contracts see a `Scenario` as its plan, which keeps to the
+//! limits of `specs/Bounds.antt` and, for now, to what is run, `specs/Built.antt`.
 #![tactic(auto)]
 
+mod closing;
+mod draft;
+mod entries;
+mod entry;
+mod fields;
+mod lane;
+mod lane_line;
+mod names;
+mod numbers;
 mod op;
+mod ops;
+mod parsing;
+mod parts;
 mod reason;
+mod refused;
+mod scenario;
 mod span;
+mod text_line;
 mod volume_row;
+mod word;
 
+pub use lane_line::LaneLine;
 pub use op::Op;
+pub use parsing::parse;
 pub use reason::Reason;
+pub use refused::Refused;
+pub use scenario::Scenario;
 pub use span::Span;
 pub use volume_row::VolumeRow;
+
+#[cfg(test)]
+mod tests;

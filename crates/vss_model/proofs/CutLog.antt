@@ -326,7 +326,7 @@ kept_by_changes = record {
   names = λ q explicit st e h. h;
   disables = λ w q st e h. h;
   starts = λ q st e f h. h;
-  adds = λ v r q st e f h. h;
+  adds = λ v r q st e f g h. h;
   ends = λ q st e h. on_closes q (failed AsyncCancelled st);
 }
 

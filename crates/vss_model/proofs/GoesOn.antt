@@ -36,7 +36,8 @@ use Rattle.vss_model.specs.Steps.{answered, cut_set, step_made, stepped_as, step
 use Rattle.vss_model.specs.Acts.{Act, after, after_if, happens, enabled, line_enabled, is_free, is_blocked, order_of_writer}
 use Rattle.vss_model.specs.Laws.{IsKeptByWrites}
 use Rattle.vss_model.specs.Trail.{Run, begin, is_lane, cursor, next_line, line_event, answer_event, script_event, event_of, act_of, after_event, moved, run_from, run, acts, event_enabled, can_act, none_can_act, may_move, allows as allows_mark, is_legal_move, is_legal_from, is_legal, is_used_up, is_complete}
-use Rattle.vss_model.specs.GoesOn.{is_begin, is_end, has_end, ends_sessions, EndsSessions, CanGoOn}
+use Rattle.scenario.specs.Bounds.{is_begin, is_end, has_end, ends_sessions}
+use Rattle.vss_model.specs.GoesOn.{EndsSessions, CanGoOn}
 use Rattle.vss_model.proofs.Rule.{IsKeptButSteps, begins_at, on_after_steps}
 use Rattle.vss_model.proofs.Appending.{state-run}
 use Rattle.vss_model.proofs.Orderly.{true_not_false}
@@ -131,7 +132,7 @@ owned_changes o = record {
   names = λ q explicit st g h. h;
   disables = λ w q st g h. h;
   starts = λ q st g e h. owned_by o q st.session g.stands h;
-  adds = λ v r q st g e h. h;
+  adds = λ v r q st g e f h. h;
   ends = λ q st e h. owned_closed o q (failed AsyncCancelled st);
 }
 
@@ -178,20 +179,20 @@ abbrev rest_of : Plan → List Move → ℕ → List LaneLine
 rest_of s moves i = drop (cursor moves i) (lines_of s i)
 
 -- the owner of the session has an `end` line left
-abbrev EndsLeft : Plan → List Move → Option Session → Type 0
+abbrev pub EndsLeft : Plan → List Move → Option Session → Type 0
 EndsLeft s moves None = Unit {0}
 EndsLeft s moves (Some q) = has_end (rest_of s moves q.owner) ≡ true
 
 cursor_as : (moves : List Move) (m : Move) (i : ℕ) (b : Bool) → is_lane i m.actor ≡ b → cursor (moves ++ m ∷ []) i ≡ cursor moves i + (0 + cond b 1 0)
 cursor_as moves m i b e = sum_by-append (λ (x : Move). cond (is_lane i x.actor) 1 0) moves (m ∷ []) ∙ ap (λ c. cursor moves i + (0 + cond c 1 0)) e
 
-cursor_more : (moves : List Move) (m : Move) (i : ℕ) → is_lane i m.actor ≡ true → cursor (moves ++ m ∷ []) i ≡ suc (cursor moves i)
+pub cursor_more : (moves : List Move) (m : Move) (i : ℕ) → is_lane i m.actor ≡ true → cursor (moves ++ m ∷ []) i ≡ suc (cursor moves i)
 cursor_more moves m i e = cursor_as moves m i true e ∙ one (cursor moves i)
   where
     one : (a : ℕ) → a + (0 + 1) ≡ suc a
     one a = omega arith
 
-cursor_same : (moves : List Move) (m : Move) (i : ℕ) → is_lane i m.actor ≡ false → cursor (moves ++ m ∷ []) i ≡ cursor moves i
+pub cursor_same : (moves : List Move) (m : Move) (i : ℕ) → is_lane i m.actor ≡ false → cursor (moves ++ m ∷ []) i ≡ cursor moves i
 cursor_same moves m i e = cursor_as moves m i false e ∙ none (cursor moves i)
   where
     none : (a : ℕ) → a + (0 + 0) ≡ a
@@ -412,7 +413,7 @@ and_second : (a b : Bool) → (a && b) ≡ true → b ≡ true
 and_second true b e = e
 and_second false b e = absurd cc
 
-legal_ends : (s : Plan) (r : Run) (ms : List Move) → EndsSessions s → EndsLeft s r.moves r.state.session → is_legal_from s r ms ≡ true → EndsLeft s (run_from s r ms).moves (run_from s r ms).state.session
+pub legal_ends : (s : Plan) (r : Run) (ms : List Move) → EndsSessions s → EndsLeft s r.moves r.state.session → is_legal_from s r ms ≡ true → EndsLeft s (run_from s r ms).moves (run_from s r ms).state.session
 legal_ends s r [] good h e = h
 legal_ends s r (m ∷ ms) good h e =
     legal_ends s (moved s r m) ms good

@@ -370,7 +370,7 @@ kept_by_changes = record {
   names = λ q explicit st e h. h;
   disables = λ w q st e h. h;
   starts = λ q st e f h. tied_none st.course.agenda st.course.members _ (none_runs st.course.agenda e.quiet);
-  adds = λ v r q st e f h. tied_none st.course.agenda st.course.members _ (none_runs st.course.agenda e.quiet);
+  adds = λ v r q st e f g h. tied_none st.course.agenda st.course.members _ (none_runs st.course.agenda e.quiet);
   ends = λ q st e h. on_closes q (failed AsyncCancelled st);
 }
 

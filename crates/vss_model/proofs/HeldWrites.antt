@@ -164,7 +164,7 @@ kept_by_changes v ws = record {
   names = λ q explicit st g h. h;
   disables = λ w q st g h. h;
   starts = λ q st g e h. h;
-  adds = λ u r q st g e h. h;
+  adds = λ u r q st g e f h. h;
   ends = λ q st e h. writes-closed q (failed AsyncCancelled st) v ∙ writes-failed_in (in_progress st) AsyncCancelled st v ∙ h;
 }
 

@@ -12,3 +12,8 @@ pub mod OneCut
 pub mod HeldWrites
 pub mod Waiting
 pub mod GoesOn
+pub mod Turns
+pub mod FewTurns
+pub mod TrailLength
+pub mod Headline
+pub mod Ended

@@ -391,7 +391,7 @@ kept_but_steps k = record {
   names = λ q explicit st g h. record { shown = h.shown; progress = h.progress; fresh = h.fresh };
   disables = λ w q st g h. record { shown = h.shown; progress = h.progress; fresh = h.fresh };
   starts = λ q st g e h. on_starts k q st h;
-  adds = λ v r q st g e h. on_adds k v r.number st h;
+  adds = λ v r q st g e f h. on_adds k v r.number st h;
   ends = λ q st e h. on_closed k q (failed AsyncCancelled st) (none_after (in_progress st) AsyncCancelled st refl) (on_fails_in k (in_progress st) AsyncCancelled st refl h);
 }
 

@@ -675,7 +675,7 @@ kept_by_changes = record {
   names = λ q explicit st g h. record { numbered = h.numbered; newest = h.newest; session = h.session; agenda = h.agenda; live = h.live };
   disables = λ w q st g h. record { numbered = h.numbered; newest = h.newest; session = h.session; agenda = h.agenda; live = h.live };
   starts = on_starts;
-  adds = λ v r q st g e h. on_adds v r.number st h;
+  adds = λ v r q st g e f h. on_adds v r.number st h;
   ends = λ q st e h. on_closed q (failed AsyncCancelled st) (none_after (in_progress st) AsyncCancelled st refl) (on_failed_in (in_progress st) AsyncCancelled st refl h);
 }
 

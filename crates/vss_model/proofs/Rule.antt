@@ -24,7 +24,7 @@ use Rattle.vss_model.specs.declared.event.Event.{Event}
 use Rattle.vss_model.specs.declared.event.Event.TheVariants.{Line, Answer as AnswerEvent, Provider, Idle}
 use Rattle.vss_model.specs.State.{State, SetRow, Kept, in_progress, left_now, is_held, kept_image, is_kept_set}
 use Rattle.vss_model.specs.Cut.{is_provider}
-use Rattle.vss_model.specs.GoesOn.{is_begin}
+use Rattle.scenario.specs.Bounds.{is_begin, begins_agenda}
 use Rattle.vss_model.specs.Steps.{answered, stepped, ticked}
 use Rattle.set_agenda.specs.Agenda.{is_working}
 use Rattle.set_agenda.specs.Course.{change_at}
@@ -81,7 +81,7 @@ pub record IsKeptButSteps (P : State → Type 0) : Type 0 where
   pub names : (q : Session) (explicit : List Pair) (st : State) → LetsGo call.Component q st → P st → P (record st { explicit = explicit })
   pub disables : (w : ℕ) (q : Session) (st : State) → LetsGo call.Disable q st → P st → P (disable w st).1
   pub starts : (q : Session) (st : State) → LetsGo call.Start q st → makes_set q.stage ≡ false → P st → P (start_set q st).1
-  pub adds : (v : ℕ) (r : SetRow) (q : Session) (st : State) → LetsGo call.Add q st → in_progress st ≡ Some r → P st → P (change_set r.number (with_volume v) st)
+  pub adds : (v : ℕ) (r : SetRow) (q : Session) (st : State) → LetsGo call.Add q st → in_progress st ≡ Some r → add_refusal v r st ≡ None → P st → P (change_set r.number (with_volume v) st)
   pub ends : (q : Session) (st : State) → st.session ≡ Some q → P st → P (end_session q st).1
 
 pub but_steps : (P : State → Type 0) → IsKeptByChanges P → IsKeptButSteps P
@@ -103,7 +103,49 @@ but_steps P k = record {
   ends = k.ends;
 }
 
-module _ (P : State → Type 0) (k : IsKeptButSteps P) where
+-- the changes of lines that begin no agenda
+pub record IsKeptByLines (P : State → Type 0) : Type 0 where
+  pub ticks : (n : ℕ) (st : State) → P st → P (ticked n st)
+  pub fails : (why : VssResult) (st : State) → P st → P (failed why st)
+  pub clears : (s : Plan) (v b : ℕ) (st : State) → P st → P (cleared s v b st)
+  pub deletes_set : (n : ℕ) (st : State) → P st → P (record st { volumes = map (dropped n) st.volumes })
+  pub deletes_image : (n v : ℕ) (st : State) → P st → P (record st { volumes = change_at v (dropped n) st.volumes })
+  pub names : (q : Session) (explicit : List Pair) (st : State) → LetsGo call.Component q st → P st → P (record st { explicit = explicit })
+  pub disables : (w : ℕ) (q : Session) (st : State) → LetsGo call.Disable q st → P st → P (disable w st).1
+  pub starts : (q : Session) (st : State) → LetsGo call.Start q st → makes_set q.stage ≡ false → P st → P (start_set q st).1
+  pub adds : (v : ℕ) (r : SetRow) (q : Session) (st : State) → LetsGo call.Add q st → in_progress st ≡ Some r → add_refusal v r st ≡ None → P st → P (change_set r.number (with_volume v) st)
+  pub ends : (q : Session) (st : State) → st.session ≡ Some q → P st → P (end_session q st).1
+
+-- a state in which an agenda may begin
+pub record MayBegin (P : State → Type 0) (st : State) : Type 0 where
+  pub gathers : (s : Plan) (q : Session) → LetsGo call.Gather q st → P (gather s st).1
+  pub prepares : (s : Plan) (q : Session) → LetsGo call.Prepare q st → P (prepare s q st).1
+  pub snapshots : (q : Session) → LetsGo call.Snapshot q st → P (snapshot st).1
+  pub completes : (q : Session) → LetsGo call.Complete q st → P (complete st).1
+
+by_lines : (P : State → Type 0) → IsKeptButSteps P → IsKeptByLines P
+by_lines P k = record {
+  ticks = k.ticks;
+  fails = k.fails;
+  clears = k.clears;
+  deletes_set = k.deletes_set;
+  deletes_image = k.deletes_image;
+  names = k.names;
+  disables = k.disables;
+  starts = k.starts;
+  adds = k.adds;
+  ends = k.ends;
+}
+
+may_begin : (P : State → Type 0) → IsKeptButSteps P → (st : State) → P st → MayBegin P st
+may_begin P k st h = record {
+  gathers = λ s q g. k.gathers s q st g h;
+  prepares = λ s q g. k.prepares s q st g h;
+  snapshots = λ q g. k.snapshots q st g h;
+  completes = λ q g. k.completes q st g h;
+}
+
+module _ (P : State → Type 0) (k : IsKeptByLines P) where
   either_out : (b : Bool) (x y : Replied) → P x.1 → P y.1 → P (if b then x else y).1
   either_out true x y h i = h
   either_out false x y h i = i
@@ -169,13 +211,13 @@ module _ (P : State → Type 0) (k : IsKeptButSteps P) where
   on_component q All s w name st e h = h
   on_component q Components s w name st e h = on_named q (naming (known_metas s st) w name st.explicit) st e h
 
-  on_add_to : (v : ℕ) (r : SetRow) (refusal : Option VssResult) (q : Session) (st : State) → LetsGo call.Add q st → in_progress st ≡ Some r → P st → P (add_to v r refusal st).1
-  on_add_to v r (Some why) q st e f h = h
-  on_add_to v r None q st e f h = k.adds v r q st e f h
+  on_add_to : (v : ℕ) (r : SetRow) (refusal : Option VssResult) (q : Session) (st : State) → LetsGo call.Add q st → in_progress st ≡ Some r → add_refusal v r st ≡ refusal → P st → P (add_to v r refusal st).1
+  on_add_to v r (Some why) q st e f g h = h
+  on_add_to v r None q st e f g h = k.adds v r q st e f g h
 
   on_add : (v : ℕ) (o : Option SetRow) (q : Session) (st : State) → LetsGo call.Add q st → in_progress st ≡ o → P st → P (add v o st).1
   on_add v None q st e f h = h
-  on_add v (Some r) q st e f h = on_add_to v r (add_refusal v r st) q st e f h
+  on_add v (Some r) q st e f h = on_add_to v r (add_refusal v r st) q st e f refl h
 
   on_await : (last : Option VssResult) (st : State) → P st → P (await_last last st).1
   on_await None st h = h
@@ -202,40 +244,42 @@ module _ (P : State → Type 0) (k : IsKeptButSteps P) where
 
   -- ## every line
 
-  on_line : (s : Plan) (lane : ℕ) (op : Op) (mark : Mark) (st : State) → IsKeptByWrites P st → ((all : Bool) (c : Option Context) → is_begin op ≡ true → st.session ≡ None → P (begin_in lane all c st).1) → line_enabled s st lane op ≡ true → P st → P (line s lane op mark st).1
-  on_line s lane (WriteFill v b x) mark st at begins e h =
+  pub on_line : (s : Plan) (lane : ℕ) (op : Op) (mark : Mark) (st : State) → IsKeptByWrites P st → ((all : Bool) (c : Option Context) → is_begin op ≡ true → st.session ≡ None → P (begin_in lane all c st).1) → (begins_agenda op ≡ true → MayBegin P st) → line_enabled s st lane op ≡ true → P st → P (line s lane op mark st).1
+  on_line s lane (WriteFill v b x) mark st at begins agendas e h =
       on_write s v (record { block = b; bytes = payload_bytes (Fill x) }) mark st (at.puts v (not_held (is_held st v) (is_free st (acts_as s lane)) e) (record { block = b; bytes = payload_bytes (Fill x) }) mark) h
-  on_line s lane (WriteStamp v b n) mark st at begins e h =
+  on_line s lane (WriteStamp v b n) mark st at begins agendas e h =
       on_write s v (record { block = b; bytes = payload_bytes (Stamp n) }) mark st (at.puts v (not_held (is_held st v) (is_free st (acts_as s lane)) e) (record { block = b; bytes = payload_bytes (Stamp n) }) mark) h
-  on_line s lane (Read v b) mark st at begins e h = h
-  on_line s lane (ImageDigest n v) mark st at begins e h = on_image_blocks s v (kept_image st n v) mark st h
-  on_line s lane (ImageBlock n v b) mark st at begins e h = on_image_block v b (kept_image st n v) mark st h
-  on_line s lane (Query v) mark st at begins e h = h
-  on_line s lane (Properties n v) mark st at begins e h = on_properties s v (kept_image st n v) st h
-  on_line s lane (Revert n v) mark st at begins e h = on_revert s n v mark st at h
-  on_line s lane (DeleteSet n) mark st at begins e h = on_delete_set n st h
-  on_line s lane (DeleteImage n v) mark st at begins e h = on_delete_image n v st h
-  on_line s lane (Tick n) mark st at begins e h = k.ticks n st h
-  on_line s lane (Begin c all) mark st at begins e h = on_called (call.Begin c all) s lane (Begin c all) st (λ g. on_begin_line s lane c all st.session st (λ all x e. begins all x refl e) refl h) h
-  on_line s lane (Disable w) mark st at begins e h = on_called call.Disable s lane (Disable w) st (λ g. let o = goes_of lane st call.Disable g in in_session s lane (Disable w) st call.Disable o (k.disables w o.own st (quiet_of st call.Disable o refl) h)) h
-  on_line s lane Gather mark st at begins e h = on_called call.Gather s lane Gather st (λ g. let o = goes_of lane st call.Gather g in in_session s lane Gather st call.Gather o (k.gathers s o.own st (quiet_of st call.Gather o refl) h)) h
-  on_line s lane (Component w full) mark st at begins e h = on_called call.Component s lane (Component w full) st (λ g. let o = goes_of lane st call.Component g in in_session s lane (Component w full) st call.Component o (on_component o.own o.own.mode s w (token s full) st (quiet_of st call.Component o refl) h)) h
-  on_line s lane Document mark st at begins e h = on_called call.Document s lane Document st (λ g. let o = goes_of lane st call.Document g in in_session s lane Document st call.Document o h) h
-  on_line s lane Start mark st at begins e h = on_called call.Start s lane Start st (λ g. let o = goes_of lane st call.Start g in in_session s lane Start st call.Start o (k.starts o.own st (quiet_of st call.Start o refl) (o.free refl) h)) h
-  on_line s lane (Add v) mark st at begins e h = on_called call.Add s lane (Add v) st (λ g. let o = goes_of lane st call.Add g in in_session s lane (Add v) st call.Add o (on_add v (in_progress st) o.own st (quiet_of st call.Add o refl) refl h)) h
-  on_line s lane Prepare mark st at begins e h = on_called call.Prepare s lane Prepare st (λ g. let o = goes_of lane st call.Prepare g in in_session s lane Prepare st call.Prepare o (k.prepares s o.own st (quiet_of st call.Prepare o refl) h)) h
-  on_line s lane Snapshot mark st at begins e h = on_called call.Snapshot s lane Snapshot st (λ g. let o = goes_of lane st call.Snapshot g in in_session s lane Snapshot st call.Snapshot o (k.snapshots o.own st (quiet_of st call.Snapshot o refl) h)) h
-  on_line s lane Await mark st at begins e h = on_called call.Await s lane Await st (λ g. let o = goes_of lane st call.Await g in in_session s lane Await st call.Await o (on_await o.own.last st h)) h
-  on_line s lane Status mark st at begins e h = on_called call.Status s lane Status st (λ g. let o = goes_of lane st call.Status g in in_session s lane Status st call.Status o h) h
-  on_line s lane Complete mark st at begins e h = on_called call.Complete s lane Complete st (λ g. let o = goes_of lane st call.Complete g in in_session s lane Complete st call.Complete o (k.completes o.own st (quiet_of st call.Complete o refl) h)) h
-  on_line s lane Abort mark st at begins e h = on_called call.Abort s lane Abort st (λ g. let o = goes_of lane st call.Abort g in in_session s lane Abort st call.Abort o (k.fails AsyncCancelled st h)) h
-  on_line s lane End mark st at begins e h = on_called call.End s lane End st (λ g. let o = goes_of lane st call.End g in in_session s lane End st call.End o (k.ends o.own st o.is h)) h
+  on_line s lane (Read v b) mark st at begins agendas e h = h
+  on_line s lane (ImageDigest n v) mark st at begins agendas e h = on_image_blocks s v (kept_image st n v) mark st h
+  on_line s lane (ImageBlock n v b) mark st at begins agendas e h = on_image_block v b (kept_image st n v) mark st h
+  on_line s lane (Query v) mark st at begins agendas e h = h
+  on_line s lane (Properties n v) mark st at begins agendas e h = on_properties s v (kept_image st n v) st h
+  on_line s lane (Revert n v) mark st at begins agendas e h = on_revert s n v mark st at h
+  on_line s lane (DeleteSet n) mark st at begins agendas e h = on_delete_set n st h
+  on_line s lane (DeleteImage n v) mark st at begins agendas e h = on_delete_image n v st h
+  on_line s lane (Tick n) mark st at begins agendas e h = k.ticks n st h
+  on_line s lane (Begin c all) mark st at begins agendas e h = on_called (call.Begin c all) s lane (Begin c all) st (λ g. on_begin_line s lane c all st.session st (λ all x e. begins all x refl e) refl h) h
+  on_line s lane (Disable w) mark st at begins agendas e h = on_called call.Disable s lane (Disable w) st (λ g. let o = goes_of lane st call.Disable g in in_session s lane (Disable w) st call.Disable o (k.disables w o.own st (quiet_of st call.Disable o refl) h)) h
+  on_line s lane Gather mark st at begins agendas e h = on_called call.Gather s lane Gather st (λ g. let o = goes_of lane st call.Gather g in in_session s lane Gather st call.Gather o ((agendas refl).gathers s o.own (quiet_of st call.Gather o refl))) h
+  on_line s lane (Component w full) mark st at begins agendas e h = on_called call.Component s lane (Component w full) st (λ g. let o = goes_of lane st call.Component g in in_session s lane (Component w full) st call.Component o (on_component o.own o.own.mode s w (token s full) st (quiet_of st call.Component o refl) h)) h
+  on_line s lane Document mark st at begins agendas e h = on_called call.Document s lane Document st (λ g. let o = goes_of lane st call.Document g in in_session s lane Document st call.Document o h) h
+  on_line s lane Start mark st at begins agendas e h = on_called call.Start s lane Start st (λ g. let o = goes_of lane st call.Start g in in_session s lane Start st call.Start o (k.starts o.own st (quiet_of st call.Start o refl) (o.free refl) h)) h
+  on_line s lane (Add v) mark st at begins agendas e h = on_called call.Add s lane (Add v) st (λ g. let o = goes_of lane st call.Add g in in_session s lane (Add v) st call.Add o (on_add v (in_progress st) o.own st (quiet_of st call.Add o refl) refl h)) h
+  on_line s lane Prepare mark st at begins agendas e h = on_called call.Prepare s lane Prepare st (λ g. let o = goes_of lane st call.Prepare g in in_session s lane Prepare st call.Prepare o ((agendas refl).prepares s o.own (quiet_of st call.Prepare o refl))) h
+  on_line s lane Snapshot mark st at begins agendas e h = on_called call.Snapshot s lane Snapshot st (λ g. let o = goes_of lane st call.Snapshot g in in_session s lane Snapshot st call.Snapshot o ((agendas refl).snapshots o.own (quiet_of st call.Snapshot o refl))) h
+  on_line s lane Await mark st at begins agendas e h = on_called call.Await s lane Await st (λ g. let o = goes_of lane st call.Await g in in_session s lane Await st call.Await o (on_await o.own.last st h)) h
+  on_line s lane Status mark st at begins agendas e h = on_called call.Status s lane Status st (λ g. let o = goes_of lane st call.Status g in in_session s lane Status st call.Status o h) h
+  on_line s lane Complete mark st at begins agendas e h = on_called call.Complete s lane Complete st (λ g. let o = goes_of lane st call.Complete g in in_session s lane Complete st call.Complete o ((agendas refl).completes o.own (quiet_of st call.Complete o refl))) h
+  on_line s lane Abort mark st at begins agendas e h = on_called call.Abort s lane Abort st (λ g. let o = goes_of lane st call.Abort g in in_session s lane Abort st call.Abort o (k.fails AsyncCancelled st h)) h
+  on_line s lane End mark st at begins agendas e h = on_called call.End s lane End st (λ g. let o = goes_of lane st call.End g in in_session s lane End st call.End o (k.ends o.own st o.is h)) h
 
+module _ (P : State → Type 0) (k : IsKeptButSteps P) where
   -- ## every act
 
   on_happens : (s : Plan) (event : Event) (mark : Mark) (st : State) → IsKeptByWrites P st → enabled s st event ≡ true → (is_provider event ≡ true → P (stepped mark st))
       → ((lane : ℕ) (all : Bool) (c : Option Context) → begins_at lane event ≡ true → st.session ≡ None → P (begin_in lane all c st).1) → P st → P (happens s event mark st).1
-  on_happens s (Line lane op) mark st at e steps begins h = on_line s lane op mark st at (λ all c f g. begins lane all c (at_lane (is_begin op) lane f) g) e h
+  on_happens s (Line lane op) mark st at e steps begins h =
+      on_line P (by_lines P k) s lane op mark st at (λ all c f g. begins lane all c (at_lane (is_begin op) lane f) g) (λ f. may_begin P k st h) e h
   on_happens s (AnswerEvent w answer) mark st at e steps begins h = k.answers w (said_of answer) st e h
   on_happens s Provider mark st at e steps begins h = steps refl
   on_happens s Idle mark st at e steps begins h = k.ticks (idle_now st) st h

@@ -164,7 +164,7 @@ kept_by_changes = record {
   names = λ q explicit st e h. h;
   disables = λ w q st e h. h;
   starts = λ q st e f h. h;
-  adds = λ v r q st e f h. h;
+  adds = λ v r q st e f g h. h;
   ends = λ q st e h. on_closes q (failed AsyncCancelled st);
 }
 
@@ -191,7 +191,7 @@ open_fold s st (act ∷ acts) h = open_fold s (after s st act) acts (on_after Is
 -- ## who can go on
 
 -- a group that is left waits for somebody
-abbrev WaitsWell : List Open → Type 0
+abbrev pub WaitsWell : List Open → Type 0
 WaitsWell [] = Unit {0}
 WaitsWell (o ∷ os) = is_among (next_member (o ∷ os)) o.waits ≡ true
 
@@ -202,7 +202,7 @@ waits-with_group p (w ∷ ws) later h = own w (is_among w ws)
     own : (a : ℕ) (b : Bool) → ((a == a) || b) ≡ true
     own a b = grind arith
 
-waits-left_from : (a : Agenda) (ps : List Place) → WaitsWell (left_from a ps)
+pub waits-left_from : (a : Agenda) (ps : List Place) → WaitsWell (left_from a ps)
 waits-left_from a [] = tt
 waits-left_from a (p ∷ ps) = waits-with_group p (waited_for a p) (left_from a ps) (waits-left_from a ps)
 

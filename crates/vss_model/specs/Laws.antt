@@ -17,7 +17,7 @@ use Rattle.scenario.specs.Plan.{Plan}
 use Rattle.vss_model.specs.State.{State, SetRow, Kept, in_progress, left_now, is_held, kept_image}
 use Rattle.vss_model.specs.Ending.{failed, runs}
 use Rattle.vss_model.specs.Images.{cleared, put, reverted_as, is_in_set}
-use Rattle.vss_model.specs.Sessions.{begin_in, disable, gather, prepare, snapshot, complete, start_set, change_set, with_volume, end_session}
+use Rattle.vss_model.specs.Sessions.{begin_in, disable, gather, prepare, snapshot, complete, start_set, change_set, with_volume, add_refusal, end_session}
 use Rattle.vss_model.specs.Steps.{answered, stepped, ticked}
 use Rattle.vss_model.specs.Acts.{order_of_writer}
 
@@ -49,7 +49,7 @@ pub record IsKeptByChanges (P : State → Type 0) : Type 0 where
   pub names : (q : Session) (explicit : List Pair) (st : State) → LetsGo call.Component q st → P st → P (record st { explicit = explicit })
   pub disables : (w : ℕ) (q : Session) (st : State) → LetsGo call.Disable q st → P st → P (disable w st).1
   pub starts : (q : Session) (st : State) → LetsGo call.Start q st → makes_set q.stage ≡ false → P st → P (start_set q st).1
-  pub adds : (v : ℕ) (r : SetRow) (q : Session) (st : State) → LetsGo call.Add q st → in_progress st ≡ Some r → P st → P (change_set r.number (with_volume v) st)
+  pub adds : (v : ℕ) (r : SetRow) (q : Session) (st : State) → LetsGo call.Add q st → in_progress st ≡ Some r → add_refusal v r st ≡ None → P st → P (change_set r.number (with_volume v) st)
   pub ends : (q : Session) (st : State) → st.session ≡ Some q → P st → P (end_session q st).1
 
 -- A fact is kept by the changes of effective writes that are allowed in a state: a write to a volume that is not held,

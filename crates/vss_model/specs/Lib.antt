@@ -13,3 +13,6 @@ pub mod Told
 pub mod Laws
 pub mod Facts
 pub mod GoesOn
+pub mod Outcome
+pub mod Turns
+pub mod Headline

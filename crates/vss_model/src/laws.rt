@@ -1,6 +1,6 @@
 //! What holds for every run: functions that do nothing, whose contracts are the laws.
 
-ghost use Rattle.std.specs.Prelude.{is_some, ◌⊎◌, length, ◌≡◌, ◌+◌, ◌++◌, ◌∷◌, ◌&&◌, [], true, false, Bool, ℕ, List, Some, None};
+ghost use Rattle.std.specs.Prelude.{is_some, ◌⊎◌, length, ◌≡◌, ◌<◌, ◌≤◌, ◌+◌, ◌++◌, ◌∷◌, ◌&&◌, [], true, false, Bool, ℕ, List, Some, None};
 ghost use Rattle.write_history.specs.declared.move_item.Move.{Move};
 ghost use Rattle.scenario.specs.Plan.{Plan};
 ghost use Rattle.write_history.specs.History.{content, point_in};
@@ -14,7 +14,10 @@ ghost use Rattle.vss_model.specs.Cut.{cut, is_cut_group, IsShownAt, IsCutAt};
 ghost use Rattle.vss_model.specs.Facts.{AreInTime, IsOrderly, has_failed, holds_for};
 ghost use Rattle.vss_model.specs.Acts.{Act, after, state, order_of_writer, idle_now};
 ghost use Rattle.vss_model.specs.Trail.{run, moved, acts, acts_if, event_of, is_legal, is_legal_move, is_complete, faults};
-ghost use Rattle.vss_model.specs.GoesOn.{EndsSessions, CanGoOn};
+ghost use Rattle.scenario.specs.Bounds.{IsPlan};
+ghost use Rattle.vss_model.specs.GoesOn.{EndsSessions, CanGoOn, most_moves};
+ghost use Rattle.vss_model.specs.Headline.{KeepsPromises, MakesEachLineOnce};
+ghost use Rattle.vss_model.specs.Turns.{turns_left};
 ghost use Rattle.vss_model.specs.Laws.{IsKeptByChanges, IsKeptByWrites, Passes, RunsSnapshot};
 
 /// One more act, or one more move, adds to a run just what it is itself.
@@ -124,4 +127,28 @@ pub fn idle_stretch_spends_a_limit()
 pub fn legal_trail_goes_on()
     ensures { (s : Plan) (trail : List Move) → EndsSessions s → is_legal s trail ≡ true → is_complete s trail ≡ false
         → CanGoOn s (run s trail) }
+{}
+
+/// Turns come to an end: each legal move leaves fewer turns, and so a legal trail is short.
+pub fn turns_come_to_an_end()
+    ensures fewer { (s : Plan) (trail : List Move) (m : Move) → IsPlan s → is_legal s (trail ++ m ∷ []) ≡ true
+        → turns_left s (run s (trail ++ m ∷ [])) < turns_left s (run s trail) }
+    ensures short { (s : Plan) (trail : List Move) → IsPlan s → is_legal s trail ≡ true → length trail ≤ most_moves }
+{}
+
+/// Every run keeps its promises after each act: each image reads as its volume at its set's one cut, when all stood still;
+/// and of a set that failed nothing is kept.
+pub fn every_run_keeps_its_promises()
+    ensures { (s : Plan) (acts : List Act) → KeepsPromises s acts }
+{}
+
+/// A legal and complete trail makes each line of each lane once, in order.
+pub fn each_line_is_made_once()
+    ensures { (s : Plan) (trail : List Move) → is_legal s trail ≡ true → is_complete s trail ≡ true → MakesEachLineOnce s trail }
+{}
+
+/// At the end of a legal and complete trail no set is in progress: each that was started is complete or has failed.
+pub fn complete_trail_ends_each_set()
+    ensures { (s : Plan) (trail : List Move) → IsPlan s → is_legal s trail ≡ true → is_complete s trail ≡ true
+        → in_progress (state s (acts s trail)) ≡ None }
 {}

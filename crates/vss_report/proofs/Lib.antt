@@ -1,2 +1,5 @@
 pub mod LinesGrow
 pub mod Telling
+pub mod Losses
+pub mod States
+pub mod MoveLines

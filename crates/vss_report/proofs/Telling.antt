@@ -1,5 +1,5 @@
 -- The report of a run whose devices all tell their blocks is a report.
-use Rattle.std.proofs.Common.{◌≡◌, ℕ, ◌+◌, zero, suc, List, [], ◌∷◌, ◌++◌, length, take, map, Option, Some, None, refl, Bool, true, false}
+use Rattle.std.proofs.Common.{ℕ, ◌+◌, zero, suc, List, [], ◌∷◌, ◌++◌, take, map, Option, Some, None, refl, true}
 use Rattle.std.specs.Prelude.{slice_get}
 use Rattle.block_data.specs.Digest.{sha256}
 use Rattle.write_history.specs.declared.actor.Actor.{Actor}
@@ -14,10 +14,8 @@ use Rattle.vss_model.specs.State.{State, kept}
 use Rattle.vss_model.specs.Acts.{reply}
 use Rattle.vss_model.specs.Told.{IsDigestIf, IsFirstIf}
 use Rattle.vss_model.specs.Trail.{Run, begin, run, event_of, act_of, moved}
-use Rattle.vss_report.specs.Report.{IsReplyText, IsTextOf, IsMoveText, IsLines, IsReportSoFar, IsVolumeText, IsImageText, AreImageTexts, AreVolumeTexts, IsClosing, IsReport, first_line}
-use Rattle.vss_report.specs.ToldReport.{told_reply, told_event, told_move, told_lines, told_image, told_images, told_volume, told_volumes, told_closing, told_report, all_tell}
-use Rattle.std.proofs.lemmas.List.{append_assoc}
-use Rattle.std.proofs.Common.{sym}
+use Rattle.vss_report.specs.Report.{IsReplyText, IsTextOf, IsLines, AreImageTexts, AreVolumeTexts, IsReport, first_line}
+use Rattle.vss_report.specs.ToldReport.{told_reply, told_event, told_move, told_moves, told_image, told_images, told_volume, told_volumes, told_closing, told_report, all_tell}
 
 digest_told : (rows : List VolumeRow) (v : ℕ) (bytes : List ℕ) → IsDigestIf (slice_get (map (λ _. true) rows) v) bytes (sha256 bytes)
 digest_told [] zero bytes = refl
@@ -53,9 +51,9 @@ is_told_event : (s : Plan) (r : Run) (actor : Actor) (event : Option Event) (mar
 is_told_event s r actor None mark = refl
 is_told_event s r actor (Some event) mark = record { reply_text = _; is_reply = is_told_reply s (reply s r.state (act_of mark event)); is = refl }
 
-are_told_lines : (s : Plan) (r : Run) (ms : List Move) → IsLines s (all_tell s) r ms (told_lines s r ms)
-are_told_lines s r [] = refl
-are_told_lines s r (m ∷ ms) = (told_move s r m, told_lines s (moved s r m) ms, is_told_event s r m.actor (event_of s r m.actor) m.mark, are_told_lines s (moved s r m) ms, refl)
+are_told_moves : (s : Plan) (r : Run) (ms : List Move) → IsLines s (all_tell s) r ms (told_moves s r ms)
+are_told_moves s r [] = refl
+are_told_moves s r (m ∷ ms) = (told_move s r m, told_moves s (moved s r m) ms, is_told_event s r m.actor (event_of s r m.actor) m.mark, are_told_moves s (moved s r m) ms, refl)
 
 are_told_images : (s : Plan) (v : ℕ) (row : VolumeRow) (h : History) (images : List Image) → AreImageTexts s (all_tell s) v row h images (told_images s v row h images)
 are_told_images s v row h [] = refl
@@ -76,9 +74,9 @@ are_told_volumes s st v (row ∷ rows) (h ∷ hs) = (
 
 pub is_told_report : (s : Plan) (trail : List Move) → IsReport s (all_tell s) trail (told_report s trail)
 is_told_report s trail = record {
-  so_far = first_line ++ told_lines s (begin s) trail;
+  so_far = first_line ++ told_moves s (begin s) trail;
   closing = told_closing s (run s trail);
-  is_so_far = record { moves = told_lines s (begin s) trail; lines = are_told_lines s (begin s) trail; is = refl };
+  is_so_far = record { moves = told_moves s (begin s) trail; lines = are_told_moves s (begin s) trail; is = refl };
   is_closing = record { volumes = told_volumes s (run s trail).state 0 s.volumes (run s trail).state.volumes; are_volumes = are_told_volumes s (run s trail).state 0 s.volumes (run s trail).state.volumes; is = refl };
   is = refl;
 }

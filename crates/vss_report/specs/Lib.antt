@@ -2,3 +2,4 @@ pub mod Words
 pub mod Report
 pub mod Shapes
 pub mod ToldReport
+pub mod ToldLines

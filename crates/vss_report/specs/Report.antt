@@ -1,7 +1,7 @@
 -- The report of a run, as a relation between the scenario, its trail and a text. `tells` says of each volume whether its
 -- device and its area's device tell their blocks; where it says no, the digests of what comes from that volume may be any
 -- of their width. All else is one text. (This project's own.)
-use Rattle.std.specs.Prelude.{ℕ, ◌+◌, ◌≡◌, Bool, true, false, List, [], ◌∷◌, ◌++◌, length, map, Option, Some, None, slice_get, codes}
+use Rattle.std.specs.Prelude.{ℕ, ◌+◌, ◌≡◌, Bool, List, [], ◌∷◌, ◌++◌, length, Option, Some, None, slice_get, codes}
 use Rattle.std.specs.List.{flat_map, concat}
 use Rattle.std.specs.Fmt.{decimal}
 use Rattle.hex.specs.Hex.{encode_lower}
@@ -20,7 +20,7 @@ use Rattle.scenario.specs.declared.volume_row.VolumeRow.{VolumeRow}
 use Rattle.scenario.specs.Plan.{Plan, LaneLine, WriterPlan, token}
 use Rattle.vss_model.specs.declared.event.Event.{Event}
 use Rattle.vss_model.specs.Reply.{Reply, Fine, Faulted, FaultedAfter, Numbered, Coded, NotSelectable, BlockOf, BlocksOf, KeptSets, PropertiesOf, Deleted, DocumentOf, StatusOf, Answered, Stepped, Idled}
-use Rattle.vss_model.specs.State.{State, SetRow, kept, left_now}
+use Rattle.vss_model.specs.State.{State, SetRow, kept}
 use Rattle.vss_model.specs.Acts.{Act, reply}
 use Rattle.vss_model.specs.Effects.{evicted, lost, lost_order, ended}
 use Rattle.vss_model.specs.Told.{IsDigestIf, IsFirstIf}

@@ -1,5 +1,5 @@
 -- The report where every device tells its blocks: one text.
-use Rattle.std.specs.Prelude.{ℕ, ◌+◌, ◌≡◌, Bool, true, false, List, [], ◌∷◌, ◌++◌, length, take, map, Option, Some, None, codes}
+use Rattle.std.specs.Prelude.{ℕ, ◌+◌, Bool, true, List, [], ◌∷◌, ◌++◌, length, take, map, Option, Some, None, codes}
 use Rattle.std.specs.List.{concat}
 use Rattle.std.specs.Fmt.{decimal}
 use Rattle.hex.specs.Hex.{encode_lower}
@@ -47,9 +47,9 @@ told_event s r actor (Some event) mark = move_text s r actor (act_of mark event)
 abbrev pub told_move : Plan → Run → Move → List ℕ
 told_move s r m = told_event s r m.actor (event_of s r m.actor) m.mark
 
-abbrev pub told_lines : Plan → Run → List Move → List ℕ
-told_lines s r [] = []
-told_lines s r (m ∷ ms) = told_move s r m ++ told_lines s (moved s r m) ms
+abbrev pub told_moves : Plan → Run → List Move → List ℕ
+told_moves s r [] = []
+told_moves s r (m ∷ ms) = told_move s r m ++ told_moves s (moved s r m) ms
 
 abbrev pub told_volume : Plan → ℕ → VolumeRow → History → List ℕ
 told_volume s v row h =
@@ -74,7 +74,7 @@ abbrev pub told_closing : Plan → Run → List ℕ
 told_closing s r = end_text r ++ told_volumes s r.state 0 s.volumes r.state.volumes ++ writers_text s s.writers r.state.course.rows
 
 abbrev pub told_report : Plan → List Move → List ℕ
-told_report s trail = first_line ++ told_lines s (begin s) trail ++ told_closing s (run s trail)
+told_report s trail = first_line ++ told_moves s (begin s) trail ++ told_closing s (run s trail)
 
 -- every device tells
 abbrev pub all_tell : Plan → List Bool

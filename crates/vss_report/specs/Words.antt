@@ -4,7 +4,7 @@ use Rattle.std.specs.Prelude.{ℕ, Bool, true, false, List, [], ◌∷◌, ◌++
 use Rattle.std.specs.List.{flat_map}
 use Rattle.std.specs.Fmt.{decimal}
 use Rattle.std.specs.Int.{to_be_bytes, w32}
-use Rattle.hex.specs.Hex.{encode_lower, encode_upper}
+use Rattle.hex.specs.Hex.{encode_upper}
 use Rattle.vss_names.specs.declared.order.Order.{Order}
 use Rattle.vss_names.specs.declared.writer_error.WriterError.{WriterError}
 use Rattle.vss_names.specs.declared.set_outcome.SetOutcome.{SetOutcome}

@@ -1,9 +1,21 @@
 //! The report of a run: every move in order with its reply and effects, and how all volumes and images stand at the end.
 //!
-//! `specs/Words.antt` has the texts of the things that a report names, `specs/Report.antt` the report as a relation
-//! between a trail and a text, and `specs/Shapes.antt` the lines that are read back as a trail.
+//! `opening_line`, `move_lines` and `closing_line` append the lines to a text, each byte of them as defined, or leave it as
+//! it was where memory is refused; a spare of `MOST_BYTES` is enough for each. The lines of a move are those that the
+//! report of its run has, wherever the outcome is what the move comes to.
+//!
+//! `specs/Words.antt` has the texts of the things that a report names, `specs/ToldLines.antt` the lines from what a program
+//! was told, `specs/Report.antt` the report as a relation between a trail and a text, and `specs/Shapes.antt` the lines that
+//! are read back as a trail.
 #![tactic(auto)]
 
+mod closing;
+mod effects;
 pub mod laws;
+mod lines;
+mod names;
+mod replies;
+mod words;
 
+pub use lines::{MOST_BYTES, closing_line, move_lines, opening_line};
 pub use vss_model::{ClosingRow, Evicted, Lists, Outcome, Told};

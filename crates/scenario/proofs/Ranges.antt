@@ -1,0 +1,36 @@
+-- A part of a text, one byte on.
+use Rattle.std.proofs.Common.{◌≡◌, ℕ, ◌+◌, ◌-◌, ◌<◌, ◌≤◌, ◌==◌, Bool, true, false, List, [], ◌∷◌, length, get_or, refl, suc, arith}
+use Rattle.std.specs.Prelude.{slice_range, if◌then◌else◌}
+use Rattle.std.proofs.lemmas.Bool.Decides.{nat_tests}
+use Rattle.std.proofs.lemmas.List.{drop_more}
+use Rattle.scenario.specs.declared.span.Span.{Span}
+use Rattle.scenario.specs.declared.fields.Fields.TheVariants.{Many}
+use Rattle.scenario.specs.Lines.{span_from}
+use Rattle.scenario.specs.Fields.{words_from, words_after, fields_of}
+
+pub range_more : (text : List ℕ) (at end : ℕ) → at < end → end ≤ length text → slice_range text at end ≡ get_or text at 0 ∷ slice_range text (at + 1) end
+range_more text at end below within =
+    let one : end - at ≡ suc (end - (at + 1)) = omega arith in
+    let inside : at < length text = omega arith in
+    rw (one, drop_more text at 0 inside) refl
+
+-- a byte that is no space belongs to the word at hand
+pub words_more : (text : List ℕ) (start at end : ℕ) → at < end → end ≤ length text → (get_or text at 0 == 32) ≡ false →
+    words_from start at (slice_range text at end) ≡ words_from start (at + 1) (slice_range text (at + 1) end)
+words_more text start at end below within other = rw (range_more text at end below within, other) refl
+
+-- four words and more are many
+pub fields_many : (a b c d : Span) (text : List ℕ) (start at : ℕ) → fields_of (a ∷ b ∷ c ∷ d ∷ words_from start at text) ≡ Many
+fields_many a b c d [] start at = refl
+fields_many a b c d (byte ∷ text) start at =
+    let on : (t : Bool) → fields_of (a ∷ b ∷ c ∷ d ∷ (if t then span_from start at ∷ words_from (at + 1) (at + 1) text else words_from start (at + 1) text)) ≡ Many =
+    λ t. elim t as (λ v. fields_of (a ∷ b ∷ c ∷ d ∷ (if v then span_from start at ∷ words_from (at + 1) (at + 1) text else words_from start (at + 1) text)) ≡ Many)
+    [ true ↦ refl | false ↦ fields_many a b c d text start (at + 1) ] in
+    on (byte == 32)
+
+-- a space ends the word at hand
+pub words_end : (text : List ℕ) (start at end : ℕ) → at < end → end ≤ length text → (get_or text at 0 == 32) ≡ true →
+    words_from start at (slice_range text at end) ≡ span_from start at ∷ words_after text at end
+words_end text start at end below within space =
+    let apart : (at == end) ≡ false = grind (arith, nat_tests) in
+    rw (range_more text at end below within, space, apart) refl

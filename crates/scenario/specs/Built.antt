@@ -1,0 +1,58 @@
+-- What this program runs of the scenarios that the grammar knows: one volume at most, with a slot for each of its blocks; one
+-- lane at most; one session at most, in the context without writers. (This project's own, for the time being.)
+use Rattle.std.specs.Prelude.{◌≡◌, ◌≤◌, Bool, true, false, List, [], ◌∷◌, length, All, None, ◌==◌, ◌&&◌, ◌||◌, not}
+use Rattle.std.specs.List.{list_any, list_all}
+use Rattle.scenario.specs.declared.op.Op.{Op}
+use Rattle.scenario.specs.declared.op.Op.TheVariants.{WriteFill, WriteStamp, Read, ImageDigest, ImageBlock, Query, Properties, Revert, DeleteSet, DeleteImage, Tick, Begin, Disable, Gather, Component, Document, Start, Add, Prepare, Snapshot, Await, Status, Complete, Abort, End}
+use Rattle.scenario.specs.declared.volume_row.VolumeRow.{VolumeRow}
+use Rattle.scenario.specs.Plan.{Plan, LaneLine, LanePlan}
+use Rattle.scenario.specs.Bounds.{is_begin}
+
+-- the lines that are run
+abbrev pub is_run : Op → Bool
+is_run (WriteFill v b x) = true
+is_run (WriteStamp v b n) = false
+is_run (Read v b) = true
+is_run (ImageDigest n v) = false
+is_run (ImageBlock n v b) = true
+is_run (Query v) = false
+is_run (Properties n v) = false
+is_run (Revert n v) = false
+is_run (DeleteSet n) = false
+is_run (DeleteImage n v) = false
+is_run (Tick n) = false
+is_run (Begin c all) = (c == 25) && not all
+is_run (Disable w) = false
+is_run Gather = false
+is_run (Component w full) = false
+is_run Document = false
+is_run Start = true
+is_run (Add v) = true
+is_run Prepare = false
+is_run Snapshot = true
+is_run Await = true
+is_run Status = false
+is_run Complete = false
+is_run Abort = false
+is_run End = true
+
+abbrev pub has_begin : List LaneLine → Bool
+has_begin lines = list_any (λ l. is_begin l.op) lines
+
+-- a session may still be begun by these lines, where none was so far, and none where one was
+abbrev pub begins_once : Bool → List LaneLine → Bool
+begins_once begun [] = true
+begins_once begun (l ∷ lines) = not (begun && is_begin l.op) && begins_once (begun || is_begin l.op) lines
+
+pub record IsBuiltLane (l : LanePlan) : Type 0 where
+  pub alone : l.acts_as ≡ None
+  pub run : list_all (λ x. is_run x.op) l.lines ≡ true
+  pub once : begins_once false l.lines ≡ true
+
+pub record IsBuilt (s : Plan) : Type 0 where
+  pub one_volume : length s.volumes ≤ 1
+  pub slots : All (λ (r : VolumeRow). r.blocks ≤ r.slots) s.volumes
+  pub own_group : All (λ (r : VolumeRow). r.group ≡ 0) s.volumes
+  pub one_lane : length s.lanes ≤ 1
+  pub lanes : All IsBuiltLane s.lanes
+  pub no_writers : s.writers ≡ []

@@ -1,0 +1,48 @@
+-- A line as a word and its fields, with one space (byte 32) before each field. Two spaces make an empty field.
+-- (This project's own format.)
+use Rattle.std.specs.Prelude.{ℕ, ◌+◌, ◌≤◌, ◌==◌, List, [], ◌∷◌, slice_range, if◌then◌else◌}
+use Rattle.scenario.specs.declared.span.Span.{Span}
+use Rattle.scenario.specs.declared.fields.Fields.{Fields}
+use Rattle.scenario.specs.declared.fields.Fields.TheVariants.{Zero, One, Two, Three, Four, Many}
+use Rattle.scenario.specs.Lines.{span_from}
+
+-- the words of what follows place `at`, where the word at hand began at `start`
+abbrev pub words_from : ℕ → ℕ → List ℕ → List Span
+words_from start at [] = span_from start at ∷ []
+words_from start at (byte ∷ rest) =
+    if byte == 32 then span_from start at ∷ words_from (at + 1) (at + 1) rest else words_from start (at + 1) rest
+
+-- the words of the text from `start` to `end`
+abbrev pub words_at : List ℕ → ℕ → ℕ → List Span
+words_at text start end = words_from start start (slice_range text start end)
+
+-- the words that follow one which ends at `at`
+abbrev pub words_after : List ℕ → ℕ → ℕ → List Span
+words_after text at end = if at == end then [] else words_at text (at + 1) end
+
+-- as many fields as a line may have
+abbrev pub fields_of : List Span → Fields
+fields_of [] = Zero
+fields_of (a ∷ []) = One a
+fields_of (a ∷ b ∷ []) = Two a b
+fields_of (a ∷ b ∷ c ∷ []) = Three a b c
+fields_of (a ∷ b ∷ c ∷ d ∷ []) = Four a b c d
+fields_of _ = Many
+
+-- the bytes of a part of the text
+abbrev pub bytes_of : List ℕ → Span → List ℕ
+bytes_of text span = slice_range text span.start span.end
+
+-- ## parts of a text of n bytes
+
+pub record IsPart (n : ℕ) (span : Span) : Type 0 where
+  pub ordered : span.start ≤ span.end
+  pub within : span.end ≤ n
+
+abbrev pub AreParts : ℕ → Fields → Type 0
+AreParts n Zero = Unit {0}
+AreParts n (One a) = IsPart n a
+AreParts n (Two a b) = IsPart n a × IsPart n b
+AreParts n (Three a b c) = IsPart n a × IsPart n b × IsPart n c
+AreParts n (Four a b c d) = IsPart n a × IsPart n b × IsPart n c × IsPart n d
+AreParts n Many = Unit {0}

@@ -1,0 +1,100 @@
+ghost use Rattle.std.specs.Prelude.{◌≡◌, ◌<◌, length, slice_get, Some, option_map};
+ghost use Rattle.scenario.specs.Plan.{token, lines_of, acts_as};
+ghost use Rattle.scenario.specs.Bounds.{IsPlan, IsSpan};
+ghost use Rattle.scenario.specs.Built.{IsBuilt};
+
+use crate::lane::Lane;
+use crate::lane_line::LaneLine;
+use crate::parts::Parts;
+use crate::span::Span;
+use crate::volume_row::VolumeRow;
+use std::marker::Model;
+use vss_names::Text;
+
+/// A scenario that was read. Contracts see it as its plan, which keeps to the limits.
+#[derive(Drop)]
+pub struct Scenario {
+    source: Text,
+    volumes: Vec<VolumeRow>,
+    lanes: Vec<Lane>,
+}
+
+impl Model for Scenario {
+    ghost use Rattle.scenario.specs.Plan.{Plan};
+    ghost use Rattle.scenario.specs.Views.{plan_of};
+    ghost use Rattle.scenario.specs.Bounds.{IsPlan};
+    ghost use Rattle.scenario.specs.Built.{IsBuilt};
+
+    ghost Value = { Plan };
+
+    ghost view = { plan_of };
+
+    ghost invariant = { λ a. IsPlan (plan_of a) × IsBuilt (plan_of a) };
+}
+
+impl Scenario {
+    ghost use Rattle.scenario.specs.Views.{plan_from};
+
+    /// The scenario of a text, without taking memory.
+    pub(crate) fn of(source: Text, parts: Parts) -> Scenario
+        requires plan { IsPlan (plan_from source.bytes parts.volumes.items parts.lanes.items) }
+        requires built { IsBuilt (plan_from source.bytes parts.volumes.items parts.lanes.items) }
+        ensures { result ≡ plan_from source.bytes parts.volumes.items parts.lanes.items }
+    {
+        Scenario {
+            source,
+            volumes: parts.volumes,
+            lanes: parts.lanes,
+        }
+    }
+
+    /// How many volumes are declared.
+    pub fn volumes(&self) -> u32
+        ensures count { result ≡ length self.now.volumes }
+        ensures plan { IsPlan self.now }
+        ensures built { IsBuilt self.now }
+    {
+        self.volumes.len() as u32
+    }
+
+    /// A declared volume.
+    pub fn volume(&self, v: u32) -> VolumeRow
+        requires { v < length self.now.volumes }
+        ensures { slice_get self.now.volumes v ≡ Some result }
+    {
+        self.volumes[v as usize]
+    }
+
+    /// How many lanes there are.
+    pub fn lanes(&self) -> u32
+        ensures count { result ≡ length self.now.lanes }
+        ensures plan { IsPlan self.now }
+        ensures built { IsBuilt self.now }
+    {
+        self.lanes.len() as u32
+    }
+
+    /// The name of a lane.
+    pub fn lane_name(&self, lane: u32) -> Span
+        requires { lane < length self.now.lanes }
+        ensures { option_map (λ l. l.name) (slice_get self.now.lanes lane) ≡ Some result }
+    {
+        self.lanes[lane as usize].name
+    }
+
+    /// Line `i` of a lane, counted from 0; none where there is no such line or no such lane.
+    pub fn line(&self, lane: u32, i: u32) -> Option<LaneLine>
+        ensures { result ≡ slice_get (lines_of self.now lane) i }
+    {
+        let lines = &self.lanes.get(lane as usize)?.lines;
+        lines.get(i as usize).copied()
+    }
+
+    /// The bytes of a part of the text.
+    pub fn token(&self, span: Span) -> &[u8]
+        requires { IsSpan self.now span }
+        ensures { result.now ≡ token self.now span }
+    {
+        &self.source.bytes()[span.start as usize..span.end as usize]
+    }
+}

@@ -1,0 +1,56 @@
+-- At the end of a legal and complete trail no session stands, so no set is in progress.
+use Rattle.std.proofs.Common.{◌≡◌, ℕ, zero, suc, ◌<◌, ◌≤◌, List, [], ◌∷◌, Option, Some, None, refl, Bool, true, false, ap, sym, ◌∙◌, subst, length, drop, get_or, arith}
+use Rattle.std.specs.Prelude.{All, slice_get, not, ◌&&◌}
+use Rattle.std.specs.List.{list_all, range_with_len}
+use Rattle.write_history.specs.declared.move_item.Move.{Move}
+use Rattle.requestor.specs.Session.{Session}
+use Rattle.scenario.specs.Bounds.{IsPlan, IsLane, has_end, ends_sessions}
+use Rattle.scenario.specs.Plan.{Plan, LaneLine, LanePlan, lines_in, lines_of}
+use Rattle.vss_names.specs.declared.set_outcome.SetOutcome.{SetOutcome}
+use Rattle.vss_model.specs.State.{State, SetRow, in_progress}
+use Rattle.vss_model.specs.Acts.{state}
+use Rattle.vss_model.specs.Facts.{IsOfSession}
+use Rattle.vss_model.specs.GoesOn.{EndsSessions}
+use Rattle.vss_model.specs.Trail.{Run, run, begin, acts, cursor, is_legal, is_complete}
+use Rattle.vss_model.proofs.Appending.{state-run}
+use Rattle.vss_model.proofs.GoesOn.{EndsLeft, legal_ends}
+use Rattle.vss_model.proofs.Headline.{used_up}
+use Rattle.vss_model.proofs.OrderlyActs.{orderly}
+
+-- ## each lane of a scenario ends its sessions
+
+lane_of : (s : Plan) (lanes : List LanePlan) → All (IsLane s) lanes → (i : ℕ) → ends_sessions (lines_in (slice_get lanes i)) ≡ true
+lane_of s [] h i = refl
+lane_of s (l ∷ lanes) h zero = let own = h 0 l (omega arith) in own.ends
+lane_of s (l ∷ lanes) h (suc i) = lane_of s lanes (λ k d g. h (suc k) d (omega (arith, g))) i
+
+pub plan_ends_sessions : (s : Plan) → IsPlan s → EndsSessions s
+plan_ends_sessions s h i = lane_of s s.lanes h.lanes i
+
+-- ## no session at the end
+
+nothing_left : (ls : List LaneLine) (k : ℕ) → length ls ≤ k → drop k ls ≡ []
+nothing_left [] zero h = refl
+nothing_left [] (suc k) h = refl
+nothing_left (l ∷ ls) zero h = absurd (omega (arith, h))
+nothing_left (l ∷ ls) (suc k) h = nothing_left ls k (omega (arith, h))
+
+no_session : (s : Plan) (r : Run) (q : Option Session) → EndsLeft s r.moves q → ((i : ℕ) → length (lines_of s i) ≤ cursor r.moves i) → q ≡ None
+no_session s r None h e = refl
+no_session s r (Some p) h e = absurd (own (drop (cursor r.moves p.owner) (lines_of s p.owner)) (nothing_left (lines_of s p.owner) (cursor r.moves p.owner) (e p.owner)) h)
+  where
+    own : (ls : List LaneLine) → ls ≡ [] → has_end ls ≡ true → ⊥
+    own [] f g = cc
+    own (l ∷ ls) f g = cc
+
+no_set : (q : Option Session) (o : SetOutcome) (found : Option SetRow) → q ≡ None → IsOfSession q o found → found ≡ None
+no_set None o None e h = refl
+no_set None o (Some r) e h = absurd h
+no_set (Some q) o found e h = absurd cc
+
+pub complete_ends : (s : Plan) (trail : List Move) → IsPlan s → is_legal s trail ≡ true → is_complete s trail ≡ true → in_progress (state s (acts s trail)) ≡ None
+complete_ends s trail h e f =
+    let none = no_session s (run s trail) (run s trail).state.session (legal_ends s (begin s) trail (plan_ends_sessions s h) tt e) (used_up s (run s trail) f) in
+    let at : (state s (acts s trail)).session ≡ None = ap (λ (st : State). st.session) (sym (state-run s trail)) ∙ none in
+    let kept = orderly s (acts s trail) in
+    no_set (state s (acts s trail)).session (state s (acts s trail)).course.outcome (in_progress (state s (acts s trail))) at kept.session

@@ -1,0 +1,349 @@
+-- Nowhere are there more than 64 writers, or more than 64 volumes in the set in progress.
+use Rattle.std.proofs.Common.{◌≡◌, ℕ, zero, suc, ◌+◌, ◌==◌, ◌<◌, ◌≤◌, List, [], ◌∷◌, ◌++◌, Option, Some, None, refl, Bool, true, false, ap, sym, ◌∙◌, subst, fold, filter, map, length, arith}
+use Rattle.std.specs.Prelude.{is_some, ◌&&◌, not, if◌then◌else◌, nat_le, find, option_map}
+use Rattle.std.proofs.lemmas.List.{length-map}
+use Rattle.vss_names.specs.declared.context.Context.{Context}
+use Rattle.vss_names.specs.declared.order.Order.{Order}
+use Rattle.vss_names.specs.declared.set_outcome.SetOutcome.{SetOutcome}
+use Rattle.vss_names.specs.declared.set_outcome.SetOutcome.TheVariants.{Running, Complete as CompleteSet, Failed}
+use Rattle.vss_names.specs.declared.vss_result.VssResult.{VssResult}
+use Rattle.vss_names.specs.declared.vss_result.VssResult.TheVariants.{AsyncCancelled}
+use Rattle.writer_state.specs.declared.said.Said.{Said}
+use Rattle.writer_state.specs.declared.writer_row.WriterRow.{WriterRow}
+use Rattle.writer_state.specs.WriterState.{is_ok}
+use Rattle.writer_state.specs.WriterRow.{row_after, row_aborted, row_gathered, row_ended}
+use Rattle.write_history.specs.declared.mark.Mark.{Mark}
+use Rattle.write_history.specs.declared.mark.Mark.TheVariants.{Clean, Fault, FaultAfter}
+use Rattle.write_history.specs.History.{Write}
+use Rattle.set_agenda.specs.declared.group.Group.{Group}
+use Rattle.set_agenda.specs.declared.group.Group.TheVariants.{Orders, PreCommit, Flush, Hold, Cut, Commit, Release, PostCommit}
+use Rattle.set_agenda.specs.declared.kind.Kind.{Kind}
+use Rattle.set_agenda.specs.declared.kind.Kind.TheVariants.{Gather, Prepare, Snapshot, Complete}
+use Rattle.set_agenda.specs.declared.limit.Limit.{Limit}
+use Rattle.set_agenda.specs.declared.limit.Limit.TheVariants.{Hold as HoldLimit, Freeze as FreezeLimit, Answer as AnswerLimit}
+use Rattle.set_agenda.specs.declared.member.Member.{Member}
+use Rattle.set_agenda.specs.Agenda.{Agenda, left, groups_left, is_done, is_among, open_order, order_now, waits_now}
+use Rattle.set_agenda.specs.Limits.{Running as RunningLimit, spent_of}
+use Rattle.set_agenda.specs.Course.{Course, posted, failed as course_failed, settled_if, settled_in, settled, begun, is_decisive, told, decided, answered_to, answered as course_answered, worked, stepped_as as course_stepped_as, stepped as course_stepped, limits_now, lost_to, lost, fails_set, lost_decided, treated_as, treated, timed as course_timed, released, rows_where, member_if, members_from, is_member, has_row_failed}
+use Rattle.requestor.specs.Session.{Session}
+use Rattle.scenario.specs.Bounds.{IsPlan}
+use Rattle.scenario.specs.Plan.{Plan}
+use Rattle.vss_model.specs.State.{State, SetRow, Kept, start, in_progress, is_running, row_changed, row_of_writer, left_now}
+use Rattle.vss_model.specs.Ending.{Ending, NothingEnds, AgendaEnds, SetFails, ending, row_settled, concluded, followed, runs, failed_in, failed}
+use Rattle.vss_model.specs.Images.{Replied, is_in_set, put, reverted_as}
+use Rattle.vss_model.specs.Sessions.{begin_in, is_disabled, new_set, new_number, with_volume, change_set, add_refusal, has_no_volume, closed}
+use Rattle.vss_model.specs.Steps.{with_cut, row_cut, cut_set, step_made, answered, stepped_as, stepped, ticked, later}
+use Rattle.vss_model.specs.Acts.{Act, after, state}
+use Rattle.vss_model.specs.Laws.{IsKeptByChanges, IsKeptByWrites}
+use Rattle.vss_model.proofs.Rule.{on_after}
+use Rattle.vss_model.proofs.Turns.{short_filter}
+
+-- ## writers
+
+pub record FewWriters (c : Course) : Type 0 where
+  pub rows : length c.rows ≤ 64
+  pub members : length c.members ≤ 64
+
+length-rows_where : (f : WriterRow → WriterRow) (test : ℕ → Bool) (w : ℕ) (rows : List WriterRow) → length (rows_where f test w rows) ≡ length rows
+length-rows_where f test w [] = refl
+length-rows_where f test w (r ∷ rs) = ap suc (length-rows_where f test (w + 1) rs)
+
+pub short_members : (test : ℕ → Bool) (w : ℕ) (rows : List WriterRow) → length (members_from test w rows) ≤ length rows
+short_members test w [] = omega arith
+short_members test w (r ∷ rs) = own (test w) (short_members test (w + 1) rs)
+  where
+    own : (b : Bool) → length (members_from test (w + 1) rs) ≤ length rs → length (member_if b w r ++ members_from test (w + 1) rs) ≤ length (r ∷ rs)
+    own true h = omega arith
+    own false h = omega arith
+
+few_rows : (n : ℕ) (c d : Course) → length d.rows ≡ length c.rows → d.members ≡ c.members → FewWriters c → FewWriters d
+few_rows n c d e f h = record { rows = subst (λ k. k ≤ 64) (sym e) h.rows; members = subst (λ ms. length ms ≤ 64) (sym f) h.members }
+
+few_failed : (why : VssResult) (c : Course) → FewWriters c → FewWriters (course_failed why c)
+unfolding course_failed
+few_failed why c h = record { rows = subst (λ k. k ≤ 64) (sym (length-rows_where row_aborted (is_member c.members) 0 c.rows)) h.rows; members = h.members }
+
+few_posted : (before c : Course) → FewWriters c → FewWriters (posted before c)
+unfolding posted
+few_posted before c h = record { rows = h.rows; members = h.members }
+
+few_settled_if : (b : Bool) (k : Kind) (c : Course) → FewWriters c → FewWriters (settled_if b k c)
+few_settled_if true k c h = record { rows = h.rows; members = h.members }
+few_settled_if false k c h = h
+
+few_settled_in : (o : Option Agenda) (c : Course) → FewWriters c → FewWriters (settled_in o c)
+few_settled_in None c h = h
+few_settled_in (Some a) c h = few_settled_if (is_done (groups_left a)) a.kind c h
+
+few_settled : (c : Course) → FewWriters c → FewWriters (settled c)
+unfolding settled
+few_settled c h = few_settled_in c.agenda c h
+
+few_told : (o : Order) (said : Said) (now : ℕ) (ws : List ℕ) (c : Course) → FewWriters c → FewWriters (told o said now ws c)
+unfolding told
+few_told o said now ws c h = record { rows = subst (λ k. k ≤ 64) (sym (length-rows_where (row_after o said) (λ w. is_among w ws) 0 c.rows)) h.rows; members = h.members }
+
+few_worked : (now : ℕ) (c : Course) → FewWriters c → FewWriters (worked now c)
+unfolding worked
+few_worked now c h = record { rows = h.rows; members = h.members }
+
+few_decided : (b : Bool) (said : Said) (c : Course) → FewWriters c → FewWriters (decided b said c)
+few_decided true said c h = few_failed _ c h
+few_decided false said c h = few_settled c h
+
+few_answered_to : (o : Option Order) (w : ℕ) (said : Said) (now : ℕ) (c : Course) → FewWriters c → FewWriters (answered_to o w said now c)
+few_answered_to None w said now c h = h
+few_answered_to (Some o) w said now c h = few_decided (is_decisive o && not (is_ok said)) said _ (few_told o said now (w ∷ []) c h)
+
+few_answered : (w : ℕ) (said : Said) (now : ℕ) (c : Course) → FewWriters c → FewWriters (course_answered w said now c)
+few_answered w said now c h = few_posted c _ (few_answered_to (open_order (left c.agenda) w) w said now c h)
+
+few_stepped_as : (ok : Bool) (now : ℕ) (c : Course) → FewWriters c → FewWriters (course_stepped_as ok now c)
+few_stepped_as true now c h = few_settled _ (few_worked now c h)
+few_stepped_as false now c h = few_failed _ c h
+
+few_stepped : (ok : Bool) (now : ℕ) (c : Course) → FewWriters c → FewWriters (course_stepped ok now c)
+few_stepped ok now c h = few_posted c _ (few_stepped_as ok now c h)
+
+few_lost_to : (o : Option Order) (now : ℕ) (c : Course) → FewWriters c → FewWriters (lost_to o now c)
+few_lost_to None now c h = h
+few_lost_to (Some o) now c h = few_told o _ now (waits_now (left c.agenda)) c h
+
+few_lost_decided : (b : Bool) (c : Course) → FewWriters c → FewWriters (lost_decided b c)
+few_lost_decided true c h = few_failed _ c h
+few_lost_decided false c h = few_settled c h
+
+few_treated_as : (l : Limit) (now : ℕ) (c : Course) → FewWriters c → FewWriters (treated_as l now c)
+few_treated_as HoldLimit now c h = few_failed _ c h
+few_treated_as FreezeLimit now c h = few_failed _ _ (few_lost_to (order_now (left c.agenda)) now c h)
+few_treated_as AnswerLimit now c h = few_lost_decided (fails_set (order_now (left c.agenda))) _ (few_lost_to (order_now (left c.agenda)) now c h)
+
+few_treated : (l : Option RunningLimit) (now : ℕ) (c : Course) → FewWriters c → FewWriters (treated l now c)
+few_treated None now c h = h
+few_treated (Some l) now c h = few_treated_as l.limit now c h
+
+few_timed : (now : ℕ) (c : Course) → FewWriters c → FewWriters (course_timed now c)
+few_timed now c h = few_posted c _ (few_treated (spent_of now (limits_now c)) now c h)
+
+few_begun : (k : Kind) (ms : List Member) (vs : List ℕ) (now : ℕ) (c : Course) → FewWriters c → FewWriters (begun k ms vs now c)
+unfolding begun
+few_begun k ms vs now c h = few_posted c _ (few_settled _ (record { rows = h.rows; members = h.members }))
+
+few_released : (c : Course) → FewWriters c → FewWriters (released c)
+unfolding released
+few_released c h = record { rows = subst (λ k. k ≤ 64) (sym (length-map c.rows row_ended)) h.rows; members = omega arith }
+
+-- ## the set in progress
+
+abbrev pub FewVolumes : Option SetRow → Type 0
+FewVolumes None = Unit {0}
+FewVolumes (Some r) = length r.volumes ≤ 64
+
+abbrev running_in : List SetRow → Option SetRow
+running_in rows = find (λ r. is_running r.result) rows
+
+-- what keeps results finds the same row, changed
+find_changed : (g : SetRow → SetRow) → ((r : SetRow) → is_running (g r).result ≡ is_running r.result) → (rows : List SetRow) → running_in (map g rows) ≡ option_map g (running_in rows)
+find_changed g same [] = refl
+find_changed g same (r ∷ rows) = own (is_running r.result) (same r) (find_changed g same rows)
+  where
+    own : (b : Bool) → is_running (g r).result ≡ b → running_in (map g rows) ≡ option_map g (running_in rows) → (if is_running (g r).result then Some (g r) else running_in (map g rows)) ≡ option_map g (if b then Some r else running_in rows)
+    own true e h = ap (λ c. if c then Some (g r) else running_in (map g rows)) e
+    own false e h = ap (λ c. if c then Some (g r) else running_in (map g rows)) e ∙ h
+
+-- where the outcome is an end, no set is in progress
+none_settled : (o : SetOutcome) → is_running o ≡ false → (rows : List SetRow) → running_in (map (row_settled o) rows) ≡ None
+none_settled o e [] = refl
+none_settled o e (r ∷ rows) = own (is_running r.result) refl (none_settled o e rows)
+  where
+    own : (b : Bool) → is_running r.result ≡ b → running_in (map (row_settled o) rows) ≡ None → (if is_running (if b then record r { result = o } else r).result then Some (if b then record r { result = o } else r) else running_in (map (row_settled o) rows)) ≡ None
+    own true f h = ap (λ c. if c then Some (record r { result = o }) else running_in (map (row_settled o) rows)) e ∙ h
+    own false f h = ap (λ c. if c then Some r else running_in (map (row_settled o) rows)) f ∙ h
+
+same_settled : (r : SetRow) → is_running (row_settled Running r).result ≡ is_running r.result
+same_settled r = own (is_running r.result) refl
+  where
+    own : (b : Bool) → is_running r.result ≡ b → is_running (if b then record r { result = Running } else r).result ≡ b
+    own true e = refl
+    own false e = e
+
+volumes_settled : (r : SetRow) → (row_settled Running r).volumes ≡ r.volumes
+volumes_settled r = own (is_running r.result)
+  where
+    own : (b : Bool) → (if b then record r { result = Running } else r).volumes ≡ r.volumes
+    own true = refl
+    own false = refl
+
+few_mapped : (g : SetRow → SetRow) → ((r : SetRow) → (g r).volumes ≡ r.volumes) → (o : Option SetRow) → FewVolumes o → FewVolumes (option_map g o)
+few_mapped g same None h = tt
+few_mapped g same (Some r) h = subst (λ vs. length vs ≤ 64) (sym (same r)) h
+
+few_same : (o p : Option SetRow) → p ≡ o → FewVolumes o → FewVolumes p
+few_same o p e h = subst FewVolumes (sym e) h
+
+few_row_settled : (o : SetOutcome) (rows : List SetRow) → FewVolumes (running_in rows) → FewVolumes (running_in (map (row_settled o) rows))
+few_row_settled Running rows h = few_same _ _ (find_changed (row_settled Running) same_settled rows) (few_mapped (row_settled Running) volumes_settled (running_in rows) h)
+few_row_settled CompleteSet rows h = few_same None _ (none_settled CompleteSet refl rows) tt
+few_row_settled (Failed why) rows h = few_same None _ (none_settled (Failed why) refl rows) tt
+
+-- a change of the row of one set that keeps its result
+same_changed : (n : ℕ) (f : SetRow → SetRow) → ((r : SetRow) → (f r).result ≡ r.result) → (r : SetRow) → is_running (row_changed n f r).result ≡ is_running r.result
+same_changed n f same r = own (r.number == n)
+  where
+    own : (b : Bool) → is_running (if b then f r else r).result ≡ is_running r.result
+    own true = ap is_running (same r)
+    own false = refl
+
+volumes_cut : (n now : ℕ) (r : SetRow) → (row_cut n now r).volumes ≡ r.volumes
+volumes_cut n now r = own (r.number == n)
+  where
+    own : (b : Bool) → (if b then with_cut now r else r).volumes ≡ r.volumes
+    own true = refl
+    own false = refl
+
+few_cut : (o : Option SetRow) (st : State) → FewVolumes (running_in st.sets) → FewVolumes (running_in (cut_set o st).sets)
+few_cut None st h = h
+few_cut (Some r) st h = few_same _ _ (find_changed (row_cut r.number st.clock) (same_changed r.number (with_cut st.clock) (λ q. refl)) st.sets) (few_mapped (row_cut r.number st.clock) (volumes_cut r.number st.clock) (running_in st.sets) h)
+
+few_started : (rows : List SetRow) (n : ℕ) (c : Context) → FewVolumes (running_in rows) → FewVolumes (running_in (rows ++ new_set n c ∷ []))
+few_started [] n c h = omega arith
+few_started (r ∷ rows) n c h = own (is_running r.result) (few_started rows n c) h
+  where
+    own : (b : Bool) → (FewVolumes (running_in rows) → FewVolumes (running_in (rows ++ new_set n c ∷ []))) → FewVolumes (if b then Some r else running_in rows) → FewVolumes (if b then Some r else running_in (rows ++ new_set n c ∷ []))
+    own true later g = g
+    own false later g = later g
+
+length-more : (vs : List ℕ) (v : ℕ) → length (vs ++ v ∷ []) ≡ suc (length vs)
+length-more [] v = refl
+length-more (u ∷ vs) v = ap suc (length-more vs v)
+
+few_if_added : (a b d : Bool) (x y z : VssResult) (n : ℕ) → nat_le 64 n ≡ b → (if a then Some x else if b then Some y else if d then Some z else None) ≡ None → suc n ≤ 64
+few_if_added true b d x y z n e f = absurd cc
+few_if_added false true d x y z n e f = absurd cc
+few_if_added false false d x y z n e f = own n e
+  where
+    own : (n : ℕ) → nat_le 64 n ≡ false → suc n ≤ 64
+    own n e = grind arith
+
+few_added : (v : ℕ) (r : SetRow) (st : State) → in_progress st ≡ Some r → add_refusal v r st ≡ None → FewVolumes (running_in (map (row_changed r.number (with_volume v)) st.sets))
+few_added v r st e f =
+    few_same _ _ (find_changed (row_changed r.number (with_volume v)) (same_changed r.number (with_volume v) (λ q. refl)) st.sets ∙ ap (option_map (row_changed r.number (with_volume v))) e)
+    (own (r.number == r.number))
+  where
+    enough : suc (length r.volumes) ≤ 64
+    enough = few_if_added (is_in_set v (Some r)) (nat_le 64 (length r.volumes)) _ _ _ _ (length r.volumes) refl f
+
+    own : (b : Bool) → length (if b then with_volume v r else r).volumes ≤ 64
+    own true = subst (λ n. n ≤ 64) (sym (length-more r.volumes v)) enough
+    own false = omega (arith, enough)
+
+-- ## both, in every state
+
+pub record IsFew (st : State) : Type 0 where
+  pub writers : FewWriters st.course
+  pub volumes : FewVolumes (in_progress st)
+
+few_concluded : (e : Ending) (st : State) → IsFew st → IsFew (concluded e st)
+few_concluded NothingEnds st h = h
+few_concluded AgendaEnds st h = record { writers = h.writers; volumes = few_row_settled st.course.outcome st.sets h.volumes }
+few_concluded (SetFails why) st h = record { writers = h.writers; volumes = few_row_settled st.course.outcome st.sets h.volumes }
+
+few_followed : (ran : Bool) (c : Course) (st : State) → FewWriters c → FewVolumes (in_progress st) → IsFew (followed ran c st)
+unfolding followed
+few_followed ran c st h g = few_concluded (ending st.course.outcome c.outcome ran c.agenda) (record st { course = c }) (record { writers = h; volumes = g })
+
+on_answers : (w : ℕ) (said : Said) (st : State) → IsFew st → IsFew (answered w said st)
+unfolding answered
+on_answers w said st h = few_followed (runs st) _ st (few_answered w said st.clock st.course h.writers) h.volumes
+
+few_step_made : (g : Option Group) (st : State) → FewVolumes (in_progress st) → FewVolumes (in_progress (step_made g st))
+few_step_made None st h = h
+few_step_made (Some (Orders o)) st h = h
+few_step_made (Some PreCommit) st h = h
+few_step_made (Some Flush) st h = h
+few_step_made (Some Hold) st h = h
+few_step_made (Some Cut) st h = few_cut (in_progress st) st h
+few_step_made (Some Commit) st h = h
+few_step_made (Some Release) st h = h
+few_step_made (Some PostCommit) st h = h
+
+on_stepped_as : (fails : Bool) (g : Option Group) (st : State) → IsFew st → IsFew (stepped_as fails g st)
+on_stepped_as true g st h = few_followed (runs st) _ st (few_stepped false st.clock st.course h.writers) h.volumes
+on_stepped_as false g st h = few_followed (runs st) _ (step_made g st) (few_stepped true st.clock st.course h.writers) (few_step_made g st h.volumes)
+
+on_steps : (mark : Mark) (st : State) → IsFew st → IsFew (stepped mark st)
+unfolding stepped
+on_steps mark st h = on_stepped_as _ _ st h
+
+on_ticks : (n : ℕ) (st : State) → IsFew st → IsFew (ticked n st)
+unfolding ticked
+on_ticks n st h = few_followed (runs st) _ (later n st) (few_timed (st.clock + n) st.course h.writers) h.volumes
+
+on_failed_in : (o : Option SetRow) (why : VssResult) (st : State) → IsFew st → IsFew (failed_in o why st)
+on_failed_in None why st h = h
+on_failed_in (Some r) why st h = few_concluded (SetFails why) (record st { course = course_failed why st.course }) (record { writers = few_failed why st.course h.writers; volumes = h.volumes })
+
+on_begins : (lane : ℕ) (all : Bool) (c : Option Context) (st : State) → IsFew st → IsFew (begin_in lane all c st).1
+on_begins lane all None st h = h
+on_begins lane all (Some c) st h = record { writers = h.writers; volumes = h.volumes }
+
+either_few : (b : Bool) (x y : Replied) → IsFew x.1 → IsFew y.1 → IsFew (if b then x else y).1
+either_few true x y h i = h
+either_few false x y h i = i
+
+on_closes : (q : Session) (st : State) → IsFew st → IsFew (closed q st)
+unfolding closed
+on_closes q st h = record { writers = few_released st.course h.writers; volumes = h.volumes }
+
+few_gathered : (c : Course) → FewWriters c → FewWriters (record c { rows = map row_gathered c.rows })
+few_gathered c h = record { rows = subst (λ k. k ≤ 64) (sym (length-map c.rows row_gathered)) h.rows; members = h.members }
+
+few_prepared : (test : ℕ → Bool) (c : Course) → FewWriters c → FewWriters (record c { members = members_from test 0 c.rows })
+few_prepared test c h = let e = short_members test 0 c.rows in let g = h.rows in record { rows = h.rows; members = omega arith }
+
+kept_by_changes : IsKeptByChanges IsFew
+kept_by_changes = record {
+  answers = λ w said st e h. on_answers w said st h;
+  steps = λ mark st e h. on_steps mark st h;
+  ticks = on_ticks;
+  fails = λ why st h. on_failed_in (in_progress st) why st h;
+  gathers = λ s q st e h. few_followed true _ st (few_begun Gather _ [] st.clock _ (few_gathered st.course h.writers)) h.volumes;
+  prepares = λ s q st e h. either_few (has_no_volume (in_progress st)) _ _ h (few_followed true _ st (few_begun Prepare _ [] st.clock _ (few_prepared _ st.course h.writers)) h.volumes);
+  snapshots = λ q st e h. either_few (has_no_volume (in_progress st)) _ _ h (few_followed true _ st (few_begun Snapshot st.course.members _ st.clock st.course h.writers) h.volumes);
+  completes = λ q st e h. few_followed true _ st (few_begun Complete _ [] st.clock _ h.writers) h.volumes;
+  clears = λ s v b st h. record { writers = h.writers; volumes = h.volumes };
+  deletes_set = λ n st h. record { writers = h.writers; volumes = h.volumes };
+  deletes_image = λ n v st h. record { writers = h.writers; volumes = h.volumes };
+  begins = λ lane all c st e h. on_begins lane all c st h;
+  names = λ q explicit st e h. record { writers = h.writers; volumes = h.volumes };
+  disables = λ w q st e h. record { writers = record { rows = h.writers.rows; members = h.writers.members }; volumes = h.volumes };
+  starts = λ q st e f h. record { writers = h.writers; volumes = few_started st.sets (new_number st) q.context h.volumes };
+  adds = λ v r q st e f g h. record { writers = h.writers; volumes = few_added v r st f g };
+  ends = λ q st e h. on_closes q (failed AsyncCancelled st) (on_failed_in (in_progress st) AsyncCancelled st h);
+}
+
+on_puts : (v : ℕ) (w : Write) (mark : Mark) (x : State) → IsFew x → IsFew (put v w mark x)
+on_puts v w Clean x h = record { writers = h.writers; volumes = h.volumes }
+on_puts v w Fault x h = h
+on_puts v w (FaultAfter k) x h = h
+
+on_reverts : (s : Plan) (v : ℕ) (k : Kept) (mark : Mark) (st : State) → IsFew st → IsFew (reverted_as s v k mark st).1
+on_reverts s v k Clean st h = record { writers = h.writers; volumes = h.volumes }
+on_reverts s v k Fault st h = record { writers = h.writers; volumes = h.volumes }
+on_reverts s v k (FaultAfter n) st h = record { writers = h.writers; volumes = h.volumes }
+
+kept_by_writes : (st : State) → IsKeptByWrites IsFew st
+kept_by_writes st = record {
+  puts = λ v e w mark x h. on_puts v w mark x h;
+  reverts = λ s n v k mark e f h. on_reverts s v k mark st h;
+}
+
+few_fold : (s : Plan) (st : State) (acts : List Act) → IsFew st → IsFew (fold (after s) st acts)
+few_fold s st [] h = h
+few_fold s st (act ∷ acts) h = few_fold s (after s st act) acts (on_after IsFew kept_by_changes s st act (kept_by_writes st) h)
+
+few_start : (s : Plan) → IsPlan s → IsFew (start s)
+few_start s h = record { writers = record { rows = subst (λ k. k ≤ 64) (sym (length-map s.writers row_of_writer)) h.few_writers; members = omega arith }; volumes = tt }
+
+pub few_in : (s : Plan) (acts : List Act) → IsPlan s → IsFew (state s acts)
+few_in s acts h = few_fold s (start s) acts (few_start s h)

@@ -1,0 +1,159 @@
+-- Every run keeps its promises, and a legal and complete trail makes each line once.
+use Rattle.std.proofs.Common.{◌≡◌, ℕ, zero, suc, ◌+◌, ◌==◌, ◌<◌, ◌≤◌, List, [], ◌∷◌, ◌++◌, Option, Some, None, refl, Bool, true, false, ap, sym, ◌∙◌, subst, length, inl, inr, arith}
+use Rattle.std.specs.Prelude.{◌⊎◌, is_none, ◌&&◌, not, slice_get}
+use Rattle.std.specs.List.{list_all, range_with_len}
+use Rattle.write_history.specs.History.{content, point_in}
+use Rattle.write_history.specs.declared.actor.Actor.{Actor}
+use Rattle.write_history.specs.declared.actor.Actor.TheVariants.{Lane, Writer, Advance, Idle}
+use Rattle.write_history.specs.declared.move_item.Move.{Move}
+use Rattle.set_agenda.specs.Agenda.{open_group}
+use Rattle.scenario.specs.Plan.{Plan, LaneLine, LanePlan, lines_in, lines_of}
+use Rattle.vss_model.specs.State.{State, SetRow, in_progress, left_now, history_of}
+use Rattle.vss_model.specs.Ending.{runs}
+use Rattle.vss_model.specs.Acts.{Act, state}
+use Rattle.vss_model.specs.Cut.{cut, is_set as has_number, is_cut_group, IsShownAt, IsCutAt}
+use Rattle.vss_model.specs.Headline.{ReadsAsAtTheCut, KeepsPromises, MakesEachLineOnce}
+use Rattle.vss_model.specs.Trail.{Run, run, begin, run_from, moved, is_lane, cursor, next_line, line_event, event_of, event_enabled, may_move, allows, is_legal_move, is_legal_from, is_legal, is_used_up, is_over, is_complete}
+use Rattle.vss_model.proofs.OneCut.{image_shown, image_reads, cut_is_at}
+use Rattle.vss_model.proofs.AtCut.{held_at_cut, frozen_at_cut}
+use Rattle.vss_model.proofs.Failures.{failed_keeps_nothing, failed_has_no_copy}
+use Rattle.vss_model.proofs.HeldOfSet.{held_means, frozen_means}
+use Rattle.vss_model.proofs.Appending.{moves-run}
+use Rattle.vss_model.proofs.GoesOn.{cursor_more, cursor_same}
+
+-- ## images
+
+same : (a b : ℕ) → (a == b) ≡ true → a ≡ b
+same a b e = grind arith
+
+at_cut : (s : Plan) (so_far : List Act) (n v p : ℕ) → point_in n (history_of (state s so_far) v).images ≡ Some p → (before : List Act) → cut s n so_far ≡ Some before
+    → (o : Option SetRow) → in_progress (state s before) ≡ o → has_number n o ≡ true → is_cut_group (open_group (left_now (state s before))) ≡ true → ReadsAsAtTheCut s so_far n v p
+at_cut s so_far n v p h before e None f g i = absurd cc
+at_cut s so_far n v p h before e (Some r) f g i = record {
+  before = before;
+  is_cut = e;
+  reads = λ b. image_reads s so_far before n v p b h e;
+  set = r;
+  is_set = f;
+  number = same r.number n g;
+  held = λ u j. held_at_cut s before r u i f j;
+  frozen = λ w j. frozen_at_cut s before r w i f j;
+}
+
+reads_as : (s : Plan) (so_far : List Act) (n v p : ℕ) → point_in n (history_of (state s so_far) v).images ≡ Some p → (o : Option (List Act)) → cut s n so_far ≡ o → IsShownAt s v p (history_of (state s so_far) v).writes o → ReadsAsAtTheCut s so_far n v p
+reads_as s so_far n v p h None e i = absurd i
+reads_as s so_far n v p h (Some before) e i =
+    let at = cut_is_at s n so_far before e in at_cut s so_far n v p h before e (in_progress (state s before)) refl at.set at.step
+
+pub keeps_promises : (s : Plan) (so_far : List Act) → KeepsPromises s so_far
+keeps_promises s so_far = record {
+  images = λ n v p h. reads_as s so_far n v p h (cut s n so_far) refl (image_shown s so_far n v p h);
+  failed = λ n r e f. record { no_image = λ v. failed_keeps_nothing s so_far n v r e f; no_copy = λ group. failed_has_no_copy s so_far n r group e f };
+  held = λ v e. held_means s so_far v e;
+  frozen = λ w e. frozen_means s so_far w e;
+}
+
+-- ## each line once
+
+within : (ls : List LaneLine) (k : ℕ) (l : LaneLine) → slice_get ls k ≡ Some l → k < length ls
+within [] zero l e = absurd cc
+within [] (suc k) l e = absurd cc
+within (x ∷ ls) zero l e = omega arith
+within (x ∷ ls) (suc k) l e = let h = within ls k l e in omega (arith, h)
+
+past : (ls : List LaneLine) (k : ℕ) → is_none (slice_get ls k) ≡ true → length ls ≤ k
+past [] k e = omega arith
+past (x ∷ ls) zero e = absurd cc
+past (x ∷ ls) (suc k) e = let h = past ls k e in omega (arith, h)
+
+first_true : (a b : Bool) → (a && b) ≡ true → a ≡ true
+first_true true b e = refl
+first_true false b e = absurd cc
+
+second_true : (a b : Bool) → (a && b) ≡ true → b ≡ true
+second_true true b e = e
+second_true false b e = absurd cc
+
+zero_more : (x : ℕ) → 0 + x ≡ x
+zero_more x = omega arith
+
+lanes_or : (i n : ℕ) → (i < n) ⊎ (n ≤ i)
+lanes_or i zero = inr (omega arith)
+lanes_or zero (suc n) = inl (omega arith)
+lanes_or (suc i) (suc n) = raise (lanes_or i n)
+  where
+    raise : (i < n) ⊎ (n ≤ i) → (suc i < suc n) ⊎ (suc n ≤ suc i)
+    raise (inl h) = inl (omega (arith, h))
+    raise (inr h) = inr (omega (arith, h))
+
+-- no lane is past its end
+abbrev NonePast : Plan → List Move → Type 0
+NonePast s moves = (i : ℕ) → cursor moves i ≤ length (lines_of s i)
+
+equal : (a b : ℕ) → (a == b) ≡ true → a ≡ b
+equal a b e = grind arith
+
+has_line : (s : Plan) (r : Run) (j : ℕ) (o : Option LaneLine) → next_line s r j ≡ o → event_enabled s r (line_event j o) ≡ true → cursor r.moves j < length (lines_of s j)
+has_line s r j None e f = absurd cc
+has_line s r j (Some l) e f = within (lines_of s j) (cursor r.moves j) l e
+
+lane_past : (s : Plan) (r : Run) (m : Move) (j i : ℕ) → m.actor ≡ Lane j → event_enabled s r (event_of s r (Lane j)) ≡ true → NonePast s r.moves → cursor (r.moves ++ m ∷ []) i ≤ length (lines_of s i)
+lane_past s r m j i e f h = own (j == i) refl
+  where
+    own : (b : Bool) → (j == i) ≡ b → cursor (r.moves ++ m ∷ []) i ≤ length (lines_of s i)
+    own true g =
+        let more = cursor_more r.moves m i (ap (is_lane i) e ∙ g) in
+        let here : cursor r.moves i < length (lines_of s i) = subst (λ x. cursor r.moves x < length (lines_of s x)) (equal j i g) (has_line s r j (next_line s r j) refl f) in
+        omega (arith, more, here)
+    own false g =
+        let less = cursor_same r.moves m i (ap (is_lane i) e ∙ g) in
+        let here = h i in
+        omega (arith, less, here)
+
+other_past : (s : Plan) (r : Run) (m : Move) (i : ℕ) → is_lane i m.actor ≡ false → NonePast s r.moves → cursor (r.moves ++ m ∷ []) i ≤ length (lines_of s i)
+other_past s r m i e h = let less = cursor_same r.moves m i e in let here = h i in omega (arith, less, here)
+
+move_past : (s : Plan) (r : Run) (m : Move) (a : Actor) → m.actor ≡ a → may_move s r a ≡ true → NonePast s r.moves → NonePast s (r.moves ++ m ∷ [])
+move_past s r m (Lane j) e f h i = lane_past s r m j i e f h
+move_past s r m (Writer w) e f h i = other_past s r m i (ap (is_lane i) e) h
+move_past s r m Advance e f h i = other_past s r m i (ap (is_lane i) e) h
+move_past s r m Idle e f h i = other_past s r m i (ap (is_lane i) e) h
+
+past_from : (s : Plan) (r : Run) (ms : List Move) → is_legal_from s r ms ≡ true → NonePast s r.moves → NonePast s (run_from s r ms).moves
+past_from s r [] e h = h
+past_from s r (m ∷ ms) e h =
+    past_from s (moved s r m) ms (second_true (is_legal_move s r m) (is_legal_from s (moved s r m) ms) e)
+    (move_past s r m m.actor refl (first_true (may_move s r m.actor) (allows s r (event_of s r m.actor) m.mark) (first_true (is_legal_move s r m) (is_legal_from s (moved s r m) ms) e)) h)
+
+-- a test that all numbers below n pass
+all_below : (p : ℕ → Bool) (a n i : ℕ) → list_all p (range_with_len a n) ≡ true → i < n → p (a + i) ≡ true
+all_below p a zero i e h = absurd (omega (arith, h))
+all_below p a (suc n) zero e h = subst (λ x. p x ≡ true) (none_more a) (first_true (p a) (list_all p (range_with_len (a + 1) n)) e)
+  where
+    none_more : (x : ℕ) → x ≡ x + 0
+    none_more x = omega arith
+all_below p a (suc n) (suc i) e h =
+    subst (λ x. p x ≡ true) (shift a i) (all_below p (a + 1) n i (second_true (p a) (list_all p (range_with_len (a + 1) n)) e) (omega (arith, h)))
+  where
+    shift : (x y : ℕ) → x + 1 + y ≡ x + suc y
+    shift x y = omega arith
+
+no_lane : (lanes : List LanePlan) (i : ℕ) → length lanes ≤ i → length (lines_in (slice_get lanes i)) ≡ 0
+no_lane [] i h = refl
+no_lane (l ∷ lanes) zero h = absurd (omega (arith, h))
+no_lane (l ∷ lanes) (suc i) h = no_lane lanes i (omega (arith, h))
+
+pub used_up : (s : Plan) (r : Run) → is_over s r ≡ true → (i : ℕ) → length (lines_of s i) ≤ cursor r.moves i
+used_up s r e i = own (lanes_or i (length s.lanes))
+  where
+    own : (i < length s.lanes) ⊎ (length s.lanes ≤ i) → length (lines_of s i) ≤ cursor r.moves i
+    own (inl h) = past (lines_of s i) (cursor r.moves i) (subst (λ x. is_used_up s r x ≡ true) (zero_more i) (all_below (is_used_up s r) 0 (length s.lanes) i (first_true (list_all (is_used_up s r) (range_with_len 0 (length s.lanes))) (not (runs r.state)) e) h))
+    own (inr h) = let g = no_lane s.lanes i h in omega (arith, g)
+
+pub each_line_once : (s : Plan) (trail : List Move) → is_legal s trail ≡ true → is_complete s trail ≡ true → MakesEachLineOnce s trail
+each_line_once s trail e f i =
+    let a = past_from s (begin s) trail e (λ j. omega arith) i in
+    let b = used_up s (run s trail) f i in
+    let h : cursor (run s trail).moves i ≤ length (lines_of s i) = a in
+    let g : cursor (run s trail).moves i ≡ cursor trail i = ap (λ ms. cursor ms i) (moves-run s trail) in
+    omega (arith, h, b, g)

@@ -1,0 +1,372 @@
+-- Each legal move takes a turn, so a legal trail is short.
+use Rattle.std.proofs.Common.{◌≡◌, ℕ, zero, suc, ◌+◌, ◌*◌, ◌==◌, ◌<◌, ◌≤◌, List, [], ◌∷◌, ◌++◌, Option, Some, None, refl, Bool, true, false, ap, sym, ◌∙◌, subst, fold, filter, map, length, drop, cond, arith}
+use Rattle.std.specs.Prelude.{is_some, ◌&&◌, not, if◌then◌else◌, slice_get, count_by, sum}
+use Rattle.std.proofs.lemmas.List.Sums.{sum_by-cons}
+use Rattle.vss_names.specs.declared.context.Context.{Context}
+use Rattle.vss_names.specs.declared.vss_result.VssResult.{VssResult}
+use Rattle.vss_names.specs.declared.vss_result.VssResult.TheVariants.{AsyncCancelled}
+use Rattle.write_history.specs.declared.actor.Actor.{Actor}
+use Rattle.write_history.specs.declared.actor.Actor.TheVariants.{Lane, Writer, Advance, Idle}
+use Rattle.write_history.specs.declared.mark.Mark.{Mark}
+use Rattle.write_history.specs.declared.mark.Mark.TheVariants.{Clean, Fault, FaultAfter}
+use Rattle.write_history.specs.declared.move_item.Move.{Move}
+use Rattle.write_history.specs.History.{Write}
+use Rattle.writer_calls.specs.Script.{said_of}
+use Rattle.writer_state.specs.declared.said.Said.{Said}
+use Rattle.set_agenda.specs.declared.group.Group.{Group}
+use Rattle.set_agenda.specs.declared.kind.Kind.TheVariants.{Gather, Prepare, Snapshot, Complete}
+use Rattle.set_agenda.specs.Agenda.{left, is_among, is_working}
+use Rattle.set_agenda.specs.Course.{Course, answered as course_answered, stepped as course_stepped, timed as course_timed, failed as course_failed, released, has_row_failed}
+use Rattle.requestor.specs.Session.{Session}
+use Rattle.scenario.specs.declared.op.Op.{Op}
+use Rattle.scenario.specs.Bounds.{IsPlan, begins_agenda, agenda_lines}
+use Rattle.scenario.specs.Plan.{Plan, LaneLine, LanePlan, lines_in, lines_of}
+use Rattle.vss_model.specs.declared.event.Event.{Event}
+use Rattle.vss_model.specs.declared.event.Event.TheVariants.{Line, Answer as AnswerEvent, Provider, Idle as IdleEvent}
+use Rattle.vss_model.specs.State.{State, SetRow, Kept, start, in_progress, left_now}
+use Rattle.vss_model.specs.Ending.{Ending, NothingEnds, AgendaEnds, SetFails, ending, concluded, followed, runs, failed_in, failed}
+use Rattle.vss_model.specs.Images.{Replied, put, reverted_as}
+use Rattle.component_doc.specs.Selection.{takers}
+use Rattle.vss_names.specs.declared.order.Order.{Order}
+use Rattle.writer_calls.specs.declared.answer.Answer.{Answer}
+use Rattle.vss_model.specs.Sessions.{is_disabled, selected, begin_in, has_no_volume, volumes_of, closed}
+use Rattle.vss_model.specs.Steps.{answered, step_made, stepped_as, stepped, ticked, later}
+use Rattle.vss_model.specs.Acts.{Act, after, after_if, state, enabled, happens, idle_now, order_of_writer}
+use Rattle.vss_model.specs.Laws.{IsKeptByWrites}
+use Rattle.vss_model.specs.GoesOn.{most_moves}
+use Rattle.vss_model.specs.Trail.{Run, begin, is_lane, cursor, next_line, line_event, answer_event, script_event, event_of, act_of, acts_if, after_event, moved, run_from, run, acts, event_enabled, none_can_act, may_move, allows, is_legal_move, is_legal_from, is_legal}
+use Rattle.vss_model.specs.Turns.{waiting, turns_of_agenda, turns_of_line, turns_of_lines, turns_of_lanes, turns_left}
+use Rattle.vss_model.proofs.Appending.{state-append, run-append, moves-run, state-run, is_legal-append}
+use Rattle.vss_model.proofs.Rule.{IsKeptByLines, MayBegin, on_line}
+use Rattle.vss_model.proofs.Waiting.{idle_spends}
+use Rattle.vss_model.proofs.GoesOn.{cursor_more, cursor_same}
+use Rattle.vss_model.proofs.Turns.{waits_in, short_filter, less_stepped, less_answered, not_more_timed, less_timed, few_begun, none_released, none_left_failed}
+use Rattle.vss_model.proofs.FewTurns.{IsFew, FewVolumes, short_members, few_in}
+
+-- ## one act
+
+abbrev waits_at : State → ℕ
+waits_at st = waiting (left_now st)
+
+same_concluded : (e : Ending) (st : State) → waits_at (concluded e st) ≡ waits_at st
+same_concluded NothingEnds st = refl
+same_concluded AgendaEnds st = refl
+same_concluded (SetFails why) st = refl
+
+same_followed : (ran : Bool) (c : Course) (st : State) → waits_at (followed ran c st) ≡ waits_in c
+unfolding followed
+same_followed ran c st = same_concluded (ending st.course.outcome c.outcome ran c.agenda) (record st { course = c })
+
+less_answers : (w : ℕ) (said : Said) (st : State) → waits_in (course_answered w said st.clock st.course) < waits_at st → waits_at (answered w said st) < waits_at st
+unfolding answered
+less_answers w said st h = subst (λ n. n < waits_at st) (sym (same_followed (runs st) _ st)) h
+
+same_made : (ran ok : Bool) (g : Option Group) (st : State) → waits_at (followed ran (course_stepped ok st.clock st.course) (step_made g st)) ≡ waits_in (course_stepped ok st.clock st.course)
+same_made ran ok g st = same_followed ran (course_stepped ok st.clock st.course) (step_made g st)
+
+less_stepped_as : (fails : Bool) (g : Option Group) (st : State) → is_working (left_now st) ≡ true → waits_at (stepped_as fails g st) < waits_at st
+less_stepped_as true g st e = subst (λ n. n < waits_at st) (sym (same_followed (runs st) (course_stepped false st.clock st.course) st)) (less_stepped false st.clock st.course e)
+less_stepped_as false g st e = subst (λ n. n < waits_at st) (sym (same_made (runs st) true g st)) (less_stepped true st.clock st.course e)
+
+less_steps : (mark : Mark) (st : State) → is_working (left_now st) ≡ true → waits_at (stepped mark st) < waits_at st
+unfolding stepped
+less_steps mark st e = less_stepped_as _ _ st e
+
+same_ticked : (n : ℕ) (st : State) → waits_at (ticked n st) ≡ waits_in (course_timed (st.clock + n) st.course)
+unfolding ticked
+same_ticked n st = same_followed (runs st) (course_timed (st.clock + n) st.course) (later n st)
+
+not_more_failed : (o : Option SetRow) (why : VssResult) (st : State) → waits_at (failed_in o why st) ≤ waits_at st
+not_more_failed None why st = omega arith
+not_more_failed (Some r) why st =
+    let e = same_concluded (SetFails why) (record st { course = course_failed why st.course }) in
+    let f = none_left_failed why st.course in
+    omega (arith, e, f)
+
+none_closed : (q : Session) (st : State) → waits_at (closed q st) ≡ 0
+unfolding closed
+none_closed q st = none_released st.course
+
+abbrev AreFew : ℕ → State → Type 0
+AreFew k st = waits_at st ≤ k
+
+kept_by_lines : (k : ℕ) → IsKeptByLines (AreFew k)
+kept_by_lines k = record {
+  ticks = λ n st h. let e = same_ticked n st in let f = not_more_timed (st.clock + n) st.course in omega (arith, e, f, h);
+  fails = λ why st h. let f = not_more_failed (in_progress st) why st in omega (arith, f, h);
+  clears = λ s v b st h. h;
+  deletes_set = λ n st h. h;
+  deletes_image = λ n v st h. h;
+  names = λ q explicit st e h. h;
+  disables = λ w q st e h. h;
+  starts = λ q st e f h. h;
+  adds = λ v r q st e f g h. h;
+  ends = λ q st e h. let f = none_closed q (failed AsyncCancelled st) in omega (arith, f);
+}
+
+on_puts : (k v : ℕ) (w : Write) (mark : Mark) (x : State) → AreFew k x → AreFew k (put v w mark x)
+on_puts k v w Clean x h = h
+on_puts k v w Fault x h = h
+on_puts k v w (FaultAfter n) x h = h
+
+on_reverts : (k : ℕ) (s : Plan) (v : ℕ) (kept : Kept) (mark : Mark) (st : State) → AreFew k st → AreFew k (reverted_as s v kept mark st).1
+on_reverts k s v kept Clean st h = h
+on_reverts k s v kept Fault st h = h
+on_reverts k s v kept (FaultAfter n) st h = h
+
+kept_by_writes : (k : ℕ) (st : State) → IsKeptByWrites (AreFew k) st
+kept_by_writes k st = record {
+  puts = λ v e w mark x h. on_puts k v w mark x h;
+  reverts = λ s n v kept mark e f h. on_reverts k s v kept mark st h;
+}
+
+on_begins : (k lane : ℕ) (all : Bool) (c : Option Context) (st : State) → AreFew k st → AreFew k (begin_in lane all c st).1
+on_begins k lane all None st h = h
+on_begins k lane all (Some c) st h = h
+
+few_of_set : (o : Option SetRow) → FewVolumes o → length (volumes_of o) ≤ 64
+few_of_set None h = omega arith
+few_of_set (Some r) h = h
+
+either : (k : ℕ) (b : Bool) (x y : Replied) → AreFew k x.1 → AreFew k y.1 → AreFew k (if b then x else y).1
+either k true x y h i = h
+either k false x y h i = i
+
+begun_few : (k : ℕ) (c : Course) (st : State) → waits_in c ≤ 521 → 521 ≤ k → AreFew k (followed true c st)
+begun_few k c st h g = let e = same_followed true c st in omega (arith, e, h, g)
+
+may_begin : (st : State) → IsFew st → MayBegin (AreFew (waits_at st + 521)) st
+may_begin st h = record {
+  gathers = λ s q g. begun_few k _ st (few_begun Gather _ [] st.clock _ (let e = short_members (λ w. not (is_disabled s st w)) 0 st.course.rows in let f = h.writers.rows in omega (arith, e, f)) (omega arith)) enough;
+  prepares = λ s q g. either k (has_no_volume (in_progress st)) _ _ (omega arith) (begun_few k _ st (few_begun Prepare _ [] st.clock _ (let e = short_members (λ w. is_among w (takers (length s.writers) (selected s q st))) 0 st.course.rows in let f = h.writers.rows in omega (arith, e, f)) (omega arith)) enough);
+  snapshots = λ q g. either k (has_no_volume (in_progress st)) _ _ (omega arith) (begun_few k _ st (few_begun Snapshot st.course.members (volumes_of (in_progress st)) st.clock st.course h.writers.members (few_of_set (in_progress st) h.volumes)) enough);
+  completes = λ q g. begun_few k _ st (few_begun Complete _ [] st.clock _ (let e = short_filter (λ m. not (has_row_failed st.course.rows m.writer)) st.course.members in let f = h.writers.members in omega (arith, e, f)) (omega arith)) enough;
+}
+  where
+    k : ℕ
+    k = waits_at st + 521
+
+    enough : 521 ≤ waits_at st + 521
+    enough = omega arith
+
+-- the turns that an event takes of those of its lane
+abbrev turns_of_event : Event → ℕ
+turns_of_event (Line lane op) = 1 + turns_of_agenda (begins_agenda op)
+turns_of_event (AnswerEvent w answer) = 0
+turns_of_event Provider = 0
+turns_of_event IdleEvent = 0
+
+line_turns : (b : Bool) (s : Plan) (lane : ℕ) (op : Op) (mark : Mark) (st : State) → begins_agenda op ≡ b → IsFew st → enabled s st (Line lane op) ≡ true → waits_at (happens s (Line lane op) mark st).1 ≤ waits_at st + turns_of_agenda b
+line_turns true s lane op mark st f h e =
+    on_line (AreFew (waits_at st + 521)) (kept_by_lines (waits_at st + 521)) s lane op mark st (kept_by_writes (waits_at st + 521) st) (λ all c g i. on_begins (waits_at st + 521) lane all c st (omega arith)) (λ g. may_begin st h) e (omega arith)
+line_turns false s lane op mark st f h e =
+    on_line (AreFew (waits_at st + 0)) (kept_by_lines (waits_at st + 0)) s lane op mark st (kept_by_writes (waits_at st + 0) st) (λ all c g i. on_begins (waits_at st + 0) lane all c st (omega arith)) (λ g. impossible g) e (omega arith)
+  where
+    impossible : begins_agenda op ≡ true → MayBegin (AreFew (waits_at st + 0)) st
+    impossible g = let no_such : true ≡ false = sym g ∙ f in absurd cc
+
+happens_turns : (s : Plan) (acts : List Act) (event : Event) (mark : Mark) → IsPlan s → enabled s (state s acts) event ≡ true → suc (waits_at (happens s event mark (state s acts)).1) ≤ waits_at (state s acts) + turns_of_event event
+happens_turns s acts (Line lane op) mark p e = let h = line_turns (begins_agenda op) s lane op mark (state s acts) refl (few_in s acts p) e in omega (arith, h)
+happens_turns s acts (AnswerEvent w answer) mark p e = let h = less_answers w (said_of answer) (state s acts) (less_answered w (said_of answer) (state s acts).clock (state s acts).course e) in omega (arith, h)
+happens_turns s acts Provider mark p e = let h = less_steps mark (state s acts) e in omega (arith, h)
+happens_turns s acts IdleEvent mark p e =
+    let n = idle_now (state s acts) in
+    let h = less_timed ((state s acts).clock + n) (state s acts).course (idle_spends s acts e) e in
+    let g = same_ticked n (state s acts) in
+    omega (arith, h, g)
+
+after_turns : (s : Plan) (acts : List Act) (act : Act) → IsPlan s → enabled s (state s acts) act.event ≡ true → suc (waits_at (after s (state s acts) act)) ≤ waits_at (state s acts) + turns_of_event act.event
+unfolding after
+after_turns s acts act p e = subst (λ b. suc (waits_at (after_if b s (state s acts) act)) ≤ waits_at (state s acts) + turns_of_event act.event) (sym e) (happens_turns s acts act.event act.mark p e)
+
+-- ## the lanes
+
+drop_turns : (ls : List LaneLine) (k : ℕ) (l : LaneLine) → slice_get ls k ≡ Some l → turns_of_lines (drop k ls) ≡ turns_of_line l + turns_of_lines (drop (suc k) ls)
+drop_turns [] zero l e = absurd cc
+drop_turns [] (suc k) l e = absurd cc
+drop_turns (x ∷ ls) zero l e = let f : x ≡ l = cc in ap (λ y. turns_of_line y + turns_of_lines ls) f
+drop_turns (x ∷ ls) (suc k) l e = drop_turns ls k l e
+
+lanes_same : (moves : List Move) (m : Move) (j : ℕ) (lanes : List LanePlan) → ((x : ℕ) → j ≤ x → is_lane x m.actor ≡ false) → turns_of_lanes (moves ++ m ∷ []) j lanes ≡ turns_of_lanes moves j lanes
+lanes_same moves m j [] h = refl
+lanes_same moves m j (p ∷ ps) h =
+    ap (λ n. turns_of_lines (drop n p.lines) + turns_of_lanes (moves ++ m ∷ []) (j + 1) ps) (cursor_same moves m j (h j (omega arith)))
+    ∙ ap (λ n. turns_of_lines (drop (cursor moves j) p.lines) + n) (lanes_same moves m (j + 1) ps (λ x g. h x (omega (arith, g))))
+
+other_lane : (x i : ℕ) → i < x → (i == x) ≡ false
+other_lane x i e = grind arith
+
+own_lane : (i : ℕ) → (i == i) ≡ true
+own_lane i = grind arith
+
+not_lane : (x i : ℕ) (actor : Actor) → actor ≡ Lane i → i < x → is_lane x actor ≡ false
+not_lane x i actor e h = ap (is_lane x) e ∙ other_lane x i h
+
+is_own_lane : (i : ℕ) (actor : Actor) → actor ≡ Lane i → is_lane i actor ≡ true
+is_own_lane i actor e = ap (is_lane i) e ∙ own_lane i
+
+earlier_lane : (x i : ℕ) (actor : Actor) → actor ≡ Lane i → x < i → is_lane x actor ≡ false
+earlier_lane x i actor e h = ap (is_lane x) e ∙ own x i h
+  where
+    own : (x i : ℕ) → x < i → (i == x) ≡ false
+    own x i h = grind arith
+
+lanes_less : (moves : List Move) (m : Move) (j : ℕ) (lanes : List LanePlan) (k : ℕ) (l : LaneLine) → m.actor ≡ Lane (j + k) → slice_get (lines_in (slice_get lanes k)) (cursor moves (j + k)) ≡ Some l
+    → turns_of_lanes moves j lanes ≡ turns_of_line l + turns_of_lanes (moves ++ m ∷ []) j lanes
+lanes_less moves m j [] zero l e f = absurd (nothing (cursor moves (j + 0)) f)
+  where
+    nothing : (n : ℕ) → slice_get (lines_in None) n ≡ Some l → ⊥
+    nothing zero g = cc
+    nothing (suc n) g = cc
+lanes_less moves m j [] (suc k) l e f = absurd (nothing (cursor moves (j + suc k)) f)
+  where
+    nothing : (n : ℕ) → slice_get (lines_in None) n ≡ Some l → ⊥
+    nothing zero g = cc
+    nothing (suc n) g = cc
+lanes_less moves m j (p ∷ ps) zero l e f =
+    let own : m.actor ≡ Lane j = e ∙ ap Lane (add_none j) in
+    let line : slice_get p.lines (cursor moves j) ≡ Some l = subst (λ n. slice_get p.lines (cursor moves n) ≡ Some l) (add_none j) f in
+    let a = drop_turns p.lines (cursor moves j) l line in
+    let b = ap (λ n. turns_of_lines (drop n p.lines)) (cursor_more moves m j (is_own_lane j m.actor own)) in
+    let d = lanes_same moves m (j + 1) ps (λ x g. not_lane x j m.actor own (omega (arith, g))) in
+    omega (arith, a, b, d)
+  where
+    add_none : (n : ℕ) → n + 0 ≡ n
+    add_none n = omega arith
+lanes_less moves m j (p ∷ ps) (suc k) l e f =
+    let moved_on : m.actor ≡ Lane (j + 1 + k) = e ∙ ap Lane (shift j k) in
+    let line : slice_get (lines_in (slice_get ps k)) (cursor moves (j + 1 + k)) ≡ Some l = subst (λ n. slice_get (lines_in (slice_get ps k)) (cursor moves n) ≡ Some l) (shift j k) f in
+    let a = lanes_less moves m (j + 1) ps k l moved_on line in
+    let b = ap (λ n. turns_of_lines (drop n p.lines)) (cursor_same moves m j (earlier_lane j (j + 1 + k) m.actor moved_on (omega arith))) in
+    omega (arith, a, b)
+  where
+    shift : (j k : ℕ) → j + suc k ≡ j + 1 + k
+    shift j k = omega arith
+
+-- ## one move
+
+-- what is needed of a run that a trail has led to
+record IsReached (s : Plan) (r : Run) : Type 0 where
+  acts : List Act
+  is : r.state ≡ state s acts
+
+after_at : (s : Plan) (r : Run) (act : Act) → IsPlan s → IsReached s r → enabled s r.state act.event ≡ true → suc (waits_at (after s r.state act)) ≤ waits_at r.state + turns_of_event act.event
+after_at s r act p h e = subst (λ st. suc (waits_at (after s st act)) ≤ waits_at st + turns_of_event act.event) (sym h.is) (after_turns s h.acts act p (subst (λ st. enabled s st act.event ≡ true) h.is e))
+
+first_true : (a b : Bool) → (a && b) ≡ true → a ≡ true
+first_true true b e = refl
+first_true false b e = absurd cc
+
+-- a move's act is enabled
+event_of_legal : (s : Plan) (r : Run) (actor : Actor) → may_move s r actor ≡ true → event_enabled s r (event_of s r actor) ≡ true
+event_of_legal s r (Lane i) e = e
+event_of_legal s r (Writer w) e = e
+event_of_legal s r Advance e = e
+event_of_legal s r Idle e = first_true (event_enabled s r (event_of s r Idle)) (none_can_act s r) e
+
+-- an answer takes none of the lanes' turns
+no_turns_of_answer : (a : Option Answer) (w : ℕ) (event : Event) → answer_event w a ≡ Some event → turns_of_event event ≡ 0
+no_turns_of_answer None w event e = absurd cc
+no_turns_of_answer (Some a) w event e = let same : AnswerEvent w a ≡ event = cc in ap turns_of_event (sym same)
+
+no_turns_of_order : (o : Option Order) (s : Plan) (st : State) (w : ℕ) (event : Event) → script_event s st w o ≡ Some event → turns_of_event event ≡ 0
+no_turns_of_order None s st w event e = absurd cc
+no_turns_of_order (Some o) s st w event e = no_turns_of_answer _ w event e
+
+none_more : (n : ℕ) → 0 + n ≡ n
+none_more n = omega arith
+
+-- the lanes have as many turns fewer as the move's event takes
+lanes_of_event : (s : Plan) (r : Run) (m : Move) (actor : Actor) (event : Event) → m.actor ≡ actor → event_of s r actor ≡ Some event → turns_of_lanes r.moves 0 s.lanes ≡ turns_of_event event + turns_of_lanes (r.moves ++ m ∷ []) 0 s.lanes
+lanes_of_event s r m (Lane i) event e f = of_line (next_line s r i) refl f
+  where
+    of_line : (o : Option LaneLine) → next_line s r i ≡ o → line_event i o ≡ Some event → turns_of_lanes r.moves 0 s.lanes ≡ turns_of_event event + turns_of_lanes (r.moves ++ m ∷ []) 0 s.lanes
+    of_line None g h = absurd cc
+    of_line (Some l) g h =
+        let same : Line i l.op ≡ event = cc in
+        subst (λ x. turns_of_lanes r.moves 0 s.lanes ≡ turns_of_event x + turns_of_lanes (r.moves ++ m ∷ []) 0 s.lanes) same (lanes_less r.moves m 0 s.lanes i l (e ∙ ap Lane (sym (none_more i))) (subst (λ n. slice_get (lines_of s i) (cursor r.moves n) ≡ Some l) (sym (none_more i)) g))
+lanes_of_event s r m (Writer w) event e f =
+    let a = lanes_same r.moves m 0 s.lanes (λ x g. ap (is_lane x) e) in
+    let b = no_turns_of_order (order_of_writer r.state w) s r.state w event f in
+    omega (arith, a, b)
+lanes_of_event s r m Advance event e f =
+    let same : Provider ≡ event = cc in
+    let a = lanes_same r.moves m 0 s.lanes (λ x g. ap (is_lane x) e) in
+    let b : turns_of_event event ≡ 0 = ap turns_of_event (sym same) in
+    omega (arith, a, b)
+lanes_of_event s r m Idle event e f =
+    let same : IdleEvent ≡ event = cc in
+    let a = lanes_same r.moves m 0 s.lanes (λ x g. ap (is_lane x) e) in
+    let b : turns_of_event event ≡ 0 = ap turns_of_event (sym same) in
+    omega (arith, a, b)
+
+-- a legal move takes a turn
+event_turns : (s : Plan) (r : Run) (m : Move) (o : Option Event) → IsPlan s → IsReached s r → event_of s r m.actor ≡ o → event_enabled s r o ≡ true
+    → suc (waits_at (after_event s r.state o m.mark) + turns_of_lanes (r.moves ++ m ∷ []) 0 s.lanes) ≤ waits_at r.state + turns_of_lanes r.moves 0 s.lanes
+event_turns s r m None p h e f = absurd cc
+event_turns s r m (Some event) p h e f =
+    let a = after_at s r (act_of m.mark event) p h f in
+    let b = lanes_of_event s r m m.actor event refl e in
+    omega (arith, a, b)
+
+move_turns : (s : Plan) (r : Run) (m : Move) → IsPlan s → IsReached s r → is_legal_move s r m ≡ true → suc (turns_left s (moved s r m)) ≤ turns_left s r
+move_turns s r m p h e = event_turns s r m (event_of s r m.actor) p h refl (event_of_legal s r m.actor (first_true (may_move s r m.actor) (allows s r (event_of s r m.actor) m.mark) e))
+
+reached_run : (s : Plan) (trail : List Move) → IsReached s (run s trail)
+reached_run s trail = record { acts = acts s trail; is = state-run s trail }
+
+second_true : (a b : Bool) → (a && b) ≡ true → b ≡ true
+second_true true b e = e
+second_true false b e = absurd cc
+
+pub one_turn : (s : Plan) (trail : List Move) (m : Move) → IsPlan s → is_legal s (trail ++ m ∷ []) ≡ true → turns_left s (run s (trail ++ m ∷ [])) < turns_left s (run s trail)
+one_turn s trail m p e =
+    let legal = second_true (is_legal s trail) (is_legal_move s (run s trail) m) (sym (is_legal-append s trail m) ∙ e) in
+    let a = move_turns s (run s trail) m p (reached_run s trail) legal in
+    subst (λ r. turns_left s r < turns_left s (run s trail)) (sym (run-append s trail m)) (omega (arith, a))
+
+-- ## all moves
+
+reached_more : (s : Plan) (r : Run) (m : Move) (o : Option Event) → IsReached s r → event_of s r m.actor ≡ o → IsReached s (record { state = after_event s r.state o m.mark; moves = r.moves ++ m ∷ [] })
+reached_more s r m None h e = record { acts = h.acts; is = h.is }
+reached_more s r m (Some event) h e = record {
+  acts = h.acts ++ act_of m.mark event ∷ [];
+  is = ap (λ st. after s st (act_of m.mark event)) h.is ∙ sym (state-append s h.acts (act_of m.mark event));
+}
+
+turns_from : (s : Plan) (r : Run) (ms : List Move) → IsPlan s → IsReached s r → is_legal_from s r ms ≡ true → length ms + turns_left s (run_from s r ms) ≤ turns_left s r
+turns_from s r [] p h e = omega arith
+turns_from s r (m ∷ ms) p h e =
+    let a = move_turns s r m p h (first_true (is_legal_move s r m) (is_legal_from s (moved s r m) ms) e) in
+    let b = turns_from s (moved s r m) ms p (reached_more s r m (event_of s r m.actor) h refl) (second_true (is_legal_move s r m) (is_legal_from s (moved s r m) ms) e) in
+    omega (arith, a, b)
+
+-- ## the turns of a scenario
+
+turns_of_count : (ls : List LaneLine) → turns_of_lines ls ≡ length ls + 521 * agenda_lines ls
+turns_of_count [] = refl
+turns_of_count (l ∷ ls) =
+    let h = turns_of_count ls in
+    let e = sum_by-cons (λ (x : LaneLine). cond (begins_agenda x.op) 1 0) l ls in
+    own (begins_agenda l.op) h e
+  where
+    own : (b : Bool) → turns_of_lines ls ≡ length ls + 521 * agenda_lines ls → agenda_lines (l ∷ ls) ≡ cond b 1 0 + agenda_lines ls → (1 + turns_of_agenda b) + turns_of_lines ls ≡ length (l ∷ ls) + 521 * agenda_lines (l ∷ ls)
+    own true h e = omega (arith, h, e)
+    own false h e = omega (arith, h, e)
+
+turns_at_start : (j : ℕ) (lanes : List LanePlan) → turns_of_lanes [] j lanes ≡ sum (map (λ (l : LanePlan). length l.lines) lanes) + 521 * sum (map (λ (l : LanePlan). agenda_lines l.lines) lanes)
+turns_at_start j [] = refl
+turns_at_start j (p ∷ ps) =
+    let h = turns_at_start (j + 1) ps in
+    let e = turns_of_count p.lines in
+    let a = sum_by-cons (λ n. n) (length p.lines) (map (λ (l : LanePlan). length l.lines) ps) in
+    let b = sum_by-cons (λ n. n) (agenda_lines p.lines) (map (λ (l : LanePlan). agenda_lines l.lines) ps) in
+    omega (arith, h, e, a, b)
+
+pub trail_is_short : (s : Plan) (trail : List Move) → IsPlan s → is_legal s trail ≡ true → length trail ≤ most_moves
+trail_is_short s trail p e =
+    let h = turns_from s (begin s) trail p (record { acts = []; is = refl }) e in
+    let a = turns_at_start 0 s.lanes in
+    let b = p.few_lines in
+    let d = p.few_agendas in
+    omega (arith, h, a, b, d)

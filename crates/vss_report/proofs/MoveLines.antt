@@ -1,0 +1,108 @@
+-- The lines that are written of what a move was told are lines of the move.
+use Rattle.std.proofs.Common.{◌≡◌, ℕ, ◌+◌, List, [], ◌++◌, length, refl, Bool, false, cond, ap, sym, ◌∙◌, subst, arith}
+use Rattle.std.specs.Prelude.{◌==◌, Option, Some, None, codes}
+use Rattle.std.specs.List.{flat_map}
+use Rattle.std.specs.Fmt.{decimal}
+use Rattle.std.proofs.lemmas.List.{append_assoc}
+use Rattle.std.proofs.lemmas.Bool.Decides.{nat_tests}
+use Rattle.vss_names.specs.declared.order.Order.{Order}
+use Rattle.vss_names.specs.declared.set_outcome.SetOutcome.{SetOutcome}
+use Rattle.set_agenda.specs.WriterSet.{writers_of}
+use Rattle.writer_state.specs.declared.writer_row.WriterRow.{WriterRow}
+use Rattle.write_history.specs.declared.actor.Actor.{Actor}
+use Rattle.write_history.specs.declared.actor.Actor.TheVariants.{Lane, Writer, Advance, Idle}
+use Rattle.write_history.specs.declared.move_item.Move.{Move}
+use Rattle.scenario.specs.Plan.{Plan}
+use Rattle.vss_model.specs.declared.event.Event.{Event}
+use Rattle.vss_model.specs.declared.evicted.Evicted.{Evicted}
+use Rattle.vss_model.specs.declared.outcome.Outcome.{Outcome}
+use Rattle.vss_model.specs.declared.told.Told.{Told}
+use Rattle.vss_model.specs.Reply.{Reply, Fine, Faulted, FaultedAfter, Numbered, Coded, NotSelectable, BlockOf, BlocksOf, KeptSets, PropertiesOf, Deleted, DocumentOf, StatusOf, Answered, Stepped, Idled}
+use Rattle.vss_model.specs.State.{State, SetRow}
+use Rattle.vss_model.specs.Acts.{Act, reply}
+use Rattle.vss_model.specs.Effects.{evicted, lost, lost_order, ended}
+use Rattle.vss_model.specs.Outcome.{IsOutcome, HasLists, EndsAs}
+use Rattle.vss_model.specs.Told.{Fits, mark_of}
+use Rattle.vss_model.specs.Trail.{Run, act_of}
+use Rattle.vss_report.specs.Words.{spaced, as_line, sets_text, states_text, evicted_text, lost_text, set_text}
+use Rattle.vss_report.specs.Report.{IsReplyText, IsActText, IsTextOf, actor_text, ended_text, effects_text, move_text}
+use Rattle.vss_report.specs.ToldLines.{told_text, told_actor, told_end, told_lines, IsLineOf, AreLinesOf}
+
+-- ## the reply
+
+reply_text : (s : Plan) (tells : List Bool) (listed : List ℕ) (rows : List WriterRow) (t : Told) (r : Reply) → Fits tells r t → HasLists r listed rows
+    → IsReplyText s tells r (told_text s listed rows t)
+reply_text s tells listed rows t Fine f h = ap (told_text s listed rows) f
+reply_text s tells listed rows t Faulted f h = ap (told_text s listed rows) f
+reply_text s tells listed rows t (FaultedAfter k) f h = ap (told_text s listed rows) f
+reply_text s tells listed rows t (Numbered n) f h = ap (told_text s listed rows) f
+reply_text s tells listed rows t (Coded why) f h = ap (told_text s listed rows) f
+reply_text s tells listed rows t NotSelectable f h = ap (told_text s listed rows) f
+reply_text s tells listed rows t (BlockOf v bytes) (first, digest, is_first, is_digest, f) h = (first, digest, is_first, is_digest, ap (told_text s listed rows) f)
+reply_text s tells listed rows t (BlocksOf v blocks) (digest, is_digest, f) h = (digest, is_digest, ap (told_text s listed rows) f)
+reply_text s tells listed rows t (KeptSets sets) f h = ap (told_text s listed rows) f ∙ ap (λ l. codes "images" ++ sets_text l) h
+reply_text s tells listed rows t (PropertiesOf c cut used) f h = ap (told_text s listed rows) f
+reply_text s tells listed rows t (Deleted n) f h = ap (told_text s listed rows) f
+reply_text s tells listed rows t (DocumentOf bytes) f h = ap (told_text s listed rows) f
+reply_text s tells listed rows t (StatusOf now) f h = ap (told_text s listed rows) f ∙ ap (λ l. codes "status" ++ states_text s s.writers l) h
+reply_text s tells listed rows t (Answered o a) f h = ap (told_text s listed rows) f
+reply_text s tells listed rows t (Stepped g v fault) f h = ap (told_text s listed rows) f
+reply_text s tells listed rows t (Idled n) f h = ap (told_text s listed rows) f
+
+-- ## who moves
+
+actor_is : (s : Plan) (r : Run) (line : ℕ) (a : Actor) → IsLineOf s r a line → told_actor s line a ≡ actor_text s r a
+actor_is s r line (Lane i) e = ap (λ n. told_actor s n (Lane i)) e
+actor_is s r line (Writer w) e = refl
+actor_is s r line Advance e = refl
+actor_is s r line Idle e = refl
+
+-- ## the effects
+
+end_is : (o : Option SetRow) (n : ℕ) (end : SetOutcome) → EndsAs o n end → told_end n end ≡ ended_text o
+end_is None n end e = ap (λ k. told_end k end) e
+end_is (Some r) n end (number, is, some) =
+    let other : (n == 0) ≡ false = grind (arith, nat_tests) in
+    ap (λ b. cond b [] (set_text n end)) other ∙ ap (λ k. set_text k end) number ∙ ap (set_text r.number) is
+
+effects_are : (s : Plan) (st : State) (act : Act) (images : List Evicted) (bits : ℕ) (o : Option Order) (n : ℕ) (end : SetOutcome)
+    → images ≡ evicted s st act.event → writers_of bits ≡ lost st act.event → o ≡ lost_order st act.event → EndsAs (ended s st act) n end
+    → flat_map (evicted_text s) images ++ flat_map (lost_text s o) (writers_of bits) ++ told_end n end ≡ effects_text s st act
+unfolding effects_text
+effects_are s st act images bits o n end images_are lost_are order_is ends =
+    ap (λ x. flat_map (evicted_text s) x ++ flat_map (lost_text s o) (writers_of bits) ++ told_end n end) images_are
+    ∙ ap (λ x. flat_map (evicted_text s) (evicted s st act.event) ++ flat_map (lost_text s o) x ++ told_end n end) lost_are
+    ∙ ap (λ x. flat_map (evicted_text s) (evicted s st act.event) ++ flat_map (lost_text s x) (lost st act.event) ++ told_end n end) order_is
+    ∙ ap (λ x. flat_map (evicted_text s) (evicted s st act.event) ++ flat_map (lost_text s (lost_order st act.event)) (lost st act.event) ++ x) (end_is (ended s st act) n end ends)
+
+-- ## the whole
+
+grouped : (a b c d : List ℕ) → a ++ b ++ c ++ d ≡ a ++ (b ++ c ++ d)
+grouped a b c d = append_assoc (a ++ b) c d ∙ append_assoc a b (c ++ d) ∙ ap (λ x. a ++ x) (sym (append_assoc b c d))
+
+first_is : (n k : ℕ) (a b text : List ℕ) → n ≡ k → a ≡ b → as_line (decimal n ++ spaced a ++ spaced text) ≡ as_line (decimal k ++ spaced b ++ spaced text)
+first_is n k a b text same actor = ap (λ x. as_line (decimal x ++ spaced a ++ spaced text)) same ∙ ap (λ x. as_line (decimal k ++ spaced x ++ spaced text)) actor
+
+lines_are : (s : Plan) (tells : List Bool) (n line : ℕ) (r : Run) (actor : Actor) (event : Event) (o : Outcome) (listed : List ℕ) (images : List Evicted) (rows : List WriterRow)
+    → IsOutcome tells s r.state event o listed images rows → n ≡ length r.moves + 1 → IsLineOf s r actor line
+    → told_lines s n line actor o listed images rows ≡ move_text s r actor (act_of (mark_of o.told) event) (told_text s listed rows o.told)
+unfolding move_text
+lines_are s tells n line r actor event o listed images rows outcome number is_line =
+    let act : Act = act_of (mark_of o.told) event in
+    let text : List ℕ = told_text s listed rows o.told in
+    grouped (as_line (decimal n ++ spaced (told_actor s line actor) ++ spaced text)) (flat_map (evicted_text s) images) (flat_map (lost_text s o.lost_order) (writers_of o.lost)) (told_end o.set o.result)
+    ∙ ap (λ x. x ++ (flat_map (evicted_text s) images ++ flat_map (lost_text s o.lost_order) (writers_of o.lost) ++ told_end o.set o.result))
+    (first_is n (length r.moves + 1) (told_actor s line actor) (actor_text s r actor) text number (actor_is s r line actor is_line))
+    ∙ ap (λ x. as_line (decimal (length r.moves + 1) ++ spaced (actor_text s r actor) ++ spaced text) ++ x)
+    (effects_are s r.state act images o.lost o.lost_order o.set o.result outcome.evicts outcome.loses outcome.order outcome.ends)
+
+pub are_lines : (s : Plan) (n line : ℕ) (m : Move) (o : Outcome) (listed : List ℕ) (images : List Evicted) (rows : List WriterRow)
+    → AreLinesOf s n line m o listed images rows (told_lines s n line m.actor o listed images rows)
+are_lines s n line m o listed images rows tells r event is_event is_mark outcome number is_line =
+    let text : List ℕ = told_lines s n line m.actor o listed images rows in
+    let act : IsActText s tells r m.actor (act_of (mark_of o.told) event) text = record {
+      reply_text = told_text s listed rows o.told;
+      is_reply = reply_text s tells listed rows o.told (reply s r.state (act_of (mark_of o.told) event)) outcome.fits outcome.lists;
+      is = lines_are s tells n line r m.actor event o listed images rows outcome number is_line;
+    } in
+    subst (λ e. IsTextOf s tells r m.actor e m.mark text) (sym is_event) (subst (λ k. IsTextOf s tells r m.actor (Some event) k text) (sym is_mark) act)

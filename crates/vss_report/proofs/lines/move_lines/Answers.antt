@@ -1,0 +1,10 @@
+use Rattle.vss_report.proofs.MoveLines.{are_lines}
+use Rattle.vss_report.proofs.lines.move_lines.Goals as goal
+
+pub returns-in_err-reserve-clause-report : goal.returns-in_err-reserve-clause-report
+returns-in_err-reserve-clause-report c =
+    are_lines c.args.scenario.now c.args.number c.args.line c.args.item c.args.outcome.now c.args.lists.now.listed.now c.args.lists.now.evicted.now c.args.lists.now.rows.now
+
+pub returns-clause-report : goal.returns-clause-report
+returns-clause-report c =
+    are_lines c.args.scenario.now c.args.number c.args.line c.args.item c.args.outcome.now c.args.lists.now.listed.now c.args.lists.now.evicted.now c.args.lists.now.rows.now
