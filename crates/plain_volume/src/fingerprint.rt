@@ -1,0 +1,34 @@
+ghost use Rattle.std.specs.Prelude.{◌≡◌, length};
+ghost use Rattle.hex.specs.Hex.{IsBytes};
+ghost use Rattle.plain_volume.specs.Calls.{IsFingerprint, IsWide};
+
+use block_data::{BLOCK, digest};
+
+/// What is told of a block: its first eight bytes and its SHA-256.
+#[derive(Clone, Copy, Debug, PartialEq, Eq)]
+pub struct Fingerprint {
+    pub first: [u8; 8],
+    pub digest: [u8; 32],
+}
+
+/// Says to contracts that bytes are bytes.
+pub(crate) fn are_bytes(bytes: &[u8])
+    ensures { IsBytes bytes.now }
+{
+    let _ = bytes;
+}
+
+impl Fingerprint {
+    pub(crate) fn of(block: &[u8]) -> Fingerprint
+        requires { length block.now ≡ BLOCK }
+        ensures exact { IsFingerprint block.now result }
+        ensures wide { IsWide result }
+    {
+        let mut first = [0; 8];
+        first.copy_from_slice(&block[..8]);
+        let digest = digest(block);
+        are_bytes(&first);
+        are_bytes(&digest);
+        Fingerprint { first, digest }
+    }
+}
