@@ -50,7 +50,7 @@ failed_head true k n r q rows e f g h i ih =
 failed_head false k n r q rows e f g h i ih = ih h
 
 -- a set that has failed is not live
-failed_not_live : (k n : ℕ) (rows : List SetRow) (r : SetRow) → NumberedFrom k rows → find (λ x. x.number == n) rows ≡ Some r → has_failed r.result ≡ true → is_live rows n ≡ false
+pub failed_not_live : (k n : ℕ) (rows : List SetRow) (r : SetRow) → NumberedFrom k rows → find (λ x. x.number == n) rows ≡ Some r → has_failed r.result ≡ true → is_live rows n ≡ false
 failed_not_live k n [] r h e f = absurd cc
 failed_not_live k n (q ∷ rows) r h e f =
     failed_head (q.number == n) k n r q rows refl h.0 h.1 e f (λ g. failed_not_live (k + 1) n rows r h.1 g f)

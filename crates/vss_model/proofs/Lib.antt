@@ -17,3 +17,4 @@ pub mod FewTurns
 pub mod TrailLength
 pub mod Headline
 pub mod Ended
+pub mod Causes

@@ -227,7 +227,7 @@ pub find-append_new : (rows : List SetRow) (r : SetRow) → find (λ q. is_runni
 find-append_new [] r e f = rw f refl
 find-append_new (q ∷ rows) r e f = append_if (is_running q.result) q r _ _ e (find-append_new rows r (none_tail (is_running q.result) q _ e) f)
 
-live_append : (rows : List SetRow) (r : SetRow) (n : ℕ) → is_live rows n ≡ true → is_live (rows ++ r ∷ []) n ≡ true
+pub live_append : (rows : List SetRow) (r : SetRow) (n : ℕ) → is_live rows n ≡ true → is_live (rows ++ r ∷ []) n ≡ true
 live_append [] r n h = absurd cc
 live_append (q ∷ rows) r n h = or_both (q.number == n && not (has_failed q.result)) (is_live rows n) _ _ (λ g. g) (live_append rows r n) h
 

@@ -488,7 +488,7 @@ changed_result : (b : Bool) (f : SetRow → SetRow) (r : SetRow) → (f r).resul
 changed_result true f r e = e
 changed_result false f r e = refl
 
-same_changed : (n : ℕ) (f : SetRow → SetRow) → ((r : SetRow) → (f r).number ≡ r.number) → ((r : SetRow) → (f r).result ≡ r.result) → IsSameRow (row_changed n f)
+pub same_changed : (n : ℕ) (f : SetRow → SetRow) → ((r : SetRow) → (f r).number ≡ r.number) → ((r : SetRow) → (f r).result ≡ r.result) → IsSameRow (row_changed n f)
 same_changed n f number result = record {
   number = λ r. changed_number (r.number == n) f r (number r);
   running = λ r. ap is_running (changed_result (r.number == n) f r (result r));

@@ -16,3 +16,4 @@ pub mod GoesOn
 pub mod Outcome
 pub mod Turns
 pub mod Headline
+pub mod Causes

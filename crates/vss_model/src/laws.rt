@@ -16,6 +16,7 @@ ghost use Rattle.vss_model.specs.Acts.{Act, after, state, order_of_writer, idle_
 ghost use Rattle.vss_model.specs.Trail.{run, moved, acts, acts_if, event_of, is_legal, is_legal_move, is_complete, faults};
 ghost use Rattle.scenario.specs.Bounds.{IsPlan};
 ghost use Rattle.vss_model.specs.GoesOn.{EndsSessions, CanGoOn, most_moves};
+ghost use Rattle.vss_model.specs.Causes.{SetsFailWithCause};
 ghost use Rattle.vss_model.specs.Headline.{KeepsPromises, MakesEachLineOnce};
 ghost use Rattle.vss_model.specs.Turns.{turns_left};
 ghost use Rattle.vss_model.specs.Laws.{IsKeptByChanges, IsKeptByWrites, Passes, RunsSnapshot};
@@ -151,4 +152,9 @@ pub fn each_line_is_made_once()
 pub fn complete_trail_ends_each_set()
     ensures { (s : Plan) (trail : List Move) → IsPlan s → is_legal s trail ≡ true → is_complete s trail ≡ true
         → in_progress (state s (acts s trail)) ≡ None }
+{}
+
+/// A set fails only in an act that gives a cause.
+pub fn sets_fail_with_cause()
+    ensures { (s : Plan) (acts : List Act) → SetsFailWithCause s acts }
 {}

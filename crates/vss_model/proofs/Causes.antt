@@ -1,0 +1,385 @@
+-- Where an act gives no cause, no set fails in it.
+use Rattle.std.proofs.Common.{◌≡◌, ℕ, ◌+◌, ◌==◌, List, [], ◌∷◌, ◌++◌, Option, Some, None, refl, Bool, true, false, ap, sym, ◌∙◌, subst, map, find, arith}
+use Rattle.std.specs.Prelude.{is_some, ◌&&◌, ◌||◌, not, if◌then◌else◌}
+use Rattle.block_data.specs.declared.payload.Payload.TheVariants.{Fill, Stamp}
+use Rattle.block_data.specs.PayloadBytes.{payload_bytes}
+use Rattle.vss_names.specs.declared.context.Context.{Context}
+use Rattle.vss_names.specs.declared.order.Order.{Order}
+use Rattle.vss_names.specs.declared.set_outcome.SetOutcome.{SetOutcome}
+use Rattle.vss_names.specs.declared.set_outcome.SetOutcome.TheVariants.{Running, Complete as CompleteSet, Failed as FailedSet}
+use Rattle.vss_names.specs.declared.vss_result.VssResult.{VssResult}
+use Rattle.writer_state.specs.declared.said.Said.{Said}
+use Rattle.writer_state.specs.WriterState.{is_ok}
+use Rattle.write_history.specs.declared.mark.Mark.{Mark}
+use Rattle.write_history.specs.declared.mark.Mark.TheVariants.{Clean, Fault, FaultAfter}
+use Rattle.write_history.specs.History.{Write}
+use Rattle.writer_calls.specs.Script.{said_of}
+use Rattle.set_agenda.specs.declared.group.Group.{Group}
+use Rattle.set_agenda.specs.declared.group.Group.TheVariants.{Orders, PreCommit, Flush, Hold, Cut, Commit, Release, PostCommit}
+use Rattle.set_agenda.specs.declared.kind.Kind.{Kind}
+use Rattle.set_agenda.specs.declared.kind.Kind.TheVariants.{Gather, Prepare, Snapshot, Complete}
+use Rattle.set_agenda.specs.declared.member.Member.{Member}
+use Rattle.set_agenda.specs.Agenda.{Agenda, left, groups_left, is_done, open_order, open_group}
+use Rattle.set_agenda.specs.Limits.{Running as RunningLimit, spent_of}
+use Rattle.set_agenda.specs.Course.{Course, posted, settled_if, settled_in, settled, outcome_after, begun, is_decisive, told, decided, answered_to, answered as course_answered, worked, stepped_as as course_stepped_as, stepped as course_stepped, limits_now, treated, timed as course_timed}
+use Rattle.component_doc.specs.Selection.{Naming, IsNotFound, IsNotSelectable, IsNamedAlready, Names, naming}
+use Rattle.requestor.specs.declared.mode.Mode.{Mode}
+use Rattle.requestor.specs.declared.mode.Mode.TheVariants.{Components, All}
+use Rattle.requestor.specs.declared.session_call.SessionCall.{SessionCall}
+use Rattle.requestor.specs.declared.session_call.SessionCall.TheVariants as call
+use Rattle.requestor.specs.declared.verdict.Verdict.{Verdict}
+use Rattle.requestor.specs.declared.verdict.Verdict.TheVariants.{Go, Blocked, Refused}
+use Rattle.requestor.specs.Session.{Session, context_of}
+use Rattle.requestor.specs.Check.{check}
+use Rattle.scenario.specs.declared.op.Op.{Op}
+use Rattle.scenario.specs.declared.op.Op.TheVariants.{WriteFill, WriteStamp, Read, ImageDigest, ImageBlock, Query, Properties, Revert, DeleteSet, DeleteImage, Tick, Begin, Disable, Gather as GatherLine, Component, Document, Start, Add, Prepare as PrepareLine, Snapshot as SnapshotLine, Await, Status, Complete as CompleteLine, Abort, End}
+use Rattle.scenario.specs.Plan.{Plan, token}
+use Rattle.vss_model.specs.declared.event.Event.{Event}
+use Rattle.vss_model.specs.declared.event.Event.TheVariants.{Line, Answer as AnswerEvent, Provider, Idle}
+use Rattle.vss_model.specs.State.{State, SetRow, Kept, in_progress, row_of, row_changed, left_now, kept_image}
+use Rattle.vss_model.specs.Ending.{Ending, NothingEnds, AgendaEnds, SetFails, ending, row_settled, concluded, followed, runs}
+use Rattle.vss_model.specs.Images.{Replied, cleared, set_loses_image, with_room_if, put, write, image_block, image_blocks, properties, delete_set, delete_kept, delete_image, revert_refusal, reverted_as, revert_to, revert}
+use Rattle.vss_model.specs.Sessions.{begin_in, disable, gather, prepare, snapshot, complete, start_set, new_set, new_number, change_set, with_volume, named_as, component_in, known_metas, add_refusal, add_to, add, has_no_volume, await_last, line_in, session_line, judged}
+use Rattle.vss_model.specs.Steps.{with_cut, row_cut, cut_set, step_made, is_flush, is_failed_step, answered, stepped_as, stepped, ticked, later}
+use Rattle.vss_model.specs.Lines.{called, line}
+use Rattle.vss_model.specs.Acts.{Act, order_of_writer, enabled, happens, idle_now, after_if, after, state}
+use Rattle.vss_model.specs.Facts.{NumberedFrom, IsOfSession, has_failed, is_live}
+use Rattle.vss_model.specs.Causes.{line_gives_cause, is_decisive_order, gives_cause, SetsFailWithCause}
+use Rattle.vss_model.proofs.Appending.{state-append}
+use Rattle.vss_model.proofs.Failures.{failed_not_live}
+use Rattle.vss_model.proofs.Orderly.{live-map, live-settled, live_append, live_found, true_not_false}
+use Rattle.vss_model.proofs.OrderlyActs.{orderly, same_changed}
+
+-- ## courses
+
+abbrev Fails : Course → Bool
+Fails c = has_failed c.outcome
+
+none_posted : (before c : Course) → Fails c ≡ false → Fails (posted before c) ≡ false
+unfolding posted
+none_posted before c h = h
+
+none_outcome : (k : Kind) (o : SetOutcome) → has_failed o ≡ false → has_failed (outcome_after k o) ≡ false
+none_outcome Gather o h = h
+none_outcome Prepare o h = h
+none_outcome Snapshot o h = refl
+none_outcome Complete o h = h
+
+none_settled_if : (b : Bool) (k : Kind) (c : Course) → Fails c ≡ false → Fails (settled_if b k c) ≡ false
+none_settled_if true k c h = none_outcome k c.outcome h
+none_settled_if false k c h = h
+
+none_settled_in : (o : Option Agenda) (c : Course) → Fails c ≡ false → Fails (settled_in o c) ≡ false
+none_settled_in None c h = h
+none_settled_in (Some a) c h = none_settled_if (is_done (groups_left a)) a.kind c h
+
+none_settled : (c : Course) → Fails c ≡ false → Fails (settled c) ≡ false
+unfolding settled
+none_settled c h = none_settled_in c.agenda c h
+
+none_told : (o : Order) (said : Said) (now : ℕ) (ws : List ℕ) (c : Course) → Fails c ≡ false → Fails (told o said now ws c) ≡ false
+unfolding told
+none_told o said now ws c h = h
+
+none_worked : (now : ℕ) (c : Course) → Fails c ≡ false → Fails (worked now c) ≡ false
+unfolding worked
+none_worked now c h = h
+
+none_decided : (b : Bool) (said : Said) (c : Course) → b ≡ false → Fails c ≡ false → Fails (decided b said c) ≡ false
+none_decided true said c e h = absurd cc
+none_decided false said c e h = none_settled c h
+
+none_answered_to : (o : Option Order) (w : ℕ) (said : Said) (now : ℕ) (c : Course) → (is_decisive_order o && not (is_ok said)) ≡ false → Fails c ≡ false → Fails (answered_to o w said now c) ≡ false
+none_answered_to None w said now c e h = h
+none_answered_to (Some o) w said now c e h = none_decided (is_decisive o && not (is_ok said)) said (told o said now (w ∷ []) c) e (none_told o said now (w ∷ []) c h)
+
+none_answered : (w : ℕ) (said : Said) (now : ℕ) (c : Course) → (is_decisive_order (open_order (left c.agenda) w) && not (is_ok said)) ≡ false → Fails c ≡ false → Fails (course_answered w said now c) ≡ false
+none_answered w said now c e h = none_posted c _ (none_answered_to (open_order (left c.agenda) w) w said now c e h)
+
+none_stepped : (now : ℕ) (c : Course) → Fails c ≡ false → Fails (course_stepped true now c) ≡ false
+none_stepped now c h = none_posted c _ (none_settled (worked now c) (none_worked now c h))
+
+none_treated : (l : Option RunningLimit) (now : ℕ) (c : Course) → is_some l ≡ false → Fails c ≡ false → Fails (treated l now c) ≡ false
+none_treated None now c e h = h
+none_treated (Some l) now c e h = absurd cc
+
+none_timed : (now : ℕ) (c : Course) → is_some (spent_of now (limits_now c)) ≡ false → Fails c ≡ false → Fails (course_timed now c) ≡ false
+none_timed now c e h = none_posted c _ (none_treated (spent_of now (limits_now c)) now c e h)
+
+none_begun : (k : Kind) (ms : List Member) (vs : List ℕ) (now : ℕ) (c : Course) → Fails c ≡ false → Fails (begun k ms vs now c) ≡ false
+unfolding begun
+none_begun k ms vs now c h = none_posted c _ (none_settled (record c { agenda = Some (record { kind = k; members = ms; volumes = vs; begun = now; log = [] }) }) h)
+
+-- ## states
+
+-- set n has not failed
+abbrev IsLive : ℕ → State → Type 0
+IsLive n st = is_live st.sets n ≡ true
+
+module _ (n : ℕ) where
+  live_ended : (o p : SetOutcome) (ran : Bool) (a : Option Agenda) (st : State) → st.course.outcome ≡ p → has_failed p ≡ false → IsLive n st → IsLive n (concluded (ending o p ran a) st)
+  live_ended o (FailedSet why) ran a st e f h = absurd cc
+  live_ended Running Running true None st e f h = live-settled st.course.outcome (ap has_failed e) st.sets n h
+  live_ended Running Running true (Some a) st e f h = h
+  live_ended Running Running false a st e f h = h
+  live_ended Running CompleteSet true None st e f h = live-settled st.course.outcome (ap has_failed e) st.sets n h
+  live_ended Running CompleteSet true (Some a) st e f h = h
+  live_ended Running CompleteSet false a st e f h = h
+  live_ended CompleteSet Running true None st e f h = live-settled st.course.outcome (ap has_failed e) st.sets n h
+  live_ended CompleteSet Running true (Some a) st e f h = h
+  live_ended CompleteSet Running false a st e f h = h
+  live_ended CompleteSet CompleteSet true None st e f h = live-settled st.course.outcome (ap has_failed e) st.sets n h
+  live_ended CompleteSet CompleteSet true (Some a) st e f h = h
+  live_ended CompleteSet CompleteSet false a st e f h = h
+  live_ended (FailedSet why) Running true None st e f h = live-settled st.course.outcome (ap has_failed e) st.sets n h
+  live_ended (FailedSet why) Running true (Some a) st e f h = h
+  live_ended (FailedSet why) Running false a st e f h = h
+  live_ended (FailedSet why) CompleteSet true None st e f h = live-settled st.course.outcome (ap has_failed e) st.sets n h
+  live_ended (FailedSet why) CompleteSet true (Some a) st e f h = h
+  live_ended (FailedSet why) CompleteSet false a st e f h = h
+
+  live_followed : (ran : Bool) (c : Course) (st : State) → Fails c ≡ false → IsLive n st → IsLive n (followed ran c st)
+  unfolding followed
+  live_followed ran c st e h = live_ended st.course.outcome c.outcome ran c.agenda (record st { course = c }) refl e h
+
+  live_answers : (w : ℕ) (said : Said) (st : State) → Fails (course_answered w said st.clock st.course) ≡ false → IsLive n st → IsLive n (answered w said st)
+  unfolding answered
+  live_answers w said st e h = live_followed (runs st) _ st e h
+
+  live_cut : (o : Option SetRow) (st : State) → IsLive n st → IsLive n (cut_set o st)
+  live_cut None st h = h
+  live_cut (Some r) st h = live-map (row_cut r.number st.clock) (same_changed r.number (with_cut st.clock) (λ q. refl) (λ q. refl)) st.sets n ∙ h
+
+  live_made : (g : Option Group) (st : State) → IsLive n st → IsLive n (step_made g st)
+  live_made None st h = h
+  live_made (Some (Orders o)) st h = h
+  live_made (Some PreCommit) st h = h
+  live_made (Some Flush) st h = h
+  live_made (Some Hold) st h = h
+  live_made (Some Cut) st h = live_cut (in_progress st) st h
+  live_made (Some Commit) st h = h
+  live_made (Some Release) st h = h
+  live_made (Some PostCommit) st h = h
+
+  live_stepped_as : (fails : Bool) (g : Option Group) (st : State) → fails ≡ false → Fails st.course ≡ false → IsLive n st → IsLive n (stepped_as fails g st)
+  live_stepped_as true g st e f h = absurd cc
+  live_stepped_as false g st e f h = live_followed (runs st) (course_stepped true st.clock st.course) (step_made g st) (none_stepped st.clock st.course f) (live_made g st h)
+
+  live_steps : (mark : Mark) (st : State) → is_failed_step (is_flush (open_group (left_now st))) mark ≡ false → Fails st.course ≡ false → IsLive n st → IsLive n (stepped mark st)
+  unfolding stepped
+  live_steps mark st e f h = live_stepped_as (is_failed_step (is_flush (open_group (left_now st))) mark) (open_group (left_now st)) st e f h
+
+  live_ticks : (k : ℕ) (st : State) → is_some (spent_of (st.clock + k) (limits_now st.course)) ≡ false → Fails st.course ≡ false → IsLive n st → IsLive n (ticked k st)
+  unfolding ticked
+  live_ticks k st e f h = live_followed (runs st) (course_timed (st.clock + k) st.course) (later k st) (none_timed (st.clock + k) st.course e f) h
+
+  -- ## lines
+
+  live_room : (b : Bool) (x : State) → b ≡ false → IsLive n x → IsLive n (with_room_if b x)
+  live_room true x e h = absurd cc
+  live_room false x e h = h
+
+  live_put : (v : ℕ) (w : Write) (mark : Mark) (x : State) → IsLive n x → IsLive n (put v w mark x)
+  live_put v w Clean x h = h
+  live_put v w Fault x h = h
+  live_put v w (FaultAfter k) x h = h
+
+  live_write : (s : Plan) (v : ℕ) (w : Write) (mark : Mark) (st : State) → set_loses_image (in_progress st) st.volumes (cleared s v w.block st).volumes ≡ false → IsLive n st → IsLive n (write s v w mark st).1
+  unfolding write
+  live_write s v w mark st e h = live_put v w mark _ (live_room (set_loses_image (in_progress st) st.volumes (cleared s v w.block st).volumes) (cleared s v w.block st) e h)
+
+  live_image_block : (v b : ℕ) (kept : Option Kept) (mark : Mark) (st : State) → IsLive n st → IsLive n (image_block v b kept mark st).1
+  live_image_block v b None mark st h = h
+  live_image_block v b (Some x) mark st h = h
+
+  live_image_blocks : (s : Plan) (v : ℕ) (kept : Option Kept) (mark : Mark) (st : State) → IsLive n st → IsLive n (image_blocks s v kept mark st).1
+  live_image_blocks s v None mark st h = h
+  live_image_blocks s v (Some x) mark st h = h
+
+  live_properties : (s : Plan) (v : ℕ) (kept : Option Kept) (st : State) → IsLive n st → IsLive n (properties s v kept st).1
+  live_properties s v None st h = h
+  live_properties s v (Some x) st h = h
+
+  either : (b : Bool) (x y : Replied) → IsLive n x.1 → IsLive n y.1 → IsLive n (if b then x else y).1
+  either true x y h i = h
+  either false x y h i = i
+
+  live_delete_kept : (v : ℕ) (kept : Option Kept) (st : State) → IsLive n st → IsLive n (delete_kept v kept st).1
+  live_delete_kept v None st h = h
+  live_delete_kept v (Some x) st h = h
+
+  live_delete_image : (m v : ℕ) (st : State) → IsLive n st → IsLive n (delete_image m v st).1
+  unfolding delete_image
+  live_delete_image m v st h = live_delete_kept v (kept_image st m v) st h
+
+  live_delete_set : (m : ℕ) (st : State) → IsLive n st → IsLive n (delete_set m st).1
+  unfolding delete_set
+  live_delete_set m st h = either _ _ _ h h
+
+  live_reverted : (s : Plan) (v : ℕ) (k : Kept) (mark : Mark) (st : State) → IsLive n st → IsLive n (reverted_as s v k mark st).1
+  live_reverted s v k Clean st h = h
+  live_reverted s v k Fault st h = h
+  live_reverted s v k (FaultAfter m) st h = h
+
+  live_revert_to : (s : Plan) (v : ℕ) (refusal : Option VssResult) (kept : Option Kept) (mark : Mark) (st : State) → IsLive n st → IsLive n (revert_to s v refusal kept mark st).1
+  live_revert_to s v (Some why) kept mark st h = h
+  live_revert_to s v None None mark st h = h
+  live_revert_to s v None (Some x) mark st h = live_reverted s v x mark st h
+
+  live_revert : (s : Plan) (m v : ℕ) (mark : Mark) (st : State) → IsLive n st → IsLive n (revert s m v mark st).1
+  unfolding revert
+  live_revert s m v mark st h = live_revert_to s v (revert_refusal v (kept_image st m v) st) (kept_image st m v) mark st h
+
+  live_begin : (lane : ℕ) (all : Bool) (c : Option Context) (st : State) → IsLive n st → IsLive n (begin_in lane all c st).1
+  live_begin lane all None st h = h
+  live_begin lane all (Some c) st h = h
+
+  live_named : (x : Naming) (st : State) → IsLive n st → IsLive n (named_as x st).1
+  live_named IsNotFound st h = h
+  live_named IsNotSelectable st h = h
+  live_named IsNamedAlready st h = h
+  live_named (Names explicit) st h = h
+
+  live_component : (mode : Mode) (s : Plan) (w : ℕ) (name : List ℕ) (st : State) → IsLive n st → IsLive n (component_in mode s w name st).1
+  live_component All s w name st h = h
+  live_component Components s w name st h = live_named (naming (known_metas s st) w name st.explicit) st h
+
+  live_add_to : (v : ℕ) (r : SetRow) (refusal : Option VssResult) (st : State) → IsLive n st → IsLive n (add_to v r refusal st).1
+  live_add_to v r (Some why) st h = h
+  live_add_to v r None st h = live-map (row_changed r.number (with_volume v)) (same_changed r.number (with_volume v) (λ q. refl) (λ q. refl)) st.sets n ∙ h
+
+  live_add : (v : ℕ) (o : Option SetRow) (st : State) → IsLive n st → IsLive n (add v o st).1
+  live_add v None st h = h
+  live_add v (Some r) st h = live_add_to v r (add_refusal v r st) st h
+
+  live_await : (last : Option VssResult) (st : State) → IsLive n st → IsLive n (await_last last st).1
+  live_await None st h = h
+  live_await (Some why) st h = h
+
+  live_session_line : (s : Plan) (lane : ℕ) (op : Op) (q : Session) (st : State) → line_gives_cause s st op ≡ false → Fails st.course ≡ false → IsLive n st → IsLive n (session_line s lane op q st).1
+  live_session_line s lane (Begin c all) q st e f h = h
+  live_session_line s lane (Disable w) q st e f h = h
+  live_session_line s lane GatherLine q st e f h = live_followed true _ st (none_begun Gather _ [] st.clock _ f) h
+  live_session_line s lane (Component w full) q st e f h = live_component q.mode s w (token s full) st h
+  live_session_line s lane Document q st e f h = h
+  live_session_line s lane Start q st e f h = live_append st.sets (new_set (new_number st) q.context) n h
+  live_session_line s lane (Add v) q st e f h = live_add v (in_progress st) st h
+  live_session_line s lane PrepareLine q st e f h = either (has_no_volume (in_progress st)) _ _ h (live_followed true _ st (none_begun Prepare _ [] st.clock _ f) h)
+  live_session_line s lane SnapshotLine q st e f h = either (has_no_volume (in_progress st)) _ _ h (live_followed true _ st (none_begun Snapshot st.course.members _ st.clock st.course f) h)
+  live_session_line s lane Await q st e f h = live_await q.last st h
+  live_session_line s lane Status q st e f h = h
+  live_session_line s lane CompleteLine q st e f h = live_followed true _ st (none_begun Complete _ [] st.clock _ f) h
+  live_session_line s lane Abort q st e f h = absurd cc
+  live_session_line s lane End q st e f h = absurd cc
+  live_session_line s lane (WriteFill v b x) q st e f h = h
+  live_session_line s lane (WriteStamp v b k) q st e f h = h
+  live_session_line s lane (Read v b) q st e f h = h
+  live_session_line s lane (ImageDigest m v) q st e f h = h
+  live_session_line s lane (ImageBlock m v b) q st e f h = h
+  live_session_line s lane (Query v) q st e f h = h
+  live_session_line s lane (Properties m v) q st e f h = h
+  live_session_line s lane (Revert m v) q st e f h = h
+  live_session_line s lane (DeleteSet m) q st e f h = h
+  live_session_line s lane (DeleteImage m v) q st e f h = h
+  live_session_line s lane (Tick k) q st e f h = h
+
+  live_line_in : (s : Plan) (lane : ℕ) (op : Op) (q : Option Session) (st : State) → line_gives_cause s st op ≡ false → Fails st.course ≡ false → IsLive n st → IsLive n (line_in s lane op q st).1
+  live_line_in s lane (Begin c all) None st e f h = live_begin lane all (context_of c all) st h
+  live_line_in s lane (Disable w) None st e f h = h
+  live_line_in s lane GatherLine None st e f h = h
+  live_line_in s lane (Component w full) None st e f h = h
+  live_line_in s lane Document None st e f h = h
+  live_line_in s lane Start None st e f h = h
+  live_line_in s lane (Add v) None st e f h = h
+  live_line_in s lane PrepareLine None st e f h = h
+  live_line_in s lane SnapshotLine None st e f h = h
+  live_line_in s lane Await None st e f h = h
+  live_line_in s lane Status None st e f h = h
+  live_line_in s lane CompleteLine None st e f h = h
+  live_line_in s lane Abort None st e f h = h
+  live_line_in s lane End None st e f h = h
+  live_line_in s lane (WriteFill v b x) None st e f h = h
+  live_line_in s lane (WriteStamp v b k) None st e f h = h
+  live_line_in s lane (Read v b) None st e f h = h
+  live_line_in s lane (ImageDigest m v) None st e f h = h
+  live_line_in s lane (ImageBlock m v b) None st e f h = h
+  live_line_in s lane (Query v) None st e f h = h
+  live_line_in s lane (Properties m v) None st e f h = h
+  live_line_in s lane (Revert m v) None st e f h = h
+  live_line_in s lane (DeleteSet m) None st e f h = h
+  live_line_in s lane (DeleteImage m v) None st e f h = h
+  live_line_in s lane (Tick k) None st e f h = h
+  live_line_in s lane op (Some q) st e f h = live_session_line s lane op q st e f h
+
+  live_judged : (v : Verdict) (s : Plan) (lane : ℕ) (op : Op) (st : State) → line_gives_cause s st op ≡ false → Fails st.course ≡ false → IsLive n st → IsLive n (judged v s lane op st).1
+  live_judged Go s lane op st e f h = live_line_in s lane op st.session st e f h
+  live_judged Blocked s lane op st e f h = h
+  live_judged (Refused why) s lane op st e f h = h
+
+  live_called : (c : SessionCall) (s : Plan) (lane : ℕ) (op : Op) (st : State) → line_gives_cause s st op ≡ false → Fails st.course ≡ false → IsLive n st → IsLive n (called c s lane op st).1
+  unfolding called
+  live_called c s lane op st e f h = live_judged (check st.session (runs st) lane c) s lane op st e f h
+
+  live_line : (s : Plan) (lane : ℕ) (op : Op) (mark : Mark) (st : State) → line_gives_cause s st op ≡ false → Fails st.course ≡ false → IsLive n st → IsLive n (line s lane op mark st).1
+  live_line s lane (WriteFill v b x) mark st e f h = live_write s v (record { block = b; bytes = payload_bytes (Fill x) }) mark st e h
+  live_line s lane (WriteStamp v b k) mark st e f h = live_write s v (record { block = b; bytes = payload_bytes (Stamp k) }) mark st e h
+  live_line s lane (Read v b) mark st e f h = h
+  live_line s lane (ImageDigest m v) mark st e f h = live_image_blocks s v (kept_image st m v) mark st h
+  live_line s lane (ImageBlock m v b) mark st e f h = live_image_block v b (kept_image st m v) mark st h
+  live_line s lane (Query v) mark st e f h = h
+  live_line s lane (Properties m v) mark st e f h = live_properties s v (kept_image st m v) st h
+  live_line s lane (Revert m v) mark st e f h = live_revert s m v mark st h
+  live_line s lane (DeleteSet m) mark st e f h = live_delete_set m st h
+  live_line s lane (DeleteImage m v) mark st e f h = live_delete_image m v st h
+  live_line s lane (Tick k) mark st e f h = live_ticks k st e f h
+  live_line s lane (Begin c all) mark st e f h = live_called (call.Begin c all) s lane (Begin c all) st e f h
+  live_line s lane (Disable w) mark st e f h = live_called call.Disable s lane (Disable w) st e f h
+  live_line s lane GatherLine mark st e f h = live_called call.Gather s lane GatherLine st e f h
+  live_line s lane (Component w full) mark st e f h = live_called call.Component s lane (Component w full) st e f h
+  live_line s lane Document mark st e f h = live_called call.Document s lane Document st e f h
+  live_line s lane Start mark st e f h = live_called call.Start s lane Start st e f h
+  live_line s lane (Add v) mark st e f h = live_called call.Add s lane (Add v) st e f h
+  live_line s lane PrepareLine mark st e f h = live_called call.Prepare s lane PrepareLine st e f h
+  live_line s lane SnapshotLine mark st e f h = live_called call.Snapshot s lane SnapshotLine st e f h
+  live_line s lane Await mark st e f h = live_called call.Await s lane Await st e f h
+  live_line s lane Status mark st e f h = live_called call.Status s lane Status st e f h
+  live_line s lane CompleteLine mark st e f h = live_called call.Complete s lane CompleteLine st e f h
+  live_line s lane Abort mark st e f h = absurd cc
+  live_line s lane End mark st e f h = absurd cc
+
+  -- ## every act
+
+  live_happens : (s : Plan) (event : Event) (mark : Mark) (st : State) → gives_cause s st event mark ≡ false → Fails st.course ≡ false → IsLive n st → IsLive n (happens s event mark st).1
+  live_happens s (Line lane op) mark st e f h = live_line s lane op mark st e f h
+  live_happens s (AnswerEvent w answer) mark st e f h = live_answers w (said_of answer) st (none_answered w (said_of answer) st.clock st.course e f) h
+  live_happens s Provider mark st e f h = live_steps mark st e f h
+  live_happens s Idle mark st e f h = live_ticks (idle_now st) st e f h
+
+  live_after_if : (b : Bool) (s : Plan) (st : State) (act : Act) → gives_cause s st act.event act.mark ≡ false → Fails st.course ≡ false → IsLive n st → IsLive n (after_if b s st act)
+  live_after_if true s st act e f h = live_happens s act.event act.mark st e f h
+  live_after_if false s st act e f h = h
+
+  live_after : (s : Plan) (st : State) (act : Act) → gives_cause s st act.event act.mark ≡ false → Fails st.course ≡ false → IsLive n st → IsLive n (after s st act)
+  unfolding after
+  live_after s st act e f h = live_after_if (enabled s st act.event) s st act e f h
+
+-- while a set is in progress, the course has not failed
+outcome_running : (q : Option Session) (o : SetOutcome) (r : SetRow) → IsOfSession q o (Some r) → has_failed o ≡ false
+outcome_running None o r h = absurd h
+outcome_running (Some q) o r h = ap has_failed h.2
+
+by_cause : (b : Bool) (s : Plan) (so_far : List Act) (act : Act) (r q : SetRow) → gives_cause s (state s so_far) act.event act.mark ≡ b → in_progress (state s so_far) ≡ Some r
+    → row_of (after s (state s so_far) act) r.number ≡ Some q → has_failed q.result ≡ true → NumberedFrom 1 (after s (state s so_far) act).sets → b ≡ true
+by_cause true s so_far act r q e f g h i = refl
+by_cause false s so_far act r q e f g h i =
+    let st = state s so_far in
+    let kept = orderly s so_far in
+    let running : Fails st.course ≡ false = outcome_running st.session st.course.outcome r (subst (IsOfSession st.session st.course.outcome) f kept.session) in
+    let live = live_after r.number s st act e running (live_found st.sets r f) in
+    absurd (true_not_false (is_live (after s st act).sets r.number) live (failed_not_live 1 r.number (after s st act).sets q i g h))
+
+pub fail_with_cause : (s : Plan) (all : List Act) → SetsFailWithCause s all
+fail_with_cause s all so_far rest act r q e f g h =
+    let next = orderly s (so_far ++ act ∷ []) in
+    let numbered : NumberedFrom 1 (after s (state s so_far) act).sets = subst (λ (st : State). NumberedFrom 1 st.sets) (state-append s so_far act) next.numbered in
+    by_cause (gives_cause s (state s so_far) act.event act.mark) s so_far act r q refl f g h numbered
