@@ -1,6 +1,6 @@
 -- What is kept of the sessions, the one set and its agenda, against the state of the definitions. What becomes of the images
 -- of the volumes is told by each call. (This project's own.)
-use Rattle.std.specs.Prelude.{ℕ, ◌≡◌, ◌<◌, Bool, true, false, List, [], ◌∷◌, map, length, Option}
+use Rattle.std.specs.Prelude.{ℕ, ◌≡◌, ◌<◌, Bool, true, false, List, [], ◌∷◌, map, length, Option, Some, None}
 use Rattle.writer_state.specs.declared.writer_row.WriterRow.{WriterRow}
 use Rattle.write_history.specs.History.{History, dropped}
 use Rattle.set_agenda.specs.Course.{Course}
@@ -13,7 +13,10 @@ use Rattle.vss_model.specs.declared.event.Event.{Event}
 use Rattle.vss_model.specs.State.{State, SetRow, history_of}
 use Rattle.vss_model.specs.Acts.{enabled, event_allows, after}
 use Rattle.vss_model.specs.Steps.{cut_each}
+use Rattle.vss_model.specs.declared.told.Told.{Told}
+use Rattle.vss_model.specs.declared.told.Told.TheVariants.{Step as StepTold}
 use Rattle.vss_model.specs.Told.{mark_of}
+use Rattle.vss_model.specs.Trail.{is_fault}
 use Rattle.vss_model.specs.Outcome.{IsOutcome, told_act}
 use Rattle.plain_sessions.specs.declared.standing.Standing.{Standing}
 use Rattle.plain_sessions.specs.Standing.{session_of, progress_of, rows_of, course_of}
@@ -70,3 +73,18 @@ pub record IsWait (old new : SessionsValue) (event : Event) : Type 0 where
 abbrev pub IsCall : SessionsValue → SessionsValue → Event → Called → Type 0
 IsCall old new event Waits = IsWait old new event
 IsCall old new event (Moves m) = IsMove old new event m
+
+-- ## faults
+
+-- a session line meets no device
+abbrev pub IsClean : Called → Type 0
+IsClean Waits = Unit {0}
+IsClean (Moves m) = is_fault (mark_of m.outcome.told) ≡ false
+
+abbrev pub volume_told : Told → Option ℕ
+volume_told (StepTold g v fault) = v
+volume_told _ = None
+
+-- a step tells a fault only of the volume, and only where its device failed
+abbrev pub IsFaultOf : Bool → Told → Type 0
+IsFaultOf ok told = is_fault (mark_of told) ≡ true → (ok ≡ false) × (volume_told told ≡ Some 0)

@@ -10,7 +10,8 @@ ghost use Rattle.vss_model.specs.Acts.{enabled};
 ghost use Rattle.vss_model.specs.Steps.{is_flush};
 ghost use Rattle.vss_model.specs.Told.{mark_if, mark_of};
 ghost use Rattle.vss_model.specs.declared.event.Event.TheVariants.{Line, Answer as AnswerEvent, Provider, Idle};
-ghost use Rattle.plain_sessions.specs.Keeps.{Keeps, IsCall, IsMove, IsOnFirst};
+ghost use Rattle.plain_sessions.specs.Keeps.{Keeps, IsCall, IsMove, IsOnFirst, IsClean, IsFaultOf};
+ghost use Rattle.vss_model.specs.Trail.{is_fault};
 ghost use Rattle.plain_sessions.specs.Standing.{is_flush as is_flush_step, progress_of, session_of, step_of, works};
 ghost use Rattle.requestor.specs.Check.{check};
 
@@ -62,6 +63,7 @@ impl PlainSessions {
         requires once { is_begin op ≡ true → self.old.begun ≡ false }
         requires one_volume { IsOnFirst op }
         ensures called { IfOk result (IsCall self.old self.new (Line lane op)) }
+        ensures clean { IfOk result IsClean }
         ensures memory { OnErr result (self.new ≡ self.old) }
         ensures begun { IfOk result (λ called. self.new.begun ≡ (self.old.begun || is_begin op)) }
     {
@@ -87,6 +89,7 @@ impl PlainSessions {
         requires once { is_begin op ≡ true → self.old.begun ≡ false }
         requires one_volume { IsOnFirst op }
         ensures moves { IsMove self.old self.new (Line lane op) result }
+        ensures clean { is_fault (mark_of result.outcome.told) ≡ false }
         ensures begun { self.new.begun ≡ (self.old.begun || is_begin op) }
     {
         let set = self.standing.progress();
@@ -118,6 +121,7 @@ impl PlainSessions {
         requires goes { check (session_of self.old.standing) (works self.old.standing) lane SessionCall.Add ≡ Verdict.Go }
         requires set { set ≡ progress_of self.old.standing }
         ensures moves { IsMove self.old self.new (Line lane (Op.Add 0)) result }
+        ensures clean { is_fault (mark_of result.outcome.told) ≡ false }
         ensures begun { self.new.begun ≡ self.old.begun }
     {
         if set.is_added() {
@@ -136,6 +140,7 @@ impl PlainSessions {
         requires goes { check (session_of self.old.standing) (works self.old.standing) lane SessionCall.Snapshot ≡ Verdict.Go }
         requires set { set ≡ progress_of self.old.standing }
         ensures moves { IsMove self.old self.new (Line lane Op.Snapshot) result }
+        ensures clean { is_fault (mark_of result.outcome.told) ≡ false }
         ensures begun { self.new.begun ≡ self.old.begun }
     {
         if set.is_empty() {
@@ -153,6 +158,7 @@ impl PlainSessions {
         requires goes { check (session_of self.old.standing) (works self.old.standing) lane SessionCall.End ≡ Verdict.Go }
         requires set { set ≡ progress_of self.old.standing }
         ensures moves { IsMove self.old self.new (Line lane Op.End) result }
+        ensures clean { is_fault (mark_of result.outcome.told) ≡ false }
         ensures begun { self.new.begun ≡ self.old.begun }
     {
         self.standing = Standing::Over {
@@ -183,6 +189,7 @@ impl PlainSessions {
     pub fn step(&mut self, ok: bool) -> SessionMove
         requires working { (st : State) → Keeps self.old st → is_working (left_now st) ≡ true }
         ensures moves { IsMove self.old self.new Provider result }
+        ensures fault { IsFaultOf ok result.outcome.told }
         ensures mark { (st : State) → Keeps self.old st → mark_of result.outcome.told ≡ mark_if (not ok && is_flush (open_group (left_now st))) }
         ensures begun { self.new.begun ≡ self.old.begun }
     {
@@ -198,6 +205,7 @@ impl PlainSessions {
         requires works { step_of self.old.standing ≡ Some step }
         ensures moves { IsMove self.old self.new Provider result }
         ensures mark { mark_of result.outcome.told ≡ mark_if (not ok && is_flush_step step) }
+        ensures fault { IsFaultOf ok result.outcome.told }
         ensures begun { self.new.begun ≡ self.old.begun }
     {
         if step.fails(ok) {

@@ -11,6 +11,8 @@ mod fingerprint;
 mod image_places;
 mod plain_volume;
 mod reading;
+#[cfg(test)]
+mod tests;
 mod write_fault;
 mod writing;
 

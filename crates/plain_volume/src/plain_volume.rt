@@ -55,6 +55,13 @@ impl<D: Device> PlainVolume<D> {
         })
     }
 
+    /// How many blocks the volume has.
+    pub fn blocks(&self) -> u32
+        ensures { result ≡ D.size self.now.device }
+    {
+        self.device.blocks()
+    }
+
     /// The sets of the images that stand: one at most.
     pub fn sets(&self) -> &[u32]
         ensures sets { result.now ≡ self.now.sets }

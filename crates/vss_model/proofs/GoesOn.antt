@@ -175,7 +175,7 @@ none_stays s st act begins e =
 
 -- ## what a lane has left
 
-abbrev rest_of : Plan → List Move → ℕ → List LaneLine
+abbrev pub rest_of : Plan → List Move → ℕ → List LaneLine
 rest_of s moves i = drop (cursor moves i) (lines_of s i)
 
 -- the owner of the session has an `end` line left

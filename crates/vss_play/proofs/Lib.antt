@@ -1,0 +1,11 @@
+pub mod PlainCourse
+pub mod PlainActs
+pub mod LaneLines
+pub mod Numbers
+pub mod FaultMarks
+pub mod OneMove
+pub mod Finishing
+pub mod GivingBack
+pub mod NewDevices
+pub mod InTurn
+pub mod ClosingLines

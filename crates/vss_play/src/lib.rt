@@ -1,0 +1,25 @@
+//! A run of a scenario over the core of the service: each turn of an actor makes at most one move, which is added to the
+//! trail and whose lines are added to the report.
+//!
+//! Contracts see a run as its scenario, its moves and its devices. What it promises: the trail is legal, the lines are the
+//! report so far, a device that tells holds its volume's content, and the fault marks are at most the devices' faults.
+#![tactic(auto)]
+
+mod closing;
+mod devices;
+mod gate;
+mod in_turn;
+mod moved;
+mod open_gate;
+mod play;
+mod play_fault;
+mod step_fault;
+mod turn;
+
+pub use gate::Gate;
+pub use in_turn::play_in_turn;
+pub use moved::Moved;
+pub use open_gate::OpenGate;
+pub use play::Play;
+pub use play_fault::PlayFault;
+pub use step_fault::StepFault;
