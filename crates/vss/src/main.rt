@@ -5,9 +5,8 @@
 #![tactic(auto)]
 
 use io_edge::{InSource, OutSink};
-use std::env;
-use std::io;
 use std::process::ExitCode;
+use std::{env, io};
 use volume_device::HostMaker;
 use vss_main::{Status, run};
 use vss_play::OpenGate;
@@ -27,7 +26,15 @@ fn main(rt: HostRuntime) -> ExitCode {
     let mut sink = OutSink::new(rt.stdout());
     let status = match given(&rt) {
         Ok((words, mut maker)) => {
-            run(&rt, rt.alloc(), &words, &mut source, &mut sink, &mut maker, &OpenGate)
+            run(
+                &rt,
+                rt.alloc(),
+                &words,
+                &mut source,
+                &mut sink,
+                &mut maker,
+                &OpenGate,
+            )
         }
         Err(_) => Status::OutOfMemory,
     };

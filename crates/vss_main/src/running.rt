@@ -26,11 +26,7 @@ fn is_command(words: &[String]) -> bool
 }
 
 /// Runs a scenario to its end over devices in memory, closes its report, and gives the devices back.
-fn report_of<M: Maker>(
-    alloc: Global,
-    scenario: Scenario,
-    maker: &mut M,
-) -> Result<Text, PlayFault>
+fn report_of<M: Maker>(alloc: Global, scenario: Scenario, maker: &mut M) -> Result<Text, PlayFault>
     ensures ran { IfOk result (λ report. IsRun M.Made.told (M.tells maker.old store.Memory) (M.kept maker.old) (M.kept maker.new) (M.count maker.old) (M.count maker.new) scenario report.bytes) }
     ensures rose { IsErrOf result PlayFault.Failed → Rose (M.count maker.old) (M.count maker.new) }
 {
@@ -75,13 +71,33 @@ pub fn run<R: Threads + Wait + Sync, S: Source, K: Sink, M: Maker, G: Gate>(
     ensures usage { (result ≡ Status.Usage) ↔ (is_command words.now ≡ false) }
     ensures too_long { is_command words.now ≡ true → IfGave (S.left source.old) (S.left source.new) (λ n. (result ≡ Status.TooLong) ↔ (most_bytes < n)) }
     ensures status { IsStatus M.Made.told (M.tells maker.old store.Memory) (record {
-        left_first = S.left source.old; left_last = S.left source.new; reads_first = S.count source.old; reads_last = S.count source.new;
-        taken_first = K.taken sink.old; taken_last = K.taken sink.new; writes_first = K.count sink.old; writes_last = K.count sink.new;
-        kept_first = M.kept maker.old; kept_last = M.kept maker.new; count_first = M.count maker.old; count_last = M.count maker.new }) result }
+      left_first = S.left source.old;
+      left_last = S.left source.new;
+      reads_first = S.count source.old;
+      reads_last = S.count source.new;
+      taken_first = K.taken sink.old;
+      taken_last = K.taken sink.new;
+      writes_first = K.count sink.old;
+      writes_last = K.count sink.new;
+      kept_first = M.kept maker.old;
+      kept_last = M.kept maker.new;
+      count_first = M.count maker.old;
+      count_last = M.count maker.new;
+    }) result }
     ensures answered { IsAnswered words.now (record {
-        left_first = S.left source.old; left_last = S.left source.new; reads_first = S.count source.old; reads_last = S.count source.new;
-        taken_first = K.taken sink.old; taken_last = K.taken sink.new; writes_first = K.count sink.old; writes_last = K.count sink.new;
-        kept_first = M.kept maker.old; kept_last = M.kept maker.new; count_first = M.count maker.old; count_last = M.count maker.new }) result }
+      left_first = S.left source.old;
+      left_last = S.left source.new;
+      reads_first = S.count source.old;
+      reads_last = S.count source.new;
+      taken_first = K.taken sink.old;
+      taken_last = K.taken sink.new;
+      writes_first = K.count sink.old;
+      writes_last = K.count sink.new;
+      kept_first = M.kept maker.old;
+      kept_last = M.kept maker.new;
+      count_first = M.count maker.old;
+      count_last = M.count maker.new;
+    }) result }
 {
     if !is_command(words) {
         return Status::Usage;

@@ -18,3 +18,7 @@ pub mod TrailLength
 pub mod Headline
 pub mod Ended
 pub mod Causes
+pub mod NoWriters
+pub mod OneSet
+pub mod Room
+pub mod EndOrFlush

@@ -1,0 +1,35 @@
+#!/usr/bin/env bash
+# Bad words and bad input get their status, one line on the standard error, and nothing on the standard output.
+set -u
+cd "$(dirname "$0")/.."
+failed=0
+
+# status, the line on the standard error, the input with \n for newlines, and the words
+refuses() {
+  local status="$1" line="$2" input="$3"
+  shift 3
+  local out err got
+  err="$(mktemp)"
+  out="$(printf "$input" | ./vss "$@" 2> "$err")"
+  got=$?
+  if [ "$got" != "$status" ] || [ "$(cat "$err")" != "$line" ] || [ -n "$out" ]; then
+    echo "refusal: \`vss $*\` of \"$input\" ended with $got and \"$(cat "$err")\", and not with $status and \"$line\"" >&2
+    failed=1
+  fi
+  rm -f "$err"
+}
+
+refuses 2 "vss: usage" "scenario 1\n"
+refuses 2 "vss: usage" "scenario 1\n" run -x
+refuses 2 "vss: usage" "scenario 1\n" gen 7
+refuses 3 "vss: line 1: NotBuilt" "" run
+refuses 3 "vss: line 2: NotBuilt" "scenario 1\nvolume C 4 3\n" run
+refuses 3 "vss: line 4: NotBuilt" "scenario 1\nvolume C 4 4\nlane a\ntick 5\n" run
+refuses 3 "vss: line 4: NotBuilt" "scenario 1\nvolume C 4 4\nlane a\nwrite C 4 fill 1\n" run
+refuses 3 "vss: line 2: NotBuilt" "scenario 1\nvolume C 4 4" run
+refuses 3 "vss: line 3: NotBuilt" "# nothing\n\n" run
+refuses 3 "vss: line 3: NotBuilt" "scenario 1\nlane a\nlane b\n" run
+refuses 3 "vss: line 5: NotBuilt" "scenario 1\nlane a\nbegin 25\nend\nbegin 25\n" run
+refuses 3 "vss: line 3: NotBuilt" "scenario 1\nlane a\nbegin 9\n" run
+[ "$failed" = 0 ] && echo "refusals: as written"
+exit "$failed"
