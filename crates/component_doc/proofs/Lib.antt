@@ -1,2 +1,12 @@
+pub mod Added
+pub mod Allowed
+pub mod Alone
 pub mod Few
+pub mod Named
+pub mod Numbers
+pub mod Order
+pub mod Places
+pub mod ReadBack
 pub mod Takers
+pub mod Told
+pub mod Values

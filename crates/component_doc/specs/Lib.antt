@@ -1,4 +1,6 @@
 pub mod Selection
-pub mod Document
 pub mod Held
+pub mod Over
+pub mod Document
+pub mod Reading
 pub mod Refusal

@@ -9,18 +9,22 @@ mod ancestors;
 mod choice;
 mod choices;
 mod chosen;
+mod doc_fault;
 mod found;
 mod metas;
 mod pair;
 mod pairs;
+mod reading;
 mod selection;
 mod taken;
 #[cfg(test)]
 mod tests;
+mod written;
 
 pub use add_fault::AddFault;
 pub use choice::Choice;
 pub use choices::Choices;
+pub use doc_fault::DocFault;
 pub use metas::Metas;
 pub use pair::Pair;
 pub use selection::Selection;

@@ -1,16 +1,21 @@
 ghost use Rattle.std.specs.Prelude.{◌≡◌, ◌<◌, ◌^◌, [], Ok, length, IfOk, IfErr, OnOk, OnErr, IsTrue};
-ghost use Rattle.component_doc.specs.Held.{Held, selected_of};
+ghost use Rattle.serde_json.specs.View.{view};
+ghost use Rattle.writer_meta.specs.Document.{value_of_text};
+ghost use Rattle.component_doc.specs.Held.{Held, metas_of, selected_of};
+ghost use Rattle.component_doc.specs.Refusal.{TellsOfText, IsNoValue};
 
 use crate::add_fault::AddFault;
 use crate::choices::Choices;
 use crate::chosen::choose_of_writer;
+use crate::doc_fault::DocFault;
 use crate::metas::Metas;
 use crate::pair::Pair;
-use crate::pairs;
 use crate::taken::Taken;
+use crate::{pairs, reading, written};
+use serde_json::Value;
 use std::alloc::Global;
 use std::marker::Model;
-use vss_names::{Numbers, OutOfMemory};
+use vss_names::{Context, Numbers, OutOfMemory, Text};
 
 /// The selection of a session: the components that a requestor has named, or all components of the writers that are
 /// known. Contracts see over how many writers it is, and what is selected.
@@ -24,10 +29,14 @@ impl Model for Selection {
     ghost Value = { Held };
 
     ghost view = { λ s. record { writers = s.writers; selected = selected_of s.taken } };
+
+    ghost invariant = { λ s. s.writers < 2 ^ 32 };
 }
 
 impl Selection {
-    ghost use Rattle.component_doc.specs.Held.{metas_of, all_have_few, pairs_of, is_named};
+    ghost use Rattle.component_doc.specs.Held.{all_have_few, pairs_of, is_named};
+    ghost use Rattle.component_doc.specs.Over.{AreAllowed, IsOver};
+    ghost use Rattle.component_doc.specs.Document.{document_text, IsDocumentOf};
     ghost use Rattle.component_doc.specs.Selection.{Named, Names, naming, all_of, takers, chosen};
     ghost use Rattle.component_doc.specs.Refusal.{Tells};
 
@@ -70,6 +79,7 @@ impl Selection {
         ensures unchanged { OnErr result (self.new ≡ self.old) }
         ensures writers { self.new.writers ≡ self.old.writers }
         ensures named { IsTrue (is_named self.new.selected) }
+        ensures over { IsOver (metas_of metas.now) self.old → IsOver (metas_of metas.now) self.new }
     {
         let Some(found) = metas.find(alloc, writer, path)? else {
             return Err(AddFault::NotFound);
@@ -123,5 +133,68 @@ impl Selection {
             )?;
         }
         Ok(Choices::of(choices))
+    }
+
+    /// The component document: compact JSON that lists the components that the backup takes. `from_json` gives the
+    /// context and the selection back.
+    pub fn to_json(
+        &self,
+        alloc: Global,
+        metas: &Metas,
+        context: Context,
+    ) -> Result<Text, OutOfMemory>
+        requires allowed { AreAllowed (metas_of metas.now) }
+        requires over { IsOver (metas_of metas.now) self.now }
+        ensures written { IfOk result
+            (λ text. text.bytes ≡ document_text (metas_of metas.now) self.now.selected context) }
+        ensures reads_back { IfOk result
+            (λ text. IsDocumentOf (metas_of metas.now) text.bytes context self.now) }
+    {
+        let choices = self.chosen(alloc, metas)?;
+        let values = written::values_of(alloc, metas.items(), choices.items())?;
+        let value = written::document_of(alloc, values, context, self.taken.is_named())?;
+        let text = value.to_vec(alloc)?;
+        Ok(Text::of(text))
+    }
+
+    /// The context and the selection that a component document over these metadata says.
+    pub fn from_json(
+        alloc: Global,
+        metas: &Metas,
+        text: &[u8],
+    ) -> Result<(Context, Selection), DocFault>
+        requires allowed { AreAllowed (metas_of metas.now) }
+        requires writers { length metas.now < 2 ^ 32 }
+        ensures ok { IfOk result
+            (λ found. IsDocumentOf (metas_of metas.now) text.now found.0 found.1) }
+        ensures refused { IfErr result (λ fault. TellsOfText (metas_of metas.now) fault text.now) }
+    {
+        let value = value_of(alloc, text)?;
+        let Some(context) = reading::context_of(&value) else {
+            return Err(DocFault::NotDocument);
+        };
+        let selection = reading::selection_of(alloc, metas, &value)?;
+        let written = selection.to_json(alloc, metas, context)?;
+        if written.bytes() != text {
+            return Err(DocFault::NotDocument);
+        }
+        Ok((context, selection))
+    }
+}
+
+/// The JSON value of the text.
+fn value_of(alloc: Global, text: &[u8]) -> Result<Value, DocFault>
+    ensures ok { IfOk result (λ value. value_of_text text.now ≡ Some (view value)) }
+    ensures refused { IfErr result (λ fault. IsNoValue fault text.now) }
+{
+    match Value::from_slice(alloc, text) {
+        Ok(value) => Ok(value),
+        Err(error) => {
+            if error.is_memory() {
+                Err(DocFault::OutOfMemory)
+            } else {
+                Err(DocFault::NotJson)
+            }
+        }
     }
 }

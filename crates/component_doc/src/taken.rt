@@ -1,6 +1,6 @@
 ghost use Rattle.std.specs.Prelude.{◌≡◌, ◌==◌};
 ghost use Rattle.std.specs.List.{list_any};
-ghost use Rattle.component_doc.specs.Held.{selected_of};
+ghost use Rattle.component_doc.specs.Held.{selected_of, is_named};
 ghost use Rattle.component_doc.specs.Selection.{is_taker};
 
 use crate::pair::Pair;
@@ -16,6 +16,16 @@ pub(crate) enum Taken {
 }
 
 impl Taken {
+    /// Whether components are named one by one.
+    pub(crate) fn is_named(&self) -> bool
+        ensures { result ≡ is_named (selected_of self.now) }
+    {
+        match self {
+            Taken::Named(_) => true,
+            Taken::AllOf(_) => false,
+        }
+    }
+
     /// Whether a writer takes part.
     pub(crate) fn takes(&self, writer: u32) -> bool
         ensures { result ≡ is_taker (selected_of self.now) writer }

@@ -16,11 +16,11 @@ abbrev pub with_items : List Value → Items → Items
 with_items [] more = more
 with_items (v ∷ vs) more = item (view v) (with_items vs more)
 
-with_items-one_more : (vs : List Value) (v : Value) (more : Items) → with_items (vs ++ v ∷ []) more ≡ with_items vs (item (view v) more)
+pub with_items-one_more : (vs : List Value) (v : Value) (more : Items) → with_items (vs ++ v ∷ []) more ≡ with_items vs (item (view v) more)
 with_items-one_more [] v more = refl
 with_items-one_more (w ∷ vs) v more = ap (item (view w)) (with_items-one_more vs v more)
 
-with_items-none : (vs : List Value) → with_items vs no_items ≡ items_view vs
+pub with_items-none : (vs : List Value) → with_items vs no_items ≡ items_view vs
 with_items-none [] = refl
 with_items-none (v ∷ vs) = ap (item (view v)) (with_items-none vs)
 

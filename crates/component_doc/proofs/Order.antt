@@ -1,0 +1,52 @@
+-- Pairs in order of writers and then of components.
+use Rattle.std.proofs.Common.{◌≡◌, List, [], ◌∷◌, Bool, true, false, true≢false, ◌&&◌, ◌||◌, if◌then◌else◌, arith, refl}
+use Rattle.std.proofs.lemmas.Bool.Decides.{nat_tests}
+use Rattle.std.specs.List.{list_all}
+use Rattle.writer_meta.proofs.Laws.{and_left, and_right}
+use Rattle.component_doc.specs.Selection.{Pair, comes_before, is_pair, has_pair, with_pair}
+use Rattle.component_doc.specs.Over.{is_ascending}
+
+pub both : (a b : Bool) → a ≡ true → b ≡ true → (a && b) ≡ true
+both a b x y = rw (x, y) refl
+
+pub none-of : (a b : Bool) → (a || b) ≡ false → (a ≡ false) × (b ≡ false)
+none-of true b e = absurd (true≢false e)
+none-of false b e = (refl, e)
+
+trans : (p q r : Pair) → comes_before p q ≡ true → comes_before q r ≡ true → comes_before p r ≡ true
+trans p q r first second = grind (arith, nat_tests)
+
+-- what is not before a pair, and is not that pair, is behind it
+total : (p q : Pair) → comes_before q p ≡ false → is_pair q.writer q.component p ≡ false → comes_before p q ≡ true
+total p q not_before other = grind (arith, nat_tests)
+
+behind-all : (q p : Pair) (ps : List Pair) → comes_before q p ≡ true → list_all (comes_before p) ps ≡ true → list_all (comes_before q) ps ≡ true
+behind-all q p [] before all = refl
+behind-all q p (r ∷ ps) before all = both _ _ (trans q p r before (and_left _ _ all)) (behind-all q p ps before (and_right (comes_before p r) _ all))
+
+all-if : (P : Pair → Bool) (b : Bool) (xs ys : List Pair) → (b ≡ true → list_all P xs ≡ true) → (b ≡ false → list_all P ys ≡ true) → list_all P (if b then xs else ys) ≡ true
+all-if P true xs ys one other = one refl
+all-if P false xs ys one other = other refl
+
+ascending-if : (b : Bool) (xs ys : List Pair) → (b ≡ true → is_ascending xs ≡ true) → (b ≡ false → is_ascending ys ≡ true) → is_ascending (if b then xs else ys) ≡ true
+ascending-if true xs ys one other = one refl
+ascending-if false xs ys one other = other refl
+
+-- what holds of the new pair and of all others holds of all
+pub all-with_pair : (P : Pair → Bool) (q : Pair) (ps : List Pair) → P q ≡ true → list_all P ps ≡ true → list_all P (with_pair q ps) ≡ true
+all-with_pair P q [] new all = both _ _ new refl
+all-with_pair P q (p ∷ ps) new all =
+    all-if P (comes_before q p) (q ∷ p ∷ ps) (p ∷ with_pair q ps)
+    (λ _. both (P q) _ new all)
+    (λ _. both (P p) _ (and_left _ _ all) (all-with_pair P q ps new (and_right (P p) _ all)))
+
+-- a pair that is new goes to its place
+pub ascending-with_pair : (q : Pair) (ps : List Pair) → has_pair ps q.writer q.component ≡ false → is_ascending ps ≡ true → is_ascending (with_pair q ps) ≡ true
+ascending-with_pair q [] new up = refl
+ascending-with_pair q (p ∷ ps) new up =
+    let other = none-of (is_pair q.writer q.component p) (has_pair ps q.writer q.component) new in
+    let behind = and_left (list_all (comes_before p) ps) (is_ascending ps) up in
+    let rest = and_right (list_all (comes_before p) ps) (is_ascending ps) up in
+    ascending-if (comes_before q p) (q ∷ p ∷ ps) (p ∷ with_pair q ps)
+    (λ before. both _ _ (both (comes_before q p) _ before (behind-all q p ps before behind)) up)
+    (λ not_before. both _ _ (all-with_pair (comes_before p) q ps (total p q not_before other.0) behind) (ascending-with_pair q ps other.1 rest))

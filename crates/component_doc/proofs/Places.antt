@@ -1,0 +1,166 @@
+-- Pairs that come before a component, and pairs that do not.
+use Rattle.std.proofs.Common.{◌≡◌, ◌∙◌, ℕ, ◌+◌, ◌<◌, ◌≤◌, List, [], ◌∷◌, ◌++◌, length, Bool, true, false, true≢false, ◌||◌, ◌==◌, Option, Some, None, slice_get, arith, refl, sym, ap, subst}
+use Rattle.std.specs.Prelude.{⊤}
+use Rattle.std.proofs.lemmas.Bool.{eqb-true}
+use Rattle.std.proofs.lemmas.Bool.Decides.{nat_tests}
+use Rattle.std.proofs.lemmas.Option.{slice_get_past}
+use Rattle.std.specs.List.{list_all}
+use Rattle.writer_meta.specs.Metadata.{Meta}
+use Rattle.writer_meta.proofs.Laws.{and_left, and_right}
+use Rattle.component_doc.specs.Selection.{Pair, Named, comes_before, is_pair, has_pair, with_pair, is_taker}
+use Rattle.component_doc.specs.Over.{meta_at, is_selectable, is_selectable_of, names_selectable, is_ascending}
+use Rattle.component_doc.proofs.Order.{none-of}
+
+abbrev pub pair : ℕ → ℕ → Pair
+pair w i = record { writer = w; component = i }
+
+same-pair : (w i : ℕ) (p : Pair) → is_pair w i p ≡ true → p ≡ pair w i
+same-pair w i p e =
+    let writer : p.writer ≡ w = eqb-true p.writer w (and_left _ _ e) in
+    let component : p.component ≡ i = eqb-true p.component i (and_right (p.writer == w) _ e) in
+    ap (λ (a : ℕ). pair a p.component) writer ∙ ap (pair w) component
+
+-- ## before
+
+-- the pair is before component i of writer w
+pub record IsPassed (w i : ℕ) (p : Pair) : Type 0 where
+  pub writer : p.writer ≤ w
+  pub component : p.writer ≡ w → p.component < i
+
+abbrev pub AllPassed : ℕ → ℕ → List Pair → Type 0
+AllPassed w i [] = ⊤
+AllPassed w i (p ∷ ps) = IsPassed w i p × AllPassed w i ps
+
+not-this : (w i : ℕ) (p : Pair) → IsPassed w i p → is_pair w i p ≡ false
+not-this w i p passed = grind (arith, nat_tests)
+
+not-before : (w i : ℕ) (p : Pair) → IsPassed w i p → comes_before (pair w i) p ≡ false
+not-before w i p passed = grind (arith, nat_tests)
+
+pub has-none : (w i : ℕ) (ps : List Pair) → AllPassed w i ps → has_pair ps w i ≡ false
+has-none w i [] all = refl
+has-none w i (p ∷ ps) all = rw (not-this w i p all.0) (has-none w i ps all.1)
+
+pub put-last : (w i : ℕ) (ps : List Pair) → AllPassed w i ps → with_pair (pair w i) ps ≡ ps ++ pair w i ∷ []
+put-last w i [] all = refl
+put-last w i (p ∷ ps) all = rw (not-before w i p all.0) (ap (λ qs. p ∷ qs) (put-last w i ps all.1))
+
+pub passed-on : (w i : ℕ) (ps : List Pair) → AllPassed w i ps → AllPassed w (i + 1) ps
+passed-on w i [] all = tt
+passed-on w i (p ∷ ps) all = (record { writer = all.0.writer; component = λ e. omega (arith, all.0.component e) }, passed-on w i ps all.1)
+
+pub passed-with : (w i : ℕ) (ps : List Pair) → AllPassed w i ps → AllPassed w (i + 1) (ps ++ pair w i ∷ [])
+passed-with w i [] all = (record { writer = omega arith; component = λ _. omega arith }, tt)
+passed-with w i (p ∷ ps) all = (record { writer = all.0.writer; component = λ e. omega (arith, all.0.component e) }, passed-with w i ps all.1)
+
+pub passed-writer : (w i : ℕ) (ps : List Pair) → AllPassed w i ps → AllPassed (w + 1) 0 ps
+passed-writer w i [] all = tt
+passed-writer w i (p ∷ ps) all = (record { writer = omega (arith, all.0.writer); component = λ e. absurd (omega (arith, all.0.writer)) }, passed-writer w i ps all.1)
+
+-- ## not before
+
+-- the pair is component i of writer w, or behind it
+pub record IsAhead (w i : ℕ) (p : Pair) : Type 0 where
+  pub writer : w ≤ p.writer
+  pub component : p.writer ≡ w → i ≤ p.component
+
+abbrev pub AllAhead : ℕ → ℕ → List Pair → Type 0
+AllAhead w i [] = ⊤
+AllAhead w i (p ∷ ps) = IsAhead w i p × AllAhead w i ps
+
+pub all-ahead : (ps : List Pair) → AllAhead 0 0 ps
+all-ahead [] = tt
+all-ahead (p ∷ ps) = (record { writer = omega arith; component = λ _. omega arith }, all-ahead ps)
+
+other-component : (w i : ℕ) (p : Pair) → p.writer ≡ w → is_pair w i p ≡ false → p.component ≡ i → ⊥
+other-component w i p writer other component = grind (arith, nat_tests)
+
+ahead-one : (w i : ℕ) (p : Pair) → IsAhead w i p → is_pair w i p ≡ false → IsAhead w (i + 1) p
+ahead-one w i p ahead other = record {
+  writer = ahead.writer;
+  component = λ e. let apart = other-component w i p e other in omega (arith, ahead.component e, apart);
+}
+
+pub ahead-next : (w i : ℕ) (ps : List Pair) → AllAhead w i ps → has_pair ps w i ≡ false → AllAhead w (i + 1) ps
+ahead-next w i [] all none = tt
+ahead-next w i (p ∷ ps) all none =
+    let others = none-of (is_pair w i p) (has_pair ps w i) none in
+    (ahead-one w i p all.0 others.0, ahead-next w i ps all.1 others.1)
+
+behind-one : (w i : ℕ) (p : Pair) → comes_before (pair w i) p ≡ true → IsAhead w (i + 1) p
+behind-one w i p before = record { writer = grind (arith, nat_tests); component = λ e. grind (arith, nat_tests) }
+
+behind-ahead : (w i : ℕ) (ps : List Pair) → list_all (comes_before (pair w i)) ps ≡ true → AllAhead w (i + 1) ps
+behind-ahead w i [] all = tt
+behind-ahead w i (p ∷ ps) all = (behind-one w i p (and_left _ _ all), behind-ahead w i ps (and_right (comes_before (pair w i) p) _ all))
+
+not-behind : (w i : ℕ) (r : Pair) → IsAhead w i r → comes_before r (pair w i) ≡ true → ⊥
+not-behind w i r ahead before = grind (arith, nat_tests)
+
+behind-if : (r p : Pair) (w i : ℕ) (b among : Bool) → is_pair w i p ≡ b → comes_before r p ≡ true → (b || among) ≡ true → (among ≡ true → comes_before r (pair w i) ≡ true) → comes_before r (pair w i) ≡ true
+behind-if r p w i true among is before has later = subst (λ q. comes_before r q ≡ true) (same-pair w i p is) before
+behind-if r p w i false among is before has later = later has
+
+member-behind : (r : Pair) (ps : List Pair) (w i : ℕ) → list_all (comes_before r) ps ≡ true → has_pair ps w i ≡ true → comes_before r (pair w i) ≡ true
+member-behind r [] w i all has = absurd (true≢false (sym has))
+member-behind r (p ∷ ps) w i all has = behind-if r p w i (is_pair w i p) (has_pair ps w i) refl (and_left _ _ all) has (member-behind r ps w i (and_right (comes_before r p) _ all))
+
+-- the first pair that is left is this one, if it is among them
+pub record IsFront (w i : ℕ) (rest : List Pair) : Type 0 where
+  pub more : List Pair
+  pub is : rest ≡ pair w i ∷ more
+  pub ahead : AllAhead w (i + 1) more
+  pub up : is_ascending more ≡ true
+
+front-if : (w i : ℕ) (r : Pair) (ps : List Pair) (b : Bool) → is_pair w i r ≡ b → IsAhead w i r → is_ascending (r ∷ ps) ≡ true → (b || has_pair ps w i) ≡ true → IsFront w i (r ∷ ps)
+front-if w i r ps true this ahead up has =
+    let same = same-pair w i r this in
+    let behind = subst (λ q. list_all (comes_before q) ps ≡ true) same (and_left _ _ up) in
+    record { more = ps; is = ap (λ q. q ∷ ps) same; ahead = behind-ahead w i ps behind; up = and_right (list_all (comes_before r) ps) _ up }
+front-if w i r ps false other ahead up has = absurd (not-behind w i r ahead (member-behind r ps w i (and_left _ _ up) has))
+
+pub front : (w i : ℕ) (rest : List Pair) → AllAhead w i rest → is_ascending rest ≡ true → has_pair rest w i ≡ true → IsFront w i rest
+front w i [] all up has = absurd (true≢false (sym has))
+front w i (r ∷ ps) all up has = front-if w i r ps (is_pair w i r) refl all.0 up has
+
+-- ## the next writer
+
+ahead-writer : (w i : ℕ) (p : Pair) → IsAhead w i p → (p.writer ≡ w → ⊥) → IsAhead (w + 1) 0 p
+ahead-writer w i p ahead other = record { writer = omega (arith, ahead.writer, other); component = λ _. omega arith }
+
+-- none is of a writer that does not take part
+pub absent-over : (w i : ℕ) (ps : List Pair) → AllAhead w i ps → is_taker (Named ps) w ≡ false → AllAhead (w + 1) 0 ps
+absent-over w i [] all none = tt
+absent-over w i (p ∷ ps) all none =
+    let others = none-of (p.writer == w) (is_taker (Named ps) w) none in
+    (ahead-writer w i p all.0 (λ e. grind (arith, nat_tests, others.0, e)), absent-over w i ps all.1 others.1)
+
+not-unknown : (ms : List (Option Meta)) (w : ℕ) (p : Pair) → slice_get ms w ≡ Some None → names_selectable ms p ≡ true → p.writer ≡ w → ⊥
+not-unknown ms w p at names e =
+    let none : names_selectable ms p ≡ false = ap (λ k. is_selectable_of p.component (meta_at (slice_get ms k))) e ∙ ap (λ o. is_selectable_of p.component (meta_at o)) at in
+    true≢false (sym names ∙ none)
+
+-- none is of a writer that is not known
+pub unknown-over : (ms : List (Option Meta)) (w i : ℕ) (ps : List Pair) → slice_get ms w ≡ Some None → list_all (names_selectable ms) ps ≡ true → AllAhead w i ps → AllAhead (w + 1) 0 ps
+unknown-over ms w i [] at names all = tt
+unknown-over ms w i (p ∷ ps) at names all =
+    (ahead-writer w i p all.0 (not-unknown ms w p at (and_left _ _ names)), unknown-over ms w i ps at (and_right (names_selectable ms p) _ names) all.1)
+
+not-past : (ms : List (Option Meta)) (w : ℕ) (m : Meta) (p : Pair) → slice_get ms w ≡ Some (Some m) → names_selectable ms p ≡ true → IsAhead w (length m.parts) p → p.writer ≡ w → ⊥
+not-past ms w m p at names ahead e =
+    let none : names_selectable ms p ≡ false =
+    ap (λ k. is_selectable_of p.component (meta_at (slice_get ms k))) e ∙ ap (λ o. is_selectable_of p.component (meta_at o)) at ∙ ap is_selectable (slice_get_past m.parts p.component (ahead.component e)) in
+    true≢false (sym names ∙ none)
+
+-- none is behind a writer's last component
+pub writer-over : (ms : List (Option Meta)) (w : ℕ) (m : Meta) (ps : List Pair) → slice_get ms w ≡ Some (Some m) → list_all (names_selectable ms) ps ≡ true → AllAhead w (length m.parts) ps → AllAhead (w + 1) 0 ps
+writer-over ms w m [] at names all = tt
+writer-over ms w m (p ∷ ps) at names all =
+    (ahead-writer w (length m.parts) p all.0 (not-past ms w m p at (and_left _ _ names) all.0), writer-over ms w m ps at (and_right (names_selectable ms p) _ names) all.1)
+
+-- none is behind the last writer
+pub all-over : (ms : List (Option Meta)) (w i : ℕ) (ps : List Pair) → length ms ≤ w → list_all (names_selectable ms) ps ≡ true → AllAhead w i ps → ps ≡ []
+all-over ms w i [] past names all = refl
+all-over ms w i (p ∷ ps) past names all =
+    let none : names_selectable ms p ≡ false = ap (λ o. is_selectable_of p.component (meta_at o)) (slice_get_past ms p.writer (omega (arith, all.0.writer))) in
+    absurd (true≢false (sym (and_left _ _ names) ∙ none))

@@ -1,0 +1,54 @@
+-- The values that are written of choices.
+use Rattle.std.proofs.Common.{◌≡◌, ℕ, zero, suc, ◌+◌, ◌<◌, ◌≤◌, List, [], ◌∷◌, ◌++◌, length, get_or, drop, map, Option, Some, None, option_map, slice_get, sym, ap, ◌∙◌}
+use Rattle.std.proofs.lemmas.List.{drop_more, drop_all}
+use Rattle.std.proofs.lemmas.Option.{none-some, same_Some}
+use Rattle.serde_json.specs.View.{view, items_view}
+use Rattle.serde_json.specs.declared.value.Value.{Value}
+use Rattle.writer_meta.specs.declared.component.Component.{Component}
+use Rattle.writer_meta.specs.declared.metadata.Metadata.{Metadata}
+use Rattle.writer_meta.specs.Metadata.{Meta, part_of, meta_of, full_name}
+use Rattle.writer_meta.proofs.Written.{with_items, with_items-one_more, with_items-none}
+use Rattle.component_doc.specs.declared.choice.Choice.{Choice}
+use Rattle.component_doc.specs.Held.{metas_of}
+use Rattle.component_doc.specs.Over.{meta_at}
+use Rattle.component_doc.specs.Document.{component_data, choice_data, with_item, choices_data}
+
+map-at : {A B : Type 0} (f : A → B) (xs : List A) (i : ℕ) (x : A) → slice_get xs i ≡ Some x → slice_get (map f xs) i ≡ Some (f x)
+map-at f [] i x e = absurd (none-some x e)
+map-at f (y ∷ xs) zero x e = ap (λ z. Some (f z)) (same_Some y x e)
+map-at f (y ∷ xs) (suc i) x e = map-at f xs i x e
+
+-- a choice whose writer is known and has the component
+pub choice-found : (ms : List (Option Metadata)) (c : Choice) (known : Option Metadata) (m : Metadata) (component : Component) → slice_get ms c.writer ≡ Some known → known ≡ Some m
+    → slice_get m.components c.component ≡ Some component
+    → Some (component_data m.class c.explicit (full_name (part_of component)) c.writer) ≡ choice_data c (meta_at (slice_get (metas_of ms) c.writer))
+choice-found ms c known m component at is found =
+    let here : slice_get (metas_of ms) c.writer ≡ Some (Some (meta_of m)) = map-at (option_map meta_of) ms c.writer known at ∙ ap (λ o. Some (option_map meta_of o)) is in
+    sym (ap (λ o. choice_data c (meta_at o)) here
+    ∙ ap (option_map (λ p. component_data m.class c.explicit (full_name p) c.writer)) (map-at part_of m.components c.component component found))
+
+-- ## in a row
+
+pub value-more : (ms : List (Option Meta)) (choices : List Choice) (values : List Value) (i : ℕ) (d : Choice) (v : Value) → i < length choices
+    → Some (view v) ≡ choice_data (get_or choices i d) (meta_at (slice_get ms (get_or choices i d).writer)) → with_items values (choices_data ms (drop i choices)) ≡ choices_data ms choices
+    → with_items (values ++ v ∷ []) (choices_data ms (drop (i + 1) choices)) ≡ choices_data ms choices
+value-more ms choices values i d v within seen so_far =
+    let here : drop i choices ≡ get_or choices i d ∷ drop (i + 1) choices = drop_more choices i d within in
+    with_items-one_more values v _
+    ∙ ap (λ o. with_items values (with_item o (choices_data ms (drop (i + 1) choices)))) seen
+    ∙ ap (λ cs. with_items values (choices_data ms cs)) (sym here)
+    ∙ so_far
+
+pub value-none : (ms : List (Option Meta)) (choices : List Choice) (values : List Value) (i : ℕ) (d : Choice) → i < length choices
+    → None ≡ choice_data (get_or choices i d) (meta_at (slice_get ms (get_or choices i d).writer)) → with_items values (choices_data ms (drop i choices)) ≡ choices_data ms choices
+    → with_items values (choices_data ms (drop (i + 1) choices)) ≡ choices_data ms choices
+value-none ms choices values i d within none so_far =
+    let here : drop i choices ≡ get_or choices i d ∷ drop (i + 1) choices = drop_more choices i d within in
+    ap (λ o. with_items values (with_item o (choices_data ms (drop (i + 1) choices)))) none
+    ∙ ap (λ cs. with_items values (choices_data ms cs)) (sym here)
+    ∙ so_far
+
+pub value-all : (ms : List (Option Meta)) (choices : List Choice) (values : List Value) (i : ℕ) → length choices ≤ i
+    → with_items values (choices_data ms (drop i choices)) ≡ choices_data ms choices → items_view values ≡ choices_data ms choices
+value-all ms choices values i past so_far =
+    sym (with_items-none values) ∙ ap (λ cs. with_items values (choices_data ms cs)) (sym (drop_all i choices past)) ∙ so_far

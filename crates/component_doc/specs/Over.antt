@@ -1,0 +1,46 @@
+-- What a selection and the metadata of its writers are to each other, and what each writer's metadata are. (This
+-- project's own.)
+use Rattle.std.specs.Prelude.{◌≡◌, ◌&&◌, ℕ, Bool, true, false, List, [], ◌∷◌, length, IsTrue, Option, Some, None, slice_get, ⊤}
+use Rattle.std.specs.List.{list_all}
+use Rattle.writer_meta.specs.Metadata.{Part, Meta}
+use Rattle.writer_meta.specs.Allowed.{IsAllowed}
+use Rattle.component_doc.specs.Selection.{Pair, Selected, Named, AllOf, comes_before, known_from}
+use Rattle.component_doc.specs.Held.{Held}
+
+-- the metadata that are known are as their format allows
+abbrev pub AreAllowed : List (Option Meta) → Type 0
+AreAllowed [] = ⊤
+AreAllowed (None ∷ ms) = AreAllowed ms
+AreAllowed (Some m ∷ ms) = IsAllowed m × AreAllowed ms
+
+abbrev pub meta_at : Option (Option Meta) → Option Meta
+meta_at None = None
+meta_at (Some m) = m
+
+abbrev pub is_selectable : Option Part → Bool
+is_selectable None = false
+is_selectable (Some part) = part.selectable
+
+abbrev pub is_selectable_of : ℕ → Option Meta → Bool
+is_selectable_of i None = false
+is_selectable_of i (Some m) = is_selectable (slice_get m.parts i)
+
+-- the pair names a selectable component
+abbrev pub names_selectable : List (Option Meta) → Pair → Bool
+names_selectable ms p = is_selectable_of p.component (meta_at (slice_get ms p.writer))
+
+-- each pair comes before those behind it
+abbrev pub is_ascending : List Pair → Bool
+is_ascending [] = true
+is_ascending (p ∷ ps) = list_all (comes_before p) ps && is_ascending ps
+
+-- each named pair is a selectable component, in order of writers and then of components; or the writers are those
+-- that are known
+abbrev pub IsSelectedOver : List (Option Meta) → Selected → Type 0
+IsSelectedOver ms (Named ps) = IsTrue (list_all (names_selectable ms) ps && is_ascending ps)
+IsSelectedOver ms (AllOf ws) = ws ≡ known_from 0 ms
+
+-- the selection is one over these metadata
+pub record IsOver (ms : List (Option Meta)) (h : Held) : Type 0 where
+  pub writers : h.writers ≡ length ms
+  pub selected : IsSelectedOver ms h.selected
