@@ -2,6 +2,7 @@ pub mod Added
 pub mod Allowed
 pub mod Alone
 pub mod Few
+pub mod Longer
 pub mod Named
 pub mod Numbers
 pub mod Order

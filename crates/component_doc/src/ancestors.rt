@@ -10,7 +10,9 @@ use std::alloc::Global;
 use vss_names::OutOfMemory;
 use writer_meta::Component;
 
-/// Whether the first component is an ancestor of the second.
+/// Whether the first component is an ancestor of the second. Where its full name is longer than the path, it is not,
+/// and no memory is taken.
+#[tactic(auto, using(crate::proofs::Longer::no_ancestor))]
 fn is_ancestor(
     alloc: Global,
     ancestor: &Component,
@@ -19,6 +21,10 @@ fn is_ancestor(
     ensures { IfOk result (λ answer. answer
         ≡ metadata.is_ancestor (part_of ancestor.now) (part_of component.now)) }
 {
+    let longest = component.path.len().saturating_sub(ancestor.path.len());
+    if longest < ancestor.name.len() {
+        return Ok(false);
+    }
     let mut name = ancestor.full_name(alloc)?;
     if component.path.bytes() == name.bytes() {
         return Ok(true);
@@ -44,7 +50,7 @@ pub(crate) fn has_named_ancestor(
             writer,
             component: i as u32,
         };
-        if pairs::has(pairs, pair) && is_ancestor(alloc, ancestor, component)? {
+        if is_ancestor(alloc, ancestor, component)? && pairs::has(pairs, pair) {
             return Ok(true);
         }
     }

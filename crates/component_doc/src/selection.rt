@@ -1,4 +1,5 @@
 ghost use Rattle.std.specs.Prelude.{◌≡◌, ◌<◌, ◌^◌, [], Ok, length, IfOk, IfErr, OnOk, OnErr, IsTrue};
+ghost use Rattle.std.specs.Str.{bytes_eq};
 ghost use Rattle.serde_json.specs.View.{view};
 ghost use Rattle.writer_meta.specs.Document.{value_of_text};
 ghost use Rattle.component_doc.specs.Held.{Held, metas_of, selected_of};
@@ -175,7 +176,7 @@ impl Selection {
         };
         let selection = reading::selection_of(alloc, metas, &value)?;
         let written = selection.to_json(alloc, metas, context)?;
-        if written.bytes() != text {
+        if !is_same(written.bytes(), text) {
             return Err(DocFault::NotDocument);
         }
         Ok((context, selection))
@@ -197,4 +198,11 @@ fn value_of(alloc: Global, text: &[u8]) -> Result<Value, DocFault>
             }
         }
     }
+}
+
+/// Whether two texts are equal, byte for byte.
+fn is_same(written: &[u8], text: &[u8]) -> bool
+    ensures { result ≡ bytes_eq written.now text.now }
+{
+    written == text
 }

@@ -1,4 +1,4 @@
-use Rattle.std.proofs.Common.{◌≡◌, ◌∙◌, ℕ, ◌<◌, ◌^◌, List, Bool, true, false, true≢false, not, length, ap, sym, refl, subst}
+use Rattle.std.proofs.Common.{◌≡◌, ◌∙◌, ℕ, ◌<◌, ◌^◌, List, Bool, true, false, true≢false, length, sym, subst, rules}
 use Rattle.component_doc.specs.Document.{IsDocumentOf}
 use Rattle.std.proofs.lemmas.Slice.Eq.{bytes_eq-Decides}
 use Rattle.std.specs.Str.{bytes_eq}
@@ -9,16 +9,12 @@ use Rattle.component_doc.proofs.Alone.{no-context, no-selection-handed_on, no-do
 use Rattle.component_doc.proofs.selection.Selection.from_json.Goals as goal
 
 -- texts that are not equal
-differ : (xs ys : List ℕ) (ne : Bool) → ne ≡ not (bytes_eq xs ys) → ne ≡ true → xs ≡ ys → ⊥
-differ xs ys ne is apart same = true≢false (sym apart ∙ is ∙ ap not ((bytes_eq-Decides xs ys).1 same))
-
-from-not : (b : Bool) → not b ≡ false → b ≡ true
-from-not true e = refl
-from-not false e = absurd (true≢false e)
+differ : (xs ys : List ℕ) (same : Bool) → same ≡ bytes_eq xs ys → same ≡ false → xs ≡ ys → ⊥
+differ xs ys same is apart e = true≢false (sym (is ∙ (bytes_eq-Decides xs ys).1 e) ∙ apart)
 
 -- texts that are
-equal : (xs ys : List ℕ) (ne : Bool) → ne ≡ not (bytes_eq xs ys) → ne ≡ false → xs ≡ ys
-equal xs ys ne is same = (bytes_eq-Decides xs ys).0 (from-not (bytes_eq xs ys) (sym is ∙ same))
+equal : (xs ys : List ℕ) (same : Bool) → same ≡ bytes_eq xs ys → same ≡ true → xs ≡ ys
+equal xs ys same is e = (bytes_eq-Decides xs ys).0 (sym is ∙ e)
 
 pub returns-in_default-clause-refused : goal.returns-in_default-clause-refused
 returns-in_default-clause-refused c =
@@ -35,14 +31,16 @@ returns-in_err-selection-clause-refused c =
     let few : length ms < 2 ^ 32 = simp length-map c.requires.writers in
     no-selection-handed_on _ ms c.args.text.now _ _ c.from_residual-in_err-selection.ensures.1 c.requires.allowed few c.in_ok-value.ensures.ok c.in_err-selection.ensures.refused
 
-pub returns-then-ne-clause-refused : goal.returns-then-ne-clause-refused
-returns-then-ne-clause-refused c =
+pub returns-then-not-is_same-clause-refused : goal.returns-then-not-is_same-clause-refused
+returns-then-not-is_same-clause-refused c =
     let ms = metas_of c.args.metas.now in
     let few : length ms < 2 ^ 32 = simp length-map c.requires.writers in
+    let apart : c.is_same.result ≡ false = search rules in
     no-document ms c.args.text.now _ _ _ _ c.requires.allowed few c.in_ok-value.ensures.ok (sym c.context_of.ensures ∙ c.in-Some.is) c.in_ok-selection.ensures.ok c.in_ok-written.ensures.written
-    (λ same. differ c.bytes.result.now c.args.text.now c.ne.result c.ne.ensures c.if-ne.true (c.bytes.ensures ∙ same))
+    (λ same. differ c.bytes.result.now c.args.text.now c.is_same.result c.is_same.ensures apart (c.bytes.ensures ∙ same))
 
 pub returns-clause-ok : goal.returns-clause-ok
 returns-clause-ok c =
-    let same : c.in_ok-written.written.bytes ≡ c.args.text.now = sym c.bytes.ensures ∙ equal c.bytes.result.now c.args.text.now c.ne.result c.ne.ensures c.if-ne.false in
+    let is : c.is_same.result ≡ true = search rules in
+    let same : c.in_ok-written.written.bytes ≡ c.args.text.now = sym c.bytes.ensures ∙ equal c.bytes.result.now c.args.text.now c.is_same.result c.is_same.ensures is in
     subst (λ (text : List ℕ). IsDocumentOf (metas_of c.args.metas.now) text c.in-Some.context c.in_ok-selection.selection) same c.in_ok-written.ensures.reads_back
