@@ -13,6 +13,7 @@ use Rattle.tick_limits.specs.Time.{answer_limit, hold_limit}
 use Rattle.coordinator.specs.declared.running_agenda.RunningAgenda.{RunningAgenda}
 use Rattle.coordinator.specs.RunningAgenda.{Fits, held_after, place_opened_at}
 use Rattle.coordinator.specs.KeptLimits.{NoneAfter, kept_limits, running_since, runs_since, since_at, sooner, spent_since, until_since}
+use Rattle.coordinator.specs.KeptCourse.{IsBy}
 use Rattle.coordinator.proofs.Fitting.{Keeps}
 
 -- ## the limits that run
@@ -124,3 +125,7 @@ none-after-later now later r l h = record {
   freeze_opened = grind (arith, l, h.freeze_opened);
   held = λ t e. grind (arith, l, h.held t e);
 }
+
+pub by-later : (now later : ℕ) (r : Option RunningAgenda) → now ≤ later → IsBy now r → IsBy later r
+by-later now later None l h = tt
+by-later now later (Some r) l h = none-after-later now later r l h

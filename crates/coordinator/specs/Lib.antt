@@ -1,2 +1,7 @@
+pub mod Beginning
+pub mod Coordinator
+pub mod Effects
+pub mod KeptCourse
 pub mod KeptLimits
+pub mod OpenOrders
 pub mod RunningAgenda

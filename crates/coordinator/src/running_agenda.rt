@@ -1,4 +1,4 @@
-ghost use Rattle.std.specs.Prelude.{◌≡◌, ◌&&◌, ◌<◌, ◌≤◌, ◌^◌, ◌∷◌, [], All, IfOk, Some, map, option_map, true};
+ghost use Rattle.std.specs.Prelude.{◌≡◌, ◌↔◌, ◌&&◌, ◌<◌, ◌≤◌, ◌^◌, ◌∷◌, [], All, IfOk, IsTrue, Some, map, option_map, true};
 ghost use Rattle.std.specs.Option.{ForSome};
 ghost use Rattle.writer_state.specs.declared.said.Said.TheVariants.{Lost, Ok as SaidOk};
 ghost use Rattle.writer_state.specs.WriterState.{is_ok};
@@ -99,6 +99,19 @@ impl RunningAgenda {
         let place = self.agenda.place();
         self.agenda.close_step();
         self.keep_times(place, now);
+    }
+
+    /// Whether no time that is kept is after the tick `now`.
+    pub fn is_by(&self, now: u64) -> bool
+        ensures { IsTrue result ↔ NoneAfter now self.now }
+    {
+        if self.opened > now || self.freeze_opened > now {
+            return false;
+        }
+        match self.held {
+            None => true,
+            Some(held) => held <= now,
+        }
     }
 
     /// The writers that stand frozen.

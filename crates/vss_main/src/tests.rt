@@ -8,11 +8,14 @@ use vss_names::{Numbers, OutOfMemory, Text};
 use vss_play::OpenGate;
 
 /// One set over one volume, and a write of a block after it.
-const ONE_SET: &[u8] = b"scenario 1\nvolume C 1 1\nlane a\nbegin 25\nstart\nadd C\nsnapshot\nawait\nwrite C 0 fill 7\nimage 1 C 0\nend\n";
+const ONE_SET: &[u8] =
+    b"scenario 1\nvolume C 1 1\nlane a\nbegin 25\nstart\nadd C\nsnapshot\nawait\nwrite C 0 fill 7\nimage 1 C 0\nend\n";
 
-const ONE_SET_REPORT: &[u8] = b"report 1\n1 lane a 4 ok\n2 lane a 5 set 1\n3 lane a 6 ok\n4 lane a 7 VSS_S_ASYNC_PENDING\n5 provider precommit\n6 provider flush C\n7 provider hold C\n8 provider cut\n9 provider commit C\n10 provider release C\n11 provider postcommit\n= set 1 complete\n12 lane a 8 VSS_S_ASYNC_FINISHED\n13 lane a 9 ok\n14 lane a 10 data 0000000000000000 4fe7b59af6de3b665b67788cc2f99892ab827efae3a467342b3bb4e3bc8e5bfe\n15 lane a 11 ok\nend moves 15 clock 0\nvolume C used 1 of 1 70986737435b5f89e119558ba7d29e5bb8768dd18c16beaaaa09298bf586b275\nimage 1 C 4fe7b59af6de3b665b67788cc2f99892ab827efae3a467342b3bb4e3bc8e5bfe\n";
+const ONE_SET_REPORT: &[u8] =
+    b"report 1\n1 lane a 4 ok\n2 lane a 5 set 1\n3 lane a 6 ok\n4 lane a 7 VSS_S_ASYNC_PENDING\n5 provider precommit\n6 provider flush C\n7 provider hold C\n8 provider cut\n9 provider commit C\n10 provider release C\n11 provider postcommit\n= set 1 complete\n12 lane a 8 VSS_S_ASYNC_FINISHED\n13 lane a 9 ok\n14 lane a 10 data 0000000000000000 4fe7b59af6de3b665b67788cc2f99892ab827efae3a467342b3bb4e3bc8e5bfe\n15 lane a 11 ok\nend moves 15 clock 0\nvolume C used 1 of 1 70986737435b5f89e119558ba7d29e5bb8768dd18c16beaaaa09298bf586b275\nimage 1 C 4fe7b59af6de3b665b67788cc2f99892ab827efae3a467342b3bb4e3bc8e5bfe\n";
 
-const FAILED_FLUSH_REPORT: &[u8] = b"report 1\n1 lane a 4 ok\n2 lane a 5 set 1\n3 lane a 6 ok\n4 lane a 7 VSS_S_ASYNC_PENDING\n5 provider precommit\n6 provider flush C fault\n= set 1 failed VSS_E_UNEXPECTED_PROVIDER_ERROR\n7 lane a 8 VSS_E_UNEXPECTED_PROVIDER_ERROR\n8 lane a 9 ok\n9 lane a 10 VSS_E_OBJECT_NOT_FOUND\n10 lane a 11 ok\nend moves 10 clock 0\nvolume C used 0 of 1 70986737435b5f89e119558ba7d29e5bb8768dd18c16beaaaa09298bf586b275\n";
+const FAILED_FLUSH_REPORT: &[u8] =
+    b"report 1\n1 lane a 4 ok\n2 lane a 5 set 1\n3 lane a 6 ok\n4 lane a 7 VSS_S_ASYNC_PENDING\n5 provider precommit\n6 provider flush C fault\n= set 1 failed VSS_E_UNEXPECTED_PROVIDER_ERROR\n7 lane a 8 VSS_E_UNEXPECTED_PROVIDER_ERROR\n8 lane a 9 ok\n9 lane a 10 VSS_E_OBJECT_NOT_FOUND\n10 lane a 11 ok\nend moves 10 clock 0\nvolume C used 0 of 1 70986737435b5f89e119558ba7d29e5bb8768dd18c16beaaaa09298bf586b275\n";
 
 /// A maker whose device of volume C fails these calls.
 fn maker_of(
@@ -52,7 +55,15 @@ fn an_image_shows_the_old_block_whatever_device_it_is(rt: HostRuntime) -> Result
         let mut source = MemSource::new(ONE_SET.to_vec(alloc)?, 7, Numbers::new(alloc));
         let mut sink = MemSink::with_room(alloc, 4096, Numbers::new(alloc))?;
         let mut maker = maker_of(alloc, false, &reads, &flushes)?;
-        let status = run(&rt, alloc, &words, &mut source, &mut sink, &mut maker, &OpenGate);
+        let status = run(
+            &rt,
+            alloc,
+            &words,
+            &mut source,
+            &mut sink,
+            &mut maker,
+            &OpenGate,
+        );
         assert_eq!(rt; status, Status::Done);
         assert_eq!(rt; sink.taken(), report);
         assert_eq!(rt; maker.returned().len(), 1);
@@ -67,13 +78,27 @@ fn each_failing_edge_has_its_status(rt: HostRuntime) -> Result<(), Fail> {
     for (refused, failing_read, room, want, taken) in [
         (true, 99u32, 4096usize, Status::DeviceFault, b"".as_slice()),
         (false, 1, 4096, Status::ReadFault, b"".as_slice()),
-        (false, 99, 20, Status::WriteFault, b"report 1\n1 lane a 4 ".as_slice()),
+        (
+            false,
+            99,
+            20,
+            Status::WriteFault,
+            b"report 1\n1 lane a 4 ".as_slice(),
+        ),
     ] {
         let failing = Numbers::copy(alloc, &[failing_read])?;
         let mut source = MemSource::new(ONE_SET.to_vec(alloc)?, 64, failing);
         let mut sink = MemSink::with_room(alloc, room, Numbers::new(alloc))?;
         let mut maker = maker_of(alloc, refused, &[], &[])?;
-        let status = run(&rt, alloc, &words, &mut source, &mut sink, &mut maker, &OpenGate);
+        let status = run(
+            &rt,
+            alloc,
+            &words,
+            &mut source,
+            &mut sink,
+            &mut maker,
+            &OpenGate,
+        );
         assert_eq!(rt; status, want);
         assert_eq!(rt; sink.taken(), taken);
     }

@@ -63,9 +63,9 @@ stand_quiet blocks_told size count _ _ _ us quiet all = absurd all
 
 -- ## changes of the image
 
-devices_changed : {D : Type 0} → (blocks_told : D → Option (List (List ℕ))) (size : D → ℕ) (change : ImageChange) (vs us : List (VolumeValue D)) → FirstChanged blocks_told size change vs us → map (λ (y : VolumeValue D). y.device) us ≡ map (λ (y : VolumeValue D). y.device) vs
-devices_changed {D = D} blocks_told size change [] us changed = ap (λ ws. map (λ (y : VolumeValue D). y.device) ws) changed
-devices_changed {D = D} blocks_told size change (x ∷ vs) us changed = ap (λ ws. map (λ (y : VolumeValue D). y.device) ws) changed.2 ∙ ap (λ (d : D). d ∷ map (λ (y : VolumeValue D). y.device) vs) changed.1.device
+devices_changed : {D : Type 0} → (blocks_told : D → Option (List (List ℕ))) (size : D → ℕ) (becomes : ImageChange) (vs us : List (VolumeValue D)) → FirstChanged blocks_told size becomes vs us → map (λ (y : VolumeValue D). y.device) us ≡ map (λ (y : VolumeValue D). y.device) vs
+devices_changed {D = D} blocks_told size becomes [] us changed = ap (λ ws. map (λ (y : VolumeValue D). y.device) ws) changed
+devices_changed {D = D} blocks_told size becomes (x ∷ vs) us changed = ap (λ ws. map (λ (y : VolumeValue D). y.device) ws) changed.2 ∙ ap (λ (d : D). d ∷ map (λ (y : VolumeValue D). y.device) vs) changed.1.device
 
 -- where an image is cut, none stands
 AllFree : List History → Type 0
@@ -78,30 +78,30 @@ IsFree NoChange hs = Unit {0}
 IsFree (Cut n) hs = AllFree hs
 IsFree (Drop n) hs = Unit {0}
 
-changed-none : (change : ImageChange) → images_changed change [] ≡ []
+changed-none : (becomes : ImageChange) → images_changed becomes [] ≡ []
 changed-none NoChange = refl
 changed-none (Cut n) = refl
 changed-none (Drop n) = refl
 
-changed-one : (change : ImageChange) (h : History) → IsFree change (h ∷ []) → images_changed change (h ∷ []) ≡ history_changed change h ∷ []
+changed-one : (becomes : ImageChange) (h : History) → IsFree becomes (h ∷ []) → images_changed becomes (h ∷ []) ≡ history_changed becomes h ∷ []
 unfolding AllFree IsFree
 changed-one NoChange h free = refl
 changed-one (Cut n) h free = ap (λ (is : List Image). record { writes = h.writes; images = is ++ record { set = n; point = length h.writes } ∷ [] } ∷ []) free.0
 changed-one (Drop n) h free = refl
 
-stand_changed : {D : Type 0} → (blocks_told : D → Option (List (List ℕ))) (size : D → ℕ) (change : ImageChange) (rows : List VolumeRow) (hs : List History) (vs us : List (VolumeValue D)) → length rows ≤ 1 → map size (map (λ (y : VolumeValue D). y.device) vs) ≡ map (λ (r : VolumeRow). r.blocks) rows
-    → FirstChanged blocks_told size change vs us → IsFree change hs → AllStand blocks_told rows hs vs → AllStand blocks_told rows (images_changed change hs) us
-stand_changed {D = D} blocks_told size change [] [] [] us one of changed free all = subst (λ (ks : List History). AllStand blocks_told [] ks us) (sym (changed-none change)) (subst (λ (ws : List (VolumeValue D)). AllStand blocks_told [] [] ws) (sym changed) tt)
-stand_changed {D = D} blocks_told size change (r ∷ []) (h ∷ []) (x ∷ []) us one of changed free all =
+stand_changed : {D : Type 0} → (blocks_told : D → Option (List (List ℕ))) (size : D → ℕ) (becomes : ImageChange) (rows : List VolumeRow) (hs : List History) (vs us : List (VolumeValue D)) → length rows ≤ 1 → map size (map (λ (y : VolumeValue D). y.device) vs) ≡ map (λ (r : VolumeRow). r.blocks) rows
+    → FirstChanged blocks_told size becomes vs us → IsFree becomes hs → AllStand blocks_told rows hs vs → AllStand blocks_told rows (images_changed becomes hs) us
+stand_changed {D = D} blocks_told size becomes [] [] [] us one of changed free all = subst (λ (ks : List History). AllStand blocks_told [] ks us) (sym (changed-none becomes)) (subst (λ (ws : List (VolumeValue D)). AllStand blocks_told [] [] ws) (sym changed) tt)
+stand_changed {D = D} blocks_told size becomes (r ∷ []) (h ∷ []) (x ∷ []) us one of changed free all =
     let sized : size x.device ≡ r.blocks = cc in
     let y = changed.0 in
     let is = changed.1 in
     let held = is.stands h (subst (λ (n : ℕ). Holds (blocks_told x.device) n x.sets x.places h) (sym sized) all.0) in
-    subst (λ (ks : List History). AllStand blocks_told (r ∷ []) ks us) (sym (changed-one change h free)) (subst (λ (ws : List (VolumeValue D)). AllStand blocks_told (r ∷ []) (history_changed change h ∷ []) ws) (sym changed.2)
-    (subst (λ (n : ℕ). Holds (blocks_told y.device) n y.sets y.places (history_changed change h)) (ap size is.device ∙ sized) held, tt))
-stand_changed {D = D} blocks_told size change (r ∷ q ∷ rows) hs vs us one of changed free all = absurd (omega arith)
-stand_changed {D = D} blocks_told size change [] hs vs us one of changed free all = let long = stand_long blocks_told [] hs vs all in absurd (omega (arith, long.0, long.1))
-stand_changed {D = D} blocks_told size change (r ∷ []) hs vs us one of changed free all = let long = stand_long blocks_told (r ∷ []) hs vs all in absurd (omega (arith, long.0, long.1))
+    subst (λ (ks : List History). AllStand blocks_told (r ∷ []) ks us) (sym (changed-one becomes h free)) (subst (λ (ws : List (VolumeValue D)). AllStand blocks_told (r ∷ []) (history_changed becomes h ∷ []) ws) (sym changed.2)
+    (subst (λ (n : ℕ). Holds (blocks_told y.device) n y.sets y.places (history_changed becomes h)) (ap size is.device ∙ sized) held, tt))
+stand_changed {D = D} blocks_told size becomes (r ∷ q ∷ rows) hs vs us one of changed free all = absurd (omega arith)
+stand_changed {D = D} blocks_told size becomes [] hs vs us one of changed free all = let long = stand_long blocks_told [] hs vs all in absurd (omega (arith, long.0, long.1))
+stand_changed {D = D} blocks_told size becomes (r ∷ []) hs vs us one of changed free all = let long = stand_long blocks_told (r ∷ []) hs vs all in absurd (omega (arith, long.0, long.1))
 
 -- ## no second image
 
@@ -135,7 +135,7 @@ free_cut st h n is numbered live times few =
     let timed : AreInTime (length (history_in (slice_get (cut n h ∷ []) 0)).writes) (history_in (slice_get (cut n h ∷ []) 0)).images = subst (λ (hs : List History). AreInTime (length (history_in (slice_get hs 0)).writes) (history_in (slice_get hs 0)).images) is times in
     only-image st.sets h.images (record { set = n; point = length h.writes }) (length h.writes) numbered few lives.0 timed
 
-is_free : {D : Type 0} → (blocks_told : D → Option (List (List ℕ))) (change : ImageChange) (st : State) (rows : List VolumeRow) (hs : List History) (vs : List (VolumeValue D)) → length rows ≤ 1 → AllStand blocks_told rows hs vs → st.volumes ≡ images_changed change hs → NumberedFrom 1 st.sets → AllLive st.sets st.volumes → AreInTime (length (history_of st 0).writes) (history_of st 0).images → length st.sets ≤ 1 → IsFree change hs
+is_free : {D : Type 0} → (blocks_told : D → Option (List (List ℕ))) (becomes : ImageChange) (st : State) (rows : List VolumeRow) (hs : List History) (vs : List (VolumeValue D)) → length rows ≤ 1 → AllStand blocks_told rows hs vs → st.volumes ≡ images_changed becomes hs → NumberedFrom 1 st.sets → AllLive st.sets st.volumes → AreInTime (length (history_of st 0).writes) (history_of st 0).images → length st.sets ≤ 1 → IsFree becomes hs
 unfolding AllFree IsFree
 is_free {D = D} blocks_told NoChange st rows hs vs one all is numbered live times few = tt
 is_free {D = D} blocks_told (Drop n) st rows hs vs one all is numbered live times few = tt
@@ -160,15 +160,15 @@ has_room {D = D} blocks_told _ _ _ v all = absurd all
 
 -- ## moves
 
-after_change : {D : Type 0} → (blocks_told : D → Option (List (List ℕ))) (size count : D → ℕ) (s : Plan) (acts : List Act) (act : Act) (vs us ts : List (VolumeValue D)) (x y : SessionsValue) (change : ImageChange) → IsBuilt s → IsOf size (world_of vs x) s → AllQuiet blocks_told size count vs us → FirstChanged blocks_told size change us ts
-    → Keeps y (after s (state s acts) act) → (after s (state s acts) act).volumes ≡ images_changed change (state s acts).volumes → Stands blocks_told (world_of vs x) s acts → AllStand blocks_told s.volumes (after s (state s acts) act).volumes ts
-after_change {D = D} blocks_told size count s acts act vs us ts x y change built of quiet changed keeps is stands =
+after_change : {D : Type 0} → (blocks_told : D → Option (List (List ℕ))) (size count : D → ℕ) (s : Plan) (acts : List Act) (act : Act) (vs us ts : List (VolumeValue D)) (x y : SessionsValue) (becomes : ImageChange) → IsBuilt s → IsOf size (world_of vs x) s → AllQuiet blocks_told size count vs us → FirstChanged blocks_told size becomes us ts
+    → Keeps y (after s (state s acts) act) → (after s (state s acts) act).volumes ≡ images_changed becomes (state s acts).volumes → Stands blocks_told (world_of vs x) s acts → AllStand blocks_told s.volumes (after s (state s acts) act).volumes ts
+after_change {D = D} blocks_told size count s acts act vs us ts x y becomes built of quiet changed keeps is stands =
     let more = state-append s acts act in
     let law = orderly s (acts ++ act ∷ []) in
     let times = images_in_time s (acts ++ act ∷ []) 0 in
     let all = stand_quiet blocks_told size count s.volumes (state s acts).volumes vs us quiet stands.images in
-    let free = is_free blocks_told change (state s (acts ++ act ∷ [])) s.volumes (state s acts).volumes vs built.one_volume stands.images (ap (λ (st : State). st.volumes) more ∙ is) law.numbered law.live times (few_sets y (state s (acts ++ act ∷ [])) (subst (λ (st : State). Keeps y st) (sym more) keeps)) in
-    subst (λ (hs : List History). AllStand blocks_told s.volumes hs ts) (sym is) (stand_changed blocks_told size change s.volumes (state s acts).volumes us ts built.one_volume (sizes_quiet blocks_told size count vs us quiet ∙ of) changed free all)
+    let free = is_free blocks_told becomes (state s (acts ++ act ∷ [])) s.volumes (state s acts).volumes vs built.one_volume stands.images (ap (λ (st : State). st.volumes) more ∙ is) law.numbered law.live times (few_sets y (state s (acts ++ act ∷ [])) (subst (λ (st : State). Keeps y st) (sym more) keeps)) in
+    subst (λ (hs : List History). AllStand blocks_told s.volumes hs ts) (sym is) (stand_changed blocks_told size becomes s.volumes (state s acts).volumes us ts built.one_volume (sizes_quiet blocks_told size count vs us quiet ∙ of) changed free all)
 
 pub session_moves : {D : Type 0} → (blocks_told : D → Option (List (List ℕ))) (size count : D → ℕ) (s : Plan) (vs us ts : List (VolumeValue D)) (x y : SessionsValue) (event : Event) (m : SessionMove) → IsBuilt s → IsOf size (world_of vs x) s → AllQuiet blocks_told size count vs us → FirstChanged blocks_told size m.change us ts → IsMove x y event m
     → (is_fault (mark_of m.outcome.told) ≡ true → RoseAt (volume_of event m.outcome.told) (map count (map (λ (z : VolumeValue D). z.device) vs)) (map count (map (λ (z : VolumeValue D). z.device) us)))
@@ -202,9 +202,9 @@ volume_same _ = refl
 
 -- ## calls on the volumes
 
-pub changed_first : {D : Type 0} → (blocks_told : D → Option (List (List ℕ))) (size : D → ℕ) (change : ImageChange) (vs : List (VolumeValue D)) (x y : VolumeValue D) → slice_get vs 0 ≡ Some x → IsChanged blocks_told size change x y → FirstChanged blocks_told size change vs (slice_set vs 0 y)
-changed_first {D = D} blocks_told size change [] x y at is = cc
-changed_first {D = D} blocks_told size change (z ∷ vs) x y at is = let e : z ≡ x = cc in (y, subst (λ (w : VolumeValue D). IsChanged blocks_told size change w y) (sym e) is, refl)
+pub changed_first : {D : Type 0} → (blocks_told : D → Option (List (List ℕ))) (size : D → ℕ) (becomes : ImageChange) (vs : List (VolumeValue D)) (x y : VolumeValue D) → slice_get vs 0 ≡ Some x → IsChanged blocks_told size becomes x y → FirstChanged blocks_told size becomes vs (slice_set vs 0 y)
+changed_first {D = D} blocks_told size becomes [] x y at is = cc
+changed_first {D = D} blocks_told size becomes (z ∷ vs) x y at is = let e : z ≡ x = cc in (y, subst (λ (w : VolumeValue D). IsChanged blocks_told size becomes w y) (sym e) is, refl)
 
 pub flushed_first : {D : Type 0} → (blocks_told : D → Option (List (List ℕ))) (size count : D → ℕ) (vs : List (VolumeValue D)) (x y : VolumeValue D) (ok : Bool) → slice_get vs 0 ≡ Some x → IsKept blocks_told size count x.device y.device → StandsAsBefore blocks_told x y → (ok ≡ false → Rose (count x.device) (count y.device)) → IsFlushed blocks_told size count vs (slice_set vs 0 y) ok
 flushed_first {D = D} blocks_told size count [] x y ok at kept stands rose = cc

@@ -64,14 +64,14 @@ history_changed (Cut n) h = with_image n h
 history_changed (Drop n) h = dropped n h
 
 -- the image of one volume changed
-pub record IsChanged {D : Type 0} (blocks_told : D → Option (List (List ℕ))) (size : D → ℕ) (change : ImageChange) (old new : VolumeValue D) : Type 0 where
+pub record IsChanged {D : Type 0} (blocks_told : D → Option (List (List ℕ))) (size : D → ℕ) (becomes : ImageChange) (old new : VolumeValue D) : Type 0 where
   pub device : new.device ≡ old.device
-  pub stands : (h : History) → StandsFor blocks_told size old h → StandsFor blocks_told size new (history_changed change h)
+  pub stands : (h : History) → StandsFor blocks_told size old h → StandsFor blocks_told size new (history_changed becomes h)
 
 -- that of the first volume changed
 abbrev pub FirstChanged : {D : Type 0} → (D → Option (List (List ℕ))) → (D → ℕ) → ImageChange → List (VolumeValue D) → List (VolumeValue D) → Type 0
-FirstChanged {D = D} blocks_told size change [] us = us ≡ []
-FirstChanged {D = D} blocks_told size change (x ∷ xs) us = (y : VolumeValue D) × IsChanged blocks_told size change x y × (us ≡ y ∷ xs)
+FirstChanged {D = D} blocks_told size becomes [] us = us ≡ []
+FirstChanged {D = D} blocks_told size becomes (x ∷ xs) us = (y : VolumeValue D) × IsChanged blocks_told size becomes x y × (us ≡ y ∷ xs)
 
 -- the image of a set stands on a volume
 abbrev pub has_set_in : List ℕ → ℕ → Bool

@@ -1,0 +1,163 @@
+-- The members whom an agenda asks, in the order of their writers.
+use Rattle.std.proofs.Common.{◌≡◌, ◌≢◌, ℕ, zero, suc, ◌+◌, ◌<◌, ◌≤◌, List, [], ◌∷◌, ◌++◌, length, get_or, refl, Bool, true, false, cond, ap, sym, ◌∙◌, subst, arith, filter, map, drop, Some, append-nil, append_assoc}
+use Rattle.std.specs.Prelude.{◌==◌, ◌&&◌, ◌||◌, not, nat_lt, slice_get, All}
+use Rattle.std.specs.List.{flat_map, list_any, range_with_len}
+use Rattle.std.proofs.lemmas.Bool.Decides.{nat_tests}
+use Rattle.std.proofs.lemmas.List.Concat.{flat_map-cons}
+use Rattle.std.proofs.lemmas.List.Elements.{All-append, All-nil, filter-append}
+use Rattle.writer_state.specs.declared.writer_row.WriterRow.{WriterRow}
+use Rattle.set_agenda.specs.declared.member.Member.{Member}
+use Rattle.set_agenda.specs.Agenda.{is_among}
+use Rattle.set_agenda.specs.Begin.{are_distinct, by_writer}
+use Rattle.set_agenda.specs.Course.{is_member, member_if, members_from}
+use Rattle.set_agenda.specs.WriterSet.{writers}
+use Rattle.set_agenda.proofs.GroupsLeft.{any-map}
+use Rattle.set_agenda.proofs.WriterSets.{among-writers, or-false, writers-agree, writers-none}
+use Rattle.coordinator.proofs.Calls.{drop-at}
+use Rattle.coordinator.proofs.Members.{member-above, member-below, member-here}
+
+-- ## each writer is one member, and has a number below 64
+
+abbrev number_of : Member → ℕ
+number_of m = m.writer
+
+distinct-step : (b : Bool) (i : ℕ) (r : WriterRow) (ms : List Member) → is_among i (map number_of ms) ≡ false → are_distinct (map number_of ms) ≡ true → are_distinct (map number_of (member_if b i r ++ ms)) ≡ true
+distinct-step true i r ms h d = rw h d
+distinct-step false i r ms h d = d
+
+pub members-distinct : (t : ℕ → Bool) (i : ℕ) (rs : List WriterRow) → are_distinct (map number_of (members_from t i rs)) ≡ true
+members-distinct t i [] = refl
+members-distinct t i (r ∷ rs) = distinct-step (t i) i r (members_from t (i + 1) rs)
+    (any-map (λ x. x == i) number_of (members_from t (i + 1) rs) ∙ member-below t (i + 1) rs i (omega arith)) (members-distinct t (i + 1) rs)
+
+abbrev IsSmall : Member → Type 0
+IsSmall m = m.writer < 64
+
+small-one : (m : Member) → IsSmall m → (k : ℕ) (d : Member) → k < 1 → IsSmall (get_or (m ∷ []) k d)
+small-one m h zero d l = h
+small-one m h (suc k) d l = absurd (omega arith)
+
+small-step : (b : Bool) (i : ℕ) (r : WriterRow) (ms : List Member) → i < 64 → All IsSmall ms → All IsSmall (member_if b i r ++ ms)
+small-step true i r ms h a = All-append IsSmall (member_if true i r) ms (small-one (record { writer = i; level = r.level }) h) a
+small-step false i r ms h a = a
+
+pub members-small : (t : ℕ → Bool) (i : ℕ) (rs : List WriterRow) → i + length rs ≤ 64 → All IsSmall (members_from t i rs)
+members-small t i [] h = All-nil IsSmall
+members-small t i (r ∷ rs) h = small-step (t i) i r (members_from t (i + 1) rs) (omega arith) (members-small t (i + 1) rs (omega arith))
+
+-- ## they are in the order of their numbers
+
+abbrev of_writer : List Member → ℕ → List Member
+of_writer ms w = filter (λ (m : Member). m.writer == w) ms
+
+flat-none : (f : ℕ → List Member) (xs : List ℕ) → ((x : ℕ) → f x ≡ []) → flat_map f xs ≡ []
+flat-none f [] h = refl
+flat-none f (x ∷ xs) h = flat_map-cons f x xs ∙ ap (λ ms. ms ++ flat_map f xs) (h x) ∙ flat-none f xs h
+
+flat-agree : (f g : ℕ → List Member) (a n : ℕ) → ((i : ℕ) → a ≤ i → f i ≡ g i) → flat_map f (range_with_len a n) ≡ flat_map g (range_with_len a n)
+flat-agree f g a zero h = refl
+flat-agree f g a (suc n) h =
+    flat_map-cons f a (range_with_len (a + 1) n) ∙ ap (λ ms. ms ++ flat_map f (range_with_len (a + 1) n)) (h a (omega arith))
+    ∙ ap (λ ms. g a ++ ms) (flat-agree f g (a + 1) n (λ i l. h i (omega arith))) ∙ sym (flat_map-cons g a (range_with_len (a + 1) n))
+
+member_if-of : (b : Bool) (i : ℕ) (r : WriterRow) (w : ℕ) (c : Bool) → (i == w) ≡ c → of_writer (member_if b i r) w ≡ cond c (member_if b i r) []
+member_if-of true i r w true e = rw e refl
+member_if-of true i r w false e = rw e refl
+member_if-of false i r w true e = refl
+member_if-of false i r w false e = refl
+
+of-below : (t : ℕ → Bool) (i : ℕ) (rs : List WriterRow) (w : ℕ) → w < i → of_writer (members_from t i rs) w ≡ []
+of-below t i [] w h = refl
+of-below t i (r ∷ rs) w h =
+    let e : (i == w) ≡ false = grind (arith, nat_tests) in
+    filter-append (λ (m : Member). m.writer == w) (member_if (t i) i r) (members_from t (i + 1) rs)
+    ∙ ap (λ ms. ms ++ of_writer (members_from t (i + 1) rs) w) (member_if-of (t i) i r w false e) ∙ of-below t (i + 1) rs w (omega arith)
+
+of-here : (t : ℕ → Bool) (i : ℕ) (r : WriterRow) (rs : List WriterRow) → of_writer (members_from t i (r ∷ rs)) i ≡ member_if (t i) i r
+of-here t i r rs =
+    let e : (i == i) ≡ true = grind (arith, nat_tests) in
+    filter-append (λ (m : Member). m.writer == i) (member_if (t i) i r) (members_from t (i + 1) rs)
+    ∙ ap (λ ms. ms ++ of_writer (members_from t (i + 1) rs) i) (member_if-of (t i) i r i true e)
+    ∙ ap (λ ms. member_if (t i) i r ++ ms) (of-below t (i + 1) rs i (omega arith)) ∙ append-nil (member_if (t i) i r)
+
+of-later : (t : ℕ → Bool) (i : ℕ) (r : WriterRow) (rs : List WriterRow) (w : ℕ) → i + 1 ≤ w → of_writer (members_from t i (r ∷ rs)) w ≡ of_writer (members_from t (i + 1) rs) w
+of-later t i r rs w h =
+    let e : (i == w) ≡ false = grind (arith, nat_tests) in
+    filter-append (λ (m : Member). m.writer == w) (member_if (t i) i r) (members_from t (i + 1) rs)
+    ∙ ap (λ ms. ms ++ of_writer (members_from t (i + 1) rs) w) (member_if-of (t i) i r w false e)
+
+in-order : (t : ℕ → Bool) (i n : ℕ) (rs : List WriterRow) → length rs ≤ n → flat_map (of_writer (members_from t i rs)) (range_with_len i n) ≡ members_from t i rs
+in-order t i n [] h = flat-none (of_writer []) (range_with_len i n) (λ x. refl)
+in-order t i zero (r ∷ rs) h = absurd (omega arith)
+in-order t i (suc n) (r ∷ rs) h =
+    flat_map-cons (of_writer (members_from t i (r ∷ rs))) i (range_with_len (i + 1) n)
+    ∙ ap (λ ms. ms ++ flat_map (of_writer (members_from t i (r ∷ rs))) (range_with_len (i + 1) n)) (of-here t i r rs)
+    ∙ ap (λ ms. member_if (t i) i r ++ ms) (flat-agree (of_writer (members_from t i (r ∷ rs))) (of_writer (members_from t (i + 1) rs)) (i + 1) n (λ w l. of-later t i r rs w l) ∙ in-order t (i + 1) n rs (omega arith))
+
+pub members-ordered : (t : ℕ → Bool) (rs : List WriterRow) → length rs ≤ 64 → by_writer (members_from t 0 rs) ≡ members_from t 0 rs
+unfolding by_writer
+members-ordered t rs h = in-order t 0 64 rs h
+
+-- ## who passes a test more
+
+filter-if : (b c : Bool) (i : ℕ) (r : WriterRow) (g : ℕ → Bool) → g i ≡ c → filter (λ (m : Member). g m.writer) (member_if b i r) ≡ member_if (b && c) i r
+filter-if true true i r g e = rw e refl
+filter-if true false i r g e = rw e refl
+filter-if false c i r g e = refl
+
+pub filter-members : (t g : ℕ → Bool) (i : ℕ) (rs : List WriterRow) → filter (λ (m : Member). g m.writer) (members_from t i rs) ≡ members_from (λ w. t w && g w) i rs
+filter-members t g i [] = refl
+filter-members t g i (r ∷ rs) =
+    filter-append (λ (m : Member). g m.writer) (member_if (t i) i r) (members_from t (i + 1) rs)
+    ∙ ap (λ ms. ms ++ filter (λ (m : Member). g m.writer) (members_from t (i + 1) rs)) (filter-if (t i) (g i) i r g refl)
+    ∙ ap (λ ms. member_if (t i && g i) i r ++ ms) (filter-members t g (i + 1) rs)
+
+-- ## a set of writers that is made one after another
+
+below-step : (p : ℕ → Bool) (n w : ℕ) (c : Bool) → (n == w) ≡ c → ((nat_lt w n && p w) || (p n && c)) ≡ (nat_lt w (n + 1) && p w)
+below-step p n w true e =
+    let s : n ≡ w = grind (arith, nat_tests, e) in
+    let a : nat_lt w n ≡ false = grind (arith, nat_tests, s) in
+    let b : nat_lt w (n + 1) ≡ true = grind (arith, nat_tests, s) in
+    rw (a, b) (and-true (p n) ∙ ap p s)
+  where
+    and-true : (b : Bool) → (b && true) ≡ b
+    and-true true = refl
+    and-true false = refl
+below-step p n w false e =
+    let a : nat_lt w (n + 1) ≡ nat_lt w n = grind (arith, nat_tests, e) in
+    rw a (none (nat_lt w n && p w) (p n))
+  where
+    none : (b c : Bool) → (b || (c && false)) ≡ b
+    none true c = refl
+    none false true = refl
+    none false false = refl
+
+pub below-none : (p : ℕ → Bool) → [] ≡ writers (λ w. nat_lt w 0 && p w)
+below-none p = sym (writers-agree (λ w. nat_lt w 0 && p w) (λ w. false) (λ w l. let e : nat_lt w 0 ≡ false = grind (arith, nat_tests) in ap (λ b. b && p w) e) ∙ writers-none)
+
+pub below-next : (p : ℕ → Bool) (n : ℕ) → writers (λ w. (nat_lt w n && p w) || (p n && (n == w))) ≡ writers (λ w. nat_lt w (n + 1) && p w)
+below-next p n = writers-agree (λ w. (nat_lt w n && p w) || (p n && (n == w))) (λ w. nat_lt w (n + 1) && p w) (λ w l. below-step p n w (n == w) refl)
+
+-- one writer more, where it is so
+pub inserted : (old new : List ℕ) (writer : ℕ) (really : Bool) → really ≡ true → new ≡ writers (λ w. is_among w old || (writer == w)) → (p : ℕ → Bool) → old ≡ writers p → new ≡ writers (λ w. p w || (really && (writer == w)))
+inserted old new writer really e f p h = f ∙ writers-agree (λ w. is_among w old || (writer == w)) (λ w. p w || (really && (writer == w)))
+    (λ w l. ap (λ b. b || (writer == w)) (ap (is_among w) h ∙ among-writers p w l) ∙ ap (λ r. p w || (r && (writer == w))) (sym e))
+
+-- the next row is looked at
+pub members-next : (rows : List WriterRow) (t : ℕ → Bool) (n : ℕ) (r : WriterRow) (xs ys : List Member) → n < length rows → Some r ≡ slice_get rows n → ys ≡ xs ++ member_if (t n) n r
+    → ys ++ members_from t (n + 1) (drop (n + 1) rows) ≡ xs ++ members_from t n (drop n rows)
+members-next rows t n r xs ys h g e =
+    ap (λ zs. zs ++ members_from t (n + 1) (drop (n + 1) rows)) e
+    ∙ append_assoc xs (member_if (t n) n r) (members_from t (n + 1) (drop (n + 1) rows))
+    ∙ ap (λ rs. xs ++ members_from t n rs) (sym (drop-at rows n r h g))
+
+drop-past : (rs : List WriterRow) (n : ℕ) → length rs ≤ n → drop n rs ≡ []
+drop-past [] zero h = refl
+drop-past [] (suc n) h = refl
+drop-past (r ∷ rs) zero h = absurd (omega arith)
+drop-past (r ∷ rs) (suc n) h = drop-past rs n (omega arith)
+
+-- all rows were looked at
+pub members-end : (rows : List WriterRow) (t : ℕ → Bool) (n : ℕ) (xs ms : List Member) → length rows ≤ n → xs ++ members_from t n (drop n rows) ≡ ms → xs ≡ ms
+members-end rows t n xs ms h e = sym (append-nil xs) ∙ ap (λ rs. xs ++ members_from t n rs) (sym (drop-past rows n h)) ∙ e

@@ -1,0 +1,159 @@
+-- An agenda that begins, in what is kept of the course and in the course.
+use Rattle.std.proofs.Common.{◌≡◌, ℕ, ◌+◌, ◌<◌, ◌≤◌, List, [], ◌∷◌, ◌++◌, length, Option, Some, None, refl, Bool, true, false, ap, sym, ◌∙◌, subst, arith, filter, map}
+use Rattle.std.specs.Prelude.{◌&&◌, not, nat_lt, is_some, option_map, slice_get}
+use Rattle.std.proofs.lemmas.Bool.Decides.{nat_tests}
+use Rattle.writer_calls.specs.declared.mailbox.Mailbox.{Mailbox}
+use Rattle.writer_state.specs.declared.writer_row.WriterRow.{WriterRow}
+use Rattle.writer_state.specs.WriterRow.{row_gathered}
+use Rattle.set_agenda.specs.declared.kind.Kind.{Kind}
+use Rattle.set_agenda.specs.declared.kind.Kind.TheVariants.{Gather, Prepare, Snapshot, Complete}
+use Rattle.set_agenda.specs.declared.member.Member.{Member}
+use Rattle.set_agenda.specs.declared.place.Place.{Place}
+use Rattle.set_agenda.specs.Agenda.{Agenda, is_among, left, open_place}
+use Rattle.set_agenda.specs.Begin.{by_writer, unspoken}
+use Rattle.set_agenda.specs.Course.{Course, begun, has_row_failed, is_member, members_from, posted, settled}
+use Rattle.set_agenda.specs.WriterSet.{writers}
+use Rattle.set_agenda.proofs.WriterSets.{among-writers, writers-agree}
+use Rattle.component_doc.specs.Held.{Held}
+use Rattle.component_doc.specs.Selection.{takers}
+use Rattle.coordinator.specs.declared.kept_course.KeptCourse.{KeptCourse}
+use Rattle.coordinator.specs.declared.row_change.RowChange.TheVariants.{Gathered}
+use Rattle.coordinator.specs.declared.running_agenda.RunningAgenda.{RunningAgenda}
+use Rattle.coordinator.specs.RunningAgenda.{Fits}
+use Rattle.coordinator.specs.KeptCourse.{FitsRun, Follows, StandsFor, left_now}
+use Rattle.coordinator.specs.OpenOrders.{AreFit, AreReady}
+use Rattle.coordinator.specs.Coordinator.{Registered}
+use Rattle.coordinator.specs.Beginning.{asked_by, asks, begun_as, ready_for, volumes_if}
+use Rattle.coordinator.proofs.Asking.{filter-members}
+use Rattle.coordinator.proofs.Calls.{Posts}
+use Rattle.coordinator.proofs.Following.{left-is}
+use Rattle.coordinator.proofs.GroupsAfter.{goes-begun, opened-settled}
+use Rattle.coordinator.proofs.Members.{member-above, member-here, members-agree, members-map}
+use Rattle.coordinator.proofs.OpenOrders.{GoesOn, ready-fit}
+use Rattle.coordinator.proofs.Registering.{disabled-is}
+
+-- ## who is asked
+
+asked-at : (kind : Kind) (ws : List Registered) (k : KeptCourse) (ts : List ℕ) (w : ℕ) → w < length k.rows → w < 64 → is_among w (asked_by kind ws k ts) ≡ asks kind ws k ts w
+asked-at kind ws k ts w l m =
+    let e : nat_lt w (length k.rows) ≡ true = grind (arith, nat_tests, l) in
+    among-writers (λ x. nat_lt x (length k.rows) && asks kind ws k ts x) w m ∙ ap (λ b. b && asks kind ws k ts w) e
+
+asked-above : (kind : Kind) (ws : List Registered) (k : KeptCourse) (ts : List ℕ) (w : ℕ) → length k.rows ≤ w → w < 64 → is_among w (asked_by kind ws k ts) ≡ false
+asked-above kind ws k ts w l m =
+    let e : nat_lt w (length k.rows) ≡ false = grind (arith, nat_tests, l) in
+    among-writers (λ x. nat_lt x (length k.rows) && asks kind ws k ts x) w m ∙ ap (λ b. b && asks kind ws k ts w) e
+
+abbrev asked_members : Kind → List Registered → KeptCourse → List ℕ → Course → List Member
+asked_members kind ws k ts c = members_from (λ w. is_among w (asked_by kind ws k ts)) 0 c.rows
+
+member-at : (t : ℕ → Bool) (rs : List WriterRow) (w n : ℕ) → n ≡ length rs → (w < n → is_member (members_from t 0 rs) w ≡ t w) × (n ≤ w → is_member (members_from t 0 rs) w ≡ false)
+member-at t rs w n e = ((λ l. member-here t 0 rs w (omega arith) (omega (arith, e, l))), (λ l. member-above t 0 rs w (omega (arith, e, l))))
+
+split-at : (P : Type 0) (w n : ℕ) (b : Bool) → nat_lt w n ≡ b → (w < n → P) → (n ≤ w → P) → P
+split-at P w n true e f g = f (grind (arith, nat_tests, e))
+split-at P w n false e f g = g (grind (arith, nat_tests, e))
+
+-- those that are asked are the members made of them
+pub asked-participants : (kind : Kind) (ws : List Registered) (k : KeptCourse) (ts : List ℕ) (c : Course) → Follows k c → asked_by kind ws k ts ≡ writers (is_member (asked_members kind ws k ts c))
+asked-participants kind ws k ts c h = writers-agree (λ w. nat_lt w (length k.rows) && asks kind ws k ts w) (is_member (asked_members kind ws k ts c))
+    (λ w m. sym (among-writers (λ x. nat_lt x (length k.rows) && asks kind ws k ts x) w m)
+    ∙ split-at (is_among w (asked_by kind ws k ts) ≡ is_member (asked_members kind ws k ts c) w) w (length k.rows) (nat_lt w (length k.rows)) refl
+    (λ l. sym ((member-at (λ x. is_among x (asked_by kind ws k ts)) c.rows w (length k.rows) (ap length h.rows)).0 l))
+    (λ l. asked-above kind ws k ts w l m ∙ sym ((member-at (λ x. is_among x (asked_by kind ws k ts)) c.rows w (length k.rows) (ap length h.rows)).1 l)))
+
+members-asked : (kind : Kind) (ws : List Registered) (k : KeptCourse) (ts : List ℕ) (c : Course) (t : ℕ → Bool) → length k.rows ≤ 64 → Follows k c → ((w : ℕ) → w < length k.rows → t w ≡ asks kind ws k ts w) → members_from t 0 c.rows ≡ asked_members kind ws k ts c
+members-asked kind ws k ts c t f h same =
+    members-agree t (λ w. is_among w (asked_by kind ws k ts)) 0 c.rows
+    (λ w m l. let e : length k.rows ≡ length c.rows = ap length h.rows in
+    let b : w < length k.rows = omega (arith, e, l) in
+    same w b ∙ sym (asked-at kind ws k ts w b (omega (arith, f, b))))
+
+-- ## what becomes of the course
+
+begun-posted : (kind : Kind) (ms : List Member) (vs : List ℕ) (now : ℕ) (c : Course) → begun kind ms vs now c ≡ posted c (settled (record c { agenda = Some (unspoken kind ms vs now) }))
+unfolding begun
+begun-posted kind ms vs now c = refl
+
+begun-at : (kind : Kind) (ws : List Registered) (s : Held) (k : KeptCourse) (ts vs : List ℕ) (now : ℕ) (c : Course) → length ws ≤ 64 → length k.rows ≤ 64 → ts ≡ takers s.writers s.selected → Follows k c
+    → begun_as kind ws s vs now c ≡ begun kind (asked_members kind ws k ts c) (volumes_if kind vs) now (ready_for kind (asked_members kind ws k ts c) c)
+begun-at Gather ws s k ts vs now c n f e h = ap (λ ms. begun Gather ms [] now (record c { rows = map row_gathered c.rows }))
+    (members-asked Gather ws k ts c _ f h (λ w l. ap not (sym (disabled-is k c ws w n h))))
+begun-at Prepare ws s k ts vs now c n f e h = ap (λ ms. begun Prepare ms [] now (record c { members = ms }))
+    (members-asked Prepare ws k ts c _ f h (λ w l. ap (is_among w) (sym e)))
+begun-at Snapshot ws s k ts vs now c n f e h = ap (λ ms. begun Snapshot ms vs now c) (h.members ∙ members-asked Snapshot ws k ts c (λ w. is_among w k.members) f h (λ w l. refl))
+begun-at Complete ws s k ts vs now c n f e h = ap (λ ms. begun Complete ms [] now c)
+    (ap (filter (λ (m : Member). not (has_row_failed c.rows m.writer))) h.members
+    ∙ filter-members (λ w. is_among w k.members) (λ w. not (has_row_failed c.rows w)) 0 c.rows
+    ∙ members-asked Complete ws k ts c (λ w. is_among w k.members && not (has_row_failed c.rows w)) f h (λ w l. ap (λ rs. is_among w k.members && not (has_row_failed rs w)) (sym h.rows)))
+
+-- ## what is kept
+
+pub follows-gathered : (k n : KeptCourse) (c : Course) (ms : List Member) → n ≡ record k { rows = n.rows } → n.rows ≡ map row_gathered k.rows → Follows k c → Follows n (ready_for Gather ms c)
+follows-gathered k n c ms e r h =
+    subst (λ x. Follows x (ready_for Gather ms c)) (sym e) (record {
+      rows = r ∙ ap (map row_gathered) h.rows;
+      members = h.members ∙ sym (members-map Gathered (λ w. is_among w k.members) 0 c.rows);
+      participants = h.participants;
+      disabled = h.disabled;
+      outcome = h.outcome;
+      agenda = h.agenda;
+    })
+
+pub follows-prepared : (k : KeptCourse) (ws : List ℕ) (c : Course) → ws ≡ writers (is_member (members_from (λ w. is_among w ws) 0 c.rows)) → Follows k c → Follows (record k { members = ws }) (ready_for Prepare (members_from (λ w. is_among w ws) 0 c.rows) c)
+follows-prepared k ws c e h = record { rows = h.rows; members = refl; participants = e; disabled = h.disabled; outcome = h.outcome; agenda = h.agenda }
+
+pub follows-running : (k : KeptCourse) (r : RunningAgenda) (c : Course) (a : Agenda) → Fits r a → Follows k c → Follows (record k { running = Some r }) (record c { agenda = Some a })
+follows-running k r c a f h = record { rows = h.rows; members = h.members; participants = h.participants; disabled = h.disabled; outcome = h.outcome; agenda = f }
+
+-- ## the call
+
+ready-agenda : (kind : Kind) (ms : List Member) (c : Course) → (ready_for kind ms c).agenda ≡ c.agenda
+ready-agenda Gather ms c = refl
+ready-agenda Prepare ms c = refl
+ready-agenda Snapshot ms c = refl
+ready-agenda Complete ms c = refl
+
+ready-opened : (kind : Kind) (ms : List Member) (c : Course) → (ready_for kind ms c).opened ≡ c.opened
+ready-opened Gather ms c = refl
+ready-opened Prepare ms c = refl
+ready-opened Snapshot ms c = refl
+ready-opened Complete ms c = refl
+
+idle-left : (k : KeptCourse) (c : Course) → is_some k.running ≡ false → Follows k c → left c.agenda ≡ []
+idle-left k c e h = sym (left-is k c h) ∙ none k.running e
+  where
+    none : (r : Option RunningAgenda) → is_some r ≡ false → left_now r ≡ []
+    none None e = refl
+    none (Some r) e = cc
+
+pub fits-ordered : (r : RunningAgenda) (kind : Kind) (ms : List Member) (vs us : List ℕ) (now : ℕ) → by_writer ms ≡ ms → us ≡ vs → Fits r (unspoken kind (by_writer ms) us now) → Fits r (unspoken kind ms vs now)
+fits-ordered r kind ms vs us now e f h = subst (λ xs. Fits r (unspoken kind ms xs now)) f (subst (λ xs. Fits r (unspoken kind xs us now)) e h)
+
+pub begun-stands : (kind : Kind) (ws : List Registered) (s : Held) (k m n : KeptCourse) (p : Place) (ts vs : List ℕ) (now : ℕ) (c : Course) → length ws ≤ 64 → length k.rows ≤ 64 → ts ≡ takers s.writers s.selected → is_some k.running ≡ false
+    → m.mailboxes ≡ k.mailboxes → Posts m n p → p ≡ open_place (left c.agenda)
+    → Follows m (settled (record (ready_for kind (asked_members kind ws k ts c) c) { agenda = Some (unspoken kind (asked_members kind ws k ts c) (volumes_if kind vs) now) }))
+    → StandsFor k c → StandsFor n (begun_as kind ws s vs now c)
+begun-stands kind ws s k m n p ts vs now c l f e i b posts q g h =
+    let ms : List Member = asked_members kind ws k ts c in
+    let c0 : Course = ready_for kind ms c in
+    let c1 : Course = settled (record c0 { agenda = Some (unspoken kind ms (volumes_if kind vs) now) }) in
+    let nil : left c0.agenda ≡ [] = ap left (ready-agenda kind ms c) ∙ idle-left k c i h.follows in
+    let fit : AreFit m.mailboxes (left c0.agenda) c0.opened = subst (λ gs. AreFit m.mailboxes (left c0.agenda) gs) (sym (ready-opened kind ms c)) (subst (λ os. AreFit m.mailboxes os c.opened) (ap left (sym (ready-agenda kind ms c))) (subst (λ xs. AreFit xs (left c.agenda) c.opened) (sym b) h.mailboxes)) in
+    let goes : GoesOn (left c0.agenda) (left c1.agenda) = subst (λ os. GoesOn os (left c1.agenda)) (sym nil) (goes-begun (left c1.agenda)) in
+    subst (StandsFor n) (sym (begun-at kind ws s k ts vs now c l f e h.follows ∙ begun-posted kind ms (volumes_if kind vs) now c0))
+    (posts c0 c1 (q ∙ ap (λ ag. open_place (left ag)) (sym (ready-agenda kind ms c))) g (opened-settled (record c0 { agenda = Some (unspoken kind ms (volumes_if kind vs) now) })) (ready-fit m.mailboxes (left c0.agenda) (left c1.agenda) c0.opened goes fit))
+
+-- the call, from what its parts say
+pub begun-call : (kind : Kind) (ws : List Registered) (s : Held) (k m m2 n : KeptCourse) (p : Place) (ts vs asked us : List ℕ) (now : ℕ) (r : RunningAgenda) (ms : List Member) (c : Course) → length ws ≤ 64 → length k.rows ≤ 64 → ts ≡ takers s.writers s.selected → is_some k.running ≡ false
+    → asked ≡ asked_by kind ws k ts → ms ≡ members_from (λ w. is_among w asked) 0 k.rows → by_writer ms ≡ ms → us ≡ volumes_if kind vs → Fits r (unspoken kind (by_writer ms) us now)
+    → ((d : Course) → Follows k d → asked ≡ writers (is_member (members_from (λ w. is_among w asked) 0 d.rows)) → Follows m (ready_for kind (members_from (λ w. is_among w asked) 0 d.rows) d))
+    → ((d : Course) (a : Agenda) → Follows m d → Fits r a → Follows m2 (settled (record d { agenda = Some a })))
+    → m2.mailboxes ≡ k.mailboxes → Posts m2 n p → p ≡ open_place (left c.agenda) → StandsFor k c → StandsFor n (begun_as kind ws s vs now c)
+begun-call kind ws s k m m2 n p ts vs asked us now r ms c l f e i q me mo u fit prep begin b posts at h =
+    let made : by_writer ms ≡ asked_members kind ws k ts c = mo ∙ me ∙ ap (λ xs. members_from (λ w. is_among w xs) 0 k.rows) q ∙ ap (members_from (λ w. is_among w (asked_by kind ws k ts)) 0) h.follows.rows in
+    let fits : Fits r (unspoken kind (asked_members kind ws k ts c) (volumes_if kind vs) now) = subst (λ xs. Fits r (unspoken kind (asked_members kind ws k ts c) xs now)) u (subst (λ xs. Fits r (unspoken kind xs us now)) made fit) in
+    let ready : Follows m (ready_for kind (asked_members kind ws k ts c) c)
+    = subst (λ xs. xs ≡ writers (is_member (members_from (λ w. is_among w xs) 0 c.rows)) → Follows m (ready_for kind (members_from (λ w. is_among w xs) 0 c.rows) c)) q (prep c h.follows) (asked-participants kind ws k ts c h.follows) in
+    begun-stands kind ws s k m2 n p ts vs now c l f e i b posts at
+    (begin (ready_for kind (asked_members kind ws k ts c) c) (unspoken kind (asked_members kind ws k ts c) (volumes_if kind vs) now) ready fits) h

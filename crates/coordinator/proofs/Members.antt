@@ -1,0 +1,115 @@
+-- The writers that pass a test, as members.
+use Rattle.std.proofs.Common.{◌≡◌, ◌≢◌, ℕ, zero, suc, ◌+◌, ◌<◌, ◌≤◌, List, [], ◌∷◌, ◌++◌, length, refl, Bool, true, false, cond, ap, sym, ◌∙◌, arith, map}
+use Rattle.std.specs.Prelude.{◌==◌, ◌&&◌, ◌||◌}
+use Rattle.std.proofs.lemmas.Bool.Decides.{nat_tests}
+use Rattle.writer_state.specs.declared.writer_row.WriterRow.{WriterRow}
+use Rattle.writer_state.specs.WriterState.{is_failed, stable_again}
+use Rattle.writer_state.specs.WriterRow.{one_more, row_aborted}
+use Rattle.set_agenda.specs.declared.member.Member.{Member}
+use Rattle.set_agenda.specs.Course.{is_member, member_if, members_from, row_if, rows_where}
+use Rattle.set_agenda.proofs.GroupsLeft.{any-append}
+use Rattle.set_agenda.proofs.WriterSets.{or-false}
+use Rattle.coordinator.specs.declared.row_change.RowChange.{RowChange}
+use Rattle.coordinator.specs.declared.row_change.RowChange.TheVariants.{Told, Aborted, Gathered, Ended}
+use Rattle.coordinator.specs.KeptCourse.{changed}
+
+-- ## who is a member
+
+member_if-has : (b : Bool) (i : ℕ) (r : WriterRow) (w : ℕ) → is_member (member_if b i r) w ≡ (b && (i == w))
+member_if-has true i r w = or-false (i == w)
+member_if-has false i r w = refl
+
+member-step : (t : ℕ → Bool) (i : ℕ) (r : WriterRow) (rs : List WriterRow) (w : ℕ) → is_member (members_from t i (r ∷ rs)) w ≡ ((t i && (i == w)) || is_member (members_from t (i + 1) rs) w)
+member-step t i r rs w = any-append (λ (m : Member). m.writer == w) (member_if (t i) i r) (members_from t (i + 1) rs) ∙ ap (λ b. b || is_member (members_from t (i + 1) rs) w) (member_if-has (t i) i r w)
+
+same_from : (a w : ℕ) → (a == w) ≡ true → a ≡ w
+same_from a w e = grind (arith, nat_tests)
+
+other_from : (a w : ℕ) → (a == w) ≡ false → a ≢ w
+other_from a w e = grind (arith, nat_tests)
+
+and_false : (b c : Bool) → c ≡ false → (b && c) ≡ false
+and_false true c e = e
+and_false false c e = refl
+
+and_true-or : (b : Bool) → ((b && true) || false) ≡ b
+and_true-or true = refl
+and_true-or false = refl
+
+and_false-or : (b d : Bool) → ((b && false) || d) ≡ d
+and_false-or true d = refl
+and_false-or false d = refl
+
+pub member-below : (t : ℕ → Bool) (i : ℕ) (rs : List WriterRow) (w : ℕ) → w < i → is_member (members_from t i rs) w ≡ false
+member-below t i [] w h = refl
+member-below t i (r ∷ rs) w h =
+    let e : (i == w) ≡ false = grind (arith, nat_tests) in
+    member-step t i r rs w ∙ ap (λ b. b || is_member (members_from t (i + 1) rs) w) (and_false (t i) (i == w) e) ∙ member-below t (i + 1) rs w (omega arith)
+
+here-step : (t : ℕ → Bool) (i w : ℕ) (d c : Bool) → (i == w) ≡ c → ((i == w) ≡ true → d ≡ false) → ((i == w) ≡ false → d ≡ t w) → ((t i && c) || d) ≡ t w
+here-step t i w d true e f g = rw (f e) (and_true-or (t i) ∙ ap t (same_from i w e))
+here-step t i w d false e f g = and_false-or (t i) d ∙ g e
+
+-- a writer is a member where it passes
+pub member-here : (t : ℕ → Bool) (i : ℕ) (rs : List WriterRow) (w : ℕ) → i ≤ w → w < i + length rs → is_member (members_from t i rs) w ≡ t w
+member-here t i [] w h l = absurd (omega arith)
+member-here t i (r ∷ rs) w h l =
+    member-step t i r rs w
+    ∙ here-step t i w (is_member (members_from t (i + 1) rs) w) (i == w) refl
+    (λ e. member-below t (i + 1) rs w (let s : i ≡ w = same_from i w e in omega (arith, s)))
+    (λ e. member-here t (i + 1) rs w (let s : i ≢ w = other_from i w e in omega (arith, s)) (omega arith))
+
+-- ## what members depend on
+
+member_if-level : (b : Bool) (i : ℕ) (q r : WriterRow) → q.level ≡ r.level → member_if b i q ≡ member_if b i r
+member_if-level true i q r e = ap (λ l. record { writer = i; level = l } ∷ []) e
+member_if-level false i q r e = refl
+
+cond-level : (b : Bool) (q r : WriterRow) → q.level ≡ r.level → (cond b r q).level ≡ r.level
+cond-level true q r e = refl
+cond-level false q r e = e
+
+row_if-level : (b : Bool) (f : WriterRow → WriterRow) (r : WriterRow) → (f r).level ≡ r.level → (row_if b f r).level ≡ r.level
+row_if-level true f r e = e
+row_if-level false f r e = refl
+
+-- no change is one of the level
+pub changed-level : (h : RowChange) (r : WriterRow) → (changed h r).level ≡ r.level
+changed-level (Told o said) r = refl
+changed-level Aborted r = cond-level (is_failed r.state) (record r { state = stable_again r.state; aborts = one_more r.aborts }) r refl
+changed-level Gathered r = refl
+changed-level Ended r = refl
+
+pub members-where : (h : RowChange) (t u : ℕ → Bool) (i : ℕ) (rs : List WriterRow) → members_from t i (rows_where (changed h) u i rs) ≡ members_from t i rs
+members-where h t u i [] = refl
+members-where h t u i (r ∷ rs) =
+    ap (λ ms. ms ++ members_from t (i + 1) (rows_where (changed h) u (i + 1) rs)) (member_if-level (t i) i (row_if (u i) (changed h) r) r (row_if-level (u i) (changed h) r (changed-level h r)))
+    ∙ ap (λ ms. member_if (t i) i r ++ ms) (members-where h t u (i + 1) rs)
+
+pub members-map : (h : RowChange) (t : ℕ → Bool) (i : ℕ) (rs : List WriterRow) → members_from t i (map (changed h) rs) ≡ members_from t i rs
+members-map h t i [] = refl
+members-map h t i (r ∷ rs) =
+    ap (λ ms. ms ++ members_from t (i + 1) (map (changed h) rs)) (member_if-level (t i) i (changed h r) r (changed-level h r))
+    ∙ ap (λ ms. member_if (t i) i r ++ ms) (members-map h t (i + 1) rs)
+
+pub members-agree : (t u : ℕ → Bool) (i : ℕ) (rs : List WriterRow) → ((w : ℕ) → i ≤ w → w < i + length rs → t w ≡ u w) → members_from t i rs ≡ members_from u i rs
+members-agree t u i [] h = refl
+members-agree t u i (r ∷ rs) h =
+    ap (λ b. member_if b i r ++ members_from t (i + 1) rs) (h i (omega arith) (omega arith))
+    ∙ ap (λ ms. member_if (u i) i r ++ ms) (members-agree t u (i + 1) rs (λ w m l. h w (omega arith) (omega arith)))
+
+-- no writer from the rows' end on is a member
+pub member-above : (t : ℕ → Bool) (i : ℕ) (rs : List WriterRow) (w : ℕ) → i + length rs ≤ w → is_member (members_from t i rs) w ≡ false
+member-above t i [] w h = refl
+member-above t i (r ∷ rs) w h =
+    let e : (i == w) ≡ false = grind (arith, nat_tests) in
+    member-step t i r rs w ∙ ap (λ b. b || is_member (members_from t (i + 1) rs) w) (and_false (t i) (i == w) e) ∙ member-above t (i + 1) rs w (omega arith)
+
+member_if-out : (b : Bool) (i : ℕ) (r : WriterRow) → b ≡ false → member_if b i r ≡ []
+member_if-out true i r e = cc
+member_if-out false i r e = refl
+
+-- a writer more that does not pass
+pub members-more : (t : ℕ → Bool) (i : ℕ) (rs : List WriterRow) (r : WriterRow) → t (i + length rs) ≡ false → members_from t i (rs ++ r ∷ []) ≡ members_from t i rs
+members-more t i [] r e = let z : i + 0 ≡ i = omega arith in ap (λ ms. ms ++ []) (member_if-out (t i) i r (ap t (sym z) ∙ e))
+members-more t i (x ∷ xs) r e = let z : (i + 1) + length xs ≡ i + suc (length xs) = omega arith in ap (λ ms. member_if (t i) i x ++ ms) (members-more t (i + 1) xs r (ap t z ∙ e))
