@@ -1,0 +1,199 @@
+-- The records of a table that is of the format are those of an area.
+use Rattle.std.proofs.Common.{ℕ, zero, suc, ◌≡◌, ◌≢◌, ◌<◌, ◌≤◌, ◌+◌, ◌*◌, ◌⊎◌, inl, inr, Bool, true, false, cond, ◌&&◌, ◌||◌, not, ◌==◌, nat_lt, nat_le, List, [], ◌∷◌, length, map, Option, Some, None, All, slice_get, slice_index, slice_index_or, refl, sym, ap, subst, ◌∙◌, arith}
+use Rattle.std.specs.List.{list_any, range_with_len, find}
+use Rattle.std.proofs.lemmas.Bool.{cases_lt}
+use Rattle.std.proofs.lemmas.Bool.Decides.{nat_tests}
+use Rattle.std.proofs.lemmas.List.FromFn.{length-map-range_with_len}
+use Rattle.std.proofs.lemmas.List.Folds.{list_any_at}
+use Rattle.diff_area.specs.Format.{layout_in, volumes_from, volume_count, volumes_in, is_volume_count, is_out_of_range, number_at, HasHeader, row_at, row_of, rows_in, has_zeros, is_used, is_same, is_sound, is_good, good_at, row_count}
+use Rattle.diff_area.specs.ReadRows.{IsTable}
+use Rattle.diff_area.specs.Records.{free, is_free, AreVolumes, IsUsed, AreRecords}
+use Rattle.diff_area.specs.declared.table_record.Record.{Record}
+use Rattle.diff_area.specs.declared.header.Header.{Header}
+use Rattle.diff_area.proofs.TableBlocks.{get-map_range}
+use Rattle.diff_area.proofs.Gets.{get-bound}
+use Rattle.diff_area.proofs.GoodRecords.{length-rows_in}
+
+-- ## tests
+
+pub and_left : (a b : Bool) → (a && b) ≡ true → a ≡ true
+and_left true b h = refl
+and_left false b h = h
+
+pub and_right : (a b : Bool) → (a && b) ≡ true → b ≡ true
+and_right true b h = h
+and_right false b h = cc
+
+or_right : (a b : Bool) → (a || b) ≡ true → a ≡ false → b ≡ true
+or_right true b h e = cc
+or_right false b h e = h
+
+pub is_zero : (n : ℕ) → (n == 0) ≡ true → n ≡ 0
+is_zero n h = grind (arith, nat_tests)
+
+pub is_equal : (a b : ℕ) → (a == b) ≡ true → a ≡ b
+is_equal a b h = grind (arith, nat_tests)
+
+is_itself : (n : ℕ) → (n == n) ≡ true
+is_itself n = grind (arith, nat_tests)
+
+below : (a b : ℕ) → nat_lt a b ≡ true → a < b
+below a b h = grind (arith, nat_tests)
+
+at_most : (a b : ℕ) → nat_le a b ≡ true → a ≤ b
+at_most a b h = grind (arith, nat_tests)
+
+-- ## free and equal records
+
+pub free_is : (r : Record) → is_free r ≡ true → r ≡ free
+free_is r h =
+    let both = and_left ((r.set == 0) && (r.block == 0)) (r.volume == 0) h in
+    let s = is_zero r.set (and_left (r.set == 0) (r.block == 0) both) in
+    let b = is_zero r.block (and_right (r.set == 0) (r.block == 0) both) in
+    let v = is_zero r.volume (and_right ((r.set == 0) && (r.block == 0)) (r.volume == 0) h) in
+    ap (λ x. record { set = x; block = r.block; volume = r.volume }) s
+    ∙ ap (λ x. record { set = 0; block = x; volume = r.volume }) b
+    ∙ ap (λ x. record { set = 0; block = 0; volume = x }) v
+
+by_test : (r : Record) (b : Bool) → is_free r ≡ b → r ≢ free → b ≡ false
+by_test r true h n = absurd (n (free_is r h))
+by_test r false h n = refl
+
+pub not_free : (r : Record) → r ≢ free → is_free r ≡ false
+not_free r n = by_test r (is_free r) refl n
+
+pub same_itself : (r : Record) → is_same r r ≡ true
+same_itself r =
+    ap (λ x. x && (r.block == r.block) && (r.volume == r.volume)) (is_itself r.set)
+    ∙ ap (λ x. x && (r.volume == r.volume)) (is_itself r.block)
+    ∙ is_itself r.volume
+
+-- ## volumes
+
+length-volumes_in : (header : List ℕ) → length (volumes_in header) ≡ volume_count header
+unfolding volumes_in
+length-volumes_in header = length-map-range_with_len (λ v. number_at header (volumes_from (layout_in header) + 4 * v)) 0 (volume_count header)
+
+low : (n : ℕ) → is_out_of_range n ≡ false → 0 < n
+low n h = grind (arith, nat_tests)
+
+high : (n : ℕ) → is_out_of_range n ≡ false → n ≤ 65536
+high n h = grind (arith, nat_tests)
+
+here : (b : Bool) (x : ℕ) (rest : Option ℕ) → cond b (Some x) rest ≡ None → b ≡ false
+here true x rest h = cc
+here false x rest h = refl
+
+further : (b : Bool) (x : ℕ) (rest : Option ℕ) → cond b (Some x) rest ≡ None → rest ≡ None
+further true x rest h = cc
+further false x rest h = h
+
+in_range : (n : ℕ) → is_out_of_range n ≡ false → (0 < n) × (n ≤ 65536)
+in_range n h = (low n h, high n h)
+
+none_found : (xs : List ℕ) (k d : ℕ) → find is_out_of_range xs ≡ None → k < length xs → is_out_of_range (slice_index_or xs k d) ≡ false
+none_found [] k d h b = absurd (omega arith)
+none_found (x ∷ xs) zero d h b = here (is_out_of_range x) x (find is_out_of_range xs) h
+none_found (x ∷ xs) (suc k) d h b = none_found xs k d (further (is_out_of_range x) x (find is_out_of_range xs) h) (omega arith)
+
+pub are_volumes : (size : ℕ) (header : List ℕ) → HasHeader size header → AreVolumes (volumes_in header)
+are_volumes size header h =
+    let n = volume_count header in
+    let len = length-volumes_in header in
+    let low = at_most 1 n (and_left (nat_le 1 n) (nat_le n 128) h.volumes) in
+    let high = at_most n 128 (and_right (nat_le 1 n) (nat_le n 128) h.volumes) in
+    record {
+      some = omega arith;
+      few = omega arith;
+      each = λ k d b. in_range (slice_index_or (volumes_in header) k d) (none_found (volumes_in header) k d h.blocks b);
+    }
+
+-- ## records
+
+get_or-map_range : {X : Type 0} (f : ℕ → X) (a n k m : ℕ) (d : X) → k < n → m ≡ a + k → slice_index_or (map f (range_with_len a n)) k d ≡ f m
+get_or-map_range f a zero k m d h e = absurd (omega arith)
+get_or-map_range f a (suc n) zero m d h e = let s : a ≡ m = omega arith in ap f s
+get_or-map_range f a (suc n) (suc k) m d h e = get_or-map_range f (a + 1) n k m d (omega arith) (omega arith)
+
+pub get_or-rows_in : (layout : ℕ) (table : List ℕ) (n k : ℕ) (d : Record) → k < n → slice_index_or (rows_in layout table n) k d ≡ row_of layout (row_at table k)
+unfolding rows_in
+get_or-rows_in layout table n k d h = get_or-map_range (λ slot. row_of layout (row_at table slot)) 0 n k k d h (omega arith)
+
+get-rows_in : (layout : ℕ) (table : List ℕ) (n k : ℕ) → k < n → slice_get (rows_in layout table n) k ≡ Some (row_of layout (row_at table k))
+unfolding rows_in
+get-rows_in layout table n k h = get-map_range (λ slot. row_of layout (row_at table slot)) 0 n k k h (omega arith)
+
+-- a record that stands in the list is that of its slot
+found_at : (h : Header) (table : List ℕ) (rows : List Record) (slot : ℕ) (r : Record) → rows ≡ rows_in h.layout table h.slots → slice_get rows slot ≡ Some r → (slot < h.slots) × (r ≡ row_of h.layout (row_at table slot))
+found_at h table rows slot r e g =
+    let bound = get-bound rows slot r g in
+    let len = ap length e ∙ length-rows_in h.layout table h.slots in
+    let within : slot < h.slots = omega arith in
+    let is = sym g ∙ ap (λ rs. slice_get rs slot) e ∙ get-rows_in h.layout table h.slots slot within in
+    (within, cc)
+
+sound_used : (volumes : List ℕ) (slots layout slot : ℕ) (row : List ℕ) → is_sound volumes slots layout slot row ≡ true → is_free (row_of layout row) ≡ false → is_used volumes (row_of layout row) ≡ true
+unfolding is_sound
+sound_used volumes slots layout slot row h f =
+    let r = row_of layout row in
+    let rest = and_right (has_zeros layout row) (is_free r || (is_used volumes r && nat_lt slot slots)) h in
+    and_left (is_used volumes r) (nat_lt slot slots) (or_right (is_free r) (is_used volumes r && nat_lt slot slots) rest f)
+
+good_sound : (volumes : List ℕ) (slots layout slot : ℕ) (row : List ℕ) (earlier : List Record) → is_good volumes slots layout slot row earlier ≡ true → is_sound volumes slots layout slot row ≡ true
+unfolding is_good
+good_sound volumes slots layout slot row earlier h =
+    and_left (is_sound volumes slots layout slot row) (is_free (row_of layout row) || not (list_any (is_same (row_of layout row)) earlier)) h
+
+good_new : (volumes : List ℕ) (slots layout slot : ℕ) (row : List ℕ) (earlier : List Record) → is_good volumes slots layout slot row earlier ≡ true → is_free (row_of layout row) ≡ false → not (list_any (is_same (row_of layout row)) earlier) ≡ true
+unfolding is_good
+good_new volumes slots layout slot row earlier h f =
+    or_right (is_free (row_of layout row)) (not (list_any (is_same (row_of layout row)) earlier)) (and_right (is_sound volumes slots layout slot row) (is_free (row_of layout row) || not (list_any (is_same (row_of layout row)) earlier)) h) f
+
+pub used_is : (volumes : List ℕ) (r : Record) → is_used volumes r ≡ true → IsUsed volumes r
+used_is volumes r h =
+    let a = nat_lt 0 r.set in
+    let b = nat_lt r.volume (length volumes) in
+    let c = nat_lt r.block (slice_index volumes r.volume) in
+    let ab = and_left (a && b) c h in
+    record {
+      set = below 0 r.set (and_left a b ab);
+      volume = below r.volume (length volumes) (and_right a b ab);
+      block = below r.block (slice_index volumes r.volume) (and_right (a && b) c h);
+    }
+
+-- no two slots have one record
+apart : (h : Header) (table : List ℕ) (rows : List Record) (slot other : ℕ) (r : Record) → IsTable h table rows → slice_get rows slot ≡ Some r → slice_get rows other ≡ Some r → r ≢ free → slot < other → ⊥
+apart h table rows slot other r t f g n b =
+    let here = found_at h table rows slot r t.rows_are f in
+    let there = found_at h table rows other r t.rows_are g in
+    let row = row_at table other in
+    let good = t.good other (omega (arith, there.0)) in
+    let free_test = ap is_free (sym there.1) ∙ not_free r n in
+    let fresh = good_new h.volumes.items h.slots h.layout other row (rows_in h.layout table other) good free_test in
+    let long = length-rows_in h.layout table other in
+    let stands = ap (λ x. is_same (row_of h.layout row) x) (get_or-rows_in h.layout table other slot r b ∙ sym here.1 ∙ there.1) ∙ same_itself (row_of h.layout row) in
+    let any = list_any_at (is_same (row_of h.layout row)) (rows_in h.layout table other) slot r (omega arith) stands in
+    let contradiction = sym (ap not any) ∙ fresh in
+    cc
+
+pub are_records : (h : Header) (table : List ℕ) (rows : List Record) → IsTable h table rows → h.slots ≤ 65536 → AreRecords h.volumes.items rows
+are_records h table rows t few = record {
+  narrow = t.narrow;
+  few = let len = ap length t.rows_are ∙ length-rows_in h.layout table h.slots in omega arith;
+  each = λ slot r g n.
+      let here = found_at h table rows slot r t.rows_are g in
+      let row = row_at table slot in
+      let good = t.good slot (omega (arith, here.0)) in
+      let free_test = ap is_free (sym here.1) ∙ not_free r n in
+      let sound = good_sound h.volumes.items h.slots h.layout slot row (rows_in h.layout table slot) good in
+      let P : Record → Type 0 = IsUsed h.volumes.items in
+      subst P (sym here.1) (used_is h.volumes.items (row_of h.layout row) (sound_used h.volumes.items h.slots h.layout slot row sound free_test));
+  once = λ slot other r f g n.
+      elim (cases_lt slot other) [
+        | inl p ↦ absurd (apart h table rows slot other r t f g n p)
+        | inr p ↦ elim (cases_lt other slot) [
+          | inl q ↦ absurd (apart h table rows other slot r t g f n q)
+          | inr q ↦ omega arith
+        ]
+      ];
+}

@@ -1,0 +1,40 @@
+-- What an area that is loaded from a device has. (This project's own.)
+use Rattle.std.specs.Prelude.{ℕ, ◌≡◌, ◌≤◌, Bool, true, List, length, replicate, Option, IfSome, vec_capacity}
+use Rattle.std.specs.List.{concat}
+use Rattle.block_data.specs.declared.block_buf.TheConstants.{BLOCK}
+use Rattle.volume_device.specs.Blocks.{AreBlocks}
+use Rattle.diff_area.specs.AreaValue.{AreaValue}
+use Rattle.diff_area.specs.Format.{volumes_in, header_of, records_of, IsArea}
+use Rattle.diff_area.specs.Places.{pages_for, blocks_for}
+use Rattle.diff_area.specs.ReadBlocks.{IsReadAlone, RoseFor}
+use Rattle.diff_area.specs.Records.{AreVolumes, AreRecords}
+use Rattle.diff_area.specs.Refusals.{IsRefused}
+use Rattle.diff_area.specs.declared.table_record.Record.{Record}
+use Rattle.diff_area.specs.declared.tables.Tables.{Tables}
+use Rattle.diff_area.specs.declared.area_fault.AreaFault.{AreaFault}
+
+-- the bytes are an area of these volumes, with these records
+pub record IsReadFrom (bytes : List ℕ) (volumes : List ℕ) (records : List Record) : Type 0 where
+  pub area : IsArea bytes
+  pub volumes_are : volumes ≡ volumes_in (header_of bytes)
+  pub records_are : records ≡ records_of bytes
+
+-- the area is that of the device, which was read alone
+pub record IsLoaded {D : Type 0} (told : D → Option (List (List ℕ))) (size : D → ℕ) (lending : D → Bool) (count : D → ℕ) (device : D) (area : AreaValue D) : Type 0 where
+  pub alone : IsReadAlone told size lending count device area.device
+  pub read : IfSome (told device) (λ blocks. IsReadFrom (concat blocks) area.volumes area.records)
+
+-- the blocks of a device, where it tells them, are refused so, and the count rose where the device failed
+pub record AreRefused (told : Option (List (List ℕ))) (before now : ℕ) (fault : AreaFault) : Type 0 where
+  pub rose : RoseFor before now fault
+  pub refused : IfSome told (λ blocks. IsRefused (concat blocks) fault)
+
+-- what is kept in memory of an area that is read: none of its pages is written yet
+pub record AreLoaded (told : Option (List (List ℕ))) (size : ℕ) (tables : Tables) : Type 0 where
+  pub size_fits : size ≡ blocks_for (length tables.records.items)
+  pub are_volumes : AreVolumes tables.volumes.items
+  pub are_records : AreRecords tables.volumes.items tables.records.items
+  pub changed_all : tables.changed.items ≡ replicate (pages_for (length tables.records.items)) true
+  pub room : BLOCK ≤ vec_capacity tables.page
+  pub whole : IfSome told (AreBlocks size)
+  pub read : IfSome told (λ blocks. IsReadFrom (concat blocks) tables.volumes.items tables.records.items)

@@ -1,0 +1,31 @@
+-- What reading a device's blocks leaves and gives. (This project's own.)
+use Rattle.std.specs.Prelude.{ℕ, ◌≡◌, ◌≤◌, Bool, List, take, drop, Option, IfSome}
+use Rattle.std.specs.List.{concat}
+use Rattle.vss_names.specs.Faults.{Rose}
+use Rattle.diff_area.specs.declared.area_fault.AreaFault.{AreaFault}
+use Rattle.diff_area.specs.declared.area_fault.AreaFault.TheVariants.{Device, BadHeader, BadRecord, OutOfMemory}
+
+-- The device was read alone: what it tells is as it was, and its count did not fall.
+pub record IsReadAlone {D : Type 0} (told : D → Option (List (List ℕ))) (size : D → ℕ) (lending : D → Bool) (count : D → ℕ) (old new : D) : Type 0 where
+  pub told_is : told new ≡ told old
+  pub size_is : size new ≡ size old
+  pub lends : lending new ≡ lending old
+  pub later : count old ≤ count new
+
+-- the count rose where a call failed for the device's sake
+abbrev pub RoseFor : ℕ → ℕ → AreaFault → Type 0
+RoseFor before now Device = Rose before now
+RoseFor before now (BadHeader field found) = Unit {0}
+RoseFor before now (BadRecord slot set block volume) = Unit {0}
+RoseFor before now OutOfMemory = Unit {0}
+
+-- these blocks were read, one after another
+abbrev pub AreRead : Option (List (List ℕ)) → ℕ → ℕ → List ℕ → Type 0
+AreRead told first count bytes = IfSome told (λ blocks. bytes ≡ concat (take count (drop first blocks)))
+
+-- blocks are read alone: nothing was found to be refused
+abbrev pub IsReadFault : ℕ → ℕ → AreaFault → Type 0
+IsReadFault before now Device = Rose before now
+IsReadFault before now (BadHeader field found) = ⊥
+IsReadFault before now (BadRecord slot set block volume) = ⊥
+IsReadFault before now OutOfMemory = Unit {0}
