@@ -98,9 +98,13 @@ left_part : (a b : Bool) → a ≡ true → (a || b) ≡ true
 left_part true b e = refl
 left_part false b e = absurd cc
 
-pub cut_stays : (log new : List Entry) → is_cut_made log ≡ true → is_cut_made (log ++ new) ≡ true
-cut_stays log new e =
-    list_any-append (λ (x : Entry). same_place x.place (plain Cut) && (x.who == 0)) log new ∙ left_part (is_cut_made log) (is_cut_made new) e
+-- what was said stays said
+pub said_stays : (log new : List Entry) (p : Place) (who : ℕ) → has_said log p who ≡ true → has_said (log ++ new) p who ≡ true
+said_stays log new p who e =
+    list_any-append (λ (x : Entry). same_place x.place p && (x.who == who)) log new ∙ left_part (has_said log p who) (has_said new p who) e
+
+cut_stays : (log new : List Entry) → is_cut_made log ≡ true → is_cut_made (log ++ new) ≡ true
+cut_stays log new e = said_stays log new (plain Cut) 0 e
 
 -- the open place undoes nothing before the Cut step is made
 skip : (p : Place) (ws : List ℕ) (later : List Open) → undoes p.group ≡ false → undoes (open_place (with_group p ws later)).group ≡ true → undoes (open_place later).group ≡ true

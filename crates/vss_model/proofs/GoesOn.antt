@@ -39,7 +39,7 @@ use Rattle.vss_model.specs.Trail.{Run, begin, is_lane, cursor, next_line, line_e
 use Rattle.scenario.specs.Bounds.{is_begin, is_end, has_end, ends_sessions}
 use Rattle.vss_model.specs.GoesOn.{EndsSessions, CanGoOn}
 use Rattle.vss_model.proofs.Rule.{IsKeptButSteps, begins_at, on_after_steps}
-use Rattle.vss_model.proofs.Appending.{state-run}
+use Rattle.vss_model.proofs.Appending.{state-run, moves-run}
 use Rattle.vss_model.proofs.Orderly.{true_not_false}
 use Rattle.vss_model.proofs.Waiting.{working_or_asking}
 use Rattle.writer_calls.specs.declared.answer.Answer.{Answer}
@@ -419,6 +419,12 @@ legal_ends s r (m ∷ ms) good h e =
     legal_ends s (moved s r m) ms good
     (on_move s r m m.actor good refl (may_can s r m.actor (and_first (may_move s r m.actor) (allows_mark s r (event_of s r m.actor) m.mark) (and_first (is_legal_move s r m) (is_legal_from s (moved s r m) ms) e))) h)
     (and_second (is_legal_move s r m) (is_legal_from s (moved s r m) ms) e)
+
+-- in a legal trail the owner of the session that stands has an `end` line left
+pub owner_ends : (s : Plan) (trail : List Move) (q : Session) → EndsSessions s → is_legal s trail ≡ true → (run s trail).state.session ≡ Some q → has_end (drop (cursor trail q.owner) (lines_of s q.owner)) ≡ true
+owner_ends s trail q good e f =
+    subst (λ moves. has_end (rest_of s moves q.owner) ≡ true) (moves-run s trail)
+    (subst (EndsLeft s (run s trail).moves) f (legal_ends s (begin s) trail good tt e))
 
 -- ## a move that may come
 

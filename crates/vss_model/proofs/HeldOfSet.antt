@@ -20,6 +20,7 @@ use Rattle.set_agenda.specs.declared.kind.Kind.TheVariants.{Gather, Prepare, Sna
 use Rattle.set_agenda.specs.declared.limit.Limit.{Limit}
 use Rattle.set_agenda.specs.declared.limit.Limit.TheVariants.{Hold as HoldLimit, Freeze as FreezeLimit, Answer as AnswerLimit}
 use Rattle.set_agenda.specs.declared.member.Member.{Member}
+use Rattle.set_agenda.specs.declared.place.Place.{Place}
 use Rattle.set_agenda.specs.Agenda.{Agenda, groups_left, left, open_place, at_place, all_say, is_done, is_snapshot, open_order, order_now, open_group, waits_now, next_member, has_said, has_frozen, has_thawed, plain, is_held as holds, is_frozen as freezes}
 use Rattle.set_agenda.specs.Limits.{Running as RunningLimit, spent_of}
 use Rattle.set_agenda.specs.Course.{Course, posted, failed as course_failed, settled_if, settled_in, settled, begun, snapshot_begun, is_decisive, told, decided, answered_to, answered as course_answered, worked, stepped_as as course_stepped_as, stepped as course_stepped, limits_now, lost_to, lost, fails_set, lost_decided, treated_as, treated, timed as course_timed, released}
@@ -33,7 +34,7 @@ use Rattle.vss_model.specs.Steps.{answered, row_cut, cut_set, step_made, is_flus
 use Rattle.vss_model.specs.Acts.{Act, after, state}
 use Rattle.vss_model.specs.Laws.{IsKeptByChanges, IsKeptByWrites, RunsSnapshot}
 use Rattle.vss_model.proofs.Rule.{on_after}
-use Rattle.vss_model.proofs.CutLog.{is_cut_made, cut_stays}
+use Rattle.vss_model.proofs.CutLog.{said_stays}
 
 -- ## the fact
 
@@ -66,7 +67,7 @@ pub record IsSameAgenda (a b : Agenda) (ms ns : List Member) (o p : SetOutcome) 
   pub participants : ns ≡ ms
   pub outcome : p ≡ o
   -- what was said stays said
-  pub cut : is_cut_made a.log ≡ true → is_cut_made b.log ≡ true
+  pub said : (p : Place) (who : ℕ) → has_said a.log p who ≡ true → has_said b.log p who ≡ true
 
 -- it stops, or it goes on
 abbrev pub Follows : Option Agenda → List Member → SetOutcome → Option Agenda → List Member → SetOutcome → Type 0
@@ -79,11 +80,11 @@ GoesOn c d = Follows c.agenda c.members c.outcome d.agenda d.members d.outcome
 
 follows_same : (a : Option Agenda) (ms : List Member) (o : SetOutcome) → Follows a ms o a ms o
 follows_same None ms o = tt
-follows_same (Some a) ms o = record { kind = refl; volumes = refl; members = refl; participants = refl; outcome = refl; cut = λ e. e }
+follows_same (Some a) ms o = record { kind = refl; volumes = refl; members = refl; participants = refl; outcome = refl; said = λ p who e. e }
 
 follows_said : (said : Said) (now : ℕ) (ws : List ℕ) (a : Option Agenda) (ms : List Member) (o : SetOutcome) → Follows a ms o (option_map (all_say said now ws) a) ms o
 follows_said said now ws None ms o = tt
-follows_said said now ws (Some a) ms o = record { kind = refl; volumes = refl; members = refl; participants = refl; outcome = refl; cut = cut_stays a.log (map (at_place (open_place (groups_left a)) said now) ws) }
+follows_said said now ws (Some a) ms o = record { kind = refl; volumes = refl; members = refl; participants = refl; outcome = refl; said = said_stays a.log (map (at_place (open_place (groups_left a)) said now) ws) }
 
 goes_told : (o : Order) (said : Said) (now : ℕ) (ws : List ℕ) (c : Course) → GoesOn c (told o said now ws c)
 unfolding told
@@ -243,7 +244,7 @@ tied_begun k ms vs now c st f h =
 
 -- ## the Cut step
 
-volumes-row_cut_if : (b : Bool) (now : ℕ) (r : SetRow) → (if b then record r { cut_at = Some now } else r).volumes ≡ r.volumes
+pub volumes-row_cut_if : (b : Bool) (now : ℕ) (r : SetRow) → (if b then record r { cut_at = Some now } else r).volumes ≡ r.volumes
 volumes-row_cut_if true now r = refl
 volumes-row_cut_if false now r = refl
 
@@ -258,7 +259,7 @@ find_if test true false f r found other e h = absurd cc
 find_if test false true f r found other e h = absurd cc
 
 -- the set in progress is found by its result, which a cut leaves
-find-row_cut : (n now : ℕ) (rows : List SetRow) → find (λ r. is_running r.result) (map (row_cut n now) rows) ≡ option_map (row_cut n now) (find (λ r. is_running r.result) rows)
+pub find-row_cut : (n now : ℕ) (rows : List SetRow) → find (λ r. is_running r.result) (map (row_cut n now) rows) ≡ option_map (row_cut n now) (find (λ r. is_running r.result) rows)
 find-row_cut n now [] = refl
 find-row_cut n now (r ∷ rows) =
     find_if (λ q. is_running q.result) (is_running r.result) (is_running (row_cut n now r).result) (row_cut n now) r _ _ (ap is_running (result-row_cut_if (r.number == n) now r)) (find-row_cut n now rows)

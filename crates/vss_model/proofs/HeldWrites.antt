@@ -179,7 +179,7 @@ on_reverts v ws s u k Fault st e h = h
 on_reverts v ws s u k (FaultAfter n) st e h = writes-other (reverted_in_part (blocks_of s u) k.row.number k.point n) u st.volumes v e ∙ h
 
 -- what holds of one number and not of another tells them apart
-apart : (test : ℕ → Bool) (u v : ℕ) → test u ≡ false → test v ≡ true → (u == v) ≡ false
+pub apart : (test : ℕ → Bool) (u v : ℕ) → test u ≡ false → test v ≡ true → (u == v) ≡ false
 apart test u v e f = by_cases (u == v) refl
   where
     equal : (a b : ℕ) → (a == b) ≡ true → a ≡ b

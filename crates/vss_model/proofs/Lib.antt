@@ -7,8 +7,11 @@ pub mod OrderlyActs
 pub mod Failures
 pub mod CutLog
 pub mod AtCut
+pub mod CutStep
 pub mod CutHistory
 pub mod OneCut
+pub mod NewestImage
+pub mod HeldImage
 pub mod HeldWrites
 pub mod Waiting
 pub mod GoesOn

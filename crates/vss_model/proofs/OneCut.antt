@@ -1,6 +1,6 @@
 -- Every act keeps what the images show.
 use Rattle.std.proofs.Common.{◌≡◌, ℕ, ◌+◌, ◌==◌, ◌<◌, ◌≤◌, zero, suc, List, [], ◌∷◌, ◌++◌, Option, Some, None, refl, Bool, true, false, map, length, take, ap, sym, ◌∙◌, subst, find, fold, inl, inr, arith}
-use Rattle.std.specs.Prelude.{option_map, is_some, ◌&&◌, ◌||◌, not, if◌then◌else◌, nat_lt, slice_get}
+use Rattle.std.specs.Prelude.{option_map, is_some, ◌&&◌, ◌||◌, if◌then◌else◌, nat_lt, slice_get}
 use Rattle.std.proofs.lemmas.List.Folds.{list_any-append}
 use Rattle.std.proofs.Math.Seq.{take-append_seam}
 use Rattle.std.proofs.lemmas.List.{length_push}
@@ -17,10 +17,10 @@ use Rattle.write_history.specs.declared.mark.Mark.TheVariants.{Clean, Fault, Fau
 use Rattle.write_history.specs.History.{Write, Image, History, content, last_bytes, fresh, point_in, dropped, written, reverted}
 use Rattle.block_data.specs.Runs.{zeros}
 use Rattle.set_agenda.specs.declared.group.Group.{Group}
-use Rattle.set_agenda.specs.declared.group.Group.TheVariants.{Orders, PreCommit, Flush, Hold, Cut, Commit, Release, PostCommit}
+use Rattle.set_agenda.specs.declared.group.Group.TheVariants.{Cut}
 use Rattle.set_agenda.specs.declared.kind.Kind.{Kind}
 use Rattle.set_agenda.specs.declared.kind.Kind.TheVariants.{Gather, Prepare, Snapshot, Complete}
-use Rattle.set_agenda.specs.Agenda.{Agenda, Entry, Open, is_orders, is_working, plain, places, left_from, groups_left, left, open_group, open_place as open_at, same_place, next_member, at_place, all_say, is_snapshot, is_done, is_among}
+use Rattle.set_agenda.specs.Agenda.{Agenda, Entry, is_working, plain, places, left_from, groups_left, left, open_group, open_place as open_at, same_place, next_member, at_place, all_say, is_snapshot, is_done, is_among}
 use Rattle.set_agenda.specs.Course.{Course, posted, settled_if, settled_in, settled, worked, stepped as course_stepped, released}
 use Rattle.requestor.specs.Session.{Session}
 use Rattle.scenario.specs.Plan.{Plan, blocks_of}
@@ -30,10 +30,7 @@ use Rattle.vss_model.specs.Ending.{Ending, NothingEnds, AgendaEnds, SetFails, en
 use Rattle.vss_model.specs.Images.{Replied, put, reverted_as}
 use Rattle.vss_model.specs.Sessions.{begin_in, has_no_volume, start_set, new_set, with_volume, change_set, images_released, closed}
 use Rattle.vss_model.specs.Steps.{answered, cut_if as history_cut_if, cut_each, row_cut, cut_set, is_flush, is_failed_step, stepped_as, stepped, ticked, later}
-use Rattle.vss_model.specs.declared.event.Event.{Event}
-use Rattle.vss_model.specs.declared.event.Event.TheVariants.{Line, Answer as AnswerEvent, Provider, Idle}
-use Rattle.set_agenda.specs.declared.member.Member.{Member}
-use Rattle.vss_model.specs.Acts.{Act, after, state, enabled, happens, after_if}
+use Rattle.vss_model.specs.Acts.{Act, after, state}
 use Rattle.vss_model.specs.Laws.{IsKeptByWrites}
 use Rattle.vss_model.specs.Facts.{AreLater, AreInTime, NumberedFrom, OverButNewest, IsOrderly}
 use Rattle.vss_model.specs.Cut.{is_provider, is_cut_group, is_set, is_cut_of, cut_if, cut_from, cut, IsShownAt, IsCutAt}
@@ -41,9 +38,10 @@ use Rattle.vss_model.proofs.Rule.{IsKeptButSteps, on_after_steps, working_of}
 use Rattle.vss_model.proofs.Appending.{state-append}
 use Rattle.vss_model.proofs.Orderly.{find-map, find-settled_over, find-settled_running, true_not_false}
 use Rattle.vss_model.proofs.OrderlyActs.{EndsIn, Moves, MovesOn, moves_answered, moves_stepped, moves_timed, ending_idle, ending_on, none_after, orderly}
-use Rattle.vss_model.proofs.HeldOfSet.{IsOf, Follows, GoesOn, goes_answered, goes_stepped, goes_timed}
+use Rattle.vss_model.proofs.HeldOfSet.{Follows, GoesOn, goes_answered, goes_stepped, goes_timed}
 use Rattle.vss_model.proofs.CutLog.{is_cut_made}
 use Rattle.vss_model.proofs.AtCut.{IsAtCut, CutsNow, cuts, cut_group, later_places, cut_is_open}
+use Rattle.vss_model.proofs.CutStep.{second_not, both, step_made_same, working_at_cut, after_cut, has_set}
 use Rattle.vss_model.proofs.CutHistory.{Above, Shown, no_greater, Known, writes_at, ShownIn, IsShown, AllShown, all-map, all-change_at, all-gone, all_along, shown-reverted, shown-reverted_in_part, shown-dropped, shown-written, shown-cut, below-known, shown_at}
 
 -- ## the fact
@@ -141,14 +139,14 @@ abbrev PlainUncut : Known → Option Agenda → Option SetRow → Type 0
 PlainUncut k None o = Unit {0}
 PlainUncut k (Some a) o = is_snapshot a.kind ≡ false → Uncut k o
 
-ends_settle : (o p : SetOutcome) (st : State) → in_progress (concluded (ending o p true None) st) ≡ find (λ r. is_running r.result) (map (row_settled st.course.outcome) st.sets)
+pub ends_settle : (o p : SetOutcome) (st : State) → in_progress (concluded (ending o p true None) st) ≡ find (λ r. is_running r.result) (map (row_settled st.course.outcome) st.sets)
 ends_settle Running Running st = refl
 ends_settle Running CompleteSet st = refl
 ends_settle Running (FailedSet why) st = refl
 ends_settle CompleteSet p st = refl
 ends_settle (FailedSet why) p st = refl
 
-plain_kind : (k : Kind) (o p : SetOutcome) → is_running p ≡ true → EndsIn k o p → is_snapshot k ≡ false
+pub plain_kind : (k : Kind) (o p : SetOutcome) → is_running p ≡ true → EndsIn k o p → is_snapshot k ≡ false
 plain_kind Gather o p e h = refl
 plain_kind Prepare o p e h = refl
 plain_kind Complete o p e h = refl
@@ -208,7 +206,7 @@ goes_from : (k : Known) (a : Option Agenda) (c d : Course) (o : Option SetRow) �
 goes_from k a c d o e None f g h = tt
 goes_from k None c d o e (Some b) f g h = absurd g
 goes_from k (Some a) c d None e (Some b) f g h = tt
-goes_from k (Some a) c d (Some r) e (Some b) f g h = made_follows (k r.number) a b g.kind g.cut h
+goes_from k (Some a) c d (Some r) e (Some b) f g h = made_follows (k r.number) a b g.kind (g.said (plain Cut) 0) h
 
 plain_made : (o : Option (List History)) (a : Agenda) → is_snapshot a.kind ≡ false → MadeIn o (Some a) → o ≡ None
 plain_made None a e h = refl
@@ -293,11 +291,11 @@ on_starts k q st h =
     less : (a b m : ℕ) → b ≡ a + 1 → b < m → a < m
     less a b m e l = omega arith
 
-changed_number : (b : Bool) (f : SetRow → SetRow) (r : SetRow) → (f r).number ≡ r.number → (if b then f r else r).number ≡ r.number
+pub changed_number : (b : Bool) (f : SetRow → SetRow) (r : SetRow) → (f r).number ≡ r.number → (if b then f r else r).number ≡ r.number
 changed_number true f r e = e
 changed_number false f r e = refl
 
-changed_result : (b : Bool) (f : SetRow → SetRow) (r : SetRow) → (f r).result ≡ r.result → (if b then f r else r).result ≡ r.result
+pub changed_result : (b : Bool) (f : SetRow → SetRow) (r : SetRow) → (f r).result ≡ r.result → (if b then f r else r).result ≡ r.result
 changed_result true f r e = e
 changed_result false f r e = refl
 
@@ -435,7 +433,7 @@ not_cut_now : (k : Known) (st : State) (act : Act) (n : ℕ) → (is_cut_of n st
 not_cut_now k st act n e = or_none (k n) ∙ ap (λ b. or_else (k n) (now_if b st.volumes)) (sym e)
 
 -- the number of the set in progress is the newest
-newest_number : (m : ℕ) (rows : List SetRow) (r : SetRow) → NumberedFrom m rows → OverButNewest rows → find (λ q. is_running q.result) rows ≡ Some r → r.number + 1 ≡ m + length rows
+pub newest_number : (m : ℕ) (rows : List SetRow) (r : SetRow) → NumberedFrom m rows → OverButNewest rows → find (λ q. is_running q.result) rows ≡ Some r → r.number + 1 ≡ m + length rows
 newest_number m [] r h o e = absurd cc
 newest_number m (q ∷ []) r h o e = own_if (is_running q.result) e
   where
@@ -625,94 +623,20 @@ on_cut k act st r p g w c e o h =
 
 on_stepped_as : (k : Known) (fails : Bool) (g : Option Group) (st : State) → is_cut_group g ≡ false → is_working (left_now st) ≡ true → IsCut k st → IsCut k (stepped_as fails g st)
 on_stepped_as k true g st e w h = goes k _ st (moves_stepped false st.clock st.course w) (goes_stepped false st.clock st.course) h
-on_stepped_as k false None st e w h = goes k _ st (moves_stepped true st.clock st.course w) (goes_stepped true st.clock st.course) h
-on_stepped_as k false (Some (Orders o)) st e w h = goes k _ st (moves_stepped true st.clock st.course w) (goes_stepped true st.clock st.course) h
-on_stepped_as k false (Some PreCommit) st e w h = goes k _ st (moves_stepped true st.clock st.course w) (goes_stepped true st.clock st.course) h
-on_stepped_as k false (Some Flush) st e w h = goes k _ st (moves_stepped true st.clock st.course w) (goes_stepped true st.clock st.course) h
-on_stepped_as k false (Some Hold) st e w h = goes k _ st (moves_stepped true st.clock st.course w) (goes_stepped true st.clock st.course) h
-on_stepped_as k false (Some Cut) st e w h = absurd cc
-on_stepped_as k false (Some Commit) st e w h = goes k _ st (moves_stepped true st.clock st.course w) (goes_stepped true st.clock st.course) h
-on_stepped_as k false (Some Release) st e w h = goes k _ st (moves_stepped true st.clock st.course w) (goes_stepped true st.clock st.course) h
-on_stepped_as k false (Some PostCommit) st e w h = goes k _ st (moves_stepped true st.clock st.course w) (goes_stepped true st.clock st.course) h
+on_stepped_as k false g st e w h =
+    subst (λ x. IsCut k (followed (runs st) (course_stepped true st.clock st.course) x)) (sym (step_made_same g st e))
+    (goes k _ st (moves_stepped true st.clock st.course w) (goes_stepped true st.clock st.course) h)
 
 on_steps : (k : Known) (mark : Mark) (st : State) → is_cut_group (open_group (left_now st)) ≡ false → is_working (left_now st) ≡ true → IsCut k st → IsCut k (stepped mark st)
 unfolding stepped
 on_steps k mark st e w h = on_stepped_as k (is_failed_step (is_flush (open_group (left_now st))) mark) (open_group (left_now st)) st e w h
 
--- the Cut step does not fail
-cut_step_in : (g : Option Group) (mark : Mark) (st : State) → is_cut_group g ≡ true → stepped_as (is_failed_step (is_flush g) mark) g st ≡ followed (runs st) (course_stepped true st.clock st.course) (cut_set (in_progress st) st)
-cut_step_in (Some Cut) Clean st e = refl
-cut_step_in (Some Cut) Fault st e = refl
-cut_step_in (Some Cut) (FaultAfter n) st e = refl
-cut_step_in None mark st e = absurd cc
-cut_step_in (Some (Orders o)) mark st e = absurd cc
-cut_step_in (Some PreCommit) mark st e = absurd cc
-cut_step_in (Some Flush) mark st e = absurd cc
-cut_step_in (Some Hold) mark st e = absurd cc
-cut_step_in (Some Commit) mark st e = absurd cc
-cut_step_in (Some Release) mark st e = absurd cc
-cut_step_in (Some PostCommit) mark st e = absurd cc
-
-cut_step : (mark : Mark) (st : State) → is_cut_group (open_group (left_now st)) ≡ true → stepped mark st ≡ followed (runs st) (course_stepped true st.clock st.course) (cut_set (in_progress st) st)
-unfolding stepped
-cut_step mark st e = cut_step_in (open_group (left_now st)) mark st e
-
 -- ## every act
-
-record HasSet (st : State) : Type 0 where
-  set : SetRow
-  is : in_progress st ≡ Some set
-
-has_set_in : (o : Option SetRow) (st : State) (a : Agenda) (k : Kind) (ms : List Member) → in_progress st ≡ o → k ≡ Snapshot → IsOf k a.volumes a.members ms o → HasSet st
-has_set_in (Some r) st a k ms e f h = record { set = r; is = e }
-has_set_in None st a Snapshot ms e f h = absurd h
-has_set_in None st a Gather ms e f h = absurd cc
-has_set_in None st a Prepare ms e f h = absurd cc
-has_set_in None st a Complete ms e f h = absurd cc
-
-working_at_cut : (os : List Open) → is_cut_group (open_group os) ≡ true → is_working os ≡ true
-working_at_cut [] e = absurd cc
-working_at_cut (x ∷ os) e = in_group x.place.group e
-  where
-    in_group : (g : Group) → is_cut_group (Some g) ≡ true → not (is_orders g) ≡ true
-    in_group (Orders o) e = absurd cc
-    in_group PreCommit e = refl
-    in_group Flush e = refl
-    in_group Hold e = refl
-    in_group Cut e = refl
-    in_group Commit e = refl
-    in_group Release e = refl
-    in_group PostCommit e = refl
-
-enabled_provider : (s : Plan) (st : State) (event : Event) → is_provider event ≡ true → is_working (left_now st) ≡ true → enabled s st event ≡ true
-enabled_provider s st (Line lane op) e w = absurd cc
-enabled_provider s st (AnswerEvent x answer) e w = absurd cc
-enabled_provider s st Provider e w = w
-enabled_provider s st Idle e w = absurd cc
-
-happens_provider : (s : Plan) (event : Event) (mark : Mark) (st : State) → is_provider event ≡ true → (happens s event mark st).1 ≡ stepped mark st
-happens_provider s (Line lane op) mark st e = absurd cc
-happens_provider s (AnswerEvent x answer) mark st e = absurd cc
-happens_provider s Provider mark st e = refl
-happens_provider s Idle mark st e = absurd cc
-
-after_provider : (s : Plan) (st : State) (act : Act) → is_provider act.event ≡ true → is_working (left_now st) ≡ true → after s st act ≡ stepped act.mark st
-unfolding after
-after_provider s st act e w = ap (λ b. after_if b s st act) (enabled_provider s st act.event e w) ∙ happens_provider s act.event act.mark st e
 
 parts_not : (a b c : Bool) → (a && b) ≡ false → (a && b && c) ≡ false
 parts_not true true c e = absurd cc
 parts_not true false c e = refl
 parts_not false b c e = refl
-
-second_not : (a b : Bool) → (a && b) ≡ false → a ≡ true → b ≡ false
-second_not true b e f = e
-second_not false b e f = absurd cc
-
-both : (a b : Bool) → (a && b) ≡ true → (a ≡ true) × (b ≡ true)
-both true true e = (refl, refl)
-both true false e = absurd cc
-both false b e = absurd cc
 
 on_act_if : (b : Bool) (s : Plan) (past : List Act) (act : Act) (k : Known) → (is_provider act.event && is_cut_group (open_group (left_now (state s past)))) ≡ b → IsCut k (state s past) → IsCut (next_known k (state s past) act) (after s (state s past) act)
 on_act_if false s past act k e h =
@@ -724,12 +648,11 @@ on_act_if false s past act k e h =
 on_act_if true s past act k e h =
     let st = state s past in
     let parts = both (is_provider act.event) (is_cut_group (open_group (left_now st))) e in
-    let w = working_at_cut (left_now st) parts.1 in
     let c = cuts s past parts.1 in
-    let r = has_set_in (in_progress st) st c.agenda c.agenda.kind st.course.members refl c.kind c.of_set in
-    subst (IsCut (next_known k st act)) (sym (after_provider s st act parts.0 w ∙ cut_step act.mark st parts.1))
+    let r = has_set st c in
+    subst (IsCut (next_known k st act)) (sym (after_cut s st act parts.0 parts.1))
     (subst (λ o. IsCut (next_known k st act) (followed (runs st) (course_stepped true st.clock st.course) (cut_set o st))) (sym r.is)
-    (on_cut k act st r.set parts.0 parts.1 w c r.is (orderly s past) h))
+    (on_cut k act st r.set parts.0 parts.1 (working_at_cut (left_now st) parts.1) c r.is (orderly s past) h))
 
 on_act : (s : Plan) (past : List Act) (act : Act) (k : Known) → IsCut k (state s past) → IsCut (next_known k (state s past) act) (after s (state s past) act)
 on_act s past act k h = on_act_if (is_provider act.event && is_cut_group (open_group (left_now (state s past)))) s past act k refl h
@@ -772,6 +695,20 @@ fresh_shown v (r ∷ rows) = (tt, fresh_shown (v + 1) rows)
 
 cut_all : (s : Plan) (acts : List Act) → IsCut (known_from s nothing_known (start s) acts) (state s acts)
 cut_all s acts = cut_fold s [] nothing_known acts (record { shown = fresh_shown 0 s.volumes; progress = tt; fresh = λ n e. refl })
+
+-- where the Cut step is the next one, the set in progress has no image yet
+pub uncut_at_cut : (s : Plan) (acts : List Act) (r : SetRow) (v p : ℕ) → CutsNow (state s acts) → in_progress (state s acts) ≡ Some r → point_in r.number (history_of (state s acts) v).images ≡ Some p → ⊥
+uncut_at_cut s acts r v p c e f =
+    let st = state s acts in
+    let k = known_from s nothing_known (start s) acts in
+    subst (λ o. ShownIn o v p (history_of st v).writes) ((newest k st r c e (orderly s acts) (cut_all s acts)).none r.number (own r.number))
+    (shown_at k 0 v v r.number p st.volumes (zero_plus v) (cut_all s acts).shown f)
+  where
+    own : (a : ℕ) → a ≤ a
+    own a = omega arith
+
+    zero_plus : (a : ℕ) → a ≡ 0 + a
+    zero_plus a = omega arith
 
 shown_by : (s : Plan) (v p : ℕ) (ws : List Write) (o : Option (List Act)) → ShownIn (volumes_then s o) v p ws → IsShownAt s v p ws o
 shown_by s v p ws None h = absurd h

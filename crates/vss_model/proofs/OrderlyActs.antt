@@ -658,7 +658,7 @@ either_orderly : (b : Bool) (x y : Replied) → IsOrderly x.1 → IsOrderly y.1 
 either_orderly true x y h i = h
 either_orderly false x y h i = i
 
-kept_by_changes : IsKeptByChanges IsOrderly
+pub kept_by_changes : IsKeptByChanges IsOrderly
 kept_by_changes = record {
   answers = λ w said st e h. on_answers w said st h;
   steps = λ mark st e h. on_steps mark st e h;
@@ -679,7 +679,7 @@ kept_by_changes = record {
   ends = λ q st e h. on_closed q (failed AsyncCancelled st) (none_after (in_progress st) AsyncCancelled st refl) (on_failed_in (in_progress st) AsyncCancelled st refl h);
 }
 
-kept_by_writes : (st : State) → IsKeptByWrites IsOrderly st
+pub kept_by_writes : (st : State) → IsKeptByWrites IsOrderly st
 kept_by_writes st = record {
   puts = λ v e w mark x h. on_puts v w mark x h;
   reverts = λ s n v k mark e f h. on_reverts s v k mark st h;

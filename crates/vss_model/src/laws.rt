@@ -1,20 +1,21 @@
 //! What holds for every run: functions that do nothing, whose contracts are the laws.
 
-ghost use Rattle.std.specs.Prelude.{is_some, ◌⊎◌, length, ◌≡◌, ◌<◌, ◌≤◌, ◌+◌, ◌++◌, ◌∷◌, ◌&&◌, [], true, false, Bool, ℕ, List, Some, None};
+ghost use Rattle.std.specs.Prelude.{is_some, ◌⊎◌, length, drop, ◌≡◌, ◌<◌, ◌≤◌, ◌+◌, ◌++◌, ◌∷◌, ◌&&◌, [], true, false, Bool, ℕ, List, Some, None};
 ghost use Rattle.write_history.specs.declared.move_item.Move.{Move};
-ghost use Rattle.scenario.specs.Plan.{Plan};
+ghost use Rattle.scenario.specs.Plan.{Plan, lines_of};
 ghost use Rattle.write_history.specs.History.{content, point_in};
-ghost use Rattle.write_history.specs.Slots.{Placed, copies};
+ghost use Rattle.write_history.specs.Slots.{Placed, copies, used_by};
 ghost use Rattle.set_agenda.specs.Agenda.{open_group, is_among, is_asking, is_working, next_member};
 ghost use Rattle.set_agenda.specs.Limits.{spent_of};
 ghost use Rattle.set_agenda.specs.Course.{is_member, limits_now};
 ghost use Rattle.vss_model.specs.Ending.{runs};
 ghost use Rattle.vss_model.specs.State.{State, SetRow, in_progress, row_of, history_of, left_now, is_held, is_frozen};
 ghost use Rattle.vss_model.specs.Cut.{cut, is_cut_group, IsShownAt, IsCutAt};
-ghost use Rattle.vss_model.specs.Facts.{AreInTime, IsOrderly, has_failed, holds_for};
+ghost use Rattle.requestor.specs.Session.{Session};
+ghost use Rattle.vss_model.specs.Facts.{AreInTime, IsNewest, IsOrderly, has_failed, holds_for};
 ghost use Rattle.vss_model.specs.Acts.{Act, after, state, order_of_writer, idle_now};
-ghost use Rattle.vss_model.specs.Trail.{run, moved, acts, acts_if, event_of, is_legal, is_legal_move, is_complete, faults};
-ghost use Rattle.scenario.specs.Bounds.{IsPlan};
+ghost use Rattle.vss_model.specs.Trail.{run, moved, acts, acts_if, event_of, is_legal, is_legal_move, is_complete, cursor, faults};
+ghost use Rattle.scenario.specs.Bounds.{IsPlan, has_end};
 ghost use Rattle.scenario.specs.Built.{IsBuilt};
 ghost use Rattle.vss_model.specs.GoesOn.{EndsSessions, CanGoOn, most_moves};
 ghost use Rattle.vss_model.specs.Causes.{SetsFailWithCause};
@@ -88,6 +89,24 @@ pub fn images_in_time()
         → AreInTime (length (history_of (state s acts) v).writes) (history_of (state s acts) v).images }
 {}
 
+/// The image of the set in progress is the newest of its volume.
+pub fn image_in_progress_is_the_newest()
+    ensures { (s : Plan) (acts : List Act) (r : SetRow) (v p : ℕ) → in_progress (state s acts) ≡ Some r
+        → point_in r.number (history_of (state s acts) v).images ≡ Some p
+        → IsNewest r.number p (history_of (state s acts) v).images }
+{}
+
+/// From the Cut until the volume's Release the image of the set in progress names no block: its point is the end of the
+/// volume's effective writes, and it uses no slot.
+pub fn held_image_names_no_block()
+    ensures point { (s : Plan) (acts : List Act) (r : SetRow) (v p : ℕ) → in_progress (state s acts) ≡ Some r
+        → is_held (state s acts) v ≡ true → point_in r.number (history_of (state s acts) v).images ≡ Some p
+        → p ≡ length (history_of (state s acts) v).writes }
+    ensures slots { (s : Plan) (acts : List Act) (r : SetRow) (v p blocks : ℕ) → in_progress (state s acts) ≡ Some r
+        → is_held (state s acts) v ≡ true → point_in r.number (history_of (state s acts) v).images ≡ Some p
+        → used_by blocks (history_of (state s acts) v).writes (history_of (state s acts) v).images r.number ≡ Some 0 }
+{}
+
 /// Sets are numbered from 1 on and at most the newest is in progress, as the session's stage says; a running agenda is
 /// the one that the stage waits for; and an image stands only of a set that has not failed.
 pub fn state_in_order()
@@ -130,6 +149,13 @@ pub fn idle_stretch_spends_a_limit()
 pub fn legal_trail_goes_on()
     ensures { (s : Plan) (trail : List Move) → EndsSessions s → is_legal s trail ≡ true → is_complete s trail ≡ false
         → CanGoOn s (run s trail) }
+{}
+
+/// In a legal trail the owner of the session that stands has an `end` line left, where every lane ends the sessions that
+/// it begins.
+pub fn owner_has_an_end_left()
+    ensures { (s : Plan) (trail : List Move) (q : Session) → EndsSessions s → is_legal s trail ≡ true
+        → (run s trail).state.session ≡ Some q → has_end (drop (cursor trail q.owner) (lines_of s q.owner)) ≡ true }
 {}
 
 /// Turns come to an end: each legal move leaves fewer turns, and so a legal trail is short.

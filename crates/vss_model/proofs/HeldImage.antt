@@ -1,0 +1,622 @@
+-- From the Cut until the volume's Release the image of the set in progress names no block: its point is the end of the
+-- volume's effective writes, and it uses no slot.
+use Rattle.std.proofs.Common.{◌≡◌, ◌⊎◌, ℕ, ◌+◌, ◌==◌, ◌<◌, ◌≤◌, zero, suc, List, [], ◌∷◌, ◌++◌, Option, Some, None, refl, Bool, true, false, map, filter, length, drop, ap, sym, ◌∙◌, subst, find, fold, inl, inr, arith}
+use Rattle.std.specs.Prelude.{option_map, is_some, ◌&&◌, not, if◌then◌else◌, nat_lt, slice_get}
+use Rattle.std.specs.List.{range_with_len}
+use Rattle.std.proofs.Math.Seq.{drop-length}
+use Rattle.vss_names.specs.declared.context.Context.{Context}
+use Rattle.vss_names.specs.declared.vss_result.VssResult.TheVariants.{AsyncCancelled}
+use Rattle.vss_names.specs.declared.set_outcome.SetOutcome.{SetOutcome}
+use Rattle.vss_names.specs.declared.set_outcome.SetOutcome.TheVariants.{Running, Complete as CompleteSet, Failed as FailedSet}
+use Rattle.writer_state.specs.declared.said.Said.{Said}
+use Rattle.write_history.specs.declared.mark.Mark.{Mark}
+use Rattle.write_history.specs.declared.mark.Mark.TheVariants.{Clean, Fault, FaultAfter}
+use Rattle.write_history.specs.History.{Write, Image, History, point_in, names, blocks_named, dropped, written, reverted, reverted_in_part, after_set, cut as history_cut}
+use Rattle.write_history.specs.Slots.{Placed, gone_up_to, named, used_by}
+use Rattle.set_agenda.specs.declared.group.Group.{Group}
+use Rattle.set_agenda.specs.declared.group.Group.TheVariants.{Hold, Release}
+use Rattle.set_agenda.specs.declared.member.Member.{Member}
+use Rattle.set_agenda.specs.Agenda.{Agenda, open_group, has_said, plain, is_among, is_snapshot, is_working, is_held as holds}
+use Rattle.set_agenda.specs.Course.{Course, change_at, stepped as course_stepped, released}
+use Rattle.requestor.specs.Session.{Session}
+use Rattle.scenario.specs.Plan.{Plan, blocks_of}
+use Rattle.vss_model.specs.State.{State, SetRow, Kept, is_running, in_progress, row_changed, history_in, history_of, left_now, is_held}
+use Rattle.vss_model.specs.Ending.{Ending, NothingEnds, AgendaEnds, SetFails, ending, row_settled, images_dropped, concluded, followed, runs, failed}
+use Rattle.vss_model.specs.Images.{Replied, put, is_in_set, reverted_as}
+use Rattle.vss_model.specs.Sessions.{begin_in, has_no_volume, start_set, new_set, with_volume, change_set, closed}
+use Rattle.vss_model.specs.Steps.{answered, cut_if, cut_each, row_cut, cut_set, is_flush, is_failed_step, stepped_as, stepped, ticked, later}
+use Rattle.vss_model.specs.Acts.{Act, after, state}
+use Rattle.vss_model.specs.Cut.{is_provider, is_cut_group}
+use Rattle.vss_model.specs.Laws.{IsKeptByWrites}
+use Rattle.vss_model.specs.Facts.{AreLater, AreInTime, IsOrderly}
+use Rattle.vss_model.proofs.Rule.{IsKeptButSteps, but_steps, on_after_steps, working_of}
+use Rattle.vss_model.proofs.Appending.{state-append}
+use Rattle.vss_model.proofs.Orderly.{true_not_false, find-map, find-settled_over, find-settled_running}
+use Rattle.vss_model.proofs.OrderlyActs.{Moves, MovesOn, moves_answered, moves_stepped, moves_timed, ending_idle, ending_on, none_after, kept_by_changes as orderly_changes, kept_by_writes as orderly_writes, orderly}
+use Rattle.vss_model.proofs.HeldOfSet.{IsSameAgenda, Follows, GoesOn, goes_answered, goes_stepped, goes_timed, find-row_cut, volumes-row_cut_if}
+use Rattle.vss_model.proofs.HeldWrites.{apart}
+use Rattle.vss_model.proofs.AtCut.{CutsNow, cuts, held_at_cut}
+use Rattle.vss_model.proofs.CutStep.{second_not, both, step_made_same, working_at_cut, after_cut, has_set}
+use Rattle.vss_model.proofs.OneCut.{ends_settle, plain_kind, changed_number, changed_result, uncut_at_cut, images_in_time}
+use Rattle.vss_model.proofs.NewestImage.{UpTo, image_of, images_up_to, newest_image}
+
+-- ## the fact
+
+-- Where the volume was held before an act, the point is the end of the effective writes while it is not released; where
+-- it was not held, it is released.
+abbrev Since : Bool → Bool → ℕ → List Write → Type 0
+Since true released p ws = released ≡ false → p ≡ length ws
+Since false released p ws = released ≡ true
+
+record IsUnused (m : Bool) (v : ℕ) (a : Agenda) (r : SetRow) (p : ℕ) (ws : List Write) : Type 0 where
+  snapshot : is_snapshot a.kind ≡ true
+  among : is_among v r.volumes ≡ true
+  hold : has_said a.log (plain Hold) v ≡ true
+  since : Since m (has_said a.log (plain Release) v) p ws
+
+-- an image of the set in progress stands only while its agenda runs
+abbrev AgendaUnused : Bool → ℕ → Option Agenda → SetRow → ℕ → List Write → Type 0
+AgendaUnused m v None r p ws = ⊥
+AgendaUnused m v (Some a) r p ws = IsUnused m v a r p ws
+
+abbrev ImageUnused : Bool → ℕ → Option Agenda → SetRow → Option ℕ → List Write → Type 0
+ImageUnused m v a r None ws = Unit {0}
+ImageUnused m v a r (Some p) ws = AgendaUnused m v a r p ws
+
+abbrev SetUnused : Bool → ℕ → Option Agenda → Option SetRow → History → Type 0
+SetUnused m v a None h = Unit {0}
+SetUnused m v a (Some r) h = ImageUnused m v a r (point_in r.number h.images) h.writes
+
+-- of volume v
+abbrev Unused : Bool → ℕ → State → Type 0
+Unused m v st = SetUnused m v st.course.agenda (in_progress st) (history_of st v)
+
+abbrev NoImage : Option SetRow → List Image → Type 0
+NoImage None images = Unit {0}
+NoImage (Some r) images = point_in r.number images ≡ None
+
+-- ## fewer images
+
+-- k has no image that h has not, and where m says so the same effective writes
+record Fewer (m : Bool) (h k : History) : Type 0 where
+  writes : m ≡ true → k.writes ≡ h.writes
+  images : (n p : ℕ) → point_in n k.images ≡ Some p → point_in n h.images ≡ Some p
+
+fewer_same : (m : Bool) (h : History) → Fewer m h h
+fewer_same m h = record { writes = λ e. refl; images = λ n p e. e }
+
+equal : (a b : ℕ) → (a == b) ≡ true → a ≡ b
+equal a b e = grind arith
+
+passed_over : (b c : Bool) (x : ℕ) (less rest : Option ℕ) → (c ≡ true → b ≡ true) → b ≡ false → less ≡ rest → (if c then Some x else less) ≡ rest
+passed_over b true x less rest f g h = absurd (true_not_false b (f refl) g)
+passed_over b false x less rest f g h = h
+
+filter_head : (b t : Bool) (i : Image) (n : ℕ) (less rest : List Image) → ((i.set == n) ≡ true → b ≡ t) → point_in n less ≡ (if t then point_in n rest else None)
+    → point_in n (if b then i ∷ less else less) ≡ (if t then point_in n (i ∷ rest) else None)
+filter_head true true i n less rest f g = ap (λ o. if i.set == n then Some i.point else o) g
+filter_head true false i n less rest f g = passed_over false (i.set == n) i.point _ None (λ e. sym (f e)) refl g
+filter_head false true i n less rest f g = sym (passed_over false (i.set == n) i.point _ _ f refl (sym g))
+filter_head false false i n less rest f g = g
+
+-- images that are kept by their sets
+point_in-filter : (test : ℕ → Bool) (n : ℕ) (images : List Image) → point_in n (filter (λ i. test i.set) images) ≡ (if test n then point_in n images else None)
+point_in-filter test n [] = by_test (test n)
+  where
+    nothing : Option ℕ
+    nothing = None
+
+    by_test : (b : Bool) → nothing ≡ (if b then nothing else nothing)
+    by_test true = refl
+    by_test false = refl
+point_in-filter test n (i ∷ images) =
+    filter_head (test i.set) (test n) i n (filter (λ j. test j.set) images) images (λ e. ap test (equal i.set n e)) (point_in-filter test n images)
+
+some_of : (b : Bool) (o less : Option ℕ) (p : ℕ) → less ≡ (if b then o else None) → less ≡ Some p → o ≡ Some p
+some_of true o less p e f = sym e ∙ f
+some_of false o less p e f = absurd (nothing (sym e ∙ f))
+  where
+    nothing : None ≡ Some p → ⊥
+    nothing g = cc
+
+kept_images : (test : ℕ → Bool) (n p : ℕ) (images : List Image) → point_in n (filter (λ i. test i.set) images) ≡ Some p → point_in n images ≡ Some p
+kept_images test n p images e = some_of (test n) (point_in n images) _ p (point_in-filter test n images) e
+
+fewer_dropped : (m : Bool) (n : ℕ) (h : History) → Fewer m h (dropped n h)
+fewer_dropped m n h = record { writes = λ e. refl; images = λ k p e. kept_images (λ x. not (x == n)) k p h.images e }
+
+fewer_reverted : (n point : ℕ) (h : History) → Fewer false h (reverted n point h)
+fewer_reverted n point h = record { writes = λ e. absurd cc; images = λ k p e. kept_images (λ x. not (nat_lt n x)) k p h.images e }
+
+fewer_reverted_in_part : (blocks n point m : ℕ) (h : History) → Fewer false h (reverted_in_part blocks n point m h)
+fewer_reverted_in_part blocks n point m h = record { writes = λ e. absurd cc; images = λ k p e. kept_images (λ x. not (nat_lt n x)) k p h.images e }
+
+fewer-map : (m : Bool) (f : History → History) → ((h : History) → Fewer m h (f h)) → (hs : List History) (v : ℕ) → Fewer m (history_in (slice_get hs v)) (history_in (slice_get (map f hs) v))
+fewer-map m f less [] zero = fewer_same m _
+fewer-map m f less [] (suc v) = fewer_same m _
+fewer-map m f less (x ∷ hs) zero = less x
+fewer-map m f less (x ∷ hs) (suc v) = fewer-map m f less hs v
+
+fewer-change_at : (m : Bool) (f : History → History) → ((h : History) → Fewer m h (f h)) → (at : ℕ) (hs : List History) (v : ℕ) → Fewer m (history_in (slice_get hs v)) (history_in (slice_get (change_at at f hs) v))
+fewer-change_at m f less at [] v = fewer_same m _
+fewer-change_at m f less zero (x ∷ hs) zero = less x
+fewer-change_at m f less zero (x ∷ hs) (suc v) = fewer_same m _
+fewer-change_at m f less (suc at) (x ∷ hs) zero = fewer_same m _
+fewer-change_at m f less (suc at) (x ∷ hs) (suc v) = fewer-change_at m f less at hs v
+
+gone_if : (b m : Bool) (n : ℕ) (h : History) → Fewer m h (if b then record { writes = h.writes; images = after_set n h.images } else h)
+gone_if true m n h = record { writes = λ e. refl; images = λ k p e. kept_images (λ x. nat_lt n x) k p h.images e }
+gone_if false m n h = fewer_same m h
+
+fewer-gone : (m : Bool) (n : ℕ) (ps : List Placed) (hs : List History) (v : ℕ) → Fewer m (history_in (slice_get hs v)) (history_in (slice_get (gone_up_to n ps hs) v))
+fewer-gone m n [] hs v = fewer_same m _
+fewer-gone m n (p ∷ ps) [] v = fewer_same m _
+fewer-gone m n (p ∷ ps) (x ∷ hs) zero = gone_if p.within m n x
+fewer-gone m n (p ∷ ps) (x ∷ hs) (suc v) = fewer-gone m n ps hs v
+
+fewer-images_dropped : (m : Bool) (o : Option SetRow) (hs : List History) (v : ℕ) → Fewer m (history_in (slice_get hs v)) (history_in (slice_get (images_dropped o hs) v))
+fewer-images_dropped m None hs v = fewer_same m _
+fewer-images_dropped m (Some r) hs v = fewer-map m (dropped r.number) (fewer_dropped m r.number) hs v
+
+-- another volume changes
+other_same : (f : History → History) (at : ℕ) (hs : List History) (v : ℕ) → (at == v) ≡ false → slice_get (change_at at f hs) v ≡ slice_get hs v
+other_same f at [] v e = refl
+other_same f zero (x ∷ hs) zero e = absurd cc
+other_same f zero (x ∷ hs) (suc v) e = refl
+other_same f (suc at) (x ∷ hs) zero e = refl
+other_same f (suc at) (x ∷ hs) (suc v) e = other_same f at hs v (one_less at v e)
+  where
+    one_less : (a b : ℕ) → (suc a == suc b) ≡ false → (a == b) ≡ false
+    one_less a b e = grind arith
+
+-- ## the fact with fewer images
+
+since_writes : (m b : Bool) (p : ℕ) (ws xs : List Write) → (m ≡ true → xs ≡ ws) → Since m b p ws → Since m b p xs
+since_writes true b p ws xs same h = λ e. h e ∙ ap length (sym (same refl))
+since_writes false b p ws xs same h = h
+
+agenda_fewer : (m : Bool) (v : ℕ) (a : Option Agenda) (r : SetRow) (p : ℕ) (ws xs : List Write) → (m ≡ true → xs ≡ ws) → AgendaUnused m v a r p ws → AgendaUnused m v a r p xs
+agenda_fewer m v None r p ws xs same h = absurd h
+agenda_fewer m v (Some a) r p ws xs same h = record { snapshot = h.snapshot; among = h.among; hold = h.hold; since = since_writes m (has_said a.log (plain Release) v) p ws xs same h.since }
+
+image_fewer : (m : Bool) (v : ℕ) (a : Option Agenda) (r : SetRow) (h k : History) → Fewer m h k → (o : Option ℕ) → point_in r.number k.images ≡ o → ImageUnused m v a r (point_in r.number h.images) h.writes → ImageUnused m v a r o k.writes
+image_fewer m v a r h k f None e g = tt
+image_fewer m v a r h k f (Some p) e g = agenda_fewer m v a r p h.writes k.writes f.writes (subst (λ o. ImageUnused m v a r o h.writes) (f.images r.number p e) g)
+
+set_fewer : (m : Bool) (v : ℕ) (a : Option Agenda) (o : Option SetRow) (h k : History) → Fewer m h k → SetUnused m v a o h → SetUnused m v a o k
+set_fewer m v a None h k f g = tt
+set_fewer m v a (Some r) h k f g = image_fewer m v a r h k f (point_in r.number k.images) refl g
+
+-- ## no image
+
+no_image_any : (m : Bool) (v : ℕ) (a : Option Agenda) (o : Option SetRow) (h : History) → NoImage o h.images → SetUnused m v a o h
+no_image_any m v a None h e = tt
+no_image_any m v a (Some r) h e = subst (λ x. ImageUnused m v a r x h.writes) (sym e) tt
+
+not_some : (o : Option ℕ) → ((p : ℕ) → o ≡ Some p → ⊥) → o ≡ None
+not_some None f = refl
+not_some (Some p) f = absurd (f p refl)
+
+-- where an image cannot be unused, there is none
+no_image_of : (m : Bool) (v : ℕ) (a : Option Agenda) (o : Option SetRow) (h : History) → ((r : SetRow) (p : ℕ) → o ≡ Some r → AgendaUnused m v a r p h.writes → ⊥) → SetUnused m v a o h → NoImage o h.images
+no_image_of m v a None h f g = tt
+no_image_of m v a (Some r) h f g = not_some (point_in r.number h.images) (λ p e. f r p refl (subst (λ x. ImageUnused m v a r x h.writes) e g))
+
+quiet_no_image : (m : Bool) (v : ℕ) (a : Option Agenda) (o : Option SetRow) (h : History) → is_some a ≡ false → SetUnused m v a o h → NoImage o h.images
+quiet_no_image m v None o h e g = no_image_of m v None o h (λ r p f i. i) g
+quiet_no_image m v (Some a) o h e g = absurd cc
+
+plain_no_image : (m : Bool) (v : ℕ) (a : Agenda) (o : Option SetRow) (h : History) → is_snapshot a.kind ≡ false → SetUnused m v (Some a) o h → NoImage o h.images
+plain_no_image m v a o h e g = no_image_of m v (Some a) o h (λ r p f i. true_not_false (is_snapshot a.kind) i.snapshot e) g
+
+-- a volume that is not of the set has none of its images
+outside_no_image : (m : Bool) (v : ℕ) (a : Option Agenda) (o : Option SetRow) (h : History) → is_in_set v o ≡ false → SetUnused m v a o h → NoImage o h.images
+outside_no_image m v a o h e g = no_image_of m v a o h (λ r p f i. not_among a r p (subst (λ x. is_in_set v x ≡ false) f e) i) g
+  where
+    not_among : (a : Option Agenda) (r : SetRow) (p : ℕ) → is_among v r.volumes ≡ false → AgendaUnused m v a r p h.writes → ⊥
+    not_among None r p e i = i
+    not_among (Some a) r p e i = true_not_false (is_among v r.volumes) i.among e
+
+no_image_fewer : (m : Bool) (o : Option SetRow) (h k : History) → Fewer m h k → NoImage o h.images → NoImage o k.images
+no_image_fewer m None h k f e = tt
+no_image_fewer m (Some r) h k f e = not_some (point_in r.number k.images) (λ p g. clash (point_in r.number h.images) p e (f.images r.number p g))
+  where
+    clash : (o : Option ℕ) (p : ℕ) → o ≡ None → o ≡ Some p → ⊥
+    clash None p e f = cc
+    clash (Some x) p e f = cc
+
+no_image_rows : (f : SetRow → SetRow) → ((r : SetRow) → (f r).number ≡ r.number) → (o : Option SetRow) (images : List Image) → NoImage o images → NoImage (option_map f o) images
+no_image_rows f same None images e = tt
+no_image_rows f same (Some r) images e = ap (λ n. point_in n images) (same r) ∙ e
+
+no_image_settled : (p : SetOutcome) (rows : List SetRow) (images : List Image) → NoImage (find (λ r. is_running r.result) rows) images → NoImage (find (λ r. is_running r.result) (map (row_settled p) rows)) images
+no_image_settled Running rows images e =
+    subst (λ o. NoImage o images) (sym (find-settled_running rows)) (no_image_rows (λ (r : SetRow). record r { result = Running }) (λ r. refl) (find (λ r. is_running r.result) rows) images e)
+no_image_settled CompleteSet rows images e = subst (λ o. NoImage o images) (sym (find-settled_over CompleteSet refl rows)) tt
+no_image_settled (FailedSet why) rows images e = subst (λ o. NoImage o images) (sym (find-settled_over (FailedSet why) refl rows)) tt
+
+-- ## the course goes on
+
+since_later : (m b c : Bool) (p : ℕ) (ws : List Write) → (b ≡ true → c ≡ true) → Since m b p ws → Since m c p ws
+since_later true true c p ws f h = λ e. absurd (true_not_false c (f refl) e)
+since_later true false c p ws f h = λ e. h refl
+since_later false b c p ws f h = f h
+
+image_follows : (m : Bool) (v : ℕ) (a b : Agenda) (ms ns : List Member) (o q : SetOutcome) (r : SetRow) (x : Option ℕ) (ws : List Write) → IsSameAgenda a b ms ns o q → ImageUnused m v (Some a) r x ws → ImageUnused m v (Some b) r x ws
+image_follows m v a b ms ns o q r None ws f h = tt
+image_follows m v a b ms ns o q r (Some p) ws f h = record {
+  snapshot = ap is_snapshot f.kind ∙ h.snapshot;
+  among = h.among;
+  hold = f.said (plain Hold) v h.hold;
+  since = since_later m (has_said a.log (plain Release) v) (has_said b.log (plain Release) v) p ws (f.said (plain Release) v) h.since;
+}
+
+set_follows : (m : Bool) (v : ℕ) (a b : Agenda) (ms ns : List Member) (o q : SetOutcome) (found : Option SetRow) (h : History) → IsSameAgenda a b ms ns o q → SetUnused m v (Some a) found h → SetUnused m v (Some b) found h
+set_follows m v a b ms ns o q None h f g = tt
+set_follows m v a b ms ns o q (Some r) h f g = image_follows m v a b ms ns o q r (point_in r.number h.images) h.writes f g
+
+no_set : (m : Bool) (v : ℕ) (x : State) → in_progress x ≡ None → Unused m v x
+no_set m v x e = subst (λ o. SetUnused m v x.course.agenda o (history_of x v)) (sym e) tt
+
+none_concluded : (m : Bool) (v : ℕ) (e : Ending) (x : State) → NoImage (in_progress x) (history_of x v).images → Unused m v (concluded e x)
+none_concluded m v NothingEnds x h = no_image_any m v x.course.agenda (in_progress x) (history_of x v) h
+none_concluded m v AgendaEnds x h = no_image_any m v x.course.agenda _ (history_of x v) (no_image_settled x.course.outcome x.sets (history_of x v).images h)
+none_concluded m v (SetFails why) x h =
+    no_image_any m v x.course.agenda _ _
+    (no_image_fewer m _ (history_of x v) _ (fewer-images_dropped m (in_progress x) x.volumes v) (no_image_settled x.course.outcome x.sets (history_of x v).images h))
+
+-- the agenda ends: that of the snapshot with its set, which is not in progress any more
+ended_if : (b : Bool) (m : Bool) (v : ℕ) (a : Agenda) (c : Course) (st : State) → is_running c.outcome ≡ b → Moves (Some a) st.course.outcome None c.outcome → SetUnused m v (Some a) (in_progress st) (history_of st v)
+    → Unused m v (concluded (ending st.course.outcome c.outcome true None) (record st { course = c }))
+ended_if true m v a c st e g h =
+    none_concluded m v (ending st.course.outcome c.outcome true None) (record st { course = c }) (plain_no_image m v a (in_progress st) (history_of st v) (plain_kind a.kind st.course.outcome c.outcome e g) h)
+ended_if false m v a c st e g h =
+    no_set m v (concluded (ending st.course.outcome c.outcome true None) (record st { course = c })) (ends_settle st.course.outcome c.outcome (record st { course = c }) ∙ find-settled_over c.outcome e st.sets)
+
+on_course : (m : Bool) (v : ℕ) (a b : Option Agenda) (c : Course) (st : State) → c.agenda ≡ b → Moves a st.course.outcome b c.outcome → Follows a st.course.members st.course.outcome b c.members c.outcome
+    → SetUnused m v a (in_progress st) (history_of st v) → Unused m v (concluded (ending st.course.outcome c.outcome (is_some a) b) (record st { course = c }))
+on_course m v None None c st e g f h =
+    subst (λ x. Unused m v (concluded x (record st { course = c }))) (sym (ending_idle st.course.outcome c.outcome g))
+    (no_image_any m v c.agenda (in_progress st) (history_of st v) (quiet_no_image m v None (in_progress st) (history_of st v) refl h))
+on_course m v None (Some b) c st e g f h = absurd g
+on_course m v (Some a) (Some b) c st e g f h =
+    subst (λ x. Unused m v (concluded x (record st { course = c }))) (sym (ending_on st.course.outcome c.outcome true b g.1))
+    (subst (λ x. SetUnused m v x (in_progress st) (history_of st v)) (sym e) (set_follows m v a b st.course.members c.members st.course.outcome c.outcome (in_progress st) (history_of st v) f h))
+on_course m v (Some a) None c st e g f h = ended_if (is_running c.outcome) m v a c st refl g h
+
+goes : (m : Bool) (v : ℕ) (c : Course) (st : State) → MovesOn st.course c → GoesOn st.course c → Unused m v st → Unused m v (followed (runs st) c st)
+unfolding followed
+goes m v c st g f h = on_course m v st.course.agenda c.agenda c st refl g f h
+
+-- an agenda begins: none ran, so the set in progress has no image
+begun_unused : (m : Bool) (v : ℕ) (ran : Bool) (c : Course) (st : State) → runs st ≡ false → Unused m v st → Unused m v (followed ran c st)
+unfolding followed
+begun_unused m v ran c st e h =
+    none_concluded m v (ending st.course.outcome c.outcome ran c.agenda) (record st { course = c }) (quiet_no_image m v st.course.agenda (in_progress st) (history_of st v) e h)
+
+-- ## each change
+
+on_answers : (m : Bool) (v w : ℕ) (said : Said) (st : State) → Unused m v st → Unused m v (answered w said st)
+unfolding answered
+on_answers m v w said st h = goes m v _ st (moves_answered w said st.clock st.course) (goes_answered w said st.clock st.course) h
+
+on_ticks : (m : Bool) (v n : ℕ) (st : State) → Unused m v st → Unused m v (ticked n st)
+unfolding ticked
+on_ticks m v n st h = goes m v _ (later n st) (moves_timed (st.clock + n) st.course) (goes_timed (st.clock + n) st.course) h
+
+on_begins : (m : Bool) (v lane : ℕ) (all : Bool) (c : Option Context) (st : State) → Unused m v st → Unused m v (begin_in lane all c st).1
+on_begins m v lane all None st h = h
+on_begins m v lane all (Some c) st h = h
+
+with_volumes : (m : Bool) (v : ℕ) (hs : List History) (st : State) → Fewer m (history_of st v) (history_in (slice_get hs v)) → Unused m v st → Unused m v (record st { volumes = hs })
+with_volumes m v hs st f h = set_fewer m v st.course.agenda (in_progress st) (history_of st v) (history_in (slice_get hs v)) f h
+
+-- a set is started: it has no image
+found_no_image : (rows : List SetRow) (r : SetRow) (images : List Image) → point_in r.number images ≡ None → NoImage (find (λ q. is_running q.result) rows) images → NoImage (find (λ q. is_running q.result) (rows ++ r ∷ [])) images
+found_no_image [] r images e h = new_if (is_running r.result)
+  where
+    new_if : (b : Bool) → NoImage (if b then Some r else None) images
+    new_if true = e
+    new_if false = tt
+found_no_image (q ∷ rows) r images e h = head_if (is_running q.result) h (found_no_image rows r images e)
+  where
+    head_if : (b : Bool) → NoImage (if b then Some q else find (λ q. is_running q.result) rows) images → (NoImage (find (λ q. is_running q.result) rows) images → NoImage (find (λ q. is_running q.result) (rows ++ r ∷ [])) images) → NoImage (if b then Some q else find (λ q. is_running q.result) (rows ++ r ∷ [])) images
+    head_if true h ih = h
+    head_if false h ih = ih h
+
+unnumbered : (n m : ℕ) (images : List Image) → UpTo m images → m < n → point_in n images ≡ None
+unnumbered n m [] h l = refl
+unnumbered n m (i ∷ images) h l = rw (differs i.set n m h.0 l) (unnumbered n m images h.1 l)
+  where
+    differs : (a n m : ℕ) → a ≤ m → m < n → (a == n) ≡ false
+    differs a n m e l = grind arith
+
+on_starts : (m : Bool) (v : ℕ) (q : Session) (st : State) → runs st ≡ false → IsOrderly st → Unused m v st → Unused m v (start_set q st).1
+on_starts m v q st e o h =
+    no_image_any m v st.course.agenda _ (history_of st v)
+    (found_no_image st.sets (new_set (length st.sets + 1) q.context) (history_of st v).images
+    (unnumbered (length st.sets + 1) (length st.sets) (history_of st v).images (images_up_to st.sets st.volumes v o.numbered o.live) (more (length st.sets)))
+    (quiet_no_image m v st.course.agenda (in_progress st) (history_of st v) e h))
+  where
+    more : (a : ℕ) → a < a + 1
+    more a = omega arith
+
+on_adds : (m : Bool) (v u n : ℕ) (st : State) → runs st ≡ false → Unused m v st → Unused m v (change_set n (with_volume u) st)
+on_adds m v u n st e h =
+    let f : SetRow → SetRow = row_changed n (with_volume u) in
+    no_image_any m v st.course.agenda _ (history_of st v)
+    (subst (λ o. NoImage o (history_of st v).images) (sym (find-map f (λ r. ap is_running (changed_result (r.number == n) (with_volume u) r refl)) st.sets))
+    (no_image_rows f (λ r. changed_number (r.number == n) (with_volume u) r refl) (in_progress st) (history_of st v).images (quiet_no_image m v st.course.agenda (in_progress st) (history_of st v) e h)))
+
+in_progress-closed : (q : Session) (x : State) → in_progress (closed q x) ≡ in_progress x
+unfolding closed released
+in_progress-closed q x = refl
+
+either_unused : (m : Bool) (v : ℕ) (b : Bool) (x y : Replied) → Unused m v x.1 → Unused m v y.1 → Unused m v (if b then x else y).1
+either_unused m v true x y h i = h
+either_unused m v false x y h i = i
+
+abbrev Holds : Bool → ℕ → State → Type 0
+Holds m v st = IsOrderly st × Unused m v st
+
+kept_but_steps : (m : Bool) (v : ℕ) → IsKeptButSteps (Holds m v)
+kept_but_steps m v =
+    let o : IsKeptButSteps IsOrderly = but_steps IsOrderly orderly_changes in
+    record {
+      answers = λ w said st e h. (o.answers w said st e h.0, on_answers m v w said st h.1);
+      ticks = λ n st h. (o.ticks n st h.0, on_ticks m v n st h.1);
+      fails = λ why st h. (o.fails why st h.0, no_set m v (failed why st) (none_after (in_progress st) why st refl));
+      gathers = λ s q st g h. (o.gathers s q st g h.0, begun_unused m v true _ st g.quiet h.1);
+      prepares = λ s q st g h. (o.prepares s q st g h.0, either_unused m v (has_no_volume (in_progress st)) _ _ h.1 (begun_unused m v true _ st g.quiet h.1));
+      snapshots = λ q st g h. (o.snapshots q st g h.0, either_unused m v (has_no_volume (in_progress st)) _ _ h.1 (begun_unused m v true _ st g.quiet h.1));
+      completes = λ q st g h. (o.completes q st g h.0, begun_unused m v true _ st g.quiet h.1);
+      clears = λ s u b st h. (o.clears s u b st h.0, with_volumes m v _ st (fewer-gone m _ _ st.volumes v) h.1);
+      deletes_set = λ n st h. (o.deletes_set n st h.0, with_volumes m v _ st (fewer-map m (dropped n) (fewer_dropped m n) st.volumes v) h.1);
+      deletes_image = λ n u st h. (o.deletes_image n u st h.0, with_volumes m v _ st (fewer-change_at m (dropped n) (fewer_dropped m n) u st.volumes v) h.1);
+      names = λ q explicit st g h. (o.names q explicit st g h.0, h.1);
+      disables = λ w q st g h. (o.disables w q st g h.0, h.1);
+      starts = λ q st g e h. (o.starts q st g e h.0, on_starts m v q st g.quiet h.0 h.1);
+      adds = λ u r q st g e f h. (o.adds u r q st g e f h.0, on_adds m v u r.number st g.quiet h.1);
+      ends = λ q st e h. (o.ends q st e h.0, no_set m v (closed q (failed AsyncCancelled st)) (in_progress-closed q (failed AsyncCancelled st) ∙ none_after (in_progress st) AsyncCancelled st refl));
+    }
+
+-- ## writes
+
+on_other : (m : Bool) (v u : ℕ) (f : History → History) (x : State) → (u == v) ≡ false → Unused m v x → Unused m v (record x { volumes = change_at u f x.volumes })
+on_other m v u f x e h = subst (λ o. SetUnused m v x.course.agenda (in_progress x) (history_in o)) (sym (other_same f u x.volumes v e)) h
+
+on_put : (m : Bool) (v u : ℕ) (w : Write) (st x : State) → is_held st v ≡ m → is_held st u ≡ false → Unused m v x → Unused m v (record x { volumes = change_at u (written w) x.volumes })
+on_put true v u w st x e free h = on_other true v u (written w) x (apart (is_held st) u v free e) h
+on_put false v u w st x e free h =
+    with_volumes false v _ x (fewer-change_at false (written w) (λ y. record { writes = λ f. absurd cc; images = λ n p f. f }) u x.volumes v) h
+
+on_puts : (m : Bool) (v u : ℕ) (w : Write) (mark : Mark) (st x : State) → is_held st v ≡ m → is_held st u ≡ false → Unused m v x → Unused m v (put u w mark x)
+on_puts m v u w Clean st x e free h = on_put m v u w st x e free h
+on_puts m v u w Fault st x e free h = h
+on_puts m v u w (FaultAfter n) st x e free h = h
+
+on_reverted : (m : Bool) (v u : ℕ) (f : History → History) (st : State) → ((h : History) → Fewer false h (f h)) → is_in_set u (in_progress st) ≡ false → Unused m v st → Unused m v (record st { volumes = change_at u f st.volumes })
+on_reverted m v u f st less e h = by_cases (u == v) refl
+  where
+    by_cases : (b : Bool) → (u == v) ≡ b → Unused m v (record st { volumes = change_at u f st.volumes })
+    by_cases true g =
+        no_image_any m v st.course.agenda (in_progress st) _
+        (no_image_fewer false (in_progress st) (history_of st v) _ (fewer-change_at false f less u st.volumes v)
+        (outside_no_image m v st.course.agenda (in_progress st) (history_of st v) (subst (λ x. is_in_set x (in_progress st) ≡ false) (equal u v g) e) h))
+    by_cases false g = on_other m v u f st g h
+
+on_reverts : (m : Bool) (v : ℕ) (s : Plan) (u : ℕ) (k : Kept) (mark : Mark) (st : State) → is_in_set u (in_progress st) ≡ false → Unused m v st → Unused m v (reverted_as s u k mark st).1
+on_reverts m v s u k Clean st e h = on_reverted m v u (reverted k.row.number k.point) st (fewer_reverted k.row.number k.point) e h
+on_reverts m v s u k Fault st e h = h
+on_reverts m v s u k (FaultAfter n) st e h = on_reverted m v u (reverted_in_part (blocks_of s u) k.row.number k.point n) st (fewer_reverted_in_part (blocks_of s u) k.row.number k.point n) e h
+
+kept_by_writes : (m : Bool) (v : ℕ) (st : State) → is_held st v ≡ m → IsKeptByWrites (Holds m v) st
+kept_by_writes m v st e =
+    let o : IsKeptByWrites IsOrderly st = orderly_writes st in
+    record {
+      puts = λ u free w mark x h. (o.puts u free w mark x h.0, on_puts m v u w mark st x e free h.1);
+      reverts = λ s n u k mark kept out h. (o.reverts s n u k mark kept out h.0, on_reverts m v s u k mark st out h.1);
+    }
+
+-- ## the steps but the Cut
+
+on_stepped_as : (m : Bool) (v : ℕ) (fails : Bool) (g : Option Group) (st : State) → is_cut_group g ≡ false → is_working (left_now st) ≡ true → Unused m v st → Unused m v (stepped_as fails g st)
+on_stepped_as m v true g st e w h = goes m v _ st (moves_stepped false st.clock st.course w) (goes_stepped false st.clock st.course) h
+on_stepped_as m v false g st e w h =
+    subst (λ x. Unused m v (followed (runs st) (course_stepped true st.clock st.course) x)) (sym (step_made_same g st e))
+    (goes m v _ st (moves_stepped true st.clock st.course w) (goes_stepped true st.clock st.course) h)
+
+on_steps : (m : Bool) (v : ℕ) (mark : Mark) (st : State) → is_cut_group (open_group (left_now st)) ≡ false → is_working (left_now st) ≡ true → Unused m v st → Unused m v (stepped mark st)
+unfolding stepped
+on_steps m v mark st e w h = on_stepped_as m v (is_failed_step (is_flush (open_group (left_now st))) mark) (open_group (left_now st)) st e w h
+
+-- ## the Cut step
+
+-- a volume gets its image, or stays as it is
+abbrev IsCutHistory : ℕ → List ℕ → ℕ → History → History → Type 0
+IsCutHistory n vs v h k = (k ≡ h) ⊎ ((is_among v vs ≡ true) × (k ≡ history_cut n h))
+
+cut_head : (b : Bool) (n : ℕ) (vs : List ℕ) (v : ℕ) (h : History) → is_among v vs ≡ b → IsCutHistory n vs v h (cut_if b n h)
+cut_head true n vs v h e = inr (e, refl)
+cut_head false n vs v h e = inl refl
+
+cut_each_at : (n : ℕ) (vs : List ℕ) (base : ℕ) (hs : List History) (v u : ℕ) → u ≡ base + v → IsCutHistory n vs u (history_in (slice_get hs v)) (history_in (slice_get (cut_each n vs base hs) v))
+cut_each_at n vs base [] zero u e = inl refl
+cut_each_at n vs base [] (suc v) u e = inl refl
+cut_each_at n vs base (x ∷ hs) zero u e = subst (λ y. IsCutHistory n vs y x (cut_if (is_among base vs) n x)) (first base u e) (cut_head (is_among base vs) n vs base x refl)
+  where
+    first : (a b : ℕ) → b ≡ a + zero → a ≡ b
+    first a b e = omega arith
+cut_each_at n vs base (x ∷ hs) (suc v) u e = cut_each_at n vs (base + 1) hs v u (shift base v u e)
+  where
+    shift : (a b u : ℕ) → u ≡ a + suc b → u ≡ (a + 1) + b
+    shift a b u e = omega arith
+
+point_in-append : (n p : ℕ) (images : List Image) → point_in n images ≡ None → point_in n (images ++ image_of n p ∷ []) ≡ Some p
+point_in-append n p [] e = rw (own n) refl
+  where
+    own : (a : ℕ) → (a == a) ≡ true
+    own a = grind arith
+point_in-append n p (i ∷ images) e = by_cases (i.set == n) e (point_in-append n p images)
+  where
+    by_cases : (b : Bool) → (if b then Some i.point else point_in n images) ≡ None → (point_in n images ≡ None → point_in n (images ++ image_of n p ∷ []) ≡ Some p) → (if b then Some i.point else point_in n (images ++ image_of n p ∷ [])) ≡ Some p
+    by_cases true f ih = absurd cc
+    by_cases false f ih = ih f
+
+held_parts : (a b c : Bool) → (a && b && not c) ≡ true → (a ≡ true) × (b ≡ true) × (c ≡ false)
+held_parts true true false e = (refl, refl, refl)
+held_parts true true true e = absurd cc
+held_parts true false c e = absurd cc
+held_parts false b c e = absurd cc
+
+cut_image : (v : ℕ) (a : Agenda) (r : SetRow) (h k : History) → (is_among v r.volumes ≡ true → holds (Some a) v ≡ true) → IsCutHistory r.number r.volumes v h k → point_in r.number h.images ≡ None → ImageUnused true v (Some a) r (point_in r.number k.images) k.writes
+cut_image v a r h k held (inl e) none = subst (λ x. ImageUnused true v (Some a) r (point_in r.number x.images) x.writes) (sym e) (subst (λ o. ImageUnused true v (Some a) r o h.writes) (sym none) tt)
+cut_image v a r h k held (inr e) none =
+    let parts = held_parts (is_snapshot a.kind) (has_said a.log (plain Hold) v) (has_said a.log (plain Release) v) (held e.0) in
+    subst (λ x. ImageUnused true v (Some a) r (point_in r.number x.images) x.writes) (sym e.1)
+    (subst (λ o. ImageUnused true v (Some a) r o h.writes) (sym (point_in-append r.number (length h.writes) h.images none))
+    (record { snapshot = parts.0; among = e.0; hold = parts.1; since = λ f. refl }))
+
+-- the row with the time of its cut has the same number and volumes
+image_of_row : (m : Bool) (v : ℕ) (a : Agenda) (r q : SetRow) (h : History) → q.number ≡ r.number → q.volumes ≡ r.volumes → ImageUnused m v (Some a) r (point_in r.number h.images) h.writes → ImageUnused m v (Some a) q (point_in q.number h.images) h.writes
+image_of_row m v a r q h number volumes g = subst (λ n. ImageUnused m v (Some a) q (point_in n h.images) h.writes) (sym number) (of_row (point_in r.number h.images) g)
+  where
+    of_row : (o : Option ℕ) → ImageUnused m v (Some a) r o h.writes → ImageUnused m v (Some a) q o h.writes
+    of_row None g = tt
+    of_row (Some p) g = record { snapshot = g.snapshot; among = ap (is_among v) volumes ∙ g.among; hold = g.hold; since = g.since }
+
+cut_unused : (s : Plan) (past : List Act) (v : ℕ) (r : SetRow) → is_cut_group (open_group (left_now (state s past))) ≡ true → CutsNow (state s past) → in_progress (state s past) ≡ Some r → Unused true v (cut_set (Some r) (state s past))
+cut_unused s past v r g c e =
+    let st = state s past in
+    let q : SetRow = row_cut r.number st.clock r in
+    let k : History = history_of (cut_set (Some r) st) v in
+    subst (λ a. SetUnused true v a (in_progress (cut_set (Some r) st)) k) (sym c.runs)
+    (subst (λ o. SetUnused true v (Some c.agenda) o k) (sym (find-row_cut r.number st.clock st.sets ∙ ap (option_map (row_cut r.number st.clock)) e))
+    (image_of_row true v c.agenda r q k (number (r.number == r.number) st.clock) (volumes-row_cut_if (r.number == r.number) st.clock r)
+    (cut_image v c.agenda r (history_of st v) k (λ f. subst (λ a. holds a v ≡ true) c.runs (held_at_cut s past r v g e f)) (cut_each_at r.number r.volumes 0 st.volumes v v (zero_plus v))
+    (not_some (point_in r.number (history_of st v).images) (λ p f. uncut_at_cut s past r v p c e f)))))
+  where
+    number : (b : Bool) (now : ℕ) → (if b then record r { cut_at = Some now } else r).number ≡ r.number
+    number true now = refl
+    number false now = refl
+
+    zero_plus : (a : ℕ) → a ≡ 0 + a
+    zero_plus a = omega arith
+
+-- ## every act
+
+-- a volume that has an image of the set in progress and is not held was released
+released_image : (v : ℕ) (a : Option Agenda) (r : SetRow) (o : Option ℕ) (ws : List Write) → holds a v ≡ false → ImageUnused true v a r o ws → ImageUnused false v a r o ws
+released_image v a r None ws e h = tt
+released_image v None r (Some p) ws e h = absurd h
+released_image v (Some a) r (Some p) ws e h = record {
+  snapshot = h.snapshot;
+  among = h.among;
+  hold = h.hold;
+  since = must (is_snapshot a.kind) (has_said a.log (plain Hold) v) (has_said a.log (plain Release) v) h.snapshot h.hold e;
+}
+  where
+    must : (x y z : Bool) → x ≡ true → y ≡ true → (x && y && not z) ≡ false → z ≡ true
+    must true true true e f g = refl
+    must true true false e f g = absurd cc
+    must true false z e f g = absurd cc
+    must false y z e f g = absurd cc
+
+released_unused : (v : ℕ) (a : Option Agenda) (o : Option SetRow) (h : History) → holds a v ≡ false → SetUnused true v a o h → SetUnused false v a o h
+released_unused v a None h e g = tt
+released_unused v a (Some r) h e g = released_image v a r (point_in r.number h.images) h.writes e g
+
+-- what was released stays so, whatever is written
+ever_image : (v : ℕ) (a : Option Agenda) (r : SetRow) (o : Option ℕ) (ws : List Write) → ImageUnused false v a r o ws → ImageUnused true v a r o ws
+ever_image v a r None ws h = tt
+ever_image v None r (Some p) ws h = absurd h
+ever_image v (Some a) r (Some p) ws h = record { snapshot = h.snapshot; among = h.among; hold = h.hold; since = λ e. absurd (true_not_false (has_said a.log (plain Release) v) h.since e) }
+
+ever_unused : (v : ℕ) (a : Option Agenda) (o : Option SetRow) (h : History) → SetUnused false v a o h → SetUnused true v a o h
+ever_unused v a None h g = tt
+ever_unused v a (Some r) h g = ever_image v a r (point_in r.number h.images) h.writes g
+
+on_no_cut : (m : Bool) (s : Plan) (past : List Act) (act : Act) (v : ℕ) → is_held (state s past) v ≡ m → (is_provider act.event && is_cut_group (open_group (left_now (state s past)))) ≡ false → Unused m v (state s past) → Unused m v (after s (state s past) act)
+on_no_cut m s past act v held e h =
+    let st = state s past in
+    (on_after_steps (Holds m v) (kept_but_steps m v) s st act (kept_by_writes m v st held)
+    (λ f g. (
+      orderly_changes.steps act.mark st (working_of s st act.event f g) (orderly s past),
+      on_steps m v act.mark st (second_not (is_provider act.event) (is_cut_group (open_group (left_now st))) e g) (working_of s st act.event f g) h,
+    ))
+    (λ lane all c f g. (orderly_changes.begins lane all c st g (orderly s past), on_begins m v lane all c st h)) (orderly s past, h)).1
+
+on_held_if : (m : Bool) (s : Plan) (past : List Act) (act : Act) (v : ℕ) → is_held (state s past) v ≡ m → (is_provider act.event && is_cut_group (open_group (left_now (state s past)))) ≡ false → Unused true v (state s past) → Unused true v (after s (state s past) act)
+on_held_if true s past act v held e h = on_no_cut true s past act v held e h
+on_held_if false s past act v held e h =
+    let st = state s past in
+    let x = after s st act in
+    ever_unused v x.course.agenda (in_progress x) (history_of x v)
+    (on_no_cut false s past act v held e (released_unused v st.course.agenda (in_progress st) (history_of st v) held h))
+
+on_act_if : (b : Bool) (s : Plan) (past : List Act) (act : Act) (v : ℕ) → (is_provider act.event && is_cut_group (open_group (left_now (state s past)))) ≡ b → Unused true v (state s past) → Unused true v (after s (state s past) act)
+on_act_if false s past act v e h = on_held_if (is_held (state s past) v) s past act v refl e h
+on_act_if true s past act v e h =
+    let st = state s past in
+    let parts = both (is_provider act.event) (is_cut_group (open_group (left_now st))) e in
+    let c = cuts s past parts.1 in
+    let r = has_set st c in
+    subst (Unused true v) (sym (after_cut s st act parts.0 parts.1))
+    (subst (λ o. Unused true v (followed (runs st) (course_stepped true st.clock st.course) (cut_set o st))) (sym r.is)
+    (goes true v (course_stepped true st.clock st.course) (cut_set (Some r.set) st) (moves_stepped true st.clock st.course (working_at_cut (left_now st) parts.1)) (goes_stepped true st.clock st.course)
+    (cut_unused s past v r.set parts.1 c r.is)))
+
+unused_fold : (s : Plan) (v : ℕ) (past acts : List Act) → Unused true v (state s past) → Unused true v (fold (after s) (state s past) acts)
+unused_fold s v past [] h = h
+unused_fold s v past (act ∷ acts) h =
+    subst (λ st. Unused true v (fold (after s) st acts)) (state-append s past act)
+    (unused_fold s v (past ++ act ∷ []) acts (subst (Unused true v) (sym (state-append s past act)) (on_act_if (is_provider act.event && is_cut_group (open_group (left_now (state s past)))) s past act v refl h)))
+
+unused : (s : Plan) (acts : List Act) (v : ℕ) → Unused true v (state s acts)
+unused s acts v = unused_fold s v [] acts tt
+
+-- ## what it means
+
+point_of : (v : ℕ) (a : Option Agenda) (r : SetRow) (p : ℕ) (ws : List Write) → holds a v ≡ true → AgendaUnused true v a r p ws → p ≡ length ws
+point_of v None r p ws e h = absurd h
+point_of v (Some a) r p ws e h = h.since (held_parts (is_snapshot a.kind) (has_said a.log (plain Hold) v) (has_said a.log (plain Release) v) e).2
+
+-- the point is the end of the effective writes
+pub held_point : (s : Plan) (acts : List Act) (r : SetRow) (v p : ℕ) → in_progress (state s acts) ≡ Some r → is_held (state s acts) v ≡ true → point_in r.number (history_of (state s acts) v).images ≡ Some p
+    → p ≡ length (history_of (state s acts) v).writes
+held_point s acts r v p e f g =
+    let st = state s acts in
+    point_of v st.course.agenda r p (history_of st v).writes f
+    (subst (λ o. ImageUnused true v st.course.agenda r o (history_of st v).writes) g (subst (λ o. SetUnused true v st.course.agenda o (history_of st v)) e (unused s acts v)))
+
+no_names : (bs : List ℕ) → filter (names []) bs ≡ []
+no_names [] = refl
+no_names (b ∷ bs) = no_names bs
+
+none_named : (blocks p : ℕ) (ws : List Write) → p ≡ length ws → blocks_named blocks (drop p ws) ≡ []
+none_named blocks p ws e = ap (λ k. blocks_named blocks (drop k ws)) e ∙ ap (blocks_named blocks) (drop-length ws) ∙ no_names (range_with_len 0 blocks)
+
+-- the images before the last are of earlier sets
+later_last : (i : Image) (n p : ℕ) (older : List Image) → AreLater i (older ++ image_of n p ∷ []) → i.set < n
+later_last i n p [] h = h.0
+later_last i n p (j ∷ older) h = later_last i n p older h.2
+
+used_by-last : (blocks n p writes : ℕ) (ws : List Write) (older : List Image) → AreInTime writes (older ++ image_of n p ∷ []) → used_by blocks ws (older ++ image_of n p ∷ []) n ≡ Some (length (named blocks ws (image_of n p) []))
+used_by-last blocks n p writes ws [] h = rw (own n) refl
+  where
+    own : (a : ℕ) → (a == a) ≡ true
+    own a = grind arith
+used_by-last blocks n p writes ws (i ∷ older) h = rw (differs i.set n (later_last i n p older h.1)) (used_by-last blocks n p writes ws older h.2)
+  where
+    differs : (a n : ℕ) → a < n → (a == n) ≡ false
+    differs a n l = grind arith
+
+-- and it uses no slot
+pub held_slots : (s : Plan) (acts : List Act) (r : SetRow) (v p blocks : ℕ) → in_progress (state s acts) ≡ Some r → is_held (state s acts) v ≡ true → point_in r.number (history_of (state s acts) v).images ≡ Some p
+    → used_by blocks (history_of (state s acts) v).writes (history_of (state s acts) v).images r.number ≡ Some 0
+held_slots s acts r v p blocks e f g =
+    let h = history_of (state s acts) v in
+    let new = newest_image s acts r v p e g in
+    ap (λ images. used_by blocks h.writes images r.number) new.is
+    ∙ used_by-last blocks r.number p (length h.writes) h.writes new.older (subst (AreInTime (length h.writes)) new.is (images_in_time s acts v))
+    ∙ ap (λ bs. Some (length bs)) (none_named blocks p h.writes (held_point s acts r v p e f g))
