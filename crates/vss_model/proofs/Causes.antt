@@ -1,6 +1,6 @@
 -- Where an act gives no cause, no set fails in it.
-use Rattle.std.proofs.Common.{◌≡◌, ℕ, ◌+◌, ◌==◌, List, [], ◌∷◌, ◌++◌, Option, Some, None, refl, Bool, true, false, ap, sym, ◌∙◌, subst, map, find, arith}
-use Rattle.std.specs.Prelude.{is_some, ◌&&◌, ◌||◌, not, if◌then◌else◌}
+use Rattle.std.proofs.Common.{◌≡◌, ℕ, ◌+◌, List, [], ◌∷◌, ◌++◌, Option, Some, None, refl, Bool, true, false, ap, ◌∙◌, subst}
+use Rattle.std.specs.Prelude.{is_some, ◌&&◌, not, if◌then◌else◌}
 use Rattle.block_data.specs.declared.payload.Payload.TheVariants.{Fill, Stamp}
 use Rattle.block_data.specs.PayloadBytes.{payload_bytes}
 use Rattle.vss_names.specs.declared.context.Context.{Context}
@@ -21,7 +21,7 @@ use Rattle.set_agenda.specs.declared.kind.Kind.TheVariants.{Gather, Prepare, Sna
 use Rattle.set_agenda.specs.declared.member.Member.{Member}
 use Rattle.set_agenda.specs.Agenda.{Agenda, left, groups_left, is_done, open_order, open_group}
 use Rattle.set_agenda.specs.Limits.{Running as RunningLimit, spent_of}
-use Rattle.set_agenda.specs.Course.{Course, posted, settled_if, settled_in, settled, outcome_after, begun, is_decisive, told, decided, answered_to, answered as course_answered, worked, stepped_as as course_stepped_as, stepped as course_stepped, limits_now, treated, timed as course_timed}
+use Rattle.set_agenda.specs.Course.{Course, posted, settled_if, settled_in, settled, outcome_after, begun, is_decisive, told, decided, answered_to, answered as course_answered, worked, stepped as course_stepped, limits_now, treated, timed as course_timed}
 use Rattle.component_doc.specs.Selection.{Naming, IsNotFound, IsNotSelectable, IsNamedAlready, Names, naming}
 use Rattle.requestor.specs.declared.mode.Mode.{Mode}
 use Rattle.requestor.specs.declared.mode.Mode.TheVariants.{Components, All}
@@ -37,12 +37,12 @@ use Rattle.scenario.specs.Plan.{Plan, token}
 use Rattle.vss_model.specs.declared.event.Event.{Event}
 use Rattle.vss_model.specs.declared.event.Event.TheVariants.{Line, Answer as AnswerEvent, Provider, Idle}
 use Rattle.vss_model.specs.State.{State, SetRow, Kept, in_progress, row_of, row_changed, left_now, kept_image}
-use Rattle.vss_model.specs.Ending.{Ending, NothingEnds, AgendaEnds, SetFails, ending, row_settled, concluded, followed, runs}
+use Rattle.vss_model.specs.Ending.{ending, concluded, followed, runs}
 use Rattle.vss_model.specs.Images.{Replied, cleared, set_loses_image, with_room_if, put, write, image_block, image_blocks, properties, delete_set, delete_kept, delete_image, revert_refusal, reverted_as, revert_to, revert}
-use Rattle.vss_model.specs.Sessions.{begin_in, disable, gather, prepare, snapshot, complete, start_set, new_set, new_number, change_set, with_volume, named_as, component_in, known_metas, add_refusal, add_to, add, has_no_volume, await_last, line_in, session_line, judged}
+use Rattle.vss_model.specs.Sessions.{begin_in, new_set, new_number, with_volume, named_as, component_in, known_metas, add_refusal, add_to, add, has_no_volume, await_last, line_in, session_line, judged}
 use Rattle.vss_model.specs.Steps.{with_cut, row_cut, cut_set, step_made, is_flush, is_failed_step, answered, stepped_as, stepped, ticked, later}
 use Rattle.vss_model.specs.Lines.{called, line}
-use Rattle.vss_model.specs.Acts.{Act, order_of_writer, enabled, happens, idle_now, after_if, after, state}
+use Rattle.vss_model.specs.Acts.{Act, enabled, happens, idle_now, after_if, after, state}
 use Rattle.vss_model.specs.Facts.{NumberedFrom, IsOfSession, has_failed, is_live}
 use Rattle.vss_model.specs.Causes.{line_gives_cause, is_decisive_order, gives_cause, SetsFailWithCause}
 use Rattle.vss_model.proofs.Appending.{state-append}

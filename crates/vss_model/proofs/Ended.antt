@@ -1,7 +1,6 @@
 -- At the end of a legal and complete trail no session stands, so no set is in progress.
-use Rattle.std.proofs.Common.{◌≡◌, ℕ, zero, suc, ◌<◌, ◌≤◌, List, [], ◌∷◌, Option, Some, None, refl, Bool, true, false, ap, sym, ◌∙◌, subst, length, drop, get_or, arith}
-use Rattle.std.specs.Prelude.{All, slice_get, not, ◌&&◌}
-use Rattle.std.specs.List.{list_all, range_with_len}
+use Rattle.std.proofs.Common.{◌≡◌, ℕ, zero, suc, ◌≤◌, List, [], ◌∷◌, Option, Some, None, refl, true, ap, sym, ◌∙◌, length, drop, arith}
+use Rattle.std.specs.Prelude.{All, slice_get}
 use Rattle.write_history.specs.declared.move_item.Move.{Move}
 use Rattle.requestor.specs.Session.{Session}
 use Rattle.scenario.specs.Bounds.{IsPlan, IsLane, has_end, ends_sessions}

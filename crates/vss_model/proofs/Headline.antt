@@ -1,17 +1,17 @@
 -- Every run keeps its promises, and a legal and complete trail makes each line once.
-use Rattle.std.proofs.Common.{◌≡◌, ℕ, zero, suc, ◌+◌, ◌==◌, ◌<◌, ◌≤◌, List, [], ◌∷◌, ◌++◌, Option, Some, None, refl, Bool, true, false, ap, sym, ◌∙◌, subst, length, inl, inr, arith}
+use Rattle.std.proofs.Common.{◌≡◌, ℕ, zero, suc, ◌+◌, ◌==◌, ◌<◌, ◌≤◌, List, [], ◌∷◌, ◌++◌, Option, Some, None, refl, Bool, true, false, ap, ◌∙◌, subst, length, inl, inr, arith}
 use Rattle.std.specs.Prelude.{◌⊎◌, is_none, ◌&&◌, not, slice_get}
 use Rattle.std.specs.List.{list_all, range_with_len}
-use Rattle.write_history.specs.History.{content, point_in}
+use Rattle.write_history.specs.History.{point_in}
 use Rattle.write_history.specs.declared.actor.Actor.{Actor}
 use Rattle.write_history.specs.declared.actor.Actor.TheVariants.{Lane, Writer, Advance, Idle}
 use Rattle.write_history.specs.declared.move_item.Move.{Move}
 use Rattle.set_agenda.specs.Agenda.{open_group}
 use Rattle.scenario.specs.Plan.{Plan, LaneLine, LanePlan, lines_in, lines_of}
-use Rattle.vss_model.specs.State.{State, SetRow, in_progress, left_now, history_of}
+use Rattle.vss_model.specs.State.{SetRow, in_progress, left_now, history_of}
 use Rattle.vss_model.specs.Ending.{runs}
 use Rattle.vss_model.specs.Acts.{Act, state}
-use Rattle.vss_model.specs.Cut.{cut, is_set as has_number, is_cut_group, IsShownAt, IsCutAt}
+use Rattle.vss_model.specs.Cut.{cut, is_set as has_number, is_cut_group, IsShownAt}
 use Rattle.vss_model.specs.Headline.{ReadsAsAtTheCut, KeepsPromises, MakesEachLineOnce}
 use Rattle.vss_model.specs.Trail.{Run, run, begin, run_from, moved, is_lane, cursor, next_line, line_event, event_of, event_enabled, may_move, allows, is_legal_move, is_legal_from, is_legal, is_used_up, is_over, is_complete}
 use Rattle.vss_model.proofs.OneCut.{image_shown, image_reads, cut_is_at}

@@ -1,5 +1,5 @@
 -- The acts of the kinds that are run so far leave one set at most, and no writer in any agenda.
-use Rattle.std.proofs.Common.{◌≡◌, ℕ, suc, ◌+◌, ◌≤◌, List, [], ◌∷◌, ◌++◌, Option, Some, None, refl, Bool, true, false, ap, sym, ◌∙◌, subst, length, arith}
+use Rattle.std.proofs.Common.{◌≡◌, ℕ, suc, ◌≤◌, List, [], ◌∷◌, ◌++◌, Option, Some, None, refl, Bool, true, false, ap, sym, ◌∙◌, subst, length, arith}
 use Rattle.std.specs.Prelude.{option_map, map, if◌then◌else◌, not, ◌&&◌, ◌||◌}
 use Rattle.block_data.specs.declared.payload.Payload.TheVariants.{Fill}
 use Rattle.block_data.specs.PayloadBytes.{payload_bytes}

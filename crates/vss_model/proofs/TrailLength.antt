@@ -1,6 +1,6 @@
 -- Each legal move takes a turn, so a legal trail is short.
-use Rattle.std.proofs.Common.{◌≡◌, ℕ, zero, suc, ◌+◌, ◌*◌, ◌==◌, ◌<◌, ◌≤◌, List, [], ◌∷◌, ◌++◌, Option, Some, None, refl, Bool, true, false, ap, sym, ◌∙◌, subst, fold, filter, map, length, drop, cond, arith}
-use Rattle.std.specs.Prelude.{is_some, ◌&&◌, not, if◌then◌else◌, slice_get, count_by, sum}
+use Rattle.std.proofs.Common.{◌≡◌, ℕ, zero, suc, ◌+◌, ◌*◌, ◌==◌, ◌<◌, ◌≤◌, List, [], ◌∷◌, ◌++◌, Option, Some, None, refl, Bool, true, false, ap, sym, ◌∙◌, subst, map, length, drop, cond, arith}
+use Rattle.std.specs.Prelude.{◌&&◌, not, if◌then◌else◌, slice_get, sum}
 use Rattle.std.proofs.lemmas.List.Sums.{sum_by-cons}
 use Rattle.vss_names.specs.declared.context.Context.{Context}
 use Rattle.vss_names.specs.declared.vss_result.VssResult.{VssResult}
@@ -15,15 +15,15 @@ use Rattle.writer_calls.specs.Script.{said_of}
 use Rattle.writer_state.specs.declared.said.Said.{Said}
 use Rattle.set_agenda.specs.declared.group.Group.{Group}
 use Rattle.set_agenda.specs.declared.kind.Kind.TheVariants.{Gather, Prepare, Snapshot, Complete}
-use Rattle.set_agenda.specs.Agenda.{left, is_among, is_working}
-use Rattle.set_agenda.specs.Course.{Course, answered as course_answered, stepped as course_stepped, timed as course_timed, failed as course_failed, released, has_row_failed}
+use Rattle.set_agenda.specs.Agenda.{is_among, is_working}
+use Rattle.set_agenda.specs.Course.{Course, answered as course_answered, stepped as course_stepped, timed as course_timed, failed as course_failed, has_row_failed}
 use Rattle.requestor.specs.Session.{Session}
 use Rattle.scenario.specs.declared.op.Op.{Op}
 use Rattle.scenario.specs.Bounds.{IsPlan, begins_agenda, agenda_lines}
 use Rattle.scenario.specs.Plan.{Plan, LaneLine, LanePlan, lines_in, lines_of}
 use Rattle.vss_model.specs.declared.event.Event.{Event}
 use Rattle.vss_model.specs.declared.event.Event.TheVariants.{Line, Answer as AnswerEvent, Provider, Idle as IdleEvent}
-use Rattle.vss_model.specs.State.{State, SetRow, Kept, start, in_progress, left_now}
+use Rattle.vss_model.specs.State.{State, SetRow, Kept, in_progress, left_now}
 use Rattle.vss_model.specs.Ending.{Ending, NothingEnds, AgendaEnds, SetFails, ending, concluded, followed, runs, failed_in, failed}
 use Rattle.vss_model.specs.Images.{Replied, put, reverted_as}
 use Rattle.component_doc.specs.Selection.{takers}
@@ -34,9 +34,9 @@ use Rattle.vss_model.specs.Steps.{answered, step_made, stepped_as, stepped, tick
 use Rattle.vss_model.specs.Acts.{Act, after, after_if, state, enabled, happens, idle_now, order_of_writer}
 use Rattle.vss_model.specs.Laws.{IsKeptByWrites}
 use Rattle.vss_model.specs.GoesOn.{most_moves}
-use Rattle.vss_model.specs.Trail.{Run, begin, is_lane, cursor, next_line, line_event, answer_event, script_event, event_of, act_of, acts_if, after_event, moved, run_from, run, acts, event_enabled, none_can_act, may_move, allows, is_legal_move, is_legal_from, is_legal}
+use Rattle.vss_model.specs.Trail.{Run, begin, is_lane, cursor, next_line, line_event, answer_event, script_event, event_of, act_of, after_event, moved, run_from, run, acts, event_enabled, none_can_act, may_move, allows, is_legal_move, is_legal_from, is_legal}
 use Rattle.vss_model.specs.Turns.{waiting, turns_of_agenda, turns_of_line, turns_of_lines, turns_of_lanes, turns_left}
-use Rattle.vss_model.proofs.Appending.{state-append, run-append, moves-run, state-run, is_legal-append}
+use Rattle.vss_model.proofs.Appending.{state-append, run-append, state-run, is_legal-append}
 use Rattle.vss_model.proofs.Rule.{IsKeptByLines, MayBegin, on_line}
 use Rattle.vss_model.proofs.Waiting.{idle_spends}
 use Rattle.vss_model.proofs.GoesOn.{cursor_more, cursor_same}

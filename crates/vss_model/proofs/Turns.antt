@@ -1,17 +1,16 @@
 -- Each answer, each step of the provider and each idle stretch leaves fewer to be waited for, and no line but those that
 -- begin an agenda leaves more.
-use Rattle.std.proofs.Common.{◌≡◌, ℕ, zero, suc, ◌+◌, ◌*◌, ◌-◌, ◌==◌, ◌<◌, ◌≤◌, List, [], ◌∷◌, ◌++◌, Option, Some, None, refl, Bool, true, false, ap, sym, ◌∙◌, subst, fold, filter, map, length, drop, arith}
-use Rattle.std.specs.Prelude.{is_some, ◌&&◌, ◌||◌, not, if◌then◌else◌, nat_lt, option_map}
+use Rattle.std.proofs.Common.{◌≡◌, ℕ, ◌+◌, ◌*◌, ◌==◌, ◌<◌, ◌≤◌, List, [], ◌∷◌, Option, Some, None, refl, Bool, true, false, ap, sym, ◌∙◌, subst, filter, length, arith}
+use Rattle.std.specs.Prelude.{is_some, ◌&&◌, ◌||◌, not, if◌then◌else◌, option_map}
 use Rattle.std.proofs.lemmas.List.{length-map}
 use Rattle.vss_names.specs.declared.level.Level.{Level}
 use Rattle.vss_names.specs.declared.level.Level.TheVariants.{System, BackEnd, FrontEnd}
 use Rattle.vss_names.specs.declared.order.Order.{Order}
-use Rattle.vss_names.specs.declared.order.Order.TheVariants.{Identify, PrepareBackup, PrepareSnapshot, Freeze, Thaw, PostSnapshot, BackupComplete}
 use Rattle.vss_names.specs.declared.vss_result.VssResult.{VssResult}
 use Rattle.vss_names.specs.declared.vss_result.VssResult.TheVariants.{Writer as WriterFault, HoldWritesTimeout, WriterNotResponding, UnexpectedProviderError}
 use Rattle.vss_names.specs.declared.writer_error.WriterError.TheVariants.{Timeout}
 use Rattle.writer_state.specs.declared.said.Said.{Said}
-use Rattle.writer_state.specs.declared.said.Said.TheVariants.{Ok, Veto, Lost}
+use Rattle.writer_state.specs.declared.said.Said.TheVariants.{Ok, Lost}
 use Rattle.writer_state.specs.WriterState.{is_ok}
 use Rattle.set_agenda.specs.declared.group.Group.{Group}
 use Rattle.set_agenda.specs.declared.group.Group.TheVariants.{Orders, PreCommit, Flush, Hold, Cut, Commit, Release, PostCommit}
@@ -21,7 +20,7 @@ use Rattle.set_agenda.specs.declared.limit.Limit.{Limit}
 use Rattle.set_agenda.specs.declared.limit.Limit.TheVariants.{Hold as HoldLimit, Freeze as FreezeLimit, Answer as AnswerLimit}
 use Rattle.set_agenda.specs.declared.member.Member.{Member}
 use Rattle.set_agenda.specs.declared.place.Place.{Place}
-use Rattle.set_agenda.specs.Agenda.{Agenda, Open, all_say, with_group, writers_at, is_at, members_of, waited_for, left_from, places, groups_left, left, order_of, order_now, is_among, is_asked, order_if, open_order, is_orders, is_asking, is_working, next_member, waits_now, is_done, has_failed, has_said}
+use Rattle.set_agenda.specs.Agenda.{Agenda, Open, all_say, with_group, writers_at, is_at, members_of, waited_for, left_from, places, groups_left, left, order_of, order_now, is_among, order_if, open_order, is_orders, is_asking, is_working, next_member, waits_now, is_done, has_failed, has_said}
 use Rattle.set_agenda.specs.Advance.{advance, asks_unfailed, others, others_if, unasked, unasked_if}
 use Rattle.set_agenda.specs.Limits.{Running, spent_of}
 use Rattle.set_agenda.specs.Course.{Course, posted, failed as course_failed, settled_if, settled_in, settled, begun, is_decisive, error_of, told, decided, answered_to, answered as course_answered, worked, stepped_as as course_stepped_as, stepped as course_stepped, limits_now, lost_to, lost, fails_set, lost_decided, treated_as, treated, timed as course_timed, released}

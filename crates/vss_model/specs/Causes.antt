@@ -3,9 +3,7 @@
 use Rattle.std.specs.Prelude.{ℕ, ◌+◌, ◌≡◌, Bool, true, false, List, ◌∷◌, ◌++◌, ◌&&◌, not, Option, Some, None, is_some}
 use Rattle.vss_names.specs.declared.order.Order.{Order}
 use Rattle.write_history.specs.declared.mark.Mark.{Mark}
-use Rattle.write_history.specs.declared.move_item.Move.{Move}
 use Rattle.writer_state.specs.WriterState.{is_ok}
-use Rattle.writer_calls.specs.declared.answer.Answer.{Answer}
 use Rattle.writer_calls.specs.Script.{said_of}
 use Rattle.set_agenda.specs.Agenda.{open_group}
 use Rattle.set_agenda.specs.Course.{is_decisive, limits_now}
@@ -20,7 +18,6 @@ use Rattle.vss_model.specs.Images.{cleared, set_loses_image}
 use Rattle.vss_model.specs.Steps.{is_flush, is_failed_step}
 use Rattle.vss_model.specs.Acts.{Act, after, state, order_of_writer, idle_now}
 use Rattle.vss_model.specs.Facts.{has_failed}
-use Rattle.vss_model.specs.Trail.{acts}
 
 -- an image of the set in progress goes for a write of block b to volume v
 abbrev pub loses_own_image : Plan → State → ℕ → ℕ → Bool

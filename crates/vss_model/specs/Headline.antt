@@ -1,13 +1,13 @@
 -- What a run promises of its images and of the sets that failed, after each of its acts. (One moment for all volumes of a set
 -- is what the SDK's freeze, flush and hold are for; that nothing stays behind of a set that failed is its AbortSnapshots.)
-use Rattle.std.specs.Prelude.{ℕ, ◌≡◌, Bool, true, false, List, ◌++◌, length, Option, Some, None}
+use Rattle.std.specs.Prelude.{ℕ, ◌≡◌, true, false, List, ◌++◌, length, Some, None}
 use Rattle.write_history.specs.History.{content, point_in}
 use Rattle.write_history.specs.Slots.{Placed, copies}
 use Rattle.write_history.specs.declared.move_item.Move.{Move}
 use Rattle.set_agenda.specs.Agenda.{is_among}
 use Rattle.set_agenda.specs.Course.{is_member}
 use Rattle.scenario.specs.Plan.{Plan, lines_of}
-use Rattle.vss_model.specs.State.{State, SetRow, in_progress, row_of, history_of, is_held, is_frozen}
+use Rattle.vss_model.specs.State.{SetRow, in_progress, row_of, history_of, is_held, is_frozen}
 use Rattle.vss_model.specs.Acts.{Act, state}
 use Rattle.vss_model.specs.Cut.{cut}
 use Rattle.vss_model.specs.Facts.{has_failed, holds_for}
