@@ -49,8 +49,8 @@ impl<D: Device> Model for Play<D> {
 }
 
 impl<D: Device> Play<D> {
-    /// A run of which nothing has happened yet. The maker makes each volume's device by its name, in order of the volumes;
-    /// where the run is refused, it gets back those that it made.
+    /// A run of which nothing has happened yet. The maker makes each volume's device by its name, in order of the volumes.
+    /// Where it refuses one, it gets back those that it made; where memory is wanting once all are made, they are dropped.
     pub fn new<M: Maker<Made = D>>(
         alloc: Global,
         scenario: Scenario,
