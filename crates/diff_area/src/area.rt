@@ -237,6 +237,19 @@ impl<D: Device> Area<D> {
         }
     }
 
+    /// Brings what was written to where it lasts.
+    pub fn flush(&mut self) -> Result<(), AreaFault>
+        ensures told { D.told self.new.device ≡ D.told self.old.device }
+        ensures table { KeepsTable D.size D.lending self.old self.new }
+        ensures cause { HasCause (D.count self.old.device) (D.count self.new.device) result }
+        ensures fault { IfErr result (λ fault. fault ≡ AreaFault.Device) }
+    {
+        match self.device.flush() {
+            Ok(()) => Ok(()),
+            Err(_) => Err(AreaFault::Device),
+        }
+    }
+
     /// The device, as it is.
     pub fn into_device(self) -> D
         ensures { result ≡ self.device }
