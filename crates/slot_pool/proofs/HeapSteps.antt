@@ -162,3 +162,29 @@ HoldsFree-all n h small held = record {
 pub on_ok : {T E : Type 0} (r : Result T E) (P : Type 0) → IsOk r → OnOk r P → P
 on_ok (Ok x) P ok h = h
 on_ok (Err e) P ok h = absurd (false≢true ok)
+
+first_of : (items : List (Reverse ℕ)) (x : Reverse ℕ) → 0 < length items → x ≡ get_or items 0 x → 0 < times x.0 items
+first_of [] x some is = absurd (omega arith)
+first_of (y ∷ ys) x some is =
+    let split = times-cons x.0 y ys in
+    let same : y.0 ≡ x.0 = ap (λ r. r.0) (sym is) in
+    grind (arith, nat_tests)
+
+-- the slot on top of the heap is the lowest free one
+pub lowest_at_top : (slots : List Bool) (h : BinaryHeap (Reverse ℕ) Global) (x : Reverse ℕ) → HoldsFree slots h → 0 < heap_len h → x ≡ get_or (heap_items h) 0 x → (IsHeap by_lowest (heap_items h) → IsUpperBound by_lowest x (heap_items h)) → IsLowestFree slots x.0
+lowest_at_top slots h x held some is greatest =
+    let long = h.data.ok.0 in
+    let once = first_of (heap_items h) x (omega arith) is in
+    let counted = held.each x.0 in
+    let free : get_or slots x.0 false ≡ true = grind (arith, nat_tests) in
+    let past = λ (far : length slots ≤ x.0). get_or_past slots x.0 false far in
+    let inside : x.0 < length slots = grind (arith, nat_tests) in
+    record {
+      free = slice_get-get_or slots x.0 false inside ∙ ap Some free;
+      lowest = λ other low.
+          let none = times_below other x (heap_items h) (greatest held.in_order) low in
+          let was = held.each other in
+          let taken : get_or slots other false ≡ false = grind (arith, nat_tests) in
+          let within : other < length slots = omega arith in
+          slice_get-get_or slots other false within ∙ ap Some taken;
+    }

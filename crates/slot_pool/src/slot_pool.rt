@@ -42,6 +42,17 @@ impl SlotPool {
         })
     }
 
+    /// The lowest free slot.
+    pub fn lowest(&self) -> Option<u32>
+        ensures lowest { IfSome result (IsLowestFree self.now) }
+        ensures none { IsNone result ↔ (free_count self.now ≡ 0) }
+    {
+        match self.lowest_first.peek() {
+            Some(top) => Some(top.0),
+            None => None,
+        }
+    }
+
     /// Takes the lowest free slot.
     pub fn take(&mut self) -> Option<u32>
         ensures lowest { IfSome result (IsLowestFree self.old) }
