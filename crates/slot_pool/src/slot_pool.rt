@@ -127,7 +127,9 @@ mod tests {
         }
         assert!(rt; pool.slots() == 2);
         assert!(rt; pool.is_taken(0));
+        assert_eq!(rt; pool.lowest(), None);
         pool.give(0);
+        assert_eq!(rt; pool.lowest(), Some(0));
         assert_eq!(rt; pool.free(), 1);
         assert_eq!(rt; pool.used(), 1);
         assert_eq!(rt; pool.take(), Some(0));
