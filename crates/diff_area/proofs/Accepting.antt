@@ -1,15 +1,12 @@
 -- What is read of a header and a table is what is said of the area's bytes.
-use Rattle.std.proofs.Common.{ℕ, ◌≡◌, ◌≢◌, ◌<◌, ◌≤◌, ◌+◌, ◌*◌, Bool, true, false, List, length, refl, sym, ap, subst, ◌∙◌, arith}
-use Rattle.block_data.specs.declared.block_buf.TheConstants.{BLOCK}
-use Rattle.diff_area.specs.Format.{fits, layout_in, slots_in, stated_used, volumes_in, row_at, row_of, rows_in, good_at, good_in, row_count, header_of, table_of, records_of, HasHeader, IsArea}
-use Rattle.diff_area.specs.Places.{blocks_for}
+use Rattle.std.proofs.Common.{ℕ, ◌≡◌, ◌<◌, true, List, length, sym, ap, subst, ◌∙◌, arith}
+use Rattle.diff_area.specs.Format.{layout_in, slots_in, volumes_in, row_at, row_of, rows_in, good_at, good_in, row_count, header_of, table_of, records_of, IsArea}
 use Rattle.diff_area.specs.ReadHeader.{IsHeaderOf, IsAccepted}
-use Rattle.diff_area.specs.ReadRows.{IsTable, IsTableRefused, IsFirstBadRow, IsMiscountedTable}
+use Rattle.diff_area.specs.ReadRows.{IsTable, IsTableRefused, IsFirstBadRow}
 use Rattle.diff_area.specs.Records.{used_in}
-use Rattle.diff_area.specs.Refusals.{IsBadField, IsBadHeader, IsFirstBad, IsMiscounted, IsRefused}
+use Rattle.diff_area.specs.Refusals.{IsBadField, IsBadHeader, IsFirstBad, IsRefused}
 use Rattle.diff_area.specs.declared.table_record.Record.{Record}
 use Rattle.diff_area.specs.declared.header.Header.{Header}
-use Rattle.diff_area.specs.declared.header_field.HeaderField.{HeaderField}
 use Rattle.diff_area.specs.declared.header_field.HeaderField.TheVariants.{Magic, Layout, Slots, Used, Volumes, Blocks, Rest}
 use Rattle.diff_area.specs.declared.area_fault.AreaFault.{AreaFault}
 use Rattle.diff_area.specs.declared.area_fault.AreaFault.TheVariants.{Device, BadHeader, BadRecord, OutOfMemory}

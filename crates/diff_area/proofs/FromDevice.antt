@@ -1,13 +1,13 @@
 -- What is read of a device's blocks, where it tells them.
-use Rattle.std.proofs.Common.{ℕ, zero, suc, ◌≡◌, ◌<◌, ◌≤◌, ◌+◌, ◌*◌, Bool, true, false, cond, List, [], ◌∷◌, ◌++◌, length, take, drop, replicate, min, Option, Some, None, IfSome, slice_index_or, refl, sym, ap, subst, ◌∙◌, arith}
+use Rattle.std.proofs.Common.{ℕ, ◌≡◌, ◌<◌, ◌≤◌, ◌+◌, ◌*◌, Bool, true, false, cond, List, [], ◌∷◌, length, take, drop, replicate, min, Option, Some, None, IfSome, slice_index_or, refl, sym, ap, subst, ◌∙◌, arith}
 use Rattle.std.specs.List.{concat}
 use Rattle.std.specs.List.Sorted.{IsPermutation}
 use Rattle.std.proofs.lemmas.List.{take_min}
 use Rattle.block_data.specs.declared.block_buf.TheConstants.{BLOCK}
 use Rattle.volume_device.specs.Blocks.{AreBlocks}
 use Rattle.write_history.specs.Slots.{Copy}
-use Rattle.diff_area.specs.Copies.{copies_from, slot_of, StandsFor, AreStored, AreHeld}
-use Rattle.diff_area.specs.Format.{part, layout_in, slots_in, volumes_in, rows_in, header_of, table_of, records_of, IsArea}
+use Rattle.diff_area.specs.Copies.{copies_from, slot_of, AreStored, AreHeld}
+use Rattle.diff_area.specs.Format.{part, layout_in, slots_in, volumes_in, header_of, table_of, records_of}
 use Rattle.diff_area.specs.Loading.{IsReadFrom, AreRefused, AreLoaded}
 use Rattle.diff_area.specs.NewTables.{AreOfRecords}
 use Rattle.diff_area.specs.declared.tables.Tables.{Tables}
@@ -19,7 +19,6 @@ use Rattle.diff_area.specs.Records.{is_free, AreVolumes, AreRecords}
 use Rattle.diff_area.specs.Refusals.{IsBadHeader, IsRefused}
 use Rattle.diff_area.specs.declared.table_record.Record.{Record}
 use Rattle.diff_area.specs.declared.header.Header.{Header}
-use Rattle.diff_area.specs.declared.header_field.HeaderField.TheVariants.{Magic, Layout, Slots, Used, Volumes, Blocks, Rest}
 use Rattle.diff_area.specs.declared.area_fault.AreaFault.{AreaFault}
 use Rattle.diff_area.specs.declared.area_fault.AreaFault.TheVariants.{Device, BadHeader, BadRecord, OutOfMemory}
 use Rattle.diff_area.proofs.Accepting.{is_area, are_records_of, header_refused, table_refused}

@@ -1,16 +1,15 @@
 -- The header that is written says what it should.
-use Rattle.std.proofs.Common.{ℕ, zero, suc, ◌≡◌, ◌<◌, ◌≤◌, ◌+◌, ◌-◌, ◌*◌, ◌^◌, Bool, true, false, cond, ◌&&◌, ◌||◌, not, ◌==◌, nat_lt, nat_le, nat_eq, List, [], ◌∷◌, ◌++◌, length, take, drop, map, replicate, Option, Some, None, All, slice_index_or, codes, refl, sym, ap, subst, ◌∙◌, arith, lit<}
-use Rattle.std.specs.List.{find, flat_map, range_with_len, starts_with}
-use Rattle.std.specs.Bool.{if◌then◌else◌}
+use Rattle.std.proofs.Common.{ℕ, zero, suc, ◌≡◌, ◌<◌, ◌≤◌, ◌+◌, ◌-◌, ◌*◌, Bool, true, false, cond, ◌&&◌, ◌==◌, nat_le, List, [], ◌∷◌, ◌++◌, length, drop, map, replicate, Some, None, All, codes, refl, sym, ap, ◌∙◌, arith, lit<}
+use Rattle.std.specs.List.{find, flat_map, range_with_len}
 use Rattle.std.proofs.lemmas.Bool.Decides.{nat_tests}
-use Rattle.std.proofs.lemmas.List.{append_assoc, length-append, length-replicate, drop_at, drop-drop, take_at}
-use Rattle.byteorder.specs.Endian.{little_number, little_bytes}
+use Rattle.std.proofs.lemmas.List.{append_assoc, length-append, drop_at, drop-drop}
+use Rattle.byteorder.specs.Endian.{little_number}
 use Rattle.byteorder.specs.Numbers.{little_number-reads_back, length-bytes_low_first}
 use Rattle.block_data.specs.Runs.{run_of}
 use Rattle.block_data.specs.declared.block_buf.TheConstants.{BLOCK}
 use Rattle.diff_area.specs.Format.{number_at, layout_in, slots_in, stated_used, volume_count, volumes_from, volumes_in, rest_in, has_magic, is_layout, fits, is_volume_count, is_out_of_range, is_nonzero, HasHeader}
 use Rattle.diff_area.specs.Places.{blocks_for}
-use Rattle.diff_area.specs.Records.{AreVolumes, AreRecords, used_in}
+use Rattle.diff_area.specs.Records.{AreVolumes, used_in}
 use Rattle.diff_area.specs.Written.{number_bytes, padded, header_bytes}
 use Rattle.diff_area.specs.declared.table_record.Record.{Record}
 

@@ -1,15 +1,15 @@
 -- What the calls on an area leave of what its fields keep.
-use Rattle.std.proofs.Common.{ℕ, ◌≡◌, ◌≢◌, ◌<◌, ◌≤◌, ◌+◌, ◌/◌, Bool, true, false, List, length, take, Option, Some, None, Result, Ok, Err, OnOk, OnErr, slice_get, slice_set, option_map, Vec, vec_capacity, ◌⊎◌, inl, inr, refl, sym, ap, subst, ◌∙◌, arith, lit<}
+use Rattle.std.proofs.Common.{ℕ, ◌≡◌, ◌<◌, ◌≤◌, ◌+◌, ◌/◌, Bool, true, false, List, length, take, Option, Some, None, Result, Ok, Err, OnOk, OnErr, slice_get, slice_set, option_map, Vec, vec_capacity, inl, inr, refl, sym, ap, subst, ◌∙◌, arith, lit<}
 use Rattle.std.specs.declared.alloc.Global.{Global}
 use Rattle.std.proofs.lemmas.Bool.{cases_lt}
 use Rattle.std.proofs.lemmas.List.{length-set, length-take-le}
 use Rattle.block_data.specs.declared.block_buf.TheConstants.{BLOCK}
 use Rattle.diff_area.specs.AreaValue.{KeepsArea, AreWritten, AreInPart, with_first}
 use Rattle.diff_area.specs.Places.{pages_for, place_of_slot}
-use Rattle.diff_area.specs.Records.{free, AreRecords, AreVolumes, IsUsed, IsNarrow, AreNarrow}
-use Rattle.diff_area.specs.Written.{page_bytes, table_blocks}
+use Rattle.diff_area.specs.Records.{free, AreRecords, IsUsed, IsNarrow, AreNarrow}
+use Rattle.diff_area.specs.Written.{table_blocks}
 use Rattle.diff_area.specs.declared.table_record.Record.{Record}
-use Rattle.diff_area.proofs.Gets.{get-bound, get-set, get-set_other, get-set_same, get-take, get-with_first-within, get-with_first-past}
+use Rattle.diff_area.proofs.Gets.{get-bound, get-set, get-set_other, get-take, get-with_first-within, get-with_first-past}
 use Rattle.diff_area.proofs.Pages.{other_page}
 use Rattle.diff_area.proofs.TableBlocks.{table-page, length-table}
 

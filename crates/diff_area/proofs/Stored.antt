@@ -1,5 +1,5 @@
 -- Once the table is written, the device stands for the records and the slots.
-use Rattle.std.proofs.Common.{ℕ, zero, suc, ◌≡◌, ◌<◌, ◌≤◌, ◌+◌, ◌-◌, ◌*◌, Bool, true, List, [], ◌∷◌, ◌++◌, length, take, drop, map, Option, Some, None, IfSome, All, slice_index_or, option_map, codes, refl, sym, ap, subst, ◌∙◌, arith}
+use Rattle.std.proofs.Common.{ℕ, zero, suc, ◌≡◌, ◌≤◌, ◌+◌, ◌*◌, List, [], ◌∷◌, ◌++◌, length, take, drop, map, Option, Some, None, IfSome, All, slice_index_or, option_map, codes, refl, sym, ap, subst, ◌∙◌, arith}
 use Rattle.std.specs.List.{concat, flat_map, range_with_len}
 use Rattle.std.specs.List.Sorted.{IsPermutation}
 use Rattle.std.proofs.lemmas.List.{length-append, length-drop, take_at}
@@ -8,11 +8,11 @@ use Rattle.block_data.specs.declared.block_buf.TheConstants.{BLOCK}
 use Rattle.volume_device.specs.Blocks.{AreBlocks}
 use Rattle.write_history.specs.Slots.{Copy}
 use Rattle.diff_area.specs.AreaValue.{with_first}
-use Rattle.diff_area.specs.Copies.{copies_from, slot_of, StandsFor, AreStored, AreHeld}
-use Rattle.diff_area.specs.Format.{part, layout_in, slots_in, stated_used, volumes_in, rows_in, good_at, good_in, row_count, header_of, table_of, records_of, HasHeader, IsArea}
+use Rattle.diff_area.specs.Copies.{copies_from, StandsFor, AreStored, AreHeld}
+use Rattle.diff_area.specs.Format.{part, layout_in, slots_in, stated_used, volumes_in, rows_in, good_at, row_count, header_of, table_of, records_of, HasHeader, IsArea}
 use Rattle.diff_area.specs.Places.{pages_for, blocks_for, place_of_slot}
 use Rattle.diff_area.specs.Records.{AreVolumes, AreRecords, used_in}
-use Rattle.diff_area.specs.Written.{number_bytes, padded, page_bytes, header_bytes, table_blocks}
+use Rattle.diff_area.specs.Written.{number_bytes, page_bytes, header_bytes, table_blocks}
 use Rattle.diff_area.specs.declared.table_record.Record.{Record}
 use Rattle.diff_area.proofs.Blocks.{AreOf, are_of, length-concat, part-blocks, part-block, drop-whole}
 use Rattle.diff_area.proofs.FromDevice.{held_is, same_copies}

@@ -1,22 +1,21 @@
 -- The table that is written says what it should.
-use Rattle.std.proofs.Common.{ℕ, zero, suc, ◌≡◌, ◌≢◌, ◌<◌, ◌≤◌, ◌+◌, ◌-◌, ◌*◌, ◌/◌, ◌%◌, ◌⊎◌, inl, inr, Bool, true, false, cond, ◌&&◌, ◌||◌, not, ◌==◌, nat_lt, List, [], ◌∷◌, ◌++◌, length, take, drop, map, replicate, Option, Some, None, All, slice_get, slice_index, slice_index_or, refl, sym, ap, subst, ◌∙◌, arith, lit<}
+use Rattle.std.proofs.Common.{ℕ, zero, suc, ◌≡◌, ◌≢◌, ◌<◌, ◌≤◌, ◌+◌, ◌-◌, ◌*◌, ◌/◌, ◌%◌, ◌⊎◌, inl, inr, Bool, true, false, ◌&&◌, ◌||◌, not, ◌==◌, nat_lt, List, [], ◌∷◌, ◌++◌, length, take, drop, map, replicate, Some, slice_get, slice_index, slice_index_or, refl, sym, ap, subst, ◌∙◌, arith, lit<}
 use Rattle.std.specs.List.{concat, flat_map, list_any, range_with_len}
-use Rattle.std.proofs.lemmas.Bool.{cases_lt}
 use Rattle.std.proofs.lemmas.Bool.Decides.{nat_tests}
-use Rattle.std.proofs.lemmas.List.{append_assoc, append-nil, length-append, length-take, length-drop, length-replicate, drop-append-le, take-append-le, drop_at, drop-drop, take_at, take-replicate, drop-replicate, get_or-take, get_or-drop, get_or_past, get_or_default, same_lists}
+use Rattle.std.proofs.lemmas.List.{append_assoc, append-nil, length-append, length-take, length-drop, length-replicate, drop-append-le, take-append-le, drop_at, drop-drop, take_at, take-replicate, drop-replicate, get_or-take, get_or-drop, get_or_default, same_lists}
 use Rattle.std.proofs.lemmas.List.Folds.{list_any_none}
 use Rattle.std.proofs.lemmas.List.Sums.{count_by-le-length}
 use Rattle.block_data.specs.Runs.{run_of}
 use Rattle.block_data.specs.declared.block_buf.TheConstants.{BLOCK}
 use Rattle.diff_area.specs.Format.{part, number_at, row_at, row_of, rows_in, has_zeros, is_used, is_same, is_sound, is_good, good_at, row_count}
 use Rattle.diff_area.specs.Places.{pages_for}
-use Rattle.diff_area.specs.Records.{free, is_free, AreVolumes, IsUsed, IsNarrow, AreRecords, used_in}
+use Rattle.diff_area.specs.Records.{free, is_free, IsUsed, IsNarrow, AreRecords, used_in}
 use Rattle.diff_area.specs.Written.{number_bytes, record_bytes, padded, records_of_page, page_bytes}
 use Rattle.diff_area.specs.declared.table_record.Record.{Record}
 use Rattle.diff_area.proofs.HeaderBytes.{length-number_bytes, number-back}
 use Rattle.diff_area.proofs.Gets.{get-bound}
 use Rattle.diff_area.proofs.GoodRecords.{length-rows_in}
-use Rattle.diff_area.proofs.Valid.{is_equal, free_is, not_free, and_left, and_right, get_or-rows_in}
+use Rattle.diff_area.proofs.Valid.{is_equal, free_is, and_left, and_right, get_or-rows_in}
 
 -- ## one record
 

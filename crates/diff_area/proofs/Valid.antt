@@ -1,11 +1,11 @@
 -- The records of a table that is of the format are those of an area.
-use Rattle.std.proofs.Common.{ℕ, zero, suc, ◌≡◌, ◌≢◌, ◌<◌, ◌≤◌, ◌+◌, ◌*◌, ◌⊎◌, inl, inr, Bool, true, false, cond, ◌&&◌, ◌||◌, not, ◌==◌, nat_lt, nat_le, List, [], ◌∷◌, length, map, Option, Some, None, All, slice_get, slice_index, slice_index_or, refl, sym, ap, subst, ◌∙◌, arith}
+use Rattle.std.proofs.Common.{ℕ, zero, suc, ◌≡◌, ◌≢◌, ◌<◌, ◌≤◌, ◌+◌, ◌*◌, inl, inr, Bool, true, false, cond, ◌&&◌, ◌||◌, not, ◌==◌, nat_lt, nat_le, List, [], ◌∷◌, length, map, Option, Some, None, slice_get, slice_index, slice_index_or, refl, sym, ap, subst, ◌∙◌, arith}
 use Rattle.std.specs.List.{list_any, range_with_len, find}
 use Rattle.std.proofs.lemmas.Bool.{cases_lt}
 use Rattle.std.proofs.lemmas.Bool.Decides.{nat_tests}
 use Rattle.std.proofs.lemmas.List.FromFn.{length-map-range_with_len}
 use Rattle.std.proofs.lemmas.List.Folds.{list_any_at}
-use Rattle.diff_area.specs.Format.{layout_in, volumes_from, volume_count, volumes_in, is_volume_count, is_out_of_range, number_at, HasHeader, row_at, row_of, rows_in, has_zeros, is_used, is_same, is_sound, is_good, good_at, row_count}
+use Rattle.diff_area.specs.Format.{layout_in, volumes_from, volume_count, volumes_in, is_out_of_range, number_at, HasHeader, row_at, row_of, rows_in, has_zeros, is_used, is_same, is_sound, is_good}
 use Rattle.diff_area.specs.ReadRows.{IsTable}
 use Rattle.diff_area.specs.Records.{free, is_free, AreVolumes, IsUsed, AreRecords}
 use Rattle.diff_area.specs.declared.table_record.Record.{Record}

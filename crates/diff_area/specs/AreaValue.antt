@@ -4,9 +4,9 @@
 use Rattle.std.specs.Prelude.{ℕ, ◌≡◌, ◌≤◌, ◌+◌, Bool, false, List, ◌++◌, length, take, drop, Option, Some, slice_get, option_map, Vec, vec_capacity}
 use Rattle.std.specs.declared.alloc.Global.{Global}
 use Rattle.block_data.specs.declared.block_buf.TheConstants.{BLOCK}
-use Rattle.diff_area.specs.Places.{pages_for, table_for, blocks_for}
+use Rattle.diff_area.specs.Places.{pages_for, blocks_for}
 use Rattle.diff_area.specs.Records.{AreVolumes, AreRecords}
-use Rattle.diff_area.specs.Written.{page_bytes, table_blocks}
+use Rattle.diff_area.specs.Written.{page_bytes}
 use Rattle.diff_area.specs.declared.table_record.Record.{Record}
 
 pub record AreaValue (D : Type 0) : Type 0 where

@@ -1,7 +1,7 @@
 -- The format of an area, on its bytes: what a header and a record say, and the conditions under which they are of the
 -- format. All numbers have four bytes, the lowest first; bytes that are missing read as zeros. Layout 2 is written;
 -- layout 1, which is of one volume, is read too. (This project's own.)
-use Rattle.std.specs.Prelude.{ℕ, ◌≡◌, ◌<◌, ◌+◌, ◌*◌, Bool, true, List, length, take, drop, map, ◌==◌, ◌&&◌, ◌||◌, not, nat_lt, nat_le, nat_eq, if◌then◌else◌, Option, None, IsTrue, codes, slice_index, find}
+use Rattle.std.specs.Prelude.{ℕ, ◌≡◌, ◌<◌, ◌+◌, ◌*◌, Bool, true, List, length, take, drop, map, ◌==◌, ◌&&◌, ◌||◌, not, nat_lt, nat_le, nat_eq, if◌then◌else◌, None, codes, slice_index, find}
 use Rattle.std.specs.List.{list_any, range_with_len, starts_with}
 use Rattle.byteorder.specs.Endian.{little_number}
 use Rattle.block_data.specs.declared.block_buf.TheConstants.{BLOCK}

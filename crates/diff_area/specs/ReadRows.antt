@@ -4,7 +4,7 @@ use Rattle.diff_area.specs.Format.{row_at, row_of, rows_in, is_good, good_at, ro
 use Rattle.diff_area.specs.Records.{used_in, AreNarrow}
 use Rattle.diff_area.specs.declared.table_record.Record.{Record}
 use Rattle.diff_area.specs.declared.header.Header.{Header}
-use Rattle.diff_area.specs.declared.header_field.HeaderField.TheVariants.{Magic, Layout, Slots, Used, Volumes, Blocks, Rest}
+use Rattle.diff_area.specs.declared.header_field.HeaderField.TheVariants.{Used}
 use Rattle.diff_area.specs.declared.area_fault.AreaFault.{AreaFault}
 use Rattle.diff_area.specs.declared.area_fault.AreaFault.TheVariants.{Device, BadHeader, BadRecord, OutOfMemory}
 

@@ -1,6 +1,6 @@
 -- Which refusal bytes get that are no area: that of the first condition that they do not meet, in the order of the
 -- conditions, with what was found there. (This project's own.)
-use Rattle.std.specs.Prelude.{ℕ, ◌≡◌, ◌≢◌, ◌<◌, Bool, true, false, List, length, Option, Some, None, find}
+use Rattle.std.specs.Prelude.{ℕ, ◌≡◌, ◌≢◌, ◌<◌, true, false, List, length, Some, None, find}
 use Rattle.diff_area.specs.Format.{number_at, layout_in, slots_in, stated_used, volume_count, volumes_in, rest_in, has_magic, is_layout, fits, is_volume_count, is_out_of_range, is_nonzero, HasHeader, row_at, row_of, good_in, header_of, table_of, records_of, row_count}
 use Rattle.diff_area.specs.Records.{used_in}
 use Rattle.diff_area.specs.declared.table_record.Record.{Record}

@@ -1,6 +1,6 @@
 -- The bytes of a header and of a table, as they are written. All numbers have four bytes, the lowest first. (This
 -- project's own; the order of bytes is that of the crate byteorder.)
-use Rattle.std.specs.Prelude.{ℕ, ◌+◌, ◌-◌, ◌*◌, List, ◌∷◌, ◌++◌, length, take, drop, map, codes}
+use Rattle.std.specs.Prelude.{ℕ, ◌-◌, ◌*◌, List, ◌∷◌, ◌++◌, length, take, drop, map, codes}
 use Rattle.std.specs.List.{flat_map, range_with_len}
 use Rattle.byteorder.specs.Endian.{little_bytes}
 use Rattle.block_data.specs.Runs.{run_of}

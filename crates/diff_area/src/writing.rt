@@ -14,6 +14,28 @@ use block_data::BLOCK;
 use volume_device::Device;
 use vss_names::Failed;
 
+/// Writes the header.
+fn write_header<D: Device>(
+    device: &mut D,
+    page: &mut Vec<u8>,
+    volumes: &[u32],
+    records: &[Record],
+) -> Result<(), Failed>
+    requires room { BLOCK ≤ vec_capacity page.old }
+    requires few { length volumes.now ≤ MOST_VOLUMES }
+    requires few_slots { length records.now ≤ MOST_SLOTS }
+    requires in_range { 0 < D.size device.old }
+    ensures written { OnOk result (D.told device.new ≡ option_map (λ blocks. slice_set blocks 0 (header_bytes volumes.now records.now)) (D.told device.old)) }
+    ensures kept { OnErr result (D.told device.new ≡ D.told device.old) }
+    ensures size { D.size device.new ≡ D.size device.old }
+    ensures lending { D.lending device.new ≡ D.lending device.old }
+    ensures room { BLOCK ≤ vec_capacity page.new }
+    ensures cause { HasCause (D.count device.old) (D.count device.new) result }
+{
+    fill_header(page, volumes, records);
+    device.write(0, page)
+}
+
 /// Writes page `k` of the table.
 fn write_page<D: Device>(
     device: &mut D,
@@ -59,8 +81,7 @@ pub fn write_table<D: Device>(
     ensures cause { HasCause (D.count device.old) (D.count device.new) result }
 {
     let pages = device.blocks() as usize - 1 - records.len();
-    fill_header(page, volumes, records);
-    device.write(0, page)?;
+    write_header(device, page, volumes, records)?;
     for k in 0..pages {
         if changed[k] {
             write_page(device, page, records, k)?;

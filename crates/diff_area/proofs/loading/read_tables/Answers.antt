@@ -1,4 +1,4 @@
-use Rattle.std.proofs.Common.{ℕ, ◌≡◌, ◌≤◌, ◌*◌, List, Option, length, vec_len, min, subst, refl, sym, ap, ◌∙◌, arith, rules}
+use Rattle.std.proofs.Common.{ℕ, ◌≡◌, ◌*◌, List, Option, length, vec_len, min, subst, sym, ap, ◌∙◌, arith, rules}
 use Rattle.block_data.specs.declared.block_buf.TheConstants.{BLOCK}
 use Rattle.diff_area.specs.ReadBlocks.{AreRead}
 use Rattle.diff_area.specs.Records.{AreVolumes}

@@ -1,6 +1,5 @@
-use Rattle.std.proofs.Common.{ℕ, ◌≡◌, ◌+◌, ◌*◌, List, length, vec_len, refl, sym, ap, ◌∙◌, arith, rules}
+use Rattle.std.proofs.Common.{◌+◌, length, refl, ap, ◌∙◌, arith}
 use Rattle.std.proofs.lemmas.List.{length-append}
-use Rattle.block_data.specs.declared.block_buf.TheConstants.{BLOCK}
 use Rattle.diff_area.proofs.ReadBlocks.{read-more, read-on}
 use Rattle.diff_area.proofs.reading.read_blocks.Goals as goal
 

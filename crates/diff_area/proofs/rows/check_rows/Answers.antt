@@ -1,4 +1,4 @@
-use Rattle.std.proofs.Common.{ℕ, ◌≡◌, ◌<◌, List, [], length, refl, sym, ap, ◌∙◌, arith, rules}
+use Rattle.std.proofs.Common.{length, ap, arith}
 use Rattle.diff_area.proofs.Doubles.{seen-none}
 use Rattle.diff_area.proofs.GoodRecords.{good-none, good-more, bad_row, length-rows_in}
 use Rattle.diff_area.proofs.rows.check_rows.Goals as goal

@@ -1,4 +1,4 @@
-use Rattle.std.proofs.Common.{ℕ, ◌≡◌, ◌≢◌, refl, sym, ap, ◌∙◌, arith, rules}
+use Rattle.std.proofs.Common.{refl, sym, ap, ◌∙◌}
 use Rattle.diff_area.specs.Records.{used_in}
 use Rattle.diff_area.proofs.GoodRecords.{first_rows, first_narrow}
 use Rattle.diff_area.proofs.rows.count_used.Goals as goal

@@ -1,6 +1,5 @@
-use Rattle.std.proofs.Common.{◌≡◌, ◌<◌, ◌≤◌, ◌+◌, ℕ, zero, suc, List, length, take, drop, Some, IfSome, slice_get, slice_set, option_map, vec_capacity, refl, sym, ap, ◌∙◌, arith, rules, add-one}
+use Rattle.std.proofs.Common.{◌+◌, option_map, vec_capacity, refl, ap, ◌∙◌, arith}
 use Rattle.std.proofs.lemmas.List.{take_all}
-use Rattle.block_data.specs.declared.block_buf.TheConstants.{BLOCK}
 use Rattle.diff_area.specs.AreaValue.{with_first, AreInPart}
 use Rattle.diff_area.specs.Written.{table_blocks, page_bytes, header_bytes}
 use Rattle.diff_area.proofs.TableBlocks.{told-write, told-keep, told-none, told-within, table-header, table-page, length-table, get_is, on_err}
@@ -13,13 +12,13 @@ loop-k-init g c =
     let t = table_blocks c.args.volumes.now c.args.records.now in
     let fits = c.requires.fits in
     let within = told-within (told c.args.device.now) (g.D.Device.size c.args.device.now) 0 c.blocks-2.ensures.whole (omega arith) in
-    let header = c.deref.ensures.value ∙ c.fill_header.ensures.bytes in
+    let header = header_bytes c.args.volumes.now c.args.records.now in
     record {
-      told_is = told-write t (told c.args.device.now) (told c.args.device.now) (told c.write.new.self) 0 1 c.deref.result.now c.in_ok-write.ensures.written (told-none t (told c.args.device.now)) within (table-header c.args.volumes.now c.args.records.now ∙ ap Some (sym header)) refl;
-      size_is = c.write.ensures.size;
-      lends = c.write.ensures.lending;
-      later = c.write.ensures.cause.later;
-      room = c.fill_header.ensures.room;
+      told_is = told-write t (told c.args.device.now) (told c.args.device.now) (told c.write_header.new.device) 0 1 header c.in_ok-write_header.ensures.written (told-none t (told c.args.device.now)) within (table-header c.args.volumes.now c.args.records.now) refl;
+      size_is = c.write_header.ensures.size;
+      lends = c.write_header.ensures.lending;
+      later = c.write_header.ensures.cause.later;
+      room = c.write_header.ensures.room;
     }
 
 pub returns-in_err-write_page-clause-in_part : goal.returns-in_err-write_page-clause-in_part

@@ -1,6 +1,4 @@
-use Rattle.std.proofs.Common.{ℕ, ◌≡◌, ◌<◌, ap, ◌∙◌, sym, subst, List, length, slice_get, Some, arith}
-use Rattle.diff_area.specs.AreaValue.{AreaValue}
-use Rattle.diff_area.specs.Records.{free}
+use Rattle.std.proofs.Common.{ap, length, arith}
 use Rattle.diff_area.proofs.Keeping.{keeps-cleared}
 use Rattle.diff_area.proofs.area.Area.clear_record.Goals as goal
 
