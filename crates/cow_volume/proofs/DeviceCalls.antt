@@ -1,0 +1,110 @@
+-- A call on the device of one volume: what it leaves of the list of devices.
+use Rattle.std.proofs.Common.{◌≡◌, ◌<◌, ℕ, Bool, true, false, List, length, map, take, drop, ◌++◌, refl, ap, sym, subst, ◌∙◌, arith, Option, Some, None}
+use Rattle.std.specs.Prelude.{Result, Ok, Err, OnOk, OnErr, is_err, is_some, IsNone, slice_get, slice_set, option_map, IfSome, get_or}
+use Rattle.std.proofs.lemmas.Option.{slice_get_read, slice_get_within, slice_get-map}
+use Rattle.std.proofs.lemmas.List.{length-map, take_at}
+use Rattle.vss_names.specs.Faults.{HasCause}
+use Rattle.cow_volume.specs.Tied.{CopiesValue}
+use Rattle.cow_volume.specs.Changes.{HasNoCopy}
+use Rattle.cow_volume.specs.Calls.{IsNow, IsShown, blocks_in}
+use Rattle.cow_volume.proofs.Group.{slice_get_inside}
+use Rattle.cow_volume.proofs.Reading.{group_now, group_shown_there}
+use Rattle.cow_volume.specs.Parts.{group_of, size_at, IsCalled, IsRead, IsPut}
+
+pub on_ok : {T E : Type 0} (r : Result T E) (P : Type 0) → OnOk r P → is_err r ≡ false → P
+on_ok (Ok x) P h e = h
+on_ok (Err x) P h e = cc
+
+pub on_err : {T E : Type 0} (r : Result T E) (P : Type 0) → OnErr r P → is_err r ≡ true → P
+on_err (Ok x) P h e = cc
+on_err (Err x) P h e = h
+
+-- a volume that has a block is there
+within_if : (o : Option ℕ) (b : ℕ) → b < blocks_in o → is_some o ≡ true
+within_if None b l = absurd (omega arith)
+within_if (Some n) b l = refl
+
+some_within : {X : Type 0} (xs : List X) (k : ℕ) → is_some (slice_get xs k) ≡ true → k < length xs
+some_within xs k e = by_get (slice_get xs k) refl e where
+  by_get : (o : Option _) → slice_get xs k ≡ o → is_some o ≡ true → k < length xs
+  by_get None f e = cc
+  by_get (Some x) f e = slice_get_within xs k x f
+
+pub size_within : {D : Type 0} (size : D → ℕ) (devices : List D) (v b : ℕ) → b < size_at size devices v → v < length devices
+size_within size devices v b l =
+    let long = length-map devices size in
+    let inside = some_within (map size devices) v (within_if (slice_get (map size devices) v) b l) in
+    omega arith
+
+pub size_of : {D : Type 0} (size : D → ℕ) (devices : List D) (v : ℕ) (d : D) → slice_get devices v ≡ Some d → size_at size devices v ≡ size d
+size_of size devices v d at = ap blocks_in (slice_get-map size devices v ∙ ap (option_map size) at)
+
+-- a device has as many blocks as its volume
+pub size_row : {D : Type 0} (size : D → ℕ) (devices : List D) (volumes : List ℕ) (v : ℕ) (d : D) → map size devices ≡ volumes → slice_get devices v ≡ Some d → slice_get volumes v ≡ Some (size d)
+size_row size devices volumes v d sizes at = ap (λ (ns : List ℕ). slice_get ns v) (sym sizes) ∙ slice_get-map size devices v ∙ ap (option_map size) at
+
+-- the device that is called
+pub device_read : {D : Type 0} (devices : List D) (v : ℕ) (d : D) → v < length devices → d ≡ get_or devices v d → slice_get devices v ≡ Some d
+device_read devices v d l is = slice_get_read devices (length devices) v d refl l is
+
+abbrev pub called : {D E : Type 0} (told : D → Option (List (List ℕ))) (size count : D → ℕ) (lending : D → Bool) (v : ℕ) (devices : List D) (before after : D) (r : Result Unit E) → slice_get devices v ≡ Some before
+    → is_some (told after) ≡ is_some (told before) → size after ≡ size before → lending after ≡ lending before → HasCause (count before) (count after) r → IsCalled told size count lending v devices (slice_set devices v after) (is_err r)
+called told size count lending v devices before after r at tells size_is lends cause = record {
+  before = before;
+  after = after;
+  was = at;
+  devices = refl;
+  same = record { tells = tells; size_is = size_is; lends = lends; later = cause.later };
+  rose = cause.rose;
+}
+
+tells_put : (old new : Option (List (List ℕ))) (b : ℕ) (bytes : List ℕ) → new ≡ option_map (λ blocks. slice_set blocks b bytes) old → is_some new ≡ is_some old
+tells_put None new b bytes e = ap is_some e
+tells_put (Some blocks) new b bytes e = ap is_some e
+
+tells_after : {E : Type 0} (old new : Option (List (List ℕ))) (b : ℕ) (bytes : List ℕ) (r : Result Unit E) → OnOk r (new ≡ option_map (λ blocks. slice_set blocks b bytes) old) → OnErr r (new ≡ old) → is_some new ≡ is_some old
+tells_after old new b bytes (Ok x) ok err = tells_put old new b bytes ok
+tells_after old new b bytes (Err x) ok err = ap is_some err
+
+pub device_put : {D E : Type 0} (told : D → Option (List (List ℕ))) (size count : D → ℕ) (lending : D → Bool) (v b : ℕ) (bytes : List ℕ) (devices : List D) (before after : D) (r : Result Unit E) → slice_get devices v ≡ Some before
+    → OnOk r (told after ≡ option_map (λ blocks. slice_set blocks b bytes) (told before)) → OnErr r (told after ≡ told before) → size after ≡ size before → lending after ≡ lending before → HasCause (count before) (count after) r
+    → IsPut told size count lending v b bytes devices (slice_set devices v after) (is_err r)
+device_put told size count lending v b bytes devices before after r at written kept size_is lends cause = record {
+  call = called told size count lending v devices before after r at (tells_after (told before) (told after) b bytes r written kept) size_is lends cause;
+  written = on_ok r (told after ≡ option_map (λ blocks. slice_set blocks b bytes) (told before)) written;
+  kept = on_err r (told after ≡ told before) kept;
+}
+
+-- ## what a call answered
+
+pub some_weaker : {X : Type 0} (o : Option X) (P Q : X → Type 0) → IfSome o P → ((x : X) → P x → Q x) → IfSome o Q
+some_weaker None P Q h f = tt
+some_weaker (Some x) P Q h f = f x h
+
+pub if_some : {X : Type 0} (o : Option X) (P : X → Type 0) (x : X) → o ≡ Some x → IfSome o P → P x
+if_some o P x e h = subst (λ (q : Option _). IfSome q P) e h
+
+pub is_none : {X : Type 0} (o : Option X) → o ≡ None → IsNone o
+is_none o e = ap is_some e
+
+pub in_range_of : (volumes : List ℕ) (v b n : ℕ) → slice_get volumes v ≡ Some n → b < n → b < blocks_in (slice_get volumes v)
+in_range_of volumes v b n at l = subst (λ (o : Option ℕ). b < blocks_in o) (sym at) l
+
+-- the device of a volume that has a block
+pub device_with : {D : Type 0} (size : D → ℕ) (devices : List D) (volumes : List ℕ) (v b : ℕ) → map size devices ≡ volumes → b < blocks_in (slice_get volumes v) → (d : D) × (slice_get devices v ≡ Some d)
+device_with size devices volumes v b sizes l =
+    slice_get_inside devices v (size_within size devices v b (subst (λ (ns : List ℕ). b < blocks_in (slice_get ns v)) (sym sizes) l))
+
+-- what was read of a volume's device is what the volume has now
+pub read_is_now : {D : Type 0} (told : D → Option (List (List ℕ))) (size count : D → ℕ) (lending : D → Bool) (devices new : List D) (copies : CopiesValue D) (v b : ℕ) (bytes : List ℕ) → b < blocks_in (slice_get copies.area.volumes v)
+    → IsRead told size count lending v b bytes devices new false → IsNow told (group_of devices copies) v b bytes
+read_is_now told size count lending devices new copies v b bytes l read = group_now told (group_of devices copies) v b read.call.before bytes l read.call.was (read.block refl)
+
+-- where no image has a copy, it is what the image shows
+pub read_is_shown : {D : Type 0} (told : D → Option (List (List ℕ))) (size count : D → ℕ) (lending : D → Bool) (devices new : List D) (copies : CopiesValue D) (v set b : ℕ) (bytes : List ℕ) → b < blocks_in (slice_get copies.area.volumes v)
+    → IsRead told size count lending v b bytes devices new false → HasNoCopy copies.area.records v set b → IsShown told (group_of devices copies) v set b bytes
+read_is_shown told size count lending devices new copies v set b bytes l read none = group_shown_there told (group_of devices copies) v set b read.call.before bytes l read.call.was (read.block refl) none
+
+-- a buffer that was filled has what it was filled with
+pub filled : (out old : List ℕ) → length out ≡ length old → take (length old) (out ++ drop (length out) old) ≡ out
+filled out old e = ap (λ (k : ℕ). take k (out ++ drop (length out) old)) (sym e) ∙ take_at out (drop (length out) old) (length out) refl

@@ -1,0 +1,50 @@
+-- Whether a write lacks its slot, by the records and by the histories; and so the images that go for it.
+use Rattle.std.proofs.Common.{ℕ, ◌≡◌, ◌<◌, Bool, true, false, not, List, [], ◌∷◌, length, Option, slice_get, refl, sym, ap, ◌∙◌, arith}
+use Rattle.std.proofs.lemmas.Bool.{false≢true}
+use Rattle.write_history.specs.History.{History}
+use Rattle.write_history.specs.Slots.{needs_slot_in, lacks_slot as lacks_slot_by, gone_up_to}
+use Rattle.diff_area.specs.Records.{AreRecords}
+use Rattle.diff_map.specs.MapValue.{newest}
+use Rattle.cow_volume.specs.GroupValue.{GroupValue, placed}
+use Rattle.cow_volume.specs.StandsFor.{StandsFor, record_of}
+use Rattle.cow_volume.specs.Changes.{has_record, gone_to}
+use Rattle.cow_volume.specs.Calls.{blocks_at, sets_in, sets_at, IsEvicted}
+use Rattle.cow_volume.specs.Room.{lacks_copy, lacks_after, all_after, IsRoomMade}
+use Rattle.cow_volume.proofs.Writing.{newest_is, group_needs, group_needs_none, group_needs_not}
+use Rattle.cow_volume.proofs.Counting.{group_used_of}
+use Rattle.cow_volume.proofs.Evicting.{gone_group, is_gone, gone_stands, gone_records, lacks_by_records, room_made}
+use Rattle.cow_volume.proofs.Rows.{lacks_newest, has_slot, has_from_slot}
+
+-- a write needs a slot just where the newest image lacks a copy of the block
+pub needs_by_records : {D : Type 0} (told : D → Option (List (List ℕ))) (g : GroupValue D) (hs : List History) (v b : ℕ) → StandsFor told g hs → b < blocks_at g v → lacks_copy g.area.records v (sets_at g v) b ≡ needs_slot_in (slice_get hs v) b
+needs_by_records told g hs v b stands within = by_sets (sets_at g v) refl where
+  by_test : (t : Bool) → 0 < length (sets_at g v) → has_record g.area.records (record_of v (newest (sets_at g v)) b) ≡ t → not t ≡ needs_slot_in (slice_get hs v) b
+  by_test true some e = let at = has_slot g.area.records (record_of v (newest (sets_at g v)) b) e in sym (group_needs_not told g hs v b at.0 stands within at.1)
+  by_test false some e = sym (group_needs told g hs v b stands within (record {
+    set = newest (sets_at g v);
+    newest_is = newest_is (sets_at g v) some;
+    unnoted = λ slot h. false≢true (sym e ∙ has_from_slot g.area.records (record_of v (newest (sets_at g v)) b) slot h);
+  }))
+
+  by_some : 0 < length (sets_at g v) → lacks_copy g.area.records v (sets_at g v) b ≡ needs_slot_in (slice_get hs v) b
+  by_some some = lacks_newest g.area.records v (sets_at g v) b some ∙ by_test (has_record g.area.records (record_of v (newest (sets_at g v)) b)) some refl
+
+  by_sets : (sets : List ℕ) → sets_at g v ≡ sets → lacks_copy g.area.records v (sets_at g v) b ≡ needs_slot_in (slice_get hs v) b
+  by_sets [] e = ap (λ (s : List ℕ). lacks_copy g.area.records v s b) e ∙ sym (group_needs_none told g hs v b stands within e)
+  by_sets (s ∷ rest) e = let long = ap length e in by_some (omega arith)
+
+lacks_lift : {D : Type 0} (told : D → Option (List (List ℕ))) (g : GroupValue D) (hs : List History) (v b k : ℕ) → StandsFor told g hs → AreRecords g.area.volumes g.area.records → b < blocks_at g v
+    → lacks_after g.area.records g.images v b k ≡ lacks_slot_by (length g.area.records) (placed g.area.volumes) v b (gone_up_to k (placed g.area.volumes) hs)
+lacks_lift told g hs v b k stands are within =
+    let now = gone_stands told g (gone_group k g) hs k (is_gone k g) stands in
+    lacks_by_records g.area.records (placed g.area.volumes) v b k hs (lacks_copy (gone_to k g.area.records) v (sets_in (slice_get (all_after k g.images) v)) b)
+    (needs_by_records told (gone_group k g) (gone_up_to k (placed g.area.volumes) hs) v b now within)
+    (group_used_of told (gone_group k g) (gone_up_to k (placed g.area.volumes) hs) now (gone_records g.area.volumes g.area.records k are))
+
+-- the number up to which room was made is the definition's
+pub room_lift : {D : Type 0} (told : D → Option (List (List ℕ))) (g : GroupValue D) (hs : List History) (v b m : ℕ) → StandsFor told g hs → AreRecords g.area.volumes g.area.records → b < blocks_at g v
+    → IsRoomMade g.area.records g.images v b m → IsEvicted g v b hs m
+room_lift told g hs v b m stands are within room =
+    room_made told g hs v b m stands
+    (λ k low. sym (lacks_lift told g hs v b k stands are within) ∙ room.needed k low)
+    (sym (lacks_lift told g hs v b m stands are within) ∙ room.enough)

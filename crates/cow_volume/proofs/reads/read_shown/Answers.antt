@@ -1,0 +1,31 @@
+use Rattle.std.proofs.Common.{true, false}
+use Rattle.cow_volume.specs.Parts.{group_of}
+use Rattle.cow_volume.proofs.Reading.{group_shown_copy}
+use Rattle.cow_volume.proofs.DeviceCalls.{if_some, is_none, read_is_shown}
+use Rattle.cow_volume.proofs.Kept.{quiet_called, volume_rose}
+use Rattle.cow_volume.proofs.reads.read_shown.Goals as goal
+
+pub returns-in-Ok-clause-shown : goal.returns-in-Ok-clause-shown
+returns-in-Ok-clause-shown g c =
+    group_shown_copy g.D.Device.told (group_of c.args.devices.now.items c.args.copies.now) c.args.v c.args.set c.args.block c.in-Some.slot c.read_slot.new.out c.in_ok-slot.ensures.in_range
+    (if_some c.in_ok-slot.field-0 _ c.in-Some.slot c.in-Some.is c.in_ok-slot.ensures.found) c.in-Ok.ensures.block
+
+pub returns-in-Ok-read_device-clause-shown : goal.returns-in-Ok-read_device-clause-shown
+returns-in-Ok-read_device-clause-shown g c =
+    read_is_shown g.D.Device.told g.D.Device.size g.D.Device.count g.D.Device.lending c.args.devices.now.items c.read_device.new.devices.items c.args.copies.now c.args.v c.args.set c.args.block c.read_device.new.out c.in_ok-slot.ensures.in_range
+    c.in-Ok-read_device.ensures (c.in_ok-slot.ensures.none (is_none c.in_ok-slot.field-0 c.in-None.is))
+
+pub returns-in-Ok-read_device-clause-quiet : goal.returns-in-Ok-read_device-clause-quiet
+returns-in-Ok-read_device-clause-quiet g c =
+    quiet_called g.D.Device.told g.D.Device.size g.D.Device.count g.D.Device.lending c.args.v c.args.devices.now.items c.read_device.new.devices.items false c.args.copies.now c.in-Ok-read_device.ensures.call c.in-Ok-read_device.ensures.told_is
+
+pub returns-in-Err-read_device-clause-cause : goal.returns-in-Err-read_device-clause-cause
+returns-in-Err-read_device-clause-cause g c = (
+  c.in_ok-slot.ensures.image,
+  c.in_ok-slot.ensures.in_range,
+  volume_rose g.D.Device.told g.D.Device.size g.D.Device.count g.D.Device.lending c.args.v c.args.devices.now.items c.read_device.new.devices.items c.args.copies.now c.args.copies.now c.in-Err-read_device.ensures.call,
+)
+
+pub returns-in-Err-read_device-clause-quiet : goal.returns-in-Err-read_device-clause-quiet
+returns-in-Err-read_device-clause-quiet g c =
+    quiet_called g.D.Device.told g.D.Device.size g.D.Device.count g.D.Device.lending c.args.v c.args.devices.now.items c.read_device.new.devices.items true c.args.copies.now c.in-Err-read_device.ensures.call c.in-Err-read_device.ensures.told_is

@@ -1,0 +1,47 @@
+use Rattle.std.proofs.Common.{◌<◌, ℕ, List, length, sym, subst, arith}
+use Rattle.std.specs.Prelude.{slice_get}
+use Rattle.cow_volume.specs.Calls.{blocks_in}
+use Rattle.cow_volume.specs.Parts.{group_of}
+use Rattle.cow_volume.proofs.Kept.{sizes_kept}
+use Rattle.cow_volume.proofs.DeviceCalls.{in_range_of}
+use Rattle.cow_volume.proofs.RestoringSteps.{restoring_start, at_most_one, restoring_one, restoring_stops}
+use Rattle.cow_volume.proofs.reverts.restore_blocks.Goals as goal
+
+pub restore_block-requires-clause-volume : goal.restore_block-requires-clause-volume
+restore_block-requires-clause-volume g c = λ κs lives. subst (λ (ns : List ℕ). c.args.v < length ns) (sym c.loop-block.invariant.done.kept.volumes) c.requires.volume
+
+pub restore_block-requires-clause-devices : goal.restore_block-requires-clause-devices
+restore_block-requires-clause-devices g c = λ κs lives.
+    sizes_kept g.D.Device.told g.D.Device.size g.D.Device.count g.D.Device.lending (group_of c.args.devices.now.items c.args.copies.now) (group_of c.loop-block.devices.items c.loop-block.copies) c.loop-block.invariant.done.kept c.requires.devices
+
+pub restore_block-requires-clause-in_range : goal.restore_block-requires-clause-in_range
+restore_block-requires-clause-in_range g c = λ κs lives.
+    let l = c.loop-block-test.true in
+    let here = in_range_of c.args.copies.now.area.volumes c.args.v c.loop-block.block c.blocks-block-end.result c.blocks-block-end.ensures (omega arith) in
+    subst (λ (ns : List ℕ). c.loop-block.block < blocks_in (slice_get ns c.args.v)) (sym c.loop-block.invariant.done.kept.volumes) here
+
+pub loop-block-init : goal.loop-block-init
+loop-block-init g c = record {
+  done = restoring_start g.D.Device.told g.D.Device.size g.D.Device.count g.D.Device.lending (group_of c.args.devices.now.items c.args.copies.now) c.args.v c.args.set c.requires.volume c.requires.newest;
+  few = omega arith;
+}
+
+pub loop-block-preserved : goal.loop-block-preserved
+loop-block-preserved g c =
+    let l = c.loop-block-test.true in
+    let here = in_range_of c.args.copies.now.area.volumes c.args.v c.loop-block.block c.blocks-block-end.result c.blocks-block-end.ensures (omega arith) in
+    let one = at_most_one c.in-Ok.has_copy in
+    let more = c.from-restored.ensures in
+    let few = c.loop-block.invariant.few in
+    record {
+      done = restoring_one g.D.Device.told g.D.Device.size g.D.Device.count g.D.Device.lending (group_of c.args.devices.now.items c.args.copies.now) (group_of c.loop-block.devices.items c.loop-block.copies) (group_of c.restore_block.new.devices.items c.restore_block.new.copies)
+          c.args.v c.args.set c.loop-block.block c.loop-block.restored c.in-Ok.has_copy c.from-restored.result c.requires.volume c.requires.newest here c.requires.above_zero c.from-restored.ensures c.loop-block.invariant.done c.in-Ok.ensures;
+      few = omega arith;
+    }
+
+pub returns-in-Err : goal.returns-in-Err
+returns-in-Err g c =
+    let l = c.loop-block-test.true in
+    let here = in_range_of c.args.copies.now.area.volumes c.args.v c.loop-block.block c.blocks-block-end.result c.blocks-block-end.ensures (omega arith) in
+    restoring_stops g.D.Device.told g.D.Device.size g.D.Device.count g.D.Device.lending (group_of c.args.devices.now.items c.args.copies.now) (group_of c.loop-block.devices.items c.loop-block.copies) (group_of c.restore_block.new.devices.items c.restore_block.new.copies)
+    c.args.v c.args.set c.loop-block.block c.loop-block.restored c.in-Err.cause c.requires.volume c.requires.newest here c.requires.above_zero c.loop-block.invariant.done c.in-Err.ensures

@@ -1,0 +1,183 @@
+-- What the calls on a group come to, against the histories that it stands for. (This project's own.)
+use Rattle.std.specs.Prelude.{ℕ, ◌≡◌, ◌<◌, ◌≤◌, Bool, true, false, zero, suc, List, [], ◌∷◌, length, map, Option, Some, None, is_some, slice_get, ◌==◌, Result, Ok, Err}
+use Rattle.std.specs.List.{list_any}
+use Rattle.vss_names.specs.Faults.{Rose}
+use Rattle.write_history.specs.History.{History, Write, content, point_in, fresh, written, dropped, reverted, reverted_in_part, to_restore}
+use Rattle.write_history.specs.Slots.{gone_up_to, evicted_up_to}
+use Rattle.cow_volume.specs.declared.cause.Cause.{Cause}
+use Rattle.cow_volume.specs.declared.cause.Cause.TheVariants.{NoSuchBlock, Volume, Area}
+use Rattle.cow_volume.specs.declared.written.Written.{Written}
+use Rattle.cow_volume.specs.declared.write_fault.WriteFault.{WriteFault}
+use Rattle.cow_volume.specs.declared.image_fault.ImageFault.{ImageFault}
+use Rattle.cow_volume.specs.declared.image_fault.ImageFault.TheVariants.{NoSuchImage, NoSuchBlock as NoBlock, Volume as VolumeFailed, Area as AreaFailed}
+use Rattle.cow_volume.specs.declared.revert_fault.RevertFault.{RevertFault}
+use Rattle.cow_volume.specs.declared.revert_fault.RevertFault.TheVariants.{NoSuchImage as NoImage, Fault}
+use Rattle.cow_volume.specs.GroupValue.{GroupValue, placed}
+use Rattle.cow_volume.specs.StandsFor.{StandsFor}
+
+-- ## a place in the group
+
+abbrev pub history_in : Option History → History
+history_in None = fresh
+history_in (Some h) = h
+
+-- the history of volume v
+abbrev pub history_at : List History → ℕ → History
+history_at hs v = history_in (slice_get hs v)
+
+-- f of the history of volume v
+abbrev pub changed_at : ℕ → (History → History) → List History → List History
+changed_at v f [] = []
+changed_at zero f (h ∷ hs) = f h ∷ hs
+changed_at (suc v) f (h ∷ hs) = h ∷ changed_at v f hs
+
+abbrev pub blocks_in : Option ℕ → ℕ
+blocks_in None = 0
+blocks_in (Some n) = n
+
+-- how many blocks volume v has
+abbrev pub blocks_at : {D : Type 0} → GroupValue D → ℕ → ℕ
+blocks_at g v = blocks_in (slice_get g.area.volumes v)
+
+-- ## what every call keeps
+
+-- a device keeps its size, whether it tells and whether it lends, and its count does not fall
+pub record IsSameDevice {D : Type 0} (told : D → Option (List (List ℕ))) (size count : D → ℕ) (lending : D → Bool) (old new : D) : Type 0 where
+  pub tells : is_some (told new) ≡ is_some (told old)
+  pub size_is : size new ≡ size old
+  pub lends : lending new ≡ lending old
+  pub later : count old ≤ count new
+
+pub record IsKept {D : Type 0} (told : D → Option (List (List ℕ))) (size count : D → ℕ) (lending : D → Bool) (old new : GroupValue D) : Type 0 where
+  pub volumes : new.area.volumes ≡ old.area.volumes
+  pub slots : length new.area.records ≡ length old.area.records
+  pub area : IsSameDevice told size count lending old.area.device new.area.device
+  pub devices : length new.devices ≡ length old.devices
+  pub each : (v : ℕ) (d e : D) → slice_get old.devices v ≡ Some d → slice_get new.devices v ≡ Some e → IsSameDevice told size count lending d e
+
+-- the count of the device of volume v rose
+pub record VolumeRose {D : Type 0} (count : D → ℕ) (v : ℕ) (old new : GroupValue D) : Type 0 where
+  pub before : D
+  pub now : D
+  pub was : slice_get old.devices v ≡ Some before
+  pub is : slice_get new.devices v ≡ Some now
+  pub rose : Rose (count before) (count now)
+
+-- the count of the area's device rose
+abbrev pub AreaRose : {D : Type 0} → (D → ℕ) → GroupValue D → GroupValue D → Type 0
+AreaRose count old new = Rose (count old.area.device) (count new.area.device)
+
+-- why a call failed on volume v and block b: just where there is no such block, or only where a count rose
+abbrev pub HasCauseAt : {D : Type 0} → (D → ℕ) → ℕ → ℕ → GroupValue D → GroupValue D → Cause → Type 0
+HasCauseAt count v b old new NoSuchBlock = (blocks_at old v ≤ b) × (new ≡ old)
+HasCauseAt count v b old new Volume = (b < blocks_at old v) × VolumeRose count v old new
+HasCauseAt count v b old new Area = (b < blocks_at old v) × AreaRose count old new
+
+-- ## writes
+
+-- sets up to this number are gone for a write of block b to volume v, as the definition of slots has it
+abbrev pub IsEvicted : {D : Type 0} → GroupValue D → ℕ → ℕ → List History → ℕ → Type 0
+IsEvicted g v b hs up_to = (sets : ℕ) → ((u n : ℕ) (h : History) → slice_get hs u ≡ Some h → is_some (point_in n h.images) ≡ true → n ≤ sets)
+    → up_to ≡ evicted_up_to sets (length g.area.records) (placed g.area.volumes) v b hs
+
+-- the histories without the images that went
+abbrev pub made_room : {D : Type 0} → GroupValue D → ℕ → List History → List History
+made_room g up_to hs = gone_up_to up_to (placed g.area.volumes) hs
+
+-- the block was written: images went as the definition has it, and there is one more effective write
+pub record IsWritten {D : Type 0} (told : D → Option (List (List ℕ))) (size count : D → ℕ) (lending : D → Bool) (old new : GroupValue D) (v : ℕ) (w : Write) (up_to : ℕ) : Type 0 where
+  pub in_range : w.block < blocks_at old v
+  pub kept : IsKept told size count lending old new
+  pub evicted : (hs : List History) → StandsFor told old hs → IsEvicted old v w.block hs up_to
+  pub stands : (hs : List History) → StandsFor told old hs → StandsFor told new (changed_at v (written w) (made_room old up_to hs))
+
+-- it was not: the images that went are gone all the same, and nothing else changed
+pub record IsUnwritten {D : Type 0} (told : D → Option (List (List ℕ))) (size count : D → ℕ) (lending : D → Bool) (old new : GroupValue D) (v b : ℕ) (fault : WriteFault) : Type 0 where
+  pub cause : HasCauseAt count v b old new fault.cause
+  pub kept : IsKept told size count lending old new
+  pub evicted : b < blocks_at old v → (hs : List History) → StandsFor told old hs → IsEvicted old v b hs fault.evicted_up_to
+  pub none : blocks_at old v ≤ b → fault.evicted_up_to ≡ 0
+  pub stands : (hs : List History) → StandsFor told old hs → StandsFor told new (made_room old fault.evicted_up_to hs)
+
+abbrev pub IsWrite : {D : Type 0} → (D → Option (List (List ℕ))) → (D → ℕ) → (D → ℕ) → (D → Bool) → GroupValue D → GroupValue D → ℕ → Write → Result Written WriteFault → Type 0
+IsWrite told size count lending old new v w (Ok done) = IsWritten told size count lending old new v w done.evicted_up_to
+IsWrite told size count lending old new v w (Err fault) = IsUnwritten told size count lending old new v w.block fault
+
+-- ## reads
+
+-- only counts of devices may have changed: the group stands for what it stood for
+pub record IsQuiet {D : Type 0} (told : D → Option (List (List ℕ))) (size count : D → ℕ) (lending : D → Bool) (old new : GroupValue D) : Type 0 where
+  pub kept : IsKept told size count lending old new
+  pub records : new.area.records ≡ old.area.records
+  pub images : new.images ≡ old.images
+  pub blocks : map told new.devices ≡ map told old.devices
+  pub slots : told new.area.device ≡ told old.area.device
+
+-- the bytes are those of block b of volume v now, where its device and the area's tell
+abbrev pub IsNow : {D : Type 0} → (D → Option (List (List ℕ))) → GroupValue D → ℕ → ℕ → List ℕ → Type 0
+IsNow {D = D} told g v b bytes = (hs : List History) (d : D) → StandsFor told g hs → slice_get g.devices v ≡ Some d → is_some (told d) ≡ true → is_some (told g.area.device) ≡ true
+    → bytes ≡ content (history_at hs v).writes (length (history_at hs v).writes) b
+
+-- the bytes are those that the image of a set on volume v shows of block b, where its device and the area's tell
+abbrev pub IsShown : {D : Type 0} → (D → Option (List (List ℕ))) → GroupValue D → ℕ → ℕ → ℕ → List ℕ → Type 0
+IsShown {D = D} told g v set b bytes = (hs : List History) (d : D) (p : ℕ) → StandsFor told g hs → slice_get g.devices v ≡ Some d → is_some (told d) ≡ true → is_some (told g.area.device) ≡ true
+    → point_in set (history_at hs v).images ≡ Some p → bytes ≡ content (history_at hs v).writes p b
+
+-- the sets of the images of volume v
+abbrev pub sets_in : Option (List ℕ) → List ℕ
+sets_in None = []
+sets_in (Some sets) = sets
+
+abbrev pub is_among : ℕ → List ℕ → Bool
+is_among set sets = list_any (λ s. s == set) sets
+
+abbrev pub sets_at : {D : Type 0} → GroupValue D → ℕ → List ℕ
+sets_at g v = sets_in (slice_get g.images v)
+
+-- why a call on the image of a set failed: the first cause that stands
+abbrev pub HasImageCause : {D : Type 0} → (D → ℕ) → ℕ → ℕ → ℕ → GroupValue D → GroupValue D → ImageFault → Type 0
+HasImageCause count v set b old new NoSuchImage = (is_among set (sets_at old v) ≡ false) × (new ≡ old)
+HasImageCause count v set b old new NoBlock = (is_among set (sets_at old v) ≡ true) × (blocks_at old v ≤ b) × (new ≡ old)
+HasImageCause count v set b old new VolumeFailed = (is_among set (sets_at old v) ≡ true) × (b < blocks_at old v) × VolumeRose count v old new
+HasImageCause count v set b old new AreaFailed = (is_among set (sets_at old v) ≡ true) × (b < blocks_at old v) × AreaRose count old new
+
+-- ## images
+
+-- the images of volume v changed, and its history as f says; the devices are as they were
+pub record IsChanged {D : Type 0} (told : D → Option (List (List ℕ))) (size count : D → ℕ) (lending : D → Bool) (old new : GroupValue D) (v : ℕ) (f : History → History) : Type 0 where
+  pub kept : IsKept told size count lending old new
+  pub devices : new.devices ≡ old.devices
+  pub area : new.area.device ≡ old.area.device
+  pub stands : (hs : List History) → StandsFor told old hs → StandsFor told new (changed_at v f hs)
+
+-- the image of a set went
+abbrev pub IsDropped : {D : Type 0} → (D → Option (List (List ℕ))) → (D → ℕ) → (D → ℕ) → (D → Bool) → GroupValue D → GroupValue D → ℕ → ℕ → Result Unit ImageFault → Type 0
+IsDropped told size count lending old new v set (Ok done) = (is_among set (sets_at old v) ≡ true) × IsChanged told size count lending old new v (dropped set)
+IsDropped told size count lending old new v set (Err fault) = (fault ≡ NoSuchImage) × (is_among set (sets_at old v) ≡ false) × (new ≡ old)
+
+-- ## revert
+
+-- volume v was brought back to the image of a set
+pub record IsReverted {D : Type 0} (told : D → Option (List (List ℕ))) (size count : D → ℕ) (lending : D → Bool) (old new : GroupValue D) (v set : ℕ) : Type 0 where
+  pub image : is_among set (sets_at old v) ≡ true
+  pub kept : IsKept told size count lending old new
+  pub stands : (hs : List History) (p : ℕ) → StandsFor told old hs → point_in set (history_at hs v).images ≡ Some p → StandsFor told new (changed_at v (reverted set p) hs)
+
+-- a device failed after so many blocks were restored, in ascending order: fewer than there are to restore
+pub record IsRevertedInPart {D : Type 0} (told : D → Option (List (List ℕ))) (size count : D → ℕ) (lending : D → Bool) (old new : GroupValue D) (v set restored : ℕ) : Type 0 where
+  pub image : is_among set (sets_at old v) ≡ true
+  pub kept : IsKept told size count lending old new
+  pub fewer : (hs : List History) (p : ℕ) → StandsFor told old hs → point_in set (history_at hs v).images ≡ Some p → restored < length (to_restore (blocks_at old v) (history_at hs v).writes p)
+  pub stands : (hs : List History) (p : ℕ) → StandsFor told old hs → point_in set (history_at hs v).images ≡ Some p
+      → StandsFor told new (changed_at v (reverted_in_part (blocks_at old v) set p restored) hs)
+
+-- a device failed: the volume's, or the area's
+abbrev pub DeviceRose : {D : Type 0} → (D → ℕ) → ℕ → GroupValue D → GroupValue D → Cause → Type 0
+DeviceRose count v old new NoSuchBlock = ⊥
+DeviceRose count v old new Volume = VolumeRose count v old new
+DeviceRose count v old new Area = AreaRose count old new
+
+abbrev pub IsRevert : {D : Type 0} → (D → Option (List (List ℕ))) → (D → ℕ) → (D → ℕ) → (D → Bool) → GroupValue D → GroupValue D → ℕ → ℕ → Result Unit RevertFault → Type 0
+IsRevert told size count lending old new v set (Ok done) = IsReverted told size count lending old new v set
+IsRevert told size count lending old new v set (Err NoImage) = (is_among set (sets_at old v) ≡ false) × (new ≡ old)
+IsRevert told size count lending old new v set (Err (Fault restored cause)) = IsRevertedInPart told size count lending old new v set restored × DeviceRose count v old new cause

@@ -1,0 +1,13 @@
+pub mod GroupValue
+pub mod StandsFor
+pub mod Changes
+pub mod Calls
+pub mod Room
+pub mod Tied
+pub mod CopiesAfter
+pub mod Followed
+pub mod Parts
+pub mod Restoring
+pub mod Ending
+pub mod Steps
+pub mod Counts

@@ -1,0 +1,65 @@
+-- A group in its parts: the devices of its volumes, one for each and each of as many blocks as its volume has, and its copies. And
+-- what a call on one of the devices leaves of them. (This project's own.)
+use Rattle.std.specs.Prelude.{ℕ, ◌≡◌, ◌≤◌, Bool, true, false, List, map, Option, Some, IfSome, slice_get, slice_set, option_map}
+use Rattle.vss_names.specs.Faults.{Rose}
+use Rattle.cow_volume.specs.GroupValue.{GroupValue}
+use Rattle.cow_volume.specs.Tied.{CopiesValue}
+use Rattle.cow_volume.specs.Changes.{IsFirstCopy, HasNoCopy}
+use Rattle.cow_volume.specs.Calls.{IsSameDevice, blocks_in, is_among}
+use Rattle.cow_volume.specs.declared.image_fault.ImageFault.{ImageFault}
+use Rattle.cow_volume.specs.declared.image_fault.ImageFault.TheVariants.{NoSuchImage, NoSuchBlock, Volume, Area}
+
+-- the group of these devices and copies
+abbrev pub group_of : {D : Type 0} → List D → CopiesValue D → GroupValue D
+group_of devices copies = record { devices = devices; area = copies.area; images = copies.images }
+
+-- how many blocks the device of volume v has
+abbrev pub size_at : {D : Type 0} → (D → ℕ) → List D → ℕ → ℕ
+size_at size devices v = blocks_in (slice_get (map size devices) v)
+
+-- how many blocks volume v has
+abbrev pub blocks_on : {D : Type 0} → CopiesValue D → ℕ → ℕ
+blocks_on copies v = blocks_in (slice_get copies.area.volumes v)
+
+-- ## a call on one device
+
+-- the device of volume v was called, and is in another state; its count rose where that failed
+pub record IsCalled {D : Type 0} (told : D → Option (List (List ℕ))) (size count : D → ℕ) (lending : D → Bool) (v : ℕ) (old new : List D) (failed : Bool) : Type 0 where
+  pub before : D
+  pub after : D
+  pub was : slice_get old v ≡ Some before
+  pub devices : new ≡ slice_set old v after
+  pub same : IsSameDevice told size count lending before after
+  pub rose : failed ≡ true → Rose (count before) (count after)
+
+-- block b was read, where that did not fail
+pub record IsRead {D : Type 0} (told : D → Option (List (List ℕ))) (size count : D → ℕ) (lending : D → Bool) (v b : ℕ) (bytes : List ℕ) (old new : List D) (failed : Bool) : Type 0 where
+  pub call : IsCalled told size count lending v old new failed
+  pub told_is : told call.after ≡ told call.before
+  pub block : failed ≡ false → IfSome (told call.before) (λ blocks. slice_get blocks b ≡ Some bytes)
+
+-- block b was written, where that did not fail
+pub record IsPut {D : Type 0} (told : D → Option (List (List ℕ))) (size count : D → ℕ) (lending : D → Bool) (v b : ℕ) (bytes : List ℕ) (old new : List D) (failed : Bool) : Type 0 where
+  pub call : IsCalled told size count lending v old new failed
+  pub written : failed ≡ false → told call.after ≡ option_map (λ blocks. slice_set blocks b bytes) (told call.before)
+  pub kept : failed ≡ true → told call.after ≡ told call.before
+
+-- it was flushed, where that did not fail
+pub record IsFlushed {D : Type 0} (told : D → Option (List (List ℕ))) (size count : D → ℕ) (lending : D → Bool) (v : ℕ) (old new : List D) (failed : Bool) : Type 0 where
+  pub call : IsCalled told size count lending v old new failed
+  pub told_is : told call.after ≡ told call.before
+
+-- ## what is lent
+
+-- why no block of an image is shown, of a volume of so many blocks that has images of these sets: the first cause that stands, none
+-- of which is a device's
+abbrev pub IsUnseen : List ℕ → ℕ → ℕ → ℕ → ImageFault → Type 0
+IsUnseen sets blocks set b NoSuchImage = is_among set sets ≡ false
+IsUnseen sets blocks set b NoSuchBlock = (is_among set sets ≡ true) × (blocks ≤ b)
+IsUnseen sets blocks set b Volume = ⊥
+IsUnseen sets blocks set b Area = ⊥
+
+-- a block of an image is lent just where the device that has it lends: the area's, where an image has a copy, or else the volume's
+pub record IsLentBy {D : Type 0} (lending : D → Bool) (g : GroupValue D) (v set b : ℕ) (lent : Bool) : Type 0 where
+  pub from_slot : (slot : ℕ) → IsFirstCopy g.area.records v set b slot → lent ≡ lending g.area.device
+  pub from_volume : (d : D) → HasNoCopy g.area.records v set b → slice_get g.devices v ≡ Some d → lent ≡ lending d

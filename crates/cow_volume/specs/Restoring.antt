@@ -1,0 +1,90 @@
+-- How a volume is brought back to an image: the newer images go, then block after block is restored. What each step leaves of the
+-- group. (This project's own.)
+use Rattle.std.specs.Prelude.{ℕ, ◌≡◌, ◌<◌, ◌≤◌, Bool, true, false, List, length, All, Option, Some, IfSome, slice_get, slice_set, option_map, Result, Ok, Err}
+use Rattle.write_history.specs.History.{History, point_in, up_to_set, to_restore, reverted_in_part}
+use Rattle.diff_area.specs.Places.{place_of_slot}
+use Rattle.diff_area.specs.declared.table_record.Record.{Record}
+use Rattle.cow_volume.specs.GroupValue.{GroupValue}
+use Rattle.cow_volume.specs.StandsFor.{record_of, StandsFor}
+use Rattle.cow_volume.specs.Tied.{CopiesValue}
+use Rattle.cow_volume.specs.Changes.{IsFirstCopy}
+use Rattle.cow_volume.specs.CopiesAfter.{images_on}
+use Rattle.cow_volume.specs.Parts.{group_of}
+use Rattle.cow_volume.specs.Calls.{history_at, changed_at, blocks_at, is_among, IsKept, IsQuiet, DeviceRose}
+use Rattle.cow_volume.specs.declared.cause.Cause.{Cause}
+use Rattle.cow_volume.specs.declared.revert_fault.RevertFault.{RevertFault}
+use Rattle.cow_volume.specs.declared.revert_fault.RevertFault.TheVariants.{NoSuchImage, Fault}
+
+-- ## the newer images
+
+-- the history with the images up to that of a set alone
+abbrev pub with_up_to : ℕ → History → History
+with_up_to set h = record { writes = h.writes; images = up_to_set set h.images }
+
+-- the images of volume v that are newer than that of a set went
+pub record AreNewerGone {D : Type 0} (told : D → Option (List (List ℕ))) (old new : CopiesValue D) (v set : ℕ) : Type 0 where
+  pub among : is_among set (images_on new v) ≡ true
+  pub most : All (λ s. s ≤ set) (images_on new v)
+  pub device : new.area.device ≡ old.area.device
+  pub volumes : new.area.volumes ≡ old.area.volumes
+  pub slots : length new.area.records ≡ length old.area.records
+  pub stands : (devices : List D) (hs : List History) → StandsFor told (group_of devices old) hs → StandsFor told (group_of devices new) (changed_at v (with_up_to set) hs)
+
+-- ## block after block
+
+-- of the first m blocks of volume v, those that are to be restored to the image of a set, its newest, are; so many are they
+pub record AreRestored {D : Type 0} (told : D → Option (List (List ℕ))) (size count : D → ℕ) (lending : D → Bool) (old new : GroupValue D) (v set m restored : ℕ) : Type 0 where
+  pub kept : IsKept told size count lending old new
+  pub records : new.area.records ≡ old.area.records
+  pub images : new.images ≡ old.images
+  pub slots : told new.area.device ≡ told old.area.device
+  pub number : (hs : List History) (p : ℕ) → StandsFor told old hs → point_in set (history_at hs v).images ≡ Some p → restored ≡ length (to_restore m (history_at hs v).writes p)
+  pub stands : (hs : List History) (p : ℕ) → StandsFor told old hs → point_in set (history_at hs v).images ≡ Some p
+      → StandsFor told new (changed_at v (reverted_in_part (blocks_at old v) set p restored) hs)
+
+-- no record is that of a copy of block b for the image of a set
+abbrev pub HasNoRecord : List Record → ℕ → ℕ → ℕ → Type 0
+HasNoRecord records v set b = (slot : ℕ) → slice_get records slot ≡ Some (record_of v set b) → ⊥
+
+-- block b of volume v got the bytes of the slot that was found for it
+pub record IsPutBack {D : Type 0} (told : D → Option (List (List ℕ))) (size count : D → ℕ) (lending : D → Bool) (old new : GroupValue D) (v set b : ℕ) : Type 0 where
+  pub slot : ℕ
+  pub bytes : List ℕ
+  pub before : D
+  pub after : D
+  pub found : IsFirstCopy old.area.records v set b slot
+  pub held : IfSome (told old.area.device) (λ blocks. slice_get blocks (place_of_slot (length old.area.records) slot) ≡ Some bytes)
+  pub was : slice_get old.devices v ≡ Some before
+  pub devices : new.devices ≡ slice_set old.devices v after
+  pub written : told after ≡ option_map (λ blocks. slice_set blocks b bytes) (told before)
+  pub kept : IsKept told size count lending old new
+  pub records : new.area.records ≡ old.area.records
+  pub images : new.images ≡ old.images
+  pub slots : told new.area.device ≡ told old.area.device
+
+-- a slot was found for it, and then a device failed
+pub record IsNotPutBack {D : Type 0} (told : D → Option (List (List ℕ))) (size count : D → ℕ) (lending : D → Bool) (old new : GroupValue D) (v set b : ℕ) (cause : Cause) : Type 0 where
+  pub slot : ℕ
+  pub found : IsFirstCopy old.area.records v set b slot
+  pub quiet : IsQuiet told size count lending old new
+  pub rose : DeviceRose count v old new cause
+
+-- what became of block b: it has no copy for the set; or it was restored; or a device failed
+abbrev pub IsOneRestored : {D : Type 0} → (D → Option (List (List ℕ))) → (D → ℕ) → (D → ℕ) → (D → Bool) → GroupValue D → GroupValue D → ℕ → ℕ → ℕ → Result Bool Cause → Type 0
+IsOneRestored told size count lending old new v set b (Ok false) = (new ≡ old) × HasNoRecord old.area.records v set b
+IsOneRestored told size count lending old new v set b (Ok true) = IsPutBack told size count lending old new v set b
+IsOneRestored told size count lending old new v set b (Err cause) = IsNotPutBack told size count lending old new v set b cause
+
+-- ## all blocks
+
+-- a device failed after so many blocks were restored: fewer than there are to restore
+pub record IsStopped {D : Type 0} (told : D → Option (List (List ℕ))) (size count : D → ℕ) (lending : D → Bool) (old new : GroupValue D) (v set restored : ℕ) (cause : Cause) : Type 0 where
+  pub block : ℕ
+  pub done : AreRestored told size count lending old new v set block restored
+  pub fewer : (hs : List History) (p : ℕ) → StandsFor told old hs → point_in set (history_at hs v).images ≡ Some p → restored < length (to_restore (blocks_at old v) (history_at hs v).writes p)
+  pub rose : DeviceRose count v old new cause
+
+abbrev pub IsRestoring : {D : Type 0} → (D → Option (List (List ℕ))) → (D → ℕ) → (D → ℕ) → (D → Bool) → GroupValue D → GroupValue D → ℕ → ℕ → Result Unit RevertFault → Type 0
+IsRestoring told size count lending old new v set (Ok done) = (restored : ℕ) × AreRestored told size count lending old new v set (blocks_at old v) restored
+IsRestoring told size count lending old new v set (Err NoSuchImage) = ⊥
+IsRestoring told size count lending old new v set (Err (Fault restored cause)) = IsStopped told size count lending old new v set restored cause

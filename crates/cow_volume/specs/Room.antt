@@ -1,0 +1,48 @@
+-- When a write needs a slot for a copy, and lacks it, by the records; and which images go so that it has one. (That the oldest go
+-- is the Volume Shadow Copy Service's; that those of the group's least set go together is this project's own.)
+use Rattle.std.specs.Prelude.{ℕ, ◌≡◌, ◌<◌, ◌==◌, ◌&&◌, not, Bool, true, false, List, [], ◌∷◌, length, map, filter, nat_lt, slice_get}
+use Rattle.diff_area.specs.Records.{used_in}
+use Rattle.diff_area.specs.declared.table_record.Record.{Record}
+use Rattle.cow_volume.specs.GroupValue.{GroupValue}
+use Rattle.cow_volume.specs.StandsFor.{record_of}
+use Rattle.cow_volume.specs.Changes.{has_record, gone_to}
+use Rattle.cow_volume.specs.Calls.{sets_in}
+
+-- the newest of these images of volume v lacks a copy of block b; where no image stands, none lacks one
+abbrev pub lacks_copy : List Record → ℕ → List ℕ → ℕ → Bool
+lacks_copy records v [] b = false
+lacks_copy records v (set ∷ []) b = not (has_record records (record_of v set b))
+lacks_copy records v (set ∷ next ∷ newer) b = lacks_copy records v (next ∷ newer) b
+
+-- all slots are used
+abbrev pub is_full : List Record → Bool
+is_full records = used_in records == length records
+
+-- a write of block b to volume v, which has these images, needs a slot for a copy, and all slots are used
+abbrev pub lacks_slot : List Record → ℕ → List ℕ → ℕ → Bool
+lacks_slot records v sets b = lacks_copy records v sets b && is_full records
+
+-- the images of the sets up to this one are gone
+abbrev pub after : ℕ → List ℕ → List ℕ
+after up_to sets = filter (λ s. nat_lt up_to s) sets
+
+-- the same on each volume
+abbrev pub all_after : ℕ → List (List ℕ) → List (List ℕ)
+all_after up_to images = map (after up_to) images
+
+-- whether the write lacks its slot once the images of the sets up to this one are gone
+abbrev pub lacks_after : List Record → List (List ℕ) → ℕ → ℕ → ℕ → Bool
+lacks_after records images v b up_to = lacks_slot (gone_to up_to records) v (sets_in (slice_get (all_after up_to images) v)) b
+
+-- images went up to this set, and no more than had to go for a write of block b to volume v
+pub record IsRoomMade (records : List Record) (images : List (List ℕ)) (v b up_to : ℕ) : Type 0 where
+  pub enough : lacks_after records images v b up_to ≡ false
+  pub needed : (fewer : ℕ) → fewer < up_to → lacks_after records images v b fewer ≡ true
+
+-- the group without the images of the sets up to this one, and without their copies
+abbrev pub gone_group : {D : Type 0} → ℕ → GroupValue D → GroupValue D
+gone_group up_to g = record {
+  devices = g.devices;
+  area = record { device = g.area.device; volumes = g.area.volumes; records = gone_to up_to g.area.records };
+  images = all_after up_to g.images;
+}

@@ -1,0 +1,395 @@
+ghost use Rattle.std.specs.Prelude.{◌≡◌, ◌<◌, [], true, List, Some, length, replicate, IfOk, slice_get, slice_set, slice_index, map, option_map, is_some, All, Contains, IfSome, IsNone, OnOk, OnErr, ◌↔◌};
+ghost use Rattle.vss_names.specs.Faults.{HasCause};
+ghost use Rattle.volume_device.specs.Blocks.{AreBlocks};
+ghost use Rattle.write_history.specs.Slots.{Copy};
+ghost use Rattle.slot_pool.specs.Slots.{IsLowestFree};
+ghost use Rattle.diff_map.specs.MapValue.{AreImages, newest};
+ghost use Rattle.diff_area.specs.AreaValue.{AreInPart, KeepsTable, with_first};
+ghost use Rattle.diff_area.specs.Copies.{AreStored, AreHeld};
+ghost use Rattle.diff_area.specs.Places.{blocks_for, place_of_slot};
+ghost use Rattle.diff_area.specs.Records.{AreVolumes, AreRecords, free, is_free, used_in};
+ghost use Rattle.diff_area.specs.Written.{table_blocks};
+ghost use Rattle.cow_volume.specs.Changes.{IsFirstCopy, HasNoCopy, is_of};
+ghost use Rattle.cow_volume.specs.Counts.{is_on, count_on, count_of};
+ghost use Rattle.cow_volume.specs.Room.{lacks_copy, lacks_slot, is_full, IsRoomMade};
+ghost use Rattle.cow_volume.specs.Tied.{AreOfImages, new_map};
+ghost use Rattle.cow_volume.specs.CopiesAfter.{images_on, after_cut, after_note, after_merge, after_clear, after_gone, after_first, lesser, oldest_in};
+
+use crate::following::follow;
+use block_data::{BLOCK, BlockView};
+use diff_area::{Area, AreaFault, Record};
+use diff_map::DiffMap;
+use slot_pool::SlotPool;
+use std::alloc::Global;
+use std::marker::Model;
+use volume_device::Device;
+use vss_names::OutOfMemory;
+
+/// The copies of a group: the area that holds them, a map for each volume that finds them, and the pool of free slots.
+/// Contracts see the area and the images of each volume: what the maps and the pool hold follows from the records.
+#[derive(Drop)]
+pub(crate) struct Copies<D: Device> {
+    area: Area<D>,
+    maps: Vec<DiffMap>,
+    pool: SlotPool,
+}
+
+impl<D: Device> Model for Copies<D> {
+    ghost use Rattle.cow_volume.specs.Tied.{CopiesValue, AreTied, images_of};
+
+    ghost Value = { CopiesValue D };
+
+    ghost view = { λ c. record { area = c.area; images = images_of c.maps.items } };
+
+    ghost invariant = { λ c. AreTied c.area.volumes c.area.records c.maps.items c.pool };
+}
+
+impl<D: Device> Copies<D> {
+    /// The copies in an area whose slots are free: none, and no image.
+    pub(crate) fn new(alloc: Global, area: Area<D>) -> Result<Copies<D>, OutOfMemory>
+        requires { area.records ≡ replicate (length area.records) free }
+        ensures { IfOk result (λ copies. copies ≡ record { area = area; images = map (λ n. []) area.volumes }) }
+    {
+        let maps = new_maps(alloc, &area)?;
+        let pool = SlotPool::new(alloc, area.slots())?;
+        Ok(Copies { area, maps, pool })
+    }
+
+    /// How many slots the area has.
+    pub(crate) fn slots(&self) -> u32
+        ensures slots { result ≡ length self.now.area.records }
+        ensures valid { AreRecords self.now.area.volumes self.now.area.records }
+        ensures fits { D.size self.now.area.device ≡ blocks_for (length self.now.area.records) }
+        ensures whole { IfSome (D.told self.now.area.device) (AreBlocks (D.size self.now.area.device)) }
+    {
+        self.area.slots()
+    }
+
+    /// How many volumes the group has.
+    pub(crate) fn volumes(&self) -> u32
+        ensures volumes { result ≡ length self.now.area.volumes }
+        ensures images { length self.now.images ≡ length self.now.area.volumes }
+        ensures valid { AreVolumes self.now.area.volumes }
+        ensures of_images { AreOfImages self.now.area.records self.now.images }
+    {
+        self.area.volumes()
+    }
+
+    /// How many blocks a volume has.
+    pub(crate) fn blocks(&self, v: u32) -> u32
+        requires { v < length self.now.area.volumes }
+        ensures { slice_get self.now.area.volumes v ≡ Some result }
+    {
+        self.maps[v as usize].blocks()
+    }
+
+    /// The sets of the images of a volume, the oldest first.
+    pub(crate) fn images(&self, v: u32) -> &[u32]
+        requires { v < length self.now.area.volumes }
+        ensures images { slice_get self.now.images v ≡ Some result.now }
+        ensures valid { AreImages result.now }
+    {
+        self.maps[v as usize].images()
+    }
+
+    /// How many slots hold copies.
+    pub(crate) fn used(&self) -> u32
+        ensures { result ≡ used_in self.now.area.records }
+    {
+        self.pool.used()
+    }
+
+    /// How many slots hold copies of the volume.
+    pub(crate) fn used_on(&self, v: u32) -> u32
+        ensures { result ≡ count_on v self.now.area.records }
+    {
+        let mut used = 0;
+        for slot in 0..self.area.slots() {
+            let row = self.area.record_at(slot);
+            if is_on(row, v) {
+                used += 1;
+            }
+        }
+        used
+    }
+
+    /// How many slots hold copies for the image of a set on the volume.
+    pub(crate) fn used_of(&self, v: u32, set: u32) -> u32
+        ensures { result ≡ count_of v set self.now.area.records }
+    {
+        let mut used = 0;
+        for slot in 0..self.area.slots() {
+            let row = self.area.record_at(slot);
+            if is_of(row, v, set) {
+                used += 1;
+            }
+        }
+        used
+    }
+
+    /// Whether an image of the volume stands, and the newest has no copy of the block.
+    pub(crate) fn lacks_copy(&self, v: u32, block: u32) -> bool
+        requires { v < length self.now.area.volumes }
+        ensures { result ≡ lacks_copy self.now.area.records v (images_on self.now v) block }
+    {
+        let map = &self.maps[v as usize];
+        if map.images().is_empty() {
+            return false;
+        }
+        !map.newest_has(block)
+    }
+
+    /// Whether a write of the block needs a slot for a copy, and none is free.
+    pub(crate) fn lacks_slot(&self, v: u32, block: u32) -> bool
+        requires { v < length self.now.area.volumes }
+        ensures { result ≡ lacks_slot self.now.area.records v (images_on self.now v) block }
+    {
+        self.pool.free() == 0 && self.lacks_copy(v, block)
+    }
+
+    /// The slot whose copy the image of a set shows of a block; None where the volume itself has what it shows.
+    pub(crate) fn find(&self, v: u32, set: u32, block: u32) -> Option<u32>
+        requires volume { v < length self.now.area.volumes }
+        requires set { 0 < set }
+        ensures found { IfSome result (IsFirstCopy self.now.area.records v set block) }
+        ensures within { IfSome result (λ slot. slot < length self.now.area.records) }
+        ensures none { IsNone result ↔ HasNoCopy self.now.area.records v set block }
+    {
+        self.maps[v as usize].find(set, block)
+    }
+
+    /// The lowest free slot.
+    pub(crate) fn free_slot(&self) -> Option<u32>
+        ensures lowest { IfSome result (IsLowestFree (map is_free self.now.area.records)) }
+        ensures none { IsNone result ↔ (is_full self.now.area.records ≡ true) }
+    {
+        self.pool.lowest()
+    }
+
+    /// An image is cut, the newest of the volume. It has no copies yet.
+    pub(crate) fn add_image(&mut self, v: u32, set: u32)
+        requires volume { v < length self.old.area.volumes }
+        requires room { length (images_on self.old v) < 512 }
+        requires above_zero { 0 < set }
+        requires newest { All (λ image. image < set) (images_on self.old v) }
+        ensures { self.new ≡ after_cut self.old v set }
+    {
+        let map = &mut self.maps[v as usize];
+        map.add_image(set);
+        let _after = map.images();
+    }
+
+    /// Notes the lowest free slot for a block of the newest image of the volume, which lacks a copy of it.
+    pub(crate) fn note(&mut self, v: u32, block: u32, slot: u32)
+        requires volume { v < length self.old.area.volumes }
+        requires lacks { lacks_copy self.old.area.records v (images_on self.old v) block ≡ true }
+        requires in_range { block < slice_index self.old.area.volumes v }
+        requires lowest { IsLowestFree (map is_free self.old.area.records) slot }
+        ensures { self.new ≡ after_note self.old v block slot }
+    {
+        let _taken = self.pool.take();
+        let map = &mut self.maps[v as usize];
+        let set = newest(map.images());
+        map.note(block, slot);
+        let _after = map.images();
+        let row = Record {
+            set,
+            block,
+            volume: v,
+        };
+        self.area.set_record(slot, row);
+    }
+
+    /// Copies a block into a slot. Where that fails, the slot is as it was.
+    pub(crate) fn copy_in(&mut self, slot: u32, view: BlockView<'_>) -> Result<(), AreaFault>
+        requires { slot < length self.old.area.records }
+        ensures copied { OnOk result (D.told self.new.area.device ≡ option_map (λ blocks. slice_set blocks (place_of_slot (length self.old.area.records) slot) view.entry) (D.told self.old.area.device)) }
+        ensures kept { OnErr result (D.told self.new.area.device ≡ D.told self.old.area.device) }
+        ensures table { KeepsTable D.size D.lending self.old.area self.new.area }
+        ensures images { self.new.images ≡ self.old.images }
+        ensures cause { HasCause (D.count self.old.area.device) (D.count self.new.area.device) result }
+    {
+        self.area.copy_in(slot, view)
+    }
+
+    /// Reads the block of a slot into `out`, which after a failed read holds any bytes.
+    pub(crate) fn read_slot(&mut self, slot: u32, out: &mut [u8]) -> Result<(), AreaFault>
+        requires slot { slot < length self.old.area.records }
+        requires whole { length out.old ≡ BLOCK }
+        ensures block { OnOk result (IfSome (D.told self.old.area.device) (λ blocks. slice_get blocks (place_of_slot (length self.old.area.records) slot) ≡ Some out.new)) }
+        ensures told { D.told self.new.area.device ≡ D.told self.old.area.device }
+        ensures table { KeepsTable D.size D.lending self.old.area self.new.area }
+        ensures images { self.new.images ≡ self.old.images }
+        ensures cause { HasCause (D.count self.old.area.device) (D.count self.new.area.device) result }
+    {
+        self.area.read_slot(slot, out)
+    }
+
+    /// Lends the block of a slot in place, which cannot fail.
+    pub(crate) fn lend_slot(&self, slot: u32) -> Option<&[u8]>
+        requires { slot < length self.now.area.records }
+        ensures lends { is_some result ≡ D.lending self.now.area.device }
+        ensures block { IfSome result (λ block. IfSome (D.told self.now.area.device) (λ blocks. slice_get blocks (place_of_slot (length self.now.area.records) slot) ≡ Some block.now)) }
+        ensures whole { IfSome result (λ block. length block.now ≡ BLOCK) }
+    {
+        self.area.lend_slot(slot)
+    }
+
+    /// Writes the records of the copies to the area's device. Where that fails, those already written stand there.
+    pub(crate) fn sync(&mut self) -> Result<(), AreaFault>
+        ensures written { OnOk result (D.told self.new.area.device ≡ option_map (with_first (table_blocks self.old.area.volumes self.old.area.records)) (D.told self.old.area.device)) }
+        ensures stands { OnOk result ((copies : List Copy) → AreHeld (D.told self.old.area.device) self.old.area.records copies → AreStored (D.told self.new.area.device) copies) }
+        ensures in_part { OnErr result (AreInPart (table_blocks self.old.area.volumes self.old.area.records) (D.told self.old.area.device) (D.told self.new.area.device)) }
+        ensures table { KeepsTable D.size D.lending self.old.area self.new.area }
+        ensures images { self.new.images ≡ self.old.images }
+        ensures cause { HasCause (D.count self.old.area.device) (D.count self.new.area.device) result }
+    {
+        self.area.sync()
+    }
+
+    /// Brings what was written to the area's device to where it lasts.
+    pub(crate) fn flush(&mut self) -> Result<(), AreaFault>
+        ensures told { D.told self.new.area.device ≡ D.told self.old.area.device }
+        ensures table { KeepsTable D.size D.lending self.old.area self.new.area }
+        ensures images { self.new.images ≡ self.old.images }
+        ensures cause { HasCause (D.count self.old.area.device) (D.count self.new.area.device) result }
+    {
+        self.area.flush()
+    }
+
+    /// The area, as it is.
+    pub(crate) fn into_area(self) -> Area<D>
+        ensures { result ≡ self.area }
+    {
+        self.area
+    }
+
+    /// Makes room for a write of the block: while it needs a slot for a copy and none is free, the images of the least set go
+    /// together, on all volumes. The greatest set whose images went is answered, 0 where none went.
+    pub(crate) fn make_room(&mut self, v: u32, block: u32) -> u32
+        requires { v < length self.old.area.volumes }
+        ensures gone { self.new ≡ after_gone self.old result }
+        ensures room { IsRoomMade self.old.area.records self.old.images v block result }
+    {
+        let _valid = self.volumes();
+        let _records = self.slots();
+        let mut up_to = 0;
+        while self.lacks_slot(v, block) {
+            let Some(set) = self.oldest_set() else {
+                unreachable!();
+            };
+            self.drop_set(set);
+            up_to = set;
+        }
+        up_to
+    }
+
+    /// The least set of the images of all volumes.
+    fn oldest_set(&self) -> Option<u32>
+        ensures oldest { result ≡ oldest_in self.now.images }
+        ensures images { length self.now.images ≡ length self.now.area.volumes }
+        ensures of_images { AreOfImages self.now.area.records self.now.images }
+    {
+        let mut oldest = None;
+        for v in 0..self.volumes() {
+            oldest = lesser(oldest, self.images(v));
+        }
+        oldest
+    }
+
+    /// The images of the least set go from all volumes.
+    fn drop_set(&mut self, set: u32)
+        requires { oldest_in self.old.images ≡ Some set }
+        ensures { self.new ≡ after_gone self.old set }
+    {
+        let _records = self.slots();
+        for v in 0..self.volumes() {
+            self.drop_oldest(v, set);
+        }
+    }
+
+    /// The oldest image goes from the volume, where it is of this set.
+    fn drop_oldest(&mut self, v: u32, set: u32)
+        requires { v < length self.old.area.volumes }
+        ensures { self.new ≡ after_first self.old v set }
+    {
+        match self.images(v).first() {
+            Some(&first) if first == set => self.merge(v, set),
+            _ => {}
+        }
+    }
+
+    /// The image of a set goes from the volume. Its copies go to the next older image, where that lacks them.
+    pub(crate) fn merge(&mut self, v: u32, set: u32)
+        requires volume { v < length self.old.area.volumes }
+        requires image { Contains (images_on self.old v) set }
+        ensures { self.new ≡ after_merge self.old v set }
+    {
+        let _valid = self.area.slots();
+        let map = &mut self.maps[v as usize];
+        let _before = map.images();
+        map.merge_down(set, &mut self.pool);
+        let _after = map.images();
+        follow(&mut self.area, map, v);
+    }
+
+    /// The images of the volume that are newer than that of a set go, and all copies from that set on.
+    pub(crate) fn clear_from(&mut self, v: u32, set: u32)
+        requires volume { v < length self.old.area.volumes }
+        requires image { Contains (images_on self.old v) set }
+        ensures { self.new ≡ after_clear self.old v set }
+    {
+        let _valid = self.area.slots();
+        let map = &mut self.maps[v as usize];
+        let _before = map.images();
+        map.clear_from(set, &mut self.pool);
+        let _after = map.images();
+        follow(&mut self.area, map, v);
+    }
+}
+
+/// A map without images for each volume of an area.
+fn new_maps<D: Device>(alloc: Global, area: &Area<D>) -> Result<Vec<DiffMap>, OutOfMemory>
+    ensures { IfOk result (λ maps. maps.items ≡ map (new_map (length area.now.records)) area.now.volumes) }
+{
+    let mut maps = Vec::with_capacity(alloc, area.volumes() as usize)?;
+    for v in 0..area.volumes() {
+        maps.push(DiffMap::new(alloc, area.blocks(v), area.slots())?)?;
+    }
+    Ok(maps)
+}
+
+/// The newest of these images.
+fn newest(images: &[u32]) -> u32
+    requires { 0 < length images.now }
+    ensures { result ≡ newest images.now }
+{
+    images[images.len() - 1]
+}
+
+/// The lesser of a set and the first of these.
+fn lesser(oldest: Option<u32>, images: &[u32]) -> Option<u32>
+    ensures { result ≡ lesser oldest (slice_get images.now 0) }
+{
+    match images.first() {
+        None => oldest,
+        Some(&first) => match oldest {
+            None => Some(first),
+            Some(set) => Some(first.min(set)),
+        },
+    }
+}
+
+/// Whether the record is of a copy of the volume.
+fn is_on(row: Record, v: u32) -> bool
+    ensures { result ≡ is_on v row }
+{
+    row.volume == v && row.set > 0
+}
+
+/// Whether the record is of the image of a set on the volume.
+fn is_of(row: Record, v: u32, set: u32) -> bool
+    ensures { result ≡ is_of v set row }
+{
+    row.volume == v && row.set == set
+}

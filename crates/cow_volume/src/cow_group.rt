@@ -1,0 +1,322 @@
+ghost use Rattle.std.specs.Prelude.{◌≡◌, ◌<◌, ◌≤◌, ◌++◌, ◌∷◌, List, [], true, false, Some, length, replicate, map, slice_get, slice_set, is_some, All, IfOk, IfErr, IfSome, OnOk};
+ghost use Rattle.block_data.specs.Runs.{zeros};
+ghost use Rattle.block_data.specs.PayloadBytes.{payload_bytes};
+ghost use Rattle.write_history.specs.History.{History, fresh, cut};
+ghost use Rattle.write_history.specs.Slots.{used, used_by, group_used};
+ghost use Rattle.diff_area.specs.Records.{free};
+ghost use Rattle.cow_volume.specs.GroupValue.{placed};
+ghost use Rattle.cow_volume.specs.StandsFor.{StandsFor};
+ghost use Rattle.cow_volume.specs.Calls.{HasCauseAt, HasImageCause, IsNow, IsShown, IsQuiet, IsWrite, IsDropped, IsRevert, IsEvicted, VolumeRose, made_room, history_at, changed_at, sets_at, blocks_at};
+ghost use Rattle.cow_volume.specs.Parts.{IsLentBy, IsUnseen};
+ghost use Rattle.cow_volume.specs.Ending.{IsSync};
+ghost use Rattle.cow_volume.specs.Room.{lacks_copy, lacks_slot, is_full, gone_group};
+ghost use Rattle.cow_volume.specs.Steps.{IsPutOr};
+
+use crate::cause::Cause;
+use crate::copies::Copies;
+use crate::copying::{copy_block, put_block};
+use crate::ending::{flush_one, sync_all};
+use crate::image_fault::ImageFault;
+use crate::reads::{has_image, lend_now, lend_shown, read_now, read_shown};
+use crate::revert_fault::RevertFault;
+use crate::reverts::{merge_image, revert};
+use crate::write_fault::WriteFault;
+use crate::written::Written;
+use block_data::{BLOCK, BlockBuf, Payload};
+use diff_area::Area;
+use std::alloc::Global;
+use std::marker::Model;
+use volume_device::Device;
+use vss_names::OutOfMemory;
+
+/// A group of volumes over one diff area, with the images that stand of them. Contracts see its devices, its area, and
+/// for each volume the sets of its images.
+#[derive(Drop)]
+pub struct CowGroup<D: Device> {
+    devices: Vec<D>,
+    copies: Copies<D>,
+    /// A block that is read or written.
+    scratch: BlockBuf,
+}
+
+impl<D: Device> Model for CowGroup<D> {
+    ghost use Rattle.std.specs.Prelude.{◌≡◌, map};
+    ghost use Rattle.cow_volume.specs.GroupValue.{GroupValue};
+
+    ghost Value = { GroupValue D };
+
+    ghost view = { λ g. record { devices = g.devices.items; area = g.copies.area; images = g.copies.images } };
+
+    ghost invariant = { λ g. map D.size g.devices.items ≡ g.copies.area.volumes };
+}
+
+impl<D: Device> CowGroup<D> {
+    /// A group of volumes of zeros, without images. It takes all memory that the group ever needs.
+    pub fn new(alloc: Global, devices: Vec<D>, area: Area<D>) -> Result<CowGroup<D>, OutOfMemory>
+        requires fits { map D.size devices.items ≡ area.volumes }
+        requires free { area.records ≡ replicate (length area.records) free }
+        requires zeros { All (λ d. IfSome (D.told d) (λ blocks. blocks ≡ replicate (D.size d) zeros)) devices.items }
+        ensures value { IfOk result (λ group. group ≡ record { devices = devices.items; area = area; images = map (λ n. []) area.volumes }) }
+        ensures stands { IfOk result (λ group. StandsFor D.told group (map (λ n. fresh) area.volumes)) }
+    {
+        let copies = Copies::new(alloc, area)?;
+        let scratch = BlockBuf::zeroed(alloc)?;
+        Ok(CowGroup {
+            devices,
+            copies,
+            scratch,
+        })
+    }
+
+    /// How many volumes the group has.
+    pub fn volumes(&self) -> u32
+        ensures volumes { result ≡ length self.now.area.volumes }
+        ensures devices { length self.now.devices ≡ length self.now.area.volumes }
+        ensures images { length self.now.images ≡ length self.now.area.volumes }
+    {
+        self.copies.volumes()
+    }
+
+    /// How many slots the area has.
+    pub fn slots(&self) -> u32
+        ensures { result ≡ length self.now.area.records }
+    {
+        self.copies.slots()
+    }
+
+    /// How many blocks a volume has.
+    pub fn blocks(&self, v: u32) -> u32
+        requires { v < length self.now.area.volumes }
+        ensures { result ≡ blocks_at self.now v }
+    {
+        self.copies.blocks(v)
+    }
+
+    /// The sets of the images of a volume, the oldest first.
+    pub fn images(&self, v: u32) -> &[u32]
+        requires { v < length self.now.area.volumes }
+        ensures images { result.now ≡ sets_at self.now v }
+        ensures few { length result.now ≤ 512 }
+    {
+        self.copies.images(v)
+    }
+
+    /// How many slots the images of a volume use. All slots are looked at.
+    pub fn used(&self, v: u32) -> u32
+        requires { v < length self.now.area.volumes }
+        ensures { (hs : List History) → StandsFor D.told self.now hs → result ≡ used (blocks_at self.now v) (history_at hs v).writes (history_at hs v).images }
+    {
+        let _valid = self.copies.slots();
+        self.copies.used_on(v)
+    }
+
+    /// How many slots the image of a set uses; None where no such image stands on the volume. All slots are looked at.
+    pub fn used_by(&self, v: u32, set: u32) -> Option<u32>
+        requires { v < length self.now.area.volumes }
+        ensures { (hs : List History) → StandsFor D.told self.now hs → result ≡ used_by (blocks_at self.now v) (history_at hs v).writes (history_at hs v).images set }
+    {
+        let _valid = self.copies.slots();
+        if !has_image(&self.copies, v, set) {
+            return None;
+        }
+        Some(self.copies.used_of(v, set))
+    }
+
+    /// How many slots the images of the group use.
+    pub fn used_all(&self) -> u32
+        ensures { (hs : List History) → StandsFor D.told self.now hs → result ≡ group_used (placed self.now.area.volumes) hs }
+    {
+        let _valid = self.copies.slots();
+        self.copies.used()
+    }
+
+    /// An image is cut, the newest of the volume.
+    pub fn cut(&mut self, v: u32, set: u32)
+        requires volume { v < length self.old.area.volumes }
+        requires room { length (sets_at self.old v) < 512 }
+        requires above_zero { 0 < set }
+        requires newest { All (λ s. s < set) (sets_at self.old v) }
+        ensures devices { self.new.devices ≡ self.old.devices }
+        ensures area { self.new.area ≡ self.old.area }
+        ensures images { self.new.images ≡ slice_set self.old.images v (sets_at self.old v ++ set ∷ []) }
+        ensures stands { (hs : List History) → StandsFor D.told self.old hs → StandsFor D.told self.new (changed_at v (cut set) hs) }
+    {
+        self.copies.add_image(v, set);
+    }
+
+    /// Reads a block of a volume as it is into `out`, which after a failed read holds any bytes.
+    pub fn read_into(&mut self, v: u32, block: u32, out: &mut [u8]) -> Result<(), Cause>
+        requires volume { v < length self.old.area.volumes }
+        requires whole { length out.old ≡ BLOCK }
+        ensures now { OnOk result (IsNow D.told self.old v block out.new) }
+        ensures cause { IfErr result (HasCauseAt D.count v block self.old self.new) }
+        ensures quiet { IsQuiet D.told D.size D.count D.lending self.old self.new }
+    {
+        read_now(&mut self.devices, &self.copies, v, block, out)
+    }
+
+    /// Reads a block as the image of a set shows it into `out`, which after a failed read holds any bytes.
+    pub fn read_image_into(
+        &mut self,
+        v: u32,
+        set: u32,
+        block: u32,
+        out: &mut [u8],
+    ) -> Result<(), ImageFault>
+        requires volume { v < length self.old.area.volumes }
+        requires whole { length out.old ≡ BLOCK }
+        ensures shown { OnOk result (IsShown D.told self.old v set block out.new) }
+        ensures cause { IfErr result (HasImageCause D.count v set block self.old self.new) }
+        ensures quiet { IsQuiet D.told D.size D.count D.lending self.old self.new }
+    {
+        read_shown(&mut self.devices, &mut self.copies, v, set, block, out)
+    }
+
+    /// Lends a block of a volume as it is, in place. None where the volume's device does not lend.
+    pub fn lend_block(&self, v: u32, block: u32) -> Option<&[u8]>
+        requires volume { v < length self.now.area.volumes }
+        requires in_range { block < blocks_at self.now v }
+        ensures now { IfSome result (λ bytes. IsNow D.told self.now v block bytes.now) }
+        ensures whole { IfSome result (λ bytes. length bytes.now ≡ BLOCK) }
+        ensures lends { (d : D) → slice_get self.now.devices v ≡ Some d → is_some result ≡ D.lending d }
+    {
+        lend_now(&self.devices, &self.copies, v, block)
+    }
+
+    /// Lends a block as the image of a set shows it, in place. None where the device that has it does not lend.
+    pub fn lend_image(&self, v: u32, set: u32, block: u32) -> Result<Option<&[u8]>, ImageFault>
+        requires { v < length self.now.area.volumes }
+        ensures shown { IfOk result (λ lent. IfSome lent (λ bytes. IsShown D.told self.now v set block bytes.now)) }
+        ensures whole { IfOk result (λ lent. IfSome lent (λ bytes. length bytes.now ≡ BLOCK)) }
+        ensures lends { IfOk result (λ lent. IsLentBy D.lending self.now v set block (is_some lent)) }
+        ensures unseen { IfErr result (IsUnseen (sets_at self.now v) (blocks_at self.now v) set block) }
+    {
+        lend_shown(&self.devices, &self.copies, v, set, block)
+    }
+
+    /// Writes a block. Where its old bytes need a slot for a copy and none is free, images go first, those of the group's least set
+    /// together, until one is. The old bytes are copied into the lowest free slot, and then the block is overwritten; a fault in
+    /// either gives the slot back.
+    pub fn write(&mut self, v: u32, block: u32, payload: &Payload) -> Result<Written, WriteFault>
+        requires { v < length self.old.area.volumes }
+        ensures { IsWrite D.told D.size D.count D.lending self.old self.new v (record { block = block; bytes = payload_bytes payload.now }) result }
+    {
+        if block >= self.copies.blocks(v) {
+            return Err(WriteFault {
+                cause: Cause::NoSuchBlock,
+                evicted_up_to: 0,
+            });
+        }
+        let evicted_up_to = self.make_room(v, block);
+        match self.write_with_room(v, block, payload) {
+            Ok(()) => Ok(Written { evicted_up_to }),
+            Err(cause) => Err(WriteFault {
+                cause,
+                evicted_up_to,
+            }),
+        }
+    }
+
+    /// The image of a set goes. Its copies go to the next older image, where that lacks them.
+    pub fn drop_image(&mut self, v: u32, set: u32) -> Result<(), ImageFault>
+        requires { v < length self.old.area.volumes }
+        ensures { IsDropped D.told D.size D.count D.lending self.old self.new v set result }
+    {
+        if !has_image(&self.copies, v, set) {
+            return Err(ImageFault::NoSuchImage);
+        }
+        merge_image(&mut self.copies, v, set);
+        Ok(())
+    }
+
+    /// Brings a volume back to the image of a set, which stays; the newer images go. The blocks that were written since then are
+    /// restored in ascending order.
+    pub fn revert(&mut self, v: u32, set: u32) -> Result<(), RevertFault>
+        requires { v < length self.old.area.volumes }
+        ensures { IsRevert D.told D.size D.count D.lending self.old self.new v set result }
+    {
+        revert(
+            &mut self.devices,
+            &mut self.copies,
+            &mut self.scratch,
+            v,
+            set,
+        )
+    }
+
+    /// Brings all accepted writes of a volume to where they last.
+    pub fn flush(&mut self, v: u32) -> Result<(), Cause>
+        requires { v < length self.old.area.volumes }
+        ensures quiet { IsQuiet D.told D.size D.count D.lending self.old self.new }
+        ensures cause { IfErr result (λ cause. cause ≡ Cause.Volume) }
+        ensures rose { IfErr result (λ cause. VolumeRose D.count v self.old self.new) }
+    {
+        flush_one(&mut self.devices, v)
+    }
+
+    /// Writes the records of the copies to the area's device, and brings all that was written to it to where it lasts.
+    pub fn sync(&mut self) -> Result<(), Cause>
+        ensures { IsSync D.told D.size D.count D.lending self.old self.new result }
+    {
+        sync_all(&mut self.copies)
+    }
+
+    /// The devices and the area, as they are.
+    pub fn into_parts(self) -> (Vec<D>, Area<D>)
+        ensures devices { result.0.items ≡ self.devices }
+        ensures area { result.1 ≡ self.area }
+    {
+        let CowGroup {
+            devices,
+            copies,
+            ..
+        } = self;
+        (devices, copies.into_area())
+    }
+
+    /// Makes room for a copy of the block, where a write of it lacks its slot.
+    fn make_room(&mut self, v: u32, block: u32) -> u32
+        requires volume { v < length self.old.area.volumes }
+        requires in_range { block < blocks_at self.old v }
+        ensures room { lacks_slot self.new.area.records v (sets_at self.new v) block ≡ false }
+        ensures gone { self.new ≡ gone_group result self.old }
+        ensures evicted { (hs : List History) → StandsFor D.told self.old hs → IsEvicted self.old v block hs result }
+        ensures stands { (hs : List History) → StandsFor D.told self.old hs → StandsFor D.told self.new (made_room self.old result hs) }
+    {
+        let _valid = self.copies.slots();
+        self.copies.make_room(v, block)
+    }
+
+    /// Writes a block for which no slot is lacking.
+    fn write_with_room(&mut self, v: u32, block: u32, payload: &Payload) -> Result<(), Cause>
+        requires volume { v < length self.old.area.volumes }
+        requires in_range { block < blocks_at self.old v }
+        requires room { lacks_slot self.old.area.records v (sets_at self.old v) block ≡ false }
+        ensures { IsPutOr D.told D.size D.count D.lending self.old self.new v (record { block = block; bytes = payload_bytes payload.now }) result }
+    {
+        if self.copies.lacks_copy(v, block) {
+            return self.write_first(v, block, payload);
+        }
+        let device = &mut self.devices[v as usize];
+        put_block(device, &mut self.scratch, block, payload)
+    }
+
+    /// Writes a block whose old bytes are copied first.
+    fn write_first(&mut self, v: u32, block: u32, payload: &Payload) -> Result<(), Cause>
+        requires volume { v < length self.old.area.volumes }
+        requires in_range { block < blocks_at self.old v }
+        requires lacks { lacks_copy self.old.area.records v (sets_at self.old v) block ≡ true }
+        requires room { is_full self.old.area.records ≡ false }
+        ensures { IsPutOr D.told D.size D.count D.lending self.old self.new v (record { block = block; bytes = payload_bytes payload.now }) result }
+    {
+        let _fits = self.copies.slots();
+        let Some(slot) = self.copies.free_slot() else {
+            unreachable!();
+        };
+        let device = &mut self.devices[v as usize];
+        copy_block(device, &mut self.copies, &mut self.scratch, block, slot)?;
+        put_block(device, &mut self.scratch, block, payload)?;
+        self.copies.note(v, block, slot);
+        Ok(())
+    }
+}

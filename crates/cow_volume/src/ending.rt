@@ -1,0 +1,40 @@
+//! What was written is brought to where it lasts.
+
+ghost use Rattle.std.specs.Prelude.{◌≡◌, ◌<◌, List, length, IfErr};
+ghost use Rattle.cow_volume.specs.Tied.{CopiesValue};
+ghost use Rattle.cow_volume.specs.Calls.{IsQuiet, VolumeRose};
+ghost use Rattle.cow_volume.specs.Parts.{group_of};
+ghost use Rattle.cow_volume.specs.Ending.{IsSync};
+ghost use Rattle.cow_volume.specs.declared.cause.Cause.TheVariants.{Volume};
+
+use crate::calling::flush_device;
+use crate::cause::Cause;
+use crate::copies::Copies;
+use volume_device::Device;
+
+/// Writes the records of the copies to the area's device, and brings all that was written to it to where it lasts.
+pub(crate) fn sync_all<D: Device>(copies: &mut Copies<D>) -> Result<(), Cause>
+    ensures { (devices : List D) → IsSync D.told D.size D.count D.lending (group_of devices copies.old) (group_of devices copies.new) result }
+{
+    let _valid = copies.slots();
+    match copies.sync() {
+        Err(_) => Err(Cause::Area),
+        Ok(()) => match copies.flush() {
+            Err(_) => Err(Cause::Area),
+            Ok(()) => Ok(()),
+        },
+    }
+}
+
+/// Brings all accepted writes of a volume's device to where they last.
+pub(crate) fn flush_one<D: Device>(devices: &mut Vec<D>, v: u32) -> Result<(), Cause>
+    requires { v < length devices.old.items }
+    ensures quiet { (copies : CopiesValue D) → IsQuiet D.told D.size D.count D.lending (group_of devices.old.items copies) (group_of devices.new.items copies) }
+    ensures cause { IfErr result (λ cause. cause ≡ Volume) }
+    ensures rose { IfErr result (λ cause. (copies : CopiesValue D) → VolumeRose D.count v (group_of devices.old.items copies) (group_of devices.new.items copies)) }
+{
+    match flush_device(devices, v) {
+        Ok(()) => Ok(()),
+        Err(_) => Err(Cause::Volume),
+    }
+}

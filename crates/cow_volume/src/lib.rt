@@ -1,0 +1,30 @@
+//! Copy-on-write volumes: a group of volumes over one diff area, with the images that stand of them.
+//!
+//! A block's old bytes are copied into a slot of the area before its first overwrite since the newest cut. Contracts see a
+//! `CowGroup` as its devices, its area, and for each volume the sets of its images; `specs/StandsFor.antt` says for which
+//! histories of effective writes and images a group stands, and each call for which it stands afterwards. All memory is taken
+//! by `new`.
+#![tactic(auto)]
+
+mod calling;
+mod cause;
+mod copies;
+mod copying;
+mod cow_group;
+mod ending;
+mod following;
+mod image_fault;
+mod reads;
+mod revert_fault;
+mod reverts;
+#[cfg(test)]
+mod tests;
+mod write_fault;
+mod written;
+
+pub use cause::Cause;
+pub use cow_group::CowGroup;
+pub use image_fault::ImageFault;
+pub use revert_fault::RevertFault;
+pub use write_fault::WriteFault;
+pub use written::Written;
