@@ -56,6 +56,7 @@ called told size count lending v devices before after r at tells size_is lends c
   devices = refl;
   same = record { tells = tells; size_is = size_is; lends = lends; later = cause.later };
   rose = cause.rose;
+  unfailed = on_ok r (count after ≡ count before) cause.same;
 }
 
 tells_put : (old new : Option (List (List ℕ))) (b : ℕ) (bytes : List ℕ) → new ≡ option_map (λ blocks. slice_set blocks b bytes) old → is_some new ≡ is_some old

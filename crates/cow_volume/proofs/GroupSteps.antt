@@ -73,10 +73,10 @@ on_itself told size count lending d = record { tells = refl; size_is = refl; len
 pub area_itself : {D : Type 0} (told : D → Option (List (List ℕ))) (size count : D → ℕ) (lending : D → Bool) (c : CopiesValue D) → IsAreaOn told size count lending c c (told c.area.device)
 area_itself told size count lending c = record { device = on_itself told size count lending c.area.device; volumes = refl; records = refl; images = refl }
 
-pub slot_copied : {D : Type 0} (told : D → Option (List (List ℕ))) (size count : D → ℕ) (lending : D → Bool) (device new_device : D) (old new : CopiesValue D) (block slot : ℕ) (bytes : List ℕ) (r : Result Unit Cause) → IsOn told size count lending device new_device (told device)
+pub slot_copied : {D : Type 0} (told : D → Option (List (List ℕ))) (size count : D → ℕ) (lending : D → Bool) (device new_device : D) (old new : CopiesValue D) (block slot : ℕ) (bytes : List ℕ) (r : Result Unit Cause) → IsOn told size count lending device new_device (told device) → count new_device ≡ count device
     → IfSome (told device) (λ blocks. slice_get blocks block ≡ Some bytes) → IsSlotCopy told size count lending old new slot bytes r → IsCopy told size count lending device new_device old new block slot r
-slot_copied told size count lending device new_device old new block slot bytes (Ok done) on read h = record { copy = bytes; read = read; device_on = on; area_on = h }
-slot_copied told size count lending device new_device old new block slot bytes (Err cause) on read h = record {
+slot_copied told size count lending device new_device old new block slot bytes (Ok done) on same read h = record { copy = bytes; read = read; device_on = on; area_on = h.0; device_same = same; area_same = h.1 }
+slot_copied told size count lending device new_device old new block slot bytes (Err cause) on same read h = record {
   device_on = on;
   area_on = h.area_on;
   rose = subst (λ (c : Cause). RoseBy count device new_device old.area.device new.area.device c) (sym h.cause_is) h.rose;

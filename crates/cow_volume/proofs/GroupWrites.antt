@@ -17,7 +17,7 @@ use Rattle.cow_volume.specs.declared.cause.Cause.TheVariants.{NoSuchBlock, Volum
 use Rattle.cow_volume.specs.GroupValue.{GroupValue}
 use Rattle.cow_volume.specs.StandsFor.{StandsFor, record_of}
 use Rattle.cow_volume.specs.Changes.{noted, gone_row}
-use Rattle.cow_volume.specs.Calls.{IsSameDevice, IsKept, DeviceRose, HasCauseAt, IsWritten, IsUnwritten, IsEvicted, made_room, sets_in, sets_at, blocks_in, blocks_at}
+use Rattle.cow_volume.specs.Calls.{IsSameDevice, IsKept, IsUnfailed, DeviceRose, HasCauseAt, IsWritten, IsUnwritten, IsEvicted, made_room, sets_in, sets_at, blocks_in, blocks_at}
 use Rattle.cow_volume.specs.Room.{lacks_copy, gone_group}
 use Rattle.cow_volume.specs.Tied.{CopiesValue}
 use Rattle.cow_volume.specs.CopiesAfter.{images_on, after_note}
@@ -29,7 +29,7 @@ use Rattle.cow_volume.proofs.Evicting.{none_gone_stands}
 use Rattle.cow_volume.proofs.RoomMade.{needs_by_records}
 use Rattle.cow_volume.specs.Parts.{group_of}
 use Rattle.cow_volume.proofs.Kept.{same_itself}
-use Rattle.cow_volume.proofs.Kept.{kept_itself}
+use Rattle.cow_volume.proofs.Kept.{kept_itself, map_set_told}
 use Rattle.cow_volume.proofs.GroupSteps.{same_on, kept, told_set, volume_rose, put_tells}
 
 module _ {D : Type 0} (told : D → Option (List (List ℕ))) (size count : D → ℕ) (lending : D → Bool) (devices : List D) (c : CopiesValue D) (v : ℕ) (d : D) (w : Write) (low : w.block < blocks_at (group_of devices c) v) (at : slice_get devices v ≡ Some d) where
@@ -37,9 +37,10 @@ module _ {D : Type 0} (told : D → Option (List (List ℕ))) (size count : D �
   pub put_again : (e : D) (r : Result Unit Cause) → lacks_copy c.area.records v (sets_at (group_of devices c) v) w.block ≡ false → IsPutOn told size count lending d e w.block w.bytes r
       → IsPutOr told size count lending (group_of devices c) (group_of (slice_set devices v e) c) v w r
   put_again e (Ok done) has on = record {
-    kept = kept told size count lending devices v d e c c at (same_on told size count lending d e (put w.block w.bytes (told d)) on (put_tells w.block w.bytes (told d))) (same_itself told size count lending c.area.device) refl refl;
+    kept = kept told size count lending devices v d e c c at (same_on told size count lending d e (put w.block w.bytes (told d)) on.0 (put_tells w.block w.bytes (told d))) (same_itself told size count lending c.area.device) refl refl;
     stands = λ hs stood. group_written_again told (group_of devices c) (group_of (slice_set devices v e) c) hs v d e w stood low
-        (sym (needs_by_records told (group_of devices c) hs v w.block stood low) ∙ has) at on.tells refl refl refl refl refl;
+        (sym (needs_by_records told (group_of devices c) hs v w.block stood low) ∙ has) at on.0.tells refl refl refl refl refl;
+    unfailed = record { devices = map_set_told count devices v d e at on.1; area = refl };
   }
   put_again e (Err cause) has failed = record {
     kept = kept told size count lending devices v d e c c at (same_on told size count lending d e (told d) failed.0 refl) (same_itself told size count lending c.area.device) refl refl;
@@ -84,9 +85,9 @@ module _ {D : Type 0} (told : D → Option (List (List ℕ))) (size count : D �
       risen (inr most_now) le = inr most_now
 
     -- the block was copied, written and noted
-    pub put_first : (last : CopiesValue D) → lacks_copy c.area.records v (sets_at (group_of devices c) v) w.block ≡ true → IsOn told size count lending e f (put w.block w.bytes (told e)) → last ≡ after_note new v w.block slot
+    pub put_first : (last : CopiesValue D) → lacks_copy c.area.records v (sets_at (group_of devices c) v) w.block ≡ true → IsOn told size count lending e f (put w.block w.bytes (told e)) → count f ≡ count e → last ≡ after_note new v w.block slot
         → IsPut told size count lending (group_of devices c) (group_of (slice_set devices v f) last) v w
-    put_first last lacks on is =
+    put_first last lacks on unfailed is =
         let told_is : told f ≡ put w.block w.bytes (told d) = on.tells ∙ ap (put w.block w.bytes) copied.device_on.tells in
         let device_is : last.area.device ≡ new.area.device = ap (λ x. x.area.device) is in
         let on_new : images_on new v ≡ images_on c v = ap (λ (i : List (List ℕ)). images_on (record { area = c.area; images = i }) v) copied.area_on.images in
@@ -104,6 +105,7 @@ module _ {D : Type 0} (told : D → Option (List (List ℕ))) (size count : D �
               (sym (needs_by_records told (group_of devices c) hs v w.block stood low) ∙ lacks) at told_is is_there copied.read
               (slot_room (told c.area.device) (length c.area.records) slot (subst (λ (n : ℕ). IfSome (told c.area.device) (AreBlocks n)) fits whole) (slot_within c.area.records slot is_there))
               refl (ap (λ x. x.images) is ∙ copied.area_on.images) (ap (λ x. x.area.volumes) is ∙ copied.area_on.volumes) records_are (ap told device_is ∙ copied.area_on.device.tells);
+          unfailed = record { devices = map_set_told count devices v d f at (unfailed ∙ copied.device_same); area = ap count device_is ∙ copied.area_same };
         } where
           slot_within : (rs : List Record) (k : ℕ) → slice_get rs k ≡ Some free → k < length rs
           slot_within rs k h = slice_get_within rs k free h
@@ -126,6 +128,7 @@ module _ {D : Type 0} (told : D → Option (List (List ℕ))) (size count : D �
     kept = kept_gone told size count lending m old new (subst (λ (x : GroupValue D). IsKept told size count lending x new) gone done.kept);
     evicted = evicted;
     stands = λ hs stood. done.stands (made_room old m hs) (room hs stood);
+    unfailed = (let is = subst (λ (x : GroupValue D). IsUnfailed count x new) gone done.unfailed in record { devices = is.devices; area = is.area });
   }
 
   pub is_unwritten : (cause : Cause) → IsNotPut told size count lending mid new v cause → IsUnwritten told size count lending old new v w.block (record { cause = cause; evicted_up_to = m })
@@ -163,5 +166,5 @@ and_rest true b e h = h
 and_rest false b e h = absurd (false≢true e)
 
 pub put_size : {D : Type 0} (told : D → Option (List (List ℕ))) (size count : D → ℕ) (lending : D → Bool) (d e : D) (block : ℕ) (bytes : List ℕ) (r : Result Unit Cause) → IsPutOn told size count lending d e block bytes r → size e ≡ size d
-put_size told size count lending d e block bytes (Ok done) on = on.size_is
+put_size told size count lending d e block bytes (Ok done) on = on.0.size_is
 put_size told size count lending d e block bytes (Err cause) failed = failed.0.size_is

@@ -8,7 +8,7 @@ use Rattle.diff_area.specs.declared.table_record.Record.{Record}
 use Rattle.cow_volume.specs.GroupValue.{GroupValue}
 use Rattle.cow_volume.specs.Tied.{CopiesValue}
 use Rattle.cow_volume.specs.StandsFor.{told_in, IsVolume, StandsFor}
-use Rattle.cow_volume.specs.Calls.{IsSameDevice, IsKept, IsQuiet, VolumeRose}
+use Rattle.cow_volume.specs.Calls.{IsSameDevice, IsKept, IsUnfailed, IsQuiet, VolumeRose}
 use Rattle.cow_volume.specs.Parts.{group_of, IsCalled}
 use Rattle.cow_volume.proofs.Group.{same_number, other_number, slice_get-set_same, slice_get-set_other, length-slice_set, slice_get_inside}
 
@@ -148,6 +148,27 @@ kept_records {D = D} told size count lending devices old new volumes slots devic
   area = subst (λ (x : D). IsSameDevice told size count lending old.area.device x) (sym device) (same_itself told size count lending old.area.device);
   devices = refl;
   each = λ v d e was is. let same : d ≡ e = same_Some d e (sym was ∙ is) in subst (λ (x : D). IsSameDevice told size count lending d x) same (same_itself told size count lending d);
+}
+
+-- the device that was called
+pub called_is : {D : Type 0} (told : D → Option (List (List ℕ))) (size count : D → ℕ) (lending : D → Bool) (v : ℕ) (old new : List D) (failed : Bool) (d : D) (call : IsCalled told size count lending v old new failed) → slice_get new v ≡ Some d → call.after ≡ d
+called_is {D = D} told size count lending v old new failed d call is =
+    same_Some call.after d (sym (slice_get-set_same old v call.before call.after call.was) ∙ ap (λ (ds : List D). slice_get ds v) (sym call.devices) ∙ is)
+
+-- ## no device failed
+
+pub unfailed_itself : {D : Type 0} (count : D → ℕ) (g : GroupValue D) → IsUnfailed count g g
+unfailed_itself count g = record { devices = refl; area = refl }
+
+pub unfailed_further : {D : Type 0} (count : D → ℕ) (a b c : GroupValue D) → IsUnfailed count a b → IsUnfailed count b c → IsUnfailed count a c
+unfailed_further count a b c first second = record { devices = second.devices ∙ first.devices; area = second.area ∙ first.area }
+
+-- the device of a volume was called, and did not fail
+pub unfailed_called : {D : Type 0} (told : D → Option (List (List ℕ))) (size count : D → ℕ) (lending : D → Bool) (v : ℕ) (old new : List D) (failed : Bool) (g h : CopiesValue D) → IsCalled told size count lending v old new failed → failed ≡ false → count h.area.device ≡ count g.area.device
+    → IsUnfailed count (group_of old g) (group_of new h)
+unfailed_called told size count lending v old new failed g h call e area = record {
+  devices = ap (map count) call.devices ∙ map_set_told count old v call.before call.after call.was (call.unfailed e);
+  area = area;
 }
 
 -- each device still has as many blocks as its volume

@@ -16,7 +16,7 @@ use Rattle.cow_volume.specs.StandsFor.{told_in, record_of, is_named, IsVolume, S
 use Rattle.cow_volume.specs.Tied.{CopiesValue}
 use Rattle.cow_volume.specs.Changes.{IsFirstCopy}
 use Rattle.cow_volume.specs.CopiesAfter.{images_on, after_clear}
-use Rattle.cow_volume.specs.Calls.{history_at, changed_at, blocks_in, blocks_at, sets_in, sets_at, is_among, IsKept, VolumeRose, DeviceRose, IsReverted, IsRevertedInPart, IsRevert}
+use Rattle.cow_volume.specs.Calls.{history_at, changed_at, blocks_in, blocks_at, sets_in, sets_at, is_among, IsKept, IsUnfailed, VolumeRose, DeviceRose, IsReverted, IsRevertedInPart, IsRevert}
 use Rattle.cow_volume.specs.declared.cause.Cause.{Cause}
 use Rattle.cow_volume.specs.declared.cause.Cause.TheVariants.{NoSuchBlock, Volume, Area}
 use Rattle.cow_volume.specs.declared.revert_fault.RevertFault.{RevertFault}
@@ -29,7 +29,7 @@ use Rattle.cow_volume.proofs.Clearing.{length-cleared}
 use Rattle.cow_volume.proofs.NewerGone.{without_newer, AreUpTo, all_kept, point_kept, reverted_from, reverted_in_part_from}
 use Rattle.cow_volume.proofs.Reverting.{restores, restored_none, restored_below, point_within, block_kept, block_restored, next_restored}
 use Rattle.cow_volume.proofs.GroupReverts.{changed_at-twice, changed_at-agree, changed_at-none, restoring_at, restoring_all}
-use Rattle.cow_volume.proofs.Kept.{kept_itself, kept_further, sizes_kept, kept_records, kept_area, kept_called, quiet_area, quiet_called, quiet_further, quiet_stands, volume_rose_if}
+use Rattle.cow_volume.proofs.Kept.{kept_itself, kept_further, sizes_kept, kept_records, kept_area, kept_called, quiet_area, quiet_called, quiet_further, quiet_stands, volume_rose_if, unfailed_itself, unfailed_called}
 use Rattle.cow_volume.proofs.DroppingNewer.{most_of, contains_of, images_row}
 
 -- ## the volume before the first block
@@ -215,9 +215,9 @@ restoring_stops told size count lending g now new v set m restored cause inside 
 
 -- what was read of its slot was written to it
 pub put_back : {D : Type 0} (told : D → Option (List (List ℕ))) (size count : D → ℕ) (lending : D → Bool) (devices after : List D) (old new : CopiesValue D) (v set b slot : ℕ) (bytes : List ℕ) (failed : Bool) → IsFirstCopy old.area.records v set b slot → KeepsTable size lending old.area new.area → new.images ≡ old.images
-    → told new.area.device ≡ told old.area.device → count old.area.device ≤ count new.area.device → IfSome (told old.area.device) (λ blocks. slice_get blocks (place_of_slot (length old.area.records) slot) ≡ Some bytes) → IsPut told size count lending v b bytes devices after failed → failed ≡ false
+    → told new.area.device ≡ told old.area.device → count old.area.device ≤ count new.area.device → count new.area.device ≡ count old.area.device → IfSome (told old.area.device) (λ blocks. slice_get blocks (place_of_slot (length old.area.records) slot) ≡ Some bytes) → IsPut told size count lending v b bytes devices after failed → failed ≡ false
     → IsPutBack told size count lending (group_of devices old) (group_of after new) v set b
-put_back told size count lending devices after old new v set b slot bytes failed found table images same later held put e = record {
+put_back told size count lending devices after old new v set b slot bytes failed found table images same later unfailed held put e = record {
   slot = slot;
   bytes = bytes;
   before = put.call.before;
@@ -227,6 +227,7 @@ put_back told size count lending devices after old new v set b slot bytes failed
   was = put.call.was;
   devices = put.call.devices;
   written = put.written e;
+  unfailed = unfailed_called told size count lending v devices after failed old new put.call e unfailed;
   kept = kept_further told size count lending (group_of devices old) (group_of devices new) (group_of after new) (kept_area told size count lending devices old new table (ap is_some same) later) (kept_called told size count lending v devices after failed new put.call);
   records = table.records;
   images = images;
@@ -256,6 +257,11 @@ restoring_one {D = D} told size count lending g now new v set m restored false m
     let none : restored ≡ restored + more = omega arith in
     subst (λ (k : ℕ). AreRestored told size count lending g new v set (m + 1) k) none
     (subst (λ (x : GroupValue D). AreRestored told size count lending g x v set (m + 1) restored) (sym one.0) (restoring_skips told size count lending g now v set m restored inside newest l done one.1))
+
+-- no device failed
+pub one_unfailed : {D : Type 0} (told : D → Option (List (List ℕ))) (size count : D → ℕ) (lending : D → Bool) (now new : GroupValue D) (v set m : ℕ) (put : Bool) → IsOneRestored told size count lending now new v set m (Ok put) → IsUnfailed count now new
+one_unfailed told size count lending now new v set m true one = one.unfailed
+one_unfailed told size count lending now new v set m false one = subst (λ (x : GroupValue _). IsUnfailed count now x) (sym one.0) (unfailed_itself count now)
 
 -- ## from the start to the end
 
@@ -295,8 +301,8 @@ images_same c d v e = ap (λ (ss : List (List ℕ)). sets_in (slice_get ss v)) e
 
 -- all blocks are restored, and the copies of the set go
 pub reverted_all : {D : Type 0} (told : D → Option (List (List ℕ))) (size count : D → ℕ) (lending : D → Bool) (devices after : List D) (old mid now : CopiesValue D) (v set restored : ℕ) → v < length old.area.volumes → is_among set (images_on old v) ≡ true → AreNewerGone told old mid v set
-    → AreRestored told size count lending (group_of devices mid) (group_of after now) v set (blocks_at (group_of devices mid) v) restored → IsReverted told size count lending (group_of devices old) (group_of after (after_clear now v set)) v set
-reverted_all {D = D} told size count lending devices after old mid now v set restored inside image gone done = record {
+    → AreRestored told size count lending (group_of devices mid) (group_of after now) v set (blocks_at (group_of devices mid) v) restored → IsUnfailed count (group_of devices mid) (group_of after now) → IsReverted told size count lending (group_of devices old) (group_of after (after_clear now v set)) v set
+reverted_all {D = D} told size count lending devices after old mid now v set restored inside image gone done unfailed = record {
   image = image;
   kept = kept_further told size count lending (group_of devices old) (group_of devices mid) (group_of after (after_clear now v set))
       (kept_records told size count lending devices old mid gone.volumes gone.slots gone.device)
@@ -320,6 +326,7 @@ reverted_all {D = D} told size count lending devices after old mid now v set res
       subst (λ (xs : List History). StandsFor told (group_of after (after_clear now v set)) xs)
       (changed_at-twice v (reverted set p) (with_up_to set) hs ∙ changed_at-agree v (λ h. reverted set p (with_up_to set h)) (reverted set p) hs (λ h at. reverted_from set p h))
       end;
+  unfailed = record { devices = unfailed.devices; area = unfailed.area ∙ ap count gone.device };
 }
 
 -- a device failed
@@ -353,7 +360,7 @@ reverted_some {D = D} told size count lending devices after old mid now v set re
 pub revert_done : {D : Type 0} (told : D → Option (List (List ℕ))) (size count : D → ℕ) (lending : D → Bool) (devices after : List D) (old mid now new : CopiesValue D) (v set : ℕ) (x : Unit) → v < length old.area.volumes → is_among set (images_on old v) ≡ true → AreNewerGone told old mid v set
     → IsRestoring told size count lending (group_of devices mid) (group_of after now) v set (Ok x) → new ≡ after_clear now v set → IsReverted told size count lending (group_of devices old) (group_of after new) v set
 revert_done {D = D} told size count lending devices after old mid now new v set x inside image gone done is =
-    subst (λ (c : CopiesValue D). IsReverted told size count lending (group_of devices old) (group_of after c) v set) (sym is) (reverted_all told size count lending devices after old mid now v set done.0 inside image gone done.1)
+    subst (λ (c : CopiesValue D). IsReverted told size count lending (group_of devices old) (group_of after c) v set) (sym is) (reverted_all told size count lending devices after old mid now v set done.0 inside image gone done.1 done.2)
 
 pub revert_failed : {D : Type 0} (told : D → Option (List (List ℕ))) (size count : D → ℕ) (lending : D → Bool) (devices after : List D) (old mid now : CopiesValue D) (v set : ℕ) (fault : RevertFault) → v < length old.area.volumes → is_among set (images_on old v) ≡ true → AreNewerGone told old mid v set
     → IsRestoring told size count lending (group_of devices mid) (group_of after now) v set (Err fault) → IsRevert told size count lending (group_of devices old) (group_of after now) v set (Err fault)

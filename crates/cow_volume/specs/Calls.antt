@@ -67,6 +67,11 @@ pub record VolumeRose {D : Type 0} (count : D → ℕ) (v : ℕ) (old new : Grou
 abbrev pub AreaRose : {D : Type 0} → (D → ℕ) → GroupValue D → GroupValue D → Type 0
 AreaRose count old new = Rose (count old.area.device) (count new.area.device)
 
+-- no device failed: each count is as it was
+pub record IsUnfailed {D : Type 0} (count : D → ℕ) (old new : GroupValue D) : Type 0 where
+  pub devices : map count new.devices ≡ map count old.devices
+  pub area : count new.area.device ≡ count old.area.device
+
 -- why a call failed on volume v and block b: just where there is no such block, or only where a count rose
 abbrev pub HasCauseAt : {D : Type 0} → (D → ℕ) → ℕ → ℕ → GroupValue D → GroupValue D → Cause → Type 0
 HasCauseAt count v b old new NoSuchBlock = (blocks_at old v ≤ b) × (new ≡ old)
@@ -90,6 +95,7 @@ pub record IsWritten {D : Type 0} (told : D → Option (List (List ℕ))) (size 
   pub kept : IsKept told size count lending old new
   pub evicted : (hs : List History) → StandsFor told old hs → IsEvicted old v w.block hs up_to
   pub stands : (hs : List History) → StandsFor told old hs → StandsFor told new (changed_at v (written w) (made_room old up_to hs))
+  pub unfailed : IsUnfailed count old new
 
 -- it was not: the images that went are gone all the same, and nothing else changed
 pub record IsUnwritten {D : Type 0} (told : D → Option (List (List ℕ))) (size count : D → ℕ) (lending : D → Bool) (old new : GroupValue D) (v b : ℕ) (fault : WriteFault) : Type 0 where
@@ -162,6 +168,7 @@ pub record IsReverted {D : Type 0} (told : D → Option (List (List ℕ))) (size
   pub image : is_among set (sets_at old v) ≡ true
   pub kept : IsKept told size count lending old new
   pub stands : (hs : List History) (p : ℕ) → StandsFor told old hs → point_in set (history_at hs v).images ≡ Some p → StandsFor told new (changed_at v (reverted set p) hs)
+  pub unfailed : IsUnfailed count old new
 
 -- a device failed after so many blocks were restored, in ascending order: fewer than there are to restore
 pub record IsRevertedInPart {D : Type 0} (told : D → Option (List (List ℕ))) (size count : D → ℕ) (lending : D → Bool) (old new : GroupValue D) (v set restored : ℕ) : Type 0 where

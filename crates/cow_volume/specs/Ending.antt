@@ -6,7 +6,7 @@ use Rattle.write_history.specs.Slots.{copies}
 use Rattle.diff_area.specs.Copies.{AreStored}
 use Rattle.cow_volume.specs.GroupValue.{GroupValue, placed}
 use Rattle.cow_volume.specs.StandsFor.{StandsFor}
-use Rattle.cow_volume.specs.Calls.{IsKept, AreaRose}
+use Rattle.cow_volume.specs.Calls.{IsKept, IsUnfailed, AreaRose}
 use Rattle.cow_volume.specs.declared.cause.Cause.{Cause}
 use Rattle.cow_volume.specs.declared.cause.Cause.TheVariants.{Area}
 
@@ -26,4 +26,5 @@ AllTell told devices = (v : ℕ) (d : _) → slice_get devices v ≡ Some d → 
 abbrev pub IsSync : {D : Type 0} → (D → Option (List (List ℕ))) → (D → ℕ) → (D → ℕ) → (D → Bool) → GroupValue D → GroupValue D → Result Unit Cause → Type 0
 IsSync told size count lending old new (Ok done) = IsSynced told size count lending old new
     × ((hs : List History) → StandsFor told old hs → AllTell told old.devices → AreStored (told new.area.device) (copies (placed old.area.volumes) hs))
+    × IsUnfailed count old new
 IsSync told size count lending old new (Err cause) = IsSynced told size count lending old new × (cause ≡ Area) × AreaRose count old new

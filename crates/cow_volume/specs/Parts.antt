@@ -23,7 +23,7 @@ blocks_on copies v = blocks_in (slice_get copies.area.volumes v)
 
 -- ## a call on one device
 
--- the device of volume v was called, and is in another state; its count rose where that failed
+-- the device of volume v was called, and is in another state; its count rose where that failed, and else is as it was
 pub record IsCalled {D : Type 0} (told : D → Option (List (List ℕ))) (size count : D → ℕ) (lending : D → Bool) (v : ℕ) (old new : List D) (failed : Bool) : Type 0 where
   pub before : D
   pub after : D
@@ -31,6 +31,7 @@ pub record IsCalled {D : Type 0} (told : D → Option (List (List ℕ))) (size c
   pub devices : new ≡ slice_set old v after
   pub same : IsSameDevice told size count lending before after
   pub rose : failed ≡ true → Rose (count before) (count after)
+  pub unfailed : failed ≡ false → count after ≡ count before
 
 -- block b was read, where that did not fail
 pub record IsRead {D : Type 0} (told : D → Option (List (List ℕ))) (size count : D → ℕ) (lending : D → Bool) (v b : ℕ) (bytes : List ℕ) (old new : List D) (failed : Bool) : Type 0 where
@@ -45,9 +46,10 @@ pub record IsPut {D : Type 0} (told : D → Option (List (List ℕ))) (size coun
   pub kept : failed ≡ true → told call.after ≡ told call.before
 
 -- it was flushed, where that did not fail
-pub record IsFlushed {D : Type 0} (told : D → Option (List (List ℕ))) (size count : D → ℕ) (lending : D → Bool) (v : ℕ) (old new : List D) (failed : Bool) : Type 0 where
+pub record IsFlushed {D : Type 0} (told lasting : D → Option (List (List ℕ))) (size count : D → ℕ) (lending : D → Bool) (v : ℕ) (old new : List D) (failed : Bool) : Type 0 where
   pub call : IsCalled told size count lending v old new failed
   pub told_is : told call.after ≡ told call.before
+  pub lasts : failed ≡ false → lasting call.after ≡ told call.after
 
 -- ## what is lent
 

@@ -10,7 +10,7 @@ use Rattle.cow_volume.specs.Tied.{CopiesValue}
 use Rattle.cow_volume.specs.Changes.{IsFirstCopy}
 use Rattle.cow_volume.specs.CopiesAfter.{images_on}
 use Rattle.cow_volume.specs.Parts.{group_of}
-use Rattle.cow_volume.specs.Calls.{history_at, changed_at, blocks_at, is_among, IsKept, IsQuiet, DeviceRose}
+use Rattle.cow_volume.specs.Calls.{history_at, changed_at, blocks_at, is_among, IsKept, IsUnfailed, IsQuiet, DeviceRose}
 use Rattle.cow_volume.specs.declared.cause.Cause.{Cause}
 use Rattle.cow_volume.specs.declared.revert_fault.RevertFault.{RevertFault}
 use Rattle.cow_volume.specs.declared.revert_fault.RevertFault.TheVariants.{NoSuchImage, Fault}
@@ -57,6 +57,7 @@ pub record IsPutBack {D : Type 0} (told : D → Option (List (List ℕ))) (size 
   pub was : slice_get old.devices v ≡ Some before
   pub devices : new.devices ≡ slice_set old.devices v after
   pub written : told after ≡ option_map (λ blocks. slice_set blocks b bytes) (told before)
+  pub unfailed : IsUnfailed count old new
   pub kept : IsKept told size count lending old new
   pub records : new.area.records ≡ old.area.records
   pub images : new.images ≡ old.images
@@ -85,6 +86,6 @@ pub record IsStopped {D : Type 0} (told : D → Option (List (List ℕ))) (size 
   pub rose : DeviceRose count v old new cause
 
 abbrev pub IsRestoring : {D : Type 0} → (D → Option (List (List ℕ))) → (D → ℕ) → (D → ℕ) → (D → Bool) → GroupValue D → GroupValue D → ℕ → ℕ → Result Unit RevertFault → Type 0
-IsRestoring told size count lending old new v set (Ok done) = (restored : ℕ) × AreRestored told size count lending old new v set (blocks_at old v) restored
+IsRestoring told size count lending old new v set (Ok done) = (restored : ℕ) × AreRestored told size count lending old new v set (blocks_at old v) restored × IsUnfailed count old new
 IsRestoring told size count lending old new v set (Err NoSuchImage) = ⊥
 IsRestoring told size count lending old new v set (Err (Fault restored cause)) = IsStopped told size count lending old new v set restored cause

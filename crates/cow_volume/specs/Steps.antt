@@ -7,7 +7,7 @@ use Rattle.cow_volume.specs.declared.cause.Cause.TheVariants.{NoSuchBlock, Volum
 use Rattle.write_history.specs.History.{History, Write, written}
 use Rattle.cow_volume.specs.GroupValue.{GroupValue}
 use Rattle.cow_volume.specs.StandsFor.{StandsFor}
-use Rattle.cow_volume.specs.Calls.{IsKept, DeviceRose, changed_at}
+use Rattle.cow_volume.specs.Calls.{IsKept, IsUnfailed, DeviceRose, changed_at}
 use Rattle.cow_volume.specs.Tied.{CopiesValue}
 
 -- a device is another state of the same one, and tells this now
@@ -40,6 +40,8 @@ pub record IsCopiedIn {D : Type 0} (told : D → Option (List (List ℕ))) (size
   pub read : IfSome (told device) (λ blocks. slice_get blocks block ≡ Some copy)
   pub device_on : IsOn told size count lending device new_device (told device)
   pub area_on : IsAreaOn told size count lending old new (put (place_of_slot (length old.area.records) slot) copy (told old.area.device))
+  pub device_same : count new_device ≡ count device
+  pub area_same : count new.area.device ≡ count old.area.device
 
 -- a device failed, and nothing was copied
 pub record IsNotCopied {D : Type 0} (told : D → Option (List (List ℕ))) (size count : D → ℕ) (lending : D → Bool) (device new_device : D) (old new : CopiesValue D) (cause : Cause) : Type 0 where
@@ -58,7 +60,8 @@ pub record IsSlotFailed {D : Type 0} (told : D → Option (List (List ℕ))) (si
   pub rose : Rose (count old.area.device) (count new.area.device)
 
 abbrev pub IsSlotCopy : {D : Type 0} → (D → Option (List (List ℕ))) → (D → ℕ) → (D → ℕ) → (D → Bool) → CopiesValue D → CopiesValue D → ℕ → List ℕ → Result Unit Cause → Type 0
-IsSlotCopy told size count lending old new slot bytes (Ok done) = IsAreaOn told size count lending old new (put (place_of_slot (length old.area.records) slot) bytes (told old.area.device))
+IsSlotCopy told size count lending old new slot bytes (Ok done) =
+    IsAreaOn told size count lending old new (put (place_of_slot (length old.area.records) slot) bytes (told old.area.device)) × (count new.area.device ≡ count old.area.device)
 IsSlotCopy told size count lending old new slot bytes (Err cause) = IsSlotFailed told size count lending old new cause
 
 -- ## a write that lacks no slot
@@ -67,6 +70,7 @@ IsSlotCopy told size count lending old new slot bytes (Err cause) = IsSlotFailed
 pub record IsPut {D : Type 0} (told : D → Option (List (List ℕ))) (size count : D → ℕ) (lending : D → Bool) (old new : GroupValue D) (v : ℕ) (w : Write) : Type 0 where
   pub kept : IsKept told size count lending old new
   pub stands : (hs : List History) → StandsFor told old hs → StandsFor told new (changed_at v (written w) hs)
+  pub unfailed : IsUnfailed count old new
 
 -- a device failed, and it stands for what it stood for
 pub record IsNotPut {D : Type 0} (told : D → Option (List (List ℕ))) (size count : D → ℕ) (lending : D → Bool) (old new : GroupValue D) (v : ℕ) (cause : Cause) : Type 0 where
@@ -82,5 +86,5 @@ IsPutOr told size count lending old new v w (Err cause) = IsNotPut told size cou
 
 -- the block of a device was written, or the device failed and is as it was
 abbrev pub IsPutOn : {D : Type 0} → (D → Option (List (List ℕ))) → (D → ℕ) → (D → ℕ) → (D → Bool) → D → D → ℕ → List ℕ → Result Unit Cause → Type 0
-IsPutOn told size count lending old new block bytes (Ok done) = IsOn told size count lending old new (put block bytes (told old))
+IsPutOn told size count lending old new block bytes (Ok done) = IsOn told size count lending old new (put block bytes (told old)) × (count new ≡ count old)
 IsPutOn told size count lending old new block bytes (Err cause) = IsOn told size count lending old new (told old) × (cause ≡ Volume) × Rose (count old) (count new)

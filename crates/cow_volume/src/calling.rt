@@ -38,7 +38,7 @@ pub(crate) fn write_device<D: Device>(
 /// Brings all accepted writes of a volume's device to where they last.
 pub(crate) fn flush_device<D: Device>(devices: &mut Vec<D>, v: u32) -> Result<(), Failed>
     requires { v < length devices.old.items }
-    ensures { IsFlushed D.told D.size D.count D.lending v devices.old.items devices.new.items (is_err result) }
+    ensures { IsFlushed D.told D.lasting D.size D.count D.lending v devices.old.items devices.new.items (is_err result) }
 {
     devices[v as usize].flush()
 }

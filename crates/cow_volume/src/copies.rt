@@ -249,6 +249,7 @@ impl<D: Device> Copies<D> {
 
     /// Brings what was written to the area's device to where it lasts.
     pub(crate) fn flush(&mut self) -> Result<(), AreaFault>
+        ensures lasts { OnOk result (D.lasting self.new.area.device ≡ D.told self.new.area.device) }
         ensures told { D.told self.new.area.device ≡ D.told self.old.area.device }
         ensures table { KeepsTable D.size D.lending self.old.area self.new.area }
         ensures images { self.new.images ≡ self.old.images }

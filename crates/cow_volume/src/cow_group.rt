@@ -6,7 +6,7 @@ ghost use Rattle.write_history.specs.Slots.{used, used_by, group_used};
 ghost use Rattle.diff_area.specs.Records.{free};
 ghost use Rattle.cow_volume.specs.GroupValue.{placed};
 ghost use Rattle.cow_volume.specs.StandsFor.{StandsFor};
-ghost use Rattle.cow_volume.specs.Calls.{HasCauseAt, HasImageCause, IsNow, IsShown, IsQuiet, IsWrite, IsDropped, IsRevert, IsEvicted, VolumeRose, made_room, history_at, changed_at, sets_at, blocks_at};
+ghost use Rattle.cow_volume.specs.Calls.{HasCauseAt, HasImageCause, IsNow, IsShown, IsQuiet, IsUnfailed, IsWrite, IsDropped, IsRevert, IsEvicted, VolumeRose, made_room, history_at, changed_at, sets_at, blocks_at};
 ghost use Rattle.cow_volume.specs.Parts.{IsLentBy, IsUnseen};
 ghost use Rattle.cow_volume.specs.Ending.{IsSync};
 ghost use Rattle.cow_volume.specs.Room.{lacks_copy, lacks_slot, is_full, gone_group};
@@ -149,6 +149,7 @@ impl<D: Device> CowGroup<D> {
         requires volume { v < length self.old.area.volumes }
         requires whole { length out.old ≡ BLOCK }
         ensures now { OnOk result (IsNow D.told self.old v block out.new) }
+        ensures same { OnOk result (IsUnfailed D.count self.old self.new) }
         ensures cause { IfErr result (HasCauseAt D.count v block self.old self.new) }
         ensures quiet { IsQuiet D.told D.size D.count D.lending self.old self.new }
     {
@@ -166,6 +167,7 @@ impl<D: Device> CowGroup<D> {
         requires volume { v < length self.old.area.volumes }
         requires whole { length out.old ≡ BLOCK }
         ensures shown { OnOk result (IsShown D.told self.old v set block out.new) }
+        ensures same { OnOk result (IsUnfailed D.count self.old self.new) }
         ensures cause { IfErr result (HasImageCause D.count v set block self.old self.new) }
         ensures quiet { IsQuiet D.told D.size D.count D.lending self.old self.new }
     {
@@ -248,6 +250,8 @@ impl<D: Device> CowGroup<D> {
     pub fn flush(&mut self, v: u32) -> Result<(), Cause>
         requires { v < length self.old.area.volumes }
         ensures quiet { IsQuiet D.told D.size D.count D.lending self.old self.new }
+        ensures same { OnOk result (IsUnfailed D.count self.old self.new) }
+        ensures lasts { OnOk result ((d : D) → slice_get self.new.devices v ≡ Some d → D.lasting d ≡ D.told d) }
         ensures cause { IfErr result (λ cause. cause ≡ Cause.Volume) }
         ensures rose { IfErr result (λ cause. VolumeRose D.count v self.old self.new) }
     {
@@ -256,7 +260,8 @@ impl<D: Device> CowGroup<D> {
 
     /// Writes the records of the copies to the area's device, and brings all that was written to it to where it lasts.
     pub fn sync(&mut self) -> Result<(), Cause>
-        ensures { IsSync D.told D.size D.count D.lending self.old self.new result }
+        ensures lasts { OnOk result (D.lasting self.new.area.device ≡ D.told self.new.area.device) }
+        ensures sync { IsSync D.told D.size D.count D.lending self.old self.new result }
     {
         sync_all(&mut self.copies)
     }

@@ -1,8 +1,8 @@
 //! What was written is brought to where it lasts.
 
-ghost use Rattle.std.specs.Prelude.{◌≡◌, ◌<◌, List, length, IfErr};
+ghost use Rattle.std.specs.Prelude.{◌≡◌, ◌<◌, List, Some, length, slice_get, IfErr, OnOk};
 ghost use Rattle.cow_volume.specs.Tied.{CopiesValue};
-ghost use Rattle.cow_volume.specs.Calls.{IsQuiet, VolumeRose};
+ghost use Rattle.cow_volume.specs.Calls.{IsQuiet, IsUnfailed, VolumeRose};
 ghost use Rattle.cow_volume.specs.Parts.{group_of};
 ghost use Rattle.cow_volume.specs.Ending.{IsSync};
 ghost use Rattle.cow_volume.specs.declared.cause.Cause.TheVariants.{Volume};
@@ -14,7 +14,8 @@ use volume_device::Device;
 
 /// Writes the records of the copies to the area's device, and brings all that was written to it to where it lasts.
 pub(crate) fn sync_all<D: Device>(copies: &mut Copies<D>) -> Result<(), Cause>
-    ensures { (devices : List D) → IsSync D.told D.size D.count D.lending (group_of devices copies.old) (group_of devices copies.new) result }
+    ensures lasts { OnOk result (D.lasting copies.new.area.device ≡ D.told copies.new.area.device) }
+    ensures sync { (devices : List D) → IsSync D.told D.size D.count D.lending (group_of devices copies.old) (group_of devices copies.new) result }
 {
     let _valid = copies.slots();
     match copies.sync() {
@@ -30,6 +31,8 @@ pub(crate) fn sync_all<D: Device>(copies: &mut Copies<D>) -> Result<(), Cause>
 pub(crate) fn flush_one<D: Device>(devices: &mut Vec<D>, v: u32) -> Result<(), Cause>
     requires { v < length devices.old.items }
     ensures quiet { (copies : CopiesValue D) → IsQuiet D.told D.size D.count D.lending (group_of devices.old.items copies) (group_of devices.new.items copies) }
+    ensures same { OnOk result ((copies : CopiesValue D) → IsUnfailed D.count (group_of devices.old.items copies) (group_of devices.new.items copies)) }
+    ensures lasts { OnOk result ((d : D) → slice_get devices.new.items v ≡ Some d → D.lasting d ≡ D.told d) }
     ensures cause { IfErr result (λ cause. cause ≡ Volume) }
     ensures rose { IfErr result (λ cause. (copies : CopiesValue D) → VolumeRose D.count v (group_of devices.old.items copies) (group_of devices.new.items copies)) }
 {

@@ -2,7 +2,7 @@
 
 ghost use Rattle.std.specs.Prelude.{◌≡◌, ◌<◌, ◌≤◌, ◌↔◌, true, Some, slice_get, length, map, is_some, is_err, IfOk, IfErr, IfSome, OnOk, IsNone};
 ghost use Rattle.cow_volume.specs.Changes.{IsFirstCopy, HasNoCopy};
-ghost use Rattle.cow_volume.specs.Calls.{HasCauseAt, HasImageCause, IsNow, IsShown, IsQuiet, is_among};
+ghost use Rattle.cow_volume.specs.Calls.{HasCauseAt, HasImageCause, IsNow, IsShown, IsQuiet, IsUnfailed, is_among};
 ghost use Rattle.cow_volume.specs.CopiesAfter.{images_on};
 ghost use Rattle.cow_volume.specs.Parts.{group_of, blocks_on, IsUnseen, IsLentBy};
 ghost use Rattle.cow_volume.specs.declared.cause.Cause.TheVariants.{NoSuchBlock};
@@ -36,6 +36,7 @@ pub(crate) fn read_now<D: Device>(
     requires whole { length out.old ≡ BLOCK }
     ensures cause { IfErr result (HasCauseAt D.count v block (group_of devices.old.items copies.now) (group_of devices.new.items copies.now)) }
     ensures now { OnOk result (IsNow D.told (group_of devices.old.items copies.now) v block out.new) }
+    ensures same { OnOk result (IsUnfailed D.count (group_of devices.old.items copies.now) (group_of devices.new.items copies.now)) }
     ensures quiet { IsQuiet D.told D.size D.count D.lending (group_of devices.old.items copies.now) (group_of devices.new.items copies.now) }
 {
     if block >= copies.blocks(v) {
@@ -84,6 +85,7 @@ pub(crate) fn read_shown<D: Device>(
     requires whole { length out.old ≡ BLOCK }
     ensures cause { IfErr result (HasImageCause D.count v set block (group_of devices.old.items copies.old) (group_of devices.new.items copies.new)) }
     ensures shown { OnOk result (IsShown D.told (group_of devices.old.items copies.old) v set block out.new) }
+    ensures same { OnOk result (IsUnfailed D.count (group_of devices.old.items copies.old) (group_of devices.new.items copies.new)) }
     ensures quiet { IsQuiet D.told D.size D.count D.lending (group_of devices.old.items copies.old) (group_of devices.new.items copies.new) }
 {
     match find_shown(copies, v, set, block)? {

@@ -43,17 +43,17 @@ table_is n bs table pages h e f =
 
 -- ## refusals
 
-header_rose : (size before now : ℕ) (first : List ℕ) (fault : AreaFault) → IsBadHeader size first fault → RoseFor before now fault
-header_rose size before now first Device b = absurd b
-header_rose size before now first (BadHeader field found) b = tt
-header_rose size before now first (BadRecord slot set block volume) b = tt
-header_rose size before now first OutOfMemory b = tt
+header_rose : (size before now : ℕ) (first : List ℕ) (fault : AreaFault) → IsBadHeader size first fault → now ≡ before → RoseFor before now fault
+header_rose size before now first Device b same = absurd b
+header_rose size before now first (BadHeader field found) b same = same
+header_rose size before now first (BadRecord slot set block volume) b same = same
+header_rose size before now first OutOfMemory b same = same
 
-table_rose : (before now : ℕ) (h : Header) (table : List ℕ) (fault : AreaFault) → IsTableRefused h table fault → RoseFor before now fault
-table_rose before now h table Device b = absurd b
-table_rose before now h table (BadHeader field found) b = tt
-table_rose before now h table (BadRecord slot set block volume) b = tt
-table_rose before now h table OutOfMemory b = tt
+table_rose : (before now : ℕ) (h : Header) (table : List ℕ) (fault : AreaFault) → IsTableRefused h table fault → now ≡ before → RoseFor before now fault
+table_rose before now h table Device b same = absurd b
+table_rose before now h table (BadHeader field found) b same = same
+table_rose before now h table (BadRecord slot set block volume) b same = same
+table_rose before now h table OutOfMemory b same = same
 
 header_told : (told : Option (List (List ℕ))) (n m size : ℕ) (first : List ℕ) (fault : AreaFault) → IfSome told (AreBlocks n) → AreRead told 0 m first → m ≡ min 1 n → size ≡ BLOCK * n → IsBadHeader size first fault → IfSome told (λ bs. IsRefused (concat bs) fault)
 header_told None n m size first fault w r e s b = tt
@@ -61,9 +61,9 @@ header_told (Some bs) n m size first fault w r e s b =
     header_refused (concat bs) first size fault (size_of n size bs w s) (header_is n m bs first w r e) b
 
 -- the header is refused
-pub refused_header : (told : Option (List (List ℕ))) (n m size before now : ℕ) (first : List ℕ) (fault : AreaFault) → IfSome told (AreBlocks n) → AreRead told 0 m first → m ≡ min 1 n → size ≡ BLOCK * n → IsBadHeader size first fault → AreRefused told before now fault
-refused_header told n m size before now first fault w r e s b = record {
-  rose = header_rose size before now first fault b;
+pub refused_header : (told : Option (List (List ℕ))) (n m size before now : ℕ) (first : List ℕ) (fault : AreaFault) → IfSome told (AreBlocks n) → AreRead told 0 m first → m ≡ min 1 n → size ≡ BLOCK * n → IsBadHeader size first fault → now ≡ before → AreRefused told before now fault
+refused_header told n m size before now first fault w r e s b same = record {
+  rose = header_rose size before now first fault b same;
   refused = header_told told n m size first fault w r e s b;
 }
 
@@ -77,9 +77,9 @@ table_told (Some bs) n m size pages first table h fault w r e s a t p b =
     table_refused (concat bs) first table size h fault (size_of n size bs w s) head (table_is n bs table pages w t (pages_are bs first size pages h a head p)) a b
 
 -- the table is refused
-pub refused_table : (told : Option (List (List ℕ))) (n m size pages before now : ℕ) (first table : List ℕ) (h : Header) (fault : AreaFault) → IfSome told (AreBlocks n) → AreRead told 0 m first → m ≡ min 1 n → size ≡ BLOCK * n → IsAccepted size first h → AreRead told 1 pages table → pages ≡ pages_for h.slots → IsTableRefused h table fault → AreRefused told before now fault
-refused_table told n m size pages before now first table h fault w r e s a t p b = record {
-  rose = table_rose before now h table fault b;
+pub refused_table : (told : Option (List (List ℕ))) (n m size pages before now : ℕ) (first table : List ℕ) (h : Header) (fault : AreaFault) → IfSome told (AreBlocks n) → AreRead told 0 m first → m ≡ min 1 n → size ≡ BLOCK * n → IsAccepted size first h → AreRead told 1 pages table → pages ≡ pages_for h.slots → IsTableRefused h table fault → now ≡ before → AreRefused told before now fault
+refused_table told n m size pages before now first table h fault w r e s a t p b same = record {
+  rose = table_rose before now h table fault b same;
   refused = table_told told n m size pages first table h fault w r e s a t p b;
 }
 

@@ -19,12 +19,13 @@ pub record IsReadFrom (bytes : List ℕ) (volumes : List ℕ) (records : List Re
   pub volumes_are : volumes ≡ volumes_in (header_of bytes)
   pub records_are : records ≡ records_of bytes
 
--- the area is that of the device, which was read alone
+-- the area is that of the device, which was read alone, and none of whose calls failed
 pub record IsLoaded {D : Type 0} (told : D → Option (List (List ℕ))) (size : D → ℕ) (lending : D → Bool) (count : D → ℕ) (device : D) (area : AreaValue D) : Type 0 where
   pub alone : IsReadAlone told size lending count device area.device
+  pub same : count area.device ≡ count device
   pub read : IfSome (told device) (λ blocks. IsReadFrom (concat blocks) area.volumes area.records)
 
--- the blocks of a device, where it tells them, are refused so, and the count rose where the device failed
+-- the blocks of a device, where it tells them, are refused so, and the count rose just where the device failed
 pub record AreRefused (told : Option (List (List ℕ))) (before now : ℕ) (fault : AreaFault) : Type 0 where
   pub rose : RoseFor before now fault
   pub refused : IfSome told (λ blocks. IsRefused (concat blocks) fault)

@@ -12,12 +12,12 @@ pub record IsReadAlone {D : Type 0} (told : D → Option (List (List ℕ))) (siz
   pub lends : lending new ≡ lending old
   pub later : count old ≤ count new
 
--- the count rose where a call failed for the device's sake
+-- the count rose where a call failed for the device's sake, and is as it was where it failed for another
 abbrev pub RoseFor : ℕ → ℕ → AreaFault → Type 0
 RoseFor before now Device = Rose before now
-RoseFor before now (BadHeader field found) = Unit {0}
-RoseFor before now (BadRecord slot set block volume) = Unit {0}
-RoseFor before now OutOfMemory = Unit {0}
+RoseFor before now (BadHeader field found) = now ≡ before
+RoseFor before now (BadRecord slot set block volume) = now ≡ before
+RoseFor before now OutOfMemory = now ≡ before
 
 -- these blocks were read, one after another
 abbrev pub AreRead : Option (List (List ℕ)) → ℕ → ℕ → List ℕ → Type 0
@@ -28,4 +28,4 @@ abbrev pub IsReadFault : ℕ → ℕ → AreaFault → Type 0
 IsReadFault before now Device = Rose before now
 IsReadFault before now (BadHeader field found) = ⊥
 IsReadFault before now (BadRecord slot set block volume) = ⊥
-IsReadFault before now OutOfMemory = Unit {0}
+IsReadFault before now OutOfMemory = now ≡ before

@@ -239,6 +239,7 @@ impl<D: Device> Area<D> {
 
     /// Brings what was written to where it lasts.
     pub fn flush(&mut self) -> Result<(), AreaFault>
+        ensures lasts { OnOk result (D.lasting self.new.device ≡ D.told self.new.device) }
         ensures told { D.told self.new.device ≡ D.told self.old.device }
         ensures table { KeepsTable D.size D.lending self.old self.new }
         ensures cause { HasCause (D.count self.old.device) (D.count self.new.device) result }

@@ -1,6 +1,6 @@
 //! The tables of an area that stands on a device.
 
-ghost use Rattle.std.specs.Prelude.{◌≡◌, ◌*◌, IfOk, IfErr};
+ghost use Rattle.std.specs.Prelude.{◌≡◌, ◌*◌, IfOk, IfErr, OnOk};
 ghost use Rattle.diff_area.specs.Loading.{AreLoaded, AreRefused};
 ghost use Rattle.diff_area.specs.ReadBlocks.{IsReadAlone};
 
@@ -19,6 +19,7 @@ use vss_names::OutOfMemory;
 /// Reads the header and the table, and checks them in the format's order.
 pub fn read_tables<D: Device>(alloc: Global, device: &mut D) -> Result<Tables, AreaFault>
     ensures loaded { IfOk result (AreLoaded (D.told device.old) (D.size device.old)) }
+    ensures same { OnOk result (D.count device.new ≡ D.count device.old) }
     ensures refused { IfErr result (AreRefused (D.told device.old) (D.count device.old) (D.count device.new)) }
     ensures alone { IsReadAlone D.told D.size D.lending D.count device.old device.new }
 {

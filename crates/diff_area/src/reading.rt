@@ -34,6 +34,7 @@ pub fn read_blocks<D: Device>(
     ensures read { IfOk result (λ bytes. AreRead (D.told device.old) first count bytes.items) }
     ensures len { IfOk result (λ bytes. length bytes.items ≡ BLOCK * count) }
     ensures alone { IsReadAlone D.told D.size D.lending D.count device.old device.new }
+    ensures same { OnOk result (D.count device.new ≡ D.count device.old) }
     ensures fault { IfErr result (IsReadFault (D.count device.old) (D.count device.new)) }
 {
     let Ok(mut page) = zero_page(alloc, BLOCK) else {

@@ -1,4 +1,4 @@
-ghost use Rattle.std.specs.Prelude.{◌≡◌, ◌<◌, ◌≤◌, ◌↔◌, [], length, IfOk, IfSome, OnOk, IsErrOf};
+ghost use Rattle.std.specs.Prelude.{◌≡◌, ◌<◌, ◌≤◌, ◌↔◌, ◌⊎◌, [], length, IfOk, IfSome, OnOk, IsErrOf};
 ghost use Rattle.io_edge.specs.Streams.{Gave, GaveSome, IfGave};
 ghost use Rattle.io_edge.specs.declared.reading.ReadError.TheVariants as error;
 ghost use Rattle.vss_names.specs.Faults.{Rose};
@@ -60,6 +60,8 @@ pub fn read_all<S: Source>(alloc: Global, source: &mut S, limit: usize) -> Resul
     ensures too_long { IfGave (S.left source.old) (S.left source.new) (λ n.
         IsErrOf result ReadError.TooLong ↔ (limit < n)) }
     ensures later { S.count source.old ≤ S.count source.new }
+    ensures same { OnOk result (S.count source.new ≡ S.count source.old) }
+    ensures unfailed { IsErrOf result ReadError.TooLong ⊎ IsErrOf result ReadError.OutOfMemory → S.count source.new ≡ S.count source.old }
     ensures failed { IsErrOf result ReadError.Failed → Rose (S.count source.old) (S.count source.new) }
 {
     let mut text = Text::new(alloc);

@@ -28,6 +28,7 @@ StandsAsBefore blocks_told old new = (n : ℕ) (h : History) → Holds (blocks_t
 pub record IsWritten {D : Type 0} (blocks_told : D → Option (List (List ℕ))) (size count : D → ℕ) (old new : VolumeValue D) (w : Write) : Type 0 where
   pub kept : IsKept blocks_told size count old.device new.device
   pub stands : (h : History) → StandsFor blocks_told size old h → StandsFor blocks_told size new (written w h)
+  pub unfailed : count new.device ≡ count old.device
 
 -- the device failed, and nothing was written
 pub record IsFailed {D : Type 0} (blocks_told : D → Option (List (List ℕ))) (size count : D → ℕ) (old new : VolumeValue D) : Type 0 where
@@ -82,6 +83,7 @@ pub record IsRead {D : Type 0} (blocks_told : D → Option (List (List ℕ))) (s
 pub record IsCopyOf {D : Type 0} (blocks_told : D → Option (List (List ℕ))) (size count : D → ℕ) (old new : D) (b : ℕ) (bytes : List ℕ) : Type 0 where
   pub read : IsRead blocks_told size count old new
   pub block : IfSome (blocks_told old) (λ blocks. slice_get blocks b ≡ Some bytes)
+  pub unfailed : count new ≡ count old
 
 pub record IsFailedRead {D : Type 0} (blocks_told : D → Option (List (List ℕ))) (size count : D → ℕ) (old new : D) : Type 0 where
   pub read : IsRead blocks_told size count old new
@@ -110,11 +112,12 @@ contents_shown n h = concat (contents n h.writes (point_shown h.writes h.images)
 
 -- ## calls that are no writes
 
--- it stands for what it stood for; where the device failed, its count rose
+-- it stands for what it stood for; where the device failed, its count rose, and else is as it was
 pub record IsQuiet {D : Type 0} (blocks_told : D → Option (List (List ℕ))) (size count : D → ℕ) (old new : VolumeValue D) (failed : Bool) : Type 0 where
   pub kept : IsKept blocks_told size count old.device new.device
   pub stands : StandsAsBefore blocks_told old new
   pub rose : failed ≡ true → Rose (count old.device) (count new.device)
+  pub unfailed : failed ≡ false → count new.device ≡ count old.device
 
 -- the parts whose digest is that of an image: each block from its place, where that is filled
 abbrev pub overlaid : List (Option (List ℕ)) → List (List ℕ) → List (List ℕ)

@@ -1,4 +1,4 @@
-ghost use Rattle.std.specs.Prelude.{◌≡◌, ◌<◌, ◌≤◌, ℕ, [], ◌∷◌, length, replicate, None, IfOk, is_err};
+ghost use Rattle.std.specs.Prelude.{◌≡◌, ◌<◌, ◌≤◌, ℕ, [], ◌∷◌, length, replicate, None, IfOk, OnOk, is_err};
 ghost use Rattle.std.specs.List.{concat};
 ghost use Rattle.hex.specs.Hex.{IsBytes};
 ghost use Rattle.block_data.specs.Digest.{sha256};
@@ -159,7 +159,8 @@ impl<D: Device> PlainVolume<D> {
 
     /// Brings all accepted writes to where they last.
     pub fn flush(&mut self) -> Result<(), Failed>
-        ensures { IsQuiet D.told D.size D.count self.old self.new (is_err result) }
+        ensures lasts { OnOk result (D.lasting self.new.device ≡ D.told self.new.device) }
+        ensures quiet { IsQuiet D.told D.size D.count self.old self.new (is_err result) }
     {
         self.device.flush()
     }

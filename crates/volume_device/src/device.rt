@@ -22,6 +22,9 @@ pub trait Device: Send + Drop {
     /// Whether it lends its blocks, which never changes.
     ghost lending: { Self → Bool };
 
+    /// The blocks that last as they are, where it tells them.
+    ghost lasting: { Self → Option (List (List ℕ)) };
+
     /// How many blocks it has. Those that it tells are as many, each of `BLOCK` bytes.
     fn blocks(&self) -> u32
         ensures size { result ≡ size self.now }
@@ -49,6 +52,7 @@ pub trait Device: Send + Drop {
 
     /// Brings all accepted writes to where they last.
     fn flush(&mut self) -> Result<(), Failed>
+        ensures lasts { OnOk result (lasting self.new ≡ told self.new) }
         ensures told { told self.new ≡ told self.old }
         ensures size { size self.new ≡ size self.old }
         ensures lending { lending self.new ≡ lending self.old }

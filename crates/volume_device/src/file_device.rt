@@ -58,6 +58,8 @@ impl Device for FileDevice {
 
     ghost lending = { λ d. false };
 
+    ghost lasting = { λ d. None };
+
     fn blocks(&self) -> u32 {
         self.blocks
     }

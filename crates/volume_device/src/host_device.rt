@@ -21,6 +21,8 @@ impl Device for HostDevice {
 
     ghost lending = { host_lends };
 
+    ghost lasting = { host_told };
+
     fn blocks(&self) -> u32 {
         match self {
             HostDevice::Memory(device) => device.blocks(),

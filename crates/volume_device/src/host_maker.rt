@@ -1,4 +1,4 @@
-ghost use Rattle.std.specs.Prelude.{◌≡◌, ◌≤◌, None, IfOk, IsErrOf};
+ghost use Rattle.std.specs.Prelude.{◌≡◌, ◌≤◌, None, IfOk, OnOk, IsErrOf};
 ghost use Rattle.vss_names.specs.Faults.{Rose};
 ghost use Rattle.volume_device.specs.OnHost.{host_maker_faults, devices_out};
 ghost use Rattle.volume_device.specs.Stores.{is_memory};
@@ -73,6 +73,8 @@ impl HostMaker {
         ensures fresh { IfOk result (λ device. ⟦<FileDevice as Device>⟧.count device ≡ 0) }
         ensures out { self.new.out ≡ self.old.out }
         ensures later { self.old.count ≤ self.new.count }
+        ensures same { OnOk result (self.new.count ≡ self.old.count) }
+        ensures unmade { IsErrOf result MakeFault.OutOfMemory → self.new.count ≡ self.old.count }
         ensures rose { IsErrOf result MakeFault.Failed → Rose self.old.count self.new.count }
     {
         let Ok(path) = path_in(alloc, folder, name) else {

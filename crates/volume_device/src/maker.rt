@@ -45,6 +45,8 @@ pub trait Maker: Drop {
         ensures places { OnOk result (places self.new ≡ places self.old + 1) }
         ensures fewer { OnErr result (places self.old ≤ places self.new) }
         ensures later { count self.old ≤ count self.new }
+        ensures same { OnOk result (count self.new ≡ count self.old) }
+        ensures unmade { IsErrOf result MakeFault.OutOfMemory → count self.new ≡ count self.old }
         ensures rose { IsErrOf result MakeFault.Failed → Rose (count self.old) (count self.new) };
 
     /// Takes a device back, without taking memory. It is dropped where no place is free.

@@ -82,6 +82,8 @@ impl Device for MemDevice {
 
     ghost lending = { lends_of };
 
+    ghost lasting = { λ d. Some (blocks_of d) };
+
     fn blocks(&self) -> u32 {
         self.blocks.len() as u32
     }

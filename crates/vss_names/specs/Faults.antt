@@ -1,7 +1,8 @@
 -- How an object of the outside (a source, a sink, a device, a maker of devices) answers for its failures: it
--- keeps a count of faults that never falls, and a call fails only where the count rose in that call. A count is
--- a 64-bit number and stands still at the greatest one; there it counts as risen. (This project's own.)
-use Rattle.std.specs.Prelude.{ℕ, ◌≡◌, ◌<◌, ◌≤◌, ◌+◌, ◌⊎◌, Result, IsErr, List, fold, min}
+-- keeps a count of faults that never falls; a call fails only where the count rose in that call, and answers Ok only
+-- where the count is as it was. A count is a 64-bit number and stands still at the greatest one; there it counts as
+-- risen. (This project's own.)
+use Rattle.std.specs.Prelude.{ℕ, ◌≡◌, ◌<◌, ◌≤◌, ◌+◌, ◌⊎◌, Result, IsErr, OnOk, List, fold, min}
 
 -- the count at which a count of faults stands still, 2^64 - 1
 abbrev pub most : ℕ
@@ -11,10 +12,12 @@ most = 18446744073709551615
 abbrev pub Rose : ℕ → ℕ → Type 0
 Rose before now = (before < now) ⊎ (now ≡ most)
 
--- what each call keeps of its object's count: it does not fall, and it rose where the call failed
+-- what each call keeps of its object's count: it does not fall, it rose where the call failed, and it is as before
+-- where the call was answered Ok
 pub record HasCause {T E : Type 0} (before now : ℕ) (result : Result T E) : Type 0 where
   pub later : before ≤ now
   pub rose : IsErr result → Rose before now
+  pub same : OnOk result (now ≡ before)
 
 -- the sum of two counts
 abbrev pub counted : ℕ → ℕ → ℕ

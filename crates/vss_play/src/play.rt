@@ -63,6 +63,7 @@ impl<D: Device> Play<D> {
         ensures undone { OnErr result (IsUndone D.count (M.kept maker.old) (M.kept maker.new)) }
         ensures places { IfOk result (λ play. length play.devices ≤ M.places maker.new) }
         ensures later { M.count maker.old ≤ M.count maker.new }
+        ensures unfailed { OnOk result (M.count maker.new ≡ M.count maker.old) }
         ensures rose { IsErrOf result PlayFault.Failed → Rose (M.count maker.old) (M.count maker.new) }
     {
         let mut lines = Text::new(alloc);
@@ -197,6 +198,7 @@ impl<D: Device> Play<D> {
         ensures same { OnErr result (out.new.bytes ≡ out.old.bytes) }
         ensures quiet { IsQuietPlay D.told D.count self.old self.new }
         ensures kept { IsKept D.told D.count self.new }
+        ensures unfailed { OnOk result (map D.count self.new.devices ≡ map D.count self.old.devices) }
         ensures rose { IsErrOf result PlayFault.Failed → AnyRose (map D.count self.old.devices) (map D.count self.new.devices) }
     {
         let before = out.len();

@@ -37,7 +37,7 @@ use Rattle.plain_sessions.specs.Standing.{rows_of, progress_of}
 use Rattle.plain_sessions.specs.Keeps.{SessionsValue, Keeps}
 use Rattle.vss_world.specs.Stands.{world_of, IsOf, AllStand, Stands, IsMoved, IsBlocked, RoseAt, volume_of_line, tells_of, simple_outcome}
 use Rattle.vss_world.specs.Calls.{IsPut, IsGot, IsSeen, same}
-use Rattle.vss_world.proofs.Relation.{is_at, size_at, stand_at, stand_call, stands_of, change_at-same, of_call, tells_call, later_call, rose_call}
+use Rattle.vss_world.proofs.Relation.{is_at, size_at, stand_at, stand_call, stands_of, change_at-same, of_call, tells_call, later_call, rose_call, unfailed_call}
 use Rattle.vss_world.proofs.Room.{none_goes, room_same, none_evicted, none_ends, acts_alone}
 
 -- the one place where a set is counted
@@ -132,6 +132,7 @@ put_moves {D = D} blocks_told size count s vs us x lane v b byte told.Ok built o
       tells = tells_call blocks_told size count vs us v (written w) false call;
       later = later_call blocks_told size count vs us v (written w) false call;
       rose = λ fault. cc;
+      unfailed = λ acts stands clean. unfailed_call blocks_told size count vs us v (written w) false call refl;
     }
 put_moves {D = D} blocks_told size count s vs us x lane v b byte told.Fault built of within free call = record {
   is_enabled = λ acts stands. may_write_now s (state s acts) lane v built within.0 (free (state s acts) stands.sessions);
@@ -146,6 +147,7 @@ put_moves {D = D} blocks_told size count s vs us x lane v b byte told.Fault buil
   tells = tells_call blocks_told size count vs us v same true call;
   later = later_call blocks_told size count vs us v same true call;
   rose = λ fault. rose_call blocks_told size count vs us v same true call refl;
+  unfailed = λ acts stands clean. cc;
 }
 put_moves {D = D} blocks_told size count s vs us x lane v b byte _ built of within free call = absurd call
 
@@ -198,6 +200,7 @@ got_moves {D = D} blocks_told size count s vs us x lane v b op bytes_of (told.Bl
   tells = tells_call blocks_told size count vs us v same false seen.call;
   later = later_call blocks_told size count vs us v same false seen.call;
   rose = λ fault. cc;
+  unfailed = λ acts stands clean. unfailed_call blocks_told size count vs us v same false seen.call refl;
 }
 got_moves {D = D} blocks_told size count s vs us x lane v b op bytes_of told.Fault of within on clean fault reads none nobody at call = record {
   is_enabled = λ acts stands. on (state s acts);
@@ -215,6 +218,7 @@ got_moves {D = D} blocks_told size count s vs us x lane v b op bytes_of told.Fau
   tells = tells_call blocks_told size count vs us v same true call;
   later = later_call blocks_told size count vs us v same true call;
   rose = λ failed. subst (λ (o : Option ℕ). RoseAt o (map count (map (λ y. y.device) vs)) (map count (map (λ y. y.device) us))) (sym at) (rose_call blocks_told size count vs us v same true call refl);
+  unfailed = λ acts stands clean. cc;
 }
 got_moves {D = D} blocks_told size count s vs us x lane v b op bytes_of _ of within on clean fault reads none nobody at got = absurd got
 

@@ -1,6 +1,6 @@
 -- Images against the definitions: whether one is kept, and what it shows.
 use Rattle.std.proofs.Common.{◌≡◌, ℕ, ◌<◌, ◌≤◌, List, [], ◌∷◌, length, refl, ap, sym, ◌∙◌, arith, Bool, true, false, ◌&&◌, ◌||◌, Option, Some, None, subst, get_or}
-use Rattle.std.specs.Prelude.{slice_get, slice_set, map, is_some, ◌==◌, find, filter, if◌then◌else◌, Result, Ok, Err, IfOk}
+use Rattle.std.specs.Prelude.{slice_get, slice_set, map, is_some, ◌==◌, find, filter, if◌then◌else◌, Result, Ok, Err, IfOk, IsOk, is_err}
 use Rattle.std.specs.List.{list_any, concat}
 use Rattle.vss_names.specs.declared.vss_result.VssResult.TheVariants.{ObjectNotFound}
 use Rattle.write_history.specs.declared.mark.Mark.TheVariants.{Clean}
@@ -102,6 +102,7 @@ refused_moves {D = D} blocks_told size count s vs x lane n v b of none = record 
   tells = refl;
   later = later_same (map count (map (λ (y : VolumeValue D). y.device) vs));
   rose = λ fault. cc;
+  unfailed = λ acts stands clean. refl;
 }
 
 -- ## an image that is kept
@@ -238,6 +239,16 @@ quiet_world {D = D} blocks_told size count vs x v y z failed at inside quiet = r
   later = later_set count vs v y z at quiet.kept.later;
   begun = refl;
 }
+
+-- the device did not fail
+pub unfailed_world : {D : Type 0} → (blocks_told : D → Option (List (List ℕ))) (size count : D → ℕ) (vs : List (VolumeValue D)) (v : ℕ) (y z : VolumeValue D) (failed : Bool) → slice_get vs v ≡ Some y → QuietVolume blocks_told size count y z failed → failed ≡ false
+    → map count (map (λ (u : VolumeValue D). u.device) (slice_set vs v z)) ≡ map count (map (λ (u : VolumeValue D). u.device) vs)
+unfailed_world blocks_told size count vs v y z failed at quiet e = devices_alike count vs v y z at (quiet.unfailed e)
+
+-- an answer that is Ok is no error
+pub no_error : {X E : Type 0} → (r : Result X E) → IsOk r → is_err r ≡ false
+no_error (Ok x) is = refl
+no_error (Err e) is = absurd cc
 
 -- the volume of a number that is in range
 pub at_place : {D : Type 0} → (vs : List (VolumeValue D)) (v : ℕ) (y : VolumeValue D) → v < length vs → y ≡ get_or vs v y → slice_get vs v ≡ Some y

@@ -1,5 +1,5 @@
 -- The core's volumes against the volumes of the definitions, when one of them changes.
-use Rattle.std.proofs.Common.{◌≡◌, ℕ, zero, suc, ◌<◌, ◌≤◌, List, [], ◌∷◌, ◌++◌, length, refl, ap, sym, ◌∙◌, arith, Bool, true, Option, Some, subst}
+use Rattle.std.proofs.Common.{◌≡◌, ℕ, zero, suc, ◌<◌, ◌≤◌, List, [], ◌∷◌, ◌++◌, length, refl, ap, sym, ◌∙◌, arith, Bool, true, false, Option, Some, subst}
 use Rattle.std.specs.Prelude.{slice_get, slice_set, map, is_some}
 use Rattle.vss_names.specs.Faults.{Rose}
 use Rattle.write_history.specs.History.{History}
@@ -137,6 +137,9 @@ later_call {D = D} blocks_told size count vs us v f failed call = subst (λ (ws 
 
 pub rose_call : {D : Type 0} → (blocks_told : D → Option (List (List ℕ))) (size count : D → ℕ) (vs us : List (VolumeValue D)) (v : ℕ) (f : History → History) (failed : Bool) → IsCall blocks_told size count vs us v f failed → failed ≡ true → RoseAt (Some v) (map count (map (λ (z : VolumeValue D). z.device) vs)) (map count (map (λ (z : VolumeValue D). z.device) us))
 rose_call {D = D} blocks_told size count vs us v f failed call fault = subst (λ (ws : List (VolumeValue D)). RoseAt (Some v) (map count (map (λ (z : VolumeValue D). z.device) vs)) (map count (map (λ (z : VolumeValue D). z.device) ws))) (sym call.is) (rose_set count vs v call.before call.now call.was (call.rose fault))
+
+pub unfailed_call : {D : Type 0} → (blocks_told : D → Option (List (List ℕ))) (size count : D → ℕ) (vs us : List (VolumeValue D)) (v : ℕ) (f : History → History) (failed : Bool) → IsCall blocks_told size count vs us v f failed → failed ≡ false → map count (map (λ (z : VolumeValue D). z.device) us) ≡ map count (map (λ (z : VolumeValue D). z.device) vs)
+unfailed_call {D = D} blocks_told size count vs us v f failed call e = ap (λ ws. map count (map (λ (z : VolumeValue D). z.device) ws)) call.is ∙ devices_alike count vs v call.before call.now call.was (call.unfailed e)
 
 -- what stands once one volume changed
 pub stand_call : {D : Type 0} → (blocks_told : D → Option (List (List ℕ))) (size count : D → ℕ) (s : Plan) (hs : List History) (vs us : List (VolumeValue D)) (x : SessionsValue) (v b : ℕ) (f : History → History) (failed : Bool) → IsOf size (world_of vs x) s → IsBlock s v b → IsCall blocks_told size count vs us v f failed → AllStand blocks_told s.volumes hs vs → AllStand blocks_told s.volumes (change_at v f hs) us

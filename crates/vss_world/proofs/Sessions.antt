@@ -1,6 +1,6 @@
 -- Session lines and the provider's steps against the definitions: what they do to the volume.
 use Rattle.std.proofs.Common.{◌≡◌, ℕ, zero, suc, ◌<◌, ◌≤◌, List, [], ◌∷◌, ◌++◌, length, refl, ap, sym, ◌∙◌, arith, Bool, true, false, ◌&&◌, ◌||◌, Option, Some, subst, get_or, ◌⊎◌, inl, inr}
-use Rattle.std.specs.Prelude.{slice_get, slice_set, map, is_some, not, ◌==◌}
+use Rattle.std.specs.Prelude.{slice_get, slice_set, map, is_some, not, ◌==◌, Result, Ok, Err, OnOk, is_err}
 use Rattle.vss_names.specs.Faults.{Rose}
 use Rattle.write_history.specs.History.{History, Image, Write, cut}
 use Rattle.scenario.specs.declared.volume_row.VolumeRow.{VolumeRow}
@@ -14,7 +14,9 @@ use Rattle.writer_calls.specs.declared.answer.Answer.{Answer}
 use Rattle.vss_model.specs.declared.event.Event.TheVariants.{Answer as AnswerEvent, Idle}
 use Rattle.vss_model.specs.Acts.{Act, state, after, enabled}
 use Rattle.vss_model.specs.Facts.{NumberedFrom, AreLive, AllLive, is_live, has_failed, AreInTime, AreLater}
-use Rattle.vss_model.specs.Told.{mark_of}
+use Rattle.set_agenda.specs.declared.group.Group.{Group}
+use Rattle.vss_model.specs.Steps.{is_flush}
+use Rattle.vss_model.specs.Told.{mark_of, mark_if}
 use Rattle.vss_model.specs.Trail.{is_fault}
 use Rattle.vss_model.specs.Outcome.{told_act}
 use Rattle.vss_model.proofs.Appending.{state-append}
@@ -29,8 +31,8 @@ use Rattle.plain_sessions.specs.declared.session_move.SessionMove.{SessionMove}
 use Rattle.plain_sessions.specs.Keeps.{SessionsValue, Keeps, HasRoom, IsMove, IsWait, images_changed, volume_told}
 use Rattle.vss_world.specs.Stands.{world_of, IsOf, AllStand, Stands, IsMoved, IsBlocked, RoseAt, tells_of, volume_of, volume_of_step}
 use Rattle.vss_world.specs.Stands.{AreLater as CountsLater}
-use Rattle.vss_world.specs.Calls.{HasBlock, AllQuiet, FirstChanged, IsFlushed, IsChanged, history_changed}
-use Rattle.vss_world.proofs.Relation.{stands_of, stand_long}
+use Rattle.vss_world.specs.Calls.{HasBlock, AllQuiet, FirstLasts, FirstChanged, IsFlushed, IsChanged, history_changed}
+use Rattle.vss_world.proofs.Relation.{stands_of, stand_long, devices_alike}
 use Rattle.vss_world.proofs.Blocks.{few_sets}
 
 -- ## calls that leave the histories as they were
@@ -172,8 +174,9 @@ after_change {D = D} blocks_told size count s acts act vs us ts x y becomes buil
 
 pub session_moves : {D : Type 0} → (blocks_told : D → Option (List (List ℕ))) (size count : D → ℕ) (s : Plan) (vs us ts : List (VolumeValue D)) (x y : SessionsValue) (event : Event) (m : SessionMove) → IsBuilt s → IsOf size (world_of vs x) s → AllQuiet blocks_told size count vs us → FirstChanged blocks_told size m.change us ts → IsMove x y event m
     → (is_fault (mark_of m.outcome.told) ≡ true → RoseAt (volume_of event m.outcome.told) (map count (map (λ (z : VolumeValue D). z.device) vs)) (map count (map (λ (z : VolumeValue D). z.device) us)))
+    → ((acts : List Act) → Stands blocks_told (world_of vs x) s acts → is_fault (mark_of m.outcome.told) ≡ false → map count (map (λ (z : VolumeValue D). z.device) us) ≡ map count (map (λ (z : VolumeValue D). z.device) vs))
     → IsMoved blocks_told size count (world_of vs x) (world_of ts y) s event m.outcome
-session_moves {D = D} blocks_told size count s vs us ts x y event m built of quiet changed move rose =
+session_moves {D = D} blocks_told size count s vs us ts x y event m built of quiet changed move rose unfailed =
     let devices = devices_changed blocks_told size m.change us ts changed in
     record {
       is_enabled = λ acts stands. move.is_enabled s (state s acts) stands.sessions (λ v. has_room blocks_told s.volumes (state s acts).volumes vs v stands.images);
@@ -188,6 +191,7 @@ session_moves {D = D} blocks_told size count s vs us ts x y event m built of qui
       tells = ap (tells_of blocks_told) devices ∙ tells_quiet blocks_told size count vs us quiet;
       later = subst (λ (ds : List D). CountsLater (map count (map (λ (z : VolumeValue D). z.device) vs)) (map count ds)) (sym devices) (later_quiet blocks_told size count vs us quiet);
       rose = λ fault. subst (λ (ds : List D). RoseAt (volume_of event m.outcome.told) (map count (map (λ (z : VolumeValue D). z.device) vs)) (map count ds)) (sym devices) (rose fault);
+      unfailed = λ acts stands clean. ap (map count) devices ∙ unfailed acts stands clean;
     }
 
 pub session_waits : {D : Type 0} → (blocks_told : D → Option (List (List ℕ))) (s : Plan) (vs : List (VolumeValue D)) (x : SessionsValue) (event : Event) → IsWait x x event → IsBlocked blocks_told (world_of vs x) (world_of vs x) s event
@@ -200,23 +204,45 @@ pub volume_same : (t : Told) → volume_of_step t ≡ volume_told t
 volume_same (told.Step g v fault) = refl
 volume_same _ = refl
 
+on_ok : {T E : Type 0} (r : Result T E) (P : Type 0) → OnOk r P → is_err r ≡ false → P
+on_ok (Ok x) P h e = h
+on_ok (Err x) P h e = cc
+
+-- the first volume was flushed
+pub first_lasts : {D T E : Type 0} (blocks_told lasting : D → Option (List (List ℕ))) (vs : List (VolumeValue D)) (x y : VolumeValue D) (r : Result T E) → slice_get vs 0 ≡ Some x → OnOk r (lasting y.device ≡ blocks_told y.device) → is_err r ≡ false → FirstLasts blocks_told lasting (map (λ (z : VolumeValue D). z.device) (slice_set vs 0 y))
+first_lasts blocks_told lasting [] x y r at lasts e = cc
+first_lasts {D = D} blocks_told lasting (z ∷ vs) x y r at lasts e = λ d is. let same : y.device ≡ d = cc in subst (λ (q : D). lasting q ≡ blocks_told q) same (on_ok r (lasting y.device ≡ blocks_told y.device) lasts e)
+
+-- and then its image changed
+pub lasts_still : {D : Type 0} (blocks_told lasting : D → Option (List (List ℕ))) (size : D → ℕ) (becomes : ImageChange) (us ts : List (VolumeValue D)) → FirstChanged blocks_told size becomes us ts → FirstLasts blocks_told lasting (map (λ (z : VolumeValue D). z.device) us) → FirstLasts blocks_told lasting (map (λ (z : VolumeValue D). z.device) ts)
+lasts_still {D = D} blocks_told lasting size becomes us ts changed lasts = subst (λ (ds : List D). FirstLasts blocks_told lasting ds) (sym (devices_changed blocks_told size becomes us ts changed)) lasts
+
+-- a step that is told clean did not fail
+pub step_ok : (ok : Bool) (g : Group) (t : Told) → (ok ≡ false → is_flush (Some g) ≡ true) → mark_of t ≡ mark_if (not ok && is_flush (Some g)) → is_fault (mark_of t) ≡ false → ok ≡ true
+step_ok true g t flushes mark clean = refl
+step_ok false g t flushes mark clean =
+    let is : is_fault (mark_if (is_flush (Some g))) ≡ false = ap is_fault (sym mark) ∙ clean in
+    let fault : is_fault (mark_if (is_flush (Some g))) ≡ true = ap (λ (b : Bool). is_fault (mark_if b)) (flushes refl) in
+    cc
+
 -- ## calls on the volumes
 
 pub changed_first : {D : Type 0} → (blocks_told : D → Option (List (List ℕ))) (size : D → ℕ) (becomes : ImageChange) (vs : List (VolumeValue D)) (x y : VolumeValue D) → slice_get vs 0 ≡ Some x → IsChanged blocks_told size becomes x y → FirstChanged blocks_told size becomes vs (slice_set vs 0 y)
 changed_first {D = D} blocks_told size becomes [] x y at is = cc
 changed_first {D = D} blocks_told size becomes (z ∷ vs) x y at is = let e : z ≡ x = cc in (y, subst (λ (w : VolumeValue D). IsChanged blocks_told size becomes w y) (sym e) is, refl)
 
-pub flushed_first : {D : Type 0} → (blocks_told : D → Option (List (List ℕ))) (size count : D → ℕ) (vs : List (VolumeValue D)) (x y : VolumeValue D) (ok : Bool) → slice_get vs 0 ≡ Some x → IsKept blocks_told size count x.device y.device → StandsAsBefore blocks_told x y → (ok ≡ false → Rose (count x.device) (count y.device)) → IsFlushed blocks_told size count vs (slice_set vs 0 y) ok
-flushed_first {D = D} blocks_told size count [] x y ok at kept stands rose = cc
-flushed_first {D = D} blocks_told size count (z ∷ vs) x y ok at kept stands rose =
+pub flushed_first : {D : Type 0} → (blocks_told : D → Option (List (List ℕ))) (size count : D → ℕ) (vs : List (VolumeValue D)) (x y : VolumeValue D) (ok : Bool) → slice_get vs 0 ≡ Some x → IsKept blocks_told size count x.device y.device → StandsAsBefore blocks_told x y → (ok ≡ false → Rose (count x.device) (count y.device)) → (ok ≡ true → count y.device ≡ count x.device) → IsFlushed blocks_told size count vs (slice_set vs 0 y) ok
+flushed_first {D = D} blocks_told size count [] x y ok at kept stands rose unfailed = cc
+flushed_first {D = D} blocks_told size count (z ∷ vs) x y ok at kept stands rose unfailed =
     let e : z ≡ x = cc in
     record {
       quiet = (subst (λ (w : VolumeValue D). IsKept blocks_told size count w.device y.device) (sym e) kept, subst (λ (w : VolumeValue D). StandsAsBefore blocks_told w y) (sym e) stands, quiet_same blocks_told size count vs);
       rose = λ failed. subst (λ (w : VolumeValue D). Rose (count w.device) (count y.device)) (sym e) (rose failed);
+      unfailed = λ is_ok. devices_alike count (z ∷ vs) 0 x y at (unfailed is_ok);
     }
 
 pub not_flushed : {D : Type 0} → (blocks_told : D → Option (List (List ℕ))) (size count : D → ℕ) (vs : List (VolumeValue D)) → IsFlushed blocks_told size count vs vs true
-not_flushed {D = D} blocks_told size count vs = record { quiet = quiet_same blocks_told size count vs; rose = λ h. cc }
+not_flushed {D = D} blocks_told size count vs = record { quiet = quiet_same blocks_told size count vs; rose = λ h. cc; unfailed = λ is_ok. refl }
 
 pub at_index : {D : Type 0} → (size : D → ℕ) (vs : List (VolumeValue D)) (v b : ℕ) (y : VolumeValue D) → HasBlock size (slice_get vs v) b → y ≡ get_or vs v y → slice_get vs v ≡ Some y
 at_index {D = D} size [] v b y has is = absurd has

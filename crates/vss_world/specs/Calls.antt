@@ -15,7 +15,8 @@ abbrev pub HasBlock : {D : Type 0} → (D → ℕ) → Option (VolumeValue D) �
 HasBlock size None b = ⊥
 HasBlock size (Some v) b = b < size v.device
 
--- One call on one volume. What stood for a history stands for what `becomes` of it; where the device failed, its count rose.
+-- One call on one volume. What stood for a history stands for what `becomes` of it; where the device failed, its count rose, and else
+-- it is as it was.
 pub record IsCall {D : Type 0} (blocks_told : D → Option (List (List ℕ))) (size count : D → ℕ) (vs us : List (VolumeValue D)) (v : ℕ) (becomes : History → History) (failed : Bool) : Type 0 where
   pub before : VolumeValue D
   pub now : VolumeValue D
@@ -24,6 +25,7 @@ pub record IsCall {D : Type 0} (blocks_told : D → Option (List (List ℕ))) (s
   pub kept : IsKept blocks_told size count before.device now.device
   pub stands : (h : History) → StandsFor blocks_told size before h → StandsFor blocks_told size now (becomes h)
   pub rose : failed ≡ true → Rose (count before.device) (count now.device)
+  pub unfailed : failed ≡ false → count now.device ≡ count before.device
 
 abbrev pub same : History → History
 same h = h
@@ -57,6 +59,11 @@ AllQuiet blocks_told size count _ _ = ⊥
 pub record IsFlushed {D : Type 0} (blocks_told : D → Option (List (List ℕ))) (size count : D → ℕ) (vs us : List (VolumeValue D)) (ok : Bool) : Type 0 where
   pub quiet : AllQuiet blocks_told size count vs us
   pub rose : ok ≡ false → RoseAt (Some 0) (map count (map (λ v. v.device) vs)) (map count (map (λ v. v.device) us))
+  pub unfailed : ok ≡ true → map count (map (λ v. v.device) us) ≡ map count (map (λ v. v.device) vs)
+
+-- what the first of these devices tells lasts
+abbrev pub FirstLasts : {D : Type 0} → (D → Option (List (List ℕ))) → (D → Option (List (List ℕ))) → List D → Type 0
+FirstLasts {D = D} blocks_told lasting ds = (d : D) → slice_get ds 0 ≡ Some d → lasting d ≡ blocks_told d
 
 abbrev pub history_changed : ImageChange → History → History
 history_changed NoChange h = h

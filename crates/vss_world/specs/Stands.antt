@@ -19,7 +19,9 @@ use Rattle.vss_model.specs.declared.evicted.Evicted.{Evicted}
 use Rattle.vss_model.specs.declared.outcome.Outcome.{Outcome}
 use Rattle.vss_model.specs.declared.told.Told.{Told}
 use Rattle.vss_model.specs.declared.told.Told.TheVariants as told
-use Rattle.vss_model.specs.State.{State}
+use Rattle.set_agenda.specs.Agenda.{open_group}
+use Rattle.vss_model.specs.State.{State, left_now}
+use Rattle.vss_model.specs.Steps.{is_flush}
 use Rattle.vss_model.specs.Acts.{Act, state, enabled, event_allows}
 use Rattle.vss_model.specs.Told.{mark_of}
 use Rattle.vss_model.specs.Trail.{is_fault}
@@ -140,7 +142,8 @@ pub record IsBlocked {D : Type 0} (blocks_told : D → Option (List (List ℕ)))
   pub not_enabled : (acts : List Act) → Stands blocks_told old s acts → enabled s (state s acts) event ≡ false
 
 -- The event was enabled. It was answered as defined, with a mark that is allowed, and what stood for a list of acts stands for
--- the list with this act. A mark other than Clean comes only where the count of the device of the act's volume rose.
+-- the list with this act. A mark other than Clean comes only where the count of the device of the act's volume rose, and Clean only
+-- where each count is as it was.
 pub record IsMoved {D : Type 0} (blocks_told : D → Option (List (List ℕ))) (size count : D → ℕ) (old new : WorldValue D) (s : Plan) (event : Event) (o : Outcome) : Type 0 where
   pub is_enabled : (acts : List Act) → Stands blocks_told old s acts → enabled s (state s acts) event ≡ true
   pub is_allowed : (acts : List Act) → Stands blocks_told old s acts → event_allows s (state s acts) event (mark_of o.told) ≡ true
@@ -150,10 +153,17 @@ pub record IsMoved {D : Type 0} (blocks_told : D → Option (List (List ℕ))) (
   pub tells : tells_of blocks_told new.devices ≡ tells_of blocks_told old.devices
   pub later : AreLater (map count old.devices) (map count new.devices)
   pub rose : is_fault (mark_of o.told) ≡ true → RoseAt (volume_of event o.told) (map count old.devices) (map count new.devices)
+  pub unfailed : (acts : List Act) → Stands blocks_told old s acts → is_fault (mark_of o.told) ≡ false → map count new.devices ≡ map count old.devices
 
 abbrev pub IsStepped : {D : Type 0} → (D → Option (List (List ℕ))) → (D → ℕ) → (D → ℕ) → WorldValue D → WorldValue D → Plan → Event → Reply → Type 0
 IsStepped blocks_told size count old new s event Blocked = IsBlocked blocks_told old new s event
 IsStepped blocks_told size count old new s event (Moved o) = IsMoved blocks_told size count old new s event o
+
+-- after a step of the group that flushes, where it is told clean, what the first volume's device tells lasts
+abbrev pub StepLasts : {D : Type 0} → (D → Option (List (List ℕ))) → (D → Option (List (List ℕ))) → WorldValue D → WorldValue D → Reply → Type 0
+StepLasts blocks_told lasting old new Blocked = Unit {0}
+StepLasts {D = D} blocks_told lasting old new (Moved o) = (s : Plan) (acts : List Act) (d : D) → Stands blocks_told old s acts → is_flush (open_group (left_now (state s acts))) ≡ true → is_fault (mark_of o.told) ≡ false
+    → slice_get new.devices 0 ≡ Some d → lasting d ≡ blocks_told d
 
 -- what a move comes to that ends no set and loses no writer
 abbrev pub simple_outcome : Told → Outcome

@@ -1,10 +1,11 @@
 //! The calls on the volumes of which moves are made.
 
-ghost use Rattle.std.specs.Prelude.{◌≡◌, ◌<◌, ◌≤◌, [], length, map, slice_get, vec_capacity, IfOk, OnOk, OnErr};
+ghost use Rattle.std.specs.Prelude.{◌≡◌, ◌<◌, ◌≤◌, [], Some, true, false, length, map, slice_get, vec_capacity, IfOk, OnOk, OnErr};
 ghost use Rattle.block_data.specs.PayloadBytes.{payload_bytes};
 ghost use Rattle.block_data.specs.declared.payload.Payload.TheVariants.{Fill};
+ghost use Rattle.vss_model.specs.Steps.{is_flush};
 ghost use Rattle.plain_volume.specs.Calls.{now_at, shown_at};
-ghost use Rattle.vss_world.specs.Calls.{HasBlock, IsPut, IsGot, IsFlushed, IsChanged, FirstChanged, has_set, new_volume};
+ghost use Rattle.vss_world.specs.Calls.{HasBlock, IsPut, IsGot, IsFlushed, FirstLasts, IsChanged, FirstChanged, has_set, new_volume};
 
 use block_data::Payload;
 use plain_sessions::ImageChange;
@@ -95,10 +96,28 @@ pub(crate) fn read_image<D: Device>(
 pub(crate) fn make_step<D: Device>(volumes: &mut Vec<PlainVolume<D>>, group: Group) -> bool
     ensures flushed { IsFlushed D.told D.size D.count volumes.old.items volumes.new.items result }
     ensures len { length volumes.new.items ≡ length volumes.old.items }
+    ensures fails { result ≡ false → is_flush (Some group) ≡ true }
+    ensures lasts { is_flush (Some group) ≡ true → result ≡ true → FirstLasts D.told D.lasting (map (λ v. v.device) volumes.new.items) }
+{
+    if flushes(group) {
+        return flush_first(volumes);
+    }
+    true
+}
+
+/// Whether the volume is flushed in a step of this group.
+fn flushes(group: Group) -> bool
+    ensures { result ≡ is_flush (Some group) }
 {
     match group {
-        Group::Flush => flush_first(volumes),
-        _ => true,
+        Group::Flush => true,
+        Group::Orders(_)
+        | Group::PreCommit
+        | Group::Hold
+        | Group::Cut
+        | Group::Commit
+        | Group::Release
+        | Group::PostCommit => false,
     }
 }
 
@@ -106,6 +125,7 @@ pub(crate) fn make_step<D: Device>(volumes: &mut Vec<PlainVolume<D>>, group: Gro
 fn flush_first<D: Device>(volumes: &mut Vec<PlainVolume<D>>) -> bool
     ensures flushed { IsFlushed D.told D.size D.count volumes.old.items volumes.new.items result }
     ensures len { length volumes.new.items ≡ length volumes.old.items }
+    ensures lasts { result ≡ true → FirstLasts D.told D.lasting (map (λ v. v.device) volumes.new.items) }
 {
     match volumes.get_mut(0) {
         Some(volume) => volume.flush().is_ok(),

@@ -12,7 +12,7 @@ ghost use Rattle.scenario.specs.Bounds.{IsPlan, IsBlock, IsOp, is_begin};
 ghost use Rattle.scenario.specs.Calls.{call_of};
 ghost use Rattle.scenario.specs.declared.op.Op.TheVariants as op;
 ghost use Rattle.vss_model.specs.declared.event.Event.TheVariants.{Line, Provider};
-ghost use Rattle.vss_world.specs.Stands.{IsOf, IsEvent, IsStepped, IsMoved, IsBlocked, Stands, AllNew, IsQuiet, IfStands, RoseAt, AreLater, begins, blocks_at, used_at, tells_of, simple_outcome};
+ghost use Rattle.vss_world.specs.Stands.{IsOf, IsEvent, IsStepped, StepLasts, IsMoved, IsBlocked, Stands, AllNew, IsQuiet, IfStands, RoseAt, AreLater, begins, blocks_at, used_at, tells_of, simple_outcome};
 
 use crate::moves::{
     change_first, has_image, make_step, read, read_image, volumes_over, write_fill,
@@ -110,6 +110,7 @@ impl<D: Device> World<D> {
         ensures memory { OnErr result (self.new ≡ self.old) }
         ensures stepped { IfOk result (IsStepped D.told D.size D.count self.old self.new scenario.now event) }
         ensures begun { IfOk result (λ reply. self.new.begun ≡ (self.old.begun || begins event)) }
+        ensures lasts { event ≡ Provider → IfOk result (StepLasts D.told D.lasting self.old self.new) }
     {
         match event {
             Event::Line { lane, op } => self.line(alloc, scenario, lane, op),
@@ -259,6 +260,7 @@ impl<D: Device> World<D> {
     fn provider(&mut self, scenario: &Scenario) -> Reply
         requires of { IsOf D.size self.old scenario.now }
         ensures stepped { IsStepped D.told D.size D.count self.old self.new scenario.now Provider result }
+        ensures lasts { StepLasts D.told D.lasting self.old self.new result }
         ensures begun { self.new.begun ≡ self.old.begun }
     {
         let _count = scenario.volumes();
@@ -323,6 +325,7 @@ impl<D: Device> World<D> {
         ensures digest { IfOk result (λ digest. IfStands D.told D.size self.old (λ s st.
             IsDigestIf (slice_get (tells_of D.told self.old.devices) volume) (concat (blocks_at (slice_get s.volumes volume) (history_of st volume) (length (history_of st volume).writes))) digest)) }
         ensures quiet { IsQuiet D.told D.size D.count self.old self.new }
+        ensures same { IsOk result → map D.count self.new.devices ≡ map D.count self.old.devices }
         ensures cause { IsErr result → RoseAt (Some volume) (map D.count self.old.devices) (map D.count self.new.devices) }
     {
         self.volumes[volume as usize].digest()
@@ -335,6 +338,7 @@ impl<D: Device> World<D> {
         ensures digest { IfOk result (λ digest. IfStands D.told D.size self.old (λ s st. (point : ℕ) → point_in set (kept st (history_of st volume)) ≡ Some point →
             IsDigestIf (slice_get (tells_of D.told self.old.devices) volume) (concat (blocks_at (slice_get s.volumes volume) (history_of st volume) point)) digest)) }
         ensures quiet { IsQuiet D.told D.size D.count self.old self.new }
+        ensures same { IsOk result → map D.count self.new.devices ≡ map D.count self.old.devices }
         ensures cause { IsErr result → RoseAt (Some volume) (map D.count self.old.devices) (map D.count self.new.devices) }
     {
         let _set = set;

@@ -1,5 +1,5 @@
-use Rattle.std.proofs.Common.{true, false}
-use Rattle.cow_volume.proofs.Kept.{quiet_called, volume_rose}
+use Rattle.std.proofs.Common.{◌≡◌, true, false, refl, subst}
+use Rattle.cow_volume.proofs.Kept.{quiet_called, volume_rose, unfailed_called, called_is}
 use Rattle.cow_volume.proofs.ending.flush_one.Goals as goal
 
 pub returns-in-Ok-clause-quiet : goal.returns-in-Ok-clause-quiet
@@ -13,3 +13,12 @@ returns-in-Err-clause-quiet g c = λ copies.
 pub returns-in-Err-clause-rose : goal.returns-in-Err-clause-rose
 returns-in-Err-clause-rose g c = λ copies.
     volume_rose g.D.Device.told g.D.Device.size g.D.Device.count g.D.Device.lending c.args.v c.args.devices.now.items c.flush_device.new.devices.items copies copies c.in-Err.ensures.call
+
+pub returns-in-Ok-clause-same : goal.returns-in-Ok-clause-same
+returns-in-Ok-clause-same g c = λ copies.
+    unfailed_called g.D.Device.told g.D.Device.size g.D.Device.count g.D.Device.lending c.args.v c.args.devices.now.items c.flush_device.new.devices.items false copies copies c.in-Ok.ensures.call refl refl
+
+pub returns-in-Ok-clause-lasts : goal.returns-in-Ok-clause-lasts
+returns-in-Ok-clause-lasts g c = λ d is.
+    let own = called_is g.D.Device.told g.D.Device.size g.D.Device.count g.D.Device.lending c.args.v c.args.devices.now.items c.flush_device.new.devices.items false d c.in-Ok.ensures.call is in
+    subst (λ x. g.D.Device.lasting x ≡ g.D.Device.told x) own (c.in-Ok.ensures.lasts refl)

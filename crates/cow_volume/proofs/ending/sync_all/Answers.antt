@@ -1,18 +1,18 @@
-use Rattle.std.proofs.Common.{refl}
+use Rattle.std.proofs.Common.{refl, ◌∙◌}
 use Rattle.cow_volume.proofs.Kept.{quiet_area}
 use Rattle.cow_volume.proofs.RestoringSteps.{rose_further}
 use Rattle.cow_volume.proofs.Synced.{synced_all, synced_part, synced_further, stored_all}
 use Rattle.cow_volume.proofs.ending.sync_all.Goals as goal
 
-pub returns-in-Err : goal.returns-in-Err
-returns-in-Err g c = λ devices. (
+pub returns-in-Err-clause-sync : goal.returns-in-Err-clause-sync
+returns-in-Err-clause-sync g c = λ devices. (
   synced_part g.D.Device.told g.D.Device.size g.D.Device.count g.D.Device.lending devices c.args.copies.now c.sync.new.self c.in-Err.ensures.table c.in-Err.ensures.images c.in-Err.ensures.cause.later c.in-Err.ensures.in_part,
   refl,
   c.in-Err.ensures.cause.rose refl,
 )
 
-pub returns-in-Err-flush : goal.returns-in-Err-flush
-returns-in-Err-flush g c = λ devices. (
+pub returns-in-Err-flush-clause-sync : goal.returns-in-Err-flush-clause-sync
+returns-in-Err-flush-clause-sync g c = λ devices. (
   synced_further g.D.Device.told g.D.Device.size g.D.Device.count g.D.Device.lending devices c.args.copies.now c.sync.new.self c.flush.new.self
       (synced_all g.D.Device.told g.D.Device.size g.D.Device.count g.D.Device.lending devices c.args.copies.now c.sync.new.self c.in-Ok.ensures.table c.in-Ok.ensures.images c.in-Ok.ensures.cause.later c.in-Ok.ensures.written)
       (quiet_area g.D.Device.told g.D.Device.size g.D.Device.count g.D.Device.lending devices c.sync.new.self c.flush.new.self c.in-Err-flush.ensures.table c.in-Err-flush.ensures.images c.in-Err-flush.ensures.told c.in-Err-flush.ensures.cause.later),
@@ -20,10 +20,11 @@ returns-in-Err-flush g c = λ devices. (
   rose_further (g.D.Device.count c.args.copies.now.area.device) (g.D.Device.count c.sync.new.self.area.device) (g.D.Device.count c.flush.new.self.area.device) c.in-Ok.ensures.cause.later (c.in-Err-flush.ensures.cause.rose refl),
 )
 
-pub returns-in-Ok-flush : goal.returns-in-Ok-flush
-returns-in-Ok-flush g c = λ devices. (
+pub returns-in-Ok-flush-clause-sync : goal.returns-in-Ok-flush-clause-sync
+returns-in-Ok-flush-clause-sync g c = λ devices. (
   synced_further g.D.Device.told g.D.Device.size g.D.Device.count g.D.Device.lending devices c.args.copies.now c.sync.new.self c.flush.new.self
       (synced_all g.D.Device.told g.D.Device.size g.D.Device.count g.D.Device.lending devices c.args.copies.now c.sync.new.self c.in-Ok.ensures.table c.in-Ok.ensures.images c.in-Ok.ensures.cause.later c.in-Ok.ensures.written)
       (quiet_area g.D.Device.told g.D.Device.size g.D.Device.count g.D.Device.lending devices c.sync.new.self c.flush.new.self c.in-Ok-flush.ensures.table c.in-Ok-flush.ensures.images c.in-Ok-flush.ensures.told c.in-Ok-flush.ensures.cause.later),
   stored_all g.D.Device.told devices c.args.copies.now c.sync.new.self c.flush.new.self c.slots-valid.ensures.valid c.in-Ok-flush.ensures.told c.in-Ok.ensures.stands,
+  record { devices = refl; area = c.in-Ok-flush.ensures.cause.same ∙ c.in-Ok.ensures.cause.same },
 )

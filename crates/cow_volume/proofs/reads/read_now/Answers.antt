@@ -1,6 +1,6 @@
-use Rattle.std.proofs.Common.{true, false}
+use Rattle.std.proofs.Common.{true, false, refl}
 use Rattle.cow_volume.proofs.DeviceCalls.{in_range_of, read_is_now}
-use Rattle.cow_volume.proofs.Kept.{quiet_called, volume_rose}
+use Rattle.cow_volume.proofs.Kept.{quiet_called, volume_rose, unfailed_called}
 use Rattle.cow_volume.proofs.reads.read_now.Goals as goal
 
 pub returns-in-Ok-clause-now : goal.returns-in-Ok-clause-now
@@ -21,3 +21,7 @@ returns-in-Err-clause-cause g c = (
 pub returns-in-Err-clause-quiet : goal.returns-in-Err-clause-quiet
 returns-in-Err-clause-quiet g c =
     quiet_called g.D.Device.told g.D.Device.size g.D.Device.count g.D.Device.lending c.args.v c.args.devices.now.items c.read_device.new.devices.items true c.args.copies.now c.in-Err.ensures.call c.in-Err.ensures.told_is
+
+pub returns-in-Ok-clause-same : goal.returns-in-Ok-clause-same
+returns-in-Ok-clause-same g c =
+    unfailed_called g.D.Device.told g.D.Device.size g.D.Device.count g.D.Device.lending c.args.v c.args.devices.now.items c.read_device.new.devices.items false c.args.copies.now c.args.copies.now c.in-Ok.ensures.call refl refl

@@ -1,8 +1,8 @@
-use Rattle.std.proofs.Common.{true, false}
+use Rattle.std.proofs.Common.{true, false, refl}
 use Rattle.cow_volume.specs.Parts.{group_of}
 use Rattle.cow_volume.proofs.Reading.{group_shown_copy}
 use Rattle.cow_volume.proofs.DeviceCalls.{if_some, is_none, read_is_shown}
-use Rattle.cow_volume.proofs.Kept.{quiet_called, volume_rose}
+use Rattle.cow_volume.proofs.Kept.{quiet_called, volume_rose, unfailed_called}
 use Rattle.cow_volume.proofs.reads.read_shown.Goals as goal
 
 pub returns-in-Ok-clause-shown : goal.returns-in-Ok-clause-shown
@@ -29,3 +29,10 @@ returns-in-Err-read_device-clause-cause g c = (
 pub returns-in-Err-read_device-clause-quiet : goal.returns-in-Err-read_device-clause-quiet
 returns-in-Err-read_device-clause-quiet g c =
     quiet_called g.D.Device.told g.D.Device.size g.D.Device.count g.D.Device.lending c.args.v c.args.devices.now.items c.read_device.new.devices.items true c.args.copies.now c.in-Err-read_device.ensures.call c.in-Err-read_device.ensures.told_is
+
+pub returns-in-Ok-clause-same : goal.returns-in-Ok-clause-same
+returns-in-Ok-clause-same g c = record { devices = refl; area = c.in-Ok.ensures.cause.same }
+
+pub returns-in-Ok-read_device-clause-same : goal.returns-in-Ok-read_device-clause-same
+returns-in-Ok-read_device-clause-same g c =
+    unfailed_called g.D.Device.told g.D.Device.size g.D.Device.count g.D.Device.lending c.args.v c.args.devices.now.items c.read_device.new.devices.items false c.args.copies.now c.args.copies.now c.in-Ok-read_device.ensures.call refl refl

@@ -19,6 +19,6 @@ returns g c =
     let long : length c.read_slot.new.out ≡ length c.args.buffer.now = omega arith in
     let held = on_ok c.read_slot.result _ c.read_slot.ensures.block read in
     put_back g.D.Device.told g.D.Device.size g.D.Device.count g.D.Device.lending c.args.devices.now.items c.write_device.new.devices.items c.args.copies.now c.read_slot.new.self c.args.v c.args.set c.args.block c.in-Some.slot c.bytes.result.now (is_err c.write_device.result)
-    c.in-Some.ensures.found c.read_slot.ensures.table c.read_slot.ensures.images c.read_slot.ensures.told c.read_slot.ensures.cause.later
+    c.in-Some.ensures.found c.read_slot.ensures.table c.read_slot.ensures.images c.read_slot.ensures.told c.read_slot.ensures.cause.later (on_ok c.read_slot.result _ c.read_slot.ensures.cause.same read)
     (subst (λ (bytes : List ℕ). IfSome (g.D.Device.told c.args.copies.now.area.device) (λ blocks. slice_get blocks (place_of_slot (length c.args.copies.now.area.records) c.in-Some.slot) ≡ Some bytes)) (sym (c.bytes.ensures.bytes ∙ filled c.read_slot.new.out c.args.buffer.now long)) held)
     c.write_device.ensures written

@@ -2,9 +2,9 @@ use Rattle.std.proofs.Common.{◌<◌, ℕ, List, length, sym, subst, arith}
 use Rattle.std.specs.Prelude.{slice_get}
 use Rattle.cow_volume.specs.Calls.{blocks_in}
 use Rattle.cow_volume.specs.Parts.{group_of}
-use Rattle.cow_volume.proofs.Kept.{sizes_kept}
+use Rattle.cow_volume.proofs.Kept.{sizes_kept, unfailed_itself, unfailed_further}
 use Rattle.cow_volume.proofs.DeviceCalls.{in_range_of}
-use Rattle.cow_volume.proofs.RestoringSteps.{restoring_start, at_most_one, restoring_one, restoring_stops}
+use Rattle.cow_volume.proofs.RestoringSteps.{restoring_start, at_most_one, restoring_one, restoring_stops, one_unfailed}
 use Rattle.cow_volume.proofs.reverts.restore_blocks.Goals as goal
 
 pub restore_block-requires-clause-volume : goal.restore_block-requires-clause-volume
@@ -23,6 +23,7 @@ restore_block-requires-clause-in_range g c = λ κs lives.
 pub loop-block-init : goal.loop-block-init
 loop-block-init g c = record {
   done = restoring_start g.D.Device.told g.D.Device.size g.D.Device.count g.D.Device.lending (group_of c.args.devices.now.items c.args.copies.now) c.args.v c.args.set c.requires.volume c.requires.newest;
+  unfailed = unfailed_itself g.D.Device.count (group_of c.args.devices.now.items c.args.copies.now);
   few = omega arith;
 }
 
@@ -36,6 +37,8 @@ loop-block-preserved g c =
     record {
       done = restoring_one g.D.Device.told g.D.Device.size g.D.Device.count g.D.Device.lending (group_of c.args.devices.now.items c.args.copies.now) (group_of c.loop-block.devices.items c.loop-block.copies) (group_of c.restore_block.new.devices.items c.restore_block.new.copies)
           c.args.v c.args.set c.loop-block.block c.loop-block.restored c.in-Ok.has_copy c.from-restored.result c.requires.volume c.requires.newest here c.requires.above_zero c.from-restored.ensures c.loop-block.invariant.done c.in-Ok.ensures;
+      unfailed = unfailed_further g.D.Device.count (group_of c.args.devices.now.items c.args.copies.now) (group_of c.loop-block.devices.items c.loop-block.copies) (group_of c.restore_block.new.devices.items c.restore_block.new.copies) c.loop-block.invariant.unfailed
+          (one_unfailed g.D.Device.told g.D.Device.size g.D.Device.count g.D.Device.lending (group_of c.loop-block.devices.items c.loop-block.copies) (group_of c.restore_block.new.devices.items c.restore_block.new.copies) c.args.v c.args.set c.loop-block.block c.in-Ok.has_copy c.in-Ok.ensures);
       few = omega arith;
     }
 

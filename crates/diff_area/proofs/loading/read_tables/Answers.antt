@@ -23,7 +23,7 @@ returns-in-Err-check_header-clause-refused g c =
     let least = c.min.ensures ∙ ap (min 1) c.blocks-blocks.ensures.size in
     let bytes = ap (λ k. BLOCK * k) c.blocks-blocks.ensures.size in
     let bad = subst (λ x. IsBadHeader size x c.in-Err-check_header.fault) c.deref.ensures.value c.in-Err-check_header.ensures.refused in
-    refused_header told n c.min.result size (d.count c.args.device.now) (d.count c.read_blocks.new.device) first c.in-Err-check_header.fault c.blocks-blocks.ensures.whole c.in-Ok.ensures.read least bytes bad
+    refused_header told n c.min.result size (d.count c.args.device.now) (d.count c.read_blocks.new.device) first c.in-Err-check_header.fault c.blocks-blocks.ensures.whole c.in-Ok.ensures.read least bytes bad c.in-Ok.ensures.same
 
 pub returns-in-Err-check_table-clause-refused : goal.returns-in-Err-check_table-clause-refused
 returns-in-Err-check_table-clause-refused g c =
@@ -39,7 +39,7 @@ returns-in-Err-check_table-clause-refused g c =
     let valid = subst (λ x. IsAccepted size x h) c.deref.ensures.value c.in-Ok-check_header.ensures.accepted in
     let read = read_told d.told c.args.device.now c.read_blocks.new.device 1 c.pages_for.result table c.in-Ok.ensures.alone.told_is c.in-Ok-read_blocks.ensures.read in
     let bad = subst (λ x. IsTableRefused h x c.in-Err-check_table.fault) c.deref-2.ensures.value c.in-Err-check_table.ensures.refused in
-    refused_table told n c.min.result size c.pages_for.result (d.count c.args.device.now) (d.count c.read_blocks-2.new.device) first table h c.in-Err-check_table.fault c.blocks-blocks.ensures.whole c.in-Ok.ensures.read least bytes valid read c.pages_for.ensures bad
+    refused_table told n c.min.result size c.pages_for.result (d.count c.args.device.now) (d.count c.read_blocks-2.new.device) first table h c.in-Err-check_table.fault c.blocks-blocks.ensures.whole c.in-Ok.ensures.read least bytes valid read c.pages_for.ensures bad (c.in-Ok-read_blocks.ensures.same ∙ c.in-Ok.ensures.same)
 
 pub of_records-requires : goal.of_records-requires
 of_records-requires g c =

@@ -17,7 +17,7 @@ loop-k-init g c =
       told_is = told-write t (told c.args.device.now) (told c.args.device.now) (told c.write_header.new.device) 0 1 header c.in_ok-write_header.ensures.written (told-none t (told c.args.device.now)) within (table-header c.args.volumes.now c.args.records.now) refl;
       size_is = c.write_header.ensures.size;
       lends = c.write_header.ensures.lending;
-      later = c.write_header.ensures.cause.later;
+      same = c.in_ok-write_header.ensures.cause.same;
       room = c.write_header.ensures.room;
     }
 
@@ -51,7 +51,7 @@ loop-k-preserved g c =
             told_is = ap told w.device-is ∙ told-write t before (told c.loop-k.device) (told w.write_page.new.device) (1 + k) (1 + (k + 1)) page w.in_ok-write_page.ensures.written inv.told_is within stands (omega arith);
             size_is = ap g.D.Device.size w.device-is ∙ w.write_page.ensures.size ∙ inv.size_is;
             lends = ap g.D.Device.lending w.device-is ∙ w.write_page.ensures.lending ∙ inv.lends;
-            later = let e = ap g.D.Device.count w.device-is in let f = w.write_page.ensures.cause.later in let i = inv.later in omega arith;
+            same = ap g.D.Device.count w.device-is ∙ w.in_ok-write_page.ensures.cause.same ∙ inv.same;
             room = let e = ap vec_capacity w.page-is in let f = w.write_page.ensures.room in omega arith;
           }
       | else-changed-k w ↦
@@ -60,7 +60,7 @@ loop-k-preserved g c =
             told_is = ap told w.device-is ∙ told-keep t before (told c.loop-k.device) (1 + k) (1 + (k + 1)) page inv.told_is (λ ds e. c.requires.written ds k e clean) stands (omega arith);
             size_is = ap g.D.Device.size w.device-is ∙ inv.size_is;
             lends = ap g.D.Device.lending w.device-is ∙ inv.lends;
-            later = let e = ap g.D.Device.count w.device-is in let i = inv.later in omega arith;
+            same = ap g.D.Device.count w.device-is ∙ inv.same;
             room = let e = ap vec_capacity w.page-is in let f = inv.room in omega arith;
           }
     ]

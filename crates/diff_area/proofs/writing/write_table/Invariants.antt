@@ -9,6 +9,6 @@ invariant-loop-k g l = record {
   told_is : g.D.Device.told l.device ≡ option_map (with_first (take (1 + l.k) (table_blocks l.volumes l.records))) (g.D.Device.told l.fn.device);
   size_is : g.D.Device.size l.device ≡ g.D.Device.size l.fn.device;
   lends : g.D.Device.lending l.device ≡ g.D.Device.lending l.fn.device;
-  later : g.D.Device.count l.fn.device ≤ g.D.Device.count l.device;
+  same : g.D.Device.count l.device ≡ g.D.Device.count l.fn.device;
   room : BLOCK ≤ vec_capacity l.page;
 }

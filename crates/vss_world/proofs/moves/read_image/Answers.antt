@@ -12,6 +12,7 @@ returns-in-Ok g c = record {
     kept = c.in-Ok.ensures.quiet.kept;
     stands = same_stands g.D.Device.told g.D.Device.size g.D.Device.count c.index_mut.result.now c.read_image.new.self c.in-Ok.ensures.quiet.kept c.in-Ok.ensures.quiet.stands;
     rose = λ h. cc;
+    unfailed = c.in-Ok.ensures.quiet.unfailed;
   };
   shows = c.in-Ok.ensures.block;
   wide = c.in-Ok.ensures.wide;
@@ -26,4 +27,5 @@ returns-in-Err g c = record {
   kept = c.in-Err.ensures.quiet.kept;
   stands = same_stands g.D.Device.told g.D.Device.size g.D.Device.count c.index_mut.result.now c.read_image.new.self c.in-Err.ensures.quiet.kept c.in-Err.ensures.quiet.stands;
   rose = c.in-Err.ensures.quiet.rose;
+  unfailed = c.in-Err.ensures.quiet.unfailed;
 }

@@ -11,6 +11,7 @@ returns-in-Ok-clause-put g c = record {
   kept = c.in-Ok.ensures.kept;
   stands = c.in-Ok.ensures.stands;
   rose = λ h. cc;
+  unfailed = λ h. c.in-Ok.ensures.unfailed;
 }
 
 pub returns-in-Failed-clause-put : goal.returns-in-Failed-clause-put
@@ -24,4 +25,5 @@ returns-in-Failed-clause-put g c =
       kept = failed.kept;
       stands = same_stands g.D.Device.told g.D.Device.size g.D.Device.count c.index_mut.result.now c.write-written.new.self failed.kept failed.stands;
       rose = λ h. failed.rose;
+      unfailed = λ h. cc;
     }

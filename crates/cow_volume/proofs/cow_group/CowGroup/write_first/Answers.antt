@@ -115,7 +115,7 @@ invariant_of-self-2 g c =
     let d = c.index_mut-device.result.now in
     let at = device_at g.D.Device.size devices copies.area.volumes c.args.v d c.self.invariant within c.index_mut-device.ensures.value in
     let copied = c.in_ok-copy_block.ensures in
-    fits_set g.D.Device.size devices copies.area.volumes c.args.v d c.put_block.new.device c.self.invariant at (c.in_ok-put_block.ensures.size_is ∙ copied.device_on.size_is) ∙ sym (ap (λ x. x.area.volumes) c.note.ensures ∙ copied.area_on.volumes)
+    fits_set g.D.Device.size devices copies.area.volumes c.args.v d c.put_block.new.device c.self.invariant at (c.in_ok-put_block.ensures.0.size_is ∙ copied.device_on.size_is) ∙ sym (ap (λ x. x.area.volumes) c.note.ensures ∙ copied.area_on.volumes)
 
 pub returns : goal.returns
 returns g c =
@@ -126,5 +126,5 @@ returns g c =
     let d = c.index_mut-device.result.now in
     let at = device_at g.D.Device.size devices copies.area.volumes c.args.v d c.self.invariant within c.index_mut-device.ensures.value in
     let lacks = rw (← c.self.view_is) at c.requires.lacks in
-    let is = put_first g.D.Device.told g.D.Device.size g.D.Device.count g.D.Device.lending devices copies c.args.v d (record { block = c.args.block; bytes = payload_bytes c.args.payload.now }) low at c.in-Some.slot c.in-Some.ensures.lowest c.slots-fits.ensures.fits c.slots-fits.ensures.whole c.copy_block.new.device c.put_block.new.device c.copy_block.new.copies c.in_ok-copy_block.ensures c.note.new.self lacks c.in_ok-put_block.ensures c.note.ensures in
+    let is = put_first g.D.Device.told g.D.Device.size g.D.Device.count g.D.Device.lending devices copies c.args.v d (record { block = c.args.block; bytes = payload_bytes c.args.payload.now }) low at c.in-Some.slot c.in-Some.ensures.lowest c.slots-fits.ensures.fits c.slots-fits.ensures.whole c.copy_block.new.device c.put_block.new.device c.copy_block.new.copies c.in_ok-copy_block.ensures c.note.new.self lacks c.in_ok-put_block.ensures.0 c.in_ok-put_block.ensures.1 c.note.ensures in
     rw (← c.self.view_is) is
