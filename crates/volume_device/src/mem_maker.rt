@@ -1,4 +1,4 @@
-ghost use Rattle.std.specs.Prelude.{◌≡◌, ◌<◌, ◌≤◌, ◌+◌, ◌-◌, ◌++◌, ◌∷◌, ◌↔◌, ◌⊎◌, [], ℕ, Bool, true, List, length, Option, Some, None, IfOk, OnOk, OnErr, IsErrOf, IsTrue, IsSome, IfSome, if◌then◌else◌, vec_capacity, replicate};
+ghost use Rattle.std.specs.Prelude.{◌≡◌, ◌<◌, ◌≤◌, ◌+◌, ◌-◌, ◌++◌, ◌∷◌, ◌↔◌, ◌⊎◌, [], ℕ, Bool, true, List, length, map, Option, Some, None, IfOk, OnOk, OnErr, IsErrOf, IsTrue, IsSome, IfSome, if◌then◌else◌, vec_capacity, replicate};
 ghost use Rattle.vss_names.specs.Faults.{counted, Rose};
 
 use crate::device::Device;
