@@ -12,8 +12,6 @@ mod block_buf;
 mod block_view;
 mod hasher;
 mod payload;
-#[cfg(test)]
-mod tests;
 
 pub use block_buf::{BLOCK, BlockBuf};
 pub use block_view::{BlockView, SECTOR, SECTORS};

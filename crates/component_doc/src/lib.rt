@@ -21,8 +21,6 @@ mod pairs;
 mod reading;
 mod selection;
 mod taken;
-#[cfg(test)]
-mod tests;
 mod written;
 
 pub use add_fault::AddFault;

@@ -25,8 +25,6 @@ mod reading;
 mod rows;
 mod table_record;
 mod tables;
-#[cfg(test)]
-mod tests;
 mod unopened;
 mod writing;
 
@@ -34,5 +32,6 @@ pub use area::Area;
 pub use area_fault::AreaFault;
 pub use area_view::AreaView;
 pub use header_field::HeaderField;
+pub use layout::{MOST_BLOCKS, MOST_SLOTS, MOST_VOLUMES, pages_for};
 pub use table_record::Record;
 pub use unopened::Unopened;

@@ -15,8 +15,6 @@ mod out_sink;
 mod reading;
 mod sink;
 mod source;
-#[cfg(test)]
-mod tests;
 mod writing;
 
 pub use in_source::InSource;

@@ -18,8 +18,6 @@ mod mem_maker;
 mod plan;
 mod planned;
 mod store;
-#[cfg(test)]
-mod tests;
 
 pub use device::Device;
 pub use file_device::FileDevice;

@@ -44,5 +44,3 @@ pub use vss_result::VssResult;
 pub use writer_error::WriterError;
 pub use writer_state::WriterState;
 
-#[cfg(test)]
-mod tests;

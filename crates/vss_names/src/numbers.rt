@@ -70,16 +70,3 @@ impl Numbers {
         self.items
     }
 }
-
-#[cfg(test)]
-mod tests {
-    use super::*;
-    use std::test::Fail;
-
-    #[test]
-    fn a_copy_has_the_items(rt: HostRuntime) -> Result<(), Fail> {
-        let numbers = Numbers::copy(rt.alloc(), &[1, 2])?;
-        assert_eq!(rt; numbers.items(), [1, 2].as_slice());
-        Ok(())
-    }
-}

@@ -106,20 +106,3 @@ impl Text {
         self.bytes
     }
 }
-
-#[cfg(test)]
-mod tests {
-    use super::*;
-    use std::test::Fail;
-
-    #[test]
-    fn a_copy_takes_room_and_grows(rt: HostRuntime) -> Result<(), Fail> {
-        let mut text = Text::copy(rt.alloc(), b"ab")?;
-        assert_eq!(rt; text.len(), 2);
-        text.reserve(10)?;
-        assert_eq!(rt; text.bytes(), b"ab".as_slice());
-        text.add(b"c")?;
-        assert_eq!(rt; text.bytes(), b"abc".as_slice());
-        Ok(())
-    }
-}

@@ -116,28 +116,3 @@ impl Trail {
         &self.moves
     }
 }
-
-#[cfg(test)]
-mod tests {
-    use super::*;
-    use crate::actor::Actor;
-    use crate::mark::Mark;
-    use std::test::Fail;
-
-    const IDLE: Move = Move {
-        actor: Actor::Idle,
-        mark: Mark::Clean,
-    };
-
-    #[test]
-    fn a_trail_keeps_its_moves(rt: HostRuntime) -> Result<(), Fail> {
-        let mut trail = Trail::new(rt.alloc());
-        assert!(rt; trail.is_empty());
-        trail.reserve()?;
-        trail.push(IDLE)?;
-        assert!(rt; trail.len() == 1);
-        assert_eq!(rt; trail.get(0), IDLE);
-        assert_eq!(rt; trail.moves().len(), 1);
-        Ok(())
-    }
-}

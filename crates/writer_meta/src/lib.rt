@@ -14,8 +14,6 @@ mod field;
 mod meta_fault;
 mod metadata;
 mod rows;
-#[cfg(test)]
-mod tests;
 mod unknown;
 mod utf8;
 mod values;

@@ -1,8 +1,8 @@
 //! Which bytes are refused, and how.
 
-use super::fixtures::{device_of, put, put_number, small_area};
-use crate::{Area, AreaFault, AreaView, HeaderField};
+use crate::small_areas::{device_of, put, put_number, small_area};
 use block_data::BLOCK;
+use diff_area::{Area, AreaFault, AreaView, HeaderField};
 use std::alloc::Global;
 use std::process::Abort;
 use std::test::Fail;

@@ -1,6 +1,6 @@
 //! The tables against the SDK's own headers, and what printing writes.
 
-use crate::{
+use vss_names::{
     ComponentType, Context, Level, Order, OutOfMemory, SourceKind, Usage, VssResult, WriterError,
     WriterState,
 };

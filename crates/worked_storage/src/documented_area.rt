@@ -1,8 +1,8 @@
 //! The area of docs/FORMATS.md.
 
-use super::fixtures::{blocks_at, bytes_of, device_of, put, record_at, zeros};
-use crate::{Area, Record};
+use crate::small_areas::{blocks_at, bytes_of, device_of, put, record_at, zeros};
 use block_data::BLOCK;
+use diff_area::{Area, Record};
 use std::test::Fail;
 
 /// The area of docs/FORMATS.md, in its rows: the place of a row's first byte, and its 16 bytes. What no row has is zero.

@@ -6,7 +6,7 @@ ghost use Rattle.writer_meta.specs.Metadata.{meta_of};
 ghost use Rattle.component_doc.specs.Held.{metas_of, all_have_few, is_named};
 ghost use Rattle.component_doc.specs.Over.{AreAllowed, IsOver};
 
-use crate::{Metas, Selection};
+use component_doc::{Metas, Selection};
 use std::alloc::Global;
 use std::test::Fail;
 use vss_names::Context;
@@ -22,7 +22,6 @@ const SQL_ALL: &str =
     r#"{"components":[{"class":"44444444-4444-4444-8444-444444444444","explicit":false,"path":"main","writer":0},{"class":"44444444-4444-4444-8444-444444444444","explicit":false,"path":"main\\log1","writer":0},{"class":"44444444-4444-4444-8444-444444444444","explicit":false,"path":"main\\log2","writer":0}],"context":9,"select":false}"#;
 
 /// Of one writer.
-#[tactic(auto, using(crate::proofs::Allowed::few_known))]
 fn known(alloc: Global, metadata: &Metadata) -> Result<Metas, Fail>
     requires { IsAllowed (meta_of metadata.now) }
     ensures allowed { IfOk result (λ metas. AreAllowed (metas_of metas)) }

@@ -1,13 +1,15 @@
+//! Devices and makers whose calls fail as planned, and files.
+
 ghost use Rattle.std.specs.Prelude.{◌≡◌, ◌<◌, ◌≤◌, ◌+◌, ◌⊎◌, length, slice_get, slice_set, option_map, Some, IfOk, IfSome, OnOk, IsErr, IsErrOf};
 ghost use Rattle.vss_names.specs.Faults.{Rose};
 
-use super::*;
 use block_data::{BLOCK, BlockBuf};
 use std::alloc::Global;
 use std::fs::File;
 use std::process::Abort;
 use std::test::Fail;
 use std::{env, fs, process};
+use volume_device::*;
 use vss_names::{Failed, Numbers, OutOfMemory, Text};
 
 /// A block that begins with this byte.

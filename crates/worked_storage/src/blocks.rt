@@ -1,4 +1,6 @@
-use super::*;
+//! Digests of blocks against outside vectors.
+
+use block_data::*;
 use std::alloc::{AllocError, Global};
 use std::test::Fail;
 

@@ -2,9 +2,8 @@
 
 ghost use Rattle.std.specs.Prelude.{◌≡◌, ◌<◌, ℕ, false, Some, length, slice_get, vec_len, IfOk};
 
-use crate::layout::{MOST_BLOCKS, MOST_SLOTS, MOST_VOLUMES, pages_for};
-use crate::{Area, AreaView, Record};
 use block_data::{BLOCK, BlockBuf, BlockView, Payload};
+use diff_area::{Area, MOST_BLOCKS, MOST_SLOTS, MOST_VOLUMES, Record, pages_for};
 use std::alloc::{AllocError, Global};
 use std::process::Abort;
 use volume_device::{Device, MemDevice};

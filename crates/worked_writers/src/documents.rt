@@ -1,9 +1,9 @@
 //! Documents that are read, refused and written.
 
-use crate::Metadata;
 use std::alloc::Global;
 use std::test::Fail;
 use vss_names::{Level, SourceKind, Usage};
+use writer_meta::Metadata;
 
 const SYSTEM: &str =
     r#"{"class":"11111111-1111-4111-8111-111111111111","components":[{"name":"main","path":"","selectable":true,"type":2}],"level":1,"name":"System","source":3,"usage":2}"#;

@@ -1,4 +1,6 @@
-use crate::{MemSink, MemSource, ReadError, Sink, Source, read_all, write_all};
+//! Streams that end, fail and are full.
+
+use io_edge::{MemSink, MemSource, ReadError, Sink, Source, read_all, write_all};
 use std::test::Fail;
 use vss_names::{Failed, Numbers};
 

@@ -1,11 +1,11 @@
 //! Slots, records and syncs, over devices that may fail.
 
-use super::fixtures::{
+use crate::small_areas::{
     blocks_at, bytes_of, clear_record, copy_in, device_of, filled, is_filled, open, read_slot,
     record_at, row, set_record, small_area,
 };
-use crate::{Area, AreaFault, AreaView};
 use block_data::{BLOCK, BlockView};
+use diff_area::{Area, AreaFault, AreaView};
 use std::fs::File;
 use std::process::Abort;
 use std::test::Fail;
