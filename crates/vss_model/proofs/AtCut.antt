@@ -58,7 +58,7 @@ none_after a =
     (after_cut (at_level Thaw FrontEnd) (waited_for a (at_level Thaw FrontEnd)) _ refl
     (after_cut (plain (Orders PostSnapshot)) (waited_for a (plain (Orders PostSnapshot))) [] refl refl))))))
 
-at_cut : (a : Agenda) → is_cut_group (open_group (left_from a (places Snapshot))) ≡ true → IsAtCut a
+pub at_cut : (a : Agenda) → is_cut_group (open_group (left_from a (places Snapshot))) ≡ true → IsAtCut a
 at_cut a h =
     let prepared = closed (plain (Orders PrepareSnapshot)) (waited_for a (plain (Orders PrepareSnapshot))) _ refl h in
     let front = closed (at_level Freeze FrontEnd) (waited_for a (at_level Freeze FrontEnd)) _ refl prepared.1 in
@@ -100,7 +100,7 @@ no_cut : (p : Place) (ws : List ℕ) → is_cut_group (Some p.group) ≡ false �
 no_cut p [] e h = absurd cc
 no_cut p (w ∷ ws) e h = true_not_false (is_cut_group (Some p.group)) h e
 
-kind_at_cut : (k : Kind) (a : Agenda) → is_cut_group (open_group (left_from a (places k))) ≡ true → k ≡ Snapshot
+pub kind_at_cut : (k : Kind) (a : Agenda) → is_cut_group (open_group (left_from a (places k))) ≡ true → k ≡ Snapshot
 kind_at_cut Gather a h = absurd (no_cut (plain (Orders Identify)) (waited_for a (plain (Orders Identify))) refl h)
 kind_at_cut Prepare a h = absurd (no_cut (plain (Orders PrepareBackup)) (waited_for a (plain (Orders PrepareBackup))) refl h)
 kind_at_cut Complete a h = absurd (no_cut (plain (Orders BackupComplete)) (waited_for a (plain (Orders BackupComplete))) refl h)

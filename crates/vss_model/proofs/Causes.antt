@@ -52,7 +52,7 @@ use Rattle.vss_model.proofs.OrderlyActs.{orderly, same_changed}
 
 -- ## courses
 
-abbrev Fails : Course → Bool
+abbrev pub Fails : Course → Bool
 Fails c = has_failed c.outcome
 
 none_posted : (before c : Course) → Fails c ≡ false → Fails (posted before c) ≡ false
@@ -106,7 +106,7 @@ none_treated (Some l) now c e h = absurd cc
 none_timed : (now : ℕ) (c : Course) → is_some (spent_of now (limits_now c)) ≡ false → Fails c ≡ false → Fails (course_timed now c) ≡ false
 none_timed now c e h = none_posted c _ (none_treated (spent_of now (limits_now c)) now c e h)
 
-none_begun : (k : Kind) (ms : List Member) (vs : List ℕ) (now : ℕ) (c : Course) → Fails c ≡ false → Fails (begun k ms vs now c) ≡ false
+pub none_begun : (k : Kind) (ms : List Member) (vs : List ℕ) (now : ℕ) (c : Course) → Fails c ≡ false → Fails (begun k ms vs now c) ≡ false
 unfolding begun
 none_begun k ms vs now c h = none_posted c _ (none_settled (record c { agenda = Some (record { kind = k; members = ms; volumes = vs; begun = now; log = [] }) }) h)
 
@@ -138,7 +138,7 @@ module _ (n : ℕ) where
   live_ended (FailedSet why) CompleteSet true (Some a) st e f h = h
   live_ended (FailedSet why) CompleteSet false a st e f h = h
 
-  live_followed : (ran : Bool) (c : Course) (st : State) → Fails c ≡ false → IsLive n st → IsLive n (followed ran c st)
+  pub live_followed : (ran : Bool) (c : Course) (st : State) → Fails c ≡ false → IsLive n st → IsLive n (followed ran c st)
   unfolding followed
   live_followed ran c st e h = live_ended st.course.outcome c.outcome ran c.agenda (record st { course = c }) refl e h
 
@@ -161,7 +161,7 @@ module _ (n : ℕ) where
   live_made (Some Release) st h = h
   live_made (Some PostCommit) st h = h
 
-  live_stepped_as : (fails : Bool) (g : Option Group) (st : State) → fails ≡ false → Fails st.course ≡ false → IsLive n st → IsLive n (stepped_as fails g st)
+  pub live_stepped_as : (fails : Bool) (g : Option Group) (st : State) → fails ≡ false → Fails st.course ≡ false → IsLive n st → IsLive n (stepped_as fails g st)
   live_stepped_as true g st e f h = absurd cc
   live_stepped_as false g st e f h = live_followed (runs st) (course_stepped true st.clock st.course) (step_made g st) (none_stepped st.clock st.course f) (live_made g st h)
 
@@ -364,7 +364,7 @@ module _ (n : ℕ) where
   live_after s st act e f h = live_after_if (enabled s st act.event) s st act e f h
 
 -- while a set is in progress, the course has not failed
-outcome_running : (q : Option Session) (o : SetOutcome) (r : SetRow) → IsOfSession q o (Some r) → has_failed o ≡ false
+pub outcome_running : (q : Option Session) (o : SetOutcome) (r : SetRow) → IsOfSession q o (Some r) → has_failed o ≡ false
 outcome_running None o r h = absurd h
 outcome_running (Some q) o r h = ap has_failed h.2
 
