@@ -30,6 +30,7 @@ pub mod FewTurns
 pub mod TrailLength
 pub mod Headline
 pub mod Ended
+pub mod Late
 pub mod Causes
 pub mod Freed
 pub mod NoWriters
