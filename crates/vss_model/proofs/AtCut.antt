@@ -184,14 +184,19 @@ and_three true true true e f g = absurd cc
 and_three true false c e f g = absurd cc
 and_three false b c e f g = absurd cc
 
+-- nothing is said of a Release before the Cut step
+pub release_not : (log : List Entry) (v : ℕ) → IsSound log → is_cut_made log ≡ false → has_said log (plain Release) v ≡ false
+release_not log v h e =
+    none_found (λ (x : Entry). same_place x.place (plain Release) && (x.who == v)) is_undoing
+    (λ x g. release_undoes x.place.group (and_first (group_code x.place.group == 12) (level_code x.place.level == 0) (and_first (same_place x.place (plain Release)) (x.who == v) g)))
+    log (undone_not log h e)
+
 held_in : (a : Agenda) (v : ℕ) → a.kind ≡ Snapshot → IsAtCut a → IsSound a.log → is_among v a.volumes ≡ true → holds (Some a) v ≡ true
 held_in a v k c h e =
     and_three (is_snapshot a.kind) (has_said a.log (plain Hold) v) (has_said a.log (plain Release) v)
     (ap is_snapshot k)
     (all_said a.log (plain Hold) a.volumes v c.hold e)
-    (none_found (λ (x : Entry). same_place x.place (plain Release) && (x.who == v)) is_undoing
-    (λ x g. release_undoes x.place.group (and_first (group_code x.place.group == 12) (level_code x.place.level == 0) (and_first (same_place x.place (plain Release)) (x.who == v) g)))
-    a.log (undone_not a.log h c.cut))
+    (release_not a.log v h c.cut)
 
 -- ## frozen
 

@@ -27,11 +27,11 @@ use Rattle.vss_model.proofs.Rule.{IsKeptButSteps, on_after_steps}
 use Rattle.vss_model.proofs.CutStep.{second_not, both, step_made_same, after_cut}
 use Rattle.vss_model.proofs.Volumes.{FewerIn, fewer_in_same, fewer_in_over, fewer_in_map, fewer_in_change, fewer_in_gone, as_many_cut, fewer_dropped, fewer_written, fewer_reverted, fewer_in_part}
 
-fewer_images_dropped : (o : Option SetRow) (ks : List History) → FewerIn ks (images_dropped o ks)
+pub fewer_images_dropped : (o : Option SetRow) (ks : List History) → FewerIn ks (images_dropped o ks)
 fewer_images_dropped None ks = fewer_in_same ks
 fewer_images_dropped (Some r) ks = fewer_in_map (dropped r.number) (fewer_dropped r.number) ks
 
-fewer_released : (c : Context) (set : Option ℕ) (ks : List History) → FewerIn ks (images_released c set ks)
+pub fewer_released : (c : Context) (set : Option ℕ) (ks : List History) → FewerIn ks (images_released c set ks)
 fewer_released Backup None ks = fewer_in_same ks
 fewer_released Backup (Some n) ks = fewer_in_map (dropped n) (fewer_dropped n) ks
 fewer_released AppRollback set ks = fewer_in_same ks

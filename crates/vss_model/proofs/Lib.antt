@@ -17,6 +17,8 @@ pub mod OneCut
 pub mod Volumes
 pub mod FewerImages
 pub mod OfSet
+pub mod HoldOpen
+pub mod RoomForImage
 pub mod Rows
 pub mod FlushFails
 pub mod Completed
