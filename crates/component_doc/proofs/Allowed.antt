@@ -4,13 +4,12 @@ use Rattle.std.proofs.lemmas.Bool.Decides.{nat_tests}
 use Rattle.std.proofs.lemmas.Option.{none-some, same_Some}
 use Rattle.std.proofs.lemmas.Str.{IsUtf8-append}
 use Rattle.std.specs.List.{list_all}
-use Rattle.writer_meta.specs.declared.metadata.Metadata.{Metadata}
 use Rattle.writer_meta.specs.declared.component.Component.{Component}
-use Rattle.writer_meta.specs.Metadata.{Part, Meta, part_of, meta_of, joined, full_name, backslash}
+use Rattle.writer_meta.specs.Metadata.{Part, Meta, part_of, joined, full_name, backslash}
 use Rattle.writer_meta.specs.Allowed.{IsAllowed, is_allowed_part}
 use Rattle.writer_meta.proofs.Laws.{and_left, and_right}
 use Rattle.writer_meta.proofs.Texts.{IsUtf8-printable, IsUtf8-part_name, IsUtf8-part_path}
-use Rattle.component_doc.specs.Held.{metas_of, has_few, all_have_few}
+use Rattle.component_doc.specs.Held.{has_few, all_have_few}
 use Rattle.component_doc.specs.Over.{AreAllowed}
 
 both : (a b : Bool) → a ≡ true → b ≡ true → (a && b) ≡ true
@@ -25,18 +24,7 @@ few-from_allowed [] all = refl
 few-from_allowed (None ∷ ms) all = few-from_allowed ms all
 few-from_allowed (Some m ∷ ms) all = both (has_few (Some m)) _ (few-of m all.0.few) (few-from_allowed ms all.1)
 
-same-known : (x known : Option Metadata) (m : Metadata) → Some x ≡ Some known → known ≡ Some m → x ≡ Some m
-same-known x known m at is = cc
-
--- one of them, by its place
-pub allowed-at : (ms : List (Option Metadata)) (w : ℕ) (known : Option Metadata) (m : Metadata) → slice_get ms w ≡ Some known → known ≡ Some m → AreAllowed (metas_of ms) → IsAllowed (meta_of m)
-allowed-at [] w known m at is all = absurd (none-some known at)
-allowed-at (None ∷ ms) zero known m at is all = absurd (none-some m (same-known None known m at is))
-allowed-at (Some x ∷ ms) zero known m at is all = subst (λ (y : Metadata). IsAllowed (meta_of y)) (same_Some x m (same-known (Some x) known m at is)) all.0
-allowed-at (None ∷ ms) (suc w) known m at is all = allowed-at ms w known m at is all
-allowed-at (Some x ∷ ms) (suc w) known m at is all = allowed-at ms w known m at is all.1
-
--- and of its components
+-- the components of one writer
 pub part-at : (components : List Component) (i : ℕ) (c : Component) → slice_get components i ≡ Some c → list_all is_allowed_part (map part_of components) ≡ true → is_allowed_part (part_of c) ≡ true
 part-at [] i c at all = absurd (none-some c at)
 part-at (x ∷ components) zero c at all = subst (λ (y : Component). is_allowed_part (part_of y) ≡ true) (same_Some x c at) (and_left _ _ all)

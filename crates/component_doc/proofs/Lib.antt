@@ -1,7 +1,7 @@
 pub mod Added
 pub mod Allowed
 pub mod Alone
-pub mod Few
+pub mod Known
 pub mod Longer
 pub mod Named
 pub mod Numbers

@@ -1,10 +1,10 @@
 -- Pairs in order of writers and then of components.
-use Rattle.std.proofs.Common.{◌≡◌, List, [], ◌∷◌, Bool, true, false, true≢false, ◌&&◌, ◌||◌, if◌then◌else◌, arith, refl}
+use Rattle.std.proofs.Common.{◌≡◌, ◌∙◌, ℕ, zero, suc, ◌+◌, ◌<◌, length, drop, sym, ap, List, [], ◌∷◌, Bool, true, false, true≢false, ◌&&◌, ◌||◌, if◌then◌else◌, arith, refl}
 use Rattle.std.proofs.lemmas.Bool.Decides.{nat_tests}
 use Rattle.std.specs.List.{list_all}
 use Rattle.writer_meta.proofs.Laws.{and_left, and_right}
 use Rattle.component_doc.specs.Selection.{Pair, comes_before, is_pair, has_pair, with_pair}
-use Rattle.component_doc.specs.Over.{is_ascending}
+use Rattle.component_doc.specs.Over.{is_ascending, is_before_next}
 
 pub both : (a b : Bool) → a ≡ true → b ≡ true → (a && b) ≡ true
 both a b x y = rw (x, y) refl
@@ -50,3 +50,39 @@ ascending-with_pair q (p ∷ ps) new up =
     ascending-if (comes_before q p) (q ∷ p ∷ ps) (p ∷ with_pair q ps)
     (λ before. both _ _ (both (comes_before q p) _ before (behind-all q p ps before behind)) up)
     (λ not_before. both _ _ (all-with_pair (comes_before p) q ps (total p q not_before other.0) behind) (ascending-with_pair q ps other.1 rest))
+
+-- ## neighbours
+
+pub drop-further : {X : Type 0} (i : ℕ) (x : X) (xs : List X) → drop (suc i + 1) (x ∷ xs) ≡ drop (i + 1) xs
+drop-further i x xs = let e : suc i + 1 ≡ suc (i + 1) = omega arith in ap (λ k. drop k (x ∷ xs)) e
+
+and-none : (b : Bool) → (b && false) ≡ false
+and-none true = refl
+and-none false = refl
+
+-- a list whose first pair comes before the second is as ascending as the rest
+pub ascending-next : (p : Pair) (ps : List Pair) → is_before_next (p ∷ ps) ≡ true → is_ascending (p ∷ ps) ≡ is_ascending ps
+ascending-next p [] next = refl
+ascending-next p (q ∷ ps) next = when (is_ascending (q ∷ ps)) refl
+  where
+    when : (b : Bool) → is_ascending (q ∷ ps) ≡ b → is_ascending (p ∷ q ∷ ps) ≡ is_ascending (q ∷ ps)
+    when true up = both (comes_before p q && list_all (comes_before p) ps) _ (both (comes_before p q) _ next (behind-all p q ps next (and_left _ _ up))) up ∙ sym up
+    when false up = ap (λ b. (comes_before p q && list_all (comes_before p) ps) && b) up ∙ and-none (comes_before p q && list_all (comes_before p) ps) ∙ sym up
+
+pub not-ascending : (ps : List Pair) → is_before_next ps ≡ false → is_ascending ps ≡ false
+not-ascending [] e = absurd (true≢false e)
+not-ascending (p ∷ []) e = absurd (true≢false e)
+not-ascending (p ∷ q ∷ ps) e = rw e refl
+
+-- one pair further
+pub ascending-on : (ps : List Pair) (i : ℕ) → i < length ps → is_before_next (drop i ps) ≡ true → is_ascending (drop i ps) ≡ is_ascending (drop (i + 1) ps)
+ascending-on [] i l next = absurd (omega arith)
+ascending-on (p ∷ ps) zero l next = ascending-next p ps next
+ascending-on (p ∷ ps) (suc i) l next = ascending-on ps i (omega arith) next ∙ ap is_ascending (sym (drop-further i p ps))
+
+-- the last pair has no next one
+pub last-before : (ps : List Pair) (i : ℕ) → i + 1 ≡ length ps → is_before_next (drop i ps) ≡ true
+last-before [] i e = absurd (omega arith)
+last-before (p ∷ []) zero e = refl
+last-before (p ∷ q ∷ ps) zero e = absurd (omega arith)
+last-before (p ∷ ps) (suc i) e = last-before ps i (omega arith)

@@ -1,8 +1,11 @@
 -- The writers that take part, one writer more.
-use Rattle.std.proofs.Common.{◌≡◌, ℕ, ◌+◌, List, [], ◌∷◌, ◌++◌, map, filter, cond, append-nil, refl, sym, ap, arith, ◌∙◌, true, false}
+use Rattle.std.proofs.Common.{◌≡◌, ℕ, zero, suc, ◌+◌, ◌≤◌, ◌<◌, ◌==◌, ◌&&◌, ◌||◌, Bool, nat_lt, List, [], ◌∷◌, ◌++◌, map, filter, cond, append-nil, refl, sym, ap, arith, ◌∙◌, true, false}
+use Rattle.std.proofs.lemmas.Bool.{eqb-true}
+use Rattle.std.proofs.lemmas.Bool.Decides.{nat_tests}
+use Rattle.std.proofs.lemmas.Map.Views.{any-filter_same}
 use Rattle.std.proofs.lemmas.List.FromFn.{filter_of_map_range_with_len_more}
-use Rattle.std.specs.List.{range_with_len}
-use Rattle.component_doc.specs.Selection.{Selected, is_taker}
+use Rattle.std.specs.List.{list_any, range_with_len}
+use Rattle.component_doc.specs.Selection.{Selected, is_taker, takers}
 
 map-same : (xs : List ℕ) → map (λ x. x) xs ≡ xs
 map-same [] = refl
@@ -22,3 +25,29 @@ pub passed : (s : Selected) (n : ℕ) (writers : List ℕ) → is_taker s n ≡ 
     → writers ≡ filter (is_taker s) (range_with_len 0 (n + 1))
 passed s n writers takes so_far =
     so_far ∙ sym (more s n ∙ ap (λ b. filter (is_taker s) (range_with_len 0 n) ++ cond b (n ∷ []) []) takes ∙ append-nil (filter (is_taker s) (range_with_len 0 n)))
+
+-- ## one writer
+
+range-step : (a n w : ℕ) (b : Bool) → (a == w) ≡ b → a ≤ w → (a + 1 ≤ w → list_any (λ x. x == w) (range_with_len (a + 1) n) ≡ nat_lt w (a + 1 + n))
+    → (b || list_any (λ x. x == w) (range_with_len (a + 1) n)) ≡ nat_lt w (a + suc n)
+range-step a n w true e l more = grind (arith, nat_tests)
+range-step a n w false e l more = let next : a + 1 ≤ w = grind (arith, nat_tests) in more next ∙ ap (nat_lt w) (omega arith)
+
+-- a number is in a range below whose end it is
+any-range : (a n w : ℕ) → a ≤ w → list_any (λ x. x == w) (range_with_len a n) ≡ nat_lt w (a + n)
+any-range a zero w l = grind (arith, nat_tests)
+any-range a (suc n) w l = range-step a n w (a == w) refl l (any-range (a + 1) n w)
+
+swapped : (b c : Bool) → (b && c) ≡ (c && b)
+swapped true true = refl
+swapped true false = refl
+swapped false true = refl
+swapped false false = refl
+
+-- a writer takes part that is one of them, and is taken
+pub takes-is : (n : ℕ) (s : Selected) (w : ℕ) → (nat_lt w n && is_taker s w) ≡ list_any (λ x. x == w) (takers n s)
+takes-is n s w =
+    let from_zero : 0 + n ≡ n = omega arith in
+    sym (any-filter_same (λ x. x == w) (is_taker s) (is_taker s w) (λ k e. ap (is_taker s) (eqb-true k w e)) (range_with_len 0 n)
+    ∙ ap (λ b. is_taker s w && b) (any-range 0 n w (omega arith) ∙ ap (nat_lt w) from_zero)
+    ∙ swapped (is_taker s w) (nat_lt w n))

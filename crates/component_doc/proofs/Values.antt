@@ -1,7 +1,6 @@
 -- The values that are written of choices.
 use Rattle.std.proofs.Common.{◌≡◌, ℕ, zero, suc, ◌+◌, ◌<◌, ◌≤◌, List, [], ◌∷◌, ◌++◌, length, get_or, drop, map, Option, Some, None, option_map, slice_get, sym, ap, ◌∙◌}
 use Rattle.std.proofs.lemmas.List.{drop_more, drop_all}
-use Rattle.std.proofs.lemmas.Option.{none-some, same_Some}
 use Rattle.serde_json.specs.View.{view, items_view}
 use Rattle.serde_json.specs.declared.value.Value.{Value}
 use Rattle.writer_meta.specs.declared.component.Component.{Component}
@@ -9,23 +8,15 @@ use Rattle.writer_meta.specs.declared.metadata.Metadata.{Metadata}
 use Rattle.writer_meta.specs.Metadata.{Meta, part_of, meta_of, full_name}
 use Rattle.writer_meta.proofs.Written.{with_items, with_items-one_more, with_items-none}
 use Rattle.component_doc.specs.declared.choice.Choice.{Choice}
-use Rattle.component_doc.specs.Held.{metas_of}
 use Rattle.component_doc.specs.Over.{meta_at}
+use Rattle.component_doc.proofs.Known.{map-at}
 use Rattle.component_doc.specs.Document.{component_data, choice_data, with_item, choices_data}
 
-map-at : {A B : Type 0} (f : A → B) (xs : List A) (i : ℕ) (x : A) → slice_get xs i ≡ Some x → slice_get (map f xs) i ≡ Some (f x)
-map-at f [] i x e = absurd (none-some x e)
-map-at f (y ∷ xs) zero x e = ap (λ z. Some (f z)) (same_Some y x e)
-map-at f (y ∷ xs) (suc i) x e = map-at f xs i x e
-
 -- a choice whose writer is known and has the component
-pub choice-found : (ms : List (Option Metadata)) (c : Choice) (known : Option Metadata) (m : Metadata) (component : Component) → slice_get ms c.writer ≡ Some known → known ≡ Some m
-    → slice_get m.components c.component ≡ Some component
-    → Some (component_data m.class c.explicit (full_name (part_of component)) c.writer) ≡ choice_data c (meta_at (slice_get (metas_of ms) c.writer))
-choice-found ms c known m component at is found =
-    let here : slice_get (metas_of ms) c.writer ≡ Some (Some (meta_of m)) = map-at (option_map meta_of) ms c.writer known at ∙ ap (λ o. Some (option_map meta_of o)) is in
-    sym (ap (λ o. choice_data c (meta_at o)) here
-    ∙ ap (option_map (λ p. component_data m.class c.explicit (full_name p) c.writer)) (map-at part_of m.components c.component component found))
+pub choice-found : (o : Option Meta) (c : Choice) (m : Metadata) (component : Component) → Some (meta_of m) ≡ o → slice_get m.components c.component ≡ Some component
+    → Some (component_data m.class c.explicit (full_name (part_of component)) c.writer) ≡ choice_data c o
+choice-found o c m component known found =
+    sym (ap (option_map (λ p. component_data m.class c.explicit (full_name p) c.writer)) (map-at part_of m.components c.component component found)) ∙ ap (choice_data c) known
 
 -- ## in a row
 

@@ -4,3 +4,4 @@ pub mod Over
 pub mod Document
 pub mod Reading
 pub mod Refusal
+pub mod Printed

@@ -34,6 +34,12 @@ abbrev pub is_ascending : List Pair → Bool
 is_ascending [] = true
 is_ascending (p ∷ ps) = list_all (comes_before p) ps && is_ascending ps
 
+-- the first pair comes before the second, if there are two
+abbrev pub is_before_next : List Pair → Bool
+is_before_next [] = true
+is_before_next (p ∷ []) = true
+is_before_next (p ∷ q ∷ ps) = comes_before p q
+
 -- each named pair is a selectable component, in order of writers and then of components; or the writers are those
 -- that are known
 abbrev pub IsSelectedOver : List (Option Meta) → Selected → Type 0

@@ -1,3 +1,6 @@
+ghost use Rattle.std.specs.Prelude.{Some};
+ghost use Rattle.component_doc.specs.Printed.{printed};
+
 use std::error::Error;
 use std::fmt;
 use vss_names::OutOfMemory;
@@ -15,6 +18,8 @@ pub enum AddFault {
 }
 
 impl fmt::Display for AddFault {
+    ghost output = { λ fault. Some (printed fault) };
+
     fn fmt<W: fmt::Write>(&self, f: &mut fmt::Formatter<W>) -> fmt::Result {
         f.write_str(match self {
             AddFault::NotFound => "no such component",

@@ -18,12 +18,12 @@ pub(crate) fn choose_of_writer(
     alloc: Global,
     taken: &Taken,
     writer: u32,
-    known: &Option<Metadata>,
+    known: Option<&Metadata>,
     choices: &mut Vec<Choice>,
 ) -> Result<(), OutOfMemory>
-    requires { IsTrue (has_few (option_map meta_of known.now)) }
+    requires { IsTrue (has_few (option_map (λ m. meta_of m.now) known)) }
     ensures { OnOk result (choices.new.items
-        ≡ choices.old.items ++ choices_of (selected_of taken.now) writer (option_map meta_of known.now)) }
+        ≡ choices.old.items ++ choices_of (selected_of taken.now) writer (option_map (λ m. meta_of m.now) known.entry)) }
 {
     let Some(metadata) = known else {
         return Ok(());

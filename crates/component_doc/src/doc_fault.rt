@@ -1,3 +1,6 @@
+ghost use Rattle.std.specs.Prelude.{Some};
+ghost use Rattle.component_doc.specs.Printed.{printed_of_text};
+
 use std::error::Error;
 use std::fmt;
 use vss_names::OutOfMemory;
@@ -13,6 +16,8 @@ pub enum DocFault {
 }
 
 impl fmt::Display for DocFault {
+    ghost output = { λ fault. Some (printed_of_text fault) };
+
     fn fmt<W: fmt::Write>(&self, f: &mut fmt::Formatter<W>) -> fmt::Result {
         f.write_str(match self {
             DocFault::NotJson => "no JSON",

@@ -9,6 +9,7 @@
 
 mod add_fault;
 mod ancestors;
+mod both;
 mod choice;
 mod choices;
 mod chosen;

@@ -1,41 +1,57 @@
-ghost use Rattle.std.specs.Prelude.{◌≡◌, ◌<◌, ◌≤◌, ◌^◌, List, Option, map, length, IfOk};
+ghost use Rattle.std.specs.Prelude.{◌≡◌, ◌<◌, ◌≤◌, ◌^◌, ◌++◌, ◌∷◌, [], List, Option, if◌then◌else◌, map, length, option_map, slice_get, IfOk, OnOk};
 ghost use Rattle.writer_meta.specs.declared.metadata.Metadata.{Metadata};
+ghost use Rattle.writer_meta.specs.Metadata.{part_of};
+ghost use Rattle.component_doc.specs.Over.{is_selectable};
 
 use crate::found::Found;
+use crate::pair::Pair;
 use std::alloc::Global;
 use std::marker::Model;
 use vss_names::OutOfMemory;
 use writer_meta::{Component, Metadata};
 
-/// The metadata of each writer, in order of registration, and none where they are not known. Contracts see a list.
+/// The metadata of each writer, in order of registration, and none where they are not known. They are borrowed, and
+/// stand where they were read. Contracts see a list.
 #[derive(Debug, Drop)]
-pub struct Metas {
-    items: Vec<Option<Metadata>>,
+pub struct Metas<'a> {
+    items: Vec<Option<&'a Metadata>>,
 }
 
-impl Model for Metas {
+impl<'a> Model for Metas<'a> {
     ghost Value = { List (Option Metadata) };
 
-    ghost view = { λ m. m.items.items };
+    ghost view = { λ m. map (option_map (λ known. known.now)) m.items.items };
 }
 
-impl Metas {
-    ghost use Rattle.std.specs.Prelude.{IsTrue, slice_get};
-    ghost use Rattle.writer_meta.specs.Metadata.{part_of};
+impl<'a> Metas<'a> {
+    ghost use Rattle.std.specs.Prelude.{IsTrue};
+    ghost use Rattle.writer_meta.specs.Metadata.{meta_of};
     ghost use Rattle.component_doc.specs.Held.{metas_of, all_have_few};
+    ghost use Rattle.component_doc.specs.Over.{meta_at, names_selectable};
     ghost use Rattle.component_doc.specs.Selection.{found_in, found_of, known_from};
 
     /// These metadata, without taking memory.
-    pub fn of(items: Vec<Option<Metadata>>) -> Metas
-        ensures { result ≡ items.items }
+    pub fn of(items: Vec<Option<&'a Metadata>>) -> Metas<'a>
+        ensures { result ≡ map (option_map (λ known. known.now)) items.entry.items }
     {
         Metas { items }
     }
 
-    pub fn items(&self) -> &[Option<Metadata>]
-        ensures { result.now ≡ self.now }
+    /// How many writers there are.
+    pub fn len(&self) -> usize
+        ensures { result ≡ length self.now }
     {
-        &self.items
+        self.items.len()
+    }
+
+    /// The metadata of a writer; none where they are not known, or there is no such writer.
+    pub fn of_writer(&self, writer: u32) -> Option<&'a Metadata>
+        ensures { option_map (λ known. meta_of known.now) result ≡ meta_at (slice_get (metas_of self.now) writer) }
+    {
+        match self.items.get(writer as usize) {
+            None => None,
+            Some(known) => *known,
+        }
     }
 
     /// The writers whose metadata are known, in order.
@@ -44,12 +60,20 @@ impl Metas {
         ensures { IfOk result (λ writers. writers.items ≡ known_from 0 (metas_of self.now)) }
     {
         let mut writers = Vec::new(alloc);
-        for (i, known) in self.items.iter().enumerate() {
-            if known.is_some() {
-                writers.push(i as u32)?;
-            }
+        for writer in 0..self.len() as u32 {
+            push_if(&mut writers, self.of_writer(writer).is_some(), writer)?;
         }
         Ok(writers)
+    }
+
+    /// Whether the pair names a selectable component of a writer whose metadata are known.
+    pub(crate) fn names_selectable(&self, pair: Pair) -> bool
+        ensures { result ≡ names_selectable (metas_of self.now) pair }
+    {
+        match self.of_writer(pair.writer) {
+            None => false,
+            Some(metadata) => is_selectable(metadata.components.items(), pair.component),
+        }
     }
 
     /// The component of a writer that has this full name.
@@ -63,13 +87,10 @@ impl Metas {
         ensures { IfOk result
             (λ found. found ≡ found_of name.now (slice_get (metas_of self.now) writer)) }
     {
-        let Some(known) = self.items.get(writer as usize) else {
-            return Ok(None);
-        };
-        let Some(metadata) = known else {
-            return Ok(None);
-        };
-        Metas::find_in(alloc, metadata.components.items(), name)
+        match self.of_writer(writer) {
+            None => Ok(None),
+            Some(metadata) => Metas::find_in(alloc, metadata.components.items(), name),
+        }
     }
 
     fn find_in(
@@ -91,5 +112,24 @@ impl Metas {
             }
         }
         Ok(None)
+    }
+}
+
+fn push_if(writers: &mut Vec<u32>, really: bool, writer: u32) -> Result<(), OutOfMemory>
+    ensures { OnOk result (writers.new.items ≡ writers.old.items ++ (if really then writer ∷ [] else [])) }
+{
+    if really {
+        writers.push(writer)?;
+    }
+    Ok(())
+}
+
+/// Whether there is such a component, and it may be selected by itself.
+fn is_selectable(components: &[Component], component: u32) -> bool
+    ensures { result ≡ is_selectable (slice_get (map part_of components.now) component) }
+{
+    match components.get(component as usize) {
+        None => false,
+        Some(component) => component.selectable,
     }
 }

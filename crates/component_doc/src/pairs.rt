@@ -1,7 +1,12 @@
 //! Pairs in order of writers and then of components.
-ghost use Rattle.std.specs.Prelude.{◌≡◌, ◌≤◌, ◌++◌, ◌∷◌, take, drop, length, OnOk, OnErr};
+ghost use Rattle.std.specs.Prelude.{◌≡◌, ◌&&◌, ◌<◌, ◌≤◌, ◌++◌, ◌∷◌, take, drop, length, OnOk, OnErr};
+ghost use Rattle.std.specs.List.{list_all};
+ghost use Rattle.component_doc.specs.Held.{metas_of};
+ghost use Rattle.component_doc.specs.Over.{is_ascending, is_before_next, names_selectable};
 ghost use Rattle.component_doc.specs.Selection.{Named, has_pair, is_taker, with_pair};
 
+use crate::both::are_both;
+use crate::metas::Metas;
 use crate::pair::Pair;
 use vss_names::OutOfMemory;
 
@@ -17,6 +22,43 @@ pub(crate) fn has_writer(pairs: &[Pair], writer: u32) -> bool
     ensures { result ≡ is_taker (Named pairs.now) writer }
 {
     pairs.iter().any(|p| p.writer == writer)
+}
+
+/// Whether each of the pairs names a selectable component, in order of writers and then of components.
+pub(crate) fn are_over(pairs: &[Pair], metas: &Metas) -> bool
+    ensures { result ≡ (list_all (names_selectable (metas_of metas.now)) pairs.now && is_ascending pairs.now) }
+{
+    are_both(are_selectable(pairs, metas), are_ascending(pairs))
+}
+
+/// Whether each of the pairs names a selectable component.
+fn are_selectable(pairs: &[Pair], metas: &Metas) -> bool
+    ensures { result ≡ list_all (names_selectable (metas_of metas.now)) pairs.now }
+{
+    pairs.iter().all(|pair| metas.names_selectable(*pair))
+}
+
+/// Whether each of the pairs comes before those behind it.
+fn are_ascending(pairs: &[Pair]) -> bool
+    ensures { result ≡ is_ascending pairs.now }
+{
+    for (i, _pair) in pairs.iter().enumerate() {
+        if !is_before_next(pairs, i) {
+            return false;
+        }
+    }
+    true
+}
+
+/// Whether the pair at this place comes before the next one, if there is a next one.
+fn is_before_next(pairs: &[Pair], i: usize) -> bool
+    requires { i < length pairs.now }
+    ensures { result ≡ is_before_next (drop i pairs.now) }
+{
+    if i + 1 == pairs.len() {
+        return true;
+    }
+    pairs[i].comes_before(pairs[i + 1])
 }
 
 /// The place of a pair in the order of writers and then of components.

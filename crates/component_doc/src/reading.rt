@@ -68,7 +68,7 @@ fn named_of(alloc: Global, metas: &Metas, components: &[Value]) -> Result<Select
     ensures refused { IfErr result
         (λ fault. Lacks fault (named_by_all (metas_of metas.now) [] (items_view components.now))) }
 {
-    let mut selection = Selection::new(alloc, metas.items().len() as u32)?;
+    let mut selection = Selection::new(alloc, metas.len() as u32)?;
     for component in components {
         name_component(alloc, metas, component, &mut selection)?;
     }

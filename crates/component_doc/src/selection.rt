@@ -1,4 +1,5 @@
-ghost use Rattle.std.specs.Prelude.{◌≡◌, ◌<◌, ◌^◌, [], Ok, length, IfOk, IfErr, OnOk, OnErr, IsTrue};
+ghost use Rattle.std.specs.Prelude.{◌≡◌, ◌↔◌, ◌==◌, ◌<◌, ◌^◌, [], Ok, length, IfOk, IfErr, OnOk, OnErr, IsTrue};
+ghost use Rattle.std.specs.List.{list_any};
 ghost use Rattle.std.specs.Str.{bytes_eq};
 ghost use Rattle.serde_json.specs.View.{view};
 ghost use Rattle.writer_meta.specs.Document.{value_of_text};
@@ -6,6 +7,7 @@ ghost use Rattle.component_doc.specs.Held.{Held, metas_of, selected_of};
 ghost use Rattle.component_doc.specs.Refusal.{TellsOfText, IsNoValue};
 
 use crate::add_fault::AddFault;
+use crate::both::are_both;
 use crate::choices::Choices;
 use crate::chosen::choose_of_writer;
 use crate::doc_fault::DocFault;
@@ -58,7 +60,7 @@ impl Selection {
             ≡ record { writers = length metas.now; selected = all_of (metas_of metas.now) }) }
     {
         Ok(Selection {
-            writers: metas.items().len() as u32,
+            writers: metas.len() as u32,
             taken: Taken::AllOf(metas.known(alloc)?),
         })
     }
@@ -102,6 +104,36 @@ impl Selection {
         Ok(())
     }
 
+    /// Over how many writers it is.
+    pub fn writers(&self) -> u32
+        ensures { result ≡ self.now.writers }
+    {
+        self.writers
+    }
+
+    /// Whether components are named one by one, as `add` asks.
+    pub fn is_named(&self) -> bool
+        ensures { result ≡ is_named self.now.selected }
+    {
+        self.taken.is_named()
+    }
+
+    /// Whether it is a selection over these metadata, as `to_json` asks.
+    pub fn is_over(&self, alloc: Global, metas: &Metas) -> Result<bool, OutOfMemory>
+        requires { length metas.now < 2 ^ 32 }
+        ensures { IfOk result (λ is_over. IsTrue is_over ↔ IsOver (metas_of metas.now) self.now) }
+    {
+        let is_over = self.taken.is_over(alloc, metas)?;
+        Ok(are_both(self.writers as usize == metas.len(), is_over))
+    }
+
+    /// Whether the writer takes part.
+    pub fn takes(&self, writer: u32) -> bool
+        ensures { result ≡ list_any (λ w. w == writer) (takers self.now.writers self.now.selected) }
+    {
+        are_both(writer < self.writers, self.taken.takes(writer))
+    }
+
     /// The writers that take part, in order.
     pub fn participants(&self, alloc: Global) -> Result<Numbers, OutOfMemory>
         ensures { IfOk result (λ writers. writers ≡ takers self.now.writers self.now.selected) }
@@ -116,20 +148,18 @@ impl Selection {
     }
 
     /// The components that the backup takes, of all writers.
-    #[tactic(auto, using(crate::proofs::Few::few_item))]
     pub fn chosen(&self, alloc: Global, metas: &Metas) -> Result<Choices, OutOfMemory>
         requires few { IsTrue (all_have_few (metas_of metas.now)) }
         requires writers { length metas.now ≡ self.now.writers }
         ensures { IfOk result (λ choices. choices ≡ chosen self.now.selected (metas_of metas.now)) }
     {
         let mut choices = Vec::new(alloc);
-        let known = metas.items();
         for writer in 0..self.writers {
             choose_of_writer(
                 alloc,
                 &self.taken,
                 writer,
-                &known[writer as usize],
+                metas.of_writer(writer),
                 &mut choices,
             )?;
         }
@@ -152,7 +182,7 @@ impl Selection {
             (λ text. IsDocumentOf (metas_of metas.now) text.bytes context self.now) }
     {
         let choices = self.chosen(alloc, metas)?;
-        let values = written::values_of(alloc, metas.items(), choices.items())?;
+        let values = written::values_of(alloc, metas, choices.items())?;
         let value = written::document_of(alloc, values, context, self.taken.is_named())?;
         let text = value.to_vec(alloc)?;
         Ok(Text::of(text))

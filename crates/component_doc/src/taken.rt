@@ -1,10 +1,14 @@
-ghost use Rattle.std.specs.Prelude.{◌≡◌, ◌==◌};
+ghost use Rattle.std.specs.Prelude.{◌≡◌, ◌↔◌, ◌==◌, ◌<◌, ◌^◌, length, IfOk, IsTrue};
 ghost use Rattle.std.specs.List.{list_any};
-ghost use Rattle.component_doc.specs.Held.{selected_of, is_named};
+ghost use Rattle.component_doc.specs.Held.{metas_of, selected_of, is_named};
+ghost use Rattle.component_doc.specs.Over.{IsSelectedOver};
 ghost use Rattle.component_doc.specs.Selection.{is_taker};
 
+use crate::metas::Metas;
 use crate::pair::Pair;
 use crate::pairs;
+use std::alloc::Global;
+use vss_names::OutOfMemory;
 
 /// What a selection takes.
 #[derive(Debug, Drop)]
@@ -26,6 +30,20 @@ impl Taken {
         }
     }
 
+    /// Whether it is so over these metadata.
+    pub(crate) fn is_over(&self, alloc: Global, metas: &Metas) -> Result<bool, OutOfMemory>
+        requires { length metas.now < 2 ^ 32 }
+        ensures { IfOk result (λ is_over. IsTrue is_over ↔ IsSelectedOver (metas_of metas.now) (selected_of self.now)) }
+    {
+        match self {
+            Taken::Named(named) => Ok(pairs::are_over(named, metas)),
+            Taken::AllOf(writers) => {
+                let known = metas.known(alloc)?;
+                Ok(are_same(writers, &known))
+            }
+        }
+    }
+
     /// Whether a writer takes part.
     pub(crate) fn takes(&self, writer: u32) -> bool
         ensures { result ≡ is_taker (selected_of self.now) writer }
@@ -35,6 +53,12 @@ impl Taken {
             Taken::AllOf(writers) => has(writers, writer),
         }
     }
+}
+
+fn are_same(writers: &[u32], others: &[u32]) -> bool
+    ensures { IsTrue result ↔ (writers.now ≡ others.now) }
+{
+    writers == others
 }
 
 fn has(writers: &[u32], writer: u32) -> bool

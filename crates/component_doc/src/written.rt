@@ -9,12 +9,13 @@ ghost use Rattle.component_doc.specs.Over.{AreAllowed, meta_at};
 ghost use Rattle.component_doc.specs.Document as document;
 
 use crate::choice::Choice;
+use crate::metas::Metas;
 use serde_json::{Map, Value, json, put};
 use std::alloc::Global;
 use std::str;
 use uuid::Uuid;
 use vss_names::{Context, OutOfMemory, Text};
-use writer_meta::{Component, Metadata};
+use writer_meta::Component;
 
 /// The document of these components, in a mode in which components are named one by one or in which all are selected.
 #[tactic(auto, unfolding(crate::specs::Document::document_of))]
@@ -45,7 +46,7 @@ pub(crate) fn document_of(
 /// The values of the choices whose writer is known and has such a component.
 pub(crate) fn values_of(
     alloc: Global,
-    metas: &[Option<Metadata>],
+    metas: &Metas,
     choices: &[Choice],
 ) -> Result<Vec<Value>, OutOfMemory>
     requires { AreAllowed (metas_of metas.now) }
@@ -61,19 +62,12 @@ pub(crate) fn values_of(
     Ok(values)
 }
 
-fn value_of(
-    alloc: Global,
-    metas: &[Option<Metadata>],
-    choice: Choice,
-) -> Result<Option<Value>, OutOfMemory>
+fn value_of(alloc: Global, metas: &Metas, choice: Choice) -> Result<Option<Value>, OutOfMemory>
     requires { AreAllowed (metas_of metas.now) }
     ensures { IfOk result (λ found. option_map view found
         ≡ document.choice_data choice (meta_at (slice_get (metas_of metas.now) choice.writer))) }
 {
-    let Some(known) = metas.get(choice.writer as usize) else {
-        return Ok(None);
-    };
-    let Some(metadata) = known else {
+    let Some(metadata) = metas.of_writer(choice.writer) else {
         return Ok(None);
     };
     let Some(component) = metadata.components.items().get(choice.component as usize) else {

@@ -1,7 +1,9 @@
 -- An agenda that begins, in what is kept of the course and in the course.
 use Rattle.std.proofs.Common.{◌≡◌, ℕ, ◌+◌, ◌<◌, ◌≤◌, List, [], ◌∷◌, ◌++◌, length, Option, Some, None, refl, Bool, true, false, ap, sym, ◌∙◌, subst, arith, filter, map}
-use Rattle.std.specs.Prelude.{◌&&◌, not, nat_lt, is_some, option_map, slice_get}
+use Rattle.std.specs.Prelude.{◌&&◌, ◌==◌, not, nat_lt, is_some, option_map, slice_get}
+use Rattle.std.proofs.lemmas.Bool.{eqb-true}
 use Rattle.std.proofs.lemmas.Bool.Decides.{nat_tests}
+use Rattle.std.proofs.lemmas.Map.Views.{any-filter_same}
 use Rattle.writer_calls.specs.declared.mailbox.Mailbox.{Mailbox}
 use Rattle.writer_state.specs.declared.writer_row.WriterRow.{WriterRow}
 use Rattle.writer_state.specs.WriterRow.{row_gathered}
@@ -22,8 +24,8 @@ use Rattle.coordinator.specs.declared.running_agenda.RunningAgenda.{RunningAgend
 use Rattle.coordinator.specs.RunningAgenda.{Fits}
 use Rattle.coordinator.specs.KeptCourse.{FitsRun, Follows, StandsFor, left_now}
 use Rattle.coordinator.specs.OpenOrders.{AreFit, AreReady}
-use Rattle.coordinator.specs.Coordinator.{Registered}
-use Rattle.coordinator.specs.Beginning.{asked_by, asks, begun_as, ready_for, volumes_if}
+use Rattle.coordinator.specs.Coordinator.{Registered, is_disabled}
+use Rattle.coordinator.specs.Beginning.{asked_by, asks, begun_as, enabled, ready_for, volumes_if}
 use Rattle.coordinator.proofs.Asking.{filter-members}
 use Rattle.coordinator.proofs.Calls.{Posts}
 use Rattle.coordinator.proofs.Following.{left-is}
@@ -75,12 +77,26 @@ begun-posted : (kind : Kind) (ms : List Member) (vs : List ℕ) (now : ℕ) (c :
 unfolding begun
 begun-posted kind ms vs now c = refl
 
+and-swapped : (a b : Bool) → (a && b) ≡ (b && a)
+and-swapped true true = refl
+and-swapped true false = refl
+and-swapped false true = refl
+and-swapped false false = refl
+
+enabled-among : (ws : List Registered) (ds ts : List ℕ) (w : ℕ) → is_among w (enabled ws ds ts) ≡ (is_among w ts && not (is_disabled ws ds w))
+enabled-among ws ds ts w =
+    any-filter_same (λ x. x == w) (λ x. not (is_disabled ws ds x)) (not (is_disabled ws ds w)) (λ x e. ap (λ y. not (is_disabled ws ds y)) (eqb-true x w e)) ts
+    ∙ and-swapped (not (is_disabled ws ds w)) (is_among w ts)
+
 begun-at : (kind : Kind) (ws : List Registered) (s : Held) (k : KeptCourse) (ts vs : List ℕ) (now : ℕ) (c : Course) → length ws ≤ 64 → length k.rows ≤ 64 → ts ≡ takers s.writers s.selected → Follows k c
     → begun_as kind ws s vs now c ≡ begun kind (asked_members kind ws k ts c) (volumes_if kind vs) now (ready_for kind (asked_members kind ws k ts c) c)
 begun-at Gather ws s k ts vs now c n f e h = ap (λ ms. begun Gather ms [] now (record c { rows = map row_gathered c.rows }))
     (members-asked Gather ws k ts c _ f h (λ w l. ap not (sym (disabled-is k c ws w n h))))
 begun-at Prepare ws s k ts vs now c n f e h = ap (λ ms. begun Prepare ms [] now (record c { members = ms }))
-    (members-asked Prepare ws k ts c _ f h (λ w l. ap (is_among w) (sym e)))
+    (members-asked Prepare ws k ts c _ f h (λ w l.
+    enabled-among ws c.disabled (takers s.writers s.selected) w
+    ∙ ap (λ xs. is_among w xs && not (is_disabled ws c.disabled w)) (sym e)
+    ∙ ap (λ b. is_among w ts && not b) (sym (disabled-is k c ws w n h))))
 begun-at Snapshot ws s k ts vs now c n f e h = ap (λ ms. begun Snapshot ms vs now c) (h.members ∙ members-asked Snapshot ws k ts c (λ w. is_among w k.members) f h (λ w l. refl))
 begun-at Complete ws s k ts vs now c n f e h = ap (λ ms. begun Complete ms [] now c)
     (ap (filter (λ (m : Member). not (has_row_failed c.rows m.writer))) h.members

@@ -6,7 +6,8 @@ use Rattle.std.proofs.lemmas.Bool.Decides.{nat_tests}
 use Rattle.vss_names.specs.declared.order.Order.{Order}
 use Rattle.vss_names.specs.declared.order.Order.TheVariants.{Identify, PrepareBackup, PrepareSnapshot, Freeze, Thaw, PostSnapshot, BackupComplete}
 use Rattle.vss_names.specs.declared.vss_result.VssResult.{VssResult}
-use Rattle.vss_names.specs.declared.set_outcome.SetOutcome.TheVariants.{Running}
+use Rattle.vss_names.specs.declared.set_outcome.SetOutcome.{SetOutcome}
+use Rattle.vss_names.specs.declared.set_outcome.SetOutcome.TheVariants.{Running, Complete as CompleteSet, Failed as FailedSet}
 use Rattle.writer_state.specs.declared.said.Said.{Said}
 use Rattle.writer_state.specs.declared.writer_row.WriterRow.{WriterRow}
 use Rattle.writer_state.specs.WriterRow.{row_ended}
@@ -29,7 +30,7 @@ use Rattle.coordinator.specs.RunningAgenda.{Fits}
 use Rattle.coordinator.specs.KeptCourse.{FitsRun, Follows, IsSound, IsTaken, StandsFor, kind_if_done, least_if, least_limit, left_now, lost_by, ticks_if, treated_by}
 use Rattle.coordinator.specs.OpenOrders.{AreFit, AreReady, HasRoom, IsReady, SentAtMost, counts_in, mailbox_in, nth_in, number_in, posted_to, refusal, standing_in, stays}
 use Rattle.coordinator.proofs.Following.{left-is}
-use Rattle.coordinator.specs.Coordinator.{CoordinatorState, Stands}
+use Rattle.coordinator.specs.Coordinator.{CoordinatorState, Stands, failed_if_running, is_running}
 use Rattle.coordinator.proofs.GroupsAfter.{goes-answered, goes-treated, leaves-answered, opened-answered, opened-failed, opened-treated}
 use Rattle.coordinator.proofs.OpenOrders.{GoesOn, at-changed, at-other, count-more, counts-more, counts-not, ready-fit}
 
@@ -288,6 +289,17 @@ opened-released d = refl
 -- all orders are closed after an act, and then it stands for what became of the course
 abbrev pub Closes : KeptCourse → KeptCourse → Type 0
 Closes m n = (c e : Course) → AreFit m.mailboxes (left c.agenda) c.opened → left e.agenda ≡ [] → e.opened ≡ c.opened → Follows m e → StandsFor n e
+
+-- a set in progress fails, and another does not
+pub fails-running : (o : SetOutcome) (why : VssResult) (d : Course) → is_running o ≡ true → o ≡ d.outcome → failed why d ≡ failed_if_running d.outcome why d
+fails-running Running why d runs e = ap (λ x. failed_if_running x why d) e
+fails-running CompleteSet why d runs e = cc
+fails-running (FailedSet earlier) why d runs e = cc
+
+pub stays-ended : (o : SetOutcome) (why : VssResult) (d : Course) → is_running o ≡ false → o ≡ d.outcome → d ≡ failed_if_running d.outcome why d
+stays-ended Running why d over e = cc
+stays-ended CompleteSet why d over e = ap (λ x. failed_if_running x why d) e
+stays-ended (FailedSet earlier) why d over e = ap (λ x. failed_if_running x why d) e
 
 pub failed-stands : (k m n : KeptCourse) (d : Course) (why : VssResult) → m.mailboxes ≡ k.mailboxes → Follows m (failed why d) → Closes m n → StandsFor k d → StandsFor n (failed why d)
 failed-stands k m n d why b f closes h = closes d (failed why d) (subst (λ ms. AreFit ms (left d.agenda) d.opened) (sym b) h.mailboxes) (left-failed why d) (opened-failed why d) f

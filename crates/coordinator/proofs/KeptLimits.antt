@@ -1,6 +1,6 @@
 -- The limits that run follow from what is kept; what is kept is from no later tick than now.
 use Rattle.std.proofs.Common.{◌≡◌, ◌≤◌, ℕ, Bool, true, false, List, [], ◌∷◌, ◌++◌, Option, Some, None, cond, refl, ap, sym, ◌∙◌, append-nil, append_assoc, arith}
-use Rattle.std.specs.Prelude.{filter, not, option_map, unwrap_or}
+use Rattle.std.specs.Prelude.{IfSome, filter, not, option_map, unwrap_or}
 use Rattle.std.specs.Option.{ForSome}
 use Rattle.writer_state.specs.declared.said.Said.{Said}
 use Rattle.set_agenda.specs.declared.group.Group.{Group}
@@ -92,6 +92,10 @@ pub until-kept : (freeze now : ℕ) (r : RunningAgenda) (a : Agenda) → Fits r 
     → unwrap_or (sooner (sooner (until_since now (running_since HoldLimit r) hold_limit) (until_since now (running_since FreezeLimit r) freeze)) (until_since now (running_since AnswerLimit r) answer_limit)) 0
     ≡ ticks_to_spend now (running_limits freeze (Some a))
 until-kept freeze now r a f = until-all now (running_since HoldLimit r) (running_since FreezeLimit r) (running_since AnswerLimit r) freeze ∙ ap (ticks_to_spend now) (sym (limits-kept freeze r a f))
+
+pub most-or : (o : Option ℕ) (r n : ℕ) → r ≡ unwrap_or o 0 → IfSome o (λ t. t ≤ n) → r ≤ n
+most-or None r n e h = omega arith
+most-or (Some t) r n e h = omega (arith, h)
 
 -- ## no time that is kept is after now
 

@@ -1,13 +1,16 @@
 -- What contracts see of a coordinator: the names and classes of the registered writers, and what is kept of the course
 -- of the session. The words here are those in which the conditions of its calls are said. (This project's own.)
-use Rattle.std.specs.Prelude.{ℕ, ◌≡◌, ◌<◌, ◌-◌, ◌^◌, ◌==◌, ◌+◌, ◌++◌, ◌&&◌, ◌||◌, Bool, true, false, List, [], ◌∷◌, length, position, slice_get, Option, Some, None, option_map, is_some, Result, Ok, Err, Vec}
+use Rattle.std.specs.Prelude.{ℕ, ◌≡◌, ◌<◌, ◌-◌, ◌^◌, ◌==◌, ◌+◌, ◌++◌, ◌&&◌, ◌||◌, Bool, true, false, List, [], ◌∷◌, codes, length, position, slice_get, Option, Some, None, option_map, is_some, Result, Ok, Err, Vec}
 use Rattle.std.specs.List.{list_any}
 use Rattle.std.specs.Global.{Global}
 use Rattle.std.specs.Str.{bytes_eq}
 use Rattle.vss_names.specs.declared.level.Level.{Level}
+use Rattle.vss_names.specs.declared.set_outcome.SetOutcome.{SetOutcome}
+use Rattle.vss_names.specs.declared.set_outcome.SetOutcome.TheVariants.{Running, Complete, Failed}
+use Rattle.vss_names.specs.declared.vss_result.VssResult.{VssResult}
 use Rattle.writer_state.specs.WriterRow.{first_row}
 use Rattle.set_agenda.specs.Agenda.{is_working}
-use Rattle.set_agenda.specs.Course.{Course}
+use Rattle.set_agenda.specs.Course.{Course, failed}
 use Rattle.coordinator.specs.declared.kept_course.KeptCourse.{KeptCourse}
 use Rattle.coordinator.specs.declared.register_fault.RegisterFault.{RegisterFault}
 use Rattle.coordinator.specs.declared.register_fault.RegisterFault.TheVariants.{Double, OutOfMemory}
@@ -83,8 +86,23 @@ registered_in level limit c = record c { rows = c.rows ++ first_row level limit 
 abbrev pub named : ℕ → Course → Course
 named w c = record c { disabled = c.disabled ++ w ∷ [] }
 
+abbrev pub is_running : SetOutcome → Bool
+is_running Running = true
+is_running Complete = false
+is_running (Failed why) = false
+
+-- the set fails where it is in progress, by its outcome so far; else nothing changes
+abbrev pub failed_if_running : SetOutcome → VssResult → Course → Course
+failed_if_running Running why c = failed why c
+failed_if_running Complete why c = c
+failed_if_running (Failed earlier) why c = c
+
 -- the number of the writer that has the name already, where that is why a writer is not registered
 abbrev pub double_of : Result ℕ RegisterFault → Option ℕ
 double_of (Ok w) = None
 double_of (Err (Double at)) = Some at
 double_of (Err OutOfMemory) = None
+
+abbrev pub printed : RegisterFault → List ℕ
+printed (Double at) = codes "a writer of this name is registered"
+printed OutOfMemory = codes "out of memory"

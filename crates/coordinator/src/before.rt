@@ -61,7 +61,7 @@ impl Before {
 }
 
 /// The writers that stand frozen.
-fn frozen_now(running: &Option<RunningAgenda>) -> WriterSet
+pub fn frozen_now(running: &Option<RunningAgenda>) -> WriterSet
     ensures { (a : Option Agenda) → FitsRun running.now a → result ≡ writers (is_frozen a) }
 {
     match running {

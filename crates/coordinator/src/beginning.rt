@@ -4,11 +4,13 @@ ghost use Rattle.set_agenda.specs.Begin.{are_distinct, by_writer};
 ghost use Rattle.set_agenda.specs.Course.{has_row_failed, member_if, members_from};
 ghost use Rattle.set_agenda.specs.WriterSet.{writers};
 ghost use Rattle.writer_state.specs.declared.writer_row.WriterRow.{WriterRow};
+ghost use Rattle.component_doc.specs.Selection.{takers};
 ghost use Rattle.coordinator.specs.Beginning.{asked_by, asks, volumes_if};
 
 use crate::kept_course::KeptCourse;
 use crate::writer_names::{WriterNames, has_class_of};
 use crate::writer_rows::WriterRows;
+use component_doc::Selection;
 use set_agenda::{Kind, Member, WriterSet};
 use std::alloc::Global;
 use vss_names::OutOfMemory;
@@ -32,15 +34,21 @@ fn has_row_failed(rows: &WriterRows, writer: u32) -> bool
 }
 
 /// Whether an agenda of this kind asks the writer.
-fn asks(kind: Kind, names: &WriterNames, kept: &KeptCourse, takers: &[u32], writer: u32) -> bool
+fn asks(
+    kind: Kind,
+    names: &WriterNames,
+    kept: &KeptCourse,
+    selection: &Selection,
+    writer: u32,
+) -> bool
     requires few { length names.now ≤ 64 }
     requires named { length names.now ≡ length kept.now.rows }
     requires known { writer < length kept.now.rows }
-    ensures { result ≡ asks kind names.now kept.now takers.now writer }
+    ensures { result ≡ asks kind names.now kept.now (takers selection.now.writers selection.now.selected) writer }
 {
     match kind {
         Kind::Gather => !has_class_of(names, &kept.disabled, writer),
-        Kind::Prepare => takers.contains(&writer),
+        Kind::Prepare => selection.takes(writer) && !has_class_of(names, &kept.disabled, writer),
         Kind::Snapshot => kept.members.contains(writer),
         Kind::Complete => kept.members.contains(writer) && !has_row_failed(&kept.rows, writer),
     }
@@ -56,16 +64,20 @@ fn insert_if(set: &mut WriterSet, really: bool, writer: u32)
 }
 
 /// The writers that an agenda of this kind asks.
-pub fn asked(kind: Kind, names: &WriterNames, kept: &KeptCourse, takers: &[u32]) -> WriterSet
+pub fn asked(kind: Kind, names: &WriterNames, kept: &KeptCourse, selection: &Selection) -> WriterSet
     requires few { length names.now ≤ 64 }
     requires named { length names.now ≡ length kept.now.rows }
-    ensures { result ≡ asked_by kind names.now kept.now takers.now }
+    ensures { result ≡ asked_by kind names.now kept.now (takers selection.now.writers selection.now.selected) }
 {
     let mut asked = WriterSet::new();
     let mut number = 0;
     while number < kept.rows.len() {
         let writer = number as u32;
-        insert_if(&mut asked, asks(kind, names, kept, takers, writer), writer);
+        insert_if(
+            &mut asked,
+            asks(kind, names, kept, selection, writer),
+            writer,
+        );
         number += 1;
     }
     asked

@@ -1,16 +1,17 @@
-ghost use Rattle.std.specs.Prelude.{◌≡◌, ◌↔◌, ◌+◌, ◌++◌, ◌<◌, ◌∷◌, [], ℕ, None, Some, false, is_some, slice_get, true, IfOk, IsTrue, OnErr, OnOk};
+ghost use Rattle.std.specs.Prelude.{◌≡◌, ◌↔◌, ◌+◌, ◌++◌, ◌<◌, ◌≤◌, ◌∷◌, [], ℕ, None, Some, false, is_some, length, slice_get, true, IfOk, IfSome, IsTrue, OnErr, OnOk};
 ghost use Rattle.writer_calls.specs.Mailbox.{answer_to};
 ghost use Rattle.writer_calls.specs.Script.{said_of};
-ghost use Rattle.set_agenda.specs.Agenda.{left, next_volume, open_group, order_now};
-ghost use Rattle.set_agenda.specs.Course.{Course, answered, course_start, failed, idle_ticks, lost_writers, released, stepped, timed};
+ghost use Rattle.set_agenda.specs.Agenda.{is_frozen, left, next_volume, open_group, order_now};
+ghost use Rattle.set_agenda.specs.Course.{Course, answered, course_start, idle_ticks, lost_writers, released, stepped, timed};
 ghost use Rattle.set_agenda.specs.Begin.{are_distinct};
+ghost use Rattle.tick_limits.specs.Time.{answer_limit};
 ghost use Rattle.coordinator.specs.Beginning.{begun_as};
-ghost use Rattle.coordinator.specs.Coordinator.{IsOnTime, MayPost, Stands, double_of, is_disabled, named, place_of, registered_in, runs, works, writer_count};
+ghost use Rattle.coordinator.specs.Coordinator.{IsOnTime, MayPost, Stands, double_of, is_disabled, named, place_of, failed_if_running, registered_in, runs, works, writer_count};
 ghost use Rattle.coordinator.specs.Effects.{Tells, lost_order_if};
 ghost use Rattle.coordinator.specs.KeptCourse.{ticks_if};
 ghost use Rattle.coordinator.specs.OpenOrders.{refusal, standing_in};
 
-use crate::before::Before;
+use crate::before::{Before, frozen_now};
 use crate::beginning::{asked, members_of, volumes_if};
 use crate::effects::Effects;
 use crate::kept_course::{KeptCourse, open_order};
@@ -55,6 +56,7 @@ impl Coordinator {
     pub fn new(alloc: Global) -> Result<Coordinator, OutOfMemory>
         ensures stands { IfOk result (λ k. Stands k (course_start [])) }
         ensures writers { IfOk result (λ k. k.writers ≡ []) }
+        ensures count { IfOk result (λ k. writer_count k ≡ 0) }
         ensures times { IfOk result (λ k. (now : ℕ) → IsOnTime now k) }
         ensures posts { IfOk result (λ k. k.posts ≡ 0) }
     {
@@ -77,6 +79,7 @@ impl Coordinator {
         ensures stands { OnOk result ((c : Course) → Stands self.old c → Stands self.new (registered_in meta.level meta.freeze_timeout c)) }
         ensures number { IfOk result (λ writer. writer ≡ writer_count self.old) }
         ensures writers { OnOk result (self.new.writers ≡ self.old.writers ++ record { name = name.now.bytes; class = meta.class } ∷ []) }
+        ensures count { OnOk result (writer_count self.new ≡ writer_count self.old + 1) }
         ensures double { double_of result ≡ place_of name.now.bytes self.old.writers }
         ensures unchanged { OnErr result (self.new ≡ self.old) }
         ensures times { (now : ℕ) → IsOnTime now self.old → IsOnTime now self.new }
@@ -92,12 +95,14 @@ impl Coordinator {
         Ok(writer)
     }
 
-    /// Disables the writer's class until the session ends: no writer of that class is asked anything.
+    /// Disables the writer's class until the session ends: no agenda that begins from now on takes a writer of that
+    /// class in. Gather does not ask it, and Prepare does not make it a participant.
     pub fn disable(&mut self, writer: u32)
         requires { writer < writer_count self.old }
         ensures stands { (c : Course) → Stands self.old c → Stands self.new (named writer c) }
         ensures times { (now : ℕ) → IsOnTime now self.old → IsOnTime now self.new }
         ensures writers { self.new.writers ≡ self.old.writers }
+        ensures count { writer_count self.new ≡ writer_count self.old }
         ensures posts { self.new.posts ≡ self.old.posts }
     {
         self.kept.disabled.insert(writer);
@@ -113,7 +118,8 @@ impl Coordinator {
 
     /// How many writers are registered.
     pub fn writers(&self) -> u32
-        ensures { result ≡ writer_count self.now }
+        ensures count { result ≡ writer_count self.now }
+        ensures named { length self.now.writers ≡ writer_count self.now }
     {
         self.kept.rows.len() as u32
     }
@@ -144,6 +150,21 @@ impl Coordinator {
             None => true,
             Some(running) => running.is_by(now),
         }
+    }
+
+    /// The writers' rows, in the order of their numbers.
+    pub fn rows(&self) -> &[WriterRow]
+        ensures { (c : Course) → Stands self.now c → result.now ≡ c.rows }
+    {
+        self.kept.rows.items()
+    }
+
+    /// Whether the writer stands frozen.
+    pub fn is_frozen(&self, writer: u32) -> bool
+        requires { writer < writer_count self.now }
+        ensures { (c : Course) → Stands self.now c → result ≡ is_frozen c.agenda writer }
+    {
+        frozen_now(&self.kept.running).contains(writer)
     }
 
     /// A writer's row.
@@ -188,13 +209,14 @@ impl Coordinator {
         requires { IsOnTime now self.now }
         ensures ticks { (c : Course) → Stands self.now c → result ≡ ticks_if (is_some c.agenda) (idle_ticks now c) }
         ensures runs { is_some result ≡ runs self.now }
+        ensures most { IfSome result (λ ticks. ticks ≤ answer_limit + 1) }
     {
         self.kept.until_limit(now)
     }
 
     /// An agenda begins at the tick `now`. Gather asks every writer that is not disabled. Prepare asks the participants
-    /// of the selection, who stay those of the set; Snapshot asks them over these volumes, in the order in which they
-    /// were added; Complete asks those of them that have not failed. An agenda that asks nobody ends at once. All the
+    /// of the selection that are not disabled, who stay those of the set; Snapshot asks them over these volumes, in the
+    /// order in which they were added; Complete asks those of them that have not failed. An agenda that asks nobody ends at once. All the
     /// memory is taken here that the agenda ever needs. (The set's number is the requestor's; no call needs it here.)
     pub fn begin_agenda(
         &mut self,
@@ -215,9 +237,9 @@ impl Coordinator {
         ensures times { OnOk result (IsOnTime now self.new) }
         ensures posts { OnOk result (self.new.posts ≡ self.old.posts + 1) }
         ensures writers { self.new.writers ≡ self.old.writers }
+        ensures count { writer_count self.new ≡ writer_count self.old }
     {
-        let takers = selection.participants(alloc)?;
-        let asked = asked(kind, &self.names, &self.kept, takers.items());
+        let asked = asked(kind, &self.names, &self.kept, selection);
         let members = members_of(alloc, &self.kept.rows, &asked)?;
         let volumes = volumes_if(kind, volumes);
         let running = RunningAgenda::new(alloc, kind, &members, volumes, now)?;
@@ -247,6 +269,7 @@ impl Coordinator {
         ensures times { IsOnTime now self.old → IsOnTime now self.new }
         ensures posts { OnOk result (self.new.posts ≡ self.old.posts + 1) }
         ensures writers { self.new.writers ≡ self.old.writers }
+        ensures count { writer_count self.new ≡ writer_count self.old }
     {
         let before = Before::of(&self.kept);
         let order = self.kept.take(writer, number, answer)?;
@@ -265,6 +288,7 @@ impl Coordinator {
         ensures times { IsOnTime now self.old → IsOnTime now self.new }
         ensures posts { self.new.posts ≡ self.old.posts + 1 }
         ensures writers { self.new.writers ≡ self.old.writers }
+        ensures count { writer_count self.new ≡ writer_count self.old }
     {
         let before = Before::of(&self.kept);
         self.kept.step(ok, now);
@@ -282,6 +306,7 @@ impl Coordinator {
         ensures times { IsOnTime now self.new }
         ensures posts { self.new.posts ≡ self.old.posts + 1 }
         ensures writers { self.new.writers ≡ self.old.writers }
+        ensures count { writer_count self.new ≡ writer_count self.old }
     {
         let before = Before::of(&self.kept);
         let spent = self.kept.spent(now);
@@ -297,17 +322,18 @@ impl Coordinator {
         }
     }
 
-    /// The set fails: the agenda stops with all its orders, and the participants are told.
+    /// The set fails: the agenda stops with all its orders, and the participants are told. A set that is complete or
+    /// has failed already stays so, and nobody is told anything.
     pub fn fail(&mut self, why: VssResult) -> Effects
-        ensures stands { (c : Course) → Stands self.old c → Stands self.new (failed why c) }
-        ensures tells { (c : Course) → Stands self.old c → Tells result (is_some c.agenda) [] None c (failed why c) }
-        ensures times { (now : ℕ) → IsOnTime now self.new }
+        ensures stands { (c : Course) → Stands self.old c → Stands self.new (failed_if_running c.outcome why c) }
+        ensures tells { (c : Course) → Stands self.old c → Tells result (is_some c.agenda) [] None c (failed_if_running c.outcome why c) }
+        ensures times { (now : ℕ) → IsOnTime now self.old → IsOnTime now self.new }
         ensures writers { self.new.writers ≡ self.old.writers }
+        ensures count { writer_count self.new ≡ writer_count self.old }
         ensures posts { self.new.posts ≡ self.old.posts }
     {
         let before = Before::of(&self.kept);
-        self.kept.fail_set(why);
-        self.kept.close_orders();
+        self.kept.fail_if_running(why);
         before.effects(&self.kept)
     }
 
@@ -317,6 +343,7 @@ impl Coordinator {
         ensures stands { (c : Course) → Stands self.old c → Stands self.new (released c) }
         ensures times { (now : ℕ) → IsOnTime now self.new }
         ensures writers { self.new.writers ≡ self.old.writers }
+        ensures count { writer_count self.new ≡ writer_count self.old }
         ensures posts { self.new.posts ≡ self.old.posts }
     {
         self.kept.release();
@@ -369,7 +396,10 @@ mod tests {
         kind: Kind,
         now: u64,
     ) -> Result<Effects, OutOfMemory> {
-        let known = Metas::of(vec![in alloc; Some(metadata(alloc, 7)?)]?);
+        let db = metadata(alloc, 7)?;
+        let mut items = Vec::new(alloc);
+        items.push(Some(&db))?;
+        let known = Metas::of(items);
         let selection = Selection::all(alloc, &known)?;
         assert!(rt; coordinator.writers() == 1);
         assert!(rt; coordinator.open_group().is_none());
@@ -453,93 +483,6 @@ mod tests {
         let completed = go_on(&rt, &mut coordinator, 0)?;
         assert_eq!(rt; completed.outcome, SetOutcome::Running);
         assert_eq!(rt; state(&rt, &coordinator), (WriterState::Stable, 0));
-        Ok(())
-    }
-
-    #[test]
-    fn a_writer_is_frozen_and_thawed_once(rt: HostRuntime) -> Result<(), Fail> {
-        let mut coordinator = begun(&rt, rt.alloc())?;
-        let rows = [
-            (0, 0),
-            (1, 0),
-            (0, 0),
-            (0, 0),
-            (0, 0),
-            (0, 0),
-            (0, 0),
-            (0, 0),
-            (0, 0),
-            (0, 1),
-        ];
-        for (frozen, thawed) in rows {
-            let effects = go_on(&rt, &mut coordinator, 0)?;
-            assert_eq!(rt; effects.frozen, frozen);
-            assert_eq!(rt; effects.thawed, thawed);
-        }
-        Ok(())
-    }
-
-    /// What a failure does after so many steps: whom it thaws, and what it leaves of the writer.
-    fn fail_after(rt: &impl Abort, alloc: Global, steps: u32) -> Result<(u64, u32), Fail> {
-        let mut coordinator = begun(rt, alloc)?;
-        go_on_often(rt, &mut coordinator, steps)?;
-        let effects = coordinator.fail(VssResult::AsyncCancelled);
-        assert!(rt; effects.agenda_ended);
-        assert_eq!(rt; coordinator.open_group(), None);
-        assert!(rt; coordinator.writers() > 0);
-        assert_eq!(rt; coordinator.poll(0), None);
-        Ok((effects.thawed, state(rt, &coordinator).1))
-    }
-
-    #[test]
-    fn a_failure_at_any_group_thaws_who_was_frozen(rt: HostRuntime) -> Result<(), Fail> {
-        for steps in 0..11 {
-            let thawed = if steps >= 2 && steps <= 9 { 1 } else { 0 };
-            assert_eq!(rt; fail_after(&rt, rt.alloc(), steps)?, (thawed, 1), "{steps}");
-        }
-        Ok(())
-    }
-
-    #[test]
-    fn who_does_not_answer_is_lost(rt: HostRuntime) -> Result<(), Fail> {
-        let mut coordinator = one_writer(rt.alloc())?;
-        begin(&rt, rt.alloc(), &mut coordinator, Kind::Prepare, 50)?;
-        assert!(rt; coordinator.is_on_time(300_050));
-        assert!(rt; coordinator.posts() < 1_000);
-        let early = coordinator.time(300_050);
-        assert_eq!(rt; early.lost, 0);
-        assert_eq!(rt; early.lost_order, None);
-        assert!(rt; coordinator.is_on_time(300_051));
-        assert!(rt; coordinator.posts() < 1_000);
-        let late = coordinator.time(300_051);
-        assert_eq!(rt; late.lost, 1);
-        assert_eq!(rt; late.lost_order, Some(Order::PrepareBackup));
-        assert_eq!(rt;
-            late.outcome,
-            SetOutcome::Failed(VssResult::WriterNotResponding)
-        );
-        assert!(rt; coordinator.writers() > 0);
-        assert_eq!(rt; coordinator.row(0).code, Some(WriterError::Timeout));
-        assert_eq!(rt;
-            state(&rt, &coordinator),
-            (WriterState::FailedAtPrepareBackup, 0)
-        );
-        Ok(())
-    }
-
-    #[test]
-    fn a_disabled_class_is_not_asked_until_the_session_ends(rt: HostRuntime) -> Result<(), Fail> {
-        let mut coordinator = one_writer(rt.alloc())?;
-        assert!(rt; coordinator.writers() > 0);
-        coordinator.disable(0);
-        assert!(rt; coordinator.is_disabled(0));
-        let effects = begin(&rt, rt.alloc(), &mut coordinator, Kind::Gather, 0)?;
-        assert!(rt; effects.agenda_ended);
-        assert!(rt; coordinator.writers() > 0);
-        assert_eq!(rt; coordinator.poll(0), None);
-        coordinator.end_session();
-        assert!(rt; coordinator.writers() > 0);
-        assert!(rt; !coordinator.is_disabled(0));
         Ok(())
     }
 }

@@ -1,4 +1,4 @@
-ghost use Rattle.std.specs.Prelude.{◌≡◌, ◌&&◌, ◌+◌, ◌<◌, ◌≤◌, ◌∷◌, [], ℕ, None, Some, length, not, option_map, is_some, true, IfOk, OnErr, OnOk};
+ghost use Rattle.std.specs.Prelude.{◌≡◌, ◌&&◌, ◌+◌, ◌<◌, ◌≤◌, ◌∷◌, [], ℕ, None, Some, length, not, option_map, is_some, true, IfOk, IfSome, OnErr, OnOk};
 ghost use Rattle.writer_calls.specs.Mailbox.{answer_to};
 ghost use Rattle.writer_state.specs.declared.said.Said.TheVariants.{Lost};
 ghost use Rattle.writer_state.specs.WriterState.{is_ok};
@@ -9,6 +9,8 @@ ghost use Rattle.set_agenda.specs.WriterSet.{writers};
 ghost use Rattle.coordinator.specs.RunningAgenda.{Fits};
 ghost use Rattle.coordinator.specs.KeptLimits.{NoneAfter};
 ghost use Rattle.coordinator.specs.Beginning.{ready_for};
+ghost use Rattle.tick_limits.specs.Time.{answer_limit, default_freeze};
+ghost use Rattle.coordinator.specs.Coordinator.{failed_if_running, is_running};
 ghost use Rattle.coordinator.specs.KeptCourse.{Follows, IsBy, IsSound, IsTaken, StandsFor, kind_if_done, least_if, least_limit, left_now, lost_by, ticks_if, treated_by};
 ghost use Rattle.coordinator.specs.OpenOrders.{AreFit, AreReady, HasRoom, SentAtMost, refusal, standing_in};
 
@@ -318,10 +320,28 @@ impl KeptCourse {
         close_all(&mut self.mailboxes);
     }
 
+    /// The set fails, with all its orders closed, if it is in progress.
+    pub fn fail_if_running(&mut self, why: VssResult)
+        requires sound { IsSound self.old }
+        ensures stands { (c : Course) → StandsFor self.old c → StandsFor self.new (failed_if_running c.outcome why c) }
+        ensures times { (now : ℕ) → IsBy now self.old.running → IsBy now self.new.running }
+        ensures live { kind_if_done self.new.running ≡ None }
+        ensures sent { (n : ℕ) → SentAtMost n self.old.mailboxes → SentAtMost n self.new.mailboxes }
+        ensures boxes { length self.new.mailboxes ≡ 64 }
+        ensures len { length self.new.rows ≡ length self.old.rows }
+    {
+        if !is_running(self.outcome) {
+            return;
+        }
+        self.fail_set(why);
+        self.close_orders();
+    }
+
     /// The freeze limit of the set, in ticks.
     fn freeze_limit(&self) -> u32
         requires few { length self.now.rows ≤ 64 }
-        ensures { (c : Course) → Follows self.now c → result ≡ freeze_limit c }
+        ensures limit { (c : Course) → Follows self.now c → result ≡ freeze_limit c }
+        ensures most { result ≤ default_freeze }
     {
         least_limit(&self.rows, &self.members)
     }
@@ -344,6 +364,7 @@ impl KeptCourse {
         requires times { IsBy now self.now.running }
         ensures ticks { (c : Course) → Follows self.now c → result ≡ ticks_if (is_some c.agenda) (idle_ticks now c) }
         ensures runs { is_some result ≡ is_some self.now.running }
+        ensures most { IfSome result (λ ticks. ticks ≤ answer_limit + 1) }
     {
         match &self.running {
             None => None,
@@ -368,7 +389,8 @@ impl KeptCourse {
 /// The least time-out of the members, and the default one where there are none.
 fn least_limit(rows: &WriterRows, members: &WriterSet) -> u32
     requires { length rows.now ≤ 64 }
-    ensures { result ≡ least_limit rows.now (members_from (λ w. is_among w members.now) 0 rows.now) }
+    ensures limit { result ≡ least_limit rows.now (members_from (λ w. is_among w members.now) 0 rows.now) }
+    ensures most { result ≤ default_freeze }
 {
     let mut limit = DEFAULT_FREEZE;
     let mut number = 0;
@@ -381,7 +403,8 @@ fn least_limit(rows: &WriterRows, members: &WriterSet) -> u32
 }
 
 fn least_if(really: bool, limit: u32, own: u32) -> u32
-    ensures { result ≡ least_if really limit own }
+    ensures value { result ≡ least_if really limit own }
+    ensures most { result ≤ limit }
 {
     if really { limit.min(own) } else { limit }
 }
@@ -412,6 +435,15 @@ pub fn open_order(running: &Option<RunningAgenda>) -> Option<Order>
             None => None,
             Some(group) => group.order(),
         },
+    }
+}
+
+fn is_running(outcome: SetOutcome) -> bool
+    ensures { result ≡ is_running outcome }
+{
+    match outcome {
+        SetOutcome::Running => true,
+        SetOutcome::Complete | SetOutcome::Failed(_) => false,
     }
 }
 

@@ -1,3 +1,6 @@
+ghost use Rattle.std.specs.Prelude.{Some};
+ghost use Rattle.coordinator.specs.Coordinator.{printed};
+
 use std::error::Error;
 use std::fmt;
 use vss_names::OutOfMemory;
@@ -22,6 +25,8 @@ impl From<OutOfMemory> for RegisterFault {
 }
 
 impl fmt::Display for RegisterFault {
+    ghost output = { λ fault. Some (printed fault) };
+
     fn fmt<W: fmt::Write>(&self, f: &mut fmt::Formatter<W>) -> fmt::Result {
         match self {
             RegisterFault::Double { at: _ } => f.write_str("a writer of this name is registered"),

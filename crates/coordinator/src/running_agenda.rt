@@ -1,4 +1,4 @@
-ghost use Rattle.std.specs.Prelude.{◌≡◌, ◌↔◌, ◌&&◌, ◌<◌, ◌≤◌, ◌^◌, ◌∷◌, [], All, IfOk, IsTrue, Some, map, option_map, true};
+ghost use Rattle.std.specs.Prelude.{◌≡◌, ◌↔◌, ◌&&◌, ◌+◌, ◌<◌, ◌≤◌, ◌^◌, ◌∷◌, [], ℕ, All, IfOk, IfSome, IsTrue, Some, map, option_map, true};
 ghost use Rattle.std.specs.Option.{ForSome};
 ghost use Rattle.writer_state.specs.declared.said.Said.TheVariants.{Lost, Ok as SaidOk};
 ghost use Rattle.writer_state.specs.WriterState.{is_ok};
@@ -6,6 +6,7 @@ ghost use Rattle.set_agenda.specs.Begin.{are_distinct, by_writer, unspoken};
 ghost use Rattle.set_agenda.specs.WriterSet.{writers};
 ghost use Rattle.set_agenda.specs.Agenda.{all_say, groups_left, is_asked, is_asking, is_freeze, is_frozen, is_thaw, is_working, next_member, open_place, waits_now, Agenda as AgendaWithLog};
 ghost use Rattle.set_agenda.specs.Limits.{running_limits, spent_of, ticks_to_spend};
+ghost use Rattle.tick_limits.specs.Time.{answer_limit};
 ghost use Rattle.coordinator.specs.KeptLimits.{NoneAfter, running_since, sooner, spent_since, until_since};
 ghost use Rattle.coordinator.specs.RunningAgenda.{Fits, entered, freeze_opened_after, held_after, opened_after, taken_if};
 
@@ -146,7 +147,8 @@ impl RunningAgenda {
     /// `now`, or where none runs, as of an agenda that is done. The freeze limit is the set's, in ticks.
     pub fn until_limit(&self, freeze_limit: u32, now: u64) -> u64
         requires { NoneAfter now self.now }
-        ensures { (a : AgendaWithLog) → Fits self.now a → result ≡ ticks_to_spend now (running_limits freeze_limit (Some a)) }
+        ensures ticks { (a : AgendaWithLog) → Fits self.now a → result ≡ ticks_to_spend now (running_limits freeze_limit (Some a)) }
+        ensures most { freeze_limit ≤ answer_limit → result ≤ answer_limit + 1 }
     {
         let hold = until_since(self.since(Limit::Hold), HOLD_LIMIT, now);
         let freeze = until_since(self.since(Limit::Freeze), u64::from(freeze_limit), now);
@@ -232,7 +234,8 @@ fn is_spent_since(since: Option<u64>, limit: u64, now: u64) -> bool
 fn until_since(since: Option<u64>, limit: u64, now: u64) -> Option<u64>
     requires begun { ForSome since (λ t. t ≤ now) }
     requires limited { limit < 2 ^ 32 }
-    ensures { result ≡ until_since now since limit }
+    ensures ticks { result ≡ until_since now since limit }
+    ensures most { limit ≤ answer_limit → IfSome result (λ t. t ≤ answer_limit + 1) }
 {
     match since {
         None => None,
@@ -242,103 +245,12 @@ fn until_since(since: Option<u64>, limit: u64, now: u64) -> Option<u64>
 
 /// The sooner of two, where there are two.
 fn sooner(first: Option<u64>, second: Option<u64>) -> Option<u64>
-    ensures { result ≡ sooner first second }
+    ensures value { result ≡ sooner first second }
+    ensures most { (n : ℕ) → IfSome first (λ t. t ≤ n) → IfSome second (λ t. t ≤ n) → IfSome result (λ t. t ≤ n) }
 {
     match (first, second) {
         (None, _) => second,
         (Some(_), None) => first,
         (Some(t), Some(u)) => Some(t.min(u)),
-    }
-}
-
-#[cfg(test)]
-mod tests {
-    use super::*;
-    use std::process::Abort;
-    use std::test::Fail;
-    use vss_names::Level;
-
-    const LONE: Member = Member {
-        writer: 0,
-        level: Level::BackEnd,
-    };
-
-    /// The lone writer or the provider does what is asked of it.
-    fn go_on(rt: &impl Abort, running: &mut RunningAgenda, now: u64) {
-        if running.agenda.is_working() {
-            running.work(now);
-        } else {
-            assert!(rt; running.agenda.is_open(0));
-            running.hear(0, Said::Ok, now);
-        }
-    }
-
-    #[test]
-    fn a_writer_stands_frozen_from_its_ok_until_the_thaw(rt: HostRuntime) -> Result<(), Fail> {
-        let mut running = RunningAgenda::new(rt.alloc(), Kind::Snapshot, &[LONE], &[5], 7)?;
-        let frozen = [0, 0, 1, 1, 1, 1, 1, 1, 1, 1];
-        for (i, bits) in frozen.iter().enumerate() {
-            assert_eq!(rt; running.frozen().bits(), *bits, "{i}");
-            go_on(&rt, &mut running, 10 + i as u64);
-        }
-        assert_eq!(rt; running.frozen().bits(), 0);
-        assert_eq!(rt; running.freeze_opened, 10);
-        assert_eq!(rt; running.held, Some(14));
-        assert_eq!(rt; running.opened, 19);
-        assert!(rt; running.agenda.is_asking());
-        running.lose(30);
-        assert!(rt; running.agenda.is_done());
-        Ok(())
-    }
-
-    /// Fails where a time that is kept is after `now`.
-    fn assert_none_after(rt: &impl Abort, running: &RunningAgenda, now: u64)
-        ensures { NoneAfter now running.now }
-    {
-        assert!(rt; running.opened <= now);
-        assert!(rt; running.freeze_opened <= now);
-        assert!(rt; running.held.unwrap_or(0) <= now);
-    }
-
-    #[test]
-    fn each_limit_runs_while_its_groups_are_open(rt: HostRuntime) -> Result<(), Fail> {
-        let mut running = RunningAgenda::new(rt.alloc(), Kind::Snapshot, &[LONE], &[5], 0)?;
-        let expected = [
-            (300_001, None),
-            (60_001, Some(Limit::Freeze)),
-            (59_901, Some(Limit::Freeze)),
-            (59_801, Some(Limit::Freeze)),
-            (59_701, Some(Limit::Freeze)),
-            (10_001, Some(Limit::Hold)),
-            (9_901, Some(Limit::Hold)),
-            (9_801, Some(Limit::Hold)),
-            (59_301, Some(Limit::Freeze)),
-            (300_001, None),
-            (300_001, None),
-        ];
-        for (i, (ticks, spent)) in expected.iter().enumerate() {
-            let now = 100 * i as u64;
-            assert_none_after(&rt, &running, now);
-            assert_eq!(rt; running.until_limit(60_000, now), *ticks, "{i}");
-            assert_none_after(&rt, &running, 70_000);
-            assert_eq!(rt; running.spent(60_000, 70_000), *spent, "{i}");
-            go_on(&rt, &mut running, now + 100);
-        }
-        assert_none_after(&rt, &running, 70_000);
-        assert_eq!(rt; running.until_limit(60_000, 70_000), 0);
-        assert_eq!(rt; running.spent(60_000, 70_000), None);
-        Ok(())
-    }
-
-    #[test]
-    fn a_limit_passes_at_equality(rt: HostRuntime) -> Result<(), Fail> {
-        let mut running = RunningAgenda::new(rt.alloc(), Kind::Gather, &[LONE], &[], 50)?;
-        assert_none_after(&rt, &running, 300_050);
-        assert_eq!(rt; running.spent(60_000, 300_050), None);
-        assert_eq!(rt; running.until_limit(60_000, 300_050), 1);
-        assert_none_after(&rt, &running, 300_051);
-        assert_eq!(rt; running.spent(60_000, 300_051), Some(Limit::Answer));
-        assert_eq!(rt; running.until_limit(60_000, 300_051), 0);
-        Ok(())
     }
 }

@@ -42,6 +42,12 @@ impl WriterRows {
         self.rows.len()
     }
 
+    pub fn items(&self) -> &[WriterRow]
+        ensures { result.now ≡ self.now }
+    {
+        &self.rows
+    }
+
     pub fn row(&self, writer: u32) -> WriterRow
         requires { writer < length self.now }
         ensures { Some result ≡ slice_get self.now writer }

@@ -246,33 +246,4 @@ mod tests {
         assert!(rt; accepts(&mut requestor, 4, SessionCall::End));
         assert_eq!(rt; requestor.stage(), None);
     }
-
-    #[test]
-    fn a_gather_without_a_session_is_refused(rt: HostRuntime) {
-        let verdict = Requestor::new().check(0, SessionCall::Gather, false);
-        assert_eq!(rt; verdict, Verdict::Refused(VssResult::BadState));
-    }
-
-    #[test]
-    fn a_failed_set_is_told_and_the_next_has_the_next_number(rt: HostRuntime) {
-        let mut requestor = Requestor::new();
-        let begin = SessionCall::Begin {
-            context: 25,
-            all: false,
-        };
-        assert!(rt; accepts(&mut requestor, 0, begin));
-        assert!(rt; accepts(&mut requestor, 0, SessionCall::Start));
-        requestor.agenda_ended(SetOutcome::Failed(VssResult::InsufficientStorage));
-        assert_eq!(rt; requestor.stage(), Some(Stage::Failed));
-        assert_eq!(rt; requestor.last(), Some(VssResult::InsufficientStorage));
-        assert_eq!(rt; requestor.check(1, begin, false), Verdict::Blocked);
-        assert!(rt; accepts(&mut requestor, 0, SessionCall::End));
-        assert!(rt; accepts(&mut requestor, 1, begin));
-        assert!(rt; accepts(&mut requestor, 1, SessionCall::Start));
-        assert_eq!(rt; requestor.set(), Some(2));
-        assert_eq!(rt;
-            requestor.check(1, SessionCall::Await, true),
-            Verdict::Blocked
-        );
-    }
 }

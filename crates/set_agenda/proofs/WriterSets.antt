@@ -128,6 +128,14 @@ no_bit bits i e = grind (arith, nat_tests, bit_at-lt bits i)
 none-set : (bits : ℕ) → bits < 2 ^ 64 → writers_of bits ≡ [] → bits ≡ 0
 none-set bits h e = same_from_bits_below 64 bits 0 h (omega arith) (λ i l. no_bit bits i (sym (among-writers (has_bit bits) i (omega arith)) ∙ ap (is_among i) e) ∙ sym (bit_at-zero i))
 
+digit-at : (x y : ℕ) → x < 2 → y < 2 → (x == 1) ≡ (y == 1) → x ≡ y
+digit-at x y a b e = grind (arith, nat_tests)
+
+-- one number alone has the bits of a set
+pub same-bits : (a b : ℕ) → a < 2 ^ 64 → b < 2 ^ 64 → writers_of a ≡ writers_of b → a ≡ b
+same-bits a b h k e = same_from_bits_below 64 a b h k (λ i l.
+    digit-at (bit_at a i) (bit_at b i) (bit_at-lt a i) (bit_at-lt b i) (sym (among-writers (has_bit a) i l) ∙ ap (is_among i) e ∙ among-writers (has_bit b) i l))
+
 empty-at : (bits : ℕ) (xs : List ℕ) → bits < 2 ^ 64 → writers_of bits ≡ xs → nat_eq bits 0 ≡ is_nil xs
 empty-at bits [] h e = ap (λ b. nat_eq b 0) (none-set bits h e)
 empty-at zero (x ∷ xs) h e = cc (sym e ∙ new-is)

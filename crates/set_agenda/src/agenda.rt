@@ -207,11 +207,6 @@ mod tests {
         level: Level::BackEnd,
     };
 
-    const SERVER: Member = Member {
-        writer: 63,
-        level: Level::FrontEnd,
-    };
-
     /// Closes all that is open, each writer in falling order.
     fn close_group(rt: &impl Abort, agenda: &mut Agenda, writers: &[u32], failed: bool) {
         if agenda.is_working() {
@@ -255,35 +250,6 @@ mod tests {
         }
         assert!(rt; agenda.is_done());
         assert_eq!(rt; agenda.open_group(), None);
-        Ok(())
-    }
-
-    #[test]
-    fn an_agenda_that_asks_nobody_is_done(rt: HostRuntime) -> Result<(), Fail> {
-        let agenda = Agenda::new(rt.alloc(), Kind::Prepare, &[], &[])?;
-        assert!(rt; agenda.is_done());
-        Ok(())
-    }
-
-    #[test]
-    fn who_is_lost_at_the_thaw_is_not_asked_again(rt: HostRuntime) -> Result<(), Fail> {
-        let mut agenda = Agenda::new(rt.alloc(), Kind::Snapshot, &[SERVER, LONE], &[])?;
-        let waited = [[63, 0].as_slice(), &[63], &[0], &[], &[], &[]];
-        for writers in waited {
-            close_group(&rt, &mut agenda, writers, false);
-        }
-        assert_eq!(rt; agenda.level(), Some(Level::BackEnd));
-        assert!(rt; agenda.is_asking());
-        assert_eq!(rt; agenda.waited().bits(), 1);
-        agenda.lose();
-        assert_eq!(rt; agenda.level(), Some(Level::FrontEnd));
-        close_group(&rt, &mut agenda, &[63], false);
-        assert_eq!(rt;
-            agenda.open_group(),
-            Some(Group::Orders(Order::PostSnapshot))
-        );
-        assert!(rt; !agenda.is_open(0));
-        assert!(rt; agenda.is_open(63));
         Ok(())
     }
 }

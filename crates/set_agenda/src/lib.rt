@@ -13,6 +13,7 @@
 
 mod agenda;
 mod cursor;
+mod distinct;
 mod group;
 mod kind;
 mod limit;
@@ -22,6 +23,7 @@ mod rows;
 mod writer_set;
 
 pub use agenda::Agenda;
+pub use distinct::are_distinct;
 pub use group::Group;
 pub use kind::Kind;
 pub use limit::Limit;

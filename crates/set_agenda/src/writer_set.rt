@@ -1,4 +1,4 @@
-ghost use Rattle.std.specs.Prelude.{◌≡◌, ◌<◌, ◌==◌, ◌||◌, List, [], ◌∷◌, ℕ};
+ghost use Rattle.std.specs.Prelude.{◌≡◌, ◌<◌, ◌^◌, ◌==◌, ◌||◌, List, [], ◌∷◌, ℕ};
 ghost use Rattle.set_agenda.specs.Agenda.{is_among};
 ghost use Rattle.set_agenda.specs.Advance.{others};
 ghost use Rattle.set_agenda.specs.WriterSet.{is_nil, writers, writers_of};
@@ -33,6 +33,13 @@ impl WriterSet {
         WriterSet { bits: 1 << writer }
     }
 
+    /// The writers whose bits are set: writer w where bit w is.
+    pub fn of_bits(bits: u64) -> WriterSet
+        ensures { result ≡ writers_of bits }
+    {
+        WriterSet { bits }
+    }
+
     /// The same set once more.
     pub fn copied(&self) -> WriterSet
         ensures { result ≡ self.now }
@@ -40,9 +47,10 @@ impl WriterSet {
         WriterSet { bits: self.bits }
     }
 
-    /// Bit w is set exactly for a writer w of the set.
+    /// Bit w is set exactly for a writer w of the set. `of_bits` gives the set back.
     pub fn bits(&self) -> u64
-        ensures { writers_of result ≡ self.now }
+        ensures writers { writers_of result ≡ self.now }
+        ensures alone { (bits : ℕ) → bits < 2 ^ 64 → writers_of bits ≡ self.now → bits ≡ result }
     {
         self.bits
     }
@@ -83,21 +91,5 @@ impl WriterSet {
         WriterSet {
             bits: self.bits | other.bits,
         }
-    }
-}
-
-#[cfg(test)]
-mod tests {
-    use super::*;
-
-    #[test]
-    fn a_set_has_a_bit_for_each_writer(rt: HostRuntime) {
-        let mut set = WriterSet::of(3);
-        set.insert(63);
-        assert_eq!(rt; set.bits(), 0x8000_0000_0000_0008);
-        assert!(rt; set.contains(63));
-        assert_eq!(rt; set.minus(&WriterSet::of(63)).bits(), 8);
-        assert_eq!(rt; set.with(&WriterSet::of(0)).bits(), 0x8000_0000_0000_0009);
-        assert!(rt; WriterSet::new().copied().is_empty());
     }
 }

@@ -55,10 +55,6 @@ empty = record { sent = no_orders; open_order = None }
 abbrev pub number_of : Mailbox → ℕ
 number_of m = total m.sent
 
--- how many orders of a kind were sent
-abbrev pub nth_of : Order → Mailbox → ℕ
-nth_of o m = count_of o m.sent
-
 abbrev pub is_open : Mailbox → Bool
 is_open m = is_some m.open_order
 

@@ -35,6 +35,21 @@ impl Mailboxes {
         })
     }
 
+    /// How many writers there are.
+    pub fn len(&self) -> usize
+        ensures { result ≡ length self.now }
+    {
+        self.mailboxes.len()
+    }
+
+    /// How many orders the writer was sent, which is the number of the last one.
+    pub fn sent(&self, writer: u32) -> u64
+        requires { writer < length self.now }
+        ensures { result ≡ number_of (mailbox_at self.now writer) }
+    {
+        self.mailboxes[writer as usize].sent.total()
+    }
+
     /// Sends an order to the writer, and answers the order's number. Numbers of one writer's orders count up from 1
     /// and never come again. A writer is sent fewer than 4,294,967,295 orders.
     pub fn send(&mut self, writer: u32, order: Order) -> u64

@@ -4,6 +4,7 @@ use Rattle.std.proofs.lemmas.Bool.Decides.{nat_tests}
 use Rattle.std.specs.List.{list_all}
 use Rattle.serde_json.specs.Data.{Data, null, boolean, number, string, array, object, Num, unsigned, negative, float, Items, no_items, item, Members}
 use Rattle.serde_json.specs.Find.{get, as_object}
+use Rattle.tick_limits.specs.Time.{default_freeze}
 use Rattle.writer_meta.specs.declared.field.Field.{Field}
 use Rattle.writer_meta.specs.declared.field.Field.TheVariants as field
 use Rattle.writer_meta.specs.Metadata.{Part}
@@ -69,7 +70,7 @@ name_in-allowed d name e =
 
 pub freeze_timeout_in-allowed : (d : Data) (ticks : ℕ) → freeze_timeout_in d ≡ Ok ticks → is_freeze_timeout ticks ≡ true
 unfolding freeze_timeout_in
-freeze_timeout_in-allowed d ticks e = optional-Ok 60000 freeze_timeout_value field.FreezeTimeout is_freeze_timeout (get (codes "freeze_timeout") d) ticks refl freeze_timeout_value-passes e
+freeze_timeout_in-allowed d ticks e = optional-Ok default_freeze freeze_timeout_value field.FreezeTimeout is_freeze_timeout (get (codes "freeze_timeout") d) ticks refl freeze_timeout_value-passes e
 
 path_in-allowed : (d : Data) (path : List ℕ) → path_in d ≡ Ok path → is_path path ≡ true
 unfolding path_in

@@ -8,8 +8,8 @@ use Rattle.writer_meta.specs.Document.{double_after}
 abbrev pub is_allowed_part : Part → Bool
 is_allowed_part part = is_path part.path && is_component_name part.name
 
--- a class of sixteen bytes, names and paths of the allowed bytes and lengths, 1 to 60,000 ticks, and at most 1,024
--- components, no two of one full name
+-- a class of sixteen bytes, names and paths of the allowed bytes and lengths, a time-out that a writer may state, and
+-- at most 1,024 components, no two of one full name
 pub record IsAllowed (m : Meta) : Type 0 where
   pub class : m.class < 2 ^ 128
   pub name : IsTrue (is_writer_name m.name)

@@ -6,6 +6,7 @@ use Rattle.std.specs.Str.{bytes_eq, is_utf8}
 use Rattle.serde_json.specs.Data.{Data, Items, no_items, item, Members, no_members, member}
 use Rattle.serde_json.specs.Read.{read}
 use Rattle.serde_json.specs.Find.{get, as_array, as_object}
+use Rattle.tick_limits.specs.Time.{default_freeze}
 use Rattle.vss_names.specs.declared.level.Level.{Level}
 use Rattle.vss_names.specs.declared.usage.Usage.{Usage}
 use Rattle.vss_names.specs.declared.source_kind.SourceKind.{SourceKind}
@@ -53,9 +54,9 @@ usage_in d = required usage_value field.Usage d
 unfoldable pub source_in : Data → Result SourceKind Refusal
 source_in d = required source_value field.Source d
 
--- 60,000 ticks, where nothing is said
+-- the longest time-out, where nothing is said
 unfoldable pub freeze_timeout_in : Data → Result ℕ Refusal
-freeze_timeout_in d = optional 60000 freeze_timeout_value field.FreezeTimeout (get (codes "freeze_timeout") d)
+freeze_timeout_in d = optional default_freeze freeze_timeout_value field.FreezeTimeout (get (codes "freeze_timeout") d)
 
 unfoldable pub components_in : Data → Result Items Refusal
 components_in d = required as_array field.Components d

@@ -6,6 +6,7 @@ use Rattle.std.specs.List.{list_all, list_any, starts_with, ends_with}
 use Rattle.serde_json.specs.Data.{Data}
 use Rattle.serde_json.specs.Find.{as_bool, as_number, as_str, as_u64}
 use Rattle.uuid.specs.Text.{parsed}
+use Rattle.tick_limits.specs.Time.{default_freeze}
 use Rattle.vss_names.specs.declared.level.Level.{Level}
 use Rattle.vss_names.specs.declared.usage.Usage.{Usage}
 use Rattle.vss_names.specs.declared.source_kind.SourceKind.{SourceKind}
@@ -46,7 +47,7 @@ is_path path =
     && not (has_double_from false path)
 
 abbrev pub is_freeze_timeout : ℕ → Bool
-is_freeze_timeout ticks = nat_le 1 ticks && nat_le ticks 60000
+is_freeze_timeout ticks = nat_le 1 ticks && nat_le ticks default_freeze
 
 -- x, where it passes
 abbrev pub some_if : {A : Type 0} → Bool → A → Option A

@@ -9,10 +9,8 @@ use crate::meta_fault::MetaFault;
 use crate::values;
 use serde_json::Value;
 use std::alloc::Global;
+use tick_limits::DEFAULT_FREEZE;
 use vss_names::{ComponentType, Level, SourceKind, Text, Usage};
-
-/// The time-out of a writer that says none, in ticks.
-const DEFAULT_FREEZE_TIMEOUT: u32 = 60_000;
 
 #[tactic(auto, unfolding(crate::specs::Document::class_in))]
 pub(crate) fn class_in(document: &Value) -> Result<u128, MetaFault>
@@ -90,7 +88,7 @@ pub(crate) fn freeze_timeout_in(document: &Value) -> Result<u32, MetaFault>
     ensures refused { IfErr result (λ fault. Tells fault (freeze_timeout_in (view document.now))) }
 {
     let Some(value) = document.get("freeze_timeout") else {
-        return Ok(DEFAULT_FREEZE_TIMEOUT);
+        return Ok(DEFAULT_FREEZE);
     };
     let Some(ticks) = values::freeze_timeout_of(value) else {
         return Err(MetaFault::WrongKind(Field::FreezeTimeout));

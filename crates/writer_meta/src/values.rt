@@ -5,6 +5,7 @@ ghost use Rattle.serde_json.specs.View.{view};
 ghost use Rattle.writer_meta.specs.Values.{is_printable, is_writer_name, has_backslash, is_component_name, has_double_from, is_path, is_freeze_timeout, class_value, name_value, level_value, usage_value, source_value, freeze_timeout_value, kind_value, path_value, component_name_value, selectable_value};
 
 use serde_json::Value;
+use tick_limits::DEFAULT_FREEZE;
 use uuid::Uuid;
 use vss_names::{ComponentType, Level, SourceKind, Usage};
 
@@ -15,8 +16,6 @@ const MOST_COMPONENT_NAME: usize = 64;
 const MOST_PATH: usize = 255;
 /// No table has a greater number.
 const MOST_NUMBER: u64 = 4;
-
-const MOST_TICKS: u64 = 60_000;
 
 fn is_printable(byte: u8) -> bool
     ensures { result ≡ is_printable byte }
@@ -133,7 +132,7 @@ pub(crate) fn freeze_timeout_of(value: &Value) -> Option<u32>
     ensures { result ≡ freeze_timeout_value (view value.now) }
 {
     let ticks = value.as_u64()?;
-    if 1 <= ticks && ticks <= MOST_TICKS {
+    if 1 <= ticks && ticks <= u64::from(DEFAULT_FREEZE) {
         Some(ticks as u32)
     } else {
         None

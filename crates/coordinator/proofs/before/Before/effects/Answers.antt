@@ -8,8 +8,8 @@ use Rattle.coordinator.proofs.before.Before.effects.Goals as goal
 
 pub returns : goal.returns
 returns c = λ ran d e b h. record {
-  thawed = c.bits.ensures ∙ c.minus.ensures ∙ newly-others (is_frozen e.agenda) (is_frozen d.agenda) c.frozen_now-frozen.result c.args.self.now.frozen (c.frozen_now-frozen.ensures e.agenda h.agenda) b.frozen;
-  frozen = c.bits-2.ensures ∙ c.minus-2.ensures ∙ newly-others (is_frozen d.agenda) (is_frozen e.agenda) c.args.self.now.frozen c.frozen_now-frozen.result b.frozen (c.frozen_now-frozen.ensures e.agenda h.agenda);
+  thawed = c.bits.ensures.writers ∙ c.minus.ensures ∙ newly-others (is_frozen e.agenda) (is_frozen d.agenda) c.frozen_now-frozen.result c.args.self.now.frozen (c.frozen_now-frozen.ensures e.agenda h.agenda) b.frozen;
+  frozen = c.bits-2.ensures.writers ∙ c.minus-2.ensures ∙ newly-others (is_frozen d.agenda) (is_frozen e.agenda) c.args.self.now.frozen c.frozen_now-frozen.result b.frozen (c.frozen_now-frozen.ensures e.agenda h.agenda);
   lost = new-is;
   lost_order = refl;
   outcome = c.outcome_told.ensures ∙ ap (λ o. outcome_told o c.args.after.now.outcome) b.outcome ∙ ap (outcome_told d.outcome) h.outcome;

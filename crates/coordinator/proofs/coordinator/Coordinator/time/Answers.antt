@@ -29,7 +29,7 @@ returns-clause-tells c = λ d h.
     record {
       frozen = t.frozen;
       thawed = t.thawed;
-      lost = c.bits.ensures ∙ lost;
+      lost = c.bits.ensures.writers ∙ lost;
       lost_order = c.lost_order_if-lost_order.ensures ∙ ap (λ ws. lost_order_if ws c.open_order.result) lost ∙ ap (lost_order_if (lost_writers c.args.now d)) (c.open_order.ensures ∙ ap order_now (left-is c.self.inside.kept d g.follows));
       outcome = t.outcome;
       agenda_ended = t.agenda_ended;

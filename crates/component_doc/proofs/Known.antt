@@ -1,0 +1,116 @@
+-- The metadata of one writer, by its number.
+use Rattle.std.proofs.Common.{◌≡◌, ◌∙◌, ℕ, zero, suc, ◌+◌, ◌<◌, ◌≤◌, ◌==◌, ◌↔◌, append_assoc, append-nil, is_some, if◌then◌else◌, List, [], ◌∷◌, ◌++◌, length, drop, map, nat_le, Bool, true, ◌&&◌, Option, None, Some, option_map, slice_get, arith, refl, sym, ap, subst}
+use Rattle.std.proofs.lemmas.Bool.Decides.{nat_tests}
+use Rattle.std.proofs.lemmas.Bool.{eqb-true}
+use Rattle.std.proofs.lemmas.List.{drop_all, length-map}
+use Rattle.std.proofs.lemmas.Option.{none-some, same_Some}
+use Rattle.writer_meta.specs.declared.metadata.Metadata.{Metadata}
+use Rattle.writer_meta.specs.Metadata.{Meta, part_of, meta_of}
+use Rattle.writer_meta.specs.Allowed.{IsAllowed}
+use Rattle.writer_meta.proofs.Laws.{and_left, and_right}
+use Rattle.component_doc.specs.declared.choice.Choice.{Choice}
+use Rattle.component_doc.proofs.Order.{both, drop-further}
+use Rattle.component_doc.specs.Held.{metas_of, has_few, all_have_few}
+use Rattle.component_doc.specs.Over.{AreAllowed, IsOver, IsSelectedOver, meta_at}
+use Rattle.component_doc.specs.Selection.{Selected, choices_of, chosen, chosen_from, found_in, found_of, known_from}
+
+pub map-at : {A B : Type 0} (f : A → B) (xs : List A) (i : ℕ) (x : A) → slice_get xs i ≡ Some x → slice_get (map f xs) i ≡ Some (f x)
+map-at f [] i x e = absurd (none-some x e)
+map-at f (y ∷ xs) zero x e = ap (λ z. Some (f z)) (same_Some y x e)
+map-at f (y ∷ xs) (suc i) x e = map-at f xs i x e
+
+-- what is borrowed of a writer
+pub get-some : {R : Type 0} (xs : List (Option R)) (f : R → Metadata) (w : ℕ) (known : Option R) → slice_get xs w ≡ Some known
+    → option_map (λ r. meta_of (f r)) known ≡ meta_at (slice_get (metas_of (map (option_map f) xs)) w)
+get-some xs f w None at = sym (ap meta_at (map-at (option_map meta_of) (map (option_map f) xs) w None (map-at (option_map f) xs w None at)))
+get-some xs f w (Some r) at = sym (ap meta_at (map-at (option_map meta_of) (map (option_map f) xs) w (Some (f r)) (map-at (option_map f) xs w (Some r) at)))
+
+pub get-none : {R : Type 0} (f : R → Metadata) (xs : List (Option R)) (w : ℕ) → slice_get xs w ≡ None → None ≡ meta_at (slice_get (metas_of (map (option_map f) xs)) w)
+get-none f [] w e = refl
+get-none f (x ∷ xs) zero e = cc
+get-none f (x ∷ xs) (suc w) e = get-none f xs w e
+
+pub known-is : {R : Type 0} (r : Option R) (m : R) (f : R → Metadata) (x : Option Meta) → r ≡ Some m → option_map (λ k. meta_of (f k)) r ≡ x → Some (meta_of (f m)) ≡ x
+known-is r m f x is e = sym (ap (option_map (λ k. meta_of (f k))) is) ∙ e
+
+-- ## what holds of each writer
+
+pub few-known : (ms : List (Option Meta)) (w : ℕ) → all_have_few ms ≡ true → has_few (meta_at (slice_get ms w)) ≡ true
+few-known [] w all = refl
+few-known (x ∷ ms) zero all = and_left (has_few x) _ all
+few-known (x ∷ ms) (suc w) all = few-known ms w (and_right (has_few x) _ all)
+
+pub few-components : (ms : List (Option Meta)) (w : ℕ) (m : Metadata) → Some (meta_of m) ≡ meta_at (slice_get ms w) → all_have_few ms ≡ true → length m.components ≤ 1024
+few-components ms w m at all =
+    let few : nat_le (length (map part_of m.components)) 1024 ≡ true = subst (λ (o : Option Meta). has_few o ≡ true) (sym at) (few-known ms w all) in
+    grind (arith, nat_tests, length-map, few)
+
+pub allowed-known : (ms : List (Option Meta)) (w : ℕ) (m : Meta) → Some m ≡ meta_at (slice_get ms w) → AreAllowed ms → IsAllowed m
+allowed-known [] w m at all = absurd (none-some m (sym at))
+allowed-known (None ∷ ms) zero m at all = absurd (none-some m (sym at))
+allowed-known (Some x ∷ ms) zero m at all = subst IsAllowed (sym (same_Some m x at)) all.0
+allowed-known (None ∷ ms) (suc w) m at all = allowed-known ms w m at all
+allowed-known (Some x ∷ ms) (suc w) m at all = allowed-known ms w m at all.1
+
+-- ## a component by its full name
+
+pub found-none : (name : List ℕ) (o : Option (Option Meta)) → None ≡ meta_at o → None ≡ found_of name o
+found-none name None e = refl
+found-none name (Some None) e = refl
+found-none name (Some (Some m)) e = absurd (none-some m e)
+
+pub found-some : (name : List ℕ) (o : Option (Option Meta)) (m : Meta) → Some m ≡ meta_at o → found_in name m.parts ≡ found_of name o
+found-some name None m e = absurd (none-some m (sym e))
+found-some name (Some None) m e = absurd (none-some m (sym e))
+found-some name (Some (Some x)) m e = ap (λ (y : Meta). found_in name y.parts) (same_Some m x e)
+
+-- ## writer after writer
+
+some-map : {A B : Type 0} (f : A → B) (o : Option A) → is_some o ≡ is_some (option_map f o)
+some-map f None = refl
+some-map f (Some x) = refl
+
+known-step : (a w : ℕ) (ms : List (Option Meta)) → w < length ms
+    → (if is_some (meta_at (slice_get ms w)) then a ∷ [] else []) ++ known_from (a + 1) (drop (w + 1) ms) ≡ known_from a (drop w ms)
+known-step a w [] l = absurd (omega arith)
+known-step a zero (None ∷ ms) l = refl
+known-step a zero (Some x ∷ ms) l = refl
+known-step a (suc w) (x ∷ ms) l = ap (λ ys. (if is_some (meta_at (slice_get ms w)) then a ∷ [] else []) ++ known_from (a + 1) ys) (drop-further w x ms) ∙ known-step a w ms (omega arith)
+
+pub known-on : {R : Type 0} (ms : List (Option Meta)) (w : ℕ) (ws new : List ℕ) (b : Bool) (f : R → Meta) (r : Option R) → w < length ms → new ≡ ws ++ (if b then w ∷ [] else []) → b ≡ is_some r
+    → option_map f r ≡ meta_at (slice_get ms w) → ws ++ known_from w (drop w ms) ≡ known_from 0 ms → new ++ known_from (w + 1) (drop (w + 1) ms) ≡ known_from 0 ms
+known-on ms w ws new b f r l is some at so_far =
+    let known : b ≡ is_some (meta_at (slice_get ms w)) = some ∙ some-map f r ∙ ap is_some at in
+    ap (λ ys. ys ++ known_from (w + 1) (drop (w + 1) ms)) (is ∙ ap (λ x. ws ++ (if x then w ∷ [] else [])) known)
+    ∙ rw append_assoc (ap (λ ys. ws ++ ys) (known-step w w ms l))
+    ∙ so_far
+
+pub known-end : (ms : List (Option Meta)) (w : ℕ) (ws : List ℕ) → length ms ≤ w → ws ++ known_from w (drop w ms) ≡ known_from 0 ms → ws ≡ known_from 0 ms
+known-end ms w ws past so_far = sym (append-nil ws) ∙ ap (λ ys. ws ++ known_from w ys) (sym (drop_all w ms past)) ∙ so_far
+
+chosen-step : (s : Selected) (a w : ℕ) (ms : List (Option Meta)) → w < length ms
+    → choices_of s a (meta_at (slice_get ms w)) ++ chosen_from s (a + 1) (drop (w + 1) ms) ≡ chosen_from s a (drop w ms)
+chosen-step s a w [] l = absurd (omega arith)
+chosen-step s a zero (m ∷ ms) l = refl
+chosen-step s a (suc w) (m ∷ ms) l = ap (λ ys. choices_of s a (meta_at (slice_get ms w)) ++ chosen_from s (a + 1) ys) (drop-further w m ms) ∙ chosen-step s a w ms (omega arith)
+
+pub chosen-on : (s t : Selected) (ms : List (Option Meta)) (w : ℕ) (cs new : List Choice) (o : Option Meta) → t ≡ s → w < length ms → new ≡ cs ++ choices_of t w o → o ≡ meta_at (slice_get ms w)
+    → cs ++ chosen_from s w (drop w ms) ≡ chosen s ms → new ++ chosen_from s (w + 1) (drop (w + 1) ms) ≡ chosen s ms
+chosen-on s t ms w cs new o same l is at so_far =
+    ap (λ ys. ys ++ chosen_from s (w + 1) (drop (w + 1) ms)) (is ∙ ap (λ (u : Selected). cs ++ choices_of u w o) same ∙ ap (λ x. cs ++ choices_of s w x) at)
+    ∙ rw append_assoc (ap (λ ys. cs ++ ys) (chosen-step s w w ms l))
+    ∙ so_far
+
+-- ## a selection over these metadata
+
+pub over-both : (ms : List (Option Metadata)) (n : ℕ) (s : Selected) (b r : Bool) → r ≡ ((n == length ms) && b) → (b ≡ true) ↔ IsSelectedOver (metas_of ms) s
+    → (r ≡ true) ↔ IsOver (metas_of ms) (record { writers = n; selected = s })
+over-both ms n s b r e h = let same : length (metas_of ms) ≡ length ms = simp length-map in (
+  λ t.
+      let all : ((n == length ms) && b) ≡ true = sym e ∙ t in
+      record { writers = eqb-true n (length ms) (and_left _ _ all) ∙ sym same; selected = h.0 (and_right (n == length ms) b all) },
+  λ over.
+      let len : n ≡ length ms = over.writers ∙ same in
+      let here : (n == length ms) ≡ true = grind (arith, nat_tests) in
+      e ∙ both (n == length ms) b here (h.1 over.selected),
+)
