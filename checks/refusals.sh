@@ -1,7 +1,10 @@
 #!/usr/bin/env bash
-# Bad words and bad input get their status, one line on the standard error, and nothing on the standard output.
+# Bad words and bad input get their status, one line on the standard error, and nothing on the standard output, from the proved
+# program, or the one that is named.
 set -u
-cd "$(dirname "$0")/.."
+top="$(cd "$(dirname "$0")/.." && pwd)" || exit 70
+. "$top/tools/program.sh"
+program="$(program_to_check "$@")" || exit 1
 failed=0
 
 # status, the line on the standard error, the input with \n for newlines, and the words
@@ -10,7 +13,7 @@ refuses() {
   shift 3
   local out err got
   err="$(mktemp)"
-  out="$(printf "$input" | ./vss "$@" 2> "$err")"
+  out="$(printf "$input" | "$program" "$@" 2> "$err")"
   got=$?
   if [ "$got" != "$status" ] || [ "$(cat "$err")" != "$line" ] || [ -n "$out" ]; then
     echo "refusal: \`vss $*\` of \"$input\" ended with $got and \"$(cat "$err")\", and not with $status and \"$line\"" >&2
