@@ -4,4 +4,4 @@ pub mod Over
 pub mod Document
 pub mod Reading
 pub mod Refusal
-pub mod Printed
+pub mod Messages

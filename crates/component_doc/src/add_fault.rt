@@ -1,5 +1,5 @@
 ghost use Rattle.std.specs.Prelude.{Some};
-ghost use Rattle.component_doc.specs.Printed.{printed};
+ghost use Rattle.component_doc.specs.Messages.{message_of};
 
 use std::error::Error;
 use std::fmt;
@@ -18,7 +18,7 @@ pub enum AddFault {
 }
 
 impl fmt::Display for AddFault {
-    ghost output = { λ fault. Some (printed fault) };
+    ghost output = { λ fault. Some (message_of fault) };
 
     fn fmt<W: fmt::Write>(&self, f: &mut fmt::Formatter<W>) -> fmt::Result {
         f.write_str(match self {

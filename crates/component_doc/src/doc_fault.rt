@@ -1,5 +1,5 @@
 ghost use Rattle.std.specs.Prelude.{Some};
-ghost use Rattle.component_doc.specs.Printed.{printed_of_text};
+ghost use Rattle.component_doc.specs.Messages.{message_of_text};
 
 use std::error::Error;
 use std::fmt;
@@ -16,7 +16,7 @@ pub enum DocFault {
 }
 
 impl fmt::Display for DocFault {
-    ghost output = { λ fault. Some (printed_of_text fault) };
+    ghost output = { λ fault. Some (message_of_text fault) };
 
     fn fmt<W: fmt::Write>(&self, f: &mut fmt::Formatter<W>) -> fmt::Result {
         f.write_str(match self {

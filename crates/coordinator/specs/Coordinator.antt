@@ -1,6 +1,6 @@
 -- What contracts see of a coordinator: the names and classes of the registered writers, and what is kept of the course
 -- of the session. The words here are those in which the conditions of its calls are said. (This project's own.)
-use Rattle.std.specs.Prelude.{ℕ, ◌≡◌, ◌<◌, ◌-◌, ◌^◌, ◌==◌, ◌+◌, ◌++◌, ◌&&◌, ◌||◌, Bool, true, false, List, [], ◌∷◌, codes, length, position, slice_get, Option, Some, None, option_map, is_some, Result, Ok, Err, Vec}
+use Rattle.std.specs.Prelude.{ℕ, ◌≡◌, ◌<◌, ◌-◌, ◌^◌, ◌==◌, ◌+◌, ◌++◌, ◌&&◌, ◌||◌, Bool, true, false, List, [], ◌∷◌, length, position, slice_get, Option, Some, None, option_map, is_some, Result, Ok, Err, Vec}
 use Rattle.std.specs.List.{list_any}
 use Rattle.std.specs.Global.{Global}
 use Rattle.std.specs.Str.{bytes_eq}
@@ -102,7 +102,3 @@ abbrev pub double_of : Result ℕ RegisterFault → Option ℕ
 double_of (Ok w) = None
 double_of (Err (Double at)) = Some at
 double_of (Err OutOfMemory) = None
-
-abbrev pub printed : RegisterFault → List ℕ
-printed (Double at) = codes "a writer of this name is registered"
-printed OutOfMemory = codes "out of memory"

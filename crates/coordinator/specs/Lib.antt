@@ -3,5 +3,6 @@ pub mod Coordinator
 pub mod Effects
 pub mod KeptCourse
 pub mod KeptLimits
+pub mod Messages
 pub mod OpenOrders
 pub mod RunningAgenda

@@ -1,5 +1,5 @@
 ghost use Rattle.std.specs.Prelude.{Some};
-ghost use Rattle.coordinator.specs.Coordinator.{printed};
+ghost use Rattle.coordinator.specs.Messages.{message_of};
 
 use std::error::Error;
 use std::fmt;
@@ -25,7 +25,7 @@ impl From<OutOfMemory> for RegisterFault {
 }
 
 impl fmt::Display for RegisterFault {
-    ghost output = { λ fault. Some (printed fault) };
+    ghost output = { λ fault. Some (message_of fault) };
 
     fn fmt<W: fmt::Write>(&self, f: &mut fmt::Formatter<W>) -> fmt::Result {
         match self {

@@ -4,3 +4,4 @@ pub mod Metadata
 pub mod Refusal
 pub mod Values
 pub mod Written
+pub mod Messages

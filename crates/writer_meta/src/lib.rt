@@ -14,6 +14,7 @@ mod field;
 mod meta_fault;
 mod metadata;
 mod rows;
+mod shown;
 mod unknown;
 mod utf8;
 mod values;

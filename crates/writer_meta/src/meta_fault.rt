@@ -1,4 +1,8 @@
+ghost use Rattle.std.specs.Prelude.{Some};
+ghost use Rattle.writer_meta.specs.Messages.{message_of};
+
 use crate::field::Field;
+use crate::shown::Shown;
 use std::alloc::{AllocError, AllocFailed};
 use std::error::Error;
 use std::fmt;
@@ -22,6 +26,8 @@ pub enum MetaFault {
 }
 
 impl fmt::Display for MetaFault {
+    ghost output = { λ fault. Some (message_of fault) };
+
     fn fmt<W: fmt::Write>(&self, f: &mut fmt::Formatter<W>) -> fmt::Result {
         match self {
             MetaFault::NotJson => f.write_str("no JSON"),
@@ -30,32 +36,21 @@ impl fmt::Display for MetaFault {
                 write!(f, "`{}` has a value that is not allowed", field.member())
             }
             MetaFault::UnknownName(name) => {
-                f.write_str("unknown member `")?;
-                write_bytes(f, name.bytes())?;
-                f.write_str("`")
+                let shown = Shown {
+                    bytes: name.bytes(),
+                };
+                write!(f, "unknown member `{shown}`")
             }
             MetaFault::DoubleComponent(name) => {
-                f.write_str("a second component `")?;
-                write_bytes(f, name.bytes())?;
-                f.write_str("`")
+                let shown = Shown {
+                    bytes: name.bytes(),
+                };
+                write!(f, "a second component `{shown}`")
             }
             MetaFault::TooMany => f.write_str("more than 1024 components"),
             MetaFault::OutOfMemory => f.write_str("out of memory"),
         }
     }
-}
-
-/// Writes the printable ASCII characters as they are, and `?` for each other byte.
-fn write_bytes<W: fmt::Write>(f: &mut fmt::Formatter<W>, bytes: &[u8]) -> fmt::Result {
-    for byte in bytes {
-        let shown = if byte.is_ascii_graphic() || *byte == b' ' {
-            char::from(*byte)
-        } else {
-            '?'
-        };
-        f.write_char(shown)?;
-    }
-    Ok(())
 }
 
 impl Error for MetaFault {}
