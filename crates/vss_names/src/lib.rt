@@ -43,4 +43,3 @@ pub use usage::Usage;
 pub use vss_result::VssResult;
 pub use writer_error::WriterError;
 pub use writer_state::WriterState;
-

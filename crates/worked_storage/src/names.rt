@@ -1,10 +1,10 @@
 //! The tables against the SDK's own headers, and what printing writes.
 
+use std::test::Fail;
 use vss_names::{
     ComponentType, Context, Level, Order, OutOfMemory, SourceKind, Usage, VssResult, WriterError,
     WriterState,
 };
-use std::test::Fail;
 
 #[test]
 fn states_have_the_numbers_and_names_of_the_sdk(rt: HostRuntime) {

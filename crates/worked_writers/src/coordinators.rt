@@ -51,11 +51,7 @@ fn begin(
 }
 
 /// The lone writer or the provider does what is asked of it.
-fn go_on(
-    rt: &impl Abort,
-    coordinator: &mut Coordinator,
-    now: u64,
-) -> Result<Effects, StaleAnswer> {
+fn go_on(rt: &impl Abort, coordinator: &mut Coordinator, now: u64) -> Result<Effects, StaleAnswer> {
     assert!(rt; coordinator.posts() < 1_000);
     if coordinator.is_working() {
         return Ok(coordinator.stepped(true, now));
