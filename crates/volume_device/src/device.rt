@@ -9,7 +9,7 @@ use vss_names::Failed;
 
 /// A row of blocks of `BLOCK` bytes, whose calls may fail. Each failed call raises the device's count of faults,
 /// and leaves the contents as they were.
-pub trait Device: Send + Drop {
+pub trait Device: Drop {
     /// Its blocks, where it tells them. Whether it tells never changes.
     ghost told: { Self → Option (List (List ℕ)) };
 
