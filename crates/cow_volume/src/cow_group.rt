@@ -101,7 +101,7 @@ impl<D: Device> CowGroup<D> {
         self.copies.images(v)
     }
 
-    /// How many slots the images of a volume use. All slots are looked at.
+    /// How many slots the images of a volume use.
     pub fn used(&self, v: u32) -> u32
         requires { v < length self.now.area.volumes }
         ensures { (hs : List History) → StandsFor D.told self.now hs → result ≡ used (blocks_at self.now v) (history_at hs v).writes (history_at hs v).images }
@@ -110,7 +110,8 @@ impl<D: Device> CowGroup<D> {
         self.copies.used_on(v)
     }
 
-    /// How many slots the image of a set uses; None where no such image stands on the volume. All slots are looked at.
+    /// How many slots the image of a set uses; None where no such image stands on the volume. All copies of
+    /// the volume are looked at.
     pub fn used_by(&self, v: u32, set: u32) -> Option<u32>
         requires { v < length self.now.area.volumes }
         ensures { (hs : List History) → StandsFor D.told self.now hs → result ≡ used_by (blocks_at self.now v) (history_at hs v).writes (history_at hs v).images set }

@@ -11,24 +11,24 @@ returns-then-block-blocks g c =
     no_block g.D.Device.told g.D.Device.size g.D.Device.count g.D.Device.lending c.args.self.now c.args.v c.args.block (rw (← c.self.view_is) past)
 
 pub make_room-evicted_up_to-requires-clause-in_range : goal.make_room-evicted_up_to-requires-clause-in_range
-make_room-evicted_up_to-requires-clause-in_range g c = λ κs lives.
+make_room-evicted_up_to-requires-clause-in_range g c =
     let low = within_blocks c.self.inside.devices.items c.self.inside.copies c.args.v c.args.block c.blocks-2.result c.blocks-2.ensures c.if-block-blocks.false in
     rw (← c.self.view_is) low
 
 pub write_with_room-requires-clause-volume : goal.write_with_room-requires-clause-volume
-write_with_room-requires-clause-volume g c = λ κs lives.
+write_with_room-requires-clause-volume g c =
     let same = ap (λ x. length x.area.volumes) c.make_room-evicted_up_to.ensures.gone in
     let within = c.requires in
     omega arith
 
 pub write_with_room-requires-clause-in_range : goal.write_with_room-requires-clause-in_range
-write_with_room-requires-clause-in_range g c = λ κs lives.
+write_with_room-requires-clause-in_range g c =
     let low = within_blocks c.self.inside.devices.items c.self.inside.copies c.args.v c.args.block c.blocks-2.result c.blocks-2.ensures c.if-block-blocks.false in
     let now : c.args.block < blocks_at c.args.self.now c.args.v = rw (← c.self.view_is) low in
     subst (λ (n : ℕ). c.args.block < n) (sym (ap (λ x. blocks_at x c.args.v) c.make_room-evicted_up_to.ensures.gone)) now
 
 pub write_with_room-requires-clause-room : goal.write_with_room-requires-clause-room
-write_with_room-requires-clause-room g c = λ κs lives. c.make_room-evicted_up_to.ensures.room
+write_with_room-requires-clause-room g c = c.make_room-evicted_up_to.ensures.room
 
 pub returns-in-Ok : goal.returns-in-Ok
 returns-in-Ok g c =

@@ -18,7 +18,7 @@ unreachable-requires g c =
     false≢true (sym room ∙ c.in_default.ensures.none.0 refl)
 
 pub copy_block-requires-clause-block : goal.copy_block-requires-clause-block
-copy_block-requires-clause-block g c = λ κs lives.
+copy_block-requires-clause-block g c =
     let within = rw (← c.self.view_is) at c.requires.volume in
     let low = rw (← c.self.view_is) at c.requires.in_range in
     let devices = c.self.inside.devices.items in
@@ -28,7 +28,7 @@ copy_block-requires-clause-block g c = λ κs lives.
     device_within g.D.Device.size devices copies.area.volumes c.args.v c.args.block d c.self.invariant at low
 
 pub copy_block-requires-clause-slot : goal.copy_block-requires-clause-slot
-copy_block-requires-clause-slot g c = λ κs lives.
+copy_block-requires-clause-slot g c =
     slice_get_within c.self.inside.copies.area.records c.in-Some.slot free (free_slot_is c.self.inside.copies.area.records c.in-Some.slot c.in-Some.ensures.lowest)
 
 pub invariant_of-self : goal.invariant_of-self
@@ -53,8 +53,8 @@ returns-in_err-copy_block g c =
     let is = not_copied g.D.Device.told g.D.Device.size g.D.Device.count g.D.Device.lending devices copies c.args.v d (record { block = c.args.block; bytes = payload_bytes c.args.payload.now }) low at c.copy_block.new.device c.copy_block.new.copies _ c.in_err-copy_block.ensures in
     rw (p.1, p.2, ← c.self.view_is) is
 
-pub put_block-requires-after_bounds : goal.put_block-requires-after_bounds
-put_block-requires-after_bounds g c = λ κs lives.
+pub put_block-requires : goal.put_block-requires
+put_block-requires g c =
     let within = rw (← c.self.view_is) at c.requires.volume in
     let low = rw (← c.self.view_is) at c.requires.in_range in
     let devices = c.self.inside.devices.items in
@@ -90,20 +90,20 @@ returns-in_err-put_block g c =
     rw (p.1, p.2, ← c.self.view_is) is
 
 pub note-requires-clause-lacks : goal.note-requires-clause-lacks
-note-requires-clause-lacks g c = λ κs lives.
+note-requires-clause-lacks g c =
     let lacks = rw (← c.self.view_is) at c.requires.lacks in
     let copied = c.in_ok-copy_block.ensures in
     lacks_still c.self.inside.copies c.copy_block.new.copies c.args.v c.args.block copied.area_on.records copied.area_on.images lacks
 
 pub note-requires-clause-in_range : goal.note-requires-clause-in_range
-note-requires-clause-in_range g c = λ κs lives.
+note-requires-clause-in_range g c =
     let low = rw (← c.self.view_is) at c.requires.in_range in
     let volumes = c.in_ok-copy_block.ensures.area_on.volumes in
     let same = blocks_index c.self.inside.copies.area.volumes c.args.v ∙ ap (λ (ns : List ℕ). slice_index ns c.args.v) (sym volumes) in
     subst (λ (n : ℕ). c.args.block < n) same low
 
 pub note-requires-clause-lowest : goal.note-requires-clause-lowest
-note-requires-clause-lowest g c = λ κs lives.
+note-requires-clause-lowest g c =
     subst (λ (rs : List Record). IsLowestFree (map is_free rs) c.in-Some.slot) (sym c.in_ok-copy_block.ensures.area_on.records) c.in-Some.ensures.lowest
 
 pub invariant_of-self-2 : goal.invariant_of-self-2

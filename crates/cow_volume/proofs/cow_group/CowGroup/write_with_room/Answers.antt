@@ -8,12 +8,12 @@ use Rattle.cow_volume.proofs.GroupWrites.{put_again, and_rest, put_size}
 use Rattle.cow_volume.proofs.cow_group.CowGroup.write_with_room.Goals as goal
 
 pub write_first-requires-clause-lacks : goal.write_first-requires-clause-lacks
-write_first-requires-clause-lacks g c = λ κs lives.
+write_first-requires-clause-lacks g c =
     let is : lacks_copy c.self.inside.copies.area.records c.args.v (sets_at (group_of c.self.inside.devices.items c.self.inside.copies) c.args.v) c.args.block ≡ true = sym c.lacks_copy.ensures ∙ c.if-lacks_copy.true in
     rw (← c.self.view_is) is
 
 pub write_first-requires-clause-room : goal.write_first-requires-clause-room
-write_first-requires-clause-room g c = λ κs lives.
+write_first-requires-clause-room g c =
     let is : lacks_copy c.self.inside.copies.area.records c.args.v (sets_at (group_of c.self.inside.devices.items c.self.inside.copies) c.args.v) c.args.block ≡ true = sym c.lacks_copy.ensures ∙ c.if-lacks_copy.true in
     let room = rw (← c.self.view_is) at c.requires.room in
     let rest = and_rest (lacks_copy c.self.inside.copies.area.records c.args.v (sets_at (group_of c.self.inside.devices.items c.self.inside.copies) c.args.v) c.args.block) (is_full c.self.inside.copies.area.records) is room in
@@ -22,8 +22,8 @@ write_first-requires-clause-room g c = λ κs lives.
 pub returns-then-lacks_copy : goal.returns-then-lacks_copy
 returns-then-lacks_copy g c = c.write_first.ensures
 
-pub put_block-requires-after_bounds : goal.put_block-requires-after_bounds
-put_block-requires-after_bounds g c = λ κs lives.
+pub put_block-requires : goal.put_block-requires
+put_block-requires g c =
     let within = rw (← c.self.view_is) at c.requires.volume in
     let low = rw (← c.self.view_is) at c.requires.in_range in
     let devices = c.self.inside.devices.items in
