@@ -34,3 +34,4 @@ pub mod RoomMade
 pub mod GroupSteps
 pub mod GroupWrites
 pub mod GroupCounts
+pub mod CopiedOnce
