@@ -7,18 +7,20 @@ use Rattle.cow_volume.proofs.copying.copy_bytes.Goals as goal
 pub returns-in-Ok : goal.returns-in-Ok
 returns-in-Ok g c =
     let table = c.in-Ok.ensures.table in
-    let old = c.args.copies.now in
-    (record {
-      device = record {
-        tells = c.in-Ok.ensures.copied ∙ ap (λ (bytes : List ℕ). put (place_of_slot (length old.area.records) c.args.slot) bytes (g.D.Device.told old.area.device)) c.new.ensures;
-        size_is = table.size_is;
-        lends = table.lends;
-        later = c.in-Ok.ensures.cause.later;
-      };
-      volumes = table.volumes;
-      records = table.records;
-      images = c.in-Ok.ensures.images;
-    }, c.in-Ok.ensures.cause.same)
+    let old = c.args.copies.now in (
+      record {
+        device = record {
+          tells = c.in-Ok.ensures.copied ∙ ap (λ (bytes : List ℕ). put (place_of_slot (length old.area.records) c.args.slot) bytes (g.D.Device.told old.area.device)) c.new.ensures;
+          size_is = table.size_is;
+          lends = table.lends;
+          later = c.in-Ok.ensures.cause.later;
+        };
+        volumes = table.volumes;
+        records = table.records;
+        images = c.in-Ok.ensures.images;
+      },
+      c.in-Ok.ensures.cause.same,
+    )
 
 pub returns-in-Err : goal.returns-in-Err
 returns-in-Err g c =
