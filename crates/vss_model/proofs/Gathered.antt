@@ -11,7 +11,7 @@ use Rattle.writer_state.specs.declared.said.Said.{Said}
 use Rattle.writer_state.specs.declared.writer_row.WriterRow.{WriterRow}
 use Rattle.write_history.specs.declared.mark.Mark.{Mark}
 use Rattle.write_history.specs.declared.mark.Mark.TheVariants.{Clean, Fault, FaultAfter}
-use Rattle.write_history.specs.History.{Write, History}
+use Rattle.write_history.specs.History.{Write, History, dropped}
 use Rattle.writer_meta.specs.Metadata.{Meta}
 use Rattle.component_doc.specs.Selection.{Pair, Selected, Named as NamedPairs, AllOf, naming, Names, is_taker, takers, all_of, known_from as known_of}
 use Rattle.component_doc.specs.Over.{meta_at, is_selectable_of, names_selectable}
@@ -22,7 +22,7 @@ use Rattle.set_agenda.specs.declared.kind.Kind.{Kind}
 use Rattle.set_agenda.specs.declared.kind.Kind.TheVariants.{Gather, Prepare, Snapshot, Complete}
 use Rattle.set_agenda.specs.declared.member.Member.{Member}
 use Rattle.set_agenda.specs.Agenda.{Agenda, groups_left, is_among, is_done, open_group, is_working}
-use Rattle.set_agenda.specs.Course.{Course, posted, settled_if, settled_in, settled, begun, failed as course_failed, member_if, members_from, is_member, answered as course_answered, stepped as course_stepped, timed as course_timed, released}
+use Rattle.set_agenda.specs.Course.{Course, change_at, posted, settled_if, settled_in, settled, begun, failed as course_failed, member_if, members_from, is_member, answered as course_answered, stepped as course_stepped, timed as course_timed, released}
 use Rattle.requestor.specs.declared.mode.Mode.{Mode}
 use Rattle.requestor.specs.declared.mode.Mode.TheVariants.{Components, All}
 use Rattle.requestor.specs.declared.stage.Stage.{Stage}
@@ -34,10 +34,12 @@ use Rattle.scenario.specs.Plan.{Plan, WriterPlan}
 use Rattle.vss_model.specs.State.{State, SetRow, Kept, start, in_progress, left_now}
 use Rattle.vss_model.specs.Ending.{Ending, NothingEnds, AgendaEnds, SetFails, ending, concluded, followed, runs, failed_in, failed}
 use Rattle.vss_model.specs.Images.{Replied, cleared, set_loses_image, with_room_if, put, write, reverted_as}
-use Rattle.vss_model.specs.Sessions.{begin_in, disable, has_failed_identify, has_no_volume, start_set, selected_in, is_known, meta_if, known_from, known_metas, closed}
+use Rattle.vss_model.specs.Sessions.{begin_in, disable, has_failed_identify, has_no_volume, start_set, change_set, with_volume, selected_in, is_known, meta_if, known_from, known_metas, closed}
 use Rattle.vss_model.specs.Steps.{answered, cut_set, step_made, is_flush, is_failed_step, stepped_as, stepped, ticked, later}
 use Rattle.vss_model.specs.Acts.{Act, after, state}
 use Rattle.vss_model.specs.Laws.{LetsGo}
+use Rattle.vss_model.specs.Facts.{WaitsFor, IsAgendaOf}
+use Rattle.vss_model.proofs.OrderlyActs.{orderly}
 use Rattle.vss_model.proofs.Rule.{IsKeptAt, after_at}
 use Rattle.vss_model.proofs.Orderly.{true_not_false}
 use Rattle.vss_model.proofs.LogRule.{unspoken, course-step_made}
@@ -628,3 +630,142 @@ asked_are_fit s st w (inr h) e = h.members w e
 -- who takes part has not failed at Identify
 pub participants_are_fit : (s : Plan) (acts : List Act) (w : ℕ) → is_member (state s acts).course.members w ≡ true → has_failed_identify (slice_get (state s acts).course.rows w) ≡ false
 participants_are_fit s acts w e = asked_are_fit s (state s acts) w (names_from s (start s) acts (inl (record { explicit = refl; members = refl; agenda = tt }))) e
+
+-- ## whom a session knows, once its writers are gathered
+
+late_asks : (a : Option Agenda) (q : Session) (rows : List WriterRow) → is_late q.stage ≡ true → IsAgendaOf a (Some q) → BareAgenda a → AsksFitIn a rows
+late_asks None q rows l w b = tt
+late_asks (Some a) q rows l w b = by_kind a.kind refl w b
+  where
+    by_kind : (k : Kind) → a.kind ≡ k → WaitsFor k q.context q.stage → (is_gathering a.kind ≡ true) ⊎ (a.members ≡ []) → AsksFit a rows
+    by_kind Gather e w b = absurd (true_not_false (is_late q.stage) l (ap is_late w))
+    by_kind Prepare e w (inl b) = absurd (true_not_false (is_gathering a.kind) b (ap is_gathering e))
+    by_kind Snapshot e w (inl b) = absurd (true_not_false (is_gathering a.kind) b (ap is_gathering e))
+    by_kind Complete e w (inl b) = absurd (true_not_false (is_gathering a.kind) b (ap is_gathering e))
+    by_kind Prepare e w (inr b) = record { kind = ap is_gathering e; fit = λ u f. absurd (nobody a.members u b f) }
+    by_kind Snapshot e w (inr b) = record { kind = ap is_gathering e; fit = λ u f. absurd (nobody a.members u b f) }
+    by_kind Complete e w (inr b) = record { kind = ap is_gathering e; fit = λ u f. absurd (nobody a.members u b f) }
+
+asks_in : (s : Plan) (st : State) (q : Session) → st.session ≡ Some q → is_late q.stage ≡ true → IsAgendaOf st.course.agenda st.session → NamesKnown s st → AsksFitIn st.course.agenda st.course.rows
+asks_in s st q e l w (inl h) = late_asks st.course.agenda q st.course.rows l (subst (IsAgendaOf st.course.agenda) e w) h.agenda
+asks_in s st q e l w (inr h) = h.agenda
+
+module _ (s : Plan) (st : State) where
+  -- a session that stands knows whom it knew
+  abbrev KnowsStill : State → Type 0
+  KnowsStill x = (p : Session) → x.session ≡ Some p → known_metas s x ≡ known_metas s st
+
+  knows_same : (x : State) → x.course ≡ st.course → KnowsStill x
+  knows_same x e p f = known_same s st x (ap (λ (c : Course). c.disabled) e) (λ w. ap (λ (c : Course). is_unfit c.rows w) e)
+
+  knows_kept : (x : State) (d : Course) → x.course ≡ d → d.disabled ≡ st.course.disabled → AsFit st.course.rows d.rows → KnowsStill x
+  knows_kept x d e f g p h = known_same s st x (ap (λ (c : Course). c.disabled) e ∙ f) (λ w. ap (λ (c : Course). is_unfit c.rows w) e ∙ g w)
+
+  course_of : (ran : Bool) (c : Course) (x : State) → (followed ran c x).course ≡ c
+  unfolding followed
+  course_of ran c x = course-concluded (ending x.course.outcome c.outcome ran c.agenda) (record x { course = c })
+
+  knows_followed : (ran : Bool) (d : Course) (x : State) → Keeps st.course d → KnowsStill (followed ran d x)
+  knows_followed ran d x k = knows_kept (followed ran d x) d (course_of ran d x) k.disabled k.fit
+
+  knows_answers : (w : ℕ) (said : Said) → AsksFitIn st.course.agenda st.course.rows → KnowsStill (answered w said st)
+  unfolding answered
+  knows_answers w said a = knows_followed (runs st) (course_answered w said st.clock st.course) st (keeps_answered w said st.clock st.course a)
+
+  knows_ticks : (n : ℕ) → AsksFitIn st.course.agenda st.course.rows → KnowsStill (ticked n st)
+  unfolding ticked
+  knows_ticks n a = knows_followed (runs st) (course_timed (st.clock + n) st.course) (later n st) (keeps_timed (st.clock + n) st.course a)
+
+  knows_stepped_as : (fails : Bool) (g : Option Group) → KnowsStill (stepped_as fails g st)
+  knows_stepped_as true g = knows_followed (runs st) (course_stepped false st.clock st.course) st (keeps_stepped false st.clock st.course)
+  knows_stepped_as false g = knows_followed (runs st) (course_stepped true st.clock st.course) (step_made g st) (keeps_stepped true st.clock st.course)
+
+  knows_steps : (mark : Mark) → KnowsStill (stepped mark st)
+  unfolding stepped
+  knows_steps mark = knows_stepped_as (is_failed_step (is_flush (open_group (left_now st))) mark) (open_group (left_now st))
+
+  knows_failed : (o : Option SetRow) (why : VssResult) (x : State) → x.course ≡ st.course → KnowsStill (failed_in o why x)
+  knows_failed None why x e = knows_same x e
+  knows_failed (Some r) why x e =
+      let d = course_failed why x.course in
+      let k = keeps_failed why x.course in
+      knows_kept (failed_in (Some r) why x) d (course-concluded (SetFails why) (record x { course = d })) (k.disabled ∙ ap (λ (c : Course). c.disabled) e) (λ w. k.fit w ∙ ap (λ (c : Course). is_unfit c.rows w) e)
+
+  knows_room : (b : Bool) (x : State) → x.course ≡ st.course → KnowsStill (with_room_if b x)
+  knows_room true x e = knows_failed (in_progress x) InsufficientStorage x e
+  knows_room false x e = knows_same x e
+
+  knows_put : (v : ℕ) (w : Write) (mark : Mark) (x : State) → KnowsStill x → KnowsStill (put v w mark x)
+  knows_put v w Clean x h = λ p e. known_same s x (put v w Clean x) refl (λ u. refl) ∙ h p e
+  knows_put v w Fault x h = h
+  knows_put v w (FaultAfter n) x h = h
+
+  knows_write : (v : ℕ) (w : Write) (mark : Mark) → KnowsStill (write s v w mark st).1
+  unfolding write
+  knows_write v w mark = knows_put v w mark _ (knows_room (set_loses_image (in_progress st) st.volumes (cleared s v w.block st).volumes) (cleared s v w.block st) refl)
+
+  knows_revert : (v : ℕ) (k : Kept) (mark : Mark) → KnowsStill (reverted_as s v k mark st).1
+  knows_revert v k Clean = knows_same (reverted_as s v k Clean st).1 refl
+  knows_revert v k Fault = knows_same st refl
+  knows_revert v k (FaultAfter n) = knows_same (reverted_as s v k (FaultAfter n) st).1 refl
+
+  knows_end : (q : Session) (x : State) → KnowsStill (closed q x)
+  unfolding closed
+  knows_end q x p e = absurd cc
+
+  knows_either : (b : Bool) (x y : Replied) → KnowsStill x.1 → KnowsStill y.1 → KnowsStill (if b then x else y).1
+  knows_either true x y h i = h
+  knows_either false x y h i = i
+
+  knows_begun : (k : Kind) (ms : List Member) (vs : List ℕ) (now : ℕ) (c : Course) → c.disabled ≡ st.course.disabled → AsFit st.course.rows c.rows → KnowsStill (followed true (begun k ms vs now c) st)
+  knows_begun k ms vs now c e f =
+      let kept = begun_members k ms vs now c in
+      knows_kept (followed true (begun k ms vs now c) st) (begun k ms vs now c) (course_of true (begun k ms vs now c) st) (kept.disabled ∙ e) (λ w. kept.fit w ∙ f w)
+
+  no_begin : (o : Option Session) (q : Session) → o ≡ Some q → o ≡ None → ⊥
+  no_begin None q e f = cc
+  no_begin (Some x) q e f = cc
+
+  knows_at : (q : Session) → st.session ≡ Some q → is_late q.stage ≡ true → AsksFitIn st.course.agenda st.course.rows → IsKeptAt KnowsStill s st
+  knows_at q e l a = record {
+    lines = record {
+      stays = knows_same st refl;
+      writes = λ v w mark f. knows_write v w mark;
+      reverts = λ n v k mark f g. knows_revert v k mark;
+      ticks = λ n. knows_ticks n a;
+      deletes_set = λ n f. knows_same (record st { volumes = map (dropped n) st.volumes }) refl;
+      deletes_image = λ n v k f. knows_same (record st { volumes = change_at v (dropped k.row.number) st.volumes }) refl;
+      names = λ w name x explicit g f. knows_same (record st { explicit = explicit }) refl;
+      disables = λ w x g. absurd (opened_not_late x.stage (has_writers x.context) g.allowed (late_at st.session x g.stands (subst LateIn (sym e) l)));
+      starts = λ x g f. knows_same (start_set x st).1 refl;
+      adds = λ v r x g f i. knows_same (change_set r.number (with_volume v) st) refl;
+      aborts = λ x f. knows_failed (in_progress st) AsyncCancelled st refl;
+      ends = λ x f. knows_end x (failed AsyncCancelled st);
+    };
+    begins = λ lane all c g. absurd (no_begin st.session q e g);
+    agendas = record {
+      gathers = λ x g. absurd (opened_not_late x.stage (has_writers x.context) g.allowed (late_at st.session x g.stands (subst LateIn (sym e) l)));
+      prepares = λ x g. knows_either (has_no_volume (in_progress st)) _ _ (knows_same st refl) (knows_begun Prepare _ [] st.clock _ refl (λ w. refl));
+      snapshots = λ x g. knows_either (has_no_volume (in_progress st)) _ _ (knows_same st refl) (knows_begun Snapshot _ _ st.clock st.course refl (λ w. refl));
+      completes = λ x g. knows_begun Complete _ [] st.clock st.course refl (λ w. refl);
+    };
+    answers = λ w said g. knows_answers w said a;
+    steps = λ mark g. knows_steps mark;
+  }
+
+late_stage : (x : Stage) → is_stage x Opened ≡ false → is_late x ≡ true
+late_stage Opened e = absurd cc
+late_stage Gathered e = refl
+late_stage Started e = refl
+late_stage Prepared e = refl
+late_stage Done e = refl
+late_stage Finished e = refl
+late_stage Failed e = refl
+
+pub known_stay : (s : Plan) (acts : List Act) (act : Act) (q p : Session) → (state s acts).session ≡ Some q → is_stage q.stage Opened ≡ false → (after s (state s acts) act).session ≡ Some p
+    → known_metas s (after s (state s acts) act) ≡ known_metas s (state s acts)
+known_stay s acts act q p e f g =
+    let st = state s acts in
+    let l = late_stage q.stage f in
+    let known = names_from s (start s) acts (inl (record { explicit = refl; members = refl; agenda = tt })) in
+    after_at (KnowsStill s st) s st (knows_at s st q e l (asks_in s st q e l (orderly s acts).agenda known)) act p g
