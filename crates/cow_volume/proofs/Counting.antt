@@ -7,12 +7,12 @@ use Rattle.std.proofs.lemmas.List.Sums.{length-filter}
 use Rattle.std.proofs.lemmas.List.Sorted.{length_permutation}
 use Rattle.std.proofs.lemmas.Option.{get_or_from_slice_get, slice_get_within}
 use Rattle.std.proofs.lemmas.Bool.{lt-ltb, ltb-true}
-use Rattle.write_history.specs.History.{Write, Image, History, sets_of}
+use Rattle.write_history.specs.History.{Write, Image, History, sets_of, AreInTime}
 use Rattle.write_history.specs.Slots.{Copy, named, used, used_by, group_used, copy_of, copies_of, copies_from, copies}
 use Rattle.diff_area.specs.Records.{free, is_free, used_in, AreRecords}
 use Rattle.diff_area.specs.declared.table_record.Record.{Record}
 use Rattle.cow_volume.specs.GroupValue.{GroupValue, placed}
-use Rattle.cow_volume.specs.StandsFor.{AreInTime, is_named, record_of, told_in, IsVolume, StandsFor}
+use Rattle.cow_volume.specs.StandsFor.{is_named, record_of, told_in, IsVolume, StandsFor}
 use Rattle.cow_volume.specs.Changes.{is_of}
 use Rattle.cow_volume.specs.Calls.{is_among}
 use Rattle.cow_volume.specs.Counts.{is_on}

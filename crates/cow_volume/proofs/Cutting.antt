@@ -6,13 +6,13 @@ use Rattle.std.proofs.lemmas.Option.{same_Some}
 use Rattle.std.proofs.lemmas.List.{take_all, drop_all, length-drop, length_push, length-map, map-append}
 use Rattle.std.proofs.lemmas.List.Elements.{All-head, All-tail, All-nil, All-push}
 use Rattle.block_data.specs.Runs.{zeros}
-use Rattle.write_history.specs.History.{Write, Image, History, content, contents, point_in, names, sets_of, cut, fresh}
+use Rattle.write_history.specs.History.{Write, Image, History, content, contents, point_in, names, sets_of, cut, fresh, AreLater, AreInTime}
 use Rattle.write_history.specs.Slots.{writes_since}
 use Rattle.diff_area.specs.Places.{place_of_slot}
 use Rattle.diff_area.specs.AreaValue.{AreaValue}
 use Rattle.diff_area.specs.Records.{free}
 use Rattle.diff_area.specs.declared.table_record.Record.{Record}
-use Rattle.cow_volume.specs.StandsFor.{AreLater, AreInTime, is_named, record_of, told_in, IsVolume, StandsFor}
+use Rattle.cow_volume.specs.StandsFor.{is_named, record_of, told_in, IsVolume, StandsFor}
 use Rattle.cow_volume.specs.GroupValue.{GroupValue}
 use Rattle.cow_volume.specs.Calls.{history_at, changed_at, sets_in, sets_at}
 use Rattle.cow_volume.proofs.Group.{number_is_other, same_number, other_number, named_point, place_at, slice_set-same, others_same, slots_same, told_in-if, on_one}

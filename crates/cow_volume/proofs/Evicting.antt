@@ -8,14 +8,14 @@ use Rattle.std.proofs.lemmas.List.{length-map, get_or_default}
 use Rattle.std.proofs.lemmas.List.Folds.{list_any_at}
 use Rattle.std.proofs.lemmas.List.Elements.{All-head, All-tail}
 use Rattle.std.proofs.lemmas.Option.{slice_get_within, same_Some}
-use Rattle.write_history.specs.History.{Write, Image, History, content, point_in, sets_of, after_set, names}
+use Rattle.write_history.specs.History.{Write, Image, History, content, point_in, sets_of, after_set, names, AreLater, AreInTime}
 use Rattle.write_history.specs.Slots.{Placed, writes_since, needs_slot_in, group_used, lacks_slot, gone_up_to, evicted_up_to}
 use Rattle.diff_area.specs.Records.{free, is_free, used_in, AreRecords, IsNarrow}
 use Rattle.diff_area.specs.Places.{place_of_slot}
 use Rattle.diff_area.specs.declared.table_record.Record.{Record}
 use Rattle.diff_map.specs.Rules.{next_older}
 use Rattle.cow_volume.specs.GroupValue.{GroupValue, placed}
-use Rattle.cow_volume.specs.StandsFor.{StandsFor, AreLater, AreInTime, is_named, record_of, told_in, IsVolume}
+use Rattle.cow_volume.specs.StandsFor.{StandsFor, is_named, record_of, told_in, IsVolume}
 use Rattle.cow_volume.specs.Changes.{gone_row, gone_to}
 use Rattle.cow_volume.specs.Calls.{is_among, history_at, IsEvicted}
 use Rattle.cow_volume.proofs.Group.{place_at, slice_get_inside, slice_get_map, set_above, same_number, other_number, number_is, number_is_other}

@@ -1,23 +1,24 @@
 -- What the calls on copies leave, from what they leave of a volume's map.
 use Rattle.std.proofs.Common.{ℕ, zero, suc, ◌≡◌, ◌<◌, not, List, [], ◌∷◌, ◌++◌, map, Option, Some, slice_get, slice_set, refl, sym, ap, ◌∙◌, subst, Contains}
-use Rattle.std.specs.Prelude.{◌==◌, nat_le, filter}
+use Rattle.std.specs.Prelude.{◌==◌, nat_lt, nat_le, filter}
 use Rattle.std.proofs.lemmas.List.Elements.{All-contains}
 use Rattle.diff_area.specs.AreaValue.{AreaValue}
 use Rattle.diff_area.specs.declared.table_record.Record.{Record}
 use Rattle.diff_map.specs.MapValue.{MapValue, AreImages, newest}
 use Rattle.std.proofs.lemmas.Option.{same_Some}
 use Rattle.cow_volume.specs.StandsFor.{record_of}
-use Rattle.diff_map.specs.Rules.{next_older, renewed, merged as merged_rule, cleared as cleared_rule}
+use Rattle.diff_map.specs.Rules.{next_older, renewed, merged as merged_rule, cleared as cleared_rule, gone as gone_rule}
 use Rattle.diff_map.specs.declared.copied.Copied.{Copied}
 use Rattle.diff_map.proofs.Images.{next_older_is}
-use Rattle.cow_volume.specs.Changes.{merged, merged_row, cleared, cleared_row}
+use Rattle.cow_volume.specs.Changes.{merged, merged_row, cleared, cleared_row, gone_on, gone_on_row}
 use Rattle.cow_volume.specs.Calls.{sets_in}
+use Rattle.cow_volume.specs.Room.{after}
 use Rattle.cow_volume.specs.Tied.{CopiesValue, copied_for, images_of}
 use Rattle.cow_volume.specs.Followed.{followed}
-use Rattle.cow_volume.specs.CopiesAfter.{with_records, after_cut, after_note, after_merge, after_clear}
+use Rattle.cow_volume.specs.CopiesAfter.{with_records, after_cut, after_note, after_merge, after_clear, after_gone_on}
 use Rattle.cow_volume.proofs.Ties.{images_at}
 use Rattle.cow_volume.proofs.Renewed.{IsRuleOf, followed_is, images_after}
-use Rattle.cow_volume.proofs.MergeRules.{rule-merged, rule-cleared}
+use Rattle.cow_volume.proofs.MergeRules.{rule-merged, rule-cleared, rule-gone}
 
 -- ## the rules
 
@@ -68,6 +69,22 @@ clear_is {D = D} area new maps v set m n at copies are has n_is new_is =
     (images_of (slice_set maps v n)) (slice_set (images_of maps) v (filter (λ s. nat_le s set) (sets_in (slice_get (images_of maps) v))))
     (new_is ∙ ap (λ rs. with_records rs area) (followed_is area.records v m n (cleared_rule set) (cleared_row v set) copies (ap (λ (x : MapValue). x.copies) n_is) (clear_rules area.records v set m.images are has)))
     (images_after maps v n ∙ ap (λ s. slice_set (images_of maps) v s) (ap (λ (x : MapValue). x.images) n_is ∙ ap (λ (s : List ℕ). filter (λ image. nat_le image set) s) (sym on)))
+
+pub gone_is : {D : Type 0} (area new : AreaValue D) (maps : List MapValue) (v up_to : ℕ) (m n : MapValue) → slice_get maps v ≡ Some m → m.copies ≡ map (copied_for v) area.records
+    → n ≡ record { blocks = m.blocks; images = filter (λ image. nat_lt up_to image) m.images; copies = renewed (gone_rule up_to) m.copies }
+    → new ≡ with_records (followed v n.copies area.records) area
+    → ◌≡◌ {A = CopiesValue D} (record { area = new; images = images_of (slice_set maps v n) }) (after_gone_on (record { area = area; images = images_of maps }) v up_to)
+gone_is {D = D} area new maps v up_to m n at copies n_is new_is =
+    let on = on_map maps v m at in
+    same_parts new (with_records (gone_on v up_to area.records) area)
+    (images_of (slice_set maps v n)) (slice_set (images_of maps) v (after up_to (sets_in (slice_get (images_of maps) v))))
+    (new_is ∙ ap (λ rs. with_records rs area) (followed_is area.records v m n (gone_rule up_to) (gone_on_row v up_to) copies (ap (λ (x : MapValue). x.copies) n_is) (rule-gone area.records v up_to)))
+    (images_after maps v n ∙ ap (λ s. slice_set (images_of maps) v s) (ap (λ (x : MapValue). x.images) n_is ∙ ap (after up_to) (sym on)))
+
+-- records that follow a rule follow the map that it makes
+pub follows_map : {D : Type 0} (area new : AreaValue D) (v : ℕ) (m n : MapValue) (rule : Copied → Option Copied) → m.copies ≡ map (copied_for v) area.records → n.copies ≡ renewed rule m.copies
+    → new ≡ with_records (followed v (renewed rule (map (copied_for v) area.records)) area.records) area → new ≡ with_records (followed v n.copies area.records) area
+follows_map area new v m n rule was is new_is = new_is ∙ ap (λ cs. with_records (followed v cs area.records) area) (sym (is ∙ ap (λ cs. renewed rule cs) was))
 
 pub note_is : {D : Type 0} (area new : AreaValue D) (maps : List MapValue) (v b slot set : ℕ) (m n : MapValue) → slice_get maps v ≡ Some m → n.images ≡ m.images → set ≡ newest m.images
     → new ≡ with_records (slice_set area.records slot (record_of v set b)) area

@@ -1,11 +1,11 @@
 -- A revert of one volume of a group, step by step, against the histories of the whole group.
 use Rattle.std.proofs.Common.{◌≡◌, ◌<◌, ◌≤◌, ℕ, zero, suc, ◌+◌, List, [], ◌∷◌, ◌++◌, length, refl, ap, sym, subst, ◌∙◌, Option, Some, IfSome, option_map, inl, inr}
 use Rattle.std.specs.Prelude.{slice_get, slice_set}
-use Rattle.write_history.specs.History.{Image, History, point_in, sets_of, dropped, reverted, to_restore}
+use Rattle.write_history.specs.History.{Image, History, point_in, sets_of, dropped, reverted, to_restore, AreInTime}
 use Rattle.diff_area.specs.Places.{place_of_slot}
 use Rattle.diff_area.specs.declared.table_record.Record.{Record}
 use Rattle.cow_volume.specs.GroupValue.{GroupValue}
-use Rattle.cow_volume.specs.StandsFor.{AreInTime, record_of, told_in, IsVolume, StandsFor}
+use Rattle.cow_volume.specs.StandsFor.{record_of, told_in, IsVolume, StandsFor}
 use Rattle.cow_volume.specs.Changes.{cleared}
 use Rattle.cow_volume.specs.Calls.{history_at, changed_at, sets_in, sets_at}
 use Rattle.cow_volume.proofs.Members.{Has, has_either}

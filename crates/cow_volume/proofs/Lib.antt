@@ -4,7 +4,6 @@ pub mod Writing
 pub mod Cutting
 pub mod Merging
 pub mod Evicting
-pub mod OneSetGone
 pub mod Members
 pub mod Named
 pub mod Counting
@@ -18,6 +17,9 @@ pub mod Rows
 pub mod FollowedRows
 pub mod Ties
 pub mod Renewed
+pub mod Passing
+pub mod HandingDown
+pub mod EntryCounts
 pub mod MergeRules
 pub mod Gone
 pub mod DeviceCalls
@@ -25,9 +27,11 @@ pub mod Kept
 pub mod DroppingNewer
 pub mod RestoringSteps
 pub mod Synced
+pub mod GoingUpTo
 pub mod MakingRoom
 pub mod NewCopies
 pub mod RoomMade
 pub mod GroupSteps
 pub mod GroupWrites
 pub mod GroupCounts
+pub mod CopiedOnce

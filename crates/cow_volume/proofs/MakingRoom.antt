@@ -1,208 +1,26 @@
--- The images of the least set go, again and again, until a write has its slot.
-use Rattle.std.proofs.Common.{ℕ, zero, suc, ◌≡◌, ◌<◌, ◌≤◌, ◌+◌, Bool, true, false, not, ◌||◌, get_or, List, [], ◌∷◌, length, take, map, filter, Option, Some, None, slice_get, slice_set, refl, sym, ap, ◌∙◌, subst, arith, inl, inr, ◌⊎◌}
-use Rattle.std.specs.Prelude.{◌==◌, nat_lt, nat_le, if◌then◌else◌, fold}
-use Rattle.std.specs.List.{AllPairs}
-use Rattle.std.proofs.lemmas.Bool.{false≢true, cases_lt, ltb-true, lt-ltb}
+-- Images go up to a set so that a write has its slot.
+use Rattle.std.proofs.Common.{ℕ, zero, suc, ◌≡◌, ◌≢◌, ◌<◌, ◌≤◌, ◌+◌, ◌-◌, Bool, true, false, ◌&&◌, ◌||◌, get_or, List, [], ◌∷◌, length, map, filter, Option, Some, None, slice_get, refl, sym, ap, ◌∙◌, subst, arith, inl, inr, ◌⊎◌}
+use Rattle.std.specs.Prelude.{◌==◌, nat_lt, nat_le, if◌then◌else◌}
+use Rattle.std.proofs.lemmas.Bool.{false≢true, cases_lt, cases_eq, lt-ltb, le-ltb}
 use Rattle.std.proofs.lemmas.Bool.Decides.{nat_tests}
 use Rattle.std.proofs.lemmas.List.Elements.{All-contains}
-use Rattle.std.proofs.lemmas.Option.{none-some, same_Some, slice_get_within}
+use Rattle.std.proofs.lemmas.Option.{none-some, same_Some, slice_get_within, slice_get-map, get_or_from_slice_get}
 use Rattle.diff_area.specs.Records.{free, is_free, AreRecords}
 use Rattle.diff_area.specs.declared.table_record.Record.{Record}
-use Rattle.diff_map.specs.Rules.{next_older}
-use Rattle.cow_volume.specs.StandsFor.{record_of}
-use Rattle.cow_volume.specs.Changes.{merged, gone_row, gone_to}
+use Rattle.diff_map.specs.MapValue.{newest, AreImages}
+use Rattle.cow_volume.specs.Changes.{gone_row, gone_to}
 use Rattle.cow_volume.specs.Calls.{sets_in, is_among}
-use Rattle.cow_volume.specs.Room.{after, all_after, lacks_slot, lacks_after}
+use Rattle.cow_volume.specs.Room.{after, all_after, lacks_copy, lacks_slot, lacks_after, is_full, IsFirstToFree, IsRoomMade}
 use Rattle.cow_volume.specs.Tied.{CopiesValue, AreOfImages}
-use Rattle.cow_volume.specs.CopiesAfter.{is_first, with_records, images_on, after_merge, after_gone, after_first, lesser, oldest_in}
+use Rattle.cow_volume.specs.CopiesAfter.{with_records, images_on, after_gone}
 use Rattle.cow_volume.proofs.Merging.{record_is}
-use Rattle.cow_volume.proofs.Evicting.{IsAtMostAll, IsAtMostFirst, least_of_all, contains_among, among_contains, least_first, gone_to_again, images_again, gone_records}
-use Rattle.cow_volume.proofs.OneSetGone.{gone_below, images_below, least_image_gone, no_volume_gone, none_gone, all_gone, images_above, one_image_gone, no_image_gone, all_images_gone}
-use Rattle.cow_volume.proofs.Rows.{get_inside, map-from}
+use Rattle.cow_volume.proofs.Evicting.{contains_among, among_contains}
+use Rattle.cow_volume.proofs.Rows.{get_inside, newest_rest}
+use Rattle.cow_volume.proofs.Renewed.{get-map}
+use Rattle.cow_volume.proofs.Ties.{and_false, some_free, not_full_if}
 use Rattle.cow_volume.proofs.Gone.{same_parts}
 
--- ## the least set
-
-fold_more : {A B : Type 0} (f : B → A → B) (acc : B) (xs : List A) (i : ℕ) (x : A) → slice_get xs i ≡ Some x → fold f acc (take (suc i) xs) ≡ f (fold f acc (take i xs)) x
-fold_more f acc [] i x h = absurd (none-some x h)
-fold_more f acc (y ∷ ys) zero x h = ap (f acc) (same_Some y x h)
-fold_more f acc (y ∷ ys) (suc i) x h = fold_more f (f acc y) ys i x h
-
-abbrev older_of : Option ℕ → List ℕ → Option ℕ
-older_of oldest sets = lesser oldest (slice_get sets 0)
-
-pub oldest_more : (images : List (List ℕ)) (i : ℕ) (sets : List ℕ) → slice_get images i ≡ Some sets → oldest_in (take (i + 1) images) ≡ lesser (oldest_in (take i images)) (slice_get sets 0)
-oldest_more images i sets h = let e : i + 1 ≡ suc i = omega arith in ap (λ n. oldest_in (take n images)) e ∙ fold_more older_of None images i sets h
-
-lesser_least : (o p : Option ℕ) (l : ℕ) → lesser o p ≡ Some l → ((a : ℕ) → o ≡ Some a → l ≤ a) × ((b : ℕ) → p ≡ Some b → l ≤ b)
-lesser_least None p l h = (λ a e. absurd (none-some a e), λ b e. let same = same_Some b l (sym e ∙ h) in omega arith)
-lesser_least (Some a) None l h = (λ x e. let same = same_Some a l h in let is = same_Some a x e in omega arith, λ b e. absurd (none-some b e))
-lesser_least (Some a) (Some b) l h =
-    let is = same_Some (if nat_lt b a then b else a) l h in
-    let both = by_test a b (nat_lt b a) refl in
-    (λ x e. let same = same_Some a x e in omega arith, λ y e. let same = same_Some b y e in omega arith)
-  where
-    by_test : (a b : ℕ) (t : Bool) → nat_lt b a ≡ t → ((if t then b else a) ≤ a) × ((if t then b else a) ≤ b)
-    by_test a b true e = (let low : b < a = grind (arith, nat_tests) in omega arith, omega arith)
-    by_test a b false e = (omega arith, let high : a ≤ b = grind (arith, nat_tests) in omega arith)
-
-lesser_one : (o p : Option ℕ) (l : ℕ) → lesser o p ≡ Some l → (o ≡ Some l) ⊎ (p ≡ Some l)
-lesser_one None p l h = inr h
-lesser_one (Some a) None l h = inl h
-lesser_one (Some a) (Some b) l h = by_test (nat_lt b a) (same_Some (if nat_lt b a then b else a) l h) where
-  by_test : (t : Bool) → (if t then b else a) ≡ l → (Some a ≡ Some l) ⊎ (Some b ≡ Some l)
-  by_test true e = inr (ap (λ (k : ℕ). Some k) e)
-  by_test false e = inl (ap (λ (k : ℕ). Some k) e)
-
-at_most_first : (l : ℕ) (sets : List ℕ) → ((b : ℕ) → slice_get sets 0 ≡ Some b → l ≤ b) → IsAtMostFirst l sets
-at_most_first l [] h = tt
-at_most_first l (s ∷ sets) h = h s refl
-
--- the walk's answer is at most what it began with, and the first of each
-walk_least : (acc : Option ℕ) (images : List (List ℕ)) (l : ℕ) → fold older_of acc images ≡ Some l → ((a : ℕ) → acc ≡ Some a → l ≤ a) × ((u : ℕ) (sets : List ℕ) → slice_get images u ≡ Some sets → IsAtMostFirst l sets)
-walk_least acc [] l h = (λ a e. let same = same_Some a l (sym e ∙ h) in omega arith, λ u sets at. absurd (none-some sets at))
-walk_least acc (first ∷ images) l h = with_rest (walk_least (older_of acc first) images l h) where
-  with_rest : ((a : ℕ) → older_of acc first ≡ Some a → l ≤ a) × ((u : ℕ) (sets : List ℕ) → slice_get images u ≡ Some sets → IsAtMostFirst l sets)
-      → ((a : ℕ) → acc ≡ Some a → l ≤ a) × ((u : ℕ) (sets : List ℕ) → slice_get (first ∷ images) u ≡ Some sets → IsAtMostFirst l sets)
-  with_rest rest = by_value (older_of acc first) refl where
-    by_value : (o : Option ℕ) → older_of acc first ≡ o → ((a : ℕ) → acc ≡ Some a → l ≤ a) × ((u : ℕ) (sets : List ℕ) → slice_get (first ∷ images) u ≡ Some sets → IsAtMostFirst l sets)
-    by_value None e = (λ a is. absurd (lesser_none acc (slice_get first 0) a e (inl is)), by_place (at_most_first l first (λ b is. absurd (lesser_none acc (slice_get first 0) b e (inr is))))) where
-      lesser_none : (o p : Option ℕ) (a : ℕ) → lesser o p ≡ None → (o ≡ Some a) ⊎ (p ≡ Some a) → ⊥
-      lesser_none None None a e (inl h) = none-some a h
-      lesser_none None None a e (inr h) = none-some a h
-      lesser_none None (Some b) a e h = none-some b (sym e)
-      lesser_none (Some x) None a e h = none-some x (sym e)
-      lesser_none (Some x) (Some b) a e h = none-some (if nat_lt b x then b else x) (sym e)
-
-      by_place : IsAtMostFirst l first → (u : ℕ) (sets : List ℕ) → slice_get (first ∷ images) u ≡ Some sets → IsAtMostFirst l sets
-      by_place here zero sets at = subst (λ (s : List ℕ). IsAtMostFirst l s) (same_Some first sets at) here
-      by_place here (suc u) sets at = rest.1 u sets at
-    by_value (Some m) e =
-        let low = lesser_least acc (slice_get first 0) m e in
-        let below = rest.0 m e in
-        (λ a is. let le = low.0 a is in omega arith, by_place (at_most_first l first (λ b is. let le = low.1 b is in omega arith)))
-      where
-        by_place : IsAtMostFirst l first → (u : ℕ) (sets : List ℕ) → slice_get (first ∷ images) u ≡ Some sets → IsAtMostFirst l sets
-        by_place here zero sets at = subst (λ (s : List ℕ). IsAtMostFirst l s) (same_Some first sets at) here
-        by_place here (suc u) sets at = rest.1 u sets at
-
-walk_among : (acc : Option ℕ) (images : List (List ℕ)) (l : ℕ) → fold older_of acc images ≡ Some l → (acc ≡ Some l) ⊎ ((u : ℕ) × (sets : List ℕ) × (slice_get images u ≡ Some sets) × (slice_get sets 0 ≡ Some l))
-walk_among acc [] l h = inl h
-walk_among acc (first ∷ images) l h = elim (walk_among (older_of acc first) images l h) [
-  | inr at ↦ inr (suc at.0, at.1, at.2, at.3)
-  | inl now ↦ elim (lesser_one acc (slice_get first 0) l now) [ inl was ↦ inl was | inr here ↦ inr (zero, first, refl, here) ]
-]
-
--- the least set is the first of a volume's
-pub oldest_among : (images : List (List ℕ)) (l : ℕ) → oldest_in images ≡ Some l → (u : ℕ) × (sets : List ℕ) × (slice_get images u ≡ Some sets) × (slice_get sets 0 ≡ Some l)
-oldest_among images l h = elim (walk_among None images l h) [ inl none ↦ absurd (none-some l none) | inr at ↦ at ]
-
--- where an image stands there is one
-walk_some : (acc : Option ℕ) (images : List (List ℕ)) (u : ℕ) (sets : List ℕ) → slice_get images u ≡ Some sets → 0 < length sets → fold older_of acc images ≡ None → ⊥
-walk_some acc [] u sets at some h = none-some sets at
-walk_some acc (first ∷ images) zero sets at some h = kept images (older_of acc first) h (first_some acc first (subst (λ (s : List ℕ). 0 < length s) (sym (same_Some first sets at)) some)) where
-  kept : (rest : List (List ℕ)) (o : Option ℕ) → fold older_of o rest ≡ None → (o ≡ None → ⊥) → ⊥
-  kept [] o e other = other e
-  kept (x ∷ rest) o e other = kept rest (older_of o x) e (λ is. other (lesser_was o (slice_get x 0) is)) where
-    lesser_was : (o p : Option ℕ) → lesser o p ≡ None → o ≡ None
-    lesser_was None p e = refl
-    lesser_was (Some a) None e = e
-    lesser_was (Some a) (Some b) e = absurd (none-some (if nat_lt b a then b else a) (sym e))
-
-  first_some : (o : Option ℕ) (xs : List ℕ) → 0 < length xs → older_of o xs ≡ None → ⊥
-  first_some o [] some e = absurd (omega arith)
-  first_some None (x ∷ xs) some e = none-some x (sym e)
-  first_some (Some a) (x ∷ xs) some e = none-some (if nat_lt x a then x else a) (sym e)
-walk_some acc (first ∷ images) (suc u) sets at some h = walk_some (older_of acc first) images u sets at some h
-
-pub oldest_some : (images : List (List ℕ)) (v : ℕ) → 0 < length (sets_in (slice_get images v)) → oldest_in images ≡ None → ⊥
-oldest_some images v some none = by_place (slice_get images v) refl some where
-  by_place : (o : Option (List ℕ)) → slice_get images v ≡ o → 0 < length (sets_in o) → ⊥
-  by_place None e some = absurd (omega arith)
-  by_place (Some sets) e some = walk_some None images v sets e some none
-
--- it is at most all sets
-pub oldest_least : (records : List Record) (images : List (List ℕ)) (l : ℕ) → AreOfImages records images → oldest_in images ≡ Some l → IsAtMostAll l images
-oldest_least records images l of h = least_of_all l images (λ u sets at. ((of.sets u sets at).ascend, (walk_least None images l h).1 u sets at))
-
-pub oldest_within : (records : List Record) (images : List (List ℕ)) (l : ℕ) → AreOfImages records images → oldest_in images ≡ Some l → (0 < l) × (l < 4294967296)
-oldest_within records images l of h =
-    let at = oldest_among images l h in
-    let inside = slice_get_within at.1 0 l at.3 in
-    All-contains (λ image. (0 < image) × (image < 4294967296)) at.1 l (of.sets at.0 at.1 at.2).above_zero (0, inside, first_is at.1 l at.3)
-  where
-    first_is : (sets : List ℕ) (l : ℕ) → slice_get sets 0 ≡ Some l → get_or sets 0 l ≡ l
-    first_is [] l e = refl
-    first_is (x ∷ sets) l e = same_Some x l e
-
-pub oldest_above : (records : List Record) (images : List (List ℕ)) (l : ℕ) → AreOfImages records images → oldest_in images ≡ Some l → 0 < l
-oldest_above records images l of h = (oldest_within records images l of h).0
-
--- and no record is of a lesser one
-pub record_least : (volumes : List ℕ) (records : List Record) (images : List (List ℕ)) (l : ℕ) → AreRecords volumes records → length images ≡ length volumes → AreOfImages records images → oldest_in images ≡ Some l
-    → (slot : ℕ) (r : Record) → slice_get records slot ≡ Some r → 0 < r.set → l ≤ r.set
-record_least volumes records images l are long of h slot r at some =
-    let used = are.each slot r at (λ e. let none : r.set ≡ 0 = ap (λ x. x.set) e in omega arith) in
-    let volume = used.volume in
-    let sets = get_inside images r.volume (omega arith) in
-    oldest_least records images l of h r.volume r.set sets.0 sets.1 (among_contains r.set sets.0 (of.each slot r at some sets.0 sets.1))
-
--- ## one volume after another
-
--- the images of a set are gone from the volumes below u
-abbrev pub part_gone : {D : Type 0} → CopiesValue D → ℕ → ℕ → CopiesValue D
-part_gone c u l = record { area = with_records (gone_below u l c.area.records) c.area; images = images_below u l c.images }
-
-pub part_none : {D : Type 0} (c : CopiesValue D) (l : ℕ) → c ≡ part_gone c 0 l
-part_none c l = same_parts c.area (with_records (gone_below 0 l c.area.records) c.area) c.images c.images (ap (λ rs. with_records rs c.area) (sym (none_gone l c.area.records))) refl
-
-first_or_not : (l : ℕ) (sets : List ℕ) → AllPairs (λ x y. x < y) sets → ((s : ℕ) → is_among s sets ≡ true → l ≤ s) → is_first l sets ≡ false → is_among l sets ≡ false
-first_or_not l [] up least other = refl
-first_or_not l (x ∷ sets) up least other = by_test (is_among l (x ∷ sets)) refl where
-  by_test : (t : Bool) → is_among l (x ∷ sets) ≡ t → is_among l (x ∷ sets) ≡ false
-  by_test false e = e
-  by_test true e =
-      let low = least_first x l (x ∷ sets) up (omega arith) e in
-      let high = least x (among_contains x (x ∷ sets) (0, omega arith, refl)) in
-      let same : x ≡ l = omega arith in
-      let test : (x == l) ≡ true = grind (arith, nat_tests) in
-      absurd (false≢true (sym other ∙ test))
-
-module _ {D : Type 0} (c : CopiesValue D) (u l : ℕ) (sets : List ℕ) (of : AreOfImages c.area.records c.images) (oldest : oldest_in c.images ≡ Some l) (at : slice_get c.images u ≡ Some sets) where
-  least_here : (s : ℕ) → is_among s sets ≡ true → l ≤ s
-  least_here s among = oldest_least c.area.records c.images l of oldest u s sets at among
-
-  above : 0 < l
-  above = oldest_above c.area.records c.images l of oldest
-
-  on : images_on (part_gone c u l) u ≡ sets
-  on = ap sets_in (images_above u u l c.images (omega arith) ∙ at)
-
-  merged_here : after_merge (part_gone c u l) u l ≡ part_gone c (u + 1) l
-  merged_here = same_parts (with_records (merged u (next_older (images_on (part_gone c u l) u) l) l (gone_below u l c.area.records)) c.area) (with_records (gone_below (u + 1) l c.area.records) c.area)
-      (slice_set (images_below u l c.images) u (filter (λ s. not (s == l)) (images_on (part_gone c u l) u))) (images_below (u + 1) l c.images)
-      (ap (λ rs. with_records rs c.area) (ap (λ (s : List ℕ). merged u (next_older s l) l (gone_below u l c.area.records)) on ∙ least_image_gone u l c.area.records sets above least_here))
-      (ap (λ (s : List ℕ). slice_set (images_below u l c.images) u (filter (λ x. not (x == l)) s)) on ∙ one_image_gone u l c.images sets at)
-
-  kept_here : is_first l sets ≡ false → part_gone c u l ≡ part_gone c (u + 1) l
-  kept_here other =
-      let none : is_among l sets ≡ false = first_or_not l sets (of.sets u sets at).ascend least_here other in
-      same_parts (with_records (gone_below u l c.area.records) c.area) (with_records (gone_below (u + 1) l c.area.records) c.area) (images_below u l c.images) (images_below (u + 1) l c.images)
-      (ap (λ rs. with_records rs c.area) (sym (no_volume_gone u l c.area.records (λ slot b is. false≢true (sym none ∙ among_contains l sets (of.each slot (record_of u l b) is above sets at))))))
-      (sym (no_image_gone u l c.images sets at none))
-
-  pub part_more : after_first (part_gone c u l) u l ≡ part_gone c (u + 1) l
-  part_more = ap (λ (s : List ℕ). if is_first l s then after_merge (part_gone c u l) u l else part_gone c u l) on ∙ by_test (is_first l sets) refl where
-    by_test : (t : Bool) → is_first l sets ≡ t → (if is_first l sets then after_merge (part_gone c u l) u l else part_gone c u l) ≡ part_gone c (u + 1) l
-    by_test true e = ap (λ (t : Bool). if t then after_merge (part_gone c u l) u l else part_gone c u l) e ∙ merged_here
-    by_test false e = ap (λ (t : Bool). if t then after_merge (part_gone c u l) u l else part_gone c u l) e ∙ kept_here e
-
-pub part_all : {D : Type 0} (c : CopiesValue D) (l n : ℕ) → AreRecords c.area.volumes c.area.records → length c.images ≡ length c.area.volumes → AreOfImages c.area.records c.images → oldest_in c.images ≡ Some l → n ≡ length c.area.volumes → part_gone c n l ≡ after_gone c l
-part_all c l n are long of oldest end = same_parts (with_records (gone_below n l c.area.records) c.area) (with_records (gone_to l c.area.records) c.area) (images_below n l c.images) (all_after l c.images)
-    (ap (λ rs. with_records rs c.area) (ap (λ (k : ℕ). gone_below k l c.area.records) end ∙ all_gone c.area.volumes l c.area.records are (record_least c.area.volumes c.area.records c.images l are long of oldest)))
-    (ap (λ (k : ℕ). images_below k l c.images) (end ∙ sym long) ∙ all_images_gone l c.images (oldest_least c.area.records c.images l of oldest))
-
--- ## one set after another
+-- ## what stays
 
 -- what is not of a set up to k stays
 map_stays : {X : Type 0} (f : X → X) (xs : List X) → ((i : ℕ) (x : X) → slice_get xs i ≡ Some x → f x ≡ x) → map f xs ≡ xs
@@ -258,51 +76,126 @@ gone_nothing c are of = same_parts c.area (with_records (gone_to 0 c.area.record
     (ap (λ rs. with_records rs c.area) (sym (gone_to_stays c.area.volumes c.area.records 0 are (λ slot r at some. some))))
     (sym (all_after_stays c.images 0 (λ u s sets at among. (All-contains (λ image. (0 < image) × (image < 4294967296)) sets s (of.sets u sets at).above_zero (contains_among s sets among)).0)))
 
-pub gone_again : {D : Type 0} (c : CopiesValue D) (m l : ℕ) → m ≤ l → after_gone (after_gone c m) l ≡ after_gone c l
-gone_again c m l le = same_parts (with_records (gone_to l (gone_to m c.area.records)) c.area) (with_records (gone_to l c.area.records) c.area) (all_after l (all_after m c.images)) (all_after l c.images)
-    (ap (λ rs. with_records rs c.area) (gone_to_again m l c.area.records le)) (images_again m l c.images le)
+-- nothing goes where nothing has to
+pub room_there : {D : Type 0} (c : CopiesValue D) (v b : ℕ) → AreRecords c.area.volumes c.area.records → AreOfImages c.area.records c.images → lacks_slot c.area.records v (images_on c v) b ≡ false → IsRoomMade c.area.records c.images v b 0
+room_there c v b are of has = record {
+  enough = ap (λ x. lacks_slot x.area.records v (images_on x v) b) (sym (gone_nothing c are of)) ∙ has;
+  needed = λ fewer low. absurd (omega arith);
+}
 
--- the least set that is left is past what is gone
-pub past_gone : (images : List (List ℕ)) (m l : ℕ) → oldest_in (all_after m images) ≡ Some l → m < l
-past_gone images m l h =
-    let at = oldest_among (all_after m images) l h in
-    let was = map-from (after m) images at.0 at.1 at.2 in
-    passes was.0 (ap (λ (s : List ℕ). slice_get s 0) was.2 ∙ at.3)
-  where
-    again : (m l x : ℕ) (rest : List ℕ) (t : Bool) → nat_lt m x ≡ t → slice_get (if t then x ∷ rest else rest) 0 ≡ Some l → (slice_get rest 0 ≡ Some l → m < l) → m < l
-    again m l x rest true low g more = let up = ltb-true m x low in let same = same_Some x l g in omega arith
-    again m l x rest false low g more = more g
+-- ## the first set that frees a slot
 
-    passes : (sets : List ℕ) → slice_get (after m sets) 0 ≡ Some l → m < l
-    passes [] e = absurd (none-some l e)
-    passes (s ∷ sets) e = again m l s (after m sets) (nat_lt m s) refl e (passes sets)
+sets_after : (k v : ℕ) (images : List (List ℕ)) → sets_in (slice_get (all_after k images) v) ≡ after k (sets_in (slice_get images v))
+sets_after k v [] = refl
+sets_after k zero (sets ∷ images) = refl
+sets_after k (suc v) (sets ∷ images) = sets_after k v images
 
--- up to any number before the least set that is left, what goes is what went
-pub lacks_between : {D : Type 0} (c now : CopiesValue D) (v b m k l : ℕ) → now ≡ after_gone c m → AreRecords c.area.volumes c.area.records → length now.images ≡ length now.area.volumes → AreOfImages now.area.records now.images → oldest_in now.images ≡ Some l → m ≤ k → k < l
-    → lacks_slot now.area.records v (images_on now v) b ≡ true → lacks_after c.area.records c.images v b k ≡ true
-lacks_between c now v b m k l is are long of oldest le low lacks =
-    let records_are : now.area.records ≡ gone_to m c.area.records = ap (λ x. x.area.records) is in
-    let volumes_are : now.area.volumes ≡ c.area.volumes = ap (λ x. x.area.volumes) is in
-    let images_are : now.images ≡ all_after m c.images = ap (λ x. x.images) is in
-    let are_now : AreRecords now.area.volumes now.area.records =
-    subst (λ (vs : List ℕ). AreRecords vs now.area.records) (sym volumes_are) (subst (λ (rs : List Record). AreRecords c.area.volumes rs) (sym records_are) (gone_records c.area.volumes c.area.records m are)) in
-    let least = record_least now.area.volumes now.area.records now.images l are_now long of oldest in
-    let records_same : gone_to k c.area.records ≡ now.area.records =
-    sym (gone_to_again m k c.area.records le) ∙ ap (gone_to k) (sym records_are) ∙ gone_to_stays now.area.volumes now.area.records k are_now (λ slot r at some. let up = least slot r at some in omega arith) in
-    let images_same : all_after k c.images ≡ now.images =
-    sym (images_again m k c.images le) ∙ ap (all_after k) (sym images_are) ∙ all_after_stays now.images k (λ u s sets at among. let up = oldest_least now.area.records now.images l of oldest u s sets at among in omega arith) in
-    ap (λ (rs : List Record). lacks_slot rs v (sets_in (slice_get (all_after k c.images) v)) b) records_same ∙ ap (λ (is : List (List ℕ)). lacks_slot now.area.records v (sets_in (slice_get is v)) b) images_same ∙ lacks
+drop_head : (records : List Record) (v b s : ℕ) (sets : List ℕ) → 0 < length sets → lacks_copy records v (s ∷ sets) b ≡ lacks_copy records v sets b
+drop_head records v b s [] some = absurd (omega arith)
+drop_head records v b s (t ∷ rest) some = refl
 
--- so far the least set that is left is greater
-pub next_past : {D : Type 0} (c now : CopiesValue D) (m l : ℕ) → now ≡ after_gone c m → oldest_in now.images ≡ Some l → m < l
-next_past c now m l is oldest = past_gone c.images m l (ap (λ x. oldest_in x.images) (sym is) ∙ oldest)
+-- before the newest image goes, it lacks what it lacked
+keeps_newest : (records : List Record) (v b k : ℕ) (sets : List ℕ) → k < newest sets → (0 < length (after k sets)) × (lacks_copy records v (after k sets) b ≡ lacks_copy records v sets b)
+keeps_newest records v b k [] low = absurd (omega arith)
+keeps_newest records v b k (s ∷ []) low =
+    let stays : after k (s ∷ []) ≡ s ∷ [] = ap (λ (t : Bool). if t then s ∷ [] else []) (lt-ltb k s low) in
+    (subst (λ (xs : List ℕ). 0 < length xs) (sym stays) (omega arith), ap (λ (xs : List ℕ). lacks_copy records v xs b) stays)
+keeps_newest records v b k (s ∷ t ∷ rest) low = by_test (nat_lt k s) refl (keeps_newest records v b k (t ∷ rest) (subst (λ (n : ℕ). k < n) (newest_rest s t rest) low)) where
+  by_test : (x : Bool) → nat_lt k s ≡ x → (0 < length (after k (t ∷ rest))) × (lacks_copy records v (after k (t ∷ rest)) b ≡ lacks_copy records v (t ∷ rest) b)
+      → (0 < length (after k (s ∷ t ∷ rest))) × (lacks_copy records v (after k (s ∷ t ∷ rest)) b ≡ lacks_copy records v (s ∷ t ∷ rest) b)
+  by_test true e more =
+      let is : after k (s ∷ t ∷ rest) ≡ s ∷ after k (t ∷ rest) = ap (λ (x : Bool). if x then s ∷ after k (t ∷ rest) else after k (t ∷ rest)) e in
+      (subst (λ (xs : List ℕ). 0 < length xs) (sym is) (omega arith), ap (λ (xs : List ℕ). lacks_copy records v xs b) is ∙ drop_head records v b s (after k (t ∷ rest)) more.0 ∙ more.1)
+  by_test false e more =
+      let is : after k (s ∷ t ∷ rest) ≡ after k (t ∷ rest) = ap (λ (x : Bool). if x then s ∷ after k (t ∷ rest) else after k (t ∷ rest)) e in
+      (subst (λ (xs : List ℕ). 0 < length xs) (sym is) more.0, ap (λ (xs : List ℕ). lacks_copy records v xs b) is ∙ more.1)
 
-pub needed_more : {D : Type 0} (c now : CopiesValue D) (v b m l : ℕ) → now ≡ after_gone c m → AreRecords c.area.volumes c.area.records → length now.images ≡ length now.area.volumes → AreOfImages now.area.records now.images → oldest_in now.images ≡ Some l
-    → lacks_slot now.area.records v (images_on now v) b ≡ true → ((k : ℕ) → k < m → lacks_after c.area.records c.images v b k ≡ true) → (k : ℕ) → k < l → lacks_after c.area.records c.images v b k ≡ true
-needed_more c now v b m l is are long of oldest lacks needed k low = elim (cases_lt k m) [
-  | inl before ↦ needed k before
-  | inr from ↦ lacks_between c now v b m k l is are long of oldest from low lacks
-]
+-- all go up to the newest
+none_after : (k : ℕ) (sets : List ℕ) → ((i s : ℕ) → slice_get sets i ≡ Some s → s ≤ k) → after k sets ≡ []
+none_after k [] low = refl
+none_after k (s ∷ sets) low = ap (λ (t : Bool). if t then s ∷ after k sets else after k sets) (le-ltb k s (low zero s refl)) ∙ none_after k sets (λ i x at. low (suc i) x at)
 
-pub room_enough : {D : Type 0} (c now : CopiesValue D) (v b m : ℕ) → now ≡ after_gone c m → lacks_slot now.area.records v (images_on now v) b ≡ false → lacks_after c.area.records c.images v b m ≡ false
-room_enough c now v b m is has = ap (λ x. lacks_slot x.area.records v (images_on x v) b) (sym is) ∙ has
+newest_most : (sets : List ℕ) (i s : ℕ) → AreImages sets → slice_get sets i ≡ Some s → s ≤ newest sets
+newest_most sets i s are at =
+    let inside = slice_get_within sets i s at in
+    let is : get_or sets i 0 ≡ s = get_or_from_slice_get sets i s 0 at in
+    elim (cases_lt i (length sets - 1)) [
+      | inl low ↦ let up : get_or sets i 0 < get_or sets (length sets - 1) 0 = are.ascend i (length sets - 1) 0 low (omega arith) in let last : newest sets ≡ get_or sets (length sets - 1) 0 = refl in omega arith
+      | inr high ↦ let same : i ≡ length sets - 1 = omega arith in let last : get_or sets i 0 ≡ newest sets = ap (λ (n : ℕ). get_or sets n 0) same in omega arith
+    ]
+
+gone_all_row : (r : Record) (k : ℕ) → r.set ≡ k → gone_row k r ≡ free
+gone_all_row r k same = ap (λ (t : Bool). if t then free else r) (low (nat_le r.set k) refl) where
+  low : (t : Bool) → nat_le r.set k ≡ t → nat_le r.set k ≡ true
+  low true e = e
+  low false e = let high : k < r.set = grind (arith, nat_tests) in absurd (omega arith)
+
+not_full : (records : List Record) (slot k : ℕ) (r : Record) → slice_get records slot ≡ Some r → r.set ≡ k → is_full (gone_to k records) ≡ false
+not_full records slot k r at same =
+    let row : slice_get (gone_to k records) slot ≡ Some free = get-map (gone_row k) records slot r at ∙ ap (λ (x : Record). Some x) (gone_all_row r k same) in
+    let some = some_free (map is_free (gone_to k records)) slot (get-map is_free (gone_to k records) slot free row) in
+    not_full_if (gone_to k records) _ refl (λ none. absurd (omega arith))
+
+-- up to that set the images have to go, and no further
+pub room_made_by : {D : Type 0} (c : CopiesValue D) (v b up_to : ℕ) → AreRecords c.area.volumes c.area.records → length c.images ≡ length c.area.volumes → AreOfImages c.area.records c.images → v < length c.area.volumes
+    → lacks_slot c.area.records v (images_on c v) b ≡ true → IsFirstToFree c.area.records (images_on c v) up_to → IsRoomMade c.area.records c.images v b up_to
+room_made_by c v b up_to are long of within lacks first = record {
+  enough = elim first.one [
+    | inl newest_is ↦
+        let at = get_inside c.images v (omega arith) in
+        let on : images_on c v ≡ at.0 = ap sets_in at.1 in
+        let none : after up_to (images_on c v) ≡ [] = none_after up_to (images_on c v) (λ i s there. let most = newest_most (images_on c v) i s (subst AreImages (sym on) (of.sets v at.0 at.1)) there in omega arith) in
+        ap (λ (sets : List ℕ). lacks_slot (gone_to up_to c.area.records) v sets b) (sets_after up_to v c.images ∙ none)
+    | inr at ↦ sym (and_false (lacks_copy (gone_to up_to c.area.records) v (sets_in (slice_get (all_after up_to c.images) v)) b) (is_full (gone_to up_to c.area.records)) (not_full c.area.records at.0 up_to at.1 at.2 at.3))
+  ];
+  needed = λ fewer low.
+      let most = first.most in
+      ap (λ (rs : List Record). lacks_slot rs v (sets_in (slice_get (all_after fewer c.images) v)) b) (gone_to_stays c.area.volumes c.area.records fewer are (λ slot r at some. let least = first.least slot r at in omega arith))
+      ∙ ap (λ (sets : List ℕ). lacks_slot c.area.records v sets b) (sets_after fewer v c.images)
+      ∙ ap (λ (t : Bool). t && is_full c.area.records) (keeps_newest c.area.records v b fewer (images_on c v) (omega arith)).1
+      ∙ lacks;
+}
+
+-- ## the walk for it
+
+-- the least set of the copies in the slots so far, or the newest image's where that is less
+pub record IsLeastSoFar (records : List Record) (sets : List ℕ) (up_to slot : ℕ) : Type 0 where
+  pub most : up_to ≤ newest sets
+  pub least : (j : ℕ) (r : Record) → slice_get records j ≡ Some r → j < slot → up_to ≤ r.set
+  pub one : (up_to ≡ newest sets) ⊎ ((j : ℕ) × (r : Record) × (slice_get records j ≡ Some r) × (r.set ≡ up_to))
+
+pub first_none : (records : List Record) (sets : List ℕ) (n : ℕ) → n ≡ newest sets → IsLeastSoFar records sets n 0
+first_none records sets n is = record {
+  most = omega arith;
+  least = λ j r at low. absurd (omega arith);
+  one = inl is;
+}
+
+-- one slot more, of a lesser set
+pub first_less : (records : List Record) (sets : List ℕ) (least slot : ℕ) (r : Record) → IsLeastSoFar records sets least slot → slice_get records slot ≡ Some r → r.set < least → IsLeastSoFar records sets r.set (slot + 1)
+first_less records sets least slot r so_far at below = record {
+  most = let most = so_far.most in omega arith;
+  least = λ j q there low. elim (cases_eq j slot) [
+    | inl same ↦ let is : q.set ≡ r.set = ap (λ (x : Record). x.set) (same_Some q r (sym there ∙ ap (λ (n : ℕ). slice_get records n) same ∙ at)) in omega arith
+    | inr other ↦ let before = so_far.least j q there (omega arith) in omega arith
+  ];
+  one = inr (slot, r, at, refl);
+}
+
+-- one slot more, of no lesser set
+pub first_stays : (records : List Record) (sets : List ℕ) (least slot : ℕ) (r : Record) → IsLeastSoFar records sets least slot → slice_get records slot ≡ Some r → least ≤ r.set → IsLeastSoFar records sets least (slot + 1)
+first_stays records sets least slot r so_far at over = record {
+  most = so_far.most;
+  least = λ j q there low. elim (cases_eq j slot) [
+    | inl same ↦ let is : q.set ≡ r.set = ap (λ (x : Record). x.set) (same_Some q r (sym there ∙ ap (λ (n : ℕ). slice_get records n) same ∙ at)) in omega arith
+    | inr other ↦ so_far.least j q there (omega arith)
+  ];
+  one = so_far.one;
+}
+
+pub first_all : (records : List Record) (sets : List ℕ) (least slot : ℕ) → IsLeastSoFar records sets least slot → length records ≤ slot → IsFirstToFree records sets least
+first_all records sets least slot so_far whole = record {
+  most = so_far.most;
+  least = λ j r at. let inside = slice_get_within records j r at in so_far.least j r at (omega arith);
+  one = so_far.one;
+}

@@ -8,12 +8,12 @@ use Rattle.std.proofs.lemmas.Option.{none-some, same_Some}
 use Rattle.diff_area.specs.Records.{free}
 use Rattle.diff_area.specs.declared.table_record.Record.{Record}
 use Rattle.diff_map.specs.Copies.{copy_of, has_copy}
-use Rattle.diff_map.specs.Rules.{merged as merged_rule, cleared as cleared_rule, handed_down as handed_on}
+use Rattle.diff_map.specs.Rules.{merged as merged_rule, cleared as cleared_rule, gone as gone_rule, handed_down as handed_on}
 use Rattle.diff_map.specs.declared.copied.Copied.{Copied}
 use Rattle.diff_map.proofs.Finds.{Merged, merged_from, stayed, moved}
 use Rattle.diff_map.proofs.Ruling.{row_from_has, has_from_row}
 use Rattle.cow_volume.specs.StandsFor.{record_of}
-use Rattle.cow_volume.specs.Changes.{has_record, is_of, handed_down, merged_row, cleared_row}
+use Rattle.cow_volume.specs.Changes.{has_record, is_of, handed_down, merged_row, cleared_row, gone_on_row}
 use Rattle.cow_volume.specs.Tied.{copied_for}
 use Rattle.cow_volume.specs.Followed.{record_for, followed_row}
 use Rattle.cow_volume.proofs.Rows.{copied_for-is, both_from, record_of_row, row_of_record, has_slot, has_from_slot, bools_by, same_record}
@@ -146,4 +146,35 @@ rule-cleared records v set some = record {
   above = λ c d gives more. let e : d.set ≡ c.set = ap (λ x. x.set) (cleared_some set c d gives) in omega arith;
   fresh = λ c d gives more. inl (cleared_some set c d gives);
   row = clear_row v set some;
+}
+
+gone_some : (set : ℕ) (c d : Copied) → gone_rule set c ≡ Some d → d ≡ c
+gone_some set c d h = by_test (nat_le c.set set) refl where
+  by_test : (t : Bool) → nat_le c.set set ≡ t → d ≡ c
+  by_test true e = absurd (none-some d (sym (ap (λ (t : Bool). if t then None else Some c) e) ∙ h))
+  by_test false e = sym (same_Some c d (sym (ap (λ (t : Bool). if t then None else Some c) e) ∙ h))
+
+gone_row_is : (v set : ℕ) (r : Record) → followed_row v (option_and_then (gone_rule set) (copied_for v r)) r ≡ gone_on_row v set r
+gone_row_is v set r = by_test (nat_lt 0 r.set && (r.volume == v)) refl where
+  by_set : r.volume ≡ v → (t : Bool) → nat_le r.set set ≡ t → record_for v (gone_rule set (copy_of r.set r.block)) ≡ (if true && nat_le r.set set then free else r)
+  by_set b true e = ap (λ (t : Bool). record_for v (if t then None else Some (copy_of r.set r.block))) e ∙ sym (ap (λ (t : Bool). if true && t then free else r) e)
+  by_set b false e =
+      ap (λ (t : Bool). record_for v (if t then None else Some (copy_of r.set r.block))) e
+      ∙ same_record (record_of v r.set r.block) r refl refl (sym b)
+      ∙ sym (ap (λ (t : Bool). if true && t then free else r) e)
+
+  by_test : (t : Bool) → (nat_lt 0 r.set && (r.volume == v)) ≡ t → followed_row v (option_and_then (gone_rule set) (copied_for v r)) r ≡ gone_on_row v set r
+  by_test true e =
+      let both = both_from r.set v r.volume e in
+      follows-of v (option_and_then (gone_rule set) (copied_for v r)) r both.0 both.1
+      ∙ ap (λ o. record_for v (option_and_then (gone_rule set) o)) (copied_for-is v r both.0 both.1)
+      ∙ by_set both.1 (nat_le r.set set) refl
+      ∙ sym (ap (λ (t : Bool). if t && nat_le r.set set then free else r) e)
+  by_test false e = follows-other v (option_and_then (gone_rule set) (copied_for v r)) r e ∙ sym (ap (λ (t : Bool). if t && nat_le r.set set then free else r) e)
+
+pub rule-gone : (records : List Record) (v set : ℕ) → IsRuleOf records v (gone_rule set) (gone_on_row v set)
+rule-gone records v set = record {
+  above = λ c d gives more. let e : d.set ≡ c.set = ap (λ x. x.set) (gone_some set c d gives) in omega arith;
+  fresh = λ c d gives more. inl (gone_some set c d gives);
+  row = gone_row_is v set;
 }

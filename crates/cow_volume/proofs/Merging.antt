@@ -9,14 +9,14 @@ use Rattle.std.proofs.lemmas.List.Sums.{length-filter, count_by-le-length}
 use Rattle.std.proofs.lemmas.List.Folds.{drop_split, list_any-append}
 use Rattle.std.proofs.lemmas.List.{length-map, append_assoc, append_cancel_right}
 use Rattle.std.proofs.lemmas.Option.{get_or_from_slice_get, slice_get_within, same_Some}
-use Rattle.write_history.specs.History.{Write, Image, History, content, point_in, sets_of, without_set, names, dropped}
+use Rattle.write_history.specs.History.{Write, Image, History, content, point_in, sets_of, without_set, names, dropped, AreLater, AreInTime}
 use Rattle.write_history.specs.Slots.{writes_since}
 use Rattle.diff_area.specs.Records.{free, AreRecords}
 use Rattle.diff_area.specs.Places.{place_of_slot}
 use Rattle.diff_area.specs.declared.table_record.Record.{Record}
 use Rattle.diff_map.specs.Rules.{next_older}
 use Rattle.cow_volume.specs.GroupValue.{GroupValue}
-use Rattle.cow_volume.specs.StandsFor.{StandsFor, AreLater, AreInTime, AreImages, is_named, record_of, told_in, IsVolume}
+use Rattle.cow_volume.specs.StandsFor.{StandsFor, AreImages, is_named, record_of, told_in, IsVolume}
 use Rattle.cow_volume.specs.Changes.{is_of, is_same_record, has_record, handed_down, merged_row, merged}
 use Rattle.cow_volume.specs.Calls.{is_among, history_at, changed_at}
 use Rattle.cow_volume.proofs.Reading.{unnamed_between}

@@ -3,10 +3,10 @@
 use Rattle.std.proofs.Common.{◌≡◌, ◌≢◌, ◌<◌, ◌≤◌, ℕ, ◌+◌, ◌-◌, List, [], ◌∷◌, ◌++◌, length, take, drop, map, refl, ap, sym, subst, ◌∙◌, arith, Bool, true, false, ◌||◌, Option, Some, is_some, IfSome, option_map, inl, inr}
 use Rattle.std.specs.Prelude.{slice_get, slice_set, slice_range, if◌then◌else◌, ◌==◌}
 use Rattle.std.proofs.lemmas.List.{length-take-le, take-take, drop-take, drop_all}
-use Rattle.write_history.specs.History.{Write, Image, History, content, written, names}
+use Rattle.write_history.specs.History.{Write, Image, History, content, written, names, AreInTime}
 use Rattle.diff_area.specs.Places.{place_of_slot}
 use Rattle.diff_area.specs.declared.table_record.Record.{Record}
-use Rattle.cow_volume.specs.StandsFor.{AreInTime, is_named, IsVolume}
+use Rattle.cow_volume.specs.StandsFor.{is_named, IsVolume}
 use Rattle.cow_volume.proofs.Members.{Has}
 use Rattle.cow_volume.proofs.Group.{same_number}
 use Rattle.cow_volume.proofs.Named.{Stands, point_stands, named_of}

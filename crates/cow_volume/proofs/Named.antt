@@ -6,10 +6,10 @@ use Rattle.std.proofs.lemmas.List.{map-append, length-map, length-append}
 use Rattle.std.proofs.lemmas.List.Elements.{All-head, All-tail}
 use Rattle.std.proofs.lemmas.Simd.{map-map}
 use Rattle.std.proofs.lemmas.Bool.Decides.{nat_tests}
-use Rattle.write_history.specs.History.{Write, Image, point_in, names, sets_of}
+use Rattle.write_history.specs.History.{Write, Image, point_in, names, sets_of, AreLater, AreInTime}
 use Rattle.write_history.specs.Slots.{Copy, writes_since, named, used, used_by, copy_of, copies_of}
 use Rattle.diff_area.specs.declared.table_record.Record.{Record}
-use Rattle.cow_volume.specs.StandsFor.{AreLater, AreInTime, is_named, record_of}
+use Rattle.cow_volume.specs.StandsFor.{is_named, record_of}
 use Rattle.cow_volume.specs.Calls.{is_among}
 use Rattle.cow_volume.proofs.Group.{same_number, number_is}
 use Rattle.cow_volume.proofs.Members.{Has, AreApart, has_left, has_right, has_either, has-map, from-map, apart-append, apart-map, has-filter, from-filter, has-range, from-range, apart-range, apart-filtered}

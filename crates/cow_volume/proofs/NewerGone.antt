@@ -3,8 +3,7 @@ use Rattle.std.proofs.Common.{◌≡◌, ◌<◌, ◌≤◌, ℕ, List, [], ◌�
 use Rattle.std.specs.Prelude.{if◌then◌else◌, ◌==◌, nat_lt}
 use Rattle.std.proofs.lemmas.Bool.{lt-ltb, le-ltb, ltb-false}
 use Rattle.std.proofs.lemmas.Bool.Decides.{nat_tests}
-use Rattle.write_history.specs.History.{Image, History, point_in, without_set, up_to_set, dropped, to_restore, restoring, reverted, reverted_in_part}
-use Rattle.cow_volume.specs.StandsFor.{AreLater, AreInTime}
+use Rattle.write_history.specs.History.{Image, History, point_in, without_set, up_to_set, dropped, to_restore, restoring, reverted, reverted_in_part, AreLater, AreInTime}
 use Rattle.cow_volume.proofs.Members.{Has}
 use Rattle.cow_volume.proofs.Group.{same_number, number_is}
 use Rattle.cow_volume.proofs.Named.{Stands, number_is_less, later_stands}

@@ -5,11 +5,11 @@ use Rattle.std.specs.List.{range_with_len}
 use Rattle.std.proofs.lemmas.Option.{same_Some, slice_get_within}
 use Rattle.std.proofs.lemmas.List.{take_all, take-take, drop-take, take-append-drop}
 use Rattle.block_data.specs.Runs.{zeros}
-use Rattle.write_history.specs.History.{Write, Image, History, last_bytes, content, contents, point_in, names}
+use Rattle.write_history.specs.History.{Write, Image, History, last_bytes, content, contents, point_in, names, AreLater, AreInTime}
 use Rattle.write_history.specs.Slots.{writes_since}
 use Rattle.diff_area.specs.Places.{place_of_slot}
 use Rattle.diff_area.specs.declared.table_record.Record.{Record}
-use Rattle.cow_volume.specs.StandsFor.{AreLater, AreInTime, is_named, told_in, IsVolume, StandsFor}
+use Rattle.cow_volume.specs.StandsFor.{is_named, told_in, IsVolume, StandsFor}
 use Rattle.cow_volume.specs.GroupValue.{GroupValue}
 use Rattle.cow_volume.specs.Calls.{history_at, blocks_in, blocks_at, sets_in, sets_at, IsNow, IsShown}
 use Rattle.cow_volume.specs.Changes.{IsFirstCopy, HasNoCopy}

@@ -17,9 +17,9 @@ use Rattle.diff_map.specs.declared.copied.Copied.{Copied}
 use Rattle.diff_map.proofs.Kept.{copied_at-renewed, row_before}
 use Rattle.cow_volume.specs.StandsFor.{record_of}
 use Rattle.cow_volume.specs.Tied.{copied_for, AreTied, images_of}
-use Rattle.cow_volume.specs.Followed.{record_for, followed_row, followed, CanFollow}
+use Rattle.cow_volume.specs.Followed.{record_for, followed_row, followed}
 use Rattle.cow_volume.proofs.Rows.{copied_for-is, copied_for-none, copied_for-other, record_of_row, row_at, record-from, both_from, get_inside, used_is, map-from}
-use Rattle.cow_volume.proofs.FollowedRows.{follows-of, follows-other, length-followed}
+use Rattle.cow_volume.proofs.FollowedRows.{follows-of, follows-other, length-followed, followed_at}
 
 -- The rule gives no copy of set 0, and none that another slot's record has; and f says what becomes of a record by it.
 pub record IsRuleOf (records : List Record) (v : ℕ) (rule : Copied → Option Copied) (f : Record → Record) : Type 0 where
@@ -48,46 +48,6 @@ all_taken volumes records maps pool v m tied at slot some =
     let copies = (tied.each v m at).copies in
     subst (λ (p : List Bool). IsTaken p slot) (sym tied.pool_is)
     (noted_taken records v slot (copied_at m.copies slot) (ap (λ (cs : List (Option Copied)). copied_at cs slot) (sym copies)) some)
-
--- ## the records can follow
-
-module _ (volumes : List ℕ) (records : List Record) (maps : List MapValue) (pool : List Bool) (v : ℕ) (m n : MapValue) (rule : Copied → Option Copied) (f : Record → Record) (valid : AreRecords volumes records) (tied : AreTied volumes records maps pool) (at : slice_get maps v ≡ Some m) (copies_are : n.copies ≡ renewed rule m.copies) (blocks_are : n.blocks ≡ m.blocks) (is_map : IsMap n) (is_rule : IsRuleOf records v rule f) where
-  long : length n.copies ≡ length records
-  long = ap length copies_are ∙ length-map m.copies (option_and_then rule) ∙ ap length (tied.each v m at).copies ∙ length-map records (copied_for v)
-
-  above_zero : (slot : ℕ) (c : Copied) → copied_at n.copies slot ≡ Some c → 0 < c.set
-  above_zero slot c row = (All-contains (λ image. (0 < image) × (image < 4294967296)) n.images c.set is_map.images.above_zero (is_map.of_images slot c row)).0
-
-  block_within : (slot : ℕ) (c : Copied) → copied_at n.copies slot ≡ Some c → c.block < slice_index volumes v
-  block_within slot c row =
-      let low = is_map.of_blocks slot c row in
-      let same : slice_index volumes v ≡ m.blocks = get_or_from_slice_get volumes v m.blocks 0 (tied.each v m at).blocks in
-      omega arith
-
-  before : (slot : ℕ) (c : Copied) → copied_at n.copies slot ≡ Some c → (b : Copied) × (copied_at m.copies slot ≡ Some b) × (rule b ≡ Some c)
-  before slot c row = row_before rule m.copies slot c (ap (λ (cs : List (Option Copied)). copied_at cs slot) (sym copies_are) ∙ row)
-
-  was_record : (slot : ℕ) (b : Copied) → copied_at m.copies slot ≡ Some b → (0 < b.set) × (slice_get records slot ≡ Some (record_of v b.set b.block))
-  was_record slot b row = record_of_row v records slot b (ap (λ (cs : List (Option Copied)). copied_at cs slot) (sym (tied.each v m at).copies) ∙ row)
-
-  no_other : (slot other : ℕ) (c : Copied) → copied_at n.copies slot ≡ Some c → slice_get records other ≡ Some (record_of v c.set c.block) → slot ≡ other
-  no_other slot other c row h =
-      let was = before slot c row in
-      let noted = was_record slot was.0 was.1 in
-      elim (is_rule.fresh was.0 c was.2 noted.0) [
-        | inl same ↦ valid.once slot other (record_of v c.set c.block) (noted.1 ∙ ap (λ (x : Copied). Some (record_of v x.set x.block)) (sym same)) h (not_free v c (above_zero slot c row))
-        | inr none ↦ absurd (none other h)
-      ]
-
-  pub can_follow : CanFollow volumes records v n.copies
-  can_follow = record {
-    rows = long;
-    volume = let e = tied.number in let within = slice_get_within maps v m at in omega arith;
-    sets = above_zero;
-    blocks = block_within;
-    once = is_map.once;
-    fresh = no_other;
-  }
 
 -- ## what follows
 
@@ -153,13 +113,6 @@ pub get-map : {X Y : Type 0} → (g : X → Y) (xs : List X) (k : ℕ) (x : X) �
 get-map g [] k x h = absurd (none-some x h)
 get-map g (z ∷ xs) zero x h = ap (λ w. Some (g w)) (same_Some z x h)
 get-map g (z ∷ xs) (suc k) x h = get-map g xs k x h
-
-followed_at : (v : ℕ) (copies : List (Option Copied)) (records : List Record) (k : ℕ) (r : Record) → length copies ≡ length records → slice_get records k ≡ Some r → slice_get (followed v copies records) k ≡ Some (followed_row v (copied_at copies k) r)
-followed_at v [] [] k r long h = absurd (none-some r h)
-followed_at v [] (q ∷ rs) k r long h = absurd (omega arith)
-followed_at v (c ∷ copies) [] k r long h = absurd (none-some r h)
-followed_at v (c ∷ copies) (q ∷ rs) zero r long h = ap (λ (x : Record). Some (followed_row v c x)) (same_Some q r h)
-followed_at v (c ∷ copies) (q ∷ rs) (suc k) r long h = followed_at v copies rs k r (omega arith) h
 
 -- the pool, slot by slot
 pool_slot : (v : ℕ) (r : Record) (was is : Option Copied) (old new : Option Bool) → was ≡ copied_for v r → old ≡ Some (is_free r) → (IsSome was → IsNone is → new ≡ Some true) → (IsNone was ⊎ IsSome is → new ≡ old) → ((c : Copied) → is ≡ Some c → 0 < c.set) → (was ≡ None → is ≡ None) → new ≡ Some (is_free (followed_row v is r))

@@ -6,10 +6,10 @@ use Rattle.std.specs.List.{range_with_len}
 use Rattle.std.proofs.lemmas.List.{append_assoc, append-nil, map-append, length-append, length-take-le, take_all, take-take, take_at}
 use Rattle.std.proofs.lemmas.List.Elements.{filter-append}
 use Rattle.block_data.specs.Runs.{zeros}
-use Rattle.write_history.specs.History.{Write, Image, History, last_bytes, content, contents, point_in, up_to_set, written, names, to_restore, restoring, reverted, reverted_in_part}
+use Rattle.write_history.specs.History.{Write, Image, History, last_bytes, content, contents, point_in, up_to_set, written, names, to_restore, restoring, reverted, reverted_in_part, AreInTime}
 use Rattle.diff_area.specs.Places.{place_of_slot}
 use Rattle.diff_area.specs.declared.table_record.Record.{Record}
-use Rattle.cow_volume.specs.StandsFor.{AreInTime, is_named, record_of, IsVolume}
+use Rattle.cow_volume.specs.StandsFor.{is_named, record_of, IsVolume}
 use Rattle.cow_volume.specs.Changes.{has_record, cleared}
 use Rattle.cow_volume.proofs.Members.{Has, has_at, has-filter, from-filter, has-range, from-range}
 use Rattle.cow_volume.proofs.Clearing.{from_cleared, to_cleared, length-cleared}

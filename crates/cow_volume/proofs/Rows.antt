@@ -157,7 +157,7 @@ has_from_slot (q ∷ rs) r (suc slot) h = ap (λ (t : Bool). is_same_record r q 
 
 -- ## the newest image
 
-newest_rest : (s t : ℕ) (rest : List ℕ) → newest (s ∷ t ∷ rest) ≡ newest (t ∷ rest)
+pub newest_rest : (s t : ℕ) (rest : List ℕ) → newest (s ∷ t ∷ rest) ≡ newest (t ∷ rest)
 newest_rest s t rest =
     let e : length (s ∷ t ∷ rest) - 1 ≡ suc (length (t ∷ rest) - 1) = omega arith in
     ap (λ (k : ℕ). slice_index (s ∷ t ∷ rest) k) e

@@ -125,7 +125,7 @@ free_is r h =
 pub free_slot_is : (records : List Record) (slot : ℕ) → IsLowestFree (map is_free records) slot → slice_get records slot ≡ Some free
 free_slot_is records slot low = let at = free_at records slot low.free in at.1 ∙ ap (λ (r : Record). Some r) (free_is at.0 at.2)
 
-some_free : (pool : List Bool) (slot : ℕ) → slice_get pool slot ≡ Some true → 0 < free_count pool
+pub some_free : (pool : List Bool) (slot : ℕ) → slice_get pool slot ≡ Some true → 0 < free_count pool
 some_free [] slot h = absurd (none-some true h)
 some_free (b ∷ bs) zero h = first_free b (free_count (b ∷ bs)) (free_count bs) (same_Some b true h) (sum_by-cons (λ (t : Bool). if t then 1 else 0) b bs)
 some_free (b ∷ bs) (suc slot) h = more_than b (free_count (b ∷ bs)) (free_count bs) (some_free bs slot h) (sum_by-cons (λ (t : Bool). if t then 1 else 0) b bs)

@@ -7,14 +7,14 @@ use Rattle.std.proofs.lemmas.Option.{same_Some, slice_get_within}
 use Rattle.std.proofs.lemmas.List.{take-append-le, drop-append-le, length-drop, length_push, length-map}
 use Rattle.std.proofs.lemmas.List.Folds.{list_any-append}
 use Rattle.block_data.specs.Runs.{zeros}
-use Rattle.write_history.specs.History.{Write, Image, History, last_bytes, content, contents, point_in, names, sets_of, written}
+use Rattle.write_history.specs.History.{Write, Image, History, last_bytes, content, contents, point_in, names, sets_of, written, AreLater, AreInTime}
 use Rattle.write_history.specs.Slots.{writes_since, needs_slot, needs_slot_in}
 use Rattle.volume_device.specs.Blocks.{AreBlocks}
 use Rattle.diff_map.specs.MapValue.{newest}
 use Rattle.diff_area.specs.Places.{table_for, blocks_for, place_of_slot}
 use Rattle.diff_area.specs.Records.{free}
 use Rattle.diff_area.specs.declared.table_record.Record.{Record}
-use Rattle.cow_volume.specs.StandsFor.{AreLater, AreInTime, AreImages, is_named, record_of, told_in, IsVolume, StandsFor}
+use Rattle.cow_volume.specs.StandsFor.{AreImages, is_named, record_of, told_in, IsVolume, StandsFor}
 use Rattle.cow_volume.specs.Changes.{noted}
 use Rattle.cow_volume.specs.GroupValue.{GroupValue}
 use Rattle.cow_volume.specs.Calls.{history_at, changed_at, blocks_at, sets_at}

@@ -1,6 +1,6 @@
 -- What becomes of the records of a group's slots where a block is copied or an image goes. (That the oldest images go
 -- first where no slot is left is the Volume Shadow Copy Service's; the rules for the copies are this project's own.)
-use Rattle.std.specs.Prelude.{ℕ, ◌≡◌, ◌≤◌, Bool, List, map, ◌==◌, ◌&&◌, nat_le, if◌then◌else◌, Option, Some, None, slice_get, slice_set}
+use Rattle.std.specs.Prelude.{ℕ, ◌≡◌, ◌≤◌, Bool, List, map, ◌==◌, ◌&&◌, nat_lt, nat_le, if◌then◌else◌, Option, Some, None, slice_get, slice_set}
 use Rattle.std.specs.List.{list_any}
 use Rattle.diff_area.specs.Records.{free}
 use Rattle.diff_area.specs.declared.table_record.Record.{Record}
@@ -55,6 +55,13 @@ cleared_row v set r = if (r.volume == v) && nat_le set r.set then free else r
 
 abbrev pub cleared : ℕ → ℕ → List Record → List Record
 cleared v set records = map (cleared_row v set) records
+
+-- the copies of the images of volume v up to a set go
+abbrev pub gone_on_row : ℕ → ℕ → Record → Record
+gone_on_row v up_to r = if (nat_lt 0 r.set && (r.volume == v)) && nat_le r.set up_to then free else r
+
+abbrev pub gone_on : ℕ → ℕ → List Record → List Record
+gone_on v up_to records = map (gone_on_row v up_to) records
 
 -- the copies of all images of the group up to a set go
 abbrev pub gone_row : ℕ → Record → Record

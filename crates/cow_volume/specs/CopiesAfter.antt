@@ -1,20 +1,15 @@
 -- What the calls on the copies of a group leave: the records of the slots, and the images of each volume. Nothing else changes.
 -- (This project's own.)
-use Rattle.std.specs.Prelude.{ℕ, ◌==◌, Bool, false, not, List, [], ◌∷◌, ◌++◌, filter, fold, nat_lt, nat_le, if◌then◌else◌, Option, Some, None, slice_get, slice_set}
+use Rattle.std.specs.Prelude.{ℕ, ◌==◌, not, List, [], ◌∷◌, ◌++◌, filter, nat_le, slice_get, slice_set}
 use Rattle.diff_area.specs.AreaValue.{AreaValue}
 use Rattle.diff_area.specs.declared.table_record.Record.{Record}
 use Rattle.diff_map.specs.MapValue.{newest}
 use Rattle.diff_map.specs.Rules.{next_older}
 use Rattle.cow_volume.specs.StandsFor.{record_of}
-use Rattle.cow_volume.specs.Changes.{noted, merged, cleared, gone_to}
+use Rattle.cow_volume.specs.Changes.{noted, merged, cleared, gone_on, gone_to}
 use Rattle.cow_volume.specs.Calls.{sets_in}
-use Rattle.cow_volume.specs.Room.{all_after}
+use Rattle.cow_volume.specs.Room.{after, all_after}
 use Rattle.cow_volume.specs.Tied.{CopiesValue}
-
--- the first of these sets is this one
-abbrev pub is_first : ℕ → List ℕ → Bool
-is_first set [] = false
-is_first set (first ∷ sets) = first == set
 
 -- the area with other records
 abbrev pub with_records : {D : Type 0} → List Record → AreaValue D → AreaValue D
@@ -46,20 +41,13 @@ after_clear c v set = record {
   images = slice_set c.images v (filter (λ s. nat_le s set) (images_on c v));
 }
 
+-- the images up to a set go from volume v, with their copies
+abbrev pub after_gone_on : {D : Type 0} → CopiesValue D → ℕ → ℕ → CopiesValue D
+after_gone_on c v up_to = record {
+  area = with_records (gone_on v up_to c.area.records) c.area;
+  images = slice_set c.images v (after up_to (images_on c v));
+}
+
 -- the images up to a set go from all volumes, with their copies
 abbrev pub after_gone : {D : Type 0} → CopiesValue D → ℕ → CopiesValue D
 after_gone c up_to = record { area = with_records (gone_to up_to c.area.records) c.area; images = all_after up_to c.images }
-
--- the oldest image goes from volume v, where it is of this set
-abbrev pub after_first : {D : Type 0} → CopiesValue D → ℕ → ℕ → CopiesValue D
-after_first c v set = if is_first set (images_on c v) then after_merge c v set else c
-
--- the lesser of two sets, where there are two
-abbrev pub lesser : Option ℕ → Option ℕ → Option ℕ
-lesser None other = other
-lesser (Some set) None = Some set
-lesser (Some set) (Some other) = Some (if nat_lt other set then other else set)
-
--- the least set of the images of all volumes, each of which has them in rising order
-abbrev pub oldest_in : List (List ℕ) → Option ℕ
-oldest_in images = fold (λ oldest sets. lesser oldest (slice_get sets 0)) None images

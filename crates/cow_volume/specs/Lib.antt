@@ -4,6 +4,7 @@ pub mod Changes
 pub mod Calls
 pub mod Room
 pub mod Tied
+pub mod CopiedOnce
 pub mod CopiesAfter
 pub mod Followed
 pub mod Parts

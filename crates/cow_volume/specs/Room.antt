@@ -1,8 +1,9 @@
 -- When a write needs a slot for a copy, and lacks it, by the records; and which images go so that it has one. (That the oldest go
 -- is the Volume Shadow Copy Service's; that those of the group's least set go together is this project's own.)
-use Rattle.std.specs.Prelude.{ℕ, ◌≡◌, ◌<◌, ◌==◌, ◌&&◌, not, Bool, true, false, List, [], ◌∷◌, length, map, filter, nat_lt, slice_get}
+use Rattle.std.specs.Prelude.{ℕ, ◌≡◌, ◌<◌, ◌≤◌, ◌⊎◌, Some, ◌==◌, ◌&&◌, not, Bool, true, false, List, [], ◌∷◌, length, map, filter, nat_lt, slice_get}
 use Rattle.diff_area.specs.Records.{used_in}
 use Rattle.diff_area.specs.declared.table_record.Record.{Record}
+use Rattle.diff_map.specs.MapValue.{newest}
 use Rattle.cow_volume.specs.GroupValue.{GroupValue}
 use Rattle.cow_volume.specs.StandsFor.{record_of}
 use Rattle.cow_volume.specs.Changes.{has_record, gone_to}
@@ -38,6 +39,12 @@ lacks_after records images v b up_to = lacks_slot (gone_to up_to records) v (set
 pub record IsRoomMade (records : List Record) (images : List (List ℕ)) (v b up_to : ℕ) : Type 0 where
   pub enough : lacks_after records images v b up_to ≡ false
   pub needed : (fewer : ℕ) → fewer < up_to → lacks_after records images v b fewer ≡ true
+
+-- where all slots are used: the least set that has a copy, or the newest of these images, where that is less
+pub record IsFirstToFree (records : List Record) (sets : List ℕ) (up_to : ℕ) : Type 0 where
+  pub most : up_to ≤ newest sets
+  pub least : (slot : ℕ) (r : Record) → slice_get records slot ≡ Some r → up_to ≤ r.set
+  pub one : (up_to ≡ newest sets) ⊎ ((slot : ℕ) × (r : Record) × (slice_get records slot ≡ Some r) × (r.set ≡ up_to))
 
 -- the group without the images of the sets up to this one, and without their copies
 abbrev pub gone_group : {D : Type 0} → ℕ → GroupValue D → GroupValue D

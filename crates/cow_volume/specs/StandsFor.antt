@@ -3,23 +3,13 @@
 -- copied before its first overwrite since the newest cut, as in the Volume Shadow Copy Service; the relation is this
 -- project's own.)
 use Rattle.std.specs.Prelude.{ℕ, ◌≡◌, ◌<◌, ◌≤◌, Bool, true, false, List, [], ◌∷◌, length, ◌==◌, if◌then◌else◌, Option, Some, None, is_some, IfSome, slice_get, All}
-use Rattle.write_history.specs.History.{Write, Image, History, content, contents, point_in, names, sets_of}
+use Rattle.write_history.specs.History.{Write, Image, History, AreInTime, content, contents, point_in, names, sets_of}
 use Rattle.write_history.specs.Slots.{writes_since}
 use Rattle.diff_area.specs.Places.{place_of_slot}
 use Rattle.diff_area.specs.declared.table_record.Record.{Record}
 use Rattle.cow_volume.specs.GroupValue.{GroupValue}
 
 -- ## one volume
-
--- the images after one are of later sets, and have points that are no less
-abbrev pub AreLater : Image → List Image → Type 0
-AreLater i [] = Unit {0}
-AreLater i (j ∷ js) = (i.set < j.set) × (i.point ≤ j.point) × AreLater i js
-
--- images rise in set, their points do not fall, and none is past the end of so many effective writes
-abbrev pub AreInTime : ℕ → List Image → Type 0
-AreInTime writes [] = Unit {0}
-AreInTime writes (i ∷ images) = (i.point ≤ writes) × AreLater i images × AreInTime writes images
 
 -- the images of a volume of so many effective writes: in time, each of a set above 0, and at most 512
 pub record AreImages (writes : ℕ) (images : List Image) : Type 0 where

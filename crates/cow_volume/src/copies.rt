@@ -9,16 +9,16 @@ ghost use Rattle.diff_area.specs.Copies.{AreStored, AreHeld};
 ghost use Rattle.diff_area.specs.Places.{blocks_for, place_of_slot};
 ghost use Rattle.diff_area.specs.Records.{AreVolumes, AreRecords, free, is_free, used_in};
 ghost use Rattle.diff_area.specs.Written.{table_blocks};
-ghost use Rattle.cow_volume.specs.Changes.{IsFirstCopy, HasNoCopy, is_of};
-ghost use Rattle.cow_volume.specs.Counts.{is_on, count_on, count_of};
-ghost use Rattle.cow_volume.specs.Room.{lacks_copy, lacks_slot, is_full, IsRoomMade};
+ghost use Rattle.cow_volume.specs.Changes.{IsFirstCopy, HasNoCopy};
+ghost use Rattle.cow_volume.specs.Counts.{count_on, count_of};
+ghost use Rattle.cow_volume.specs.Room.{lacks_copy, lacks_slot, is_full, IsFirstToFree, IsRoomMade};
 ghost use Rattle.cow_volume.specs.Tied.{AreOfImages, new_map};
-ghost use Rattle.cow_volume.specs.CopiesAfter.{images_on, after_cut, after_note, after_merge, after_clear, after_gone, after_first, lesser, oldest_in};
+ghost use Rattle.cow_volume.specs.CopiesAfter.{images_on, after_cut, after_note, after_merge, after_clear, after_gone, after_gone_on};
 
-use crate::following::follow;
+use crate::renewing::{free_records, merge_records};
 use block_data::{BLOCK, BlockView};
 use diff_area::{Area, AreaFault, Record};
-use diff_map::DiffMap;
+use diff_map::{DiffMap, Going, next_older};
 use slot_pool::SlotPool;
 use std::alloc::Global;
 use std::marker::Model;
@@ -101,26 +101,25 @@ impl<D: Device> Copies<D> {
 
     /// How many slots hold copies of the volume.
     pub(crate) fn used_on(&self, v: u32) -> u32
+        requires { v < length self.now.area.volumes }
         ensures { result ≡ count_on v self.now.area.records }
     {
-        let mut used = 0;
-        for slot in 0..self.area.slots() {
-            let row = self.area.record_at(slot);
-            if is_on(row, v) {
-                used += 1;
-            }
-        }
-        used
+        let _slots = self.area.slots();
+        let entries = self.maps[v as usize].entries();
+        entries.len() as u32
     }
 
-    /// How many slots hold copies for the image of a set on the volume.
+    /// How many slots hold copies for the image of a set on the volume, all of whose copies are looked at.
     pub(crate) fn used_of(&self, v: u32, set: u32) -> u32
+        requires volume { v < length self.now.area.volumes }
+        requires above_zero { 0 < set }
         ensures { result ≡ count_of v set self.now.area.records }
     {
+        let _slots = self.area.slots();
+        let entries = self.maps[v as usize].entries();
         let mut used = 0;
-        for slot in 0..self.area.slots() {
-            let row = self.area.record_at(slot);
-            if is_of(row, v, set) {
+        for entry in entries {
+            if entry.set == set {
                 used += 1;
             }
         }
@@ -265,8 +264,8 @@ impl<D: Device> Copies<D> {
         self.area
     }
 
-    /// Makes room for a write of the block: while it needs a slot for a copy and none is free, the images of the least set go
-    /// together, on all volumes. The greatest set whose images went is answered, 0 where none went.
+    /// Makes room for a write of the block: where it needs a slot for a copy and none is free, the images up to a set go from all
+    /// volumes, and no more than have to. That set is answered, 0 where none went.
     pub(crate) fn make_room(&mut self, v: u32, block: u32) -> u32
         requires { v < length self.old.area.volumes }
         ensures gone { self.new ≡ after_gone self.old result }
@@ -274,50 +273,51 @@ impl<D: Device> Copies<D> {
     {
         let _valid = self.volumes();
         let _records = self.slots();
-        let mut up_to = 0;
-        while self.lacks_slot(v, block) {
-            let Some(set) = self.oldest_set() else {
-                unreachable!();
-            };
-            self.drop_set(set);
-            up_to = set;
+        if !self.lacks_slot(v, block) {
+            return 0;
         }
+        let up_to = self.first_to_free(v);
+        self.drop_up_to(up_to);
         up_to
     }
 
-    /// The least set of the images of all volumes.
-    fn oldest_set(&self) -> Option<u32>
-        ensures oldest { result ≡ oldest_in self.now.images }
-        ensures images { length self.now.images ≡ length self.now.area.volumes }
-        ensures of_images { AreOfImages self.now.area.records self.now.images }
+    /// The least set up to which images have to go, where all slots are used, before the volume has a slot for a copy or no
+    /// image: the least that has a copy, or the volume's newest. All slots are looked at.
+    fn first_to_free(&self, v: u32) -> u32
+        requires volume { v < length self.now.area.volumes }
+        requires some { 0 < length (images_on self.now v) }
+        ensures { IsFirstToFree self.now.area.records (images_on self.now v) result }
     {
-        let mut oldest = None;
-        for v in 0..self.volumes() {
-            oldest = lesser(oldest, self.images(v));
+        let mut least = newest(self.images(v));
+        for slot in 0..self.area.slots() {
+            let row = self.area.record_at(slot);
+            if row.set < least {
+                least = row.set;
+            }
         }
-        oldest
+        least
     }
 
-    /// The images of the least set go from all volumes.
-    fn drop_set(&mut self, set: u32)
-        requires { oldest_in self.old.images ≡ Some set }
+    /// The images up to a set go from all volumes, with their copies.
+    fn drop_up_to(&mut self, set: u32)
         ensures { self.new ≡ after_gone self.old set }
     {
         let _records = self.slots();
         for v in 0..self.volumes() {
-            self.drop_oldest(v, set);
+            self.drop_up_to_on(v, set);
         }
     }
 
-    /// The oldest image goes from the volume, where it is of this set.
-    fn drop_oldest(&mut self, v: u32, set: u32)
+    /// The images up to a set go from the volume, with their copies.
+    fn drop_up_to_on(&mut self, v: u32, set: u32)
         requires { v < length self.old.area.volumes }
-        ensures { self.new ≡ after_first self.old v set }
+        ensures { self.new ≡ after_gone_on self.old v set }
     {
-        match self.images(v).first() {
-            Some(&first) if first == set => self.merge(v, set),
-            _ => {}
-        }
+        let map = &mut self.maps[v as usize];
+        let _before = map.images();
+        free_records(&mut self.area, map.entries(), v, Going::UpTo(set));
+        map.drop_up_to(set, &mut self.pool);
+        let _after = map.images();
     }
 
     /// The image of a set goes from the volume. Its copies go to the next older image, where that lacks them.
@@ -326,12 +326,11 @@ impl<D: Device> Copies<D> {
         requires image { Contains (images_on self.old v) set }
         ensures { self.new ≡ after_merge self.old v set }
     {
-        let _valid = self.area.slots();
         let map = &mut self.maps[v as usize];
-        let _before = map.images();
+        let older = next_older(map.images(), set);
+        merge_records(&mut self.area, map.entries(), v, set, older);
         map.merge_down(set, &mut self.pool);
         let _after = map.images();
-        follow(&mut self.area, map, v);
     }
 
     /// The images of the volume that are newer than that of a set go, and all copies from that set on.
@@ -340,12 +339,11 @@ impl<D: Device> Copies<D> {
         requires image { Contains (images_on self.old v) set }
         ensures { self.new ≡ after_clear self.old v set }
     {
-        let _valid = self.area.slots();
         let map = &mut self.maps[v as usize];
         let _before = map.images();
+        free_records(&mut self.area, map.entries(), v, Going::From(set));
         map.clear_from(set, &mut self.pool);
         let _after = map.images();
-        follow(&mut self.area, map, v);
     }
 }
 
@@ -366,31 +364,4 @@ fn newest(images: &[u32]) -> u32
     ensures { result ≡ newest images.now }
 {
     images[images.len() - 1]
-}
-
-/// The lesser of a set and the first of these.
-fn lesser(oldest: Option<u32>, images: &[u32]) -> Option<u32>
-    ensures { result ≡ lesser oldest (slice_get images.now 0) }
-{
-    match images.first() {
-        None => oldest,
-        Some(&first) => match oldest {
-            None => Some(first),
-            Some(set) => Some(first.min(set)),
-        },
-    }
-}
-
-/// Whether the record is of a copy of the volume.
-fn is_on(row: Record, v: u32) -> bool
-    ensures { result ≡ is_on v row }
-{
-    row.volume == v && row.set > 0
-}
-
-/// Whether the record is of the image of a set on the volume.
-fn is_of(row: Record, v: u32, set: u32) -> bool
-    ensures { result ≡ is_of v set row }
-{
-    row.volume == v && row.set == set
 }

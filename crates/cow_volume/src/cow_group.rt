@@ -11,6 +11,7 @@ ghost use Rattle.cow_volume.specs.Parts.{IsLentBy, IsUnseen};
 ghost use Rattle.cow_volume.specs.Ending.{IsSync};
 ghost use Rattle.cow_volume.specs.Room.{lacks_copy, lacks_slot, is_full, gone_group};
 ghost use Rattle.cow_volume.specs.Steps.{IsPutOr};
+ghost use Rattle.cow_volume.specs.CopiedOnce.{IsCopiedOnce};
 
 use crate::cause::Cause;
 use crate::copies::Copies;
@@ -101,7 +102,7 @@ impl<D: Device> CowGroup<D> {
         self.copies.images(v)
     }
 
-    /// How many slots the images of a volume use. All slots are looked at.
+    /// How many slots the images of a volume use.
     pub fn used(&self, v: u32) -> u32
         requires { v < length self.now.area.volumes }
         ensures { (hs : List History) → StandsFor D.told self.now hs → result ≡ used (blocks_at self.now v) (history_at hs v).writes (history_at hs v).images }
@@ -110,7 +111,8 @@ impl<D: Device> CowGroup<D> {
         self.copies.used_on(v)
     }
 
-    /// How many slots the image of a set uses; None where no such image stands on the volume. All slots are looked at.
+    /// How many slots the image of a set uses; None where no such image stands on the volume. All copies of
+    /// the volume are looked at.
     pub fn used_by(&self, v: u32, set: u32) -> Option<u32>
         requires { v < length self.now.area.volumes }
         ensures { (hs : List History) → StandsFor D.told self.now hs → result ≡ used_by (blocks_at self.now v) (history_at hs v).writes (history_at hs v).images set }
@@ -201,7 +203,8 @@ impl<D: Device> CowGroup<D> {
     /// either gives the slot back.
     pub fn write(&mut self, v: u32, block: u32, payload: &Payload) -> Result<Written, WriteFault>
         requires { v < length self.old.area.volumes }
-        ensures { IsWrite D.told D.size D.count D.lending self.old self.new v (record { block = block; bytes = payload_bytes payload.now }) result }
+        ensures write { IsWrite D.told D.size D.count D.lending self.old self.new v (record { block = block; bytes = payload_bytes payload.now }) result }
+        ensures once { IsCopiedOnce D.told self.old self.new v block }
     {
         if block >= self.copies.blocks(v) {
             return Err(WriteFault {
@@ -285,10 +288,12 @@ impl<D: Device> CowGroup<D> {
         requires in_range { block < blocks_at self.old v }
         ensures room { lacks_slot self.new.area.records v (sets_at self.new v) block ≡ false }
         ensures gone { self.new ≡ gone_group result self.old }
+        ensures lacked { lacks_copy self.new.area.records v (sets_at self.new v) block ≡ true → lacks_copy self.old.area.records v (sets_at self.old v) block ≡ true }
         ensures evicted { (hs : List History) → StandsFor D.told self.old hs → IsEvicted self.old v block hs result }
         ensures stands { (hs : List History) → StandsFor D.told self.old hs → StandsFor D.told self.new (made_room self.old result hs) }
     {
         let _valid = self.copies.slots();
+        let _images = self.copies.volumes();
         self.copies.make_room(v, block)
     }
 
@@ -297,7 +302,8 @@ impl<D: Device> CowGroup<D> {
         requires volume { v < length self.old.area.volumes }
         requires in_range { block < blocks_at self.old v }
         requires room { lacks_slot self.old.area.records v (sets_at self.old v) block ≡ false }
-        ensures { IsPutOr D.told D.size D.count D.lending self.old self.new v (record { block = block; bytes = payload_bytes payload.now }) result }
+        ensures put { IsPutOr D.told D.size D.count D.lending self.old self.new v (record { block = block; bytes = payload_bytes payload.now }) result }
+        ensures once { IsCopiedOnce D.told self.old self.new v block }
     {
         if self.copies.lacks_copy(v, block) {
             return self.write_first(v, block, payload);
@@ -312,7 +318,8 @@ impl<D: Device> CowGroup<D> {
         requires in_range { block < blocks_at self.old v }
         requires lacks { lacks_copy self.old.area.records v (sets_at self.old v) block ≡ true }
         requires room { is_full self.old.area.records ≡ false }
-        ensures { IsPutOr D.told D.size D.count D.lending self.old self.new v (record { block = block; bytes = payload_bytes payload.now }) result }
+        ensures put { IsPutOr D.told D.size D.count D.lending self.old self.new v (record { block = block; bytes = payload_bytes payload.now }) result }
+        ensures once { IsCopiedOnce D.told self.old self.new v block }
     {
         let _fits = self.copies.slots();
         let Some(slot) = self.copies.free_slot() else {

@@ -12,9 +12,9 @@ mod copies;
 mod copying;
 mod cow_group;
 mod ending;
-mod following;
 mod image_fault;
 mod reads;
+mod renewing;
 mod revert_fault;
 mod reverts;
 #[cfg(test)]

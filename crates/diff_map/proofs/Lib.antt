@@ -1,4 +1,5 @@
 pub mod Finds
+pub mod GoneUpTo
 pub mod Images
 pub mod Kept
 pub mod Leaving

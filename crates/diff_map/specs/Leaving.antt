@@ -4,12 +4,13 @@ use Rattle.std.specs.Option.{option_map}
 use Rattle.diff_map.specs.declared.copied.Copied.{Copied}
 use Rattle.diff_map.specs.declared.entry.Entry.{Entry}
 use Rattle.diff_map.specs.declared.going.Going.{Going}
-use Rattle.diff_map.specs.declared.going.Going.TheVariants.{Image, From}
+use Rattle.diff_map.specs.declared.going.Going.TheVariants.{Image, From, UpTo}
 use Rattle.diff_map.specs.Copies.{copied_at}
 
 abbrev pub takes : Going → ℕ → Bool
 takes (Image image) set = set == image
 takes (From oldest) set = nat_le oldest set
+takes (UpTo newest) set = nat_le set newest
 
 -- the copies that go become none
 abbrev pub rule_of : Going → Copied → Option Copied

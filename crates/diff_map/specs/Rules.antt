@@ -19,6 +19,10 @@ dropped image copied = if copied.set == image then None else Some copied
 abbrev pub cleared : ℕ → Copied → Option Copied
 cleared image copied = if nat_le image copied.set then None else Some copied
 
+-- the copies of the image and of each older one go
+abbrev pub gone : ℕ → Copied → Option Copied
+gone image copied = if nat_le copied.set image then None else Some copied
+
 -- the greatest of the ascending images that is below this set
 abbrev pub next_older : List ℕ → ℕ → Option ℕ
 next_older images set = fold (λ older image. if nat_lt image set then Some image else older) None images

@@ -2,7 +2,8 @@ ghost use Rattle.std.specs.Prelude.{◌≡◌, ◌≢◌, ◌<◌, ◌≤◌, �
 ghost use Rattle.diff_map.specs.MapValue.{IsMap, newest};
 ghost use Rattle.diff_map.specs.Copies.{HasCopy, AllTaken, copied_at, copy_of};
 ghost use Rattle.diff_map.specs.Chains.{IsFound, IsAbsent, KeepsFinds};
-ghost use Rattle.diff_map.specs.Rules.{renewed, dropped, cleared, merged, next_older, GivesBack};
+ghost use Rattle.diff_map.specs.Index.{IsIndex};
+ghost use Rattle.diff_map.specs.Rules.{renewed, dropped, cleared, gone, merged, next_older, GivesBack};
 
 use crate::copied::Copied;
 use crate::entry::Entry;
@@ -99,6 +100,13 @@ impl DiffMap {
         }
     }
 
+    /// The noted slots, in order of block and then of set.
+    pub fn entries(&self) -> &[Entry]
+        ensures { IsIndex result.now self.now.copies }
+    {
+        &self.entries
+    }
+
     /// Whether the newest image has a copy of this block.
     pub fn newest_has(&self, block: u32) -> bool
         ensures { IsTrue result ↔ HasCopy self.now.copies (newest self.now.images) block }
@@ -143,6 +151,18 @@ impl DiffMap {
     {
         let oldest = self.images[0];
         self.merge_down(oldest, pool);
+    }
+
+    /// Takes each image up to `set` out and gives their slots back. It walks the map's list of copies twice, however many
+    /// images go.
+    pub fn drop_up_to(&mut self, set: u32, pool: &mut SlotPool)
+        requires { AllTaken self.old.copies pool.old }
+        ensures map { self.new ≡ record { blocks = self.old.blocks; images = filter (λ image. nat_lt set image) self.old.images; copies = renewed (gone set) self.old.copies } }
+        ensures slots { GivesBack self.old.copies self.new.copies pool.old pool.new }
+    {
+        self.images.retain(|&image| image > set);
+        free_images(&self.entries, &mut self.copies, pool, Going::UpTo(set));
+        settle(&mut self.entries, &self.copies);
     }
 
     /// Takes the image of `set` out. The next older image gets the copies of those blocks that it lacks; the other

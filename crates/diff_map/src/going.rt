@@ -7,6 +7,8 @@ pub enum Going {
     Image(u32),
     /// Those of the image of this set and of each newer one.
     From(u32),
+    /// Those of the images up to this set.
+    UpTo(u32),
 }
 
 impl Going {
@@ -19,6 +21,7 @@ impl Going {
         match self {
             Going::Image(image) => set == image,
             Going::From(oldest) => oldest <= set,
+            Going::UpTo(newest) => set <= newest,
         }
     }
 }

@@ -34,7 +34,7 @@ pub fn next_older(images: &[u32], set: u32) -> Option<u32>
 }
 
 /// Whether the entry before the `n`th is that of this block in the older image.
-fn follows(entries: &[Entry], n: usize, older: u32, block: u32) -> bool
+pub fn follows(entries: &[Entry], n: usize, older: u32, block: u32) -> bool
     requires { n < length entries.now }
     ensures { IsTrue result ↔ Follows entries.now n older block }
 {

@@ -15,3 +15,6 @@ mod index;
 
 pub use copied::Copied;
 pub use diff_map::DiffMap;
+pub use entry::Entry;
+pub use going::Going;
+pub use index::{follows, next_older};

@@ -1,18 +1,22 @@
 //! What holds for every run: functions that do nothing, whose contracts are the laws.
 
-ghost use Rattle.std.specs.Prelude.{is_some, ◌⊎◌, length, drop, ◌≡◌, ◌<◌, ◌≤◌, ◌+◌, ◌++◌, ◌∷◌, ◌&&◌, [], true, false, Bool, ℕ, List, Some, None};
+ghost use Rattle.std.specs.Prelude.{slice_get, is_some, ◌⊎◌, length, drop, ◌≡◌, ◌<◌, ◌≤◌, ◌+◌, ◌++◌, ◌∷◌, ◌&&◌, [], true, false, Bool, ℕ, List, Some, None};
 ghost use Rattle.write_history.specs.declared.move_item.Move.{Move};
 ghost use Rattle.scenario.specs.Plan.{Plan, lines_of};
 ghost use Rattle.write_history.specs.History.{content, point_in};
 ghost use Rattle.write_history.specs.Slots.{Placed, copies, used_by};
 ghost use Rattle.set_agenda.specs.declared.group.Group.TheVariants.{Hold, Cut, Release};
 ghost use Rattle.set_agenda.specs.Agenda.{Agenda, plain, open_group, has_said, is_among, is_asking, is_working, next_member};
-ghost use Rattle.vss_model.specs.Sessions.{most_images};
+ghost use Rattle.component_doc.specs.Selection.{Named};
+ghost use Rattle.component_doc.specs.Over.{IsSelectedOver};
+ghost use Rattle.vss_model.specs.Sessions.{most_images, known_metas, has_failed_identify};
 ghost use Rattle.set_agenda.specs.Limits.{spent_of};
 ghost use Rattle.set_agenda.specs.Course.{is_member, limits_now};
 ghost use Rattle.vss_model.specs.Ending.{runs};
 ghost use Rattle.vss_model.specs.State.{State, SetRow, in_progress, row_of, history_of, left_now, is_held, is_frozen};
 ghost use Rattle.vss_model.specs.Cut.{cut, is_cut_group, IsShownAt, IsCutAt};
+ghost use Rattle.requestor.specs.declared.stage.Stage.TheVariants.{Opened};
+ghost use Rattle.requestor.specs.Check.{is_stage};
 ghost use Rattle.requestor.specs.Session.{Session};
 ghost use Rattle.vss_model.specs.Facts.{AreInTime, IsNewest, IsOrderly, has_failed, holds_for};
 ghost use Rattle.vss_model.specs.Acts.{Act, after, state, order_of_writer, idle_now};
@@ -143,6 +147,16 @@ pub fn hold_comes_before_cut_and_release()
         → (state s acts).course.agenda ≡ Some a → has_said a.log (plain Release) v ≡ false }
 {}
 
+/// What a session names are selectable components of writers that it knows, each named once and in order; whom it knows does
+/// not change once its writers are gathered; and who takes part has not failed at Identify.
+pub fn named_components_are_known()
+    ensures named { (s : Plan) (acts : List Act) → IsSelectedOver (known_metas s (state s acts)) (Named (state s acts).explicit) }
+    ensures known { (s : Plan) (acts : List Act) (act : Act) (q p : Session) → (state s acts).session ≡ Some q → is_stage q.stage Opened ≡ false
+        → (after s (state s acts) act).session ≡ Some p → known_metas s (after s (state s acts) act) ≡ known_metas s (state s acts) }
+    ensures fit { (s : Plan) (acts : List Act) (w : ℕ) → is_member (state s acts).course.members w ≡ true
+        → has_failed_identify (slice_get (state s acts).course.rows w) ≡ false }
+{}
+
 /// While no set is in progress, no volume is held and no writer stands frozen.
 pub fn free_without_a_set()
     ensures held { (s : Plan) (acts : List Act) (v : ℕ) → in_progress (state s acts) ≡ None
@@ -184,7 +198,7 @@ pub fn turns_come_to_an_end()
 {}
 
 /// Every run keeps its promises after each act: each image reads as its volume at its set's one cut, when all stood still;
-/// and of a set that failed nothing is kept.
+/// of a set that failed nothing is kept; and the set in progress is kept by whatever act comes next.
 pub fn every_run_keeps_its_promises()
     ensures { (s : Plan) (acts : List Act) → KeepsPromises s acts }
 {}

@@ -8,14 +8,14 @@ use Rattle.cow_volume.proofs.RestoringSteps.{restoring_start, at_most_one, resto
 use Rattle.cow_volume.proofs.reverts.restore_blocks.Goals as goal
 
 pub restore_block-requires-clause-volume : goal.restore_block-requires-clause-volume
-restore_block-requires-clause-volume g c = λ κs lives. subst (λ (ns : List ℕ). c.args.v < length ns) (sym c.loop-block.invariant.done.kept.volumes) c.requires.volume
+restore_block-requires-clause-volume g c = subst (λ (ns : List ℕ). c.args.v < length ns) (sym c.loop-block.invariant.done.kept.volumes) c.requires.volume
 
 pub restore_block-requires-clause-devices : goal.restore_block-requires-clause-devices
-restore_block-requires-clause-devices g c = λ κs lives.
+restore_block-requires-clause-devices g c =
     sizes_kept g.D.Device.told g.D.Device.size g.D.Device.count g.D.Device.lending (group_of c.args.devices.now.items c.args.copies.now) (group_of c.loop-block.devices.items c.loop-block.copies) c.loop-block.invariant.done.kept c.requires.devices
 
 pub restore_block-requires-clause-in_range : goal.restore_block-requires-clause-in_range
-restore_block-requires-clause-in_range g c = λ κs lives.
+restore_block-requires-clause-in_range g c =
     let l = c.loop-block-test.true in
     let here = in_range_of c.args.copies.now.area.volumes c.args.v c.loop-block.block c.blocks-block-end.result c.blocks-block-end.ensures (omega arith) in
     subst (λ (ns : List ℕ). c.loop-block.block < blocks_in (slice_get ns c.args.v)) (sym c.loop-block.invariant.done.kept.volumes) here

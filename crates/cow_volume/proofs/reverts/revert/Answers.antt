@@ -10,7 +10,7 @@ returns-in_err-restore_blocks g c =
     c.requires.volume (sym c.has_image.ensures.among ∙ c.if-not-has_image.false) c.drop_newer.ensures c.in_err-restore_blocks.ensures)
 
 pub clear_from-requires-clause-image : goal.clear_from-requires-clause-image
-clear_from-requires-clause-image g c = λ κs lives.
+clear_from-requires-clause-image g c =
     image_left g.D.Device.told g.D.Device.size g.D.Device.count g.D.Device.lending c.args.devices.now.items c.restore_blocks.new.devices.items c.args.copies.now c.drop_newer.new.copies c.restore_blocks.new.copies c.args.v c.args.set _ _
     c.drop_newer.ensures c.in_ok-restore_blocks.ensures.1
 

@@ -48,12 +48,12 @@ note-requires-clause-unnoted g c =
     unnoted c.self.inside.area.records m.copies c.args.v c.args.slot (c.self.invariant.each c.args.v m at).copies (free_slot_is c.self.inside.area.records c.args.slot low)
 
 pub set_record-requires-clause-slot : goal.set_record-requires-clause-slot
-set_record-requires-clause-slot g c = λ κs lives.
+set_record-requires-clause-slot g c =
     let low = rw (← c.self.view_is) at c.requires.lowest in
     slice_get_within c.self.inside.area.records c.args.slot free (free_slot_is c.self.inside.area.records c.args.slot low)
 
 pub set_record-requires-clause-used : goal.set_record-requires-clause-used
-set_record-requires-clause-used g c = λ κs lives.
+set_record-requires-clause-used g c =
     let within = rw (← c.self.view_is) at c.requires.volume in
     let m = c.index_mut-map.result.now in
     let at = map_at _ _ _ _ _ _ c.self.invariant within c.index_mut-map.ensures.value in
@@ -65,7 +65,7 @@ set_record-requires-clause-used g c = λ κs lives.
     record { set = subst (λ (n : ℕ). 0 < n) (sym set_is) above; volume = within; block = low }
 
 pub set_record-requires-clause-once : goal.set_record-requires-clause-once
-set_record-requires-clause-once g c = λ κs lives.
+set_record-requires-clause-once g c =
     let within = rw (← c.self.view_is) at c.requires.volume in
     let m = c.index_mut-map.result.now in
     let at = map_at _ _ _ _ _ _ c.self.invariant within c.index_mut-map.ensures.value in

@@ -1,12 +1,36 @@
-use Rattle.std.proofs.Common.{◌∙◌, sym}
-use Rattle.cow_volume.specs.Changes.{is_of}
-use Rattle.cow_volume.proofs.GroupCounts.{count_yes, count_no}
+use Rattle.std.proofs.Common.{◌≡◌, ◌≤◌, ◌∙◌, ap, length, take, subst, List, Option, arith}
+use Rattle.std.specs.Prelude.{◌==◌, count_by}
+use Rattle.std.proofs.lemmas.List.{take_all}
+use Rattle.std.proofs.lemmas.List.Sums.{count_by-le-length}
+use Rattle.diff_map.specs.Index.{IsIndex}
+use Rattle.diff_map.specs.declared.copied.Copied.{Copied}
+use Rattle.diff_map.specs.declared.entry.Entry.{Entry}
+use Rattle.cow_volume.specs.Counts.{is_on, count_of}
+use Rattle.cow_volume.proofs.Ties.{map_at}
+use Rattle.cow_volume.proofs.EntryCounts.{entries_on, entries_of, length_taken}
 use Rattle.cow_volume.proofs.copies.Copies.used_of.Goals as goal
-use Rattle.cow_volume.proofs.copies.Copies.used_of.Goals.{then-is_of, else-is_of}
 
-pub loop-slot-preserved : goal.loop-slot-preserved
-loop-slot-preserved g c =
-    elim c.if-is_of.branch [
-      | then-is_of w ↦ count_yes (is_of c.args.v c.args.set) c.self.inside.area.records c.loop-slot.slot c.record_at-row.result c.loop-slot.used c.if-is_of.used c.record_at-row.ensures (sym c.is_of.ensures ∙ w.if-is_of.true) c.loop-slot.invariant w.used-is
-      | else-is_of w ↦ count_no (is_of c.args.v c.args.set) c.self.inside.area.records c.loop-slot.slot c.record_at-row.result c.loop-slot.used c.if-is_of.used c.record_at-row.ensures (sym c.is_of.ensures ∙ w.if-is_of.false) c.loop-slot.invariant w.used-is
-    ]
+pub overflow_add-used : goal.overflow_add-used
+overflow_add-used g c =
+    let within = rw (← c.self.view_is) at c.requires.volume in
+    let m = c.index.result.now in
+    let at = map_at _ _ _ _ _ _ c.self.invariant within c.index.ensures in
+    let index = subst (λ (cs : List (Option Copied)). IsIndex c.entries-entries.result.now cs) (c.self.invariant.each c.args.v m at).copies c.entries-entries.ensures in
+    let count = entries_on c.args.v c.entries-entries.result.now c.self.inside.area.records index in
+    let most = count_by-le-length (is_on c.args.v) c.self.inside.area.records in
+    let some = count_by-le-length (λ (e : Entry). e.set == c.args.set) (take c.loop-entry.entry-index c.entries-entries.result.now) in
+    let few = length_taken c.loop-entry.entry-index c.entries-entries.result.now in
+    let so_far = c.loop-entry.invariant in
+    let test = c.loop-entry-test.true in
+    omega arith
+
+pub returns : goal.returns
+returns g c =
+    let within = rw (← c.self.view_is) at c.requires.volume in
+    let m = c.index.result.now in
+    let at = map_at _ _ _ _ _ _ c.self.invariant within c.index.ensures in
+    let index = subst (λ (cs : List (Option Copied)). IsIndex c.entries-entries.result.now cs) (c.self.invariant.each c.args.v m at).copies c.entries-entries.ensures in
+    let count : c.loop-entry.used ≡ count_of c.args.v c.args.set c.self.inside.area.records =
+    c.loop-entry.invariant ∙ ap (count_by (λ (e : Entry). e.set == c.args.set)) (take_all c.loop-entry.entry-index c.entries-entries.result.now c.loop-entry-test.false)
+    ∙ entries_of c.args.v c.args.set c.entries-entries.result.now c.self.inside.area.records c.requires.above_zero index in
+    rw (← c.self.view_is) count

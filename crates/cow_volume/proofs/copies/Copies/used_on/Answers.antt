@@ -1,12 +1,27 @@
-use Rattle.std.proofs.Common.{◌∙◌, sym}
-use Rattle.cow_volume.specs.Counts.{is_on}
-use Rattle.cow_volume.proofs.GroupCounts.{count_yes, count_no}
+use Rattle.std.proofs.Common.{◌≡◌, length, subst, List, Option, arith}
+use Rattle.std.proofs.lemmas.List.Sums.{count_by-le-length}
+use Rattle.diff_map.specs.Index.{IsIndex}
+use Rattle.diff_map.specs.declared.copied.Copied.{Copied}
+use Rattle.cow_volume.specs.Counts.{is_on, count_on}
+use Rattle.cow_volume.proofs.Ties.{map_at}
+use Rattle.cow_volume.proofs.EntryCounts.{entries_on}
 use Rattle.cow_volume.proofs.copies.Copies.used_on.Goals as goal
-use Rattle.cow_volume.proofs.copies.Copies.used_on.Goals.{then-is_on, else-is_on}
 
-pub loop-slot-preserved : goal.loop-slot-preserved
-loop-slot-preserved g c =
-    elim c.if-is_on.branch [
-      | then-is_on w ↦ count_yes (is_on c.args.v) c.self.inside.area.records c.loop-slot.slot c.record_at-row.result c.loop-slot.used c.if-is_on.used c.record_at-row.ensures (sym c.is_on.ensures ∙ w.if-is_on.true) c.loop-slot.invariant w.used-is
-      | else-is_on w ↦ count_no (is_on c.args.v) c.self.inside.area.records c.loop-slot.slot c.record_at-row.result c.loop-slot.used c.if-is_on.used c.record_at-row.ensures (sym c.is_on.ensures ∙ w.if-is_on.false) c.loop-slot.invariant w.used-is
-    ]
+pub overflow_cast-result : goal.overflow_cast-result
+overflow_cast-result g c =
+    let within = rw (← c.self.view_is) at c.requires in
+    let m = c.index.result.now in
+    let at = map_at _ _ _ _ _ _ c.self.invariant within c.index.ensures in
+    let index = subst (λ (cs : List (Option Copied)). IsIndex c.entries-entries.result.now cs) (c.self.invariant.each c.args.v m at).copies c.entries-entries.ensures in
+    let count = entries_on c.args.v c.entries-entries.result.now c.self.inside.area.records index in
+    let most = count_by-le-length (is_on c.args.v) c.self.inside.area.records in
+    omega arith
+
+pub returns : goal.returns
+returns g c =
+    let within = rw (← c.self.view_is) at c.requires in
+    let m = c.index.result.now in
+    let at = map_at _ _ _ _ _ _ c.self.invariant within c.index.ensures in
+    let index = subst (λ (cs : List (Option Copied)). IsIndex c.entries-entries.result.now cs) (c.self.invariant.each c.args.v m at).copies c.entries-entries.ensures in
+    let count : length c.entries-entries.result.now ≡ count_on c.args.v c.self.inside.area.records = entries_on c.args.v c.entries-entries.result.now c.self.inside.area.records index in
+    rw (← c.self.view_is) count

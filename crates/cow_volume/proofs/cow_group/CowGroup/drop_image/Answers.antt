@@ -5,7 +5,7 @@ use Rattle.cow_volume.proofs.DroppingNewer.{contains_of, image_gone}
 use Rattle.cow_volume.proofs.cow_group.CowGroup.drop_image.Goals as goal
 
 pub merge_image-requires-clause-image : goal.merge_image-requires-clause-image
-merge_image-requires-clause-image g c = λ κs lives. contains_of c.args.set (images_on c.self.inside.copies c.args.v) (sym c.has_image.ensures.among ∙ c.if-not-has_image.false)
+merge_image-requires-clause-image g c = contains_of c.args.set (images_on c.self.inside.copies c.args.v) (sym c.has_image.ensures.among ∙ c.if-not-has_image.false)
 
 pub returns : goal.returns
 returns g c =

@@ -1,9 +1,10 @@
-use Rattle.std.proofs.Common.{◌≡◌, ◌∙◌, List, ap, sym}
+use Rattle.std.proofs.Common.{◌≡◌, ◌∙◌, List, ap, sym, true}
 use Rattle.write_history.specs.History.{History}
 use Rattle.cow_volume.specs.StandsFor.{StandsFor}
 use Rattle.cow_volume.specs.Calls.{IsEvicted, made_room}
-use Rattle.cow_volume.specs.Room.{lacks_slot, gone_group}
+use Rattle.cow_volume.specs.Room.{lacks_copy, lacks_slot, gone_group}
 use Rattle.cow_volume.specs.CopiesAfter.{images_on}
+use Rattle.cow_volume.proofs.CopiedOnce.{lacked}
 use Rattle.cow_volume.proofs.RoomMade.{room_lift}
 use Rattle.cow_volume.proofs.Evicting.{is_gone, gone_stands}
 use Rattle.cow_volume.specs.Parts.{group_of}
@@ -35,3 +36,9 @@ returns-clause-stands g c =
     let stands : (hs : List History) → StandsFor g.D.Device.told old hs → StandsFor g.D.Device.told (group_of c.self.inside.devices.items c.make_room.new.self) (made_room old c.make_room.result hs) =
     λ hs stood. rw gone (gone_stands g.D.Device.told old (gone_group c.make_room.result old) hs c.make_room.result (is_gone c.make_room.result old) stood) in
     rw (← c.self.view_is) stands
+
+pub returns-clause-lacked : goal.returns-clause-lacked
+returns-clause-lacked g c =
+    let before : lacks_copy c.make_room.new.self.area.records c.args.v (images_on c.make_room.new.self c.args.v) c.args.block ≡ true → lacks_copy c.self.inside.copies.area.records c.args.v (images_on c.self.inside.copies c.args.v) c.args.block ≡ true =
+    lacked c.self.inside.copies c.make_room.new.self c.args.v c.args.block c.make_room.result c.slots-valid.ensures.valid c.volumes-images.ensures.of_images c.make_room.ensures.room c.make_room.ensures.gone in
+    rw (← c.self.view_is) before

@@ -1,43 +1,53 @@
-use Rattle.std.proofs.Common.{ℕ, ◌<◌, ap, sym, subst, length, arith}
+use Rattle.std.proofs.Common.{ℕ, ◌<◌, ap, sym, subst, length, arith, refl, inl}
 use Rattle.block_data.specs.PayloadBytes.{payload_bytes}
 use Rattle.cow_volume.specs.Calls.{blocks_at}
+use Rattle.cow_volume.proofs.CopiedOnce.{once_with_room}
 use Rattle.cow_volume.proofs.GroupSteps.{within_blocks, past_blocks}
 use Rattle.cow_volume.proofs.GroupWrites.{is_written, is_unwritten, no_block}
 use Rattle.cow_volume.proofs.cow_group.CowGroup.write.Goals as goal
 
-pub returns-then-block-blocks : goal.returns-then-block-blocks
-returns-then-block-blocks g c =
+pub returns-then-block-blocks-clause-write : goal.returns-then-block-blocks-clause-write
+returns-then-block-blocks-clause-write g c =
     let past = past_blocks c.self.inside.devices.items c.self.inside.copies c.args.v c.args.block c.blocks-2.result c.blocks-2.ensures c.if-block-blocks.true in
     no_block g.D.Device.told g.D.Device.size g.D.Device.count g.D.Device.lending c.args.self.now c.args.v c.args.block (rw (← c.self.view_is) past)
 
 pub make_room-evicted_up_to-requires-clause-in_range : goal.make_room-evicted_up_to-requires-clause-in_range
-make_room-evicted_up_to-requires-clause-in_range g c = λ κs lives.
+make_room-evicted_up_to-requires-clause-in_range g c =
     let low = within_blocks c.self.inside.devices.items c.self.inside.copies c.args.v c.args.block c.blocks-2.result c.blocks-2.ensures c.if-block-blocks.false in
     rw (← c.self.view_is) low
 
 pub write_with_room-requires-clause-volume : goal.write_with_room-requires-clause-volume
-write_with_room-requires-clause-volume g c = λ κs lives.
+write_with_room-requires-clause-volume g c =
     let same = ap (λ x. length x.area.volumes) c.make_room-evicted_up_to.ensures.gone in
     let within = c.requires in
     omega arith
 
 pub write_with_room-requires-clause-in_range : goal.write_with_room-requires-clause-in_range
-write_with_room-requires-clause-in_range g c = λ κs lives.
+write_with_room-requires-clause-in_range g c =
     let low = within_blocks c.self.inside.devices.items c.self.inside.copies c.args.v c.args.block c.blocks-2.result c.blocks-2.ensures c.if-block-blocks.false in
     let now : c.args.block < blocks_at c.args.self.now c.args.v = rw (← c.self.view_is) low in
     subst (λ (n : ℕ). c.args.block < n) (sym (ap (λ x. blocks_at x c.args.v) c.make_room-evicted_up_to.ensures.gone)) now
 
 pub write_with_room-requires-clause-room : goal.write_with_room-requires-clause-room
-write_with_room-requires-clause-room g c = λ κs lives. c.make_room-evicted_up_to.ensures.room
+write_with_room-requires-clause-room g c = c.make_room-evicted_up_to.ensures.room
 
-pub returns-in-Ok : goal.returns-in-Ok
-returns-in-Ok g c =
+pub returns-in-Ok-clause-write : goal.returns-in-Ok-clause-write
+returns-in-Ok-clause-write g c =
     let low = within_blocks c.self.inside.devices.items c.self.inside.copies c.args.v c.args.block c.blocks-2.result c.blocks-2.ensures c.if-block-blocks.false in
     let now : c.args.block < blocks_at c.args.self.now c.args.v = rw (← c.self.view_is) low in
-    is_written g.D.Device.told g.D.Device.size g.D.Device.count g.D.Device.lending c.args.self.now c.make_room-evicted_up_to.new.self c.write_with_room.new.self c.args.v (record { block = c.args.block; bytes = payload_bytes c.args.payload.now }) c.make_room-evicted_up_to.result now c.make_room-evicted_up_to.ensures.gone c.make_room-evicted_up_to.ensures.evicted c.make_room-evicted_up_to.ensures.stands c.in-Ok.ensures
+    is_written g.D.Device.told g.D.Device.size g.D.Device.count g.D.Device.lending c.args.self.now c.make_room-evicted_up_to.new.self c.write_with_room.new.self c.args.v (record { block = c.args.block; bytes = payload_bytes c.args.payload.now }) c.make_room-evicted_up_to.result now c.make_room-evicted_up_to.ensures.gone c.make_room-evicted_up_to.ensures.evicted c.make_room-evicted_up_to.ensures.stands c.in-Ok.ensures.put
 
-pub returns-in-Err : goal.returns-in-Err
-returns-in-Err g c =
+pub returns-in-Err-clause-write : goal.returns-in-Err-clause-write
+returns-in-Err-clause-write g c =
     let low = within_blocks c.self.inside.devices.items c.self.inside.copies c.args.v c.args.block c.blocks-2.result c.blocks-2.ensures c.if-block-blocks.false in
     let now : c.args.block < blocks_at c.args.self.now c.args.v = rw (← c.self.view_is) low in
-    is_unwritten g.D.Device.told g.D.Device.size g.D.Device.count g.D.Device.lending c.args.self.now c.make_room-evicted_up_to.new.self c.write_with_room.new.self c.args.v (record { block = c.args.block; bytes = payload_bytes c.args.payload.now }) c.make_room-evicted_up_to.result now c.make_room-evicted_up_to.ensures.gone c.make_room-evicted_up_to.ensures.evicted c.make_room-evicted_up_to.ensures.stands c.in-Err.cause c.in-Err.ensures
+    is_unwritten g.D.Device.told g.D.Device.size g.D.Device.count g.D.Device.lending c.args.self.now c.make_room-evicted_up_to.new.self c.write_with_room.new.self c.args.v (record { block = c.args.block; bytes = payload_bytes c.args.payload.now }) c.make_room-evicted_up_to.result now c.make_room-evicted_up_to.ensures.gone c.make_room-evicted_up_to.ensures.evicted c.make_room-evicted_up_to.ensures.stands c.in-Err.cause c.in-Err.ensures.put
+
+pub returns-then-block-blocks-clause-once : goal.returns-then-block-blocks-clause-once
+returns-then-block-blocks-clause-once g c = inl refl
+
+pub returns-in-Ok-clause-once : goal.returns-in-Ok-clause-once
+returns-in-Ok-clause-once g c = once_with_room g.D.Device.told c.args.self.now c.make_room-evicted_up_to.new.self c.write_with_room.new.self c.args.v c.args.block c.make_room-evicted_up_to.result c.make_room-evicted_up_to.ensures.gone c.make_room-evicted_up_to.ensures.lacked c.write_with_room.ensures.once
+
+pub returns-in-Err-clause-once : goal.returns-in-Err-clause-once
+returns-in-Err-clause-once g c = once_with_room g.D.Device.told c.args.self.now c.make_room-evicted_up_to.new.self c.write_with_room.new.self c.args.v c.args.block c.make_room-evicted_up_to.result c.make_room-evicted_up_to.ensures.gone c.make_room-evicted_up_to.ensures.lacked c.write_with_room.ensures.once

@@ -1,4 +1,4 @@
-use Rattle.std.proofs.Common.{ℕ, ◌<◌, ◌∙◌, List, ap, sym, subst, refl, map, arith}
+use Rattle.std.proofs.Common.{ℕ, ◌<◌, ◌∙◌, List, ap, sym, subst, refl, map, arith, inl, inr, slice_set}
 use Rattle.std.specs.Prelude.{slice_index}
 use Rattle.std.proofs.lemmas.Bool.{false≢true}
 use Rattle.std.proofs.lemmas.Result.{err_from_is_err_and}
@@ -7,6 +7,8 @@ use Rattle.block_data.specs.PayloadBytes.{payload_bytes}
 use Rattle.slot_pool.specs.Slots.{IsLowestFree}
 use Rattle.diff_area.specs.Records.{free, is_free}
 use Rattle.diff_area.specs.declared.table_record.Record.{Record}
+use Rattle.cow_volume.specs.CopiedOnce.{IsCopiedOnce}
+use Rattle.cow_volume.specs.Parts.{group_of}
 use Rattle.cow_volume.proofs.Ties.{free_slot_is}
 use Rattle.cow_volume.proofs.GroupSteps.{device_at, device_within, fits_set}
 use Rattle.cow_volume.proofs.GroupWrites.{not_copied, not_overwritten, put_first, lacks_still, blocks_index}
@@ -18,7 +20,7 @@ unreachable-requires g c =
     false≢true (sym room ∙ c.in_default.ensures.none.0 refl)
 
 pub copy_block-requires-clause-block : goal.copy_block-requires-clause-block
-copy_block-requires-clause-block g c = λ κs lives.
+copy_block-requires-clause-block g c =
     let within = rw (← c.self.view_is) at c.requires.volume in
     let low = rw (← c.self.view_is) at c.requires.in_range in
     let devices = c.self.inside.devices.items in
@@ -28,7 +30,7 @@ copy_block-requires-clause-block g c = λ κs lives.
     device_within g.D.Device.size devices copies.area.volumes c.args.v c.args.block d c.self.invariant at low
 
 pub copy_block-requires-clause-slot : goal.copy_block-requires-clause-slot
-copy_block-requires-clause-slot g c = λ κs lives.
+copy_block-requires-clause-slot g c =
     slice_get_within c.self.inside.copies.area.records c.in-Some.slot free (free_slot_is c.self.inside.copies.area.records c.in-Some.slot c.in-Some.ensures.lowest)
 
 pub invariant_of-self : goal.invariant_of-self
@@ -41,8 +43,8 @@ invariant_of-self g c =
     let at = device_at g.D.Device.size devices copies.area.volumes c.args.v d c.self.invariant within c.index_mut-device.ensures.value in
     fits_set g.D.Device.size devices copies.area.volumes c.args.v d c.copy_block.new.device c.self.invariant at c.in_err-copy_block.ensures.device_on.size_is ∙ sym c.in_err-copy_block.ensures.area_on.volumes
 
-pub returns-in_err-copy_block : goal.returns-in_err-copy_block
-returns-in_err-copy_block g c =
+pub returns-in_err-copy_block-clause-put : goal.returns-in_err-copy_block-clause-put
+returns-in_err-copy_block-clause-put g c =
     let within = rw (← c.self.view_is) at c.requires.volume in
     let low = rw (← c.self.view_is) at c.requires.in_range in
     let devices = c.self.inside.devices.items in
@@ -53,8 +55,8 @@ returns-in_err-copy_block g c =
     let is = not_copied g.D.Device.told g.D.Device.size g.D.Device.count g.D.Device.lending devices copies c.args.v d (record { block = c.args.block; bytes = payload_bytes c.args.payload.now }) low at c.copy_block.new.device c.copy_block.new.copies _ c.in_err-copy_block.ensures in
     rw (p.1, p.2, ← c.self.view_is) is
 
-pub put_block-requires-after_bounds : goal.put_block-requires-after_bounds
-put_block-requires-after_bounds g c = λ κs lives.
+pub put_block-requires : goal.put_block-requires
+put_block-requires g c =
     let within = rw (← c.self.view_is) at c.requires.volume in
     let low = rw (← c.self.view_is) at c.requires.in_range in
     let devices = c.self.inside.devices.items in
@@ -76,8 +78,8 @@ invariant_of-self-in_err-put_block g c =
     let copied = c.in_ok-copy_block.ensures in
     fits_set g.D.Device.size devices copies.area.volumes c.args.v d c.put_block.new.device c.self.invariant at (c.in_err-put_block.ensures.0.size_is ∙ copied.device_on.size_is) ∙ sym copied.area_on.volumes
 
-pub returns-in_err-put_block : goal.returns-in_err-put_block
-returns-in_err-put_block g c =
+pub returns-in_err-put_block-clause-put : goal.returns-in_err-put_block-clause-put
+returns-in_err-put_block-clause-put g c =
     let within = rw (← c.self.view_is) at c.requires.volume in
     let low = rw (← c.self.view_is) at c.requires.in_range in
     let devices = c.self.inside.devices.items in
@@ -90,20 +92,20 @@ returns-in_err-put_block g c =
     rw (p.1, p.2, ← c.self.view_is) is
 
 pub note-requires-clause-lacks : goal.note-requires-clause-lacks
-note-requires-clause-lacks g c = λ κs lives.
+note-requires-clause-lacks g c =
     let lacks = rw (← c.self.view_is) at c.requires.lacks in
     let copied = c.in_ok-copy_block.ensures in
     lacks_still c.self.inside.copies c.copy_block.new.copies c.args.v c.args.block copied.area_on.records copied.area_on.images lacks
 
 pub note-requires-clause-in_range : goal.note-requires-clause-in_range
-note-requires-clause-in_range g c = λ κs lives.
+note-requires-clause-in_range g c =
     let low = rw (← c.self.view_is) at c.requires.in_range in
     let volumes = c.in_ok-copy_block.ensures.area_on.volumes in
     let same = blocks_index c.self.inside.copies.area.volumes c.args.v ∙ ap (λ (ns : List ℕ). slice_index ns c.args.v) (sym volumes) in
     subst (λ (n : ℕ). c.args.block < n) same low
 
 pub note-requires-clause-lowest : goal.note-requires-clause-lowest
-note-requires-clause-lowest g c = λ κs lives.
+note-requires-clause-lowest g c =
     subst (λ (rs : List Record). IsLowestFree (map is_free rs) c.in-Some.slot) (sym c.in_ok-copy_block.ensures.area_on.records) c.in-Some.ensures.lowest
 
 pub invariant_of-self-2 : goal.invariant_of-self-2
@@ -117,8 +119,8 @@ invariant_of-self-2 g c =
     let copied = c.in_ok-copy_block.ensures in
     fits_set g.D.Device.size devices copies.area.volumes c.args.v d c.put_block.new.device c.self.invariant at (c.in_ok-put_block.ensures.0.size_is ∙ copied.device_on.size_is) ∙ sym (ap (λ x. x.area.volumes) c.note.ensures ∙ copied.area_on.volumes)
 
-pub returns : goal.returns
-returns g c =
+pub returns-clause-put : goal.returns-clause-put
+returns-clause-put g c =
     let within = rw (← c.self.view_is) at c.requires.volume in
     let low = rw (← c.self.view_is) at c.requires.in_range in
     let devices = c.self.inside.devices.items in
@@ -128,3 +130,22 @@ returns g c =
     let lacks = rw (← c.self.view_is) at c.requires.lacks in
     let is = put_first g.D.Device.told g.D.Device.size g.D.Device.count g.D.Device.lending devices copies c.args.v d (record { block = c.args.block; bytes = payload_bytes c.args.payload.now }) low at c.in-Some.slot c.in-Some.ensures.lowest c.slots-fits.ensures.fits c.slots-fits.ensures.whole c.copy_block.new.device c.put_block.new.device c.copy_block.new.copies c.in_ok-copy_block.ensures c.note.new.self lacks c.in_ok-put_block.ensures.0 c.in_ok-put_block.ensures.1 c.note.ensures in
     rw (← c.self.view_is) is
+
+pub returns-in_err-copy_block-clause-once : goal.returns-in_err-copy_block-clause-once
+returns-in_err-copy_block-clause-once g c =
+    let same : IsCopiedOnce g.D.Device.told (group_of c.self.inside.devices.items c.self.inside.copies) (group_of (slice_set c.self.inside.devices.items c.args.v c.copy_block.new.device) c.copy_block.new.copies) c.args.v c.args.block = inl c.in_err-copy_block.ensures.area_on.device.tells in
+    rw (← c.self.view_is) same
+
+pub returns-in_err-put_block-clause-once : goal.returns-in_err-put_block-clause-once
+returns-in_err-put_block-clause-once g c =
+    let lacks = rw (← c.self.view_is) at c.requires.lacks in
+    let one : IsCopiedOnce g.D.Device.told (group_of c.self.inside.devices.items c.self.inside.copies) (group_of (slice_set c.self.inside.devices.items c.args.v c.put_block.new.device) c.copy_block.new.copies) c.args.v c.args.block =
+    inr (record { lacks = lacks; slot = c.in-Some.slot; copy = c.in_ok-copy_block.ensures.copy; copied = c.in_ok-copy_block.ensures.area_on.device.tells }) in
+    rw (← c.self.view_is) one
+
+pub returns-clause-once : goal.returns-clause-once
+returns-clause-once g c =
+    let lacks = rw (← c.self.view_is) at c.requires.lacks in
+    let one : IsCopiedOnce g.D.Device.told (group_of c.self.inside.devices.items c.self.inside.copies) (group_of (slice_set c.self.inside.devices.items c.args.v c.put_block.new.device) c.note.new.self) c.args.v c.args.block =
+    inr (record { lacks = lacks; slot = c.in-Some.slot; copy = c.in_ok-copy_block.ensures.copy; copied = ap (λ x. g.D.Device.told x.area.device) c.note.ensures ∙ c.in_ok-copy_block.ensures.area_on.device.tells }) in
+    rw (← c.self.view_is) one

@@ -1,0 +1,137 @@
+-- The images up to a set go, volume by volume.
+use Rattle.std.proofs.Common.{◌≡◌, ◌≢◌, ℕ, zero, suc, ◌+◌, ◌<◌, ◌≤◌, List, [], ◌∷◌, length, refl, ap, sym, ◌∙◌, arith, Bool, true, false, ◌&&◌, Option, Some, None, add-one}
+use Rattle.std.specs.Prelude.{slice_get, slice_set, ◌==◌, if◌then◌else◌, nat_lt, nat_le, map}
+use Rattle.std.proofs.lemmas.Bool.{false≢true, lt-ltb, le-ltb, ltb-true, ltb-false}
+use Rattle.std.proofs.lemmas.Bool.Decides.{nat_tests}
+use Rattle.diff_area.specs.Records.{free, is_free, AreRecords}
+use Rattle.diff_area.specs.declared.table_record.Record.{Record}
+use Rattle.cow_volume.specs.Changes.{gone_on_row, gone_on, gone_row, gone_to}
+use Rattle.cow_volume.specs.Calls.{sets_in}
+use Rattle.cow_volume.specs.Room.{after, all_after}
+use Rattle.cow_volume.specs.Tied.{CopiesValue}
+use Rattle.cow_volume.specs.CopiesAfter.{with_records, images_on, after_gone, after_gone_on}
+use Rattle.cow_volume.proofs.Group.{same_number, other_number}
+use Rattle.cow_volume.proofs.Evicting.{free_if, free_if_not, and_false}
+use Rattle.cow_volume.proofs.Gone.{same_parts}
+
+-- ## the records
+
+-- the records of the sets up to k are gone from the volumes below u
+abbrev pub gone_below_row : ℕ → ℕ → Record → Record
+gone_below_row u k r = if (nat_lt 0 r.set && nat_lt r.volume u) && nat_le r.set k then free else r
+
+abbrev pub gone_below : ℕ → ℕ → List Record → List Record
+gone_below u k records = map (gone_below_row u k) records
+
+map_as : {X Y Z : Type 0} → (f : Y → Z) (g : X → Y) (h : X → Z) (xs : List X) → ((x : X) → f (g x) ≡ h x) → map f (map g xs) ≡ map h xs
+map_as f g h [] same = refl
+map_as f g h (x ∷ xs) same = ap (λ y. y ∷ map f (map g xs)) (same x) ∙ ap (λ ys. h x ∷ ys) (map_as f g h xs same)
+
+-- two rules that agree on these rows
+map_at : {X Y : Type 0} → (f g : X → Y) (xs : List X) → ((i : ℕ) (x : X) → slice_get xs i ≡ Some x → f x ≡ g x) → map f xs ≡ map g xs
+map_at f g [] same = refl
+map_at f g (x ∷ xs) same = ap (λ y. y ∷ map f xs) (same 0 x refl) ∙ ap (λ ys. g x ∷ ys) (map_at f g xs (λ i y at. same (suc i) y at))
+
+below_more : (w u : ℕ) → nat_lt w u ≡ true → nat_lt w (u + 1) ≡ true
+below_more w u e = let l = ltb-true w u e in lt-ltb w (u + 1) (omega arith)
+
+below_same : (w u : ℕ) → nat_lt w u ≡ false → nat_lt w (u + 1) ≡ (w == u)
+below_same w u e = by_test (w == u) refl where
+  by_test : (t : Bool) → (w == u) ≡ t → nat_lt w (u + 1) ≡ t
+  by_test true same = let is = same_number w u same in lt-ltb w (u + 1) (omega arith)
+  by_test false same = let other = other_number w u same in let high = ltb-false w u e in le-ltb w (u + 1) (past w u high other) where
+    past : (w u : ℕ) → u ≤ w → w ≢ u → u + 1 ≤ w
+    past w u high other = omega arith
+
+-- the row by its three tests
+abbrev row_by : Bool → Bool → Bool → Record → Record
+row_by a b c r = if (a && b) && c then free else r
+
+row_gone : (u k : ℕ) (r : Record) → gone_on_row u k (gone_below_row u k r) ≡ gone_below_row (u + 1) k r
+row_gone u k r = by_tests (nat_lt 0 r.set) (nat_lt r.volume u) (nat_le r.set k) refl refl refl where
+  by_tests : (a b c : Bool) → nat_lt 0 r.set ≡ a → nat_lt r.volume u ≡ b → nat_le r.set k ≡ c → gone_on_row u k (row_by a b c r) ≡ row_by a (nat_lt r.volume (u + 1)) c r
+  by_tests true true true some low small = ap (λ (t : Bool). row_by true t true r) (sym (below_more r.volume u low))
+  by_tests true b false some low small =
+      at_large b
+      ∙ ap (λ (t : Bool). if (nat_lt 0 r.set && (r.volume == u)) && t then free else r) small
+      ∙ ap (λ (t : Bool). if t then free else r) (and_false (nat_lt 0 r.set && (r.volume == u)) false refl)
+      ∙ sym (ap (λ (t : Bool). if t then free else r) (and_false (true && nat_lt r.volume (u + 1)) false refl))
+    where
+      at_large : (b : Bool) → gone_on_row u k (row_by true b false r) ≡ gone_on_row u k r
+      at_large true = refl
+      at_large false = refl
+  by_tests true false true some low small =
+      ap (λ (t : Bool). row_by t (r.volume == u) (nat_le r.set k) r) some ∙ ap (λ (t : Bool). row_by true (r.volume == u) t r) small
+      ∙ ap (λ (t : Bool). row_by true t true r) (sym (below_same r.volume u low))
+  by_tests false b c some low small = ap (λ (t : Bool). row_by t (r.volume == u) (nat_le r.set k) r) some
+
+pub records_more : (u k : ℕ) (records : List Record) → gone_on u k (gone_below u k records) ≡ gone_below (u + 1) k records
+records_more u k records = map_as (gone_on_row u k) (gone_below_row u k) (gone_below_row (u + 1) k) records (row_gone u k)
+
+-- at first no record is gone
+pub records_none : (k : ℕ) (records : List Record) → gone_below 0 k records ≡ records
+records_none k [] = refl
+records_none k (r ∷ records) = ap (λ (x : Record). x ∷ gone_below 0 k records) (row_none (nat_lt 0 r.set) (nat_lt r.volume 0) (le-ltb r.volume 0 (omega arith))) ∙ ap (λ (rs : List Record). r ∷ rs) (records_none k records) where
+  row_none : (a b : Bool) → b ≡ false → row_by a b (nat_le r.set k) r ≡ r
+  row_none true true e = absurd (false≢true (sym e))
+  row_none true false e = refl
+  row_none false b e = refl
+
+-- after all volumes the records up to the set are gone
+pub records_all : (volumes : List ℕ) (k : ℕ) (records : List Record) → AreRecords volumes records → gone_below (length volumes) k records ≡ gone_to k records
+records_all volumes k records are = map_at (gone_below_row (length volumes) k) (gone_row k) records by_row where
+  either : (t : Bool) → (if t then free else free) ≡ free
+  either true = refl
+  either false = refl
+
+  by_row : (slot : ℕ) (r : Record) → slice_get records slot ≡ Some r → gone_below_row (length volumes) k r ≡ gone_row k r
+  by_row slot r at = by_test (is_free r) refl where
+    by_test : (t : Bool) → is_free r ≡ t → gone_below_row (length volumes) k r ≡ gone_row k r
+    by_test true e = let is = free_if r e in ap (gone_below_row (length volumes) k) is ∙ sym (either (nat_le 0 k)) ∙ ap (gone_row k) (sym is)
+    by_test false e =
+        let used = are.each slot r at (free_if_not r e) in
+        ap (λ (t : Bool). row_by t (nat_lt r.volume (length volumes)) (nat_le r.set k) r) (lt-ltb 0 r.set used.set) ∙ ap (λ (t : Bool). row_by true t (nat_le r.set k) r) (lt-ltb r.volume (length volumes) used.volume)
+
+-- ## the images
+
+-- the images of the sets up to k are gone from the volumes below u
+abbrev pub images_below : ℕ → ℕ → List (List ℕ) → List (List ℕ)
+images_below zero k images = images
+images_below (suc u) k [] = []
+images_below (suc u) k (sets ∷ images) = after k sets ∷ images_below u k images
+
+-- the others are as they were
+images_above : (u w k : ℕ) (images : List (List ℕ)) → u ≤ w → slice_get (images_below u k images) w ≡ slice_get images w
+images_above zero w k images le = refl
+images_above (suc u) w k [] le = refl
+images_above (suc u) zero k (sets ∷ images) le = absurd (omega arith)
+images_above (suc u) (suc w) k (sets ∷ images) le = images_above u w k images (omega arith)
+
+images_step : (u k : ℕ) (images : List (List ℕ)) → slice_set (images_below u k images) u (after k (sets_in (slice_get images u))) ≡ images_below (suc u) k images
+images_step zero k [] = refl
+images_step (suc u) k [] = refl
+images_step zero k (x ∷ images) = refl
+images_step (suc u) k (x ∷ images) = ap (λ (rows : List (List ℕ)). after k x ∷ rows) (images_step u k images)
+
+images_all : (k : ℕ) (images : List (List ℕ)) → images_below (length images) k images ≡ all_after k images
+images_all k [] = refl
+images_all k (sets ∷ images) = ap (λ (rows : List (List ℕ)). after k sets ∷ rows) (images_all k images)
+
+-- ## the copies
+
+abbrev pub part_gone : {D : Type 0} → CopiesValue D → ℕ → ℕ → CopiesValue D
+part_gone c u k = record { area = with_records (gone_below u k c.area.records) c.area; images = images_below u k c.images }
+
+pub part_none : {D : Type 0} (c : CopiesValue D) (k : ℕ) → c ≡ part_gone c 0 k
+part_none c k = same_parts c.area (with_records (gone_below 0 k c.area.records) c.area) c.images c.images (ap (λ rs. with_records rs c.area) (sym (records_none k c.area.records))) refl
+
+pub part_more : {D : Type 0} (c : CopiesValue D) (u k : ℕ) → after_gone_on (part_gone c u k) u k ≡ part_gone c (u + 1) k
+part_more c u k = same_parts (with_records (gone_on u k (gone_below u k c.area.records)) c.area) (with_records (gone_below (u + 1) k c.area.records) c.area)
+    (slice_set (images_below u k c.images) u (after k (images_on (part_gone c u k) u))) (images_below (u + 1) k c.images)
+    (ap (λ rs. with_records rs c.area) (records_more u k c.area.records))
+    (ap (λ (o : Option (List ℕ)). slice_set (images_below u k c.images) u (after k (sets_in o))) (images_above u u k c.images (omega arith)) ∙ images_step u k c.images ∙ ap (λ (n : ℕ). images_below n k c.images) (sym (add-one u)))
+
+pub part_all : {D : Type 0} (c : CopiesValue D) (k n : ℕ) → AreRecords c.area.volumes c.area.records → length c.images ≡ length c.area.volumes → n ≡ length c.area.volumes → part_gone c n k ≡ after_gone c k
+part_all c k n are long end = same_parts (with_records (gone_below n k c.area.records) c.area) (with_records (gone_to k c.area.records) c.area) (images_below n k c.images) (all_after k c.images)
+    (ap (λ rs. with_records rs c.area) (ap (λ (u : ℕ). gone_below u k c.area.records) end ∙ records_all c.area.volumes k c.area.records are))
+    (ap (λ (u : ℕ). images_below u k c.images) (end ∙ sym long) ∙ images_all k c.images)

@@ -1,0 +1,24 @@
+use Rattle.std.proofs.Common.{◌∙◌, ap, length, arith}
+use Rattle.cow_volume.specs.CopiesAfter.{after_gone_on}
+use Rattle.cow_volume.proofs.GoingUpTo.{part_none, part_more, part_all}
+use Rattle.cow_volume.proofs.copies.Copies.drop_up_to.Goals as goal
+
+pub loop-v-init : goal.loop-v-init
+loop-v-init g c = part_none c.args.self.now c.args.set
+
+pub drop_up_to_on-requires : goal.drop_up_to_on-requires
+drop_up_to_on-requires g c =
+    let test = c.loop-v-test.true in
+    let end = c.volumes-v-end.ensures.volumes in
+    let same = ap (λ x. length x.area.volumes) c.loop-v.invariant in
+    omega arith
+
+pub loop-v-preserved : goal.loop-v-preserved
+loop-v-preserved g c = c.drop_up_to_on.ensures ∙ ap (λ x. after_gone_on x c.loop-v.v c.args.set) c.loop-v.invariant ∙ part_more c.args.self.now c.loop-v.v c.args.set
+
+pub returns : goal.returns
+returns g c =
+    let test = c.loop-v-test.false in
+    let upper = c.loop-v.auto.v-end in
+    let end = c.volumes-v-end.ensures.volumes in
+    c.loop-v.invariant ∙ part_all c.args.self.now c.args.set c.loop-v.v c.slots-records.ensures.valid c.volumes-v-end.ensures.images (omega arith)
