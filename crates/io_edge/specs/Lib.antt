@@ -1,4 +1,5 @@
 pub mod CallsValue
 pub mod MemSinkValue
 pub mod MemSourceValue
+pub mod Messages
 pub mod Streams

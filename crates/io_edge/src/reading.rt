@@ -1,4 +1,5 @@
-ghost use Rattle.std.specs.Prelude.{◌≡◌, ◌<◌, ◌≤◌, ◌↔◌, ◌⊎◌, [], length, IfOk, IfSome, OnOk, IsErrOf};
+ghost use Rattle.std.specs.Prelude.{◌≡◌, ◌<◌, ◌≤◌, ◌↔◌, ◌⊎◌, [], length, IfOk, IfSome, OnOk, IsErrOf, Some};
+ghost use Rattle.io_edge.specs.Messages.{message_of};
 ghost use Rattle.io_edge.specs.Streams.{Gave, GaveSome, IfGave};
 ghost use Rattle.io_edge.specs.declared.reading.ReadError.TheVariants as error;
 ghost use Rattle.vss_names.specs.Faults.{Rose};
@@ -20,6 +21,8 @@ pub enum ReadError {
 }
 
 impl fmt::Display for ReadError {
+    ghost output = { λ error. Some (message_of error) };
+
     fn fmt<W: fmt::Write>(&self, f: &mut fmt::Formatter<W>) -> fmt::Result {
         f.write_str(match self {
             ReadError::Failed => "a read failed",

@@ -1,4 +1,4 @@
-ghost use Rattle.std.specs.Prelude.{◌≡◌, ◌<◌, IfSome, OnOk, IsErrOf};
+ghost use Rattle.std.specs.Prelude.{◌≡◌, ◌<◌, ◌⊎◌, IfSome, OnOk, IsErrOf};
 ghost use Rattle.io_edge.specs.Streams.{IfGave, Took};
 ghost use Rattle.vss_names.specs.Faults.{Rose};
 
@@ -25,8 +25,14 @@ pub fn copy<S: Source, K: Sink>(
 ) -> Result<(), CopyError>
     ensures copied { OnOk result (IfSome (S.left source.old) (λ bytes.
         Took (K.taken sink.old) bytes (K.taken sink.new))) }
+    ensures reads { OnOk result (S.count source.new ≡ S.count source.old) }
+    ensures writes { OnOk result (K.count sink.new ≡ K.count sink.old) }
     ensures unwritten { (error : _) → IsErrOf result (CopyError.Read error) →
         K.taken sink.new ≡ K.taken sink.old }
+    ensures unasked { (error : _) → IsErrOf result (CopyError.Read error) →
+        K.count sink.new ≡ K.count sink.old }
+    ensures unfailed { IsErrOf result (CopyError.Read ReadError.TooLong) ⊎ IsErrOf result (CopyError.Read ReadError.OutOfMemory) ⊎ IsErrOf result CopyError.Write →
+        S.count source.new ≡ S.count source.old }
     ensures read_fault { IsErrOf result (CopyError.Read ReadError.Failed) →
         Rose (S.count source.old) (S.count source.new) }
     ensures too_long { IfGave (S.left source.old) (S.left source.new) (λ n.

@@ -10,4 +10,6 @@ mod clock;
 mod limits;
 
 pub use clock::{Clock, ClockFull};
-pub use limits::{ANSWER_LIMIT, DEFAULT_FREEZE, HOLD_LIMIT, is_spent, ticks_until};
+pub use limits::{
+    ANSWER_LIMIT, DEFAULT_FREEZE, HOLD_LIMIT, is_spent, limits_are_as_defined, ticks_until,
+};

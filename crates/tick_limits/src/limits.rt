@@ -1,5 +1,5 @@
 ghost use Rattle.std.specs.Prelude.{◌≡◌, ◌<◌, ◌≤◌, ◌^◌};
-ghost use Rattle.tick_limits.specs.Time.{IsLeastToSpend, is_spent, ticks_until};
+ghost use Rattle.tick_limits.specs.Time.{IsLeastToSpend, answer_limit, default_freeze, hold_limit, is_spent, ticks_until};
 
 /// How long an order other than Freeze may stay unanswered, in ticks. No limit is longer.
 pub const ANSWER_LIMIT: u64 = 300_000;
@@ -9,6 +9,13 @@ pub const HOLD_LIMIT: u64 = 10_000;
 
 /// The freeze time-out of a writer that states none, in ticks, and the longest that one may state.
 pub const DEFAULT_FREEZE: u32 = 60_000;
+
+/// The three constants are the limits that the definitions speak of.
+pub fn limits_are_as_defined()
+    ensures answer { ANSWER_LIMIT ≡ answer_limit }
+    ensures hold { HOLD_LIMIT ≡ hold_limit }
+    ensures freeze { DEFAULT_FREEZE ≡ default_freeze }
+{}
 
 /// Whether a limit that runs since the tick `since` is spent at the tick `now`. Elapsed ticks equal to the limit
 /// do not spend it yet.

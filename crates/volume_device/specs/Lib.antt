@@ -1,6 +1,7 @@
 pub mod Blocks
 pub mod InMemory
 pub mod Made
+pub mod Messages
 pub mod OnHost
 pub mod Plans
 pub mod Schedules

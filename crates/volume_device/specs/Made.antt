@@ -1,6 +1,6 @@
--- What a contract sees of a maker of devices in memory: its plan, the devices that it got back, its free places and
--- its count; and what one `make` of it does. (This project's own.)
-use Rattle.std.specs.Prelude.{ℕ, ◌≡◌, ◌+◌, List, Option, Result, Ok, Err, true, false, replicate}
+-- What a contract sees of a maker of devices in memory: its plan, the names of those that it made, those that it got
+-- back, its free places and its count; and what one `make` of it does. (This project's own.)
+use Rattle.std.specs.Prelude.{ℕ, ◌≡◌, ◌+◌, ◌++◌, ◌∷◌, [], map, List, Option, Result, Ok, Err, true, false, replicate}
 use Rattle.vss_names.specs.Faults.{counted}
 use Rattle.block_data.specs.Runs.{zeros}
 use Rattle.volume_device.specs.InMemory.{blocks_of, reads_of, writes_of, flushes_of, faults_of}
@@ -13,6 +13,10 @@ use Rattle.volume_device.specs.declared.mem_maker.MemMaker.{MemMaker}
 
 abbrev pub plan_of : MemMaker → List Planned
 plan_of maker = maker.plan
+
+-- the names of the devices that it made, in order
+abbrev pub names_of : MemMaker → List (List ℕ)
+names_of maker = map (λ name. name.bytes) maker.names.items
 
 abbrev pub returned_of : MemMaker → List MemDevice
 returned_of maker = maker.devices.items
@@ -40,6 +44,7 @@ pub record IsMade (old new : MemMaker) (name : List ℕ) (size : ℕ) (device : 
   pub accepted : is_refused (row_of old name) ≡ false
   pub planned : IsPlanned (row_of old name) size device
   pub plan : plan_of new ≡ used_up name (plan_of old)
+  pub names : names_of new ≡ names_of old ++ name ∷ []
   pub places : places_of new ≡ places_of old + 1
   pub faults : maker_faults_of new ≡ maker_faults_of old
 
@@ -47,6 +52,7 @@ pub record IsMade (old new : MemMaker) (name : List ℕ) (size : ℕ) (device : 
 pub record IsRefused (old new : MemMaker) (name : List ℕ) : Type 0 where
   pub refused : is_refused (row_of old name) ≡ true
   pub plan : plan_of new ≡ used_up name (plan_of old)
+  pub names : names_of new ≡ names_of old
   pub places : places_of new ≡ places_of old
   pub faults : maker_faults_of new ≡ counted (maker_faults_of old) 1
 
@@ -54,6 +60,7 @@ pub record IsRefused (old new : MemMaker) (name : List ℕ) : Type 0 where
 pub record IsUnmade (old new : MemMaker) (name : List ℕ) : Type 0 where
   pub accepted : is_refused (row_of old name) ≡ false
   pub plan : plan_of new ≡ plan_of old
+  pub names : names_of new ≡ names_of old
   pub places : places_of new ≡ places_of old
   pub faults : maker_faults_of new ≡ maker_faults_of old
 

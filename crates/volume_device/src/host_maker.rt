@@ -95,6 +95,8 @@ impl Maker for HostMaker {
 
     ghost tells = { λ m store. is_memory store };
 
+    ghost named = { λ m. None };
+
     ghost kept = { λ m. None };
 
     ghost places = { devices_out };

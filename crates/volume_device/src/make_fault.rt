@@ -1,4 +1,5 @@
-ghost use Rattle.std.specs.Prelude.{◌≡◌};
+ghost use Rattle.std.specs.Prelude.{◌≡◌, Some};
+ghost use Rattle.volume_device.specs.Messages.{message_of};
 ghost use Rattle.volume_device.specs.declared.make_fault.MakeFault.TheVariants.{OutOfMemory};
 
 use std::error::Error;
@@ -14,6 +15,8 @@ pub enum MakeFault {
 }
 
 impl fmt::Display for MakeFault {
+    ghost output = { λ fault. Some (message_of fault) };
+
     fn fmt<W: fmt::Write>(&self, f: &mut fmt::Formatter<W>) -> fmt::Result {
         match self {
             MakeFault::Failed => f.write_str("the device could not be made"),

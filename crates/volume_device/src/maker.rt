@@ -19,6 +19,9 @@ pub trait Maker: Drop {
     /// Whether each device that it makes in a store tells its blocks. This never changes.
     ghost tells: { Self → Store → Bool };
 
+    /// The names of the devices that it made, in order, where it tells them. Whether it tells them never changes.
+    ghost named: { Self → Option (List (List ℕ)) };
+
     /// The devices that it got back, in order, where it keeps them. Whether it keeps them never changes.
     ghost kept: { Self → Option (List Self.Made) };
 
@@ -41,6 +44,8 @@ pub trait Maker: Drop {
         ensures told { IfOk result (λ device. IsTrue (tells self.old store.now) → IsSome (Self.Made.told device)) }
         ensures fresh { IfOk result (λ device. Self.Made.count device ≡ 0) }
         ensures tells { tells self.new ≡ tells self.old }
+        ensures named { OnOk result (named self.new ≡ option_map (λ names. names ++ name.now.bytes ∷ []) (named self.old)) }
+        ensures unnamed { OnErr result (named self.new ≡ named self.old) }
         ensures kept { kept self.new ≡ kept self.old }
         ensures places { OnOk result (places self.new ≡ places self.old + 1) }
         ensures fewer { OnErr result (places self.old ≤ places self.new) }
@@ -56,7 +61,8 @@ pub trait Maker: Drop {
         ensures kept { 0 < places self.old → kept self.new ≡ option_map (λ devices. devices ++ device ∷ []) (kept self.old) }
         ensures dropped { places self.old ≡ 0 → kept self.new ≡ kept self.old }
         ensures places { places self.new ≡ places self.old - 1 }
-        ensures tells { tells self.new ≡ tells self.old };
+        ensures tells { tells self.new ≡ tells self.old }
+        ensures named { named self.new ≡ named self.old };
 
     fn faults(&self) -> u64
         ensures { result ≡ count self.now };

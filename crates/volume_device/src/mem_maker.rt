@@ -1,4 +1,4 @@
-ghost use Rattle.std.specs.Prelude.{◌≡◌, ◌<◌, ◌≤◌, ◌+◌, ◌-◌, ◌++◌, ◌∷◌, ◌↔◌, ◌⊎◌, [], ℕ, Bool, true, List, length, Option, Some, None, IfOk, OnOk, OnErr, IsErrOf, IsTrue, IsSome, IfSome, if◌then◌else◌, vec_capacity, replicate};
+ghost use Rattle.std.specs.Prelude.{◌≡◌, ◌<◌, ◌≤◌, ◌+◌, ◌-◌, ◌++◌, ◌∷◌, ◌↔◌, ◌⊎◌, [], ℕ, Bool, true, List, length, map, Option, Some, None, IfOk, OnOk, OnErr, IsErrOf, IsTrue, IsSome, IfSome, if◌then◌else◌, vec_capacity, replicate};
 ghost use Rattle.vss_names.specs.Faults.{counted, Rose};
 
 use crate::device::Device;
@@ -11,11 +11,12 @@ use crate::store::Store;
 use std::alloc::Global;
 use vss_names::Text;
 
-/// A maker of devices in memory, which keeps those that it gets back. A plan says which it refuses and which calls
+/// A maker of devices in memory, which keeps the names of those that it made and the devices that it gets back. A plan says which it refuses and which calls
 /// of the others fail.
 #[derive(Debug, Drop)]
 pub struct MemMaker {
     plan: Plan,
+    names: Vec<Text>,
     devices: Vec<MemDevice>,
     places: usize,
     count: u64,
@@ -23,21 +24,30 @@ pub struct MemMaker {
 }
 
 impl MemMaker {
-    ghost use Rattle.volume_device.specs.Made.{plan_of, returned_of, places_of, maker_faults_of};
+    ghost use Rattle.volume_device.specs.Made.{plan_of, names_of, returned_of, places_of, maker_faults_of};
 
     /// A maker with this plan, which has got no device back.
     pub fn new(alloc: Global, plan: Vec<Planned>) -> MemMaker
         ensures plan { plan_of result ≡ plan.items }
+        ensures names { names_of result ≡ [] }
         ensures returned { returned_of result ≡ [] }
         ensures places { places_of result ≡ 0 }
         ensures faults { maker_faults_of result ≡ 0 }
     {
         MemMaker {
             plan: Plan::of(plan),
+            names: Vec::new(alloc),
             devices: Vec::new(alloc),
             places: 0,
             count: 0,
         }
+    }
+
+    /// The names of the devices that it made, in order.
+    pub fn names(&self) -> &[Text]
+        ensures { map (λ name. name.bytes) result.now ≡ names_of self.now }
+    {
+        &self.names
     }
 
     /// The devices that were given back, in order.
@@ -50,11 +60,13 @@ impl MemMaker {
 
 impl Maker for MemMaker {
     ghost use Rattle.volume_device.specs.InMemory.{faults_of};
-    ghost use Rattle.volume_device.specs.Made.{plan_of, returned_of, places_of, maker_faults_of, IsMakeOf};
+    ghost use Rattle.volume_device.specs.Made.{plan_of, names_of, returned_of, places_of, maker_faults_of, IsMakeOf};
 
     type Made = MemDevice;
 
     ghost tells = { λ m store. true };
+
+    ghost named = { λ m. Some (names_of m) };
 
     ghost kept = { λ m. Some (returned_of m) };
 
@@ -78,10 +90,12 @@ impl Maker for MemMaker {
             self.count = self.count.saturating_add(1);
             return Err(MakeFault::Failed);
         }
-        if self.devices.reserve(self.places + 1).is_err() {
+        let made = Text::copy(alloc, name.bytes())?;
+        if self.names.reserve(1).is_err() || self.devices.reserve(self.places + 1).is_err() {
             return Err(MakeFault::OutOfMemory);
         }
         let device = MemDevice::new(alloc, blocks)?;
+        let _ = self.names.push(made);
         self.places += 1;
         match self.plan.take(name.bytes()) {
             Some(row) => Ok(device.failing(row.reads, row.writes, row.flushes)),
@@ -95,6 +109,7 @@ impl Maker for MemMaker {
         ensures dropped { places_of self.old ≡ 0 → returned_of self.new ≡ returned_of self.old }
         ensures places { places_of self.new ≡ places_of self.old - 1 }
         ensures plan { plan_of self.new ≡ plan_of self.old }
+        ensures names { names_of self.new ≡ names_of self.old }
         ensures later { maker_faults_of self.old ≤ maker_faults_of self.new }
     {
         self.count = self.count.saturating_add(device.faults());

@@ -2,7 +2,7 @@
 -- An image is known by its set and by its point, the number of effective writes that came before its cut; what it
 -- shows is read from the writes, so that nothing is ever copied here. (This project's own; a snapshot's point in
 -- time is that of the SDK's overview of shadow copies.)
-use Rattle.std.specs.Prelude.{ℕ, Bool, List, [], ◌∷◌, ◌++◌, length, take, drop, map, filter, nat_lt, ◌==◌, not, if◌then◌else◌, Option, Some, None}
+use Rattle.std.specs.Prelude.{ℕ, ◌<◌, ◌≤◌, Bool, List, [], ◌∷◌, ◌++◌, length, take, drop, map, filter, nat_lt, ◌==◌, not, if◌then◌else◌, Option, Some, None}
 use Rattle.std.specs.List.{list_any, range_with_len}
 use Rattle.block_data.specs.Runs.{zeros}
 
@@ -59,6 +59,18 @@ after_set s is = filter (λ i. nat_lt s i.set) is
 -- the images of the sets up to s
 abbrev pub up_to_set : ℕ → List Image → List Image
 up_to_set s is = filter (λ i. not (nat_lt s i.set)) is
+
+-- ## images in time
+
+-- the images after one are of later sets, and have points that are no less
+abbrev pub AreLater : Image → List Image → Type 0
+AreLater i [] = Unit {0}
+AreLater i (j ∷ js) = (i.set < j.set) × (i.point ≤ j.point) × AreLater i js
+
+-- images rise in set, their points do not fall, and none is past the end of so many effective writes
+abbrev pub AreInTime : ℕ → List Image → Type 0
+AreInTime writes [] = Unit {0}
+AreInTime writes (i ∷ images) = (i.point ≤ writes) × AreLater i images × AreInTime writes images
 
 -- ## what a history becomes
 

@@ -1,3 +1,4 @@
 pub mod History
+pub mod Messages
 pub mod Slots
 pub mod TrailValue

@@ -1,4 +1,5 @@
 ghost use Rattle.std.specs.Prelude.{◌≡◌, ◌+◌, ◌-◌, ◌<◌, ◌≤◌, ◌++◌, ◌∷◌, ◌↔◌, [], length, slice_get, vec_len, vec_capacity, IsOk, IsTrue, OnOk, OnErr, IsErrOf, Some};
+ghost use Rattle.write_history.specs.Messages.{message_of};
 ghost use Rattle.write_history.specs.TrailValue.{TrailValue};
 ghost use Rattle.write_history.specs.declared.trail.TheConstants.{MOST_MOVES};
 
@@ -20,6 +21,8 @@ pub enum TrailFault {
 }
 
 impl fmt::Display for TrailFault {
+    ghost output = { λ fault. Some (message_of fault) };
+
     fn fmt<W: fmt::Write>(&self, f: &mut fmt::Formatter<W>) -> fmt::Result {
         f.write_str(match self {
             TrailFault::Full => "the trail is full",
