@@ -38,41 +38,6 @@ fn payloads_have_the_digests_of_their_blocks(rt: HostRuntime) -> Result<(), Fail
     Ok(())
 }
 
-#[test]
-fn a_stamp_is_its_number_lowest_byte_first(rt: HostRuntime) -> Result<(), Fail> {
-    let mut block = BlockBuf::zeroed(rt.alloc())?;
-    Payload::Stamp(1000000).fill_into(block.bytes_mut());
-    let word = [0x40, 0x42, 0x0f, 0, 0, 0, 0, 0];
-    assert_eq!(rt; &block.bytes()[..8], word.as_slice());
-    assert_eq!(rt; &block.bytes()[BLOCK - 8..], word.as_slice());
-    Ok(())
-}
-
-#[test]
-fn a_new_block_is_zeros(rt: HostRuntime) -> Result<(), Fail> {
-    let bytes = BlockBuf::zeroed(rt.alloc())?.into_vec();
-    assert!(rt; bytes.iter().all(|byte| *byte == 0));
-    let block = BlockBuf::of(bytes);
-    assert_eq!(rt; block.bytes().len(), 16384);
-    Ok(())
-}
-
-#[test]
-fn a_view_lends_each_sector(rt: HostRuntime) -> Result<(), Fail> {
-    let mut block = BlockBuf::zeroed(rt.alloc())?;
-    block.bytes_mut()[512] = 1;
-    block.bytes_mut()[16383] = 31;
-    let view = BlockView::new(block.bytes());
-    for (i, first, last) in [(0, 0, 0), (1, 1, 0), (31, 0, 31)] {
-        let sector = view.sector(i);
-        assert_eq!(rt; sector.len(), 512);
-        assert_eq!(rt; sector[0], first, "sector {i}");
-        assert_eq!(rt; sector[511], last, "sector {i}");
-    }
-    assert_eq!(rt; view.bytes().len(), 16384);
-    Ok(())
-}
-
 // The first two are examples of FIPS 180-4; the last is that of sha256sum for a file of 16,384 zeros.
 #[test]
 fn parts_are_hashed_as_if_joined(rt: HostRuntime) -> Result<(), Fail> {

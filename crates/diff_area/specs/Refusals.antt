@@ -41,13 +41,6 @@ pub record IsFirstBad (header table : List ℕ) (slot : ℕ) (r : Record) : Type
   pub bad : good_in header table slot ≡ false
   pub says : row_of (layout_in header) (row_at table slot) ≡ r
 
--- the table is refused so, or memory was
-abbrev pub IsBadTable : List ℕ → List ℕ → AreaFault → Type 0
-IsBadTable header table Device = ⊥
-IsBadTable header table (BadHeader field found) = ⊥
-IsBadTable header table (BadRecord slot set block volume) = IsFirstBad header table slot (record { set = set; block = block; volume = volume })
-IsBadTable header table OutOfMemory = Unit {0}
-
 -- the header and the records are of the format, and another number of them is used than the header says
 pub record IsMiscounted (bytes : List ℕ) (found : ℕ) : Type 0 where
   pub header : HasHeader (length bytes) (header_of bytes)

@@ -122,15 +122,6 @@ module _ (rule : Copied → Option Copied) (entries : List Entry) (copies : List
         Contains-filter_map (entry_now (renewed rule copies)) entries (record { block = was.0.block; set = was.0.set; slot = slot }) (record { block = d.block; set = d.set; slot = slot }) at (ap (option_map (λ copied. record { block = copied.block; set = copied.set; slot = slot })) row);
   }
 
--- the entries' slots are slots
-pub slots_within : (entries : List Entry) (copies after : List (Option Copied)) → IsIndex entries copies → length after ≡ length copies → All (λ e. e.slot < length after) entries
-slots_within entries copies after index long = λ k d inside. let w = within copies (get_or entries k d).slot _ (index.each k d inside).row in omega arith
-  where
-    within : (rows : List (Option Copied)) (k : ℕ) (c : Copied) → copied_at rows k ≡ Some c → k < length rows
-    within [] k c row = cc
-    within (x ∷ xs) zero c row = omega arith
-    within (x ∷ xs) (suc k) c row = let inside = within xs k c row in omega arith
-
 -- a noted set is a 32-bit number
 pub row_narrow : (entries : List Entry) (copies : List (Option Copied)) → IsIndex entries copies → (slot : ℕ) (c : Copied) → copied_at copies slot ≡ Some c → c.set < 2 ^ 32
 row_narrow entries copies index slot c row =

@@ -211,21 +211,6 @@ mod tests {
     }
 
     #[test]
-    fn the_first_image_from_the_asked_one_on_has_the_block(rt: HostRuntime) -> Result<(), Fail> {
-        let mut pool = SlotPool::new(rt.alloc(), 2)?;
-        let mut map = DiffMap::new(rt.alloc(), 4, 2)?;
-        add_image(&rt, &mut map, 1);
-        copy_block(&rt, &mut map, &mut pool, 3);
-        add_image(&rt, &mut map, 2);
-        copy_block(&rt, &mut map, &mut pool, 1);
-        for (set, block, slot) in [(1, 3, Some(0)), (1, 1, Some(1)), (2, 3, None)] {
-            assert_eq!(rt; map.find(set, block), slot, "block {block} of image {set}");
-        }
-        assert_eq!(rt; map.images(), [1, 2].as_slice());
-        Ok(())
-    }
-
-    #[test]
     fn an_image_that_goes_leaves_what_the_others_find(rt: HostRuntime) -> Result<(), Fail> {
         let mut pool = SlotPool::new(rt.alloc(), 8)?;
         let mut map = DiffMap::new(rt.alloc(), 4, 8)?;

@@ -27,25 +27,6 @@ fn a_source_gives_its_bytes_in_pieces(rt: HostRuntime) -> Result<(), Fail> {
 }
 
 #[test]
-fn each_of_the_first_calls_can_fail_alone(rt: HostRuntime) -> Result<(), Fail> {
-    for chosen in 1..=12u32 {
-        let failing = Numbers::copy(rt.alloc(), &[chosen])?;
-        let mut source = MemSource::new(b"shadow copy set".to_vec(rt.alloc())?, 1, failing);
-        let failing = Numbers::copy(rt.alloc(), &[chosen])?;
-        let mut sink = MemSink::with_room(rt.alloc(), 15, failing)?;
-        for call in 1..=12u32 {
-            let mut out = [0u8; 1];
-            assert_eq!(rt; source.read(&mut out).is_err(), call == chosen);
-            assert_eq!(rt; sink.write(b"v").is_err(), call == chosen);
-        }
-        assert_eq!(rt; (source.faults(), sink.faults()), (1, 1));
-        assert_eq!(rt; source.left(), b" set".as_slice());
-        assert_eq!(rt; sink.taken(), b"vvvvvvvvvvv".as_slice());
-    }
-    Ok(())
-}
-
-#[test]
 fn reading_ends_at_the_end_a_fault_or_the_limit(rt: HostRuntime) -> Result<(), Fail> {
     for (failing, limit, want, left) in [
         (9, 6, None, 0),

@@ -135,11 +135,4 @@ mod tests {
         assert_eq!(rt; pool.take(), Some(0));
         Ok(())
     }
-
-    #[test]
-    fn a_pool_of_no_slots_has_none_to_take(rt: HostRuntime) -> Result<(), Fail> {
-        let mut pool = SlotPool::new(rt.alloc(), 0)?;
-        assert_eq!(rt; pool.take(), None);
-        Ok(())
-    }
 }

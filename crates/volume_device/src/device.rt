@@ -7,8 +7,8 @@ ghost use Rattle.volume_device.specs.Blocks.{AreBlocks};
 use block_data::BLOCK;
 use vss_names::Failed;
 
-/// A row of blocks of `BLOCK` bytes, whose calls may fail. Each failed call raises the device's count of faults,
-/// and leaves the contents as they were.
+/// A row of blocks of `BLOCK` bytes, whose calls may fail. Each failed call raises the device's count of faults
+/// and leaves the contents as they were; a call that is answered Ok leaves the count as it was.
 pub trait Device: Drop {
     /// Its blocks, where it tells them. Whether it tells never changes.
     ghost told: { Self → Option (List (List ℕ)) };
@@ -22,7 +22,7 @@ pub trait Device: Drop {
     /// Whether it lends its blocks, which never changes.
     ghost lending: { Self → Bool };
 
-    /// The blocks that last as they are, where it tells them.
+    /// The blocks that last as they are, where it tells them. They are known after an accepted flush alone.
     ghost lasting: { Self → Option (List (List ℕ)) };
 
     /// How many blocks it has. Those that it tells are as many, each of `BLOCK` bytes.

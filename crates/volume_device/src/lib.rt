@@ -1,9 +1,10 @@
 //! Devices of blocks, and the makers that they come from.
 //!
 //! The traits `Device` and `Maker` are all that the crates above know of storage. Contracts see a device as its
-//! blocks, where it tells them, its size, its count of faults and whether it lends; and a maker as the devices that
-//! it got back, its free places and its count. A call fails only where the count rose, and leaves what is told as
-//! it was. Devices in memory fail exactly where they were planned to. Devices in files tell nothing.
+//! blocks and those of them that last, where it tells them, its size, its count of faults and whether it lends; and a
+//! maker as the names of the devices that it made, the devices that it got back, its free places and its count. A call
+//! that fails raised the count and left what is told as it was; one that is answered Ok left the count as it was.
+//! Devices in memory fail exactly where they were planned to. Devices in files tell nothing.
 #![tactic(auto)]
 
 mod device;

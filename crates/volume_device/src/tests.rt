@@ -103,16 +103,6 @@ fn row(alloc: Global, name: &[u8], refused: bool) -> Result<Planned, OutOfMemory
 }
 
 #[test]
-fn a_new_device_in_memory_is_zeros_and_lends(rt: HostRuntime) -> Result<(), Fail> {
-    let device = MemDevice::new(rt.alloc(), 2)?;
-    let zeros = BlockBuf::zeroed(rt.alloc())?;
-    assert_eq!(rt; device.blocks(), 2);
-    assert!(rt; device.lends());
-    assert!(rt; device.lend(1).ok_or("it lends")? == zeros.bytes());
-    Ok(())
-}
-
-#[test]
 fn the_planned_calls_fail_and_no_others(rt: HostRuntime) -> Result<(), Fail> {
     let alloc = rt.alloc();
     let mut block = marked(alloc, 1)?;
@@ -144,20 +134,6 @@ fn the_planned_calls_fail_and_no_others(rt: HostRuntime) -> Result<(), Fail> {
 }
 
 #[test]
-fn a_failed_write_leaves_the_block(rt: HostRuntime) -> Result<(), Fail> {
-    let alloc = rt.alloc();
-    let mut block = marked(alloc, 1)?;
-    let none = Numbers::new(alloc);
-    let writes = Numbers::copy(alloc, &[2])?;
-    let mut device = MemDevice::new(alloc, 1)?.failing(none, writes, Numbers::new(alloc));
-    assert!(rt; is_accepted(&rt, &mut device, Call::Write, &mut block));
-    assert!(rt; !is_accepted(&rt, &mut device, Call::Write, &mut marked(alloc, 2)?));
-    assert!(rt; 0 < device.blocks());
-    assert!(rt; device.lend(0).ok_or("it lends")? == block.bytes());
-    Ok(())
-}
-
-#[test]
 fn a_row_of_a_plan_serves_one_device(rt: HostRuntime) -> Result<(), Fail> {
     let alloc = rt.alloc();
     let mut failing = row(alloc, b"C.vol", false)?;
@@ -180,6 +156,7 @@ fn a_row_of_a_plan_serves_one_device(rt: HostRuntime) -> Result<(), Fail> {
     }
     assert_eq!(rt; maker.faults(), 2);
     assert_eq!(rt; maker.returned().len(), 3);
+    assert_eq!(rt; maker.names().len(), 3);
     Ok(())
 }
 

@@ -97,24 +97,6 @@ fn the_small_tables_have_the_numbers_of_the_sdk(rt: HostRuntime) {
 }
 
 #[test]
-fn orders_and_results_are_read_by_name(rt: HostRuntime) {
-    assert_eq!(rt;
-        Order::of_name(b"prepare_snapshot"),
-        Some(Order::PrepareSnapshot)
-    );
-    assert_eq!(rt; Order::of_name(b"prepare"), None);
-    assert_eq!(rt;
-        VssResult::of_name(b"VSS_E_BAD_STATE"),
-        Some(VssResult::BadState)
-    );
-    assert_eq!(rt;
-        VssResult::of_name(b"VSS_S_ASYNC_CANCELLED"),
-        Some(VssResult::AsyncCancelled)
-    );
-    assert_eq!(rt; VssResult::of_name(b""), None);
-}
-
-#[test]
 fn a_name_is_what_is_printed(rt: HostRuntime) -> Result<(), Fail> {
     let state = WriterState::Stable;
     let order = Order::PostSnapshot;

@@ -140,16 +140,4 @@ mod tests {
         assert_eq!(rt; trail.moves().len(), 1);
         Ok(())
     }
-
-    #[test]
-    fn a_full_trail_takes_no_further_move(rt: HostRuntime) -> Result<(), Fail> {
-        let mut trail = Trail::new(rt.alloc());
-        for _count in 0..MOST_MOVES {
-            trail.push(IDLE)?;
-        }
-        assert_eq!(rt; trail.push(IDLE), Err(TrailFault::Full));
-        assert_eq!(rt; trail.reserve(), Err(TrailFault::Full));
-        assert_eq!(rt; trail.len(), 2_097_152);
-        Ok(())
-    }
 }

@@ -1,11 +1,10 @@
 //! Slots, records and syncs, over devices that may fail.
 
 use super::fixtures::{
-    blocks_at, bytes_of, clear_record, copy_in, device_of, filled, is_filled, open, put,
-    put_number, read_slot, record_at, row, set_record, small_area,
+    blocks_at, bytes_of, clear_record, copy_in, device_of, filled, is_filled, open, read_slot,
+    record_at, row, set_record, small_area,
 };
-use crate::header::number_at;
-use crate::{Area, AreaFault, AreaView, Record};
+use crate::{Area, AreaFault, AreaView};
 use block_data::{BLOCK, BlockView};
 use std::fs::File;
 use std::process::Abort;
@@ -38,23 +37,7 @@ fn a_slot_gives_back_what_was_copied_into_it(rt: HostRuntime) -> Result<(), Fail
 }
 
 #[test]
-fn what_is_synced_is_loaded(rt: HostRuntime) -> Result<(), Fail> {
-    let alloc = rt.alloc();
-    let bytes = small_area(&rt, alloc)?.ok_or("an area of ample memory")?;
-    assert_eq!(&rt; number_at(&bytes, 8), 2);
-    assert_eq!(&rt; number_at(&bytes, 16), 1);
-    let device = device_of(&rt, alloc, &bytes)?;
-    let area = Area::load(alloc, device).ok().ok_or("the area is loaded")?;
-    assert_eq!(&rt; area.slots(), 2);
-    assert_eq!(&rt; area.volumes(), 1);
-    assert_eq!(&rt; blocks_at(&rt, &area, 0), 4);
-    assert_eq!(&rt; record_at(&rt, &area, 0), Record::FREE);
-    assert_eq!(&rt; record_at(&rt, &area, 1), row(3, 2));
-    Ok(())
-}
-
-#[test]
-fn what_is_synced_is_viewed(rt: HostRuntime) -> Result<(), Fail> {
+fn what_is_synced_is_loaded_and_viewed(rt: HostRuntime) -> Result<(), Fail> {
     let alloc = rt.alloc();
     let bytes = small_area(&rt, alloc)?.ok_or("an area of ample memory")?;
     let view = AreaView::new(alloc, &bytes)
@@ -62,68 +45,35 @@ fn what_is_synced_is_viewed(rt: HostRuntime) -> Result<(), Fail> {
         .ok_or("the area is viewed")?;
     assert_eq!(&rt; view.layout(), 2);
     assert!(&rt; 1 < view.slots());
-    let record = [3, 0, 0, 0, 2, 0, 0, 0, 0, 0, 0, 0, 0, 0, 0, 0];
-    assert!(&rt; view.record_at(1) == record.as_slice());
     assert!(&rt; is_filled(view.slot(1), 9));
-    assert!(&rt; is_filled(view.slot(0), 0));
-    Ok(())
-}
-
-#[test]
-fn a_freed_slot_has_a_record_of_zeros(rt: HostRuntime) -> Result<(), Fail> {
-    let alloc = rt.alloc();
-    let mut bytes = small_area(&rt, alloc)?.ok_or("an area of ample memory")?;
     let device = device_of(&rt, alloc, &bytes)?;
-    let mut area = Area::load(alloc, device).ok().ok_or("the area is loaded")?;
-    set_record(&rt, &mut area, 0, row(4, 2));
-    clear_record(&rt, &mut area, 1);
-    assert!(&rt; area.sync().is_ok());
-    let after = bytes_of(&rt, alloc, &mut area.into_device())?;
-    put(&rt, &mut bytes, BLOCK, &[4, 0, 0, 0, 2, 0, 0, 0]);
-    put(&rt, &mut bytes, BLOCK + 16, &[0, 0, 0, 0, 0, 0, 0, 0]);
-    assert!(&rt; after.as_slice() == bytes.as_slice());
-    Ok(())
-}
-
-#[test]
-fn an_area_of_the_first_layout_is_brought_into_the_second(rt: HostRuntime) -> Result<(), Fail> {
-    let alloc = rt.alloc();
-    let bytes = small_area(&rt, alloc)?.ok_or("an area of ample memory")?;
-    let mut first = bytes.clone()?;
-    for (at, number) in [(8, 1), (20, 4), (24, 0)] {
-        put_number(&rt, &mut first, at, number);
-    }
-    let view = AreaView::new(alloc, &first).ok().ok_or("it is viewed")?;
-    assert_eq!(&rt; view.layout(), 1);
-    assert_eq!(&rt; view.volumes(), 1);
-    let device = device_of(&rt, alloc, &first)?;
-    let mut area = Area::load(alloc, device).ok().ok_or("the area is loaded")?;
+    let area = Area::load(alloc, device).ok().ok_or("the area is loaded")?;
+    assert_eq!(&rt; area.slots(), 2);
+    assert_eq!(&rt; blocks_at(&rt, &area, 0), 4);
     assert_eq!(&rt; record_at(&rt, &area, 1), row(3, 2));
-    assert!(&rt; area.sync().is_ok());
-    let after = bytes_of(&rt, alloc, &mut area.into_device())?;
-    assert!(&rt; after.as_slice() == bytes.as_slice());
     Ok(())
 }
 
 #[test]
-fn a_sync_that_failed_is_made_good_by_the_next(rt: HostRuntime) -> Result<(), Fail> {
+fn a_failed_sync_or_flush_is_made_good_by_the_next(rt: HostRuntime) -> Result<(), Fail> {
     let alloc = rt.alloc();
     let bytes = small_area(&rt, alloc)?.ok_or("an area of ample memory")?;
-    for failing in [2, 3] {
-        let none = Numbers::new(alloc);
-        let writes = Numbers::copy(alloc, &[failing])?;
-        let device = MemDevice::new(alloc, 4)?.failing(none, writes, Numbers::new(alloc));
-        let mut area = open(&rt, alloc, device, 2, &[4]).ok_or("the area is opened")?;
-        let nines = filled(alloc, 9)?;
-        copy_in(&rt, &mut area, 1, &nines);
-        set_record(&rt, &mut area, 1, row(3, 2));
-        assert_eq!(&rt; area.sync().err(), Some(AreaFault::Device));
-        assert_eq!(&rt; record_at(&rt, &area, 1), row(3, 2));
-        assert!(&rt; area.sync().is_ok());
-        let mut device = area.into_device();
-        assert_eq!(&rt; device.faults(), 1);
-        assert!(&rt; bytes_of(&rt, alloc, &mut device)?.as_slice() == bytes.as_slice());
-    }
+    let none = Numbers::new(alloc);
+    let writes = Numbers::copy(alloc, &[3])?;
+    let flushes = Numbers::copy(alloc, &[1])?;
+    let device = MemDevice::new(alloc, 4)?.failing(none, writes, flushes);
+    let mut area = open(&rt, alloc, device, 2, &[4]).ok_or("the area is opened")?;
+    copy_in(&rt, &mut area, 1, &filled(alloc, 9)?);
+    set_record(&rt, &mut area, 0, row(4, 2));
+    clear_record(&rt, &mut area, 0);
+    set_record(&rt, &mut area, 1, row(3, 2));
+    assert_eq!(&rt; area.sync().err(), Some(AreaFault::Device));
+    assert!(&rt; area.sync().is_ok());
+    assert_eq!(&rt; area.flush().err(), Some(AreaFault::Device));
+    assert!(&rt; area.flush().is_ok());
+    let mut device = area.into_device();
+    assert_eq!(&rt; device.faults(), 2);
+    assert!(&rt; bytes_of(&rt, alloc, &mut device)?.as_slice() == bytes.as_slice());
     Ok(())
 }
 
