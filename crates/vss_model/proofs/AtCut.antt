@@ -58,7 +58,7 @@ none_after a =
     (after_cut (at_level Thaw FrontEnd) (waited_for a (at_level Thaw FrontEnd)) _ refl
     (after_cut (plain (Orders PostSnapshot)) (waited_for a (plain (Orders PostSnapshot))) [] refl refl))))))
 
-at_cut : (a : Agenda) → is_cut_group (open_group (left_from a (places Snapshot))) ≡ true → IsAtCut a
+pub at_cut : (a : Agenda) → is_cut_group (open_group (left_from a (places Snapshot))) ≡ true → IsAtCut a
 at_cut a h =
     let prepared = closed (plain (Orders PrepareSnapshot)) (waited_for a (plain (Orders PrepareSnapshot))) _ refl h in
     let front = closed (at_level Freeze FrontEnd) (waited_for a (at_level Freeze FrontEnd)) _ refl prepared.1 in
@@ -100,7 +100,7 @@ no_cut : (p : Place) (ws : List ℕ) → is_cut_group (Some p.group) ≡ false �
 no_cut p [] e h = absurd cc
 no_cut p (w ∷ ws) e h = true_not_false (is_cut_group (Some p.group)) h e
 
-kind_at_cut : (k : Kind) (a : Agenda) → is_cut_group (open_group (left_from a (places k))) ≡ true → k ≡ Snapshot
+pub kind_at_cut : (k : Kind) (a : Agenda) → is_cut_group (open_group (left_from a (places k))) ≡ true → k ≡ Snapshot
 kind_at_cut Gather a h = absurd (no_cut (plain (Orders Identify)) (waited_for a (plain (Orders Identify))) refl h)
 kind_at_cut Prepare a h = absurd (no_cut (plain (Orders PrepareBackup)) (waited_for a (plain (Orders PrepareBackup))) refl h)
 kind_at_cut Complete a h = absurd (no_cut (plain (Orders BackupComplete)) (waited_for a (plain (Orders BackupComplete))) refl h)
@@ -184,14 +184,19 @@ and_three true true true e f g = absurd cc
 and_three true false c e f g = absurd cc
 and_three false b c e f g = absurd cc
 
+-- nothing is said of a Release before the Cut step
+pub release_not : (log : List Entry) (v : ℕ) → IsSound log → is_cut_made log ≡ false → has_said log (plain Release) v ≡ false
+release_not log v h e =
+    none_found (λ (x : Entry). same_place x.place (plain Release) && (x.who == v)) is_undoing
+    (λ x g. release_undoes x.place.group (and_first (group_code x.place.group == 12) (level_code x.place.level == 0) (and_first (same_place x.place (plain Release)) (x.who == v) g)))
+    log (undone_not log h e)
+
 held_in : (a : Agenda) (v : ℕ) → a.kind ≡ Snapshot → IsAtCut a → IsSound a.log → is_among v a.volumes ≡ true → holds (Some a) v ≡ true
 held_in a v k c h e =
     and_three (is_snapshot a.kind) (has_said a.log (plain Hold) v) (has_said a.log (plain Release) v)
     (ap is_snapshot k)
     (all_said a.log (plain Hold) a.volumes v c.hold e)
-    (none_found (λ (x : Entry). same_place x.place (plain Release) && (x.who == v)) is_undoing
-    (λ x g. release_undoes x.place.group (and_first (group_code x.place.group == 12) (level_code x.place.level == 0) (and_first (same_place x.place (plain Release)) (x.who == v) g)))
-    a.log (undone_not a.log h c.cut))
+    (release_not a.log v h c.cut)
 
 -- ## frozen
 

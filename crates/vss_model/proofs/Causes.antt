@@ -1,10 +1,11 @@
 -- Where an act gives no cause, no set fails in it.
-use Rattle.std.proofs.Common.{◌≡◌, ℕ, ◌+◌, List, [], ◌∷◌, ◌++◌, Option, Some, None, refl, Bool, true, false, ap, ◌∙◌, subst}
+use Rattle.std.proofs.Common.{◌≡◌, ℕ, ◌+◌, ◌==◌, List, [], ◌∷◌, ◌++◌, Option, Some, None, refl, Bool, true, false, ap, sym, ◌∙◌, subst}
 use Rattle.std.specs.Prelude.{is_some, ◌&&◌, not, if◌then◌else◌}
 use Rattle.block_data.specs.declared.payload.Payload.TheVariants.{Fill, Stamp}
 use Rattle.block_data.specs.PayloadBytes.{payload_bytes}
 use Rattle.vss_names.specs.declared.context.Context.{Context}
 use Rattle.vss_names.specs.declared.order.Order.{Order}
+use Rattle.vss_names.specs.declared.order.Order.TheVariants.{Identify, PrepareBackup, PrepareSnapshot, Freeze, Thaw, PostSnapshot, BackupComplete}
 use Rattle.vss_names.specs.declared.set_outcome.SetOutcome.{SetOutcome}
 use Rattle.vss_names.specs.declared.set_outcome.SetOutcome.TheVariants.{Running, Complete as CompleteSet, Failed as FailedSet}
 use Rattle.vss_names.specs.declared.vss_result.VssResult.{VssResult}
@@ -14,14 +15,18 @@ use Rattle.write_history.specs.declared.mark.Mark.{Mark}
 use Rattle.write_history.specs.declared.mark.Mark.TheVariants.{Clean, Fault, FaultAfter}
 use Rattle.write_history.specs.History.{Write}
 use Rattle.writer_calls.specs.Script.{said_of}
+use Rattle.writer_calls.specs.declared.answer.Answer.{Answer}
+use Rattle.writer_calls.specs.declared.answer.Answer.TheVariants.{Ok as AnswerOk, Veto as AnswerVeto}
 use Rattle.set_agenda.specs.declared.group.Group.{Group}
 use Rattle.set_agenda.specs.declared.group.Group.TheVariants.{Orders, PreCommit, Flush, Hold, Cut, Commit, Release, PostCommit}
+use Rattle.set_agenda.specs.declared.limit.Limit.{Limit}
+use Rattle.set_agenda.specs.declared.limit.Limit.TheVariants.{Hold as HoldLimit, Freeze as FreezeLimit, Answer as AnswerLimit}
 use Rattle.set_agenda.specs.declared.kind.Kind.{Kind}
 use Rattle.set_agenda.specs.declared.kind.Kind.TheVariants.{Gather, Prepare, Snapshot, Complete}
 use Rattle.set_agenda.specs.declared.member.Member.{Member}
-use Rattle.set_agenda.specs.Agenda.{Agenda, left, groups_left, is_done, open_order, open_group}
+use Rattle.set_agenda.specs.Agenda.{Agenda, left, groups_left, is_done, open_order, open_group, order_now, waits_now}
 use Rattle.set_agenda.specs.Limits.{Running as RunningLimit, spent_of}
-use Rattle.set_agenda.specs.Course.{Course, posted, settled_if, settled_in, settled, outcome_after, begun, is_decisive, told, decided, answered_to, answered as course_answered, worked, stepped as course_stepped, limits_now, treated, timed as course_timed}
+use Rattle.set_agenda.specs.Course.{Course, posted, settled_if, settled_in, settled, outcome_after, begun, is_decisive, told, decided, answered_to, answered as course_answered, worked, stepped as course_stepped, limits_now, lost_to, lost, fails_set, lost_decided, treated_as, treated, timed as course_timed}
 use Rattle.component_doc.specs.Selection.{Naming, IsNotFound, IsNotSelectable, IsNamedAlready, Names, naming}
 use Rattle.requestor.specs.declared.mode.Mode.{Mode}
 use Rattle.requestor.specs.declared.mode.Mode.TheVariants.{Components, All}
@@ -30,7 +35,7 @@ use Rattle.requestor.specs.declared.session_call.SessionCall.TheVariants as call
 use Rattle.requestor.specs.declared.verdict.Verdict.{Verdict}
 use Rattle.requestor.specs.declared.verdict.Verdict.TheVariants.{Go, Blocked, Refused}
 use Rattle.requestor.specs.Session.{Session, context_of}
-use Rattle.requestor.specs.Check.{check}
+use Rattle.requestor.specs.Check.{check, check_other, check_owner, owner_only}
 use Rattle.scenario.specs.declared.op.Op.{Op}
 use Rattle.scenario.specs.declared.op.Op.TheVariants.{WriteFill, WriteStamp, Read, ImageDigest, ImageBlock, Query, Properties, Revert, DeleteSet, DeleteImage, Tick, Begin, Disable, Gather as GatherLine, Component, Document, Start, Add, Prepare as PrepareLine, Snapshot as SnapshotLine, Await, Status, Complete as CompleteLine, Abort, End}
 use Rattle.scenario.specs.Plan.{Plan, token}
@@ -42,9 +47,10 @@ use Rattle.vss_model.specs.Images.{Replied, cleared, set_loses_image, with_room_
 use Rattle.vss_model.specs.Sessions.{begin_in, new_set, new_number, with_volume, named_as, component_in, known_metas, add_refusal, add_to, add, has_no_volume, await_last, line_in, session_line, judged}
 use Rattle.vss_model.specs.Steps.{with_cut, row_cut, cut_set, step_made, is_flush, is_failed_step, answered, stepped_as, stepped, ticked, later}
 use Rattle.vss_model.specs.Lines.{called, line}
-use Rattle.vss_model.specs.Acts.{Act, enabled, happens, idle_now, after_if, after, state}
+use Rattle.vss_model.specs.Acts.{Act, enabled, happens, order_of_writer, idle_now, after_if, after, state}
 use Rattle.vss_model.specs.Facts.{NumberedFrom, IsOfSession, has_failed, is_live}
-use Rattle.vss_model.specs.Causes.{line_gives_cause, is_decisive_order, gives_cause, SetsFailWithCause}
+use Rattle.vss_model.specs.Causes.{needs_consent, is_veto, is_refused, is_late_in, is_late, is_fault, is_flush_step, owns, line_gives_cause, gives_cause, SetsFailWithCause}
+use Rattle.vss_model.proofs.Late.{Decides, late}
 use Rattle.vss_model.proofs.Appending.{state-append}
 use Rattle.vss_model.proofs.Failures.{failed_not_live}
 use Rattle.vss_model.proofs.Orderly.{live-map, live-settled, live_append, live_found, true_not_false}
@@ -52,7 +58,7 @@ use Rattle.vss_model.proofs.OrderlyActs.{orderly, same_changed}
 
 -- ## courses
 
-abbrev Fails : Course → Bool
+abbrev pub Fails : Course → Bool
 Fails c = has_failed c.outcome
 
 none_posted : (before c : Course) → Fails c ≡ false → Fails (posted before c) ≡ false
@@ -89,6 +95,28 @@ none_decided : (b : Bool) (said : Said) (c : Course) → b ≡ false → Fails c
 none_decided true said c e h = absurd cc
 none_decided false said c e h = none_settled c h
 
+-- a veto, in the words of the causes
+same_consent : (o : Order) → needs_consent o ≡ is_decisive o
+same_consent Identify = refl
+same_consent PrepareBackup = refl
+same_consent PrepareSnapshot = refl
+same_consent Freeze = refl
+same_consent Thaw = refl
+same_consent PostSnapshot = refl
+same_consent BackupComplete = refl
+
+same_veto : (answer : Answer) → is_veto answer ≡ not (is_ok (said_of answer))
+same_veto AnswerOk = refl
+same_veto (AnswerVeto error) = refl
+
+abbrev is_decisive_order : Option Order → Bool
+is_decisive_order None = false
+is_decisive_order (Some o) = is_decisive o
+
+not_refused : (o : Option Order) (answer : Answer) → is_refused o answer ≡ false → (is_decisive_order o && not (is_ok (said_of answer))) ≡ false
+not_refused None answer e = refl
+not_refused (Some o) answer e = ap (λ b. b && not (is_ok (said_of answer))) (sym (same_consent o)) ∙ ap (λ b. needs_consent o && b) (sym (same_veto answer)) ∙ e
+
 none_answered_to : (o : Option Order) (w : ℕ) (said : Said) (now : ℕ) (c : Course) → (is_decisive_order o && not (is_ok said)) ≡ false → Fails c ≡ false → Fails (answered_to o w said now c) ≡ false
 none_answered_to None w said now c e h = h
 none_answered_to (Some o) w said now c e h = none_decided (is_decisive o && not (is_ok said)) said (told o said now (w ∷ []) c) e (none_told o said now (w ∷ []) c h)
@@ -99,18 +127,68 @@ none_answered w said now c e h = none_posted c _ (none_answered_to (open_order (
 none_stepped : (now : ℕ) (c : Course) → Fails c ≡ false → Fails (course_stepped true now c) ≡ false
 none_stepped now c h = none_posted c _ (none_settled (worked now c) (none_worked now c h))
 
-none_treated : (l : Option RunningLimit) (now : ℕ) (c : Course) → is_some l ≡ false → Fails c ≡ false → Fails (treated l now c) ≡ false
-none_treated None now c e h = h
-none_treated (Some l) now c e h = absurd cc
+none_lost_to : (o : Option Order) (now : ℕ) (c : Course) → Fails c ≡ false → Fails (lost_to o now c) ≡ false
+none_lost_to None now c h = h
+none_lost_to (Some o) now c h = none_told o _ now (waits_now (left c.agenda)) c h
 
-none_timed : (now : ℕ) (c : Course) → is_some (spent_of now (limits_now c)) ≡ false → Fails c ≡ false → Fails (course_timed now c) ≡ false
-none_timed now c e h = none_posted c _ (none_treated (spent_of now (limits_now c)) now c e h)
+-- where nothing takes too long, a spent limit loses answers alone
+none_lost : (b : Bool) (now : ℕ) (c : Course) (l : RunningLimit) → fails_set (order_now (left c.agenda)) ≡ b → spent_of now (limits_now c) ≡ Some l → l.limit ≡ AnswerLimit → is_late_in now c c.agenda ≡ false → Fails c ≡ false → Fails (lost_decided b (lost now c)) ≡ false
+none_lost true now c l d e f g h = absurd (true_not_false (is_late_in now c c.agenda) (late now c c.agenda l e (subst (λ x. Decides x (order_now (left c.agenda))) (sym f) d)) g)
+none_lost false now c l d e f g h = none_settled (lost now c) (none_lost_to (order_now (left c.agenda)) now c h)
 
-none_begun : (k : Kind) (ms : List Member) (vs : List ℕ) (now : ℕ) (c : Course) → Fails c ≡ false → Fails (begun k ms vs now c) ≡ false
+none_treated_as : (x : Limit) (now : ℕ) (c : Course) (l : RunningLimit) → l.limit ≡ x → spent_of now (limits_now c) ≡ Some l → is_late_in now c c.agenda ≡ false → Fails c ≡ false → Fails (treated_as x now c) ≡ false
+none_treated_as HoldLimit now c l f e g h = absurd (true_not_false (is_late_in now c c.agenda) (late now c c.agenda l e (subst (λ x. Decides x (order_now (left c.agenda))) (sym f) tt)) g)
+none_treated_as FreezeLimit now c l f e g h = absurd (true_not_false (is_late_in now c c.agenda) (late now c c.agenda l e (subst (λ x. Decides x (order_now (left c.agenda))) (sym f) tt)) g)
+none_treated_as AnswerLimit now c l f e g h = none_lost (fails_set (order_now (left c.agenda))) now c l refl e f g h
+
+none_treated : (o : Option RunningLimit) (now : ℕ) (c : Course) → spent_of now (limits_now c) ≡ o → is_late_in now c c.agenda ≡ false → Fails c ≡ false → Fails (treated o now c) ≡ false
+none_treated None now c e g h = h
+none_treated (Some l) now c e g h = none_treated_as l.limit now c l refl e g h
+
+none_timed : (now : ℕ) (c : Course) → is_late_in now c c.agenda ≡ false → Fails c ≡ false → Fails (course_timed now c) ≡ false
+none_timed now c e h = none_posted c _ (none_treated (spent_of now (limits_now c)) now c refl e h)
+
+pub none_begun : (k : Kind) (ms : List Member) (vs : List ℕ) (now : ℕ) (c : Course) → Fails c ≡ false → Fails (begun k ms vs now c) ≡ false
 unfolding begun
 none_begun k ms vs now c h = none_posted c _ (none_settled (record c { agenda = Some (record { kind = k; members = ms; volumes = vs; begun = now; log = [] }) }) h)
 
+-- a failed flush, in the words of the causes
+pub same_flush : (g : Option Group) (mark : Mark) → is_failed_step (is_flush g) mark ≡ (is_flush_step g && is_fault mark)
+same_flush None Clean = refl
+same_flush None Fault = refl
+same_flush None (FaultAfter k) = refl
+same_flush (Some (Orders o)) Clean = refl
+same_flush (Some (Orders o)) Fault = refl
+same_flush (Some (Orders o)) (FaultAfter k) = refl
+same_flush (Some PreCommit) Clean = refl
+same_flush (Some PreCommit) Fault = refl
+same_flush (Some PreCommit) (FaultAfter k) = refl
+same_flush (Some Flush) Clean = refl
+same_flush (Some Flush) Fault = refl
+same_flush (Some Flush) (FaultAfter k) = refl
+same_flush (Some Hold) Clean = refl
+same_flush (Some Hold) Fault = refl
+same_flush (Some Hold) (FaultAfter k) = refl
+same_flush (Some Cut) Clean = refl
+same_flush (Some Cut) Fault = refl
+same_flush (Some Cut) (FaultAfter k) = refl
+same_flush (Some Commit) Clean = refl
+same_flush (Some Commit) Fault = refl
+same_flush (Some Commit) (FaultAfter k) = refl
+same_flush (Some Release) Clean = refl
+same_flush (Some Release) Fault = refl
+same_flush (Some Release) (FaultAfter k) = refl
+same_flush (Some PostCommit) Clean = refl
+same_flush (Some PostCommit) Fault = refl
+same_flush (Some PostCommit) (FaultAfter k) = refl
+
 -- ## states
+
+-- the calls that stop the set in progress
+abbrev stops_set : Op → Bool
+stops_set Abort = true
+stops_set End = true
+stops_set op = false
 
 -- set n has not failed
 abbrev IsLive : ℕ → State → Type 0
@@ -138,7 +216,7 @@ module _ (n : ℕ) where
   live_ended (FailedSet why) CompleteSet true (Some a) st e f h = h
   live_ended (FailedSet why) CompleteSet false a st e f h = h
 
-  live_followed : (ran : Bool) (c : Course) (st : State) → Fails c ≡ false → IsLive n st → IsLive n (followed ran c st)
+  pub live_followed : (ran : Bool) (c : Course) (st : State) → Fails c ≡ false → IsLive n st → IsLive n (followed ran c st)
   unfolding followed
   live_followed ran c st e h = live_ended st.course.outcome c.outcome ran c.agenda (record st { course = c }) refl e h
 
@@ -161,7 +239,7 @@ module _ (n : ℕ) where
   live_made (Some Release) st h = h
   live_made (Some PostCommit) st h = h
 
-  live_stepped_as : (fails : Bool) (g : Option Group) (st : State) → fails ≡ false → Fails st.course ≡ false → IsLive n st → IsLive n (stepped_as fails g st)
+  pub live_stepped_as : (fails : Bool) (g : Option Group) (st : State) → fails ≡ false → Fails st.course ≡ false → IsLive n st → IsLive n (stepped_as fails g st)
   live_stepped_as true g st e f h = absurd cc
   live_stepped_as false g st e f h = live_followed (runs st) (course_stepped true st.clock st.course) (step_made g st) (none_stepped st.clock st.course f) (live_made g st h)
 
@@ -169,7 +247,7 @@ module _ (n : ℕ) where
   unfolding stepped
   live_steps mark st e f h = live_stepped_as (is_failed_step (is_flush (open_group (left_now st))) mark) (open_group (left_now st)) st e f h
 
-  live_ticks : (k : ℕ) (st : State) → is_some (spent_of (st.clock + k) (limits_now st.course)) ≡ false → Fails st.course ≡ false → IsLive n st → IsLive n (ticked k st)
+  live_ticks : (k : ℕ) (st : State) → is_late st k ≡ false → Fails st.course ≡ false → IsLive n st → IsLive n (ticked k st)
   unfolding ticked
   live_ticks k st e f h = live_followed (runs st) (course_timed (st.clock + k) st.course) (later k st) (none_timed (st.clock + k) st.course e f) h
 
@@ -256,7 +334,24 @@ module _ (n : ℕ) where
   live_await None st h = h
   live_await (Some why) st h = h
 
-  live_session_line : (s : Plan) (lane : ℕ) (op : Op) (q : Session) (st : State) → line_gives_cause s st op ≡ false → Fails st.course ≡ false → IsLive n st → IsLive n (session_line s lane op q st).1
+  live_refused : (q : Option Session) (s : Plan) (lane : ℕ) (call : SessionCall) (op : Op) (st : State) → owns q lane ≡ false → IsLive n st → IsLive n (judged (check_other q (runs st) lane call) s lane op st).1
+  live_refused None s lane call op st e h = h
+  live_refused (Some q) s lane call op st e h = by_owner (q.owner == lane) e
+    where
+      by_owner : (b : Bool) → b ≡ false → IsLive n (judged (owner_only b (check_owner q (runs st) call)) s lane op st).1
+      by_owner true e = absurd cc
+      by_owner false e = h
+
+  -- `abort` and `end` of a lane that does not own the session
+  live_abort : (s : Plan) (lane : ℕ) (st : State) → owns st.session lane ≡ false → IsLive n st → IsLive n (called call.Abort s lane Abort st).1
+  unfolding called
+  live_abort s lane st e h = live_refused st.session s lane call.Abort Abort st e h
+
+  live_end : (s : Plan) (lane : ℕ) (st : State) → owns st.session lane ≡ false → IsLive n st → IsLive n (called call.End s lane End st).1
+  unfolding called
+  live_end s lane st e h = live_refused st.session s lane call.End End st e h
+
+  live_session_line : (s : Plan) (lane : ℕ) (op : Op) (q : Session) (st : State) → stops_set op ≡ false → Fails st.course ≡ false → IsLive n st → IsLive n (session_line s lane op q st).1
   live_session_line s lane (Begin c all) q st e f h = h
   live_session_line s lane (Disable w) q st e f h = h
   live_session_line s lane GatherLine q st e f h = live_followed true _ st (none_begun Gather _ [] st.clock _ f) h
@@ -283,7 +378,7 @@ module _ (n : ℕ) where
   live_session_line s lane (DeleteImage m v) q st e f h = h
   live_session_line s lane (Tick k) q st e f h = h
 
-  live_line_in : (s : Plan) (lane : ℕ) (op : Op) (q : Option Session) (st : State) → line_gives_cause s st op ≡ false → Fails st.course ≡ false → IsLive n st → IsLive n (line_in s lane op q st).1
+  live_line_in : (s : Plan) (lane : ℕ) (op : Op) (q : Option Session) (st : State) → stops_set op ≡ false → Fails st.course ≡ false → IsLive n st → IsLive n (line_in s lane op q st).1
   live_line_in s lane (Begin c all) None st e f h = live_begin lane all (context_of c all) st h
   live_line_in s lane (Disable w) None st e f h = h
   live_line_in s lane GatherLine None st e f h = h
@@ -311,16 +406,16 @@ module _ (n : ℕ) where
   live_line_in s lane (Tick k) None st e f h = h
   live_line_in s lane op (Some q) st e f h = live_session_line s lane op q st e f h
 
-  live_judged : (v : Verdict) (s : Plan) (lane : ℕ) (op : Op) (st : State) → line_gives_cause s st op ≡ false → Fails st.course ≡ false → IsLive n st → IsLive n (judged v s lane op st).1
+  live_judged : (v : Verdict) (s : Plan) (lane : ℕ) (op : Op) (st : State) → stops_set op ≡ false → Fails st.course ≡ false → IsLive n st → IsLive n (judged v s lane op st).1
   live_judged Go s lane op st e f h = live_line_in s lane op st.session st e f h
   live_judged Blocked s lane op st e f h = h
   live_judged (Refused why) s lane op st e f h = h
 
-  live_called : (c : SessionCall) (s : Plan) (lane : ℕ) (op : Op) (st : State) → line_gives_cause s st op ≡ false → Fails st.course ≡ false → IsLive n st → IsLive n (called c s lane op st).1
+  live_called : (c : SessionCall) (s : Plan) (lane : ℕ) (op : Op) (st : State) → stops_set op ≡ false → Fails st.course ≡ false → IsLive n st → IsLive n (called c s lane op st).1
   unfolding called
   live_called c s lane op st e f h = live_judged (check st.session (runs st) lane c) s lane op st e f h
 
-  live_line : (s : Plan) (lane : ℕ) (op : Op) (mark : Mark) (st : State) → line_gives_cause s st op ≡ false → Fails st.course ≡ false → IsLive n st → IsLive n (line s lane op mark st).1
+  live_line : (s : Plan) (lane : ℕ) (op : Op) (mark : Mark) (st : State) → line_gives_cause s st lane op ≡ false → Fails st.course ≡ false → IsLive n st → IsLive n (line s lane op mark st).1
   live_line s lane (WriteFill v b x) mark st e f h = live_write s v (record { block = b; bytes = payload_bytes (Fill x) }) mark st e h
   live_line s lane (WriteStamp v b k) mark st e f h = live_write s v (record { block = b; bytes = payload_bytes (Stamp k) }) mark st e h
   live_line s lane (Read v b) mark st e f h = h
@@ -332,27 +427,27 @@ module _ (n : ℕ) where
   live_line s lane (DeleteSet m) mark st e f h = live_delete_set m st h
   live_line s lane (DeleteImage m v) mark st e f h = live_delete_image m v st h
   live_line s lane (Tick k) mark st e f h = live_ticks k st e f h
-  live_line s lane (Begin c all) mark st e f h = live_called (call.Begin c all) s lane (Begin c all) st e f h
-  live_line s lane (Disable w) mark st e f h = live_called call.Disable s lane (Disable w) st e f h
-  live_line s lane GatherLine mark st e f h = live_called call.Gather s lane GatherLine st e f h
-  live_line s lane (Component w full) mark st e f h = live_called call.Component s lane (Component w full) st e f h
-  live_line s lane Document mark st e f h = live_called call.Document s lane Document st e f h
-  live_line s lane Start mark st e f h = live_called call.Start s lane Start st e f h
-  live_line s lane (Add v) mark st e f h = live_called call.Add s lane (Add v) st e f h
-  live_line s lane PrepareLine mark st e f h = live_called call.Prepare s lane PrepareLine st e f h
-  live_line s lane SnapshotLine mark st e f h = live_called call.Snapshot s lane SnapshotLine st e f h
-  live_line s lane Await mark st e f h = live_called call.Await s lane Await st e f h
-  live_line s lane Status mark st e f h = live_called call.Status s lane Status st e f h
-  live_line s lane CompleteLine mark st e f h = live_called call.Complete s lane CompleteLine st e f h
-  live_line s lane Abort mark st e f h = absurd cc
-  live_line s lane End mark st e f h = absurd cc
+  live_line s lane (Begin c all) mark st e f h = live_called (call.Begin c all) s lane (Begin c all) st refl f h
+  live_line s lane (Disable w) mark st e f h = live_called call.Disable s lane (Disable w) st refl f h
+  live_line s lane GatherLine mark st e f h = live_called call.Gather s lane GatherLine st refl f h
+  live_line s lane (Component w full) mark st e f h = live_called call.Component s lane (Component w full) st refl f h
+  live_line s lane Document mark st e f h = live_called call.Document s lane Document st refl f h
+  live_line s lane Start mark st e f h = live_called call.Start s lane Start st refl f h
+  live_line s lane (Add v) mark st e f h = live_called call.Add s lane (Add v) st refl f h
+  live_line s lane PrepareLine mark st e f h = live_called call.Prepare s lane PrepareLine st refl f h
+  live_line s lane SnapshotLine mark st e f h = live_called call.Snapshot s lane SnapshotLine st refl f h
+  live_line s lane Await mark st e f h = live_called call.Await s lane Await st refl f h
+  live_line s lane Status mark st e f h = live_called call.Status s lane Status st refl f h
+  live_line s lane CompleteLine mark st e f h = live_called call.Complete s lane CompleteLine st refl f h
+  live_line s lane Abort mark st e f h = live_abort s lane st e h
+  live_line s lane End mark st e f h = live_end s lane st e h
 
   -- ## every act
 
   live_happens : (s : Plan) (event : Event) (mark : Mark) (st : State) → gives_cause s st event mark ≡ false → Fails st.course ≡ false → IsLive n st → IsLive n (happens s event mark st).1
   live_happens s (Line lane op) mark st e f h = live_line s lane op mark st e f h
-  live_happens s (AnswerEvent w answer) mark st e f h = live_answers w (said_of answer) st (none_answered w (said_of answer) st.clock st.course e f) h
-  live_happens s Provider mark st e f h = live_steps mark st e f h
+  live_happens s (AnswerEvent w answer) mark st e f h = live_answers w (said_of answer) st (none_answered w (said_of answer) st.clock st.course (not_refused (order_of_writer st w) answer e) f) h
+  live_happens s Provider mark st e f h = live_steps mark st (same_flush (open_group (left_now st)) mark ∙ e) f h
   live_happens s Idle mark st e f h = live_ticks (idle_now st) st e f h
 
   live_after_if : (b : Bool) (s : Plan) (st : State) (act : Act) → gives_cause s st act.event act.mark ≡ false → Fails st.course ≡ false → IsLive n st → IsLive n (after_if b s st act)
@@ -364,7 +459,7 @@ module _ (n : ℕ) where
   live_after s st act e f h = live_after_if (enabled s st act.event) s st act e f h
 
 -- while a set is in progress, the course has not failed
-outcome_running : (q : Option Session) (o : SetOutcome) (r : SetRow) → IsOfSession q o (Some r) → has_failed o ≡ false
+pub outcome_running : (q : Option Session) (o : SetOutcome) (r : SetRow) → IsOfSession q o (Some r) → has_failed o ≡ false
 outcome_running None o r h = absurd h
 outcome_running (Some q) o r h = ap has_failed h.2
 

@@ -60,7 +60,7 @@ cut_step_in (Some Commit) mark st e = absurd cc
 cut_step_in (Some Release) mark st e = absurd cc
 cut_step_in (Some PostCommit) mark st e = absurd cc
 
-cut_step : (mark : Mark) (st : State) → is_cut_group (open_group (left_now st)) ≡ true → stepped mark st ≡ followed (runs st) (course_stepped true st.clock st.course) (cut_set (in_progress st) st)
+pub cut_step : (mark : Mark) (st : State) → is_cut_group (open_group (left_now st)) ≡ true → stepped mark st ≡ followed (runs st) (course_stepped true st.clock st.course) (cut_set (in_progress st) st)
 unfolding stepped
 cut_step mark st e = cut_step_in (open_group (left_now st)) mark st e
 
@@ -90,7 +90,7 @@ happens_provider s (AnswerEvent x answer) mark st e = absurd cc
 happens_provider s Provider mark st e = refl
 happens_provider s Idle mark st e = absurd cc
 
-after_provider : (s : Plan) (st : State) (act : Act) → is_provider act.event ≡ true → is_working (left_now st) ≡ true → after s st act ≡ stepped act.mark st
+pub after_provider : (s : Plan) (st : State) (act : Act) → is_provider act.event ≡ true → is_working (left_now st) ≡ true → after s st act ≡ stepped act.mark st
 unfolding after
 after_provider s st act e w = ap (λ b. after_if b s st act) (enabled_provider s st act.event e w) ∙ happens_provider s act.event act.mark st e
 

@@ -7,7 +7,7 @@ use Rattle.write_history.specs.declared.actor.Actor.{Actor}
 use Rattle.write_history.specs.declared.actor.Actor.TheVariants.{Lane, Writer, Advance, Idle}
 use Rattle.write_history.specs.declared.mark.Mark.{Mark}
 use Rattle.write_history.specs.declared.move_item.Move.{Move}
-use Rattle.set_agenda.specs.Agenda.{is_asking}
+use Rattle.set_agenda.specs.Agenda.{is_asking, open_group}
 use Rattle.scenario.specs.declared.op.Op.{Op}
 use Rattle.scenario.specs.declared.op.Op.TheVariants.{WriteFill, WriteStamp, Read, ImageDigest, ImageBlock, Query, Properties, Revert, DeleteSet, DeleteImage, Tick, Begin, Disable, Gather, Component, Document, Start, Add, Prepare, Snapshot, Await, Status, Complete, Abort, End}
 use Rattle.scenario.specs.Plan.{Plan, LaneLine, LanePlan, lines_in, lines_of}
@@ -20,7 +20,7 @@ use Rattle.vss_model.specs.Acts.{Act, after, after_if, state, enabled, order_of_
 use Rattle.vss_model.specs.Causes.{gives_cause}
 use Rattle.vss_model.specs.EndOrFlush.{is_end_or_flush, SetsFailByEndOrFlush}
 use Rattle.vss_model.specs.Trail.{Run, begin, is_lane, cursor, next_line, line_event, script_event, event_of, act_of, acts_if, after_event, moved, acts_from, acts, event_enabled, can_act, none_can_act, may_move, allows, is_legal_move, is_legal_from, is_legal}
-use Rattle.vss_model.proofs.Causes.{fail_with_cause}
+use Rattle.vss_model.proofs.Causes.{same_flush, fail_with_cause}
 use Rattle.vss_model.proofs.GoesOn.{cursor_more, cursor_same}
 use Rattle.vss_model.proofs.NoWriters.{not_asking, no_order}
 use Rattle.vss_model.proofs.OneSet.{IsSingle, few, single_line, single_stepped}
@@ -227,7 +227,7 @@ cause_of_line s so_far lane End mark built block run one e = refl
 cause_is : (s : Plan) (so_far : List Act) (event : Event) (mark : Mark) → IsBuilt s → IsMade s event → length (state s so_far).sets ≤ 1 → gives_cause s (state s so_far) event mark ≡ true → is_end_or_flush (state s so_far) event mark ≡ true
 cause_is s so_far (Line lane op) mark built made one e = cause_of_line s so_far lane op mark built made.0 made.1 one e
 cause_is s so_far (AnswerEvent w answer) mark built made one e = absurd made
-cause_is s so_far Provider mark built made one e = e
+cause_is s so_far Provider mark built made one e = same_flush (open_group (left_now (state s so_far))) mark ∙ e
 cause_is s so_far IdleEvent mark built made one e = absurd made
 
 pub fail_by_end_or_flush : (s : Plan) (trail : List Move) → IsPlan s → IsBuilt s → is_legal s trail ≡ true → SetsFailByEndOrFlush s (acts s trail)

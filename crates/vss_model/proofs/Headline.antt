@@ -6,18 +6,28 @@ use Rattle.write_history.specs.History.{point_in}
 use Rattle.write_history.specs.declared.actor.Actor.{Actor}
 use Rattle.write_history.specs.declared.actor.Actor.TheVariants.{Lane, Writer, Advance, Idle}
 use Rattle.write_history.specs.declared.move_item.Move.{Move}
-use Rattle.set_agenda.specs.Agenda.{open_group}
+use Rattle.set_agenda.specs.declared.group.Group.TheVariants.{Hold, Release}
+use Rattle.set_agenda.specs.Agenda.{Agenda, open_group, plain, is_snapshot, is_among, has_said, has_frozen, has_thawed, is_held as holds, is_frozen as freezes}
+use Rattle.set_agenda.specs.Course.{is_member}
 use Rattle.scenario.specs.Plan.{Plan, LaneLine, LanePlan, lines_in, lines_of}
-use Rattle.vss_model.specs.State.{SetRow, in_progress, left_now, history_of}
+use Rattle.vss_model.specs.State.{State, SetRow, in_progress, left_now, history_of, is_held, is_frozen}
 use Rattle.vss_model.specs.Ending.{runs}
-use Rattle.vss_model.specs.Acts.{Act, state}
+use Rattle.vss_model.specs.Acts.{Act, after, state}
 use Rattle.vss_model.specs.Cut.{cut, is_set as has_number, is_cut_group, IsShownAt}
-use Rattle.vss_model.specs.Headline.{ReadsAsAtTheCut, KeepsPromises, MakesEachLineOnce}
+use Rattle.vss_model.specs.Headline.{ReadsAsAtTheCut, IsHeldForSet, IsFrozenForSet, KeepsSet, KeepsPromises, MakesEachLineOnce}
+use Rattle.vss_model.specs.Laws.{RunsSnapshot}
 use Rattle.vss_model.specs.Trail.{Run, run, begin, run_from, moved, is_lane, cursor, next_line, line_event, event_of, event_enabled, may_move, allows, is_legal_move, is_legal_from, is_legal, is_used_up, is_over, is_complete}
 use Rattle.vss_model.proofs.OneCut.{image_shown, image_reads, cut_is_at}
 use Rattle.vss_model.proofs.AtCut.{held_at_cut, frozen_at_cut}
 use Rattle.vss_model.proofs.Failures.{failed_keeps_nothing, failed_has_no_copy}
 use Rattle.vss_model.proofs.HeldOfSet.{held_means, frozen_means}
+use Rattle.vss_model.proofs.HeldWrites.{held_keeps}
+use Rattle.vss_model.proofs.LogRule.{Running}
+use Rattle.vss_model.proofs.Spoken.{HoldsOwn, FreezesOwn, held_own, frozen_own}
+use Rattle.vss_model.proofs.Freed.{not_held_after, not_frozen_after}
+use Rattle.vss_model.proofs.Completed.{imaged_after}
+use Rattle.vss_model.proofs.FlushFails.{flush_fails}
+use Rattle.vss_model.proofs.OfSet.{image_of_set}
 use Rattle.vss_model.proofs.Appending.{moves-run}
 use Rattle.vss_model.proofs.GoesOn.{cursor_more, cursor_same}
 
@@ -36,6 +46,7 @@ at_cut s so_far n v p h before e (Some r) f g i = record {
   set = r;
   is_set = f;
   number = same r.number n g;
+  volume = image_of_set s so_far n v p before r h e f;
   held = λ u j. held_at_cut s before r u i f j;
   frozen = λ w j. frozen_at_cut s before r w i f j;
 }
@@ -45,12 +56,63 @@ reads_as s so_far n v p h None e i = absurd i
 reads_as s so_far n v p h (Some before) e i =
     let at = cut_is_at s n so_far before e in at_cut s so_far n v p h before e (in_progress (state s before)) refl at.set at.step
 
+-- ## held and frozen
+
+both_parts : (a b : Bool) → (a && b) ≡ true → (a ≡ true) × (b ≡ true)
+both_parts true b e = (refl, e)
+both_parts false b e = absurd cc
+
+held_volume : (st : State) (v : ℕ) (run : RunsSnapshot st) → Running HoldsOwn st.course.agenda → is_held st v ≡ true → is_among v run.set.volumes ≡ true
+held_volume st v run own e =
+    let H : Option Agenda → Type 0 = λ a. holds a v ≡ true in
+    let said = both_parts (is_snapshot run.agenda.kind && has_said run.agenda.log (plain Hold) v) (not (has_said run.agenda.log (plain Release) v)) (subst H run.runs e) in
+    let held = both_parts (is_snapshot run.agenda.kind) (has_said run.agenda.log (plain Hold) v) said.0 in
+    let its : HoldsOwn run.agenda = subst (Running HoldsOwn) run.runs own in
+    subst (λ vs. is_among v vs ≡ true) run.volumes (its v held.1)
+
+frozen_participant : (st : State) (w : ℕ) (run : RunsSnapshot st) → Running FreezesOwn st.course.agenda → is_frozen st w ≡ true → is_member st.course.members w ≡ true
+frozen_participant st w run own e =
+    let F : Option Agenda → Type 0 = λ a. freezes a w ≡ true in
+    let said = both_parts (is_snapshot run.agenda.kind && has_frozen run.agenda.log w) (not (has_thawed run.agenda.log w)) (subst F run.runs e) in
+    let frozen = both_parts (is_snapshot run.agenda.kind) (has_frozen run.agenda.log w) said.0 in
+    let its : FreezesOwn run.agenda = subst (Running FreezesOwn) run.runs own in
+    subst (λ ms. is_member ms w ≡ true) run.members (its w frozen.1)
+
+pub held_for_set : (s : Plan) (so_far : List Act) (v : ℕ) → is_held (state s so_far) v ≡ true → IsHeldForSet (state s so_far) v
+held_for_set s so_far v e =
+    let run = held_means s so_far v e in
+    record { run = run; volume = held_volume (state s so_far) v run (held_own s so_far) e }
+
+pub frozen_for_set : (s : Plan) (so_far : List Act) (w : ℕ) → is_frozen (state s so_far) w ≡ true → IsFrozenForSet (state s so_far) w
+frozen_for_set s so_far w e =
+    let run = frozen_means s so_far w e in
+    record { run = run; participant = frozen_participant (state s so_far) w run (frozen_own s so_far) e }
+
+-- ## what an act keeps of the set in progress
+
+some_same : (a b : SetRow) → Some a ≡ Some b → a ≡ b
+some_same a b e = cc
+
+still : (s : Plan) (so_far : List Act) (act : Act) (v : ℕ) → is_held (state s so_far) v ≡ true → (history_of (after s (state s so_far) act) v).writes ≡ (history_of (state s so_far) v).writes
+still s so_far act v e =
+    let held = held_for_set s so_far v e in
+    held_keeps s so_far act held.run.set v held.run.in_progress_is held.volume e
+
+keeps_set : (s : Plan) (so_far : List Act) (r : SetRow) (act : Act) → in_progress (state s so_far) ≡ Some r → KeepsSet s (state s so_far) act r
+keeps_set s so_far r act e = record {
+  still = λ v f. still s so_far act v f;
+  free = λ q f g. record { held = λ v. not_held_after s so_far act r q v e f g; frozen = λ w. not_frozen_after s so_far act r q w e f g };
+  images = λ q f g v h l. imaged_after s so_far act r q v e f g h l;
+  flush = λ f g h. flush_fails s so_far act r e f g h;
+}
+
 pub keeps_promises : (s : Plan) (so_far : List Act) → KeepsPromises s so_far
 keeps_promises s so_far = record {
   images = λ n v p h. reads_as s so_far n v p h (cut s n so_far) refl (image_shown s so_far n v p h);
   failed = λ n r e f. record { no_image = λ v. failed_keeps_nothing s so_far n v r e f; no_copy = λ group. failed_has_no_copy s so_far n r group e f };
-  held = λ v e. held_means s so_far v e;
-  frozen = λ w e. frozen_means s so_far w e;
+  held = λ v e. held_for_set s so_far v e;
+  frozen = λ w e. frozen_for_set s so_far w e;
+  set = λ r act e. keeps_set s so_far r act e;
 }
 
 -- ## each line once

@@ -340,7 +340,7 @@ kept_if_parts : (b : Bool) (r : SetRow) (o : Option ℕ) (x : Kept) → kept_if 
 kept_if_parts true r o x e = kept_at_parts r o x e
 kept_if_parts false r o x e = absurd cc
 
-row_number : (n : ℕ) (rows : List SetRow) (r : SetRow) → find (λ q. q.number == n) rows ≡ Some r → r.number ≡ n
+pub row_number : (n : ℕ) (rows : List SetRow) (r : SetRow) → find (λ q. q.number == n) rows ≡ Some r → r.number ≡ n
 row_number n [] r e = absurd cc
 row_number n (q ∷ rows) r e = head_if (q.number == n) refl e (row_number n rows r)
   where
@@ -351,7 +351,7 @@ row_number n (q ∷ rows) r e = head_if (q.number == n) refl e (row_number n row
     head_if true f g ih = let same : q ≡ r = cc in subst (λ x. x.number ≡ n) same (equal q.number n f)
     head_if false f g ih = ih g
 
-kept_point : (n : ℕ) (o : Option SetRow) (p : Option ℕ) (x : Kept) → ((r : SetRow) → o ≡ Some r → r.number ≡ n) → kept_of o p ≡ Some x → (x.row.number ≡ n) × (p ≡ Some x.point)
+pub kept_point : (n : ℕ) (o : Option SetRow) (p : Option ℕ) (x : Kept) → ((r : SetRow) → o ≡ Some r → r.number ≡ n) → kept_of o p ≡ Some x → (x.row.number ≡ n) × (p ≡ Some x.point)
 kept_point n None p x number e = absurd cc
 kept_point n (Some r) p x number e =
     let parts = kept_if_parts (is_complete r.result) r p x e in
@@ -670,7 +670,7 @@ cut_fold s past k (act ∷ acts) h =
     subst (λ st. IsCut (known_from s l st acts) (fold (after s) st acts)) (state-append s past act)
     (cut_fold s (past ++ act ∷ []) l acts (subst (IsCut l) (sym (state-append s past act)) (on_act s past act k h)))
 
-abbrev volumes_then : Plan → Option (List Act) → Option (List History)
+abbrev pub volumes_then : Plan → Option (List Act) → Option (List History)
 volumes_then s o = option_map (λ before. (state s before).volumes) o
 
 known_step : (s : Plan) (o : Option (List History)) (b : Bool) (past : List Act) (later : Option (List Act)) → or_else (or_else o (now_if b (state s past).volumes)) (volumes_then s later) ≡ or_else o (volumes_then s (cut_if b past later))
@@ -709,6 +709,19 @@ uncut_at_cut s acts r v p c e f =
 
     zero_plus : (a : ℕ) → a ≡ 0 + a
     zero_plus a = omega arith
+
+-- where the Cut step is the next one, the set in progress was not cut yet
+pub not_cut_yet : (s : Plan) (acts : List Act) (r : SetRow) → CutsNow (state s acts) → in_progress (state s acts) ≡ Some r → cut s r.number acts ≡ None
+not_cut_yet s acts r c e =
+    let k = known_from s nothing_known (start s) acts in
+    none_then (cut s r.number acts) (sym (known_is s [] nothing_known r.number acts) ∙ (newest k (state s acts) r c e (orderly s acts) (cut_all s acts)).none r.number (own r.number))
+  where
+    own : (a : ℕ) → a ≤ a
+    own a = omega arith
+
+    none_then : (o : Option (List Act)) → volumes_then s o ≡ None → o ≡ None
+    none_then None f = refl
+    none_then (Some acts) f = absurd cc
 
 shown_by : (s : Plan) (v p : ℕ) (ws : List Write) (o : Option (List Act)) → ShownIn (volumes_then s o) v p ws → IsShownAt s v p ws o
 shown_by s v p ws None h = absurd h

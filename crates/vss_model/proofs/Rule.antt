@@ -1,5 +1,5 @@
 -- The rule of cases: a fact of the state that each named change keeps is kept by every act.
-use Rattle.std.proofs.Common.{◌≡◌, ℕ, ◌==◌, List, Option, Some, None, refl, Bool, true, false, sym, subst, arith}
+use Rattle.std.proofs.Common.{◌≡◌, ◌∙◌, ℕ, ◌==◌, List, Option, Some, None, refl, Bool, true, false, sym, subst, arith}
 use Rattle.std.specs.Prelude.{map, is_some, ◌&&◌, not, if◌then◌else◌, nat_lt}
 use Rattle.vss_names.specs.declared.vss_result.VssResult.{VssResult}
 use Rattle.vss_names.specs.declared.vss_result.VssResult.TheVariants.{InsufficientStorage, AsyncCancelled}
@@ -34,7 +34,7 @@ use Rattle.vss_names.specs.declared.context.Context.{Context}
 use Rattle.component_doc.specs.Selection.{Pair}
 use Rattle.write_history.specs.History.{dropped}
 use Rattle.vss_model.specs.Ending.{runs, failed}
-use Rattle.vss_model.specs.Images.{Replied, cleared, set_loses_image, with_room_if, put, write, image_block, image_blocks, properties, count_images, delete_set, delete_kept, delete_image, is_backup, is_in_set, revert_refusal, revert_to, revert}
+use Rattle.vss_model.specs.Images.{Replied, cleared, set_loses_image, with_room_if, put, write, reverted_as, image_block, image_blocks, properties, count_images, delete_set, delete_kept, delete_image, is_backup, is_in_set, revert_refusal, revert_to, revert}
 use Rattle.vss_model.specs.Sessions.{begin_in, disable, gather, prepare, snapshot, complete, start_set, change_set, with_volume, end_session, named_as, component_in, known_metas, add_refusal, add_to, add, await_last, line_in, session_line, judged}
 use Rattle.vss_model.specs.Lines.{called, line}
 use Rattle.vss_model.specs.Acts.{Act, order_of_writer, is_free, line_enabled, enabled, happens, idle_now, after_if, after}
@@ -44,6 +44,10 @@ use Rattle.vss_model.proofs.GoingOn.{Goes, other_goes}
 not_held : (held free : Bool) → (not held && free) ≡ true → held ≡ false
 not_held true free e = absurd cc
 not_held false free e = refl
+
+first_true : (a b : Bool) → (a && b) ≡ true → a ≡ true
+first_true true b e = refl
+first_true false b e = absurd cc
 
 in_no_set : (backup in_set : Bool) (x y : VssResult) → (if backup then Some x else if in_set then Some y else None) ≡ None → in_set ≡ false
 in_no_set true in_set x y e = absurd cc
@@ -145,13 +149,22 @@ may_begin P k st h = record {
   completes = λ q g. k.completes q st g h;
 }
 
+-- the changes of lines that begin no agenda, each made in one state by an act of one scenario
+pub record IsKeptByLinesAt (P : State → Type 0) (s : Plan) (st : State) : Type 0 where
+  pub stays : P st
+  pub writes : (v : ℕ) (w : Write) (mark : Mark) → is_held st v ≡ false → P (write s v w mark st).1
+  pub reverts : (n v : ℕ) (k : Kept) (mark : Mark) → kept_image st n v ≡ Some k → is_in_set v (in_progress st) ≡ false → P (reverted_as s v k mark st).1
+  pub ticks : (n : ℕ) → P (ticked n st)
+  pub deletes_set : (n : ℕ) → is_kept_set st n ≡ true → P (record st { volumes = map (dropped n) st.volumes })
+  pub deletes_image : (n v : ℕ) (k : Kept) → kept_image st n v ≡ Some k → P (record st { volumes = change_at v (dropped k.row.number) st.volumes })
+  pub names : (w : ℕ) (name : List ℕ) (q : Session) (explicit : List Pair) → LetsGo call.Component q st → naming (known_metas s st) w name st.explicit ≡ Names explicit → P (record st { explicit = explicit })
+  pub disables : (w : ℕ) (q : Session) → LetsGo call.Disable q st → P (disable w st).1
+  pub starts : (q : Session) → LetsGo call.Start q st → makes_set q.stage ≡ false → P (start_set q st).1
+  pub adds : (v : ℕ) (r : SetRow) (q : Session) → LetsGo call.Add q st → in_progress st ≡ Some r → add_refusal v r st ≡ None → P (change_set r.number (with_volume v) st)
+  pub aborts : (q : Session) → st.session ≡ Some q → P (failed AsyncCancelled st)
+  pub ends : (q : Session) → st.session ≡ Some q → P (end_session q st).1
+
 module _ (P : State → Type 0) (k : IsKeptByLines P) where
-  either_out : (b : Bool) (x y : Replied) → P x.1 → P y.1 → P (if b then x else y).1
-  either_out true x y h i = h
-  either_out false x y h i = i
-
-  -- ## writes and images
-
   on_room : (b : Bool) (x : State) → P x → P (with_room_if b x)
   on_room true x h = k.fails InsufficientStorage x h
   on_room false x h = h
@@ -161,117 +174,164 @@ module _ (P : State → Type 0) (k : IsKeptByLines P) where
   on_write s v w mark st puts h =
       puts _ (on_room (set_loses_image (in_progress st) st.volumes (cleared s v w.block st).volumes) _ (k.clears s v w.block st h))
 
-  on_image_block : (v b : ℕ) (kept : Option Kept) (mark : Mark) (st : State) → P st → P (image_block v b kept mark st).1
-  on_image_block v b None mark st h = h
-  on_image_block v b (Some x) mark st h = h
+  at_state : (s : Plan) (st : State) → IsKeptByWrites P st → P st → IsKeptByLinesAt P s st
+  at_state s st at h = record {
+    stays = h;
+    writes = λ v w mark e. on_write s v w mark st (at.puts v e w mark) h;
+    reverts = λ n v x mark e f. at.reverts s n v x mark e f h;
+    ticks = λ n. k.ticks n st h;
+    deletes_set = λ n e. k.deletes_set n st h;
+    deletes_image = λ n v x e. k.deletes_image x.row.number v st h;
+    names = λ w name q explicit g e. k.names q explicit st g h;
+    disables = λ w q g. k.disables w q st g h;
+    starts = λ q g e. k.starts q st g e h;
+    adds = λ v r q g e f. k.adds v r q st g e f h;
+    aborts = λ q e. k.fails AsyncCancelled st h;
+    ends = λ q e. k.ends q st e h;
+  }
 
-  on_image_blocks : (s : Plan) (v : ℕ) (kept : Option Kept) (mark : Mark) (st : State) → P st → P (image_blocks s v kept mark st).1
-  on_image_blocks s v None mark st h = h
-  on_image_blocks s v (Some x) mark st h = h
+module _ (P : State → Type 0) (s : Plan) (st : State) (k : IsKeptByLinesAt P s st) where
+  if_so : (b : Bool) (x y : Replied) → (b ≡ true → P x.1) → P y.1 → P (if b then x else y).1
+  if_so true x y h i = h refl
+  if_so false x y h i = i
 
-  on_properties : (s : Plan) (v : ℕ) (kept : Option Kept) (st : State) → P st → P (properties s v kept st).1
-  on_properties s v None st h = h
-  on_properties s v (Some x) st h = h
+  -- ## images
 
-  on_delete_set : (n : ℕ) (st : State) → P st → P (delete_set n st).1
+  on_image_block : (v b : ℕ) (kept : Option Kept) (mark : Mark) → P (image_block v b kept mark st).1
+  on_image_block v b None mark = k.stays
+  on_image_block v b (Some x) mark = k.stays
+
+  on_image_blocks : (v : ℕ) (kept : Option Kept) (mark : Mark) → P (image_blocks s v kept mark st).1
+  on_image_blocks v None mark = k.stays
+  on_image_blocks v (Some x) mark = k.stays
+
+  on_properties : (v : ℕ) (kept : Option Kept) → P (properties s v kept st).1
+  on_properties v None = k.stays
+  on_properties v (Some x) = k.stays
+
+  on_delete_set : (n : ℕ) → P (delete_set n st).1
   unfolding delete_set
-  on_delete_set n st h = either_out (is_kept_set st n && nat_lt 0 (count_images n st.volumes)) _ _ (k.deletes_set n st h) h
+  on_delete_set n = if_so (is_kept_set st n && nat_lt 0 (count_images n st.volumes)) _ _ (λ e. k.deletes_set n (first_true (is_kept_set st n) (nat_lt 0 (count_images n st.volumes)) e)) k.stays
 
-  on_delete_kept : (v : ℕ) (kept : Option Kept) (st : State) → P st → P (delete_kept v kept st).1
-  on_delete_kept v None st h = h
-  on_delete_kept v (Some x) st h = k.deletes_image x.row.number v st h
+  on_delete_kept : (n v : ℕ) (kept : Option Kept) → kept_image st n v ≡ kept → P (delete_kept v kept st).1
+  on_delete_kept n v None e = k.stays
+  on_delete_kept n v (Some x) e = k.deletes_image n v x e
 
-  on_delete_image : (n v : ℕ) (st : State) → P st → P (delete_image n v st).1
+  on_delete_image : (n v : ℕ) → P (delete_image n v st).1
   unfolding delete_image
-  on_delete_image n v st h = on_delete_kept v (kept_image st n v) st h
+  on_delete_image n v = on_delete_kept n v (kept_image st n v) refl
 
-  on_revert_to : (s : Plan) (n v : ℕ) (refusal : Option VssResult) (kept : Option Kept) (mark : Mark) (st : State) → IsKeptByWrites P st → kept_image st n v ≡ kept → revert_refusal v kept st ≡ refusal → P st → P (revert_to s v refusal kept mark st).1
-  on_revert_to s n v (Some why) kept mark st at e f h = h
-  on_revert_to s n v None None mark st at e f h = h
-  on_revert_to s n v None (Some x) mark st at e f h =
-      at.reverts s n v x mark e (in_no_set (is_backup x.row.context) (is_in_set v (in_progress st)) _ _ f) h
+  on_revert_to : (n v : ℕ) (refusal : Option VssResult) (kept : Option Kept) (mark : Mark) → kept_image st n v ≡ kept → revert_refusal v kept st ≡ refusal → P (revert_to s v refusal kept mark st).1
+  on_revert_to n v (Some why) kept mark e f = k.stays
+  on_revert_to n v None None mark e f = k.stays
+  on_revert_to n v None (Some x) mark e f = k.reverts n v x mark e (in_no_set (is_backup x.row.context) (is_in_set v (in_progress st)) _ _ f)
 
-  on_revert : (s : Plan) (n v : ℕ) (mark : Mark) (st : State) → IsKeptByWrites P st → P st → P (revert s n v mark st).1
+  on_revert : (n v : ℕ) (mark : Mark) → P (revert s n v mark st).1
   unfolding revert
-  on_revert s n v mark st at h = on_revert_to s n v (revert_refusal v (kept_image st n v) st) (kept_image st n v) mark st at refl refl h
+  on_revert n v mark = on_revert_to n v (revert_refusal v (kept_image st n v) st) (kept_image st n v) mark refl refl
 
   -- ## session calls
 
-  on_begin_line : (s : Plan) (lane c : ℕ) (all : Bool) (q : Option Session) (st : State) → ((all : Bool) (x : Option Context) → st.session ≡ None → P (begin_in lane all x st).1) → st.session ≡ q → P st → P (line_in s lane (Begin c all) q st).1
-  on_begin_line s lane c all None st begins e h = begins all (context_of c all) e
-  on_begin_line s lane c all (Some q) st begins e h = h
+  on_begin_line : (lane c : ℕ) (all : Bool) (q : Option Session) → ((all : Bool) (x : Option Context) → st.session ≡ None → P (begin_in lane all x st).1) → st.session ≡ q → P (line_in s lane (Begin c all) q st).1
+  on_begin_line lane c all None begins e = begins all (context_of c all) e
+  on_begin_line lane c all (Some q) begins e = k.stays
 
-  on_named : (q : Session) (n : Naming) (st : State) → LetsGo call.Component q st → P st → P (named_as n st).1
-  on_named q IsNotFound st e h = h
-  on_named q IsNotSelectable st e h = h
-  on_named q IsNamedAlready st e h = h
-  on_named q (Names explicit) st e h = k.names q explicit st e h
+  on_named : (w : ℕ) (name : List ℕ) (q : Session) (n : Naming) → LetsGo call.Component q st → naming (known_metas s st) w name st.explicit ≡ n → P (named_as n st).1
+  on_named w name q IsNotFound g e = k.stays
+  on_named w name q IsNotSelectable g e = k.stays
+  on_named w name q IsNamedAlready g e = k.stays
+  on_named w name q (Names explicit) g e = k.names w name q explicit g e
 
-  on_component : (q : Session) (mode : Mode) (s : Plan) (w : ℕ) (name : List ℕ) (st : State) → LetsGo call.Component q st → P st → P (component_in mode s w name st).1
-  on_component q All s w name st e h = h
-  on_component q Components s w name st e h = on_named q (naming (known_metas s st) w name st.explicit) st e h
+  on_component : (q : Session) (mode : Mode) (w : ℕ) (name : List ℕ) → LetsGo call.Component q st → P (component_in mode s w name st).1
+  on_component q All w name g = k.stays
+  on_component q Components w name g = on_named w name q (naming (known_metas s st) w name st.explicit) g refl
 
-  on_add_to : (v : ℕ) (r : SetRow) (refusal : Option VssResult) (q : Session) (st : State) → LetsGo call.Add q st → in_progress st ≡ Some r → add_refusal v r st ≡ refusal → P st → P (add_to v r refusal st).1
-  on_add_to v r (Some why) q st e f g h = h
-  on_add_to v r None q st e f g h = k.adds v r q st e f g h
+  on_add_to : (v : ℕ) (r : SetRow) (refusal : Option VssResult) (q : Session) → LetsGo call.Add q st → in_progress st ≡ Some r → add_refusal v r st ≡ refusal → P (add_to v r refusal st).1
+  on_add_to v r (Some why) q g e f = k.stays
+  on_add_to v r None q g e f = k.adds v r q g e f
 
-  on_add : (v : ℕ) (o : Option SetRow) (q : Session) (st : State) → LetsGo call.Add q st → in_progress st ≡ o → P st → P (add v o st).1
-  on_add v None q st e f h = h
-  on_add v (Some r) q st e f h = on_add_to v r (add_refusal v r st) q st e f refl h
+  on_add : (v : ℕ) (o : Option SetRow) (q : Session) → LetsGo call.Add q st → in_progress st ≡ o → P (add v o st).1
+  on_add v None q g e = k.stays
+  on_add v (Some r) q g e = on_add_to v r (add_refusal v r st) q g e refl
 
-  on_await : (last : Option VssResult) (st : State) → P st → P (await_last last st).1
-  on_await None st h = h
-  on_await (Some why) st h = h
+  on_await : (last : Option VssResult) → P (await_last last st).1
+  on_await None = k.stays
+  on_await (Some why) = k.stays
 
-  on_judged : (v : Verdict) (s : Plan) (lane : ℕ) (op : Op) (st : State) → (v ≡ Go → P (line_in s lane op st.session st).1) → P st → P (judged v s lane op st).1
-  on_judged Go s lane op st goes h = goes refl
-  on_judged Blocked s lane op st goes h = h
-  on_judged (Refused why) s lane op st goes h = h
+  on_judged : (v : Verdict) (lane : ℕ) (op : Op) → (v ≡ Go → P (line_in s lane op st.session st).1) → P (judged v s lane op st).1
+  on_judged Go lane op goes = goes refl
+  on_judged Blocked lane op goes = k.stays
+  on_judged (Refused why) lane op goes = k.stays
 
-  on_called : (c : SessionCall) (s : Plan) (lane : ℕ) (op : Op) (st : State) → (check st.session (runs st) lane c ≡ Go → P (line_in s lane op st.session st).1) → P st → P (called c s lane op st).1
+  on_called : (c : SessionCall) (lane : ℕ) (op : Op) → (check st.session (runs st) lane c ≡ Go → P (line_in s lane op st.session st).1) → P (called c s lane op st).1
   unfolding called
-  on_called c s lane op st goes h = on_judged (check st.session (runs st) lane c) s lane op st goes h
+  on_called c lane op goes = on_judged (check st.session (runs st) lane c) lane op goes
 
-  -- with the session of a call that goes
-  in_session : (s : Plan) (lane : ℕ) (op : Op) (st : State) (c : SessionCall) (g : Goes st.session (runs st) c) → P (session_line s lane op g.own st).1 → P (line_in s lane op st.session st).1
-  in_session s lane op st c g h = let Q : Option Session → Type 0 = λ q. P (line_in s lane op q st).1 in subst Q (sym g.is) h
+  -- a call that is the owner's alone, with its session
+  on_owned : (c : SessionCall) (lane : ℕ) (op : Op) → check_other st.session (runs st) lane c ≡ check st.session (runs st) lane c → ((g : Goes st.session (runs st) c) → P (session_line s lane op g.own st).1) → P (called c s lane op st).1
+  on_owned c lane op same goes = on_called c lane op (λ e. with_session (other_goes st.session (runs st) lane c (same ∙ e)))
+    where
+      with_session : Goes st.session (runs st) c → P (line_in s lane op st.session st).1
+      with_session g = subst (λ (q : Option Session). P (line_in s lane op q st).1) (sym g.is) (goes g)
 
-  quiet_of : (st : State) (c : SessionCall) (g : Goes st.session (runs st) c) → goes_beside_agenda c ≡ false → LetsGo c g.own st
-  quiet_of st c g e = record { stands = g.is; quiet = g.quiet e; allowed = g.allowed }
-
-  goes_of : (lane : ℕ) (st : State) (c : SessionCall) → check_other st.session (runs st) lane c ≡ Go → Goes st.session (runs st) c
-  goes_of lane st c e = other_goes st.session (runs st) lane c e
+  quiet_of : (c : SessionCall) (g : Goes st.session (runs st) c) → goes_beside_agenda c ≡ false → LetsGo c g.own st
+  quiet_of c g e = record { stands = g.is; quiet = g.quiet e; allowed = g.allowed }
 
   -- ## every line
 
-  pub on_line : (s : Plan) (lane : ℕ) (op : Op) (mark : Mark) (st : State) → IsKeptByWrites P st → ((all : Bool) (c : Option Context) → is_begin op ≡ true → st.session ≡ None → P (begin_in lane all c st).1) → (begins_agenda op ≡ true → MayBegin P st) → line_enabled s st lane op ≡ true → P st → P (line s lane op mark st).1
-  on_line s lane (WriteFill v b x) mark st at begins agendas e h =
-      on_write s v (record { block = b; bytes = payload_bytes (Fill x) }) mark st (at.puts v (not_held (is_held st v) (is_free st (acts_as s lane)) e) (record { block = b; bytes = payload_bytes (Fill x) }) mark) h
-  on_line s lane (WriteStamp v b n) mark st at begins agendas e h =
-      on_write s v (record { block = b; bytes = payload_bytes (Stamp n) }) mark st (at.puts v (not_held (is_held st v) (is_free st (acts_as s lane)) e) (record { block = b; bytes = payload_bytes (Stamp n) }) mark) h
-  on_line s lane (Read v b) mark st at begins agendas e h = h
-  on_line s lane (ImageDigest n v) mark st at begins agendas e h = on_image_blocks s v (kept_image st n v) mark st h
-  on_line s lane (ImageBlock n v b) mark st at begins agendas e h = on_image_block v b (kept_image st n v) mark st h
-  on_line s lane (Query v) mark st at begins agendas e h = h
-  on_line s lane (Properties n v) mark st at begins agendas e h = on_properties s v (kept_image st n v) st h
-  on_line s lane (Revert n v) mark st at begins agendas e h = on_revert s n v mark st at h
-  on_line s lane (DeleteSet n) mark st at begins agendas e h = on_delete_set n st h
-  on_line s lane (DeleteImage n v) mark st at begins agendas e h = on_delete_image n v st h
-  on_line s lane (Tick n) mark st at begins agendas e h = k.ticks n st h
-  on_line s lane (Begin c all) mark st at begins agendas e h = on_called (call.Begin c all) s lane (Begin c all) st (λ g. on_begin_line s lane c all st.session st (λ all x e. begins all x refl e) refl h) h
-  on_line s lane (Disable w) mark st at begins agendas e h = on_called call.Disable s lane (Disable w) st (λ g. let o = goes_of lane st call.Disable g in in_session s lane (Disable w) st call.Disable o (k.disables w o.own st (quiet_of st call.Disable o refl) h)) h
-  on_line s lane Gather mark st at begins agendas e h = on_called call.Gather s lane Gather st (λ g. let o = goes_of lane st call.Gather g in in_session s lane Gather st call.Gather o ((agendas refl).gathers s o.own (quiet_of st call.Gather o refl))) h
-  on_line s lane (Component w full) mark st at begins agendas e h = on_called call.Component s lane (Component w full) st (λ g. let o = goes_of lane st call.Component g in in_session s lane (Component w full) st call.Component o (on_component o.own o.own.mode s w (token s full) st (quiet_of st call.Component o refl) h)) h
-  on_line s lane Document mark st at begins agendas e h = on_called call.Document s lane Document st (λ g. let o = goes_of lane st call.Document g in in_session s lane Document st call.Document o h) h
-  on_line s lane Start mark st at begins agendas e h = on_called call.Start s lane Start st (λ g. let o = goes_of lane st call.Start g in in_session s lane Start st call.Start o (k.starts o.own st (quiet_of st call.Start o refl) (o.free refl) h)) h
-  on_line s lane (Add v) mark st at begins agendas e h = on_called call.Add s lane (Add v) st (λ g. let o = goes_of lane st call.Add g in in_session s lane (Add v) st call.Add o (on_add v (in_progress st) o.own st (quiet_of st call.Add o refl) refl h)) h
-  on_line s lane Prepare mark st at begins agendas e h = on_called call.Prepare s lane Prepare st (λ g. let o = goes_of lane st call.Prepare g in in_session s lane Prepare st call.Prepare o ((agendas refl).prepares s o.own (quiet_of st call.Prepare o refl))) h
-  on_line s lane Snapshot mark st at begins agendas e h = on_called call.Snapshot s lane Snapshot st (λ g. let o = goes_of lane st call.Snapshot g in in_session s lane Snapshot st call.Snapshot o ((agendas refl).snapshots o.own (quiet_of st call.Snapshot o refl))) h
-  on_line s lane Await mark st at begins agendas e h = on_called call.Await s lane Await st (λ g. let o = goes_of lane st call.Await g in in_session s lane Await st call.Await o (on_await o.own.last st h)) h
-  on_line s lane Status mark st at begins agendas e h = on_called call.Status s lane Status st (λ g. let o = goes_of lane st call.Status g in in_session s lane Status st call.Status o h) h
-  on_line s lane Complete mark st at begins agendas e h = on_called call.Complete s lane Complete st (λ g. let o = goes_of lane st call.Complete g in in_session s lane Complete st call.Complete o ((agendas refl).completes o.own (quiet_of st call.Complete o refl))) h
-  on_line s lane Abort mark st at begins agendas e h = on_called call.Abort s lane Abort st (λ g. let o = goes_of lane st call.Abort g in in_session s lane Abort st call.Abort o (k.fails AsyncCancelled st h)) h
-  on_line s lane End mark st at begins agendas e h = on_called call.End s lane End st (λ g. let o = goes_of lane st call.End g in in_session s lane End st call.End o (k.ends o.own st o.is h)) h
+  pub line_at : (lane : ℕ) (op : Op) (mark : Mark) → ((all : Bool) (c : Option Context) → is_begin op ≡ true → st.session ≡ None → P (begin_in lane all c st).1) → (begins_agenda op ≡ true → MayBegin P st) → line_enabled s st lane op ≡ true → P (line s lane op mark st).1
+  line_at lane (WriteFill v b x) mark begins agendas e = k.writes v (record { block = b; bytes = payload_bytes (Fill x) }) mark (not_held (is_held st v) (is_free st (acts_as s lane)) e)
+  line_at lane (WriteStamp v b n) mark begins agendas e = k.writes v (record { block = b; bytes = payload_bytes (Stamp n) }) mark (not_held (is_held st v) (is_free st (acts_as s lane)) e)
+  line_at lane (Read v b) mark begins agendas e = k.stays
+  line_at lane (ImageDigest n v) mark begins agendas e = on_image_blocks v (kept_image st n v) mark
+  line_at lane (ImageBlock n v b) mark begins agendas e = on_image_block v b (kept_image st n v) mark
+  line_at lane (Query v) mark begins agendas e = k.stays
+  line_at lane (Properties n v) mark begins agendas e = on_properties v (kept_image st n v)
+  line_at lane (Revert n v) mark begins agendas e = on_revert n v mark
+  line_at lane (DeleteSet n) mark begins agendas e = on_delete_set n
+  line_at lane (DeleteImage n v) mark begins agendas e = on_delete_image n v
+  line_at lane (Tick n) mark begins agendas e = k.ticks n
+  line_at lane (Begin c all) mark begins agendas e = on_called (call.Begin c all) lane (Begin c all) (λ g. on_begin_line lane c all st.session (λ all x e. begins all x refl e) refl)
+  line_at lane (Disable w) mark begins agendas e = on_owned call.Disable lane (Disable w) refl (λ g. k.disables w g.own (quiet_of call.Disable g refl))
+  line_at lane Gather mark begins agendas e = on_owned call.Gather lane Gather refl (λ g. (agendas refl).gathers s g.own (quiet_of call.Gather g refl))
+  line_at lane (Component w full) mark begins agendas e = on_owned call.Component lane (Component w full) refl (λ g. on_component g.own g.own.mode w (token s full) (quiet_of call.Component g refl))
+  line_at lane Document mark begins agendas e = on_owned call.Document lane Document refl (λ g. k.stays)
+  line_at lane Start mark begins agendas e = on_owned call.Start lane Start refl (λ g. k.starts g.own (quiet_of call.Start g refl) (g.free refl))
+  line_at lane (Add v) mark begins agendas e = on_owned call.Add lane (Add v) refl (λ g. on_add v (in_progress st) g.own (quiet_of call.Add g refl) refl)
+  line_at lane Prepare mark begins agendas e = on_owned call.Prepare lane Prepare refl (λ g. (agendas refl).prepares s g.own (quiet_of call.Prepare g refl))
+  line_at lane Snapshot mark begins agendas e = on_owned call.Snapshot lane Snapshot refl (λ g. (agendas refl).snapshots g.own (quiet_of call.Snapshot g refl))
+  line_at lane Await mark begins agendas e = on_owned call.Await lane Await refl (λ g. on_await g.own.last)
+  line_at lane Status mark begins agendas e = on_owned call.Status lane Status refl (λ g. k.stays)
+  line_at lane Complete mark begins agendas e = on_owned call.Complete lane Complete refl (λ g. (agendas refl).completes g.own (quiet_of call.Complete g refl))
+  line_at lane Abort mark begins agendas e = on_owned call.Abort lane Abort refl (λ g. k.aborts g.own g.is)
+  line_at lane End mark begins agendas e = on_owned call.End lane End refl (λ g. k.ends g.own g.is)
+
+pub on_line : (P : State → Type 0) (k : IsKeptByLines P) (s : Plan) (lane : ℕ) (op : Op) (mark : Mark) (st : State) → IsKeptByWrites P st → ((all : Bool) (c : Option Context) → is_begin op ≡ true → st.session ≡ None → P (begin_in lane all c st).1) → (begins_agenda op ≡ true → MayBegin P st) → line_enabled s st lane op ≡ true → P st → P (line s lane op mark st).1
+on_line P k s lane op mark st at begins agendas e h = line_at P s st (at_state P k s st at h) lane op mark begins agendas e
+
+-- every change, each made in one state by an act of one scenario
+pub record IsKeptAt (P : State → Type 0) (s : Plan) (st : State) : Type 0 where
+  pub lines : IsKeptByLinesAt P s st
+  pub begins : (lane : ℕ) (all : Bool) (c : Option Context) → st.session ≡ None → P (begin_in lane all c st).1
+  pub agendas : MayBegin P st
+  pub answers : (w : ℕ) (said : Said) → is_some (order_of_writer st w) ≡ true → P (answered w said st)
+  pub steps : (mark : Mark) → is_working (left_now st) ≡ true → P (stepped mark st)
+
+-- a fact that each change of one state brings about holds after every act that comes there
+module _ (P : State → Type 0) (s : Plan) (st : State) (k : IsKeptAt P s st) where
+  happens_at : (event : Event) (mark : Mark) → enabled s st event ≡ true → P (happens s event mark st).1
+  happens_at (Line lane op) mark e = line_at P s st k.lines lane op mark (λ all c f g. k.begins lane all c g) (λ f. k.agendas) e
+  happens_at (AnswerEvent w answer) mark e = k.answers w (said_of answer) e
+  happens_at Provider mark e = k.steps mark e
+  happens_at Idle mark e = k.lines.ticks (idle_now st)
+
+  after_if_at : (b : Bool) (act : Act) → enabled s st act.event ≡ b → P (after_if b s st act)
+  after_if_at true act e = happens_at act.event act.mark e
+  after_if_at false act e = k.lines.stays
+
+  pub after_at : (act : Act) → P (after s st act)
+  unfolding after
+  after_at act = after_if_at (enabled s st act.event) act refl
 
 module _ (P : State → Type 0) (k : IsKeptButSteps P) where
   -- ## every act

@@ -119,11 +119,19 @@ change_set n f st = record st { sets = map (row_changed n f) st.sets }
 abbrev pub with_volume : ℕ → SetRow → SetRow
 with_volume v r = record r { volumes = r.volumes ++ v ∷ [] }
 
+-- a set has at most so many volumes
+abbrev pub most_volumes : ℕ
+most_volumes = 64
+
+-- and a volume so many images, of which a new set's is one
+abbrev pub most_images : ℕ
+most_images = 512
+
 abbrev pub add_refusal : ℕ → SetRow → State → Option VssResult
 add_refusal v r st =
     if is_in_set v (Some r) then Some ObjectAlreadyExists
-    else if nat_le 64 (length r.volumes) then Some MaximumNumberOfVolumesReached
-    else if nat_le 512 (length (history_of st v).images) then Some MaximumNumberOfSnapshotsReached
+    else if nat_le most_volumes (length r.volumes) then Some MaximumNumberOfVolumesReached
+    else if nat_le most_images (length (history_of st v).images) then Some MaximumNumberOfSnapshotsReached
     else None
 
 abbrev pub add_to : ℕ → SetRow → Option VssResult → State → Replied

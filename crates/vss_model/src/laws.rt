@@ -5,7 +5,9 @@ ghost use Rattle.write_history.specs.declared.move_item.Move.{Move};
 ghost use Rattle.scenario.specs.Plan.{Plan, lines_of};
 ghost use Rattle.write_history.specs.History.{content, point_in};
 ghost use Rattle.write_history.specs.Slots.{Placed, copies, used_by};
-ghost use Rattle.set_agenda.specs.Agenda.{open_group, is_among, is_asking, is_working, next_member};
+ghost use Rattle.set_agenda.specs.declared.group.Group.TheVariants.{Hold, Cut, Release};
+ghost use Rattle.set_agenda.specs.Agenda.{Agenda, plain, open_group, has_said, is_among, is_asking, is_working, next_member};
+ghost use Rattle.vss_model.specs.Sessions.{most_images};
 ghost use Rattle.set_agenda.specs.Limits.{spent_of};
 ghost use Rattle.set_agenda.specs.Course.{is_member, limits_now};
 ghost use Rattle.vss_model.specs.Ending.{runs};
@@ -123,6 +125,22 @@ pub fn failed_set_keeps_no_image()
 pub fn failed_set_keeps_no_copy()
     ensures { (s : Plan) (acts : List Act) (n : ℕ) (r : SetRow) (group : List Placed) → row_of (state s acts) n ≡ Some r
         → has_failed r.result ≡ true → holds_for n (copies group (state s acts).volumes) ≡ false }
+{}
+
+/// Before its Cut each volume of the set in progress has room for one more image.
+pub fn room_for_an_image_until_the_cut()
+    ensures before { (s : Plan) (acts : List Act) (r : SetRow) (v : ℕ) → in_progress (state s acts) ≡ Some r
+        → cut s r.number acts ≡ None → is_among v r.volumes ≡ true → length (history_of (state s acts) v).images < most_images }
+    ensures at { (s : Plan) (acts : List Act) (r : SetRow) (v : ℕ) → is_cut_group (open_group (left_now (state s acts))) ≡ true
+        → in_progress (state s acts) ≡ Some r → is_among v r.volumes ≡ true → length (history_of (state s acts) v).images < most_images }
+{}
+
+/// While the Hold group is open the Cut step is not made, and nothing is said of a Release.
+pub fn hold_comes_before_cut_and_release()
+    ensures cut { (s : Plan) (acts : List Act) (a : Agenda) → open_group (left_now (state s acts)) ≡ Some Hold
+        → (state s acts).course.agenda ≡ Some a → has_said a.log (plain Cut) 0 ≡ false }
+    ensures release { (s : Plan) (acts : List Act) (a : Agenda) (v : ℕ) → open_group (left_now (state s acts)) ≡ Some Hold
+        → (state s acts).course.agenda ≡ Some a → has_said a.log (plain Release) v ≡ false }
 {}
 
 /// While no set is in progress, no volume is held and no writer stands frozen.

@@ -1,11 +1,15 @@
--- The report of a run whose devices all tell their blocks is a report.
-use Rattle.std.proofs.Common.{ℕ, ◌+◌, zero, suc, List, [], ◌∷◌, ◌++◌, take, map, Option, Some, None, refl, true}
-use Rattle.std.specs.Prelude.{slice_get}
+-- The report of a run whose devices all tell their blocks is a report, and the only one.
+use Rattle.std.proofs.Common.{◌≡◌, ◌∙◌, ap, ℕ, ◌+◌, zero, suc, List, [], ◌∷◌, ◌++◌, length, take, map, Option, Some, None, refl, true}
+use Rattle.std.specs.Prelude.{slice_get, codes}
+use Rattle.std.specs.List.{concat}
+use Rattle.std.specs.Fmt.{decimal}
+use Rattle.hex.specs.Hex.{encode_lower}
 use Rattle.block_data.specs.Digest.{sha256}
 use Rattle.write_history.specs.declared.actor.Actor.{Actor}
 use Rattle.write_history.specs.declared.mark.Mark.{Mark}
 use Rattle.write_history.specs.declared.move_item.Move.{Move}
-use Rattle.write_history.specs.History.{Image, History}
+use Rattle.write_history.specs.History.{Image, History, contents}
+use Rattle.write_history.specs.Slots.{used}
 use Rattle.scenario.specs.declared.volume_row.VolumeRow.{VolumeRow}
 use Rattle.scenario.specs.Plan.{Plan}
 use Rattle.vss_model.specs.declared.event.Event.{Event}
@@ -14,7 +18,8 @@ use Rattle.vss_model.specs.State.{State, kept}
 use Rattle.vss_model.specs.Acts.{reply}
 use Rattle.vss_model.specs.Told.{IsDigestIf, IsFirstIf}
 use Rattle.vss_model.specs.Trail.{Run, begin, run, event_of, act_of, moved}
-use Rattle.vss_report.specs.Report.{IsReplyText, IsTextOf, IsLines, AreImageTexts, AreVolumeTexts, IsReport, first_line}
+use Rattle.vss_report.specs.Words.{spaced, as_line, volume_text}
+use Rattle.vss_report.specs.Report.{IsReplyText, IsTextOf, IsMoveText, IsLines, IsVolumeText, IsImageText, AreImageTexts, AreVolumeTexts, IsReport, first_line, move_text, end_text, writers_text}
 use Rattle.vss_report.specs.ToldReport.{told_reply, told_event, told_move, told_moves, told_image, told_images, told_volume, told_volumes, told_closing, told_report, all_tell}
 
 digest_told : (rows : List VolumeRow) (v : ℕ) (bytes : List ℕ) → IsDigestIf (slice_get (map (λ _. true) rows) v) bytes (sha256 bytes)
@@ -80,3 +85,76 @@ is_told_report s trail = record {
   is_closing = record { volumes = told_volumes s (run s trail).state 0 s.volumes (run s trail).state.volumes; are_volumes = are_told_volumes s (run s trail).state 0 s.volumes (run s trail).state.volumes; is = refl };
   is = refl;
 }
+
+-- ## no other
+
+digest_only : (rows : List VolumeRow) (v : ℕ) (bytes digest : List ℕ) → IsDigestIf (slice_get (map (λ _. true) rows) v) bytes digest → digest ≡ sha256 bytes
+digest_only [] zero bytes digest h = h
+digest_only [] (suc v) bytes digest h = h
+digest_only (r ∷ rows) zero bytes digest h = h
+digest_only (r ∷ rows) (suc v) bytes digest h = digest_only rows v bytes digest h
+
+first_only : (rows : List VolumeRow) (v : ℕ) (bytes first : List ℕ) → IsFirstIf (slice_get (map (λ _. true) rows) v) bytes first → first ≡ take 8 bytes
+first_only [] zero bytes first h = h
+first_only [] (suc v) bytes first h = h
+first_only (r ∷ rows) zero bytes first h = h
+first_only (r ∷ rows) (suc v) bytes first h = first_only rows v bytes first h
+
+reply_only : (s : Plan) (reply : Reply) (text : List ℕ) → IsReplyText s (all_tell s) reply text → text ≡ told_reply s reply
+reply_only s Fine text h = h
+reply_only s Faulted text h = h
+reply_only s (FaultedAfter k) text h = h
+reply_only s (Numbered n) text h = h
+reply_only s (Coded why) text h = h
+reply_only s NotSelectable text h = h
+reply_only s (BlockOf v bytes) text h =
+    h.4 ∙ ap (λ x. codes "data " ++ encode_lower x ++ spaced (encode_lower h.1)) (first_only s.volumes v bytes h.0 h.2)
+    ∙ ap (λ x. codes "data " ++ encode_lower (take 8 bytes) ++ spaced (encode_lower x)) (digest_only s.volumes v bytes h.1 h.3)
+reply_only s (BlocksOf v blocks) text h = h.2 ∙ ap (λ x. codes "digest " ++ encode_lower x) (digest_only s.volumes v (concat blocks) h.0 h.1)
+reply_only s (KeptSets sets) text h = h
+reply_only s (PropertiesOf c cut used) text h = h
+reply_only s (Deleted k) text h = h
+reply_only s (DocumentOf bytes) text h = h
+reply_only s (StatusOf rows) text h = h
+reply_only s (Answered o a) text h = h
+reply_only s (Stepped g v fault) text h = h
+reply_only s (Idled n) text h = h
+
+event_only : (s : Plan) (r : Run) (actor : Actor) (event : Option Event) (mark : Mark) (text : List ℕ) → IsTextOf s (all_tell s) r actor event mark text → text ≡ told_event s r actor event mark
+event_only s r actor None mark text h = h
+event_only s r actor (Some event) mark text h = h.is ∙ ap (move_text s r actor (act_of mark event)) (reply_only s (reply s r.state (act_of mark event)) h.reply_text h.is_reply)
+
+both_only : (text own rest own_told rest_told : List ℕ) → text ≡ own ++ rest → own ≡ own_told → rest ≡ rest_told → text ≡ own_told ++ rest_told
+both_only text own rest own_told rest_told e f g = e ∙ ap (λ x. x ++ rest) f ∙ ap (λ x. own_told ++ x) g
+
+moves_only : (s : Plan) (r : Run) (ms : List Move) (text : List ℕ) → IsLines s (all_tell s) r ms text → text ≡ told_moves s r ms
+moves_only s r [] text h = h
+moves_only s r (m ∷ ms) text h = both_only text h.0 h.1 (told_move s r m) (told_moves s (moved s r m) ms) h.4 (event_only s r m.actor (event_of s r m.actor) m.mark h.0 h.2) (moves_only s (moved s r m) ms h.1 h.3)
+
+volume_only : (s : Plan) (v : ℕ) (row : VolumeRow) (h : History) (text : List ℕ) → IsVolumeText s (all_tell s) v row h text → text ≡ told_volume s v row h
+volume_only s v row h text is =
+    is.is ∙ ap (λ x. as_line (codes "volume " ++ volume_text s v ++ codes " used " ++ decimal (used row.blocks h.writes h.images) ++ codes " of " ++ decimal row.slots ++ spaced (encode_lower x)))
+    (digest_only s.volumes v (concat (contents row.blocks h.writes (length h.writes))) is.digest is.is_digest)
+
+image_only : (s : Plan) (v : ℕ) (row : VolumeRow) (h : History) (i : Image) (text : List ℕ) → IsImageText s (all_tell s) v row h i text → text ≡ told_image s v row h i
+image_only s v row h i text is =
+    is.is ∙ ap (λ x. as_line (codes "image " ++ decimal i.set ++ spaced (volume_text s v) ++ spaced (encode_lower x))) (digest_only s.volumes v (concat (contents row.blocks h.writes i.point)) is.digest is.is_digest)
+
+images_only : (s : Plan) (v : ℕ) (row : VolumeRow) (h : History) (images : List Image) (text : List ℕ) → AreImageTexts s (all_tell s) v row h images text → text ≡ told_images s v row h images
+images_only s v row h [] text are = are
+images_only s v row h (i ∷ images) text are = both_only text are.0 are.1 (told_image s v row h i) (told_images s v row h images) are.4 (image_only s v row h i are.0 are.2) (images_only s v row h images are.1 are.3)
+
+volumes_only : (s : Plan) (st : State) (v : ℕ) (rows : List VolumeRow) (hs : List History) (text : List ℕ) → AreVolumeTexts s (all_tell s) st v rows hs text → text ≡ told_volumes s st v rows hs
+volumes_only s st v [] hs text are = are
+volumes_only s st v (row ∷ rows) [] text are = are
+volumes_only s st v (row ∷ rows) (h ∷ hs) text are =
+    both_only text (are.0 ++ are.1) are.2 (told_volume s v row h ++ told_images s v row h (kept st h)) (told_volumes s st (v + 1) rows hs) are.6
+    (both_only (are.0 ++ are.1) are.0 are.1 (told_volume s v row h) (told_images s v row h (kept st h)) refl (volume_only s v row h are.0 are.3) (images_only s v row h (kept st h) are.1 are.4))
+    (volumes_only s st (v + 1) rows hs are.2 are.5)
+
+pub only_told_report : (s : Plan) (trail : List Move) (text : List ℕ) → IsReport s (all_tell s) trail text → text ≡ told_report s trail
+only_told_report s trail text h =
+    let r = run s trail in
+    both_only text h.so_far h.closing (first_line ++ told_moves s (begin s) trail) (told_closing s r) h.is
+    (h.is_so_far.is ∙ ap (λ x. first_line ++ x) (moves_only s (begin s) trail h.is_so_far.moves h.is_so_far.lines))
+    (h.is_closing.is ∙ ap (λ x. end_text r ++ x ++ writers_text s s.writers r.state.course.rows) (volumes_only s r.state 0 s.volumes r.state.volumes h.is_closing.volumes h.is_closing.are_volumes))

@@ -1,6 +1,6 @@
 //! What holds for every report: functions that do nothing, whose contracts are the laws.
 
-ghost use Rattle.std.specs.Prelude.{◌++◌, ◌∷◌, [], Bool, ℕ, List};
+ghost use Rattle.std.specs.Prelude.{◌≡◌, ◌++◌, ◌∷◌, [], Bool, ℕ, List};
 ghost use Rattle.write_history.specs.declared.move_item.Move.{Move};
 ghost use Rattle.scenario.specs.Plan.{Plan};
 ghost use Rattle.vss_model.specs.Trail.{run};
@@ -15,7 +15,8 @@ pub fn one_more_line()
         → IsReportSoFar s tells (trail ++ m ∷ []) (text ++ own) }
 {}
 
-/// Where every device tells its blocks, the report is one text.
+/// Where every device tells its blocks, the report is one text: that text is a report, and each report is that text.
 pub fn report_where_all_tell()
-    ensures { (s : Plan) (trail : List Move) → IsReport s (all_tell s) trail (told_report s trail) }
+    ensures report { (s : Plan) (trail : List Move) → IsReport s (all_tell s) trail (told_report s trail) }
+    ensures only { (s : Plan) (trail : List Move) (text : List ℕ) → IsReport s (all_tell s) trail text → text ≡ told_report s trail }
 {}

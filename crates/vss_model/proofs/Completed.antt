@@ -1,0 +1,629 @@
+-- A set that completes has its image on each of its volumes in that act.
+use Rattle.std.proofs.Common.{◌≡◌, ℕ, ◌+◌, ◌==◌, ◌<◌, zero, suc, List, [], ◌∷◌, ◌++◌, ◌⊎◌, Option, Some, None, refl, Bool, true, false, map, filter, length, ap, sym, ◌∙◌, subst, find, fold, inl, inr, arith}
+use Rattle.std.specs.Prelude.{is_some, option_map, ◌&&◌, ◌||◌, not, if◌then◌else◌, slice_get}
+use Rattle.std.proofs.lemmas.List.Folds.{list_any-append}
+use Rattle.vss_names.specs.declared.context.Context.{Context}
+use Rattle.vss_names.specs.declared.level.Level.TheVariants.{System, BackEnd, FrontEnd}
+use Rattle.vss_names.specs.declared.order.Order.{Order}
+use Rattle.vss_names.specs.declared.order.Order.TheVariants.{PrepareSnapshot, Freeze}
+use Rattle.vss_names.specs.declared.set_outcome.SetOutcome.{SetOutcome}
+use Rattle.vss_names.specs.declared.set_outcome.SetOutcome.TheVariants.{Running as RunningSet, Complete as CompleteSet, Failed as FailedSet}
+use Rattle.vss_names.specs.declared.vss_result.VssResult.{VssResult}
+use Rattle.vss_names.specs.declared.vss_result.VssResult.TheVariants.{InsufficientStorage, AsyncCancelled}
+use Rattle.writer_state.specs.declared.said.Said.{Said}
+use Rattle.write_history.specs.declared.mark.Mark.{Mark}
+use Rattle.write_history.specs.declared.mark.Mark.TheVariants.{Clean, Fault, FaultAfter}
+use Rattle.write_history.specs.History.{Write, Image, History, fresh, point_in, dropped, written, reverted, reverted_in_part, after_set}
+use Rattle.write_history.specs.Slots.{Placed, gone_up_to}
+use Rattle.set_agenda.specs.declared.group.Group.{Group}
+use Rattle.set_agenda.specs.declared.group.Group.TheVariants.{Orders, PreCommit, Flush, Hold, Cut, Commit, Release, PostCommit}
+use Rattle.set_agenda.specs.declared.kind.Kind.{Kind}
+use Rattle.set_agenda.specs.declared.kind.Kind.TheVariants.{Gather, Prepare, Snapshot, Complete}
+use Rattle.set_agenda.specs.declared.member.Member.{Member}
+use Rattle.set_agenda.specs.declared.place.Place.{Place}
+use Rattle.set_agenda.specs.Agenda.{Agenda, Entry, Open, plain, at_level, places, same_place, is_orders, is_snapshot, has_said, waited_for, with_group, left_from, groups_left, open_group, open_place, is_among, is_done, is_working, at_place, all_say}
+use Rattle.set_agenda.specs.Course.{Course, posted, failed as course_failed, outcome_after, settled_if, settled_in, settled, begun, answered as course_answered, stepped as course_stepped, timed as course_timed, change_at, released}
+use Rattle.requestor.specs.Session.{Session}
+use Rattle.scenario.specs.Plan.{Plan, blocks_of}
+use Rattle.vss_model.specs.State.{State, SetRow, Kept, start, is_running, is_complete, in_progress, row_of, row_changed, history_of, history_in, left_now, has_image, is_kept_set, kept_at, kept_if, kept_of, kept_image}
+use Rattle.vss_model.specs.Ending.{Ending, NothingEnds, AgendaEnds, SetFails, ending, row_settled, concluded, followed, runs, failed_in, failed}
+use Rattle.vss_model.specs.Images.{Replied, cleared, has_lost_image, set_loses_image, with_room_if, put, write, reverted_as, is_in_set}
+use Rattle.vss_model.specs.Sessions.{begin_in, new_set, new_number, start_set, change_set, with_volume, has_no_volume, closed}
+use Rattle.vss_model.specs.Steps.{answered, cut_if as image_cut_if, cut_each, with_cut, row_cut, cut_set, is_flush, is_failed_step, stepped_as, stepped, ticked, later}
+use Rattle.vss_model.specs.Acts.{Act, after, state}
+use Rattle.vss_model.specs.Cut.{is_cut_group}
+use Rattle.vss_model.specs.Facts.{NumberedFrom, has_failed}
+use Rattle.vss_model.proofs.Appending.{state-append}
+use Rattle.vss_model.proofs.Rule.{MayBegin, IsKeptByLinesAt, IsKeptAt, after_at}
+use Rattle.vss_model.proofs.Orderly.{true_not_false}
+use Rattle.vss_model.proofs.OrderlyActs.{Moves, MovesOn, moves_answered, moves_stepped, moves_timed, ending_idle, ending_on, orderly}
+use Rattle.vss_model.proofs.CourseCalls.{Settles, Says, Rests, Call, IsCall, call_answered, call_stepped, call_timed}
+use Rattle.vss_model.proofs.LogRule.{unspoken}
+use Rattle.vss_model.proofs.CutLog.{is_cut_made}
+use Rattle.vss_model.proofs.HeldOfSet.{find-row_cut, volumes-row_cut_if}
+use Rattle.vss_model.proofs.HeldWrites.{apart}
+use Rattle.vss_model.proofs.CutStep.{step_made_same, cut_step}
+use Rattle.vss_model.proofs.OneCut.{changed_number, changed_result, row_number, kept_point}
+use Rattle.vss_model.proofs.Spoken.{new_said, cut_open}
+use Rattle.vss_model.proofs.Rows.{has_complete, running_incomplete, incomplete_settled, incomplete_map, incomplete_append, complete_found}
+use Rattle.vss_model.proofs.Volumes.{at, Each, each_map, each_change, change_other, as_many_map, as_many_change, as_many_gone, as_many_cut}
+use Rattle.vss_model.proofs.FewerImages.{as_many_volumes}
+use Rattle.vss_model.proofs.Freed.{agenda-concluded}
+use Rattle.vss_model.proofs.FlushFails.{outcome_is_running}
+
+-- ## the Cut step in the log
+
+-- the Cut step of a running snapshot is made
+abbrev Made : Option Agenda → Type 0
+Made None = ⊥
+Made (Some a) = is_cut_made a.log ≡ true
+
+both_parts : (a b : Bool) → (a && b) ≡ true → (a ≡ true) × (b ≡ true)
+both_parts true b e = (refl, e)
+both_parts false b e = absurd cc
+
+-- what is said elsewhere is no Cut step
+made_back : (said : Said) (now : ℕ) (ws : List ℕ) (a : Agenda) → is_cut_group (open_group (groups_left a)) ≡ false → is_cut_made (all_say said now ws a).log ≡ true → is_cut_made a.log ≡ true
+made_back said now ws a e f =
+    by_cases (is_cut_made a.log) (has_said (map (at_place (open_place (groups_left a)) said now) ws) (plain Cut) 0) refl
+    (sym (list_any-append (λ (x : Entry). same_place x.place (plain Cut) && (x.who == 0)) a.log (map (at_place (open_place (groups_left a)) said now) ws)) ∙ f)
+  where
+    by_cases : (b c : Bool) → has_said (map (at_place (open_place (groups_left a)) said now) ws) (plain Cut) 0 ≡ c → (b || c) ≡ true → b ≡ true
+    by_cases true c g h = refl
+    by_cases false false g h = absurd cc
+    by_cases false true g h =
+        let parts = both_parts (same_place (open_place (groups_left a)) (plain Cut)) (is_among 0 ws) (new_said (open_place (groups_left a)) (plain Cut) said now 0 ws g) in
+        absurd (true_not_false (is_cut_group (open_group (groups_left a))) (cut_open (groups_left a) parts.0) e)
+
+-- where nothing is left of a snapshot's agenda, its Cut step is made
+past_group : (p : Place) (ws : List ℕ) (later : List Open) → is_done (with_group p ws later) ≡ true → is_done later ≡ true
+past_group p [] later e = e
+past_group p (w ∷ ws) later e = absurd cc
+
+past_cut : (b : Bool) (later : List Open) → is_done (with_group (plain Cut) (if not b then 0 ∷ [] else []) later) ≡ true → b ≡ true
+past_cut true later e = refl
+past_cut false later e = absurd cc
+
+done_made : (a : Agenda) → is_done (left_from a (places Snapshot)) ≡ true → is_cut_made a.log ≡ true
+done_made a e =
+    past_cut (is_cut_made a.log) _
+    (past_group (plain Hold) (waited_for a (plain Hold)) _
+    (past_group (plain Flush) (waited_for a (plain Flush)) _
+    (past_group (plain PreCommit) (waited_for a (plain PreCommit)) _
+    (past_group (at_level Freeze System) (waited_for a (at_level Freeze System)) _
+    (past_group (at_level Freeze BackEnd) (waited_for a (at_level Freeze BackEnd)) _
+    (past_group (at_level Freeze FrontEnd) (waited_for a (at_level Freeze FrontEnd)) _
+    (past_group (plain (Orders PrepareSnapshot)) (waited_for a (plain (Orders PrepareSnapshot))) _ e)))))))
+
+-- an agenda that completes the set is a snapshot's
+completes_snapshot : (k : Kind) (o p : SetOutcome) → o ≡ RunningSet → p ≡ outcome_after k o → is_complete p ≡ true → k ≡ Snapshot
+completes_snapshot Snapshot o p e f g = refl
+completes_snapshot Gather o p e f g = absurd (true_not_false (is_complete p) g (ap is_complete (f ∙ e)))
+completes_snapshot Prepare o p e f g = absurd (true_not_false (is_complete p) g (ap is_complete (f ∙ e)))
+completes_snapshot Complete o p e f g = absurd (true_not_false (is_complete p) g (ap is_complete (f ∙ e)))
+
+running_made : (done : Bool) (a : Agenda) (o : SetOutcome) (b : Option Agenda) (p : SetOutcome) → (done ≡ true → is_done (groups_left a) ≡ true) → o ≡ RunningSet → is_complete p ≡ true → Settles done a o b p → is_cut_made a.log ≡ true
+running_made false a o b p d e f s = absurd (true_not_false (is_complete p) f (ap is_complete (s.1 ∙ e)))
+running_made true a o b p d e f s =
+    let k = completes_snapshot a.kind o p e s.1 f in
+    done_made a (subst (λ x. is_done (left_from a (places x)) ≡ true) k (d refl))
+
+not_complete : (o : SetOutcome) → has_failed o ≡ true → is_complete o ≡ false
+not_complete RunningSet e = absurd cc
+not_complete CompleteSet e = absurd cc
+not_complete (FailedSet why) e = refl
+
+-- the provider's Cut step is another matter
+abbrev NoCut : Bool → List Open → Type 0
+NoCut true os = Unit {0}
+NoCut false os = is_cut_group (open_group os) ≡ false
+
+orders_no_cut : (os : List Open) → is_orders (open_place os).group ≡ true → is_cut_group (open_group os) ≡ false
+orders_no_cut [] e = refl
+orders_no_cut (x ∷ os) e = of_group x.place.group e
+  where
+    of_group : (g : Group) → is_orders g ≡ true → is_cut_group (Some g) ≡ false
+    of_group (Orders o) e = refl
+    of_group PreCommit e = absurd cc
+    of_group Flush e = absurd cc
+    of_group Hold e = absurd cc
+    of_group Cut e = absurd cc
+    of_group Commit e = absurd cc
+    of_group Release e = absurd cc
+    of_group PostCommit e = absurd cc
+
+no_cut_now : (writers : Bool) (a : Agenda) (o : SetOutcome) (b : Option Agenda) (p : SetOutcome) → NoCut writers (groups_left a) → Says writers a o b p → is_cut_group (open_group (groups_left a)) ≡ false
+no_cut_now true a o b p n c = orders_no_cut (groups_left a) c.by
+no_cut_now false a o b p n c = n
+
+-- a call that completes the set finds its Cut step made
+completes_made : (writers : Bool) (a : Option Agenda) (o : SetOutcome) (b : Option Agenda) (p : SetOutcome) → ((x : Agenda) → a ≡ Some x → NoCut writers (groups_left x)) → o ≡ RunningSet → is_complete p ≡ true → Call writers a o b p → Made a
+completes_made writers None o b p n e f c = absurd (true_not_false (is_complete p) f (ap is_complete (c.1 ∙ e)))
+completes_made writers (Some a) o b p n e f (inl c) = absurd (true_not_false (is_complete p) f (not_complete p c.failed))
+completes_made writers (Some a) o b p n e f (inr (inl c)) = running_made c.done a o b p c.is_done e f c.settles
+completes_made writers (Some a) o b p n e f (inr (inr c)) =
+    made_back c.said c.now c.ws a (no_cut_now writers a o b p (n a refl) c)
+    (running_made (is_done (groups_left (all_say c.said c.now c.ws a))) (all_say c.said c.now c.ws a) o b p (λ d. d) e f c.settles)
+
+-- what goes on was made before
+goes_made : (done : Bool) (a : Agenda) (o : SetOutcome) (b : Option Agenda) (p : SetOutcome) → Settles done a o b p → Made b → is_cut_made a.log ≡ true
+goes_made true a o b p s h = absurd (subst Made s.0 h)
+goes_made false a o b p s h = subst Made s.0 h
+
+still_made : (writers : Bool) (a : Option Agenda) (o : SetOutcome) (b : Option Agenda) (p : SetOutcome) → ((x : Agenda) → a ≡ Some x → NoCut writers (groups_left x)) → Call writers a o b p → Made b → Made a
+still_made writers None o b p n c h = subst Made c.0 h
+still_made writers (Some a) o b p n (inl c) h = absurd (subst Made c.agenda h)
+still_made writers (Some a) o b p n (inr (inl c)) h = goes_made c.done a o b p c.settles h
+still_made writers (Some a) o b p n (inr (inr c)) h =
+    made_back c.said c.now c.ws a (no_cut_now writers a o b p (n a refl) c)
+    (goes_made (is_done (groups_left (all_say c.said c.now c.ws a))) (all_say c.said c.now c.ws a) o b p c.settles h)
+
+-- ## images that stand
+
+-- the image of set n stands on each of these volumes that there is
+abbrev Imaged : ℕ → List ℕ → List History → Type 0
+Imaged n vs hs = (v : ℕ) → is_among v vs ≡ true → v < length hs → has_image n (at hs v) ≡ true
+
+-- set n keeps its image
+abbrev KeepsImage : ℕ → History → History → Type 0
+KeepsImage n h k = has_image n h ≡ true → has_image n k ≡ true
+
+imaged_along : (n : ℕ) (vs : List ℕ) (hs ks : List History) → length ks ≡ length hs → Each (KeepsImage n) hs ks → Imaged n vs hs → Imaged n vs ks
+imaged_along n vs hs ks e keeps h v f l = keeps v (h v f (subst (λ m. v < m) e l))
+
+-- the images of another set go
+other_dropped : (m n : ℕ) (images : List Image) → (m == n) ≡ false → is_some (point_in n images) ≡ true → is_some (point_in n (filter (λ i. not (i.set == m)) images)) ≡ true
+other_dropped m n [] e f = f
+other_dropped m n (i ∷ images) e f = by_test (i.set == m) (i.set == n) refl refl f (other_dropped m n images e)
+  where
+    apart_from : (a m n : ℕ) → (a == m) ≡ true → (a == n) ≡ true → (m == n) ≡ false → ⊥
+    apart_from a m n e f g = grind arith
+
+    found : (b : Bool) → b ≡ true → is_some (if b then Some i.point else point_in n (filter (λ i. not (i.set == m)) images)) ≡ true
+    found true e = refl
+    found false e = absurd cc
+
+    later_found : (b : Bool) → is_some (point_in n (filter (λ i. not (i.set == m)) images)) ≡ true → is_some (if b then Some i.point else point_in n (filter (λ i. not (i.set == m)) images)) ≡ true
+    later_found true h = refl
+    later_found false h = h
+
+    by_test : (b c : Bool) → (i.set == m) ≡ b → (i.set == n) ≡ c → is_some (if c then Some i.point else point_in n images) ≡ true
+        → (is_some (point_in n images) ≡ true → is_some (point_in n (filter (λ i. not (i.set == m)) images)) ≡ true)
+        → is_some (point_in n (if not b then i ∷ filter (λ i. not (i.set == m)) images else filter (λ i. not (i.set == m)) images)) ≡ true
+    by_test true true g h f ih = absurd (apart_from i.set m n g h e)
+    by_test true false g h f ih = ih f
+    by_test false true g h f ih = found (i.set == n) h
+    by_test false false g h f ih = later_found (i.set == n) (ih f)
+
+keeps_dropped : (m n : ℕ) → (m == n) ≡ false → (h : History) → KeepsImage n h (dropped m h)
+keeps_dropped m n e h f = other_dropped m n h.images e f
+
+keeps_same : (n : ℕ) (h : History) → KeepsImage n h h
+keeps_same n h e = e
+
+-- no image of the set went
+none_lost : (n m : ℕ) (ps : List Placed) (hs : List History) → has_lost_image n hs (gone_up_to m ps hs) ≡ false → Each (KeepsImage n) hs (gone_up_to m ps hs)
+none_lost n m [] hs e v f = f
+none_lost n m (p ∷ ps) [] e v f = f
+none_lost n m (p ∷ ps) (x ∷ hs) e zero f = here (has_image n x) (has_image n (at (gone_up_to m (p ∷ ps) (x ∷ hs)) 0)) (has_lost_image n hs (gone_up_to m ps hs)) e f
+  where
+    here : (a b c : Bool) → ((a && not b) || c) ≡ false → a ≡ true → b ≡ true
+    here true true c e f = refl
+    here true false c e f = absurd cc
+    here false b c e f = absurd cc
+none_lost n m (p ∷ ps) (x ∷ hs) e (suc v) f = none_lost n m ps hs (later (has_image n x && not (has_image n (at (gone_up_to m (p ∷ ps) (x ∷ hs)) 0))) (has_lost_image n hs (gone_up_to m ps hs)) e) v f
+  where
+    later : (a b : Bool) → (a || b) ≡ false → b ≡ false
+    later true b e = absurd cc
+    later false b e = e
+
+-- the images that the Cut step gives
+last_has : (images : List Image) (n p : ℕ) → is_some (point_in n (images ++ record { set = n; point = p } ∷ [])) ≡ true
+last_has [] n p = found (n == n) (own n)
+  where
+    own : (a : ℕ) → (a == a) ≡ true
+    own a = grind arith
+
+    found : (b : Bool) → b ≡ true → is_some (if b then Some p else None) ≡ true
+    found true e = refl
+    found false e = absurd cc
+last_has (i ∷ images) n p = by_head (i.set == n) (last_has images n p)
+  where
+    by_head : (b : Bool) → is_some (point_in n (images ++ record { set = n; point = p } ∷ [])) ≡ true → is_some (if b then Some i.point else point_in n (images ++ record { set = n; point = p } ∷ [])) ≡ true
+    by_head true h = refl
+    by_head false h = h
+
+cut_has : (b : Bool) (n : ℕ) (x : History) → b ≡ true → has_image n (image_cut_if b n x) ≡ true
+cut_has true n x e = last_has x.images n _
+cut_has false n x e = absurd cc
+
+cut_images : (n : ℕ) (vs : List ℕ) (u v : ℕ) (hs : List History) → is_among (u + v) vs ≡ true → v < length hs → has_image n (at (cut_each n vs u hs) v) ≡ true
+cut_images n vs u v [] e l = absurd (omega (arith, l))
+cut_images n vs u zero (x ∷ hs) e l = cut_has (is_among u vs) n x (subst (λ w. is_among w vs ≡ true) (less u) e)
+  where
+    less : (a : ℕ) → a + zero ≡ a
+    less a = omega arith
+cut_images n vs u (suc v) (x ∷ hs) e l = cut_images n vs (u + 1) v hs (subst (λ w. is_among w vs ≡ true) (shift u v) e) (fewer v (length hs) l)
+  where
+    shift : (a b : ℕ) → a + suc b ≡ (a + 1) + b
+    shift a b = omega arith
+
+    fewer : (a b : ℕ) → suc a < suc b → a < b
+    fewer a b l = omega (arith, l)
+
+imaged_cut : (n : ℕ) (vs : List ℕ) (hs : List History) → Imaged n vs (cut_each n vs 0 hs)
+imaged_cut n vs hs v e l = cut_images n vs 0 v hs (subst (λ w. is_among w vs ≡ true) (plus v) e) (subst (λ m. v < m) (as_many_cut n vs 0 hs) l)
+  where
+    plus : (a : ℕ) → a ≡ 0 + a
+    plus a = omega arith
+
+-- ## while the set is in progress
+
+-- once the Cut step of the running snapshot is made, the set in progress has its images
+abbrev IsImaged : State → Type 0
+IsImaged st = (r : SetRow) → in_progress st ≡ Some r → Made st.course.agenda → Imaged r.number r.volumes st.volumes
+
+clash : {X : Type 0} (o : Option SetRow) (r : SetRow) → o ≡ None → o ≡ Some r → X
+clash None r e f = absurd cc
+clash (Some q) r e f = absurd cc
+
+imaged_none : (x : State) → x.course.agenda ≡ None → IsImaged x
+imaged_none x e r f m = absurd (subst Made e m)
+
+none_runs : (a : Option Agenda) → is_some a ≡ false → a ≡ None
+none_runs None e = refl
+none_runs (Some a) e = absurd cc
+
+imaged_ends : (a b : Option Agenda) (c : Course) (x : State) → c.agenda ≡ b → Moves a x.course.outcome b c.outcome → ((r : SetRow) → in_progress x ≡ Some r → Made b → Imaged r.number r.volumes x.volumes)
+    → IsImaged (concluded (ending x.course.outcome c.outcome (is_some a) b) (record x { course = c }))
+imaged_ends None None c x e m h = imaged_none (concluded (ending x.course.outcome c.outcome false None) (record x { course = c })) (agenda-concluded (ending x.course.outcome c.outcome false None) (record x { course = c }) ∙ e)
+imaged_ends (Some a) None c x e m h = imaged_none (concluded (ending x.course.outcome c.outcome true None) (record x { course = c })) (agenda-concluded (ending x.course.outcome c.outcome true None) (record x { course = c }) ∙ e)
+imaged_ends None (Some b) c x e m h = absurd m
+imaged_ends (Some a) (Some b) c x e m h =
+    subst (λ end. IsImaged (concluded end (record x { course = c }))) (sym (ending_on x.course.outcome c.outcome true b m.1)) (λ r f made. h r f (subst Made e made))
+
+imaged_followed : (c : Course) (x : State) → MovesOn x.course c → ((r : SetRow) → in_progress x ≡ Some r → Made c.agenda → Imaged r.number r.volumes x.volumes) → IsImaged (followed (runs x) c x)
+unfolding followed
+imaged_followed c x m h = imaged_ends x.course.agenda c.agenda c x refl m h
+
+imaged_answers : (w : ℕ) (said : Said) (st : State) → IsImaged st → IsImaged (answered w said st)
+unfolding answered
+imaged_answers w said st h =
+    imaged_followed _ st (moves_answered w said st.clock st.course) (λ r e m. h r e (still_made true st.course.agenda st.course.outcome _ _ (λ x f. tt) (call_answered w said st.clock st.course) m))
+
+imaged_ticks : (k : ℕ) (st : State) → IsImaged st → IsImaged (ticked k st)
+unfolding ticked
+imaged_ticks k st h =
+    imaged_followed _ (later k st) (moves_timed (st.clock + k) st.course) (λ r e m. h r e (still_made true st.course.agenda st.course.outcome _ _ (λ x f. tt) (call_timed (st.clock + k) st.course) m))
+
+-- a step that is not the Cut's
+no_cut_at : (st : State) (a : Agenda) → is_cut_group (open_group (left_now st)) ≡ false → st.course.agenda ≡ Some a → NoCut false (groups_left a)
+no_cut_at st a e f = subst (λ (o : Option Agenda). is_cut_group (open_group (left_of o)) ≡ false) f e
+  where
+    left_of : Option Agenda → List Open
+    left_of None = []
+    left_of (Some x) = groups_left x
+
+imaged_stepped_as : (fails : Bool) (g : Option Group) (st : State) → is_cut_group g ≡ false → is_cut_group (open_group (left_now st)) ≡ false → is_working (left_now st) ≡ true → IsImaged st → IsImaged (stepped_as fails g st)
+imaged_stepped_as true g st e f w h =
+    imaged_followed _ st (moves_stepped false st.clock st.course w) (λ r i m. h r i (still_made false st.course.agenda st.course.outcome _ _ (λ x j. no_cut_at st x f j) (call_stepped false st.clock st.course w) m))
+imaged_stepped_as false g st e f w h =
+    subst (λ x. IsImaged (followed (runs st) (course_stepped true st.clock st.course) x)) (sym (step_made_same g st e))
+    (imaged_followed _ st (moves_stepped true st.clock st.course w) (λ r i m. h r i (still_made false st.course.agenda st.course.outcome _ _ (λ x j. no_cut_at st x f j) (call_stepped true st.clock st.course w) m)))
+
+imaged_steps : (mark : Mark) (st : State) → is_cut_group (open_group (left_now st)) ≡ false → is_working (left_now st) ≡ true → IsImaged st → IsImaged (stepped mark st)
+unfolding stepped
+imaged_steps mark st e w h = imaged_stepped_as (is_failed_step (is_flush (open_group (left_now st))) mark) (open_group (left_now st)) st e e w h
+
+-- the Cut step gives the images
+some_same : (q r : SetRow) → Some q ≡ Some r → q ≡ r
+some_same q r e = cc
+
+imaged_by_cut : (q : SetRow) (st : State) (r : SetRow) → in_progress st ≡ Some q → in_progress (cut_set (Some q) st) ≡ Some r → Imaged r.number r.volumes (cut_set (Some q) st).volumes
+imaged_by_cut q st r e f =
+    let found : Some (row_cut q.number st.clock q) ≡ Some r = sym (find-row_cut q.number st.clock st.sets ∙ ap (option_map (row_cut q.number st.clock)) e) ∙ f in
+    subst (λ (x : SetRow). Imaged x.number x.volumes (cut_each q.number q.volumes 0 st.volumes)) (some_same (row_cut q.number st.clock q) r found)
+    (subst (λ n. Imaged n (row_cut q.number st.clock q).volumes (cut_each q.number q.volumes 0 st.volumes)) (sym (number_cut (q.number == q.number) st.clock q))
+    (subst (λ vs. Imaged q.number vs (cut_each q.number q.volumes 0 st.volumes)) (sym (volumes-row_cut_if (q.number == q.number) st.clock q)) (imaged_cut q.number q.volumes st.volumes)))
+  where
+    number_cut : (b : Bool) (now : ℕ) (x : SetRow) → (if b then record x { cut_at = Some now } else x).number ≡ x.number
+    number_cut true now x = refl
+    number_cut false now x = refl
+
+imaged_at_cut : (o : Option SetRow) (st : State) → in_progress st ≡ o → is_working (left_now st) ≡ true → IsImaged (followed (runs st) (course_stepped true st.clock st.course) (cut_set o st))
+imaged_at_cut None st e w = imaged_followed (course_stepped true st.clock st.course) st (moves_stepped true st.clock st.course w) (λ r f m. clash (in_progress st) r e f)
+imaged_at_cut (Some q) st e w =
+    imaged_followed (course_stepped true st.clock st.course) (cut_set (Some q) st) (moves_stepped true st.clock st.course w) (λ r f m. imaged_by_cut q st r e f)
+
+imaged_step : (b : Bool) (mark : Mark) (st : State) → is_cut_group (open_group (left_now st)) ≡ b → is_working (left_now st) ≡ true → IsImaged st → IsImaged (stepped mark st)
+imaged_step false mark st e w h = imaged_steps mark st e w h
+imaged_step true mark st e w h = subst IsImaged (sym (cut_step mark st e)) (imaged_at_cut (in_progress st) st refl w)
+
+-- ## writes, deletions and reverts
+
+imaged_failed : (o : Option SetRow) (why : VssResult) (x : State) → in_progress x ≡ o → IsImaged (failed_in o why x)
+unfolding course_failed
+imaged_failed None why x e = λ r f m. clash (in_progress x) r e f
+imaged_failed (Some q) why x e = imaged_none (failed_in (Some q) why x) refl
+
+imaged_room : (b : Bool) (s : Plan) (v u : ℕ) (st : State) → set_loses_image (in_progress st) st.volumes (cleared s v u st).volumes ≡ b → IsImaged st → IsImaged (with_room_if b (cleared s v u st))
+imaged_room true s v u st e h = imaged_failed (in_progress st) InsufficientStorage (cleared s v u st) refl
+imaged_room false s v u st e h = λ r f m.
+    imaged_along r.number r.volumes st.volumes (cleared s v u st).volumes (as_many_gone _ _ st.volumes)
+    (none_lost r.number _ _ st.volumes (subst (λ o. set_loses_image o st.volumes (cleared s v u st).volumes ≡ false) f e)) (h r f m)
+
+imaged_put : (v : ℕ) (w : Write) (mark : Mark) (x : State) → IsImaged x → IsImaged (put v w mark x)
+imaged_put v w Clean x h = λ r e m.
+    imaged_along r.number r.volumes x.volumes (change_at v (written w) x.volumes) (as_many_change (written w) v x.volumes)
+    (each_change (KeepsImage r.number) (keeps_same r.number) (written w) (λ y f. f) v x.volumes) (h r e m)
+imaged_put v w Fault x h = h
+imaged_put v w (FaultAfter k) x h = h
+
+imaged_write : (s : Plan) (v : ℕ) (w : Write) (mark : Mark) (st : State) → IsImaged st → IsImaged (write s v w mark st).1
+unfolding write
+imaged_write s v w mark st h = imaged_put v w mark _ (imaged_room (set_loses_image (in_progress st) st.volumes (cleared s v w.block st).volumes) s v w.block st refl h)
+
+-- a volume that the set has not changes
+imaged_other : (f : History → History) (v : ℕ) (st : State) → is_in_set v (in_progress st) ≡ false → IsImaged st → IsImaged (record st { volumes = change_at v f st.volumes })
+imaged_other f v st e h r g m u i l =
+    subst (λ x. has_image r.number x ≡ true) (sym (change_other f v st.volumes u (apart (λ x. is_among x r.volumes) v u (subst (λ o. is_in_set v o ≡ false) g e) i)))
+    (h r g m u i (subst (λ n. u < n) (as_many_change f v st.volumes) l))
+
+imaged_revert : (s : Plan) (v : ℕ) (k : Kept) (mark : Mark) (st : State) → is_in_set v (in_progress st) ≡ false → IsImaged st → IsImaged (reverted_as s v k mark st).1
+imaged_revert s v k Clean st e h = imaged_other (reverted k.row.number k.point) v st e h
+imaged_revert s v k Fault st e h = h
+imaged_revert s v k (FaultAfter n) st e h = imaged_other (reverted_in_part (blocks_of s v) k.row.number k.point n) v st e h
+
+-- a complete set is not the one in progress
+complete_other : (st : State) (m : ℕ) (r : SetRow) → NumberedFrom 1 st.sets → in_progress st ≡ Some r → has_complete st.sets m ≡ true → (m == r.number) ≡ false
+complete_other st m r h e f = flip r.number m (apart (has_complete st.sets) r.number m (running_incomplete st.sets r h e) f)
+  where
+    flip : (a b : ℕ) → (a == b) ≡ false → (b == a) ≡ false
+    flip a b e = grind arith
+
+imaged_deletes_set : (n : ℕ) (st : State) → NumberedFrom 1 st.sets → has_complete st.sets n ≡ true → IsImaged st → IsImaged (record st { volumes = map (dropped n) st.volumes })
+imaged_deletes_set n st o e h r f m =
+    imaged_along r.number r.volumes st.volumes (map (dropped n) st.volumes) (as_many_map (dropped n) st.volumes)
+    (each_map (KeepsImage r.number) (keeps_same r.number) (dropped n) (keeps_dropped n r.number (complete_other st n r o f e)) st.volumes) (h r f m)
+
+kept_complete : (b : Bool) (r : SetRow) (p : Option ℕ) (k : Kept) → kept_if b r p ≡ Some k → b ≡ true
+kept_complete true r p k e = refl
+kept_complete false r p k e = absurd cc
+
+kept_has_complete : (n : ℕ) (rows : List SetRow) (o : Option SetRow) (p : Option ℕ) (k : Kept) → find (λ q. q.number == n) rows ≡ o → kept_of o p ≡ Some k → has_complete rows k.row.number ≡ true
+kept_has_complete n rows None p k e f = absurd cc
+kept_has_complete n rows (Some r) p k e f =
+    let number = kept_point n (Some r) p k (λ x g. row_number n rows x (e ∙ g)) f in
+    subst (λ m. has_complete rows m ≡ true) (sym number.0) (complete_found 1 n rows r e (kept_complete (is_complete r.result) r p k f))
+
+imaged_deletes_image : (n v : ℕ) (k : Kept) (st : State) → NumberedFrom 1 st.sets → kept_image st n v ≡ Some k → IsImaged st → IsImaged (record st { volumes = change_at v (dropped k.row.number) st.volumes })
+imaged_deletes_image n v k st o e h r f m =
+    let other = complete_other st k.row.number r o f (kept_has_complete n st.sets (row_of st n) (point_in n (history_of st v).images) k refl e) in
+    imaged_along r.number r.volumes st.volumes (change_at v (dropped k.row.number) st.volumes) (as_many_change (dropped k.row.number) v st.volumes)
+    (each_change (KeepsImage r.number) (keeps_same r.number) (dropped k.row.number) (keeps_dropped k.row.number r.number other) v st.volumes) (h r f m)
+
+-- ## session calls
+
+imaged_begin : (lane : ℕ) (all : Bool) (c : Option Context) (st : State) → IsImaged st → IsImaged (begin_in lane all c st).1
+imaged_begin lane all None st h = h
+imaged_begin lane all (Some c) st h = h
+
+unmade_if : (done : Bool) (k j : Kind) (ms : List Member) (vs : List ℕ) (now : ℕ) (c : Course) → Made (settled_if done j (record c { agenda = Some (unspoken k ms vs now) })).agenda → ⊥
+unmade_if true k j ms vs now c m = m
+unmade_if false k j ms vs now c m = cc
+
+unmade_begun : (k : Kind) (ms : List Member) (vs : List ℕ) (now : ℕ) (c : Course) → Made (begun k ms vs now c).agenda → ⊥
+unfolding begun posted settled
+unmade_begun k ms vs now c m = unmade_if (is_done (groups_left (unspoken k ms vs now))) k k ms vs now c m
+
+agenda_followed : (ran : Bool) (c : Course) (st : State) → (followed ran c st).course.agenda ≡ c.agenda
+unfolding followed
+agenda_followed ran c st = agenda-concluded (ending st.course.outcome c.outcome ran c.agenda) (record st { course = c })
+
+imaged_begun : (k : Kind) (ms : List Member) (vs : List ℕ) (now : ℕ) (c : Course) (st : State) → IsImaged (followed true (begun k ms vs now c) st)
+imaged_begun k ms vs now c st r e m = absurd (unmade_begun k ms vs now c (subst Made (agenda_followed true (begun k ms vs now c) st) m))
+
+imaged_end : (q : Session) (st : State) → IsImaged (closed q st)
+unfolding closed released
+imaged_end q st r e m = absurd m
+
+imaged_either : (b : Bool) (x y : Replied) → IsImaged x.1 → IsImaged y.1 → IsImaged (if b then x else y).1
+imaged_either true x y h i = h
+imaged_either false x y h i = i
+
+imaged_at : (s : Plan) (st : State) → NumberedFrom 1 st.sets → IsImaged st → IsKeptAt IsImaged s st
+imaged_at s st o h = record {
+  lines = record {
+    stays = h;
+    writes = λ v w mark f. imaged_write s v w mark st h;
+    reverts = λ n v k mark f g. imaged_revert s v k mark st g h;
+    ticks = λ k. imaged_ticks k st h;
+    deletes_set = λ n f. imaged_deletes_set n st o f h;
+    deletes_image = λ n v k f. imaged_deletes_image n v k st o f h;
+    names = λ w name q explicit g f. h;
+    disables = λ w q g. h;
+    starts = λ q g f. imaged_none (start_set q st).1 (none_runs st.course.agenda g.quiet);
+    adds = λ v r q g f i. imaged_none (change_set r.number (with_volume v) st) (none_runs st.course.agenda g.quiet);
+    aborts = λ q f. imaged_failed (in_progress st) AsyncCancelled st refl;
+    ends = λ q f. imaged_end q (failed AsyncCancelled st);
+  };
+  begins = λ lane all c g. imaged_begin lane all c st h;
+  agendas = record {
+    gathers = λ p q g. imaged_begun Gather _ [] st.clock _ st;
+    prepares = λ p q g. imaged_either (has_no_volume (in_progress st)) _ _ h (imaged_begun Prepare _ [] st.clock _ st);
+    snapshots = λ q g. imaged_either (has_no_volume (in_progress st)) _ _ h (imaged_begun Snapshot st.course.members _ st.clock st.course st);
+    completes = λ q g. imaged_begun Complete _ [] st.clock _ st;
+  };
+  answers = λ w said g. imaged_answers w said st h;
+  steps = λ mark g. imaged_step (is_cut_group (open_group (left_now st))) mark st refl g h;
+}
+
+imaged_from : (s : Plan) (past acts : List Act) → IsImaged (state s past) → IsImaged (fold (after s) (state s past) acts)
+imaged_from s past [] h = h
+imaged_from s past (act ∷ acts) h =
+    subst (λ st. IsImaged (fold (after s) st acts)) (state-append s past act)
+    (imaged_from s (past ++ act ∷ []) acts (subst IsImaged (sym (state-append s past act)) (after_at IsImaged s (state s past) (imaged_at s (state s past) (orderly s past).numbered h) act)))
+
+imaged : (s : Plan) (acts : List Act) → IsImaged (state s acts)
+imaged s acts = imaged_from s [] acts (λ r e m. absurd m)
+
+-- ## an act that completes the set
+
+-- set n is not complete, or its image stands on each of these volumes
+abbrev Done : ℕ → List ℕ → State → Type 0
+Done n vs st = (has_complete st.sets n ≡ false) ⊎ Imaged n vs st.volumes
+
+volumes_ended : (o p : SetOutcome) (ran : Bool) (a : Option Agenda) (x : State) → is_complete p ≡ true → (concluded (ending o p ran a) x).volumes ≡ x.volumes
+volumes_ended o RunningSet ran a x e = absurd cc
+volumes_ended o (FailedSet why) ran a x e = absurd cc
+volumes_ended RunningSet CompleteSet true None x e = refl
+volumes_ended RunningSet CompleteSet true (Some a) x e = refl
+volumes_ended RunningSet CompleteSet false a x e = refl
+volumes_ended CompleteSet CompleteSet true None x e = refl
+volumes_ended CompleteSet CompleteSet true (Some a) x e = refl
+volumes_ended CompleteSet CompleteSet false a x e = refl
+volumes_ended (FailedSet why) CompleteSet true None x e = refl
+volumes_ended (FailedSet why) CompleteSet true (Some a) x e = refl
+volumes_ended (FailedSet why) CompleteSet false a x e = refl
+
+incomplete_ended : (e : Ending) (n : ℕ) (x : State) → is_complete x.course.outcome ≡ false → has_complete x.sets n ≡ false → has_complete (concluded e x).sets n ≡ false
+incomplete_ended NothingEnds n x e h = h
+incomplete_ended AgendaEnds n x e h = incomplete_settled x.course.outcome n x.sets e h
+incomplete_ended (SetFails why) n x e h = incomplete_settled x.course.outcome n x.sets e h
+
+module _ (n : ℕ) (vs : List ℕ) where
+  done_if : (b : Bool) (ran : Bool) (c : Course) (x : State) → is_complete c.outcome ≡ b → has_complete x.sets n ≡ false → (b ≡ true → Imaged n vs x.volumes) → Done n vs (concluded (ending x.course.outcome c.outcome ran c.agenda) (record x { course = c }))
+  done_if true ran c x e h images = inr (subst (Imaged n vs) (sym (volumes_ended x.course.outcome c.outcome ran c.agenda (record x { course = c }) e)) (images refl))
+  done_if false ran c x e h images = inl (incomplete_ended (ending x.course.outcome c.outcome ran c.agenda) n (record x { course = c }) e h)
+
+  done_followed : (ran : Bool) (c : Course) (x : State) → has_complete x.sets n ≡ false → (is_complete c.outcome ≡ true → Imaged n vs x.volumes) → Done n vs (followed ran c x)
+  unfolding followed
+  done_followed ran c x h images = done_if (is_complete c.outcome) ran c x refl h images
+
+  done_failed : (o : Option SetRow) (why : VssResult) (x : State) → has_complete x.sets n ≡ false → has_complete (failed_in o why x).sets n ≡ false
+  unfolding course_failed
+  done_failed None why x h = h
+  done_failed (Some r) why x h = incomplete_settled (FailedSet why) n x.sets refl h
+
+  done_room : (b : Bool) (x : State) → has_complete x.sets n ≡ false → has_complete (with_room_if b x).sets n ≡ false
+  done_room true x h = done_failed (in_progress x) InsufficientStorage x h
+  done_room false x h = h
+
+  done_put : (v : ℕ) (w : Write) (mark : Mark) (x : State) → has_complete x.sets n ≡ false → has_complete (put v w mark x).sets n ≡ false
+  done_put v w Clean x h = h
+  done_put v w Fault x h = h
+  done_put v w (FaultAfter k) x h = h
+
+  done_write : (s : Plan) (v : ℕ) (w : Write) (mark : Mark) (st : State) → has_complete st.sets n ≡ false → Done n vs (write s v w mark st).1
+  unfolding write
+  done_write s v w mark st h = inl (done_put v w mark _ (done_room (set_loses_image (in_progress st) st.volumes (cleared s v w.block st).volumes) (cleared s v w.block st) h))
+
+  done_revert : (s : Plan) (v : ℕ) (k : Kept) (mark : Mark) (st : State) → has_complete st.sets n ≡ false → Done n vs (reverted_as s v k mark st).1
+  done_revert s v k Clean st h = inl h
+  done_revert s v k Fault st h = inl h
+  done_revert s v k (FaultAfter m) st h = inl h
+
+  done_begin : (lane : ℕ) (all : Bool) (c : Option Context) (st : State) → has_complete st.sets n ≡ false → Done n vs (begin_in lane all c st).1
+  done_begin lane all None st h = inl h
+  done_begin lane all (Some c) st h = inl h
+
+  done_end : (q : Session) (x : State) → has_complete x.sets n ≡ false → Done n vs (closed q x)
+  unfolding closed
+  done_end q x h = inl h
+
+  done_either : (b : Bool) (x y : Replied) → Done n vs x.1 → Done n vs y.1 → Done n vs (if b then x else y).1
+  done_either true x y h i = h
+  done_either false x y h i = i
+
+  done_answers : (w : ℕ) (said : Said) (st : State) → st.course.outcome ≡ RunningSet → has_complete st.sets n ≡ false → (Made st.course.agenda → Imaged n vs st.volumes) → Done n vs (answered w said st)
+  unfolding answered
+  done_answers w said st run h images =
+      done_followed (runs st) _ st h (λ f. images (completes_made true st.course.agenda st.course.outcome _ _ (λ x g. tt) run f (call_answered w said st.clock st.course)))
+
+  done_ticks : (k : ℕ) (st : State) → st.course.outcome ≡ RunningSet → has_complete st.sets n ≡ false → (Made st.course.agenda → Imaged n vs st.volumes) → Done n vs (ticked k st)
+  unfolding ticked
+  done_ticks k st run h images =
+      done_followed (runs st) _ (later k st) h (λ f. images (completes_made true st.course.agenda st.course.outcome _ _ (λ x g. tt) run f (call_timed (st.clock + k) st.course)))
+
+  done_stepped_as : (fails : Bool) (g : Option Group) (st : State) → is_cut_group g ≡ false → is_cut_group (open_group (left_now st)) ≡ false → is_working (left_now st) ≡ true → st.course.outcome ≡ RunningSet → has_complete st.sets n ≡ false → (Made st.course.agenda → Imaged n vs st.volumes) → Done n vs (stepped_as fails g st)
+  done_stepped_as true g st e c w run h images =
+      done_followed (runs st) _ st h (λ f. images (completes_made false st.course.agenda st.course.outcome _ _ (λ x i. no_cut_at st x c i) run f (call_stepped false st.clock st.course w)))
+  done_stepped_as false g st e c w run h images =
+      subst (λ x. Done n vs (followed (runs st) (course_stepped true st.clock st.course) x)) (sym (step_made_same g st e))
+      (done_followed (runs st) _ st h (λ f. images (completes_made false st.course.agenda st.course.outcome _ _ (λ x i. no_cut_at st x c i) run f (call_stepped true st.clock st.course w))))
+
+  done_steps : (mark : Mark) (st : State) → is_cut_group (open_group (left_now st)) ≡ false → is_working (left_now st) ≡ true → st.course.outcome ≡ RunningSet → has_complete st.sets n ≡ false → (Made st.course.agenda → Imaged n vs st.volumes) → Done n vs (stepped mark st)
+  unfolding stepped
+  done_steps mark st c w run h images = done_stepped_as (is_failed_step (is_flush (open_group (left_now st))) mark) (open_group (left_now st)) st c c w run h images
+
+-- an agenda that begins does not complete the set
+begun_incomplete_if : (done : Bool) (k : Kind) (ms : List Member) (vs : List ℕ) (now : ℕ) (c : Course) → is_done (groups_left (unspoken k ms vs now)) ≡ done → c.outcome ≡ RunningSet
+    → is_complete (settled_if done k (record c { agenda = Some (unspoken k ms vs now) })).outcome ≡ true → ⊥
+begun_incomplete_if false k ms vs now c d e f = true_not_false (is_complete c.outcome) f (ap is_complete e)
+begun_incomplete_if true k ms vs now c d e f =
+    let snapshot = completes_snapshot k c.outcome (outcome_after k c.outcome) e refl f in
+    nothing (done_made (unspoken k ms vs now) (subst (λ x. is_done (left_from (unspoken k ms vs now) (places x)) ≡ true) snapshot d))
+  where
+    nothing : is_cut_made [] ≡ true → ⊥
+    nothing g = cc
+
+begun_incomplete : (k : Kind) (ms : List Member) (vs : List ℕ) (now : ℕ) (c : Course) → c.outcome ≡ RunningSet → is_complete (begun k ms vs now c).outcome ≡ true → ⊥
+unfolding begun posted settled
+begun_incomplete k ms vs now c e f = begun_incomplete_if (is_done (groups_left (unspoken k ms vs now))) k ms vs now c refl e f
+
+done_begun : (n : ℕ) (us : List ℕ) (k : Kind) (ms : List Member) (vs : List ℕ) (now : ℕ) (c : Course) (st : State) → c.outcome ≡ RunningSet → has_complete st.sets n ≡ false → Done n us (followed true (begun k ms vs now c) st)
+done_begun n us k ms vs now c st e h = done_followed n us true (begun k ms vs now c) st h (λ f. absurd (begun_incomplete k ms vs now c e f))
+
+-- the Cut step
+done_at_cut : (r : SetRow) (o : Option SetRow) (st : State) → o ≡ Some r → has_complete st.sets r.number ≡ false → Done r.number r.volumes (followed (runs st) (course_stepped true st.clock st.course) (cut_set o st))
+done_at_cut r None st e h = absurd cc
+done_at_cut r (Some q) st e h =
+    subst (λ (x : SetRow). Done r.number r.volumes (followed (runs st) (course_stepped true st.clock st.course) (cut_set (Some x) st))) (sym (some_same q r e))
+    (done_followed r.number r.volumes (runs st) (course_stepped true st.clock st.course) (cut_set (Some r) st)
+    (incomplete_map (row_cut r.number st.clock) (λ x. changed_number (x.number == r.number) (with_cut st.clock) x refl) (λ x. changed_result (x.number == r.number) (with_cut st.clock) x refl) r.number st.sets h)
+    (λ f. imaged_cut r.number r.volumes st.volumes))
+
+done_step : (b : Bool) (r : SetRow) (mark : Mark) (st : State) → is_cut_group (open_group (left_now st)) ≡ b → is_working (left_now st) ≡ true → in_progress st ≡ Some r → st.course.outcome ≡ RunningSet → has_complete st.sets r.number ≡ false
+    → (Made st.course.agenda → Imaged r.number r.volumes st.volumes) → Done r.number r.volumes (stepped mark st)
+done_step false r mark st c w e run h images = done_steps r.number r.volumes mark st c w run h images
+done_step true r mark st c w e run h images = subst (Done r.number r.volumes) (sym (cut_step mark st c)) (done_at_cut r (in_progress st) st e h)
+
+done_at : (s : Plan) (st : State) (r : SetRow) → in_progress st ≡ Some r → st.course.outcome ≡ RunningSet → has_complete st.sets r.number ≡ false → (Made st.course.agenda → Imaged r.number r.volumes st.volumes) → IsKeptAt (Done r.number r.volumes) s st
+done_at s st r e run h images =
+    let n = r.number in
+    let us = r.volumes in
+    record {
+      lines = record {
+        stays = inl h;
+        writes = λ v w mark f. done_write n us s v w mark st h;
+        reverts = λ m v k mark f g. done_revert n us s v k mark st h;
+        ticks = λ k. done_ticks n us k st run h images;
+        deletes_set = λ m f. inl h;
+        deletes_image = λ m v k f. inl h;
+        names = λ w name q explicit g f. inl h;
+        disables = λ w q g. inl h;
+        starts = λ q g f. inl (incomplete_append st.sets (new_set (new_number st) q.context) n refl h);
+        adds = λ v x q g f i. inl (incomplete_map (row_changed x.number (with_volume v)) (λ y. changed_number (y.number == x.number) (with_volume v) y refl) (λ y. changed_result (y.number == x.number) (with_volume v) y refl) n st.sets h);
+        aborts = λ q f. inl (done_failed n us (in_progress st) AsyncCancelled st h);
+        ends = λ q f. done_end n us q (failed AsyncCancelled st) (done_failed n us (in_progress st) AsyncCancelled st h);
+      };
+      begins = λ lane all c g. done_begin n us lane all c st h;
+      agendas = record {
+        gathers = λ p q g. done_begun n us Gather _ [] st.clock _ st run h;
+        prepares = λ p q g. done_either n us (has_no_volume (in_progress st)) _ _ (inl h) (done_begun n us Prepare _ [] st.clock _ st run h);
+        snapshots = λ q g. done_either n us (has_no_volume (in_progress st)) _ _ (inl h) (done_begun n us Snapshot st.course.members _ st.clock st.course st run h);
+        completes = λ q g. done_begun n us Complete _ [] st.clock _ st run h;
+      };
+      answers = λ w said g. done_answers n us w said st run h images;
+      steps = λ mark g. done_step (is_cut_group (open_group (left_now st))) r mark st refl g e run h images;
+    }
+
+pub imaged_after : (s : Plan) (so_far : List Act) (act : Act) (r q : SetRow) (v : ℕ) → in_progress (state s so_far) ≡ Some r → row_of (after s (state s so_far) act) r.number ≡ Some q → is_complete q.result ≡ true
+    → is_among v r.volumes ≡ true → v < length s.volumes → is_some (point_in r.number (history_of (after s (state s so_far) act) v).images) ≡ true
+imaged_after s so_far act r q v e f g h l =
+    let st = state s so_far in
+    by_cases (after_at (Done r.number r.volumes) s st (done_at s st r e (outcome_is_running s so_far r e) (running_incomplete st.sets r (orderly s so_far).numbered e) (λ m. imaged s so_far r e m)) act)
+  where
+    by_cases : Done r.number r.volumes (after s (state s so_far) act) → is_some (point_in r.number (history_of (after s (state s so_far) act) v).images) ≡ true
+    by_cases (inl i) = absurd (true_not_false (has_complete (after s (state s so_far) act).sets r.number) (complete_found 1 r.number (after s (state s so_far) act).sets q f g) i)
+    by_cases (inr i) = i v h (subst (λ n. v < n) (sym (ap (λ (x : State). length x.volumes) (sym (state-append s so_far act)) ∙ as_many_volumes s (so_far ++ act ∷ []))) l)

@@ -1,0 +1,271 @@
+-- What a call does to a running agenda: it stops it and fails the set; or it leaves it as it is, or ends it where nothing was left;
+-- or something is said at the open place by members that are waited for there.
+use Rattle.std.proofs.Common.{◌≡◌, ℕ, ◌==◌, List, [], ◌∷◌, ◌⊎◌, Option, Some, None, refl, Bool, true, false, ap, sym, ◌∙◌, subst, inl, inr, arith}
+use Rattle.std.specs.Prelude.{option_map, ◌&&◌, ◌||◌, not}
+use Rattle.vss_names.specs.declared.order.Order.{Order}
+use Rattle.vss_names.specs.declared.order.Order.TheVariants.{Identify, PrepareBackup, PrepareSnapshot, Freeze, Thaw, PostSnapshot, BackupComplete}
+use Rattle.vss_names.specs.declared.set_outcome.SetOutcome.{SetOutcome}
+use Rattle.vss_names.specs.declared.set_outcome.SetOutcome.TheVariants.{Failed as FailedSet}
+use Rattle.vss_names.specs.declared.vss_result.VssResult.{VssResult}
+use Rattle.writer_state.specs.declared.said.Said.{Said}
+use Rattle.writer_state.specs.declared.said.Said.TheVariants.{Ok, Lost}
+use Rattle.writer_state.specs.WriterState.{is_ok}
+use Rattle.set_agenda.specs.declared.group.Group.{Group}
+use Rattle.set_agenda.specs.declared.group.Group.TheVariants.{Orders, PreCommit, Flush, Hold, Cut, Commit, Release, PostCommit}
+use Rattle.set_agenda.specs.declared.limit.Limit.{Limit}
+use Rattle.set_agenda.specs.declared.limit.Limit.TheVariants.{Hold as HoldLimit, Freeze as FreezeLimit, Answer as AnswerLimit}
+use Rattle.set_agenda.specs.declared.place.Place.{Place}
+use Rattle.set_agenda.specs.Agenda.{Agenda, Open, order_of, is_orders, is_freeze, waited_for, with_group, left_from, places, groups_left, left, open_place, is_asked, is_among, order_if, open_order, order_now, waits_now, head_or_0, next_member, is_done, is_working, all_say}
+use Rattle.set_agenda.specs.Limits.{Running as RunningLimit, running_limits, spent_of}
+use Rattle.set_agenda.specs.Course.{Course, posted, outcome_after, failed as course_failed, settled_if, settled_in, settled, is_decisive, told, decided, answered_to, answered as course_answered, worked, stepped_as as course_stepped_as, stepped as course_stepped, freeze_limit, lost_to, lost, fails_set, lost_decided, treated_as, treated, timed as course_timed}
+use Rattle.vss_model.specs.Facts.{has_failed}
+use Rattle.vss_model.proofs.Orderly.{true_not_false}
+
+-- ## the three ways
+
+-- the agenda goes on, or ends where no group is left of it
+abbrev pub Settles : Bool → Agenda → SetOutcome → Option Agenda → SetOutcome → Type 0
+Settles true a o b p = (b ≡ None) × (p ≡ outcome_after a.kind o)
+Settles false a o b p = (b ≡ Some a) × (p ≡ o)
+
+-- said by writers alone, or by the provider too
+abbrev pub ByWriters : Bool → Group → Type 0
+ByWriters true g = is_orders g ≡ true
+ByWriters false g = Unit {0}
+
+pub record Says (writers : Bool) (a : Agenda) (o : SetOutcome) (b : Option Agenda) (p : SetOutcome) : Type 0 where
+  pub said : Said
+  pub now : ℕ
+  pub ws : List ℕ
+  pub waited : (w : ℕ) → is_among w ws ≡ true → is_among w (waits_now (groups_left a)) ≡ true
+  -- a refusal of Freeze stops the agenda
+  pub mild : (is_freeze (open_place (groups_left a)).group && not (is_ok said)) ≡ false
+  pub by : ByWriters writers (open_place (groups_left a)).group
+  pub settles : Settles (is_done (groups_left (all_say said now ws a))) (all_say said now ws a) o b p
+
+pub record Rests (a : Agenda) (o : SetOutcome) (b : Option Agenda) (p : SetOutcome) : Type 0 where
+  pub done : Bool
+  pub is_done : done ≡ true → is_done (groups_left a) ≡ true
+  pub settles : Settles done a o b p
+
+pub record Stops (b : Option Agenda) (p : SetOutcome) : Type 0 where
+  pub agenda : b ≡ None
+  pub failed : has_failed p ≡ true
+
+abbrev pub Call : Bool → Option Agenda → SetOutcome → Option Agenda → SetOutcome → Type 0
+Call writers None o b p = (b ≡ None) × (p ≡ o)
+Call writers (Some a) o b p = Stops b p ⊎ (Rests a o b p ⊎ Says writers a o b p)
+
+abbrev pub IsCall : Bool → Course → Course → Type 0
+IsCall writers c d = Call writers c.agenda c.outcome d.agenda d.outcome
+
+-- ## what the open place decides
+
+-- the order of a Freeze group decides
+freeze_decides : (b : Bool) (g : Group) (o : Order) → order_if b (order_of g) ≡ Some o → is_freeze g ≡ true → is_decisive o ≡ true
+freeze_decides false g o e f = absurd cc
+freeze_decides true (Orders Freeze) o e f = let same : Freeze ≡ o = cc in subst (λ x. is_decisive x ≡ true) same refl
+freeze_decides true (Orders Identify) o e f = absurd cc
+freeze_decides true (Orders PrepareBackup) o e f = absurd cc
+freeze_decides true (Orders PrepareSnapshot) o e f = absurd cc
+freeze_decides true (Orders Thaw) o e f = absurd cc
+freeze_decides true (Orders PostSnapshot) o e f = absurd cc
+freeze_decides true (Orders BackupComplete) o e f = absurd cc
+freeze_decides true PreCommit o e f = absurd cc
+freeze_decides true Flush o e f = absurd cc
+freeze_decides true Hold o e f = absurd cc
+freeze_decides true Cut o e f = absurd cc
+freeze_decides true Commit o e f = absurd cc
+freeze_decides true Release o e f = absurd cc
+freeze_decides true PostCommit o e f = absurd cc
+
+open_decides : (os : List Open) (w : ℕ) (o : Order) → open_order os w ≡ Some o → is_freeze (open_place os).group ≡ true → is_decisive o ≡ true
+open_decides [] w o e f = absurd cc
+open_decides (x ∷ os) w o e f = freeze_decides (is_asked w (x ∷ os)) x.place.group o e f
+
+now_decides : (os : List Open) (o : Order) → order_now os ≡ Some o → is_freeze (open_place os).group ≡ true → is_decisive o ≡ true
+now_decides [] o e f = absurd cc
+now_decides (x ∷ os) o e f = freeze_decides true x.place.group o e f
+
+-- a refusal that does not decide is none of Freeze
+mild : (freeze decides ok : Bool) → (freeze ≡ true → decides ≡ true) → (decides && not ok) ≡ false → (freeze && not ok) ≡ false
+mild false decides ok f e = refl
+mild true true ok f e = e
+mild true false ok f e = absurd (true_not_false false (f refl) refl)
+
+not_ok_of_ok : (b : Bool) → (b && not true) ≡ false
+not_ok_of_ok true = refl
+not_ok_of_ok false = refl
+
+both_true : (a b : Bool) → (a && b) ≡ true → (a ≡ true) × (b ≡ true)
+both_true true b e = (refl, e)
+both_true false b e = absurd cc
+
+-- ## who is waited for
+
+asked_if : (b : Bool) (o : Option Order) (p : Order) → order_if b o ≡ Some p → b ≡ true
+asked_if true o p e = refl
+asked_if false o p e = absurd cc
+
+asked_waits : (os : List Open) (w : ℕ) → is_asked w os ≡ true → (is_orders (open_place os).group ≡ true) × (is_among w (waits_now os) ≡ true)
+asked_waits [] w e = absurd cc
+asked_waits (x ∷ os) w e = both_true (is_orders x.place.group) (is_among w x.waits) e
+
+-- among one alone is that one
+one_alone : (w x : ℕ) (xs : List ℕ) → is_among w xs ≡ true → is_among x (w ∷ []) ≡ true → is_among x xs ≡ true
+one_alone w x xs e f = subst (λ y. is_among y xs ≡ true) (same (w == x) refl f) e
+  where
+    equal : (a b : ℕ) → (a == b) ≡ true → a ≡ b
+    equal a b e = grind arith
+
+    same : (b : Bool) → (w == x) ≡ b → (b || false) ≡ true → w ≡ x
+    same true g h = equal w x g
+    same false g h = absurd cc
+
+first_among : (w : ℕ) (ws : List ℕ) → is_among w (w ∷ ws) ≡ true
+first_among w ws = own w (is_among w ws)
+  where
+    own : (a : ℕ) (b : Bool) → ((a == a) || b) ≡ true
+    own a b = grind arith
+
+-- of a group that is left somebody is waited for
+head_waits : (a : Agenda) (ps : List Place) → is_working (left_from a ps) ≡ true → is_among (next_member (left_from a ps)) (waits_now (left_from a ps)) ≡ true
+head_waits a [] e = absurd cc
+head_waits a (p ∷ ps) e = at_group p (waited_for a p) (left_from a ps) (head_waits a ps) e
+  where
+    at_group : (p : Place) (ws : List ℕ) (later : List Open) → (is_working later ≡ true → is_among (next_member later) (waits_now later) ≡ true) → is_working (with_group p ws later) ≡ true
+        → is_among (next_member (with_group p ws later)) (waits_now (with_group p ws later)) ≡ true
+    at_group p [] later ih e = ih e
+    at_group p (w ∷ ws) later ih e = first_among w ws
+
+now_orders : (os : List Open) (o : Order) → order_now os ≡ Some o → is_orders (open_place os).group ≡ true
+now_orders [] o e = absurd cc
+now_orders (x ∷ os) o e = of_group x.place.group e
+  where
+    of_group : (g : Group) → order_of g ≡ Some o → is_orders g ≡ true
+    of_group (Orders x) e = refl
+    of_group PreCommit e = absurd cc
+    of_group Flush e = absurd cc
+    of_group Hold e = absurd cc
+    of_group Cut e = absurd cc
+    of_group Commit e = absurd cc
+    of_group Release e = absurd cc
+    of_group PostCommit e = absurd cc
+
+-- ## settled
+
+settles_if : (done : Bool) (b : Agenda) (o : SetOutcome) (d : Course) → d.agenda ≡ Some b → d.outcome ≡ o → Settles done b o (settled_if done b.kind d).agenda (settled_if done b.kind d).outcome
+settles_if true b o d e f = (refl, ap (λ x. outcome_after b.kind x) f)
+settles_if false b o d e f = (e, f)
+
+settles_in : (x : Option Agenda) (b : Agenda) (o : SetOutcome) (d : Course) → d.agenda ≡ x → x ≡ Some b → d.outcome ≡ o → Settles (is_done (groups_left b)) b o (settled_in x d).agenda (settled_in x d).outcome
+settles_in None b o d e f g = absurd cc
+settles_in (Some y) b o d e f g =
+    let same : y ≡ b = cc in
+    subst (λ z. Settles (is_done (groups_left z)) z o (settled_in (Some y) d).agenda (settled_in (Some y) d).outcome) same (settles_if (is_done (groups_left y)) y o d e g)
+
+settles : (b : Agenda) (o : SetOutcome) (d : Course) → d.agenda ≡ Some b → d.outcome ≡ o → Settles (is_done (groups_left b)) b o (settled d).agenda (settled d).outcome
+unfolding settled
+settles b o d e f = settles_in d.agenda b o d refl e f
+
+call_posted : (writers : Bool) (before c d : Course) → IsCall writers c d → IsCall writers c (posted before d)
+unfolding posted
+call_posted writers before c d h = h
+
+-- ## by how the agenda stands
+
+call_failed : (writers : Bool) (a : Agenda) (o : SetOutcome) (why : VssResult) (d : Course) → Call writers (Some a) o (course_failed why d).agenda (course_failed why d).outcome
+unfolding course_failed
+call_failed writers a o why d = inl (record { agenda = refl; failed = refl })
+
+call_same : (writers : Bool) (a : Option Agenda) (o : SetOutcome) → Call writers a o a o
+call_same writers None o = (refl, refl)
+call_same writers (Some a) o = inr (inl (record { done = false; is_done = λ e. absurd cc; settles = (refl, refl) }))
+
+along : (writers : Bool) (a : Option Agenda) (c d : Course) → c.agenda ≡ a → Call writers a c.outcome d.agenda d.outcome → IsCall writers c d
+along writers a c d e h = subst (λ x. Call writers x c.outcome d.agenda d.outcome) (sym e) h
+
+-- ## an answer
+
+says_told : (writers : Bool) (o : Order) (said : Said) (now : ℕ) (ws : List ℕ) (a : Agenda) (c : Course) → c.agenda ≡ Some a
+    → ((w : ℕ) → is_among w ws ≡ true → is_among w (waits_now (groups_left a)) ≡ true) → (is_freeze (open_place (groups_left a)).group && not (is_ok said)) ≡ false → ByWriters writers (open_place (groups_left a)).group
+    → Call writers (Some a) c.outcome (settled (told o said now ws c)).agenda (settled (told o said now ws c)).outcome
+unfolding told
+says_told writers o said now ws a c e waited mild by =
+    inr (inr (record { said = said; now = now; ws = ws; waited = waited; mild = mild; by = by; settles = settles (all_say said now ws a) c.outcome (told o said now ws c) (ap (option_map (all_say said now ws)) e) refl }))
+
+call_decided : (fails : Bool) (w : ℕ) (o : Order) (said : Said) (now : ℕ) (a : Agenda) (c : Course) → c.agenda ≡ Some a → open_order (groups_left a) w ≡ Some o → (is_decisive o && not (is_ok said)) ≡ fails
+    → Call true (Some a) c.outcome (decided fails said (told o said now (w ∷ []) c)).agenda (decided fails said (told o said now (w ∷ []) c)).outcome
+call_decided true w o said now a c e f g = call_failed true a c.outcome _ (told o said now (w ∷ []) c)
+call_decided false w o said now a c e f g =
+    let os = groups_left a in
+    let asked = asked_waits os w (asked_if (is_asked w os) (order_now os) o f) in
+    says_told true o said now (w ∷ []) a c e (λ x h. one_alone w x (waits_now os) asked.1 h) (mild (is_freeze (open_place os).group) (is_decisive o) (is_ok said) (open_decides os w o f) g) asked.0
+
+call_answered_to : (o : Option Order) (w : ℕ) (said : Said) (now : ℕ) (a : Agenda) (c : Course) → c.agenda ≡ Some a → open_order (groups_left a) w ≡ o → Call true (Some a) c.outcome (answered_to o w said now c).agenda (answered_to o w said now c).outcome
+call_answered_to None w said now a c e f = subst (λ x. Call true (Some a) c.outcome x c.outcome) (sym e) (call_same true (Some a) c.outcome)
+call_answered_to (Some o) w said now a c e f = call_decided (is_decisive o && not (is_ok said)) w o said now a c e f refl
+
+call_answered_at : (x : Option Agenda) (w : ℕ) (said : Said) (now : ℕ) (c : Course) → c.agenda ≡ x → IsCall true c (answered_to (open_order (left x) w) w said now c)
+call_answered_at None w said now c e = call_same true c.agenda c.outcome
+call_answered_at (Some a) w said now c e = along true (Some a) c (answered_to (open_order (groups_left a) w) w said now c) e (call_answered_to (open_order (groups_left a) w) w said now a c e refl)
+
+pub call_answered : (w : ℕ) (said : Said) (now : ℕ) (c : Course) → IsCall true c (course_answered w said now c)
+call_answered w said now c = call_posted true c c _ (call_answered_at c.agenda w said now c refl)
+
+-- ## a step
+
+says_worked : (now : ℕ) (a : Agenda) (c : Course) → c.agenda ≡ Some a → is_working (groups_left a) ≡ true → Call false (Some a) c.outcome (settled (worked now c)).agenda (settled (worked now c)).outcome
+unfolding worked
+says_worked now a c e f =
+    let w = next_member (groups_left a) in
+    let b : Agenda = all_say Ok now (w ∷ []) a in
+    inr (inr (record {
+      said = Ok;
+      now = now;
+      ws = w ∷ [];
+      waited = λ x h. one_alone w x (waits_now (groups_left a)) (head_waits a (places a.kind) f) h;
+      mild = not_ok_of_ok (is_freeze (open_place (groups_left a)).group);
+      by = tt;
+      settles = settles b c.outcome (worked now c) (ap (λ x. option_map (all_say Ok now (next_member (left x) ∷ [])) x) e) refl;
+    }))
+
+call_stepped_as : (ok : Bool) (x : Option Agenda) (now : ℕ) (c : Course) → c.agenda ≡ x → is_working (left x) ≡ true → IsCall false c (course_stepped_as ok now c)
+call_stepped_as ok None now c e f = absurd cc
+call_stepped_as true (Some a) now c e f = along false (Some a) c (course_stepped_as true now c) e (says_worked now a c e f)
+call_stepped_as false (Some a) now c e f = along false (Some a) c (course_stepped_as false now c) e (call_failed false a c.outcome _ c)
+
+pub call_stepped : (ok : Bool) (now : ℕ) (c : Course) → is_working (left c.agenda) ≡ true → IsCall false c (course_stepped ok now c)
+call_stepped ok now c f = call_posted false c c _ (call_stepped_as ok c.agenda now c refl f)
+
+-- ## time
+
+call_lost_to : (o : Option Order) (now : ℕ) (a : Agenda) (c : Course) → c.agenda ≡ Some a → order_now (groups_left a) ≡ o → fails_set o ≡ false → Call true (Some a) c.outcome (settled (lost_to o now c)).agenda (settled (lost_to o now c)).outcome
+call_lost_to None now a c e f g = inr (inl (record { done = is_done (groups_left a); is_done = λ h. h; settles = settles a c.outcome c e refl }))
+call_lost_to (Some o) now a c e f g =
+    let os = groups_left a in
+    subst (λ ws. Call true (Some a) c.outcome (settled (told o Lost now ws c)).agenda (settled (told o Lost now ws c)).outcome) (ap (λ x. waits_now (left x)) (sym e))
+    (says_told true o Lost now (waits_now os) a c e (λ w h. h) (mild (is_freeze (open_place os).group) (is_decisive o) (is_ok Lost) (now_decides os o f) (rw g refl)) (now_orders os o f))
+
+call_lost_decided : (fails : Bool) (now : ℕ) (a : Agenda) (c : Course) → c.agenda ≡ Some a → fails_set (order_now (groups_left a)) ≡ fails
+    → Call true (Some a) c.outcome (lost_decided fails (lost_to (order_now (groups_left a)) now c)).agenda (lost_decided fails (lost_to (order_now (groups_left a)) now c)).outcome
+call_lost_decided true now a c e f = call_failed true a c.outcome _ (lost_to (order_now (groups_left a)) now c)
+call_lost_decided false now a c e f = call_lost_to (order_now (groups_left a)) now a c e refl f
+
+call_treated_as : (l : Limit) (now : ℕ) (a : Agenda) (c : Course) → c.agenda ≡ Some a → Call true (Some a) c.outcome (treated_as l now c).agenda (treated_as l now c).outcome
+call_treated_as HoldLimit now a c e = call_failed true a c.outcome _ c
+call_treated_as FreezeLimit now a c e = call_failed true a c.outcome _ (lost now c)
+call_treated_as AnswerLimit now a c e =
+    let R : Option Agenda → Type 0 = λ x. Call true (Some a) c.outcome (lost_decided (fails_set (order_now (left x))) (lost_to (order_now (left x)) now c)).agenda (lost_decided (fails_set (order_now (left x))) (lost_to (order_now (left x)) now c)).outcome in
+    subst R (sym e) (call_lost_decided (fails_set (order_now (groups_left a))) now a c e refl)
+
+call_treated : (l : Option RunningLimit) (now : ℕ) (a : Agenda) (c : Course) → c.agenda ≡ Some a → Call true (Some a) c.outcome (treated l now c).agenda (treated l now c).outcome
+call_treated None now a c e = subst (λ x. Call true (Some a) c.outcome x c.outcome) (sym e) (call_same true (Some a) c.outcome)
+call_treated (Some l) now a c e = call_treated_as l.limit now a c e
+
+call_timed_at : (x : Option Agenda) (now : ℕ) (c : Course) → c.agenda ≡ x → IsCall true c (treated (spent_of now (running_limits (freeze_limit c) x)) now c)
+call_timed_at None now c e = call_same true c.agenda c.outcome
+call_timed_at (Some a) now c e = along true (Some a) c (treated (spent_of now (running_limits (freeze_limit c) (Some a))) now c) e (call_treated (spent_of now (running_limits (freeze_limit c) (Some a))) now a c e)
+
+pub call_timed : (now : ℕ) (c : Course) → IsCall true c (course_timed now c)
+call_timed now c = call_posted true c c _ (call_timed_at c.agenda now c refl)

@@ -1,0 +1,33 @@
+-- Where one more act leaves the cut of a set.
+use Rattle.std.proofs.Common.{◌≡◌, ℕ, ◌+◌, List, [], ◌∷◌, ◌++◌, Option, Some, None, refl, Bool, true, false, ap, sym, ◌∙◌, fold}
+use Rattle.std.proofs.lemmas.List.{append_assoc}
+use Rattle.scenario.specs.Plan.{Plan}
+use Rattle.vss_model.specs.State.{State, start}
+use Rattle.vss_model.specs.Acts.{Act, after, state}
+use Rattle.vss_model.specs.Cut.{is_cut_of, cut_if, cut_from, cut}
+
+abbrev pub or_cut : Option (List Act) → Option (List Act) → Option (List Act)
+or_cut None o = o
+or_cut (Some acts) o = Some acts
+
+pub append_nothing : (xs : List Act) → xs ++ [] ≡ xs
+append_nothing [] = refl
+append_nothing (x ∷ xs) = ap (λ ys. x ∷ ys) (append_nothing xs)
+
+none_yet : (o : Option (List Act)) → or_cut None o ≡ o
+none_yet o = refl
+
+cut_first : (b : Bool) (before : List Act) (x y : Option (List Act)) (z w : Option (List Act)) → x ≡ or_cut y z → z ≡ w → cut_if b before x ≡ or_cut (cut_if b before y) w
+cut_first true before x y z w e f = refl
+cut_first false before x y z w e f = e ∙ ap (or_cut y) f
+
+cut_from-append : (s : Plan) (n : ℕ) (before : List Act) (st : State) (acts : List Act) (act : Act)
+    → cut_from s n before st (acts ++ act ∷ []) ≡ or_cut (cut_from s n before st acts) (cut_if (is_cut_of n (fold (after s) st acts) act) (before ++ acts) None)
+cut_from-append s n before st [] act = ap (λ x. cut_if (is_cut_of n st act) x None) (sym (append_nothing before))
+cut_from-append s n before st (a ∷ acts) act =
+    cut_first (is_cut_of n st a) before _ _ _ _
+    (cut_from-append s n (before ++ a ∷ []) (after s st a) acts act)
+    (ap (λ x. cut_if (is_cut_of n (fold (after s) (after s st a) acts) act) x None) (append_assoc before (a ∷ []) acts))
+
+pub cut-append : (s : Plan) (n : ℕ) (acts : List Act) (act : Act) → cut s n (acts ++ act ∷ []) ≡ or_cut (cut s n acts) (cut_if (is_cut_of n (state s acts) act) acts None)
+cut-append s n acts act = cut_from-append s n [] (start s) acts act

@@ -1,0 +1,274 @@
+-- A call that lets time go by fails the set only where something takes too long, in the words of the causes.
+use Rattle.std.proofs.Common.{◌≡◌, ℕ, ◌+◌, ◌-◌, ◌==◌, List, [], ◌∷◌, ◌++◌, ◌⊎◌, Option, Some, None, refl, Bool, true, false, min, find, fold, filter, ap, sym, ◌∙◌, subst, inl, inr, arith}
+use Rattle.std.specs.Prelude.{nat_lt, is_some, ◌&&◌, ◌||◌, not, if◌then◌else◌, slice_get}
+use Rattle.std.specs.List.{list_any}
+use Rattle.vss_names.specs.declared.order.Order.{Order}
+use Rattle.vss_names.specs.declared.order.Order.TheVariants.{Identify, PrepareBackup, PrepareSnapshot, Freeze, Thaw, PostSnapshot, BackupComplete}
+use Rattle.writer_state.specs.declared.writer_row.WriterRow.{WriterRow}
+use Rattle.tick_limits.specs.Time.{answer_limit, hold_limit, default_freeze, is_spent}
+use Rattle.set_agenda.specs.declared.group.Group.{Group}
+use Rattle.set_agenda.specs.declared.group.Group.TheVariants.{Orders, PreCommit, Flush, Hold, Cut, Commit, Release, PostCommit}
+use Rattle.set_agenda.specs.declared.limit.Limit.{Limit}
+use Rattle.set_agenda.specs.declared.limit.Limit.TheVariants.{Hold as HoldLimit, Freeze as FreezeLimit, Answer as AnswerLimit}
+use Rattle.set_agenda.specs.declared.member.Member.{Member}
+use Rattle.set_agenda.specs.declared.place.Place.{Place}
+use Rattle.set_agenda.specs.Agenda.{Agenda, Entry, Open, groups_left, left, order_now, order_of, same_place}
+use Rattle.set_agenda.specs.Limits.{Running, last_time, opened_at, is_prepare_snapshot, freeze_opened_at, is_hold, first_time, first_hold, hold_runs, freeze_runs, answer_runs, runs_if, hold_running, running_at, running_limits, spent_of}
+use Rattle.set_agenda.specs.Course.{Course, is_decisive, limit_of, freeze_limit, limits_now, fails_set}
+use Rattle.vss_model.specs.Causes.{has_passed, last_of, holds_volumes, is_hold_step, held_too_long, freezes_writers, prepares_snapshot, frozen_too_long, prepares_writers, is_elsewhere, unanswered_too_long, is_late_at, is_late_in}
+
+-- ## tables
+
+same_hold : (g : Group) → hold_runs g ≡ holds_volumes g
+same_hold (Orders o) = refl
+same_hold PreCommit = refl
+same_hold Flush = refl
+same_hold Hold = refl
+same_hold Cut = refl
+same_hold Commit = refl
+same_hold Release = refl
+same_hold PostCommit = refl
+
+same_hold_step : (g : Group) → is_hold g ≡ is_hold_step g
+same_hold_step (Orders o) = refl
+same_hold_step PreCommit = refl
+same_hold_step Flush = refl
+same_hold_step Hold = refl
+same_hold_step Cut = refl
+same_hold_step Commit = refl
+same_hold_step Release = refl
+same_hold_step PostCommit = refl
+
+same_freeze : (g : Group) → freeze_runs g ≡ freezes_writers g
+same_freeze (Orders Identify) = refl
+same_freeze (Orders PrepareBackup) = refl
+same_freeze (Orders PrepareSnapshot) = refl
+same_freeze (Orders Freeze) = refl
+same_freeze (Orders Thaw) = refl
+same_freeze (Orders PostSnapshot) = refl
+same_freeze (Orders BackupComplete) = refl
+same_freeze PreCommit = refl
+same_freeze Flush = refl
+same_freeze Hold = refl
+same_freeze Cut = refl
+same_freeze Commit = refl
+same_freeze Release = refl
+same_freeze PostCommit = refl
+
+same_prepare : (g : Group) → is_prepare_snapshot g ≡ prepares_snapshot g
+same_prepare (Orders Identify) = refl
+same_prepare (Orders PrepareBackup) = refl
+same_prepare (Orders PrepareSnapshot) = refl
+same_prepare (Orders Freeze) = refl
+same_prepare (Orders Thaw) = refl
+same_prepare (Orders PostSnapshot) = refl
+same_prepare (Orders BackupComplete) = refl
+same_prepare PreCommit = refl
+same_prepare Flush = refl
+same_prepare Hold = refl
+same_prepare Cut = refl
+same_prepare Commit = refl
+same_prepare Release = refl
+same_prepare PostCommit = refl
+
+-- where the answer limit runs and its loss fails the set, consent is asked for
+consent : (g : Group) → answer_runs g ≡ true → fails_set (order_of g) ≡ true → prepares_writers g ≡ true
+consent (Orders Identify) e f = absurd cc
+consent (Orders PrepareBackup) e f = refl
+consent (Orders PrepareSnapshot) e f = refl
+consent (Orders Freeze) e f = absurd cc
+consent (Orders Thaw) e f = absurd cc
+consent (Orders PostSnapshot) e f = absurd cc
+consent (Orders BackupComplete) e f = absurd cc
+consent PreCommit e f = absurd cc
+consent Flush e f = absurd cc
+consent Hold e f = absurd cc
+consent Cut e f = absurd cc
+consent Commit e f = absurd cc
+consent Release e f = absurd cc
+consent PostCommit e f = absurd cc
+
+-- ## since when
+
+last_time_is : (test : Entry → Bool) (t : ℕ) (log : List Entry) → last_time t (filter test log) ≡ fold (λ t (e : Entry). if test e then e.time else t) t log
+last_time_is test t [] = refl
+last_time_is test t (e ∷ log) = by_test (test e) (last_time_is test e.time log) (last_time_is test t log)
+  where
+    by_test : (b : Bool) → last_time e.time (filter test log) ≡ fold (λ t (x : Entry). if test x then x.time else t) e.time log → last_time t (filter test log) ≡ fold (λ t (x : Entry). if test x then x.time else t) t log
+        → last_time t (if b then e ∷ filter test log else filter test log) ≡ fold (λ t (x : Entry). if test x then x.time else t) (if b then e.time else t) log
+    by_test true f g = f
+    by_test false f g = g
+
+-- a fold by tests that agree
+fold_along : (f g : Entry → Bool) → ((e : Entry) → f e ≡ g e) → (t : ℕ) (log : List Entry) → fold (λ t (e : Entry). if f e then e.time else t) t log ≡ fold (λ t (e : Entry). if g e then e.time else t) t log
+fold_along f g same t [] = refl
+fold_along f g same t (e ∷ log) =
+    fold_along f g same (if f e then e.time else t) log ∙ ap (λ b. fold (λ t (x : Entry). if g x then x.time else t) (if b then e.time else t) log) (same e)
+
+not_is : (b : Bool) → not b ≡ (if b then false else true)
+not_is true = refl
+not_is false = refl
+
+freeze_since : (a : Agenda) → freeze_opened_at a ≡ last_of (λ e. prepares_snapshot e.place.group) a
+freeze_since a =
+    last_time_is (λ e. is_prepare_snapshot e.place.group) a.begun a.log
+    ∙ fold_along (λ e. is_prepare_snapshot e.place.group) (λ e. prepares_snapshot e.place.group) (λ e. same_prepare e.place.group) a.begun a.log
+
+answer_since : (a : Agenda) (o : Open) → opened_at a o ≡ last_of (is_elsewhere o.place) a
+answer_since a o =
+    last_time_is (λ e. not (same_place e.place o.place)) a.begun a.log
+    ∙ fold_along (λ e. not (same_place e.place o.place)) (is_elsewhere o.place) (λ e. not_is (same_place e.place o.place)) a.begun a.log
+
+spent_passed : (now since limit : ℕ) → is_spent now since limit ≡ true → has_passed limit since now ≡ true
+spent_passed now since limit e = over (nat_lt limit (now - since)) limit now since refl e
+  where
+    over : (b : Bool) (l n t : ℕ) → nat_lt l (n - t) ≡ b → b ≡ true → nat_lt (t + l) n ≡ true
+    over true l n t e f = grind arith
+    over false l n t e f = absurd cc
+
+-- ## which limit is spent
+
+found_in : (test : Running → Bool) (xs ys : List Running) (l : Running) → find test (xs ++ ys) ≡ Some l → (find test xs ≡ Some l) ⊎ (find test ys ≡ Some l)
+found_in test [] ys l e = inr e
+found_in test (x ∷ xs) ys l e = by_test (test x) e (found_in test xs ys l)
+  where
+    by_test : (b : Bool) → (if b then Some x else find test (xs ++ ys)) ≡ Some l → (find test (xs ++ ys) ≡ Some l → (find test xs ≡ Some l) ⊎ (find test ys ≡ Some l)) → ((if b then Some x else find test xs) ≡ Some l) ⊎ (find test ys ≡ Some l)
+    by_test true e ih = inl e
+    by_test false e ih = ih e
+
+-- a limit that runs and is spent
+record IsSpentOne (b : Bool) (x : Limit) (since ticks now : ℕ) (l : Running) : Type 0 where
+  runs : b ≡ true
+  limit : l.limit ≡ x
+  spent : is_spent now since ticks ≡ true
+
+spent_one : (b : Bool) (limit : Limit) (since ticks now : ℕ) (l : Running) → spent_of now (runs_if b limit since ticks) ≡ Some l → IsSpentOne b limit since ticks now l
+spent_one false limit since ticks now l e = absurd cc
+spent_one true limit since ticks now l e = by_test (is_spent now since ticks) refl e
+  where
+    some_same : (x y : Running) → Some x ≡ Some y → x ≡ y
+    some_same x y e = cc
+
+    by_test : (b : Bool) → is_spent now since ticks ≡ b → (if b then Some (record { limit = limit; since = since; ticks = ticks }) else None) ≡ Some l → IsSpentOne true limit since ticks now l
+    by_test true f e = record { runs = refl; limit = ap (λ (x : Running). x.limit) (sym (some_same (record { limit = limit; since = since; ticks = ticks }) l e)); spent = f }
+    by_test false f e = absurd cc
+
+-- ## held
+
+first_passed : (now since : ℕ) (log : List Entry) → first_time (filter (λ e. is_hold e.place.group) log) ≡ Some since → has_passed hold_limit since now ≡ true → list_any (λ (e : Entry). is_hold_step e.place.group && has_passed hold_limit e.time now) log ≡ true
+first_passed now since [] e f = absurd cc
+first_passed now since (x ∷ log) e f = by_test (is_hold x.place.group) refl e (first_passed now since log)
+  where
+    some_time : (a b : ℕ) → Some a ≡ Some b → a ≡ b
+    some_time a b e = cc
+
+    or_right : (a b : Bool) → b ≡ true → (a || b) ≡ true
+    or_right true b e = refl
+    or_right false b e = e
+
+    both_left : (a b c : Bool) → a ≡ true → b ≡ true → ((a && b) || c) ≡ true
+    both_left true true c e f = refl
+    both_left true false c e f = absurd cc
+    both_left false b c e f = absurd cc
+
+    by_test : (b : Bool) → is_hold x.place.group ≡ b → first_time (if b then x ∷ filter (λ e. is_hold e.place.group) log else filter (λ e. is_hold e.place.group) log) ≡ Some since
+        → (first_time (filter (λ e. is_hold e.place.group) log) ≡ Some since → has_passed hold_limit since now ≡ true → list_any (λ (e : Entry). is_hold_step e.place.group && has_passed hold_limit e.time now) log ≡ true)
+        → ((is_hold_step x.place.group && has_passed hold_limit x.time now) || list_any (λ (e : Entry). is_hold_step e.place.group && has_passed hold_limit e.time now) log) ≡ true
+    by_test true g e ih = both_left (is_hold_step x.place.group) (has_passed hold_limit x.time now) _ (sym (same_hold_step x.place.group) ∙ g) (subst (λ t. has_passed hold_limit t now ≡ true) (sym (some_time x.time since e)) f)
+    by_test false g e ih = or_right (is_hold_step x.place.group && has_passed hold_limit x.time now) _ (ih e f)
+
+both_are : (a b : Bool) → a ≡ true → b ≡ true → (a && b) ≡ true
+both_are true b e f = f
+both_are false b e f = absurd cc
+
+hold_late : (now : ℕ) (g : Group) (a : Agenda) (o : Option ℕ) (l : Running) → first_hold a.log ≡ o → spent_of now (hold_running g o) ≡ Some l → held_too_long now g a ≡ true
+hold_late now g a None l e f = absurd cc
+hold_late now g a (Some since) l e f =
+    let one = spent_one (hold_runs g) HoldLimit since hold_limit now l f in
+    both_are (holds_volumes g) _ (sym (same_hold g) ∙ one.runs) (first_passed now since a.log e (spent_passed now since hold_limit one.spent))
+
+-- ## frozen
+
+least_passed : (now since least : ℕ) (rows : List WriterRow) (ms : List Member) → is_spent now since (fold (λ l (m : Member). min l (limit_of (slice_get rows m.writer))) least ms) ≡ true
+    → (has_passed least since now || list_any (λ (m : Member). has_passed (limit_of (slice_get rows m.writer)) since now) ms) ≡ true
+least_passed now since least rows [] e = or_left (has_passed least since now) (spent_passed now since least e)
+  where
+    or_left : (a : Bool) → a ≡ true → (a || false) ≡ true
+    or_left true e = refl
+    or_left false e = absurd cc
+least_passed now since least rows (m ∷ ms) e =
+    by_min (limit_of (slice_get rows m.writer)) (list_any (λ (x : Member). has_passed (limit_of (slice_get rows x.writer)) since now) ms) (least_passed now since (min least (limit_of (slice_get rows m.writer))) rows ms e)
+  where
+    by_min : (n : ℕ) (rest : Bool) → (has_passed (min least n) since now || rest) ≡ true → (has_passed least since now || (has_passed n since now || rest)) ≡ true
+    by_min n true e = either (has_passed least since now) (has_passed n since now)
+      where
+        either : (a b : Bool) → (a || (b || true)) ≡ true
+        either true b = refl
+        either false true = refl
+        either false false = refl
+    by_min n false e = least_of least n since now e
+      where
+        least_of : (a b t x : ℕ) → (nat_lt (t + min a b) x || false) ≡ true → (nat_lt (t + a) x || (nat_lt (t + b) x || false)) ≡ true
+        least_of a b t x e = grind arith
+
+freeze_late : (now : ℕ) (g : Group) (c : Course) (a : Agenda) (l : Running) → spent_of now (runs_if (freeze_runs g) FreezeLimit (freeze_opened_at a) (freeze_limit c)) ≡ Some l → frozen_too_long now g c a ≡ true
+freeze_late now g c a l e =
+    let one = spent_one (freeze_runs g) FreezeLimit (freeze_opened_at a) (freeze_limit c) now l e in
+    both_are (freezes_writers g) _ (sym (same_freeze g) ∙ one.runs)
+    (least_passed now (last_of (λ x. prepares_snapshot x.place.group) a) default_freeze c.rows c.members (subst (λ t. is_spent now t (freeze_limit c) ≡ true) (freeze_since a) one.spent))
+
+-- ## unanswered
+
+answer_late : (now : ℕ) (a : Agenda) (o : Open) (l : Running) → spent_of now (runs_if (answer_runs o.place.group) AnswerLimit (opened_at a o) answer_limit) ≡ Some l → fails_set (order_of o.place.group) ≡ true → unanswered_too_long now o.place a ≡ true
+answer_late now a o l e f =
+    let one = spent_one (answer_runs o.place.group) AnswerLimit (opened_at a o) answer_limit now l e in
+    both_are (prepares_writers o.place.group) _ (consent o.place.group one.runs f)
+    (subst (λ t. has_passed answer_limit t now ≡ true) (answer_since a o) (spent_passed now (opened_at a o) answer_limit one.spent))
+
+-- ## the spent limit
+
+or_first : (a b c : Bool) → a ≡ true → (a || b || c) ≡ true
+or_first true b c e = refl
+or_first false b c e = absurd cc
+
+or_second : (a b c : Bool) → b ≡ true → (a || b || c) ≡ true
+or_second true b c e = refl
+or_second false true c e = refl
+or_second false false c e = absurd cc
+
+or_third : (a b c : Bool) → c ≡ true → (a || b || c) ≡ true
+or_third true b c e = refl
+or_third false true c e = refl
+or_third false false c e = e
+
+-- a spent limit that is not the answers', or whose loss fails the set
+abbrev pub Decides : Limit → Option Order → Type 0
+Decides HoldLimit o = Unit {0}
+Decides FreezeLimit o = Unit {0}
+Decides AnswerLimit o = fails_set o ≡ true
+
+late_open : (now : ℕ) (c : Course) (a : Agenda) (o : Open) (os : List Open) (l : Running) → spent_of now (running_at (freeze_limit c) a (o ∷ os)) ≡ Some l → Decides l.limit (order_of o.place.group) → is_late_at now c a (o ∷ os) ≡ true
+late_open now c a o os l e d =
+    let g = o.place.group in
+    by_last (found_in (λ x. is_spent now x.since x.ticks) (hold_running g (first_hold a.log) ++ runs_if (freeze_runs g) FreezeLimit (freeze_opened_at a) (freeze_limit c)) (runs_if (answer_runs g) AnswerLimit (opened_at a o) answer_limit) l e)
+  where
+    by_first : (spent_of now (hold_running o.place.group (first_hold a.log)) ≡ Some l) ⊎ (spent_of now (runs_if (freeze_runs o.place.group) FreezeLimit (freeze_opened_at a) (freeze_limit c)) ≡ Some l) → is_late_at now c a (o ∷ os) ≡ true
+    by_first (inl f) = or_first (held_too_long now o.place.group a) (frozen_too_long now o.place.group c a) (unanswered_too_long now o.place a) (hold_late now o.place.group a (first_hold a.log) l refl f)
+    by_first (inr f) = or_second (held_too_long now o.place.group a) (frozen_too_long now o.place.group c a) (unanswered_too_long now o.place a) (freeze_late now o.place.group c a l f)
+
+    by_last : (spent_of now (hold_running o.place.group (first_hold a.log) ++ runs_if (freeze_runs o.place.group) FreezeLimit (freeze_opened_at a) (freeze_limit c)) ≡ Some l)
+        ⊎ (spent_of now (runs_if (answer_runs o.place.group) AnswerLimit (opened_at a o) answer_limit) ≡ Some l) → is_late_at now c a (o ∷ os) ≡ true
+    by_last (inl f) = by_first (found_in (λ x. is_spent now x.since x.ticks) (hold_running o.place.group (first_hold a.log)) (runs_if (freeze_runs o.place.group) FreezeLimit (freeze_opened_at a) (freeze_limit c)) l f)
+    by_last (inr f) =
+        let one = spent_one (answer_runs o.place.group) AnswerLimit (opened_at a o) answer_limit now l f in
+        or_third (held_too_long now o.place.group a) (frozen_too_long now o.place.group c a) (unanswered_too_long now o.place a)
+        (answer_late now a o l f (subst (λ x. Decides x (order_of o.place.group)) one.limit d))
+
+late_left : (now : ℕ) (c : Course) (a : Agenda) (os : List Open) (l : Running) → spent_of now (running_at (freeze_limit c) a os) ≡ Some l → Decides l.limit (order_now os) → is_late_at now c a os ≡ true
+late_left now c a [] l e d = absurd cc
+late_left now c a (o ∷ os) l e d = late_open now c a o os l e d
+
+-- a spent limit that fails the set is a cause
+pub late : (now : ℕ) (c : Course) (a : Option Agenda) (l : Running) → spent_of now (running_limits (freeze_limit c) a) ≡ Some l → Decides l.limit (order_now (left a)) → is_late_in now c a ≡ true
+late now c None l e d = absurd cc
+late now c (Some a) l e d = late_left now c a (groups_left a) l e d

@@ -1,0 +1,279 @@
+-- Before its Cut each volume of the set in progress has room for one more image.
+use Rattle.std.proofs.Common.{◌≡◌, ℕ, ◌+◌, ◌==◌, ◌<◌, ◌≤◌, suc, List, [], ◌∷◌, ◌++◌, ◌⊎◌, Option, Some, None, refl, Bool, true, false, map, length, ap, sym, ◌∙◌, subst, find, inl, inr, arith}
+use Rattle.std.specs.Prelude.{option_map, ◌&&◌, ◌||◌, if◌then◌else◌, nat_le}
+use Rattle.std.proofs.lemmas.List.{append_assoc}
+use Rattle.std.proofs.lemmas.List.Folds.{list_any-append}
+use Rattle.vss_names.specs.declared.context.Context.{Context}
+use Rattle.vss_names.specs.declared.set_outcome.SetOutcome.{SetOutcome}
+use Rattle.vss_names.specs.declared.set_outcome.SetOutcome.TheVariants.{Running, Complete as CompleteSet, Failed as FailedSet}
+use Rattle.vss_names.specs.declared.vss_result.VssResult.{VssResult}
+use Rattle.vss_names.specs.declared.vss_result.VssResult.TheVariants.{AsyncCancelled}
+use Rattle.writer_state.specs.declared.said.Said.{Said}
+use Rattle.write_history.specs.declared.mark.Mark.{Mark}
+use Rattle.write_history.specs.declared.mark.Mark.TheVariants.{Clean, Fault, FaultAfter}
+use Rattle.write_history.specs.History.{Write, History, dropped, written, reverted, reverted_in_part}
+use Rattle.set_agenda.specs.declared.group.Group.{Group}
+use Rattle.set_agenda.specs.Agenda.{open_group, is_among}
+use Rattle.set_agenda.specs.Course.{Course, failed as course_failed, stepped as course_stepped, released}
+use Rattle.requestor.specs.Session.{Session}
+use Rattle.scenario.specs.Plan.{Plan, blocks_of}
+use Rattle.vss_model.specs.State.{State, SetRow, Kept, is_running, in_progress, row_changed, left_now, history_of}
+use Rattle.vss_model.specs.Ending.{Ending, NothingEnds, AgendaEnds, SetFails, ending, row_settled, concluded, followed, runs, failed_in, failed}
+use Rattle.vss_model.specs.Images.{Replied, put, reverted_as, is_in_set}
+use Rattle.vss_model.specs.Sessions.{most_volumes, most_images, begin_in, has_no_volume, new_set, new_number, start_set, with_volume, change_set, add_refusal, closed}
+use Rattle.vss_model.specs.Steps.{answered, row_cut, cut_set, is_flush, is_failed_step, stepped_as, stepped, ticked, later}
+use Rattle.vss_model.specs.Acts.{Act, after, state}
+use Rattle.vss_model.specs.Laws.{IsKeptByWrites}
+use Rattle.vss_model.specs.Cut.{is_provider, is_cut_group, is_set, is_cut_of, cut_if, cut}
+use Rattle.vss_model.proofs.Appending.{state-append}
+use Rattle.vss_model.proofs.Rule.{IsKeptButSteps, on_after_steps}
+use Rattle.vss_model.proofs.Orderly.{find-map, find-settled_over, find-settled_running}
+use Rattle.vss_model.proofs.HeldOfSet.{find-row_cut}
+use Rattle.vss_model.proofs.AtCut.{CutsNow, cuts}
+use Rattle.vss_model.proofs.CutStep.{second_not, both, step_made_same, after_cut, has_set}
+use Rattle.vss_model.proofs.CutAppend.{or_cut, append_nothing, cut-append}
+use Rattle.vss_model.proofs.OneCut.{changed_number, changed_result, not_cut_yet}
+use Rattle.vss_model.proofs.Volumes.{at, FewerIn, fewer_in_map, fewer_in_change, fewer_in_gone, fewer_dropped, fewer_written, fewer_reverted, fewer_in_part}
+use Rattle.vss_model.proofs.FewerImages.{fewer_images_dropped, fewer_released}
+
+-- where each set was cut
+abbrev Cuts : Type 0
+Cuts = ℕ → Option (List Act)
+
+-- an uncut set has room on each of its volumes
+abbrev Roomy : Cuts → List History → Option SetRow → Type 0
+Roomy k hs None = Unit {0}
+Roomy k hs (Some r) = k r.number ≡ None → (v : ℕ) → is_among v r.volumes ≡ true → length (at hs v).images < most_images
+
+abbrev HasRoom : Cuts → State → Type 0
+HasRoom k st = Roomy k st.volumes (in_progress st)
+
+roomy_fewer : (k : Cuts) (hs ks : List History) (o : Option SetRow) → FewerIn hs ks → Roomy k hs o → Roomy k ks o
+roomy_fewer k hs ks None f h = tt
+roomy_fewer k hs ks (Some r) f h = λ e v g. less (length (at ks v).images) (length (at hs v).images) most_images (f.each v).count (h e v g)
+  where
+    less : (a b c : ℕ) → a ≤ b → b < c → a < c
+    less a b c e f = omega (arith, e, f)
+
+roomy_same : (k : Cuts) (hs : List History) (f : SetRow → SetRow) → ((r : SetRow) → (f r).number ≡ r.number) → ((r : SetRow) → (f r).volumes ≡ r.volumes) → (o : Option SetRow) → Roomy k hs o → Roomy k hs (option_map f o)
+roomy_same k hs f number volumes None h = tt
+roomy_same k hs f number volumes (Some r) h = λ e v g. h (ap k (sym (number r)) ∙ e) v (subst (λ vs. is_among v vs ≡ true) (volumes r) g)
+
+roomy_settled : (k : Cuts) (hs : List History) (p : SetOutcome) (rows : List SetRow) → Roomy k hs (find (λ r. is_running r.result) rows) → Roomy k hs (find (λ r. is_running r.result) (map (row_settled p) rows))
+roomy_settled k hs Running rows h = subst (Roomy k hs) (sym (find-settled_running rows)) (roomy_same k hs (λ (r : SetRow). record r { result = Running }) (λ r. refl) (λ r. refl) (find (λ r. is_running r.result) rows) h)
+roomy_settled k hs CompleteSet rows h = subst (Roomy k hs) (sym (find-settled_over CompleteSet refl rows)) tt
+roomy_settled k hs (FailedSet why) rows h = subst (Roomy k hs) (sym (find-settled_over (FailedSet why) refl rows)) tt
+
+-- a new set has no volume yet
+roomy_append : (k : Cuts) (hs : List History) (rows : List SetRow) (r : SetRow) → r.volumes ≡ [] → Roomy k hs (find (λ q. is_running q.result) rows) → Roomy k hs (find (λ q. is_running q.result) (rows ++ r ∷ []))
+roomy_append k hs [] r e h = new_if (is_running r.result)
+  where
+    nothing : (v : ℕ) → is_among v r.volumes ≡ true → length (at hs v).images < most_images
+    nothing v g = absurd (none v (subst (λ vs. is_among v vs ≡ true) e g))
+      where
+        none : (v : ℕ) → is_among v [] ≡ true → ⊥
+        none v g = cc
+
+    new_if : (b : Bool) → Roomy k hs (if b then Some r else None)
+    new_if true = λ f v g. nothing v g
+    new_if false = tt
+roomy_append k hs (q ∷ rows) r e h = head_if (is_running q.result) h (roomy_append k hs rows r e)
+  where
+    head_if : (b : Bool) → Roomy k hs (if b then Some q else find (λ q. is_running q.result) rows) → (Roomy k hs (find (λ q. is_running q.result) rows) → Roomy k hs (find (λ q. is_running q.result) (rows ++ r ∷ []))) → Roomy k hs (if b then Some q else find (λ q. is_running q.result) (rows ++ r ∷ []))
+    head_if true h ih = h
+    head_if false h ih = ih h
+
+-- a volume that is added has room
+room_if : (a b c : Bool) (x y z : VssResult) → (if a then Some x else if b then Some y else if c then Some z else None) ≡ None → c ≡ false
+room_if true b c x y z e = absurd cc
+room_if false true c x y z e = absurd cc
+room_if false false true x y z e = absurd cc
+room_if false false false x y z e = refl
+
+fewer_than : (most n : ℕ) → nat_le most n ≡ false → n < most
+fewer_than most n e = grind arith
+
+added : (vs : List ℕ) (v u : ℕ) → is_among u (vs ++ v ∷ []) ≡ true → (is_among u vs ≡ true) ⊎ (v ≡ u)
+added vs v u e = by_cases (is_among u vs) (v == u) refl (sym (list_any-append (λ (y : ℕ). y == u) vs (v ∷ [])) ∙ e)
+  where
+    equal : (a b : ℕ) → (a == b) ≡ true → a ≡ b
+    equal a b e = grind arith
+
+    by_cases : (b c : Bool) → (v == u) ≡ c → (b || (c || false)) ≡ true → (b ≡ true) ⊎ (v ≡ u)
+    by_cases true c f g = inl refl
+    by_cases false true f g = inr (equal v u f)
+    by_cases false false f g = absurd cc
+
+roomy_added : (b : Bool) (k : Cuts) (hs : List History) (v : ℕ) (r : SetRow) → length (at hs v).images < most_images → Roomy k hs (Some r) → Roomy k hs (Some (if b then with_volume v r else r))
+roomy_added false k hs v r room h = h
+roomy_added true k hs v r room h = λ e u g. by_volume u e (added r.volumes v u g)
+  where
+    by_volume : (u : ℕ) → k r.number ≡ None → (is_among u r.volumes ≡ true) ⊎ (v ≡ u) → length (at hs u).images < most_images
+    by_volume u e (inl g) = h e u g
+    by_volume u e (inr g) = subst (λ w. length (at hs w).images < most_images) g room
+
+-- ## each change
+
+module _ (k : Cuts) where
+  on_concluded : (e : Ending) (st : State) → HasRoom k st → HasRoom k (concluded e st)
+  on_concluded NothingEnds st h = h
+  on_concluded AgendaEnds st h = roomy_settled k st.volumes st.course.outcome st.sets h
+  on_concluded (SetFails why) st h =
+      roomy_fewer k st.volumes _ (find (λ r. is_running r.result) (map (row_settled st.course.outcome) st.sets)) (fewer_images_dropped (in_progress st) st.volumes) (roomy_settled k st.volumes st.course.outcome st.sets h)
+
+  on_followed : (ran : Bool) (c : Course) (st : State) → HasRoom k st → HasRoom k (followed ran c st)
+  unfolding followed
+  on_followed ran c st h = on_concluded (ending st.course.outcome c.outcome ran c.agenda) (record st { course = c }) h
+
+  on_answers : (w : ℕ) (said : Said) (st : State) → HasRoom k st → HasRoom k (answered w said st)
+  unfolding answered
+  on_answers w said st h = on_followed (runs st) _ st h
+
+  on_ticks : (n : ℕ) (st : State) → HasRoom k st → HasRoom k (ticked n st)
+  unfolding ticked
+  on_ticks n st h = on_followed (runs st) _ (later n st) h
+
+  on_fails : (o : Option SetRow) (why : VssResult) (st : State) → HasRoom k st → HasRoom k (failed_in o why st)
+  on_fails None why st h = h
+  on_fails (Some r) why st h = on_concluded (SetFails why) (record st { course = course_failed why st.course }) h
+
+  on_stepped_as : (fails : Bool) (g : Option Group) (st : State) → is_cut_group g ≡ false → HasRoom k st → HasRoom k (stepped_as fails g st)
+  on_stepped_as true g st e h = on_followed (runs st) _ st h
+  on_stepped_as false g st e h = on_followed (runs st) _ _ (subst (HasRoom k) (sym (step_made_same g st e)) h)
+
+  on_steps : (mark : Mark) (st : State) → is_cut_group (open_group (left_now st)) ≡ false → HasRoom k st → HasRoom k (stepped mark st)
+  unfolding stepped
+  on_steps mark st e h = on_stepped_as (is_failed_step (is_flush (open_group (left_now st))) mark) (open_group (left_now st)) st e h
+
+  on_begin : (lane : ℕ) (all : Bool) (c : Option Context) (st : State) → HasRoom k st → HasRoom k (begin_in lane all c st).1
+  on_begin lane all None st h = h
+  on_begin lane all (Some c) st h = h
+
+  on_closed : (q : Session) (st : State) → HasRoom k st → HasRoom k (closed q st)
+  unfolding closed released
+  on_closed q st h = roomy_fewer k st.volumes _ (in_progress st) (fewer_released q.context q.set st.volumes) h
+
+  on_add : (v : ℕ) (r : SetRow) (st : State) → in_progress st ≡ Some r → add_refusal v r st ≡ None → HasRoom k st → HasRoom k (change_set r.number (with_volume v) st)
+  on_add v r st e f h =
+      let room = fewer_than most_images (length (history_of st v).images) (room_if (is_in_set v (Some r)) (nat_le most_volumes (length r.volumes)) (nat_le most_images (length (history_of st v).images)) _ _ _ f) in
+      subst (Roomy k st.volumes) (sym (find-map (row_changed r.number (with_volume v)) (λ x. ap is_running (changed_result (x.number == r.number) (with_volume v) x refl)) st.sets ∙ ap (option_map (row_changed r.number (with_volume v))) e))
+      (roomy_added (r.number == r.number) k st.volumes v r room (subst (Roomy k st.volumes) e h))
+
+  either : (b : Bool) (x y : Replied) → HasRoom k x.1 → HasRoom k y.1 → HasRoom k (if b then x else y).1
+  either true x y h i = h
+  either false x y h i = i
+
+  fewer : (st : State) (ks : List History) → FewerIn st.volumes ks → HasRoom k st → HasRoom k (record st { volumes = ks })
+  fewer st ks f h = roomy_fewer k st.volumes ks (in_progress st) f h
+
+  kept_but_steps : IsKeptButSteps (HasRoom k)
+  kept_but_steps = record {
+    answers = λ w said st e h. on_answers w said st h;
+    ticks = on_ticks;
+    fails = λ why st h. on_fails (in_progress st) why st h;
+    gathers = λ s q st g h. on_followed true _ st h;
+    prepares = λ s q st g h. either (has_no_volume (in_progress st)) _ _ h (on_followed true _ st h);
+    snapshots = λ q st g h. either (has_no_volume (in_progress st)) _ _ h (on_followed true _ st h);
+    completes = λ q st g h. on_followed true _ st h;
+    clears = λ s v b st h. fewer st _ (fewer_in_gone _ _ st.volumes) h;
+    deletes_set = λ n st h. fewer st _ (fewer_in_map (dropped n) (fewer_dropped n) st.volumes) h;
+    deletes_image = λ n v st h. fewer st _ (fewer_in_change (dropped n) (fewer_dropped n) v st.volumes) h;
+    names = λ q explicit st g h. h;
+    disables = λ w q st g h. h;
+    starts = λ q st g e h. roomy_append k st.volumes st.sets (new_set (new_number st) q.context) refl h;
+    adds = λ v r q st g e f h. on_add v r st e f h;
+    ends = λ q st e h. on_closed q (failed AsyncCancelled st) (on_fails (in_progress st) AsyncCancelled st h);
+  }
+
+  on_puts : (v : ℕ) (w : Write) (mark : Mark) (x : State) → HasRoom k x → HasRoom k (put v w mark x)
+  on_puts v w Clean x h = fewer x _ (fewer_in_change (written w) (fewer_written w) v x.volumes) h
+  on_puts v w Fault x h = h
+  on_puts v w (FaultAfter n) x h = h
+
+  on_reverts : (s : Plan) (v : ℕ) (x : Kept) (mark : Mark) (st : State) → HasRoom k st → HasRoom k (reverted_as s v x mark st).1
+  on_reverts s v x Clean st h = fewer st _ (fewer_in_change (reverted x.row.number x.point) (fewer_reverted x.row.number x.point) v st.volumes) h
+  on_reverts s v x Fault st h = h
+  on_reverts s v x (FaultAfter n) st h = fewer st _ (fewer_in_change (reverted_in_part (blocks_of s v) x.row.number x.point n) (fewer_in_part (blocks_of s v) x.row.number x.point n) v st.volumes) h
+
+  kept_by_writes : (st : State) → IsKeptByWrites (HasRoom k) st
+  kept_by_writes st = record {
+    puts = λ v e w mark x h. on_puts v w mark x h;
+    reverts = λ s n v x mark e f h. on_reverts s v x mark st h;
+  }
+
+  on_after : (s : Plan) (st : State) (act : Act) → (is_provider act.event && is_cut_group (open_group (left_now st))) ≡ false → HasRoom k st → HasRoom k (after s st act)
+  on_after s st act e h =
+      on_after_steps (HasRoom k) kept_but_steps s st act (kept_by_writes st)
+      (λ f g. on_steps act.mark st (second_not (is_provider act.event) (is_cut_group (open_group (left_now st))) e g) h)
+      (λ lane all c f g. on_begin lane all c st h) h
+
+-- ## every act
+
+more_known : (k l : Cuts) → ((n : ℕ) → l n ≡ None → k n ≡ None) → (hs : List History) (o : Option SetRow) → Roomy k hs o → Roomy l hs o
+more_known k l same hs None h = tt
+more_known k l same hs (Some r) h = λ e v g. h (same r.number e) v g
+
+abbrev known : Plan → List Act → Cuts
+known s acts n = cut s n acts
+
+uncut_before : (o p : Option (List Act)) → or_cut o p ≡ None → o ≡ None
+uncut_before None p e = refl
+uncut_before (Some x) p e = absurd cc
+
+fewer_known : (s : Plan) (past : List Act) (act : Act) (n : ℕ) → known s (past ++ act ∷ []) n ≡ None → known s past n ≡ None
+fewer_known s past act n e = uncut_before (cut s n past) _ (sym (cut-append s n past act) ∙ e)
+
+-- the set that is cut now is cut
+cut_known : (o : Option (List Act)) (b : Bool) (past : List Act) → b ≡ true → or_cut o (cut_if b past None) ≡ None → ⊥
+cut_known None true past e f = cc
+cut_known (Some x) true past e f = cc
+cut_known o false past e f = cc
+
+at_cut : (s : Plan) (past : List Act) (act : Act) (r : SetRow) → is_provider act.event ≡ true → is_cut_group (open_group (left_now (state s past))) ≡ true → in_progress (state s past) ≡ Some r
+    → HasRoom (known s (past ++ act ∷ [])) (after s (state s past) act)
+at_cut s past act r e f g =
+    let st = state s past in
+    let l = known s (past ++ act ∷ []) in
+    let x = cut_set (Some r) st in
+    subst (HasRoom l) (sym (after_cut s st act e f ∙ ap (λ o. followed (runs st) (course_stepped true st.clock st.course) (cut_set o st)) g))
+    (on_followed l (runs st) (course_stepped true st.clock st.course) x
+    (subst (Roomy l x.volumes) (sym (find-row_cut r.number st.clock st.sets ∙ ap (option_map (row_cut r.number st.clock)) g))
+    (λ none v h. absurd (cut_known (cut s r.number past) (is_cut_of r.number st act) past now (sym (cut-append s r.number past act) ∙ ap l (sym (number (r.number == r.number) st.clock)) ∙ none)))))
+  where
+    number : (b : Bool) (now : ℕ) → (if b then record r { cut_at = Some now } else r).number ≡ r.number
+    number true now = refl
+    number false now = refl
+
+    all_true : (a b c : Bool) → a ≡ true → b ≡ true → c ≡ true → (a && b && c) ≡ true
+    all_true true true c e f g = g
+    all_true true false c e f g = absurd cc
+    all_true false b c e f g = absurd cc
+
+    own : (a : ℕ) → (a == a) ≡ true
+    own a = grind arith
+
+    now : is_cut_of r.number (state s past) act ≡ true
+    now = all_true (is_provider act.event) (is_cut_group (open_group (left_now (state s past)))) (is_set r.number (in_progress (state s past))) e f (ap (is_set r.number) g ∙ own r.number)
+
+on_act_if : (b : Bool) (s : Plan) (past : List Act) (act : Act) → (is_provider act.event && is_cut_group (open_group (left_now (state s past)))) ≡ b → HasRoom (known s past) (state s past) → HasRoom (known s (past ++ act ∷ [])) (after s (state s past) act)
+on_act_if false s past act e h =
+    let x = after s (state s past) act in
+    more_known (known s past) (known s (past ++ act ∷ [])) (λ n. fewer_known s past act n) x.volumes (in_progress x) (on_after (known s past) s (state s past) act e h)
+on_act_if true s past act e h =
+    let parts = both (is_provider act.event) (is_cut_group (open_group (left_now (state s past)))) e in
+    let r = has_set (state s past) (cuts s past parts.1) in
+    at_cut s past act r.set parts.0 parts.1 r.is
+
+room_from : (s : Plan) (past acts : List Act) → HasRoom (known s past) (state s past) → HasRoom (known s (past ++ acts)) (state s (past ++ acts))
+room_from s past [] h = subst (λ xs. HasRoom (known s xs) (state s xs)) (sym (append_nothing past)) h
+room_from s past (act ∷ acts) h =
+    subst (λ xs. HasRoom (known s xs) (state s xs)) (append_assoc past (act ∷ []) acts)
+    (room_from s (past ++ act ∷ []) acts (subst (HasRoom (known s (past ++ act ∷ []))) (sym (state-append s past act)) (on_act_if (is_provider act.event && is_cut_group (open_group (left_now (state s past)))) s past act refl h)))
+
+pub room_before_cut : (s : Plan) (acts : List Act) (r : SetRow) (v : ℕ) → in_progress (state s acts) ≡ Some r → cut s r.number acts ≡ None → is_among v r.volumes ≡ true → length (history_of (state s acts) v).images < most_images
+room_before_cut s acts r v e f g =
+    let room = room_from s [] acts tt in
+    (subst (Roomy (known s acts) (state s acts).volumes) e room) f v g
+
+pub room_at_cut : (s : Plan) (acts : List Act) (r : SetRow) (v : ℕ) → is_cut_group (open_group (left_now (state s acts))) ≡ true → in_progress (state s acts) ≡ Some r → is_among v r.volumes ≡ true → length (history_of (state s acts) v).images < most_images
+room_at_cut s acts r v e f g = room_before_cut s acts r v f (not_cut_yet s acts r (cuts s acts e) f) g

@@ -1,0 +1,246 @@
+-- What the log of a running agenda says of who spoke: only volumes of the agenda were held, only its members froze, and once the Cut
+-- step is made the Hold group is closed.
+use Rattle.std.proofs.Common.{◌≡◌, ℕ, ◌==◌, List, [], ◌∷◌, ◌++◌, Option, Some, None, refl, Bool, true, false, map, filter, ap, sym, ◌∙◌, subst, arith}
+use Rattle.std.specs.Prelude.{◌&&◌, ◌||◌, not, if◌then◌else◌}
+use Rattle.std.specs.List.{list_any}
+use Rattle.std.proofs.lemmas.List.Folds.{list_any-append}
+use Rattle.vss_names.specs.declared.level.Level.{Level}
+use Rattle.vss_names.specs.declared.order.Order.TheVariants.{Identify, PrepareBackup, PrepareSnapshot, Freeze, Thaw, PostSnapshot, BackupComplete}
+use Rattle.writer_state.specs.declared.said.Said.{Said}
+use Rattle.writer_state.specs.WriterState.{is_ok}
+use Rattle.set_agenda.specs.declared.group.Group.{Group}
+use Rattle.set_agenda.specs.declared.group.Group.TheVariants.{Orders, PreCommit, Flush, Hold, Cut, Commit, Release, PostCommit}
+use Rattle.set_agenda.specs.declared.kind.Kind.{Kind}
+use Rattle.set_agenda.specs.declared.kind.Kind.TheVariants.{Snapshot}
+use Rattle.set_agenda.specs.declared.member.Member.{Member}
+use Rattle.set_agenda.specs.declared.place.Place.{Place}
+use Rattle.set_agenda.specs.Agenda.{Agenda, Entry, Open, plain, places, group_code, level_code, same_place, is_freeze, has_said, has_frozen, is_at, writers_at, members_of, waited_for, with_group, left_from, groups_left, open_group, open_place, is_among, waits_now, at_place, all_say}
+use Rattle.set_agenda.specs.Course.{is_member}
+use Rattle.scenario.specs.Plan.{Plan}
+use Rattle.vss_model.specs.Acts.{Act, state}
+use Rattle.vss_model.specs.Cut.{is_cut_group}
+use Rattle.vss_model.proofs.Orderly.{true_not_false}
+use Rattle.vss_model.proofs.LogRule.{IsKeptInLog, Running, in_log, unspoken}
+use Rattle.vss_model.proofs.CutLog.{is_cut_made, said_stays}
+use Rattle.vss_model.proofs.AtCut.{IsAtCut, at_cut, kind_at_cut}
+
+-- ## what is said at a place
+
+either_true : (a b c : Bool) → (a || b) ≡ true → (a ≡ true → c ≡ true) → (b ≡ true → c ≡ true) → c ≡ true
+either_true true b c e f g = f refl
+either_true false b c e f g = g e
+
+both_parts : (a b : Bool) → (a && b) ≡ true → (a ≡ true) × (b ≡ true)
+both_parts true b e = (refl, e)
+both_parts false b e = absurd cc
+
+-- what was said anew was said at that place, by one of these
+pub new_said : (p q : Place) (said : Said) (now who : ℕ) (ws : List ℕ) → has_said (map (at_place p said now) ws) q who ≡ true → (same_place p q && is_among who ws) ≡ true
+new_said p q said now who [] e = absurd cc
+new_said p q said now who (w ∷ ws) e = by_head (same_place p q) (w == who) (is_among who ws) (has_said (map (at_place p said now) ws) q who) e (new_said p q said now who ws)
+  where
+    by_head : (a b c d : Bool) → ((a && b) || d) ≡ true → (d ≡ true → (a && c) ≡ true) → (a && (b || c)) ≡ true
+    by_head true true c d e ih = refl
+    by_head true false c d e ih = ih e
+    by_head false b c d e ih = absurd (true_not_false false (ih e) refl)
+
+new_frozen : (p : Place) (said : Said) (now who : ℕ) (ws : List ℕ) → has_frozen (map (at_place p said now) ws) who ≡ true → (is_freeze p.group && is_among who ws) ≡ true
+new_frozen p said now who [] e = absurd cc
+new_frozen p said now who (w ∷ ws) e = by_head (is_freeze p.group) (is_ok said) (w == who) (is_among who ws) (has_frozen (map (at_place p said now) ws) who) e (new_frozen p said now who ws)
+  where
+    by_head : (a o b c d : Bool) → ((a && o && b) || d) ≡ true → (d ≡ true → (a && c) ≡ true) → (a && (b || c)) ≡ true
+    by_head true true true c d e ih = refl
+    by_head true true false c d e ih = ih e
+    by_head true false true c d e ih = refl
+    by_head true false false c d e ih = ih e
+    by_head false o b c d e ih = absurd (true_not_false false (ih e) refl)
+
+-- ## who is waited for is a member
+
+among_filter : (test : ℕ → Bool) (x : ℕ) (xs : List ℕ) → is_among x (filter test xs) ≡ true → is_among x xs ≡ true
+among_filter test x [] e = absurd cc
+among_filter test x (y ∷ xs) e = by_test (test y) e (among_filter test x xs)
+  where
+    by_test : (b : Bool) → is_among x (if b then y ∷ filter test xs else filter test xs) ≡ true → (is_among x (filter test xs) ≡ true → is_among x xs ≡ true) → ((y == x) || is_among x xs) ≡ true
+    by_test true e ih = head (y == x) (is_among x (filter test xs)) (is_among x xs) e ih
+      where
+        head : (a b c : Bool) → (a || b) ≡ true → (b ≡ true → c ≡ true) → (a || c) ≡ true
+        head true b c e f = refl
+        head false b c e f = f e
+    by_test false e ih = tail (y == x) (is_among x xs) (ih e)
+      where
+        tail : (a b : Bool) → b ≡ true → (a || b) ≡ true
+        tail true b e = refl
+        tail false b e = e
+
+-- the open place has the open group, and of its members those are waited for
+waits_members : (a : Agenda) (ps : List Place) (x : ℕ) → is_among x (waits_now (left_from a ps)) ≡ true → is_among x (members_of a (open_place (left_from a ps)).group (open_place (left_from a ps)).level) ≡ true
+waits_members a [] x e = absurd cc
+waits_members a (p ∷ ps) x e = at_group (waited_for a p) (left_from a ps) (λ f. among_filter (λ who. not (has_said a.log p who)) x (members_of a p.group p.level) f) (waits_members a ps x) e
+  where
+    at_group : (ws : List ℕ) (later : List Open) → (is_among x ws ≡ true → is_among x (members_of a p.group p.level) ≡ true)
+        → (is_among x (waits_now later) ≡ true → is_among x (members_of a (open_place later).group (open_place later).level) ≡ true)
+        → is_among x (waits_now (with_group p ws later)) ≡ true
+        → is_among x (members_of a (open_place (with_group p ws later)).group (open_place (with_group p ws later)).level) ≡ true
+    at_group [] later own ih e = ih e
+    at_group (w ∷ ws) later own ih e = own e
+
+-- ## the volumes that are held
+
+hold_members : (g : Group) (k m : ℕ) (a : Agenda) (l : Option Level) (v : ℕ) → ((group_code g == group_code Hold) && (k == m)) ≡ true → is_among v (members_of a g l) ≡ true → is_among v a.volumes ≡ true
+hold_members (Orders Identify) k m a l v e h = absurd cc
+hold_members (Orders PrepareBackup) k m a l v e h = absurd cc
+hold_members (Orders PrepareSnapshot) k m a l v e h = absurd cc
+hold_members (Orders Freeze) k m a l v e h = absurd cc
+hold_members (Orders Thaw) k m a l v e h = absurd cc
+hold_members (Orders PostSnapshot) k m a l v e h = absurd cc
+hold_members (Orders BackupComplete) k m a l v e h = absurd cc
+hold_members PreCommit k m a l v e h = absurd cc
+hold_members Flush k m a l v e h = h
+hold_members Hold k m a l v e h = h
+hold_members Cut k m a l v e h = absurd cc
+hold_members Commit k m a l v e h = h
+hold_members Release k m a l v e h = h
+hold_members PostCommit k m a l v e h = absurd cc
+
+-- only volumes of the agenda were held
+abbrev pub HoldsOwn : Agenda → Type 0
+HoldsOwn a = (v : ℕ) → has_said a.log (plain Hold) v ≡ true → is_among v a.volumes ≡ true
+
+said_more : (log new : List Entry) (p : Place) (who : ℕ) (c : Bool) → has_said (log ++ new) p who ≡ true → (has_said log p who ≡ true → c ≡ true) → (has_said new p who ≡ true → c ≡ true) → c ≡ true
+said_more log new p who c e f g =
+    either_true (has_said log p who) (has_said new p who) c (sym (list_any-append (λ (x : Entry). same_place x.place p && (x.who == who)) log new) ∙ e) f g
+
+holds_own : IsKeptInLog HoldsOwn
+holds_own = record {
+  begins = λ k ms vs now v e. absurd cc;
+  says = λ said now ws a waited mild h v e.
+      let p = open_place (groups_left a) in
+      said_more a.log (map (at_place p said now) ws) (plain Hold) v (is_among v a.volumes) e (h v)
+      (λ f.
+      let new = both_parts (same_place p (plain Hold)) (is_among v ws) (new_said p (plain Hold) said now v ws f) in
+      hold_members p.group (level_code p.level) (level_code None) a p.level v new.0 (waits_members a (places a.kind) v (waited v new.1)));
+}
+
+-- ## the writers that are frozen
+
+among_members : (test : Member → Bool) (w : ℕ) (ms : List Member) → is_among w (map (λ (m : Member). m.writer) (filter test ms)) ≡ true → is_member ms w ≡ true
+among_members test w [] e = absurd cc
+among_members test w (m ∷ ms) e = by_test (test m) e (among_members test w ms)
+  where
+    by_test : (b : Bool) → is_among w (map (λ (m : Member). m.writer) (if b then m ∷ filter test ms else filter test ms)) ≡ true → (is_among w (map (λ (m : Member). m.writer) (filter test ms)) ≡ true → is_member ms w ≡ true) → ((m.writer == w) || is_member ms w) ≡ true
+    by_test true e ih = head (m.writer == w) (is_among w (map (λ (m : Member). m.writer) (filter test ms))) (is_member ms w) e ih
+      where
+        head : (a b c : Bool) → (a || b) ≡ true → (b ≡ true → c ≡ true) → (a || c) ≡ true
+        head true b c e f = refl
+        head false b c e f = f e
+    by_test false e ih = tail (m.writer == w) (is_member ms w) (ih e)
+      where
+        tail : (a b : Bool) → b ≡ true → (a || b) ≡ true
+        tail true b e = refl
+        tail false b e = e
+
+freeze_members : (g : Group) (a : Agenda) (l : Option Level) (w : ℕ) → is_freeze g ≡ true → is_among w (members_of a g l) ≡ true → is_member a.members w ≡ true
+freeze_members (Orders Freeze) a l w e h = among_members (λ m. is_at l m.level) w a.members h
+freeze_members (Orders Identify) a l w e h = absurd cc
+freeze_members (Orders PrepareBackup) a l w e h = absurd cc
+freeze_members (Orders PrepareSnapshot) a l w e h = absurd cc
+freeze_members (Orders Thaw) a l w e h = absurd cc
+freeze_members (Orders PostSnapshot) a l w e h = absurd cc
+freeze_members (Orders BackupComplete) a l w e h = absurd cc
+freeze_members PreCommit a l w e h = absurd cc
+freeze_members Flush a l w e h = absurd cc
+freeze_members Hold a l w e h = absurd cc
+freeze_members Cut a l w e h = absurd cc
+freeze_members Commit a l w e h = absurd cc
+freeze_members Release a l w e h = absurd cc
+freeze_members PostCommit a l w e h = absurd cc
+
+-- only members of the agenda froze
+abbrev pub FreezesOwn : Agenda → Type 0
+FreezesOwn a = (w : ℕ) → has_frozen a.log w ≡ true → is_member a.members w ≡ true
+
+freezes_own : IsKeptInLog FreezesOwn
+freezes_own = record {
+  begins = λ k ms vs now w e. absurd cc;
+  says = λ said now ws a waited mild h w e.
+      let p = open_place (groups_left a) in
+      let new = map (at_place p said now) ws in
+      either_true (has_frozen a.log w) (has_frozen new w) (is_member a.members w) (sym (list_any-append (λ (x : Entry). is_freeze x.place.group && is_ok x.said && (x.who == w)) a.log new) ∙ e) (h w)
+      (λ f.
+      let parts = both_parts (is_freeze p.group) (is_among w ws) (new_frozen p said now w ws f) in
+      freeze_members p.group a p.level w parts.0 (waits_members a (places a.kind) w (waited w parts.1)));
+}
+
+-- ## the Hold group is closed before the Cut step
+
+abbrev pub HoldsFirst : Agenda → Type 0
+HoldsFirst a = is_cut_made a.log ≡ true → waited_for a (plain Hold) ≡ []
+
+-- who is not waited for will not be
+fewer_wait : (log new : List Entry) (p : Place) (xs : List ℕ) → filter (λ x. not (has_said log p x)) xs ≡ [] → filter (λ x. not (has_said (log ++ new) p x)) xs ≡ []
+fewer_wait log new p [] e = refl
+fewer_wait log new p (x ∷ xs) e = by_head (has_said log p x) (has_said (log ++ new) p x) (said_stays log new p x) e (fewer_wait log new p xs)
+  where
+    by_head : (b c : Bool) → (b ≡ true → c ≡ true) → (if not b then x ∷ filter (λ x. not (has_said log p x)) xs else filter (λ x. not (has_said log p x)) xs) ≡ []
+        → (filter (λ x. not (has_said log p x)) xs ≡ [] → filter (λ x. not (has_said (log ++ new) p x)) xs ≡ [])
+        → (if not c then x ∷ filter (λ x. not (has_said (log ++ new) p x)) xs else filter (λ x. not (has_said (log ++ new) p x)) xs) ≡ []
+    by_head true true f e ih = ih e
+    by_head true false f e ih = absurd (true_not_false false (f refl) refl)
+    by_head false c f e ih = absurd cc
+
+cut_code : (g : Group) (k m : ℕ) → ((group_code g == group_code Cut) && (k == m)) ≡ true → is_cut_group (Some g) ≡ true
+cut_code (Orders Identify) k m e = absurd cc
+cut_code (Orders PrepareBackup) k m e = absurd cc
+cut_code (Orders PrepareSnapshot) k m e = absurd cc
+cut_code (Orders Freeze) k m e = absurd cc
+cut_code (Orders Thaw) k m e = absurd cc
+cut_code (Orders PostSnapshot) k m e = absurd cc
+cut_code (Orders BackupComplete) k m e = absurd cc
+cut_code PreCommit k m e = absurd cc
+cut_code Flush k m e = absurd cc
+cut_code Hold k m e = absurd cc
+cut_code Cut k m e = refl
+cut_code Commit k m e = absurd cc
+cut_code Release k m e = absurd cc
+cut_code PostCommit k m e = absurd cc
+
+pub cut_open : (os : List Open) → same_place (open_place os) (plain Cut) ≡ true → is_cut_group (open_group os) ≡ true
+cut_open [] e = absurd cc
+cut_open (x ∷ os) e = cut_code x.place.group (level_code x.place.level) (level_code None) e
+
+closed_at_cut : (a : Agenda) → is_cut_group (open_group (groups_left a)) ≡ true → waited_for a (plain Hold) ≡ []
+closed_at_cut a e =
+    let R : Kind → Type 0 = λ k. is_cut_group (open_group (left_from a (places k))) ≡ true in
+    (at_cut a (subst R (kind_at_cut a.kind a e) e)).hold
+
+-- by what said the Cut
+holds_first_more : (said : Said) (now : ℕ) (ws : List ℕ) (a : Agenda) → HoldsFirst a → HoldsFirst (all_say said now ws a)
+holds_first_more said now ws a h e =
+    let p = open_place (groups_left a) in
+    let new = map (at_place p said now) ws in
+    by_cases (is_cut_made a.log) (has_said new (plain Cut) 0) refl refl (sym (list_any-append (λ (x : Entry). same_place x.place (plain Cut) && (x.who == 0)) a.log new) ∙ e)
+  where
+    by_cases : (b c : Bool) → is_cut_made a.log ≡ b → has_said (map (at_place (open_place (groups_left a)) said now) ws) (plain Cut) 0 ≡ c → (b || c) ≡ true → waited_for (all_say said now ws a) (plain Hold) ≡ []
+    by_cases true c f g e = fewer_wait a.log (map (at_place (open_place (groups_left a)) said now) ws) (plain Hold) a.volumes (h f)
+    by_cases false true f g e =
+        let parts = both_parts (same_place (open_place (groups_left a)) (plain Cut)) (is_among 0 ws) (new_said (open_place (groups_left a)) (plain Cut) said now 0 ws g) in
+        fewer_wait a.log (map (at_place (open_place (groups_left a)) said now) ws) (plain Hold) a.volumes (closed_at_cut a (cut_open (groups_left a) parts.0))
+    by_cases false false f g e = absurd cc
+
+holds_first : IsKeptInLog HoldsFirst
+holds_first = record {
+  begins = λ k ms vs now e. absurd cc;
+  says = λ said now ws a waited mild h. holds_first_more said now ws a h;
+}
+
+-- ## in every state
+
+pub held_own : (s : Plan) (acts : List Act) → Running HoldsOwn (state s acts).course.agenda
+held_own s acts = in_log HoldsOwn holds_own s acts
+
+pub frozen_own : (s : Plan) (acts : List Act) → Running FreezesOwn (state s acts).course.agenda
+frozen_own s acts = in_log FreezesOwn freezes_own s acts
+
+pub held_first : (s : Plan) (acts : List Act) → Running HoldsFirst (state s acts).course.agenda
+held_first s acts = in_log HoldsFirst holds_first s acts

@@ -1,0 +1,158 @@
+-- What a change of the volumes does to the history at each place, and that most changes leave fewer images.
+use Rattle.std.proofs.Common.{◌≡◌, ℕ, ◌+◌, ◌==◌, ◌≤◌, zero, suc, List, [], ◌∷◌, Option, Some, None, refl, Bool, true, false, map, filter, length, ap, sym, ◌∙◌, subst, arith}
+use Rattle.std.specs.Prelude.{is_some, not, if◌then◌else◌, nat_lt, slice_get}
+use Rattle.write_history.specs.History.{Write, Image, History, fresh, point_in, dropped, written, reverted, reverted_in_part, after_set}
+use Rattle.write_history.specs.Slots.{Placed, gone_up_to}
+use Rattle.set_agenda.specs.Course.{change_at}
+use Rattle.vss_model.specs.State.{history_in, has_image}
+use Rattle.vss_model.specs.Steps.{cut_each}
+
+-- ## at each place
+
+abbrev pub at : List History → ℕ → History
+at hs v = history_in (slice_get hs v)
+
+abbrev pub Each : (History → History → Type 0) → List History → List History → Type 0
+Each R hs ks = (v : ℕ) → R (at hs v) (at ks v)
+
+module _ (R : History → History → Type 0) (same : (h : History) → R h h) where
+  pub each_map : (f : History → History) → ((h : History) → R h (f h)) → (hs : List History) → Each R hs (map f hs)
+  each_map f g [] zero = same fresh
+  each_map f g [] (suc v) = same fresh
+  each_map f g (x ∷ hs) zero = g x
+  each_map f g (x ∷ hs) (suc v) = each_map f g hs v
+
+  pub each_change : (f : History → History) → ((h : History) → R h (f h)) → (u : ℕ) (hs : List History) → Each R hs (change_at u f hs)
+  each_change f g u [] v = same (at [] v)
+  each_change f g zero (x ∷ hs) zero = g x
+  each_change f g zero (x ∷ hs) (suc v) = same (at hs v)
+  each_change f g (suc u) (x ∷ hs) zero = same x
+  each_change f g (suc u) (x ∷ hs) (suc v) = each_change f g u hs v
+
+  gone_here : (b : Bool) (m : ℕ) (x : History) → R x (record { writes = x.writes; images = after_set m x.images }) → R x (if b then record { writes = x.writes; images = after_set m x.images } else x)
+  gone_here true m x h = h
+  gone_here false m x h = same x
+
+  pub each_gone : (m : ℕ) → ((h : History) → R h (record { writes = h.writes; images = after_set m h.images })) → (ps : List Placed) (hs : List History) → Each R hs (gone_up_to m ps hs)
+  each_gone m g [] hs v = same (at hs v)
+  each_gone m g (p ∷ ps) [] v = same (at [] v)
+  each_gone m g (p ∷ ps) (x ∷ hs) zero = gone_here p.within m x (g x)
+  each_gone m g (p ∷ ps) (x ∷ hs) (suc v) = each_gone m g ps hs v
+
+-- a change at another place
+pub change_other : (f : History → History) (u : ℕ) (hs : List History) (v : ℕ) → (u == v) ≡ false → at (change_at u f hs) v ≡ at hs v
+change_other f u [] v e = refl
+change_other f zero (x ∷ hs) zero e = absurd cc
+change_other f zero (x ∷ hs) (suc v) e = refl
+change_other f (suc u) (x ∷ hs) zero e = refl
+change_other f (suc u) (x ∷ hs) (suc v) e = change_other f u hs v (one_less u v e)
+  where
+    one_less : (a b : ℕ) → (suc a == suc b) ≡ false → (a == b) ≡ false
+    one_less a b e = grind arith
+
+-- ## fewer images
+
+-- no image of another set, and no more of them
+pub record Fewer (h k : History) : Type 0 where
+  pub sets : (n : ℕ) → has_image n k ≡ true → has_image n h ≡ true
+  pub count : length k.images ≤ length h.images
+
+pub fewer_same : (h : History) → Fewer h h
+fewer_same h = record { sets = λ n e. e; count = own (length h.images) }
+  where
+    own : (a : ℕ) → a ≤ a
+    own a = omega arith
+
+pub fewer_still : (h k l : History) → Fewer h k → Fewer k l → Fewer h l
+fewer_still h k l f g = record { sets = λ n e. f.sets n (g.sets n e); count = over (length l.images) (length k.images) (length h.images) g.count f.count }
+  where
+    over : (a b c : ℕ) → a ≤ b → b ≤ c → a ≤ c
+    over a b c e f = omega (arith, e, f)
+
+sets_filter : (test : Image → Bool) (images : List Image) (n : ℕ) → is_some (point_in n (filter test images)) ≡ true → is_some (point_in n images) ≡ true
+sets_filter test [] n e = e
+sets_filter test (i ∷ images) n e = by_test (test i) e (sets_filter test images n)
+  where
+    by_set : (b : Bool) → is_some (if b then Some i.point else point_in n (filter test images)) ≡ true → (is_some (point_in n (filter test images)) ≡ true → is_some (point_in n images) ≡ true) → is_some (if b then Some i.point else point_in n images) ≡ true
+    by_set true e ih = refl
+    by_set false e ih = ih e
+
+    later : (b : Bool) → is_some (point_in n images) ≡ true → is_some (if b then Some i.point else point_in n images) ≡ true
+    later true e = refl
+    later false e = e
+
+    by_test : (b : Bool) → is_some (point_in n (if b then i ∷ filter test images else filter test images)) ≡ true → (is_some (point_in n (filter test images)) ≡ true → is_some (point_in n images) ≡ true) → is_some (if i.set == n then Some i.point else point_in n images) ≡ true
+    by_test true e ih = by_set (i.set == n) e ih
+    by_test false e ih = later (i.set == n) (ih e)
+
+count_filter : (test : Image → Bool) (images : List Image) → length (filter test images) ≤ length images
+count_filter test [] = omega arith
+count_filter test (i ∷ images) = by_test (test i) (count_filter test images)
+  where
+    step : (a b : ℕ) → a ≤ b → suc a ≤ suc b
+    step a b e = omega (arith, e)
+
+    more : (a b : ℕ) → a ≤ b → a ≤ suc b
+    more a b e = omega (arith, e)
+
+    by_test : (b : Bool) → length (filter test images) ≤ length images → length (if b then i ∷ filter test images else filter test images) ≤ length (i ∷ images)
+    by_test true e = step (length (filter test images)) (length images) e
+    by_test false e = more (length (filter test images)) (length images) e
+
+fewer_filter : (test : Image → Bool) (h : History) (ws : List Write) → Fewer h (record { writes = ws; images = filter test h.images })
+fewer_filter test h ws = record { sets = λ n e. sets_filter test h.images n e; count = count_filter test h.images }
+
+pub fewer_dropped : (n : ℕ) (h : History) → Fewer h (dropped n h)
+fewer_dropped n h = fewer_filter (λ i. not (i.set == n)) h h.writes
+
+pub fewer_written : (w : Write) (h : History) → Fewer h (written w h)
+fewer_written w h = record { sets = λ n e. e; count = (fewer_same h).count }
+
+pub fewer_reverted : (n p : ℕ) (h : History) → Fewer h (reverted n p h)
+fewer_reverted n p h = fewer_filter (λ i. not (nat_lt n i.set)) h _
+
+pub fewer_in_part : (blocks n p k : ℕ) (h : History) → Fewer h (reverted_in_part blocks n p k h)
+fewer_in_part blocks n p k h = fewer_filter (λ i. not (nat_lt n i.set)) h _
+
+pub fewer_gone : (m : ℕ) (h : History) → Fewer h (record { writes = h.writes; images = after_set m h.images })
+fewer_gone m h = fewer_filter (λ i. nat_lt m i.set) h h.writes
+
+-- ## all volumes
+
+pub as_many_map : (f : History → History) (hs : List History) → length (map f hs) ≡ length hs
+as_many_map f [] = refl
+as_many_map f (x ∷ hs) = ap (λ n. suc n) (as_many_map f hs)
+
+pub as_many_change : (f : History → History) (u : ℕ) (hs : List History) → length (change_at u f hs) ≡ length hs
+as_many_change f u [] = refl
+as_many_change f zero (x ∷ hs) = refl
+as_many_change f (suc u) (x ∷ hs) = ap (λ n. suc n) (as_many_change f u hs)
+
+pub as_many_gone : (m : ℕ) (ps : List Placed) (hs : List History) → length (gone_up_to m ps hs) ≡ length hs
+as_many_gone m [] hs = refl
+as_many_gone m (p ∷ ps) [] = refl
+as_many_gone m (p ∷ ps) (x ∷ hs) = ap (λ n. suc n) (as_many_gone m ps hs)
+
+pub as_many_cut : (n : ℕ) (vs : List ℕ) (u : ℕ) (hs : List History) → length (cut_each n vs u hs) ≡ length hs
+as_many_cut n vs u [] = refl
+as_many_cut n vs u (x ∷ hs) = ap (λ k. suc k) (as_many_cut n vs (u + 1) hs)
+
+-- as many volumes, each with fewer images
+pub record FewerIn (hs ks : List History) : Type 0 where
+  pub each : Each Fewer hs ks
+  pub as_many : length ks ≡ length hs
+
+pub fewer_in_same : (hs : List History) → FewerIn hs hs
+fewer_in_same hs = record { each = λ v. fewer_same (at hs v); as_many = refl }
+
+pub fewer_in_over : (hs ks ls : List History) → FewerIn hs ks → FewerIn ks ls → FewerIn hs ls
+fewer_in_over hs ks ls h g = record { each = λ v. fewer_still (at hs v) (at ks v) (at ls v) (h.each v) (g.each v); as_many = g.as_many ∙ h.as_many }
+
+pub fewer_in_map : (f : History → History) → ((h : History) → Fewer h (f h)) → (hs : List History) → FewerIn hs (map f hs)
+fewer_in_map f g hs = record { each = each_map Fewer fewer_same f g hs; as_many = as_many_map f hs }
+
+pub fewer_in_change : (f : History → History) → ((h : History) → Fewer h (f h)) → (u : ℕ) (hs : List History) → FewerIn hs (change_at u f hs)
+fewer_in_change f g u hs = record { each = each_change Fewer fewer_same f g u hs; as_many = as_many_change f u hs }
+
+pub fewer_in_gone : (m : ℕ) (ps : List Placed) (hs : List History) → FewerIn hs (gone_up_to m ps hs)
+fewer_in_gone m ps hs = record { each = each_gone Fewer fewer_same m (fewer_gone m) ps hs; as_many = as_many_gone m ps hs }
