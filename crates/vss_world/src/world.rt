@@ -124,7 +124,7 @@ impl<D: Device> World<D> {
             Event::Provider => Ok(self.provider(scenario)),
             // no writer is waited for, so none may answer, and no time goes by
             Event::Answer { .. } | Event::Idle => {
-                let _never = self.sessions.waits_for_writers();
+                let _facts = self.sessions.waits_for_writers();
                 Ok(Reply::Blocked)
             }
         }
