@@ -13,7 +13,8 @@ use crate::moved::Moved;
 use crate::play_fault::PlayFault;
 use crate::step_fault::StepFault;
 use crate::turn::{
-    advance, are_used_up, first_cursors, mark_of, next_line, push_move, write_lines,
+    advance, are_used_up, first_cursors, lanes_with_lines, mark_of, next_line, push_move,
+    write_lines,
 };
 use scenario::Scenario;
 use std::alloc::Global;
@@ -33,19 +34,21 @@ pub struct Play<D: Device> {
     world: World<D>,
     /// For each lane, how many lines it has made.
     cursors: Vec<u32>,
+    /// How many lanes have a line left.
+    going: u32,
     trail: Trail,
     lines: Text,
 }
 
 impl<D: Device> Model for Play<D> {
     ghost use Rattle.vss_play.specs.Played.{Played};
-    ghost use Rattle.vss_play.specs.Running.{IsPlay};
+    ghost use Rattle.vss_play.specs.Running.{IsPlaying};
 
     ghost Value = { Played D };
 
     ghost view = { λ a. record { plan = a.scenario; trail = a.trail.moves; devices = a.world.devices } };
 
-    ghost invariant = { λ a. IsPlay D.told D.size D.count a.scenario a.world a.cursors.items a.trail.moves a.lines.bytes };
+    ghost invariant = { λ a. IsPlaying D.told D.size D.count a.scenario a.world a.cursors.items a.going a.trail.moves a.lines.bytes };
 }
 
 impl<D: Device> Play<D> {
@@ -76,6 +79,7 @@ impl<D: Device> Play<D> {
         let Ok(cursors) = first_cursors(alloc, scenario.lanes()) else {
             return Err(PlayFault::OutOfMemory);
         };
+        let going = lanes_with_lines(&scenario);
         let devices = make_devices(alloc, &scenario, store, maker)?;
         let world = match World::new(alloc, &scenario, devices) {
             Ok(world) => world,
@@ -89,6 +93,7 @@ impl<D: Device> Play<D> {
             scenario,
             world,
             cursors,
+            going,
             trail,
             lines,
         })
@@ -112,13 +117,13 @@ impl<D: Device> Play<D> {
                 Ok(Moved::Finished)
             }
             Actor::Advance => {
-                if are_used_up(&self.scenario, &self.cursors) {
+                if are_used_up(self.going) {
                     return Ok(Moved::Finished);
                 }
                 self.make(alloc, actor, 0, Event::Provider)
             }
             Actor::Idle => {
-                if are_used_up(&self.scenario, &self.cursors) {
+                if are_used_up(self.going) {
                     return Ok(Moved::Finished);
                 }
                 Ok(Moved::Blocked)
@@ -169,7 +174,7 @@ impl<D: Device> Play<D> {
                     &mut self.lines,
                 );
                 push_move(&mut self.trail, item);
-                advance(&mut self.cursors, actor);
+                self.going = advance(&self.scenario, &mut self.cursors, actor, self.going);
                 Ok(Moved::Moved)
             }
         }
@@ -232,6 +237,7 @@ impl<D: Device> Play<D> {
             scenario: _,
             world,
             cursors: _,
+            going: _,
             trail: _,
             lines: _,
         } = self;
