@@ -12,7 +12,7 @@ use Rattle.turn_cell.specs.declared.view.View.{View}
 use Rattle.turn_cell.specs.declared.view.View.TheVariants.{Maker, Idle, Waiting, Holding, Keeper}
 use Rattle.turn_cell.specs.History.{Leads}
 use Rattle.turn_cell.specs.Rule.{callers_in, is_out, knowns, NoneOut, Orderly}
-use Rattle.turn_cell.specs.Standing.{Ended}
+use Rattle.turn_cell.specs.TurnEnd.{Ended}
 use Rattle.turn_cell.proofs.Lists.{at_one, sum_two}
 use Rattle.turn_cell.proofs.TakingIn.{all_fit}
 

@@ -1,5 +1,5 @@
+pub mod Callers
 pub mod History
 pub mod Rule
 pub mod Steps
-pub mod Standing
-pub mod Callers
+pub mod TurnEnd

@@ -3,7 +3,7 @@
 ghost use Rattle.std.specs.Prelude.{◌≡◌, ◌<◌, ℕ, false, Some, length, slice_get, vec_len, IfOk};
 
 use crate::layout::{MOST_BLOCKS, MOST_SLOTS, MOST_VOLUMES, pages_for};
-use crate::{Area, AreaView, Record};
+use crate::{Area, Record};
 use block_data::{BLOCK, BlockBuf, BlockView, Payload};
 use std::alloc::{AllocError, Global};
 use std::process::Abort;
