@@ -34,7 +34,7 @@ use Rattle.vss_model.specs.Acts.{Act, after, state}
 use Rattle.vss_model.specs.Cut.{is_cut_group}
 use Rattle.vss_model.specs.Facts.{NumberedFrom, has_failed}
 use Rattle.vss_model.proofs.Appending.{state-append}
-use Rattle.vss_model.proofs.Rule.{MayBegin, IsKeptByLinesAt, IsKeptAt, after_at}
+use Rattle.vss_model.proofs.Rule.{MayBeginIn, IsKeptByLinesAt, IsKeptAt, after_at}
 use Rattle.vss_model.proofs.Orderly.{true_not_false}
 use Rattle.vss_model.proofs.OrderlyActs.{Moves, MovesOn, moves_answered, moves_stepped, moves_timed, ending_idle, ending_on, orderly}
 use Rattle.vss_model.proofs.CourseCalls.{Settles, Says, Rests, Call, IsCall, call_answered, call_stepped, call_timed}
@@ -449,8 +449,8 @@ imaged_at s st o h = record {
   };
   begins = λ lane all c g. imaged_begin lane all c st h;
   agendas = record {
-    gathers = λ p q g. imaged_begun Gather _ [] st.clock _ st;
-    prepares = λ p q g. imaged_either (has_no_volume (in_progress st)) _ _ h (imaged_begun Prepare _ [] st.clock _ st);
+    gathers = λ q g. imaged_begun Gather _ [] st.clock _ st;
+    prepares = λ q g. imaged_either (has_no_volume (in_progress st)) _ _ h (imaged_begun Prepare _ [] st.clock _ st);
     snapshots = λ q g. imaged_either (has_no_volume (in_progress st)) _ _ h (imaged_begun Snapshot st.course.members _ st.clock st.course st);
     completes = λ q g. imaged_begun Complete _ [] st.clock _ st;
   };
@@ -609,8 +609,8 @@ done_at s st r e run h images =
       };
       begins = λ lane all c g. done_begin n us lane all c st h;
       agendas = record {
-        gathers = λ p q g. done_begun n us Gather _ [] st.clock _ st run h;
-        prepares = λ p q g. done_either n us (has_no_volume (in_progress st)) _ _ (inl h) (done_begun n us Prepare _ [] st.clock _ st run h);
+        gathers = λ q g. done_begun n us Gather _ [] st.clock _ st run h;
+        prepares = λ q g. done_either n us (has_no_volume (in_progress st)) _ _ (inl h) (done_begun n us Prepare _ [] st.clock _ st run h);
         snapshots = λ q g. done_either n us (has_no_volume (in_progress st)) _ _ (inl h) (done_begun n us Snapshot st.course.members _ st.clock st.course st run h);
         completes = λ q g. done_begun n us Complete _ [] st.clock _ st run h;
       };

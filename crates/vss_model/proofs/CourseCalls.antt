@@ -103,16 +103,16 @@ both_true false b e = absurd cc
 
 -- ## who is waited for
 
-asked_if : (b : Bool) (o : Option Order) (p : Order) → order_if b o ≡ Some p → b ≡ true
+pub asked_if : (b : Bool) (o : Option Order) (p : Order) → order_if b o ≡ Some p → b ≡ true
 asked_if true o p e = refl
 asked_if false o p e = absurd cc
 
-asked_waits : (os : List Open) (w : ℕ) → is_asked w os ≡ true → (is_orders (open_place os).group ≡ true) × (is_among w (waits_now os) ≡ true)
+pub asked_waits : (os : List Open) (w : ℕ) → is_asked w os ≡ true → (is_orders (open_place os).group ≡ true) × (is_among w (waits_now os) ≡ true)
 asked_waits [] w e = absurd cc
 asked_waits (x ∷ os) w e = both_true (is_orders x.place.group) (is_among w x.waits) e
 
 -- among one alone is that one
-one_alone : (w x : ℕ) (xs : List ℕ) → is_among w xs ≡ true → is_among x (w ∷ []) ≡ true → is_among x xs ≡ true
+pub one_alone : (w x : ℕ) (xs : List ℕ) → is_among w xs ≡ true → is_among x (w ∷ []) ≡ true → is_among x xs ≡ true
 one_alone w x xs e f = subst (λ y. is_among y xs ≡ true) (same (w == x) refl f) e
   where
     equal : (a b : ℕ) → (a == b) ≡ true → a ≡ b
@@ -138,7 +138,7 @@ head_waits a (p ∷ ps) e = at_group p (waited_for a p) (left_from a ps) (head_w
     at_group p [] later ih e = ih e
     at_group p (w ∷ ws) later ih e = first_among w ws
 
-now_orders : (os : List Open) (o : Order) → order_now os ≡ Some o → is_orders (open_place os).group ≡ true
+pub now_orders : (os : List Open) (o : Order) → order_now os ≡ Some o → is_orders (open_place os).group ≡ true
 now_orders [] o e = absurd cc
 now_orders (x ∷ os) o e = of_group x.place.group e
   where

@@ -22,7 +22,7 @@ use Rattle.vss_model.specs.Steps.{answered, is_flush, is_failed_step, stepped_as
 use Rattle.vss_model.specs.Acts.{Act, after, state}
 use Rattle.vss_model.specs.Facts.{NumberedFrom, IsOfSession, has_failed, is_live}
 use Rattle.vss_model.proofs.Appending.{state-append}
-use Rattle.vss_model.proofs.Rule.{MayBegin, IsKeptByLinesAt, IsKeptAt, after_at}
+use Rattle.vss_model.proofs.Rule.{MayBeginIn, IsKeptByLinesAt, IsKeptAt, after_at}
 use Rattle.vss_model.proofs.Orderly.{live-map, live_append, live_found, true_not_false}
 use Rattle.vss_model.proofs.OrderlyActs.{Moves, MovesOn, moves_answered, moves_stepped, moves_timed, ending_idle, ending_on, orderly, same_changed}
 use Rattle.vss_model.proofs.Failures.{failed_not_live}
@@ -115,10 +115,10 @@ module _ (n : ℕ) where
     ends = λ q f. idle_end q (failed AsyncCancelled st);
   }
 
-  idle_agendas : (st : State) → Fails st.course ≡ false → is_live st.sets n ≡ true → MayBegin (LiveOrIdle n) st
-  idle_agendas st f h = record {
-    gathers = λ s q g. inl (live_followed n true _ st (none_begun Gather _ [] st.clock _ f) h);
-    prepares = λ s q g. either (has_no_volume (in_progress st)) _ _ (inl h) (inl (live_followed n true _ st (none_begun Prepare _ [] st.clock _ f) h));
+  idle_agendas : (s : Plan) (st : State) → Fails st.course ≡ false → is_live st.sets n ≡ true → MayBeginIn (LiveOrIdle n) s st
+  idle_agendas s st f h = record {
+    gathers = λ q g. inl (live_followed n true _ st (none_begun Gather _ [] st.clock _ f) h);
+    prepares = λ q g. either (has_no_volume (in_progress st)) _ _ (inl h) (inl (live_followed n true _ st (none_begun Prepare _ [] st.clock _ f) h));
     snapshots = λ q g. either (has_no_volume (in_progress st)) _ _ (inl h) (inl (live_followed n true _ st (none_begun Snapshot st.course.members _ st.clock st.course f) h));
     completes = λ q g. inl (live_followed n true _ st (none_begun Complete _ [] st.clock _ f) h);
   }
@@ -127,7 +127,7 @@ module _ (n : ℕ) where
   idle_at s st r e f h = record {
     lines = idle_lines s st r e h;
     begins = λ lane all c g. idle_begin lane all c st h;
-    agendas = idle_agendas st f h;
+    agendas = idle_agendas s st f h;
     answers = λ w said g. idle_answers w said st h;
     steps = λ mark g. idle_steps mark st g f h;
   }

@@ -18,6 +18,9 @@ pub mod Volumes
 pub mod FewerImages
 pub mod OfSet
 pub mod HoldOpen
+pub mod KnownWriters
+pub mod Named
+pub mod Gathered
 pub mod RoomForImage
 pub mod Rows
 pub mod FlushFails

@@ -149,6 +149,16 @@ may_begin P k st h = record {
   completes = λ q g. k.completes q st g h;
 }
 
+-- the same for one scenario
+pub record MayBeginIn (P : State → Type 0) (s : Plan) (st : State) : Type 0 where
+  pub gathers : (q : Session) → LetsGo call.Gather q st → P (gather s st).1
+  pub prepares : (q : Session) → LetsGo call.Prepare q st → P (prepare s q st).1
+  pub snapshots : (q : Session) → LetsGo call.Snapshot q st → P (snapshot st).1
+  pub completes : (q : Session) → LetsGo call.Complete q st → P (complete st).1
+
+in_scenario : (P : State → Type 0) (s : Plan) (st : State) → MayBegin P st → MayBeginIn P s st
+in_scenario P s st b = record { gathers = b.gathers s; prepares = b.prepares s; snapshots = b.snapshots; completes = b.completes }
+
 -- the changes of lines that begin no agenda, each made in one state by an act of one scenario
 pub record IsKeptByLinesAt (P : State → Type 0) (s : Plan) (st : State) : Type 0 where
   pub stays : P st
@@ -279,7 +289,7 @@ module _ (P : State → Type 0) (s : Plan) (st : State) (k : IsKeptByLinesAt P s
 
   -- ## every line
 
-  pub line_at : (lane : ℕ) (op : Op) (mark : Mark) → ((all : Bool) (c : Option Context) → is_begin op ≡ true → st.session ≡ None → P (begin_in lane all c st).1) → (begins_agenda op ≡ true → MayBegin P st) → line_enabled s st lane op ≡ true → P (line s lane op mark st).1
+  pub line_at : (lane : ℕ) (op : Op) (mark : Mark) → ((all : Bool) (c : Option Context) → is_begin op ≡ true → st.session ≡ None → P (begin_in lane all c st).1) → (begins_agenda op ≡ true → MayBeginIn P s st) → line_enabled s st lane op ≡ true → P (line s lane op mark st).1
   line_at lane (WriteFill v b x) mark begins agendas e = k.writes v (record { block = b; bytes = payload_bytes (Fill x) }) mark (not_held (is_held st v) (is_free st (acts_as s lane)) e)
   line_at lane (WriteStamp v b n) mark begins agendas e = k.writes v (record { block = b; bytes = payload_bytes (Stamp n) }) mark (not_held (is_held st v) (is_free st (acts_as s lane)) e)
   line_at lane (Read v b) mark begins agendas e = k.stays
@@ -293,12 +303,12 @@ module _ (P : State → Type 0) (s : Plan) (st : State) (k : IsKeptByLinesAt P s
   line_at lane (Tick n) mark begins agendas e = k.ticks n
   line_at lane (Begin c all) mark begins agendas e = on_called (call.Begin c all) lane (Begin c all) (λ g. on_begin_line lane c all st.session (λ all x e. begins all x refl e) refl)
   line_at lane (Disable w) mark begins agendas e = on_owned call.Disable lane (Disable w) refl (λ g. k.disables w g.own (quiet_of call.Disable g refl))
-  line_at lane Gather mark begins agendas e = on_owned call.Gather lane Gather refl (λ g. (agendas refl).gathers s g.own (quiet_of call.Gather g refl))
+  line_at lane Gather mark begins agendas e = on_owned call.Gather lane Gather refl (λ g. (agendas refl).gathers g.own (quiet_of call.Gather g refl))
   line_at lane (Component w full) mark begins agendas e = on_owned call.Component lane (Component w full) refl (λ g. on_component g.own g.own.mode w (token s full) (quiet_of call.Component g refl))
   line_at lane Document mark begins agendas e = on_owned call.Document lane Document refl (λ g. k.stays)
   line_at lane Start mark begins agendas e = on_owned call.Start lane Start refl (λ g. k.starts g.own (quiet_of call.Start g refl) (g.free refl))
   line_at lane (Add v) mark begins agendas e = on_owned call.Add lane (Add v) refl (λ g. on_add v (in_progress st) g.own (quiet_of call.Add g refl) refl)
-  line_at lane Prepare mark begins agendas e = on_owned call.Prepare lane Prepare refl (λ g. (agendas refl).prepares s g.own (quiet_of call.Prepare g refl))
+  line_at lane Prepare mark begins agendas e = on_owned call.Prepare lane Prepare refl (λ g. (agendas refl).prepares g.own (quiet_of call.Prepare g refl))
   line_at lane Snapshot mark begins agendas e = on_owned call.Snapshot lane Snapshot refl (λ g. (agendas refl).snapshots g.own (quiet_of call.Snapshot g refl))
   line_at lane Await mark begins agendas e = on_owned call.Await lane Await refl (λ g. on_await g.own.last)
   line_at lane Status mark begins agendas e = on_owned call.Status lane Status refl (λ g. k.stays)
@@ -307,13 +317,13 @@ module _ (P : State → Type 0) (s : Plan) (st : State) (k : IsKeptByLinesAt P s
   line_at lane End mark begins agendas e = on_owned call.End lane End refl (λ g. k.ends g.own g.is)
 
 pub on_line : (P : State → Type 0) (k : IsKeptByLines P) (s : Plan) (lane : ℕ) (op : Op) (mark : Mark) (st : State) → IsKeptByWrites P st → ((all : Bool) (c : Option Context) → is_begin op ≡ true → st.session ≡ None → P (begin_in lane all c st).1) → (begins_agenda op ≡ true → MayBegin P st) → line_enabled s st lane op ≡ true → P st → P (line s lane op mark st).1
-on_line P k s lane op mark st at begins agendas e h = line_at P s st (at_state P k s st at h) lane op mark begins agendas e
+on_line P k s lane op mark st at begins agendas e h = line_at P s st (at_state P k s st at h) lane op mark begins (λ f. in_scenario P s st (agendas f)) e
 
 -- every change, each made in one state by an act of one scenario
 pub record IsKeptAt (P : State → Type 0) (s : Plan) (st : State) : Type 0 where
   pub lines : IsKeptByLinesAt P s st
   pub begins : (lane : ℕ) (all : Bool) (c : Option Context) → st.session ≡ None → P (begin_in lane all c st).1
-  pub agendas : MayBegin P st
+  pub agendas : MayBeginIn P s st
   pub answers : (w : ℕ) (said : Said) → is_some (order_of_writer st w) ≡ true → P (answered w said st)
   pub steps : (mark : Mark) → is_working (left_now st) ≡ true → P (stepped mark st)
 

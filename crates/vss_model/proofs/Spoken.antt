@@ -57,7 +57,7 @@ new_frozen p said now who (w ∷ ws) e = by_head (is_freeze p.group) (is_ok said
 
 -- ## who is waited for is a member
 
-among_filter : (test : ℕ → Bool) (x : ℕ) (xs : List ℕ) → is_among x (filter test xs) ≡ true → is_among x xs ≡ true
+pub among_filter : (test : ℕ → Bool) (x : ℕ) (xs : List ℕ) → is_among x (filter test xs) ≡ true → is_among x xs ≡ true
 among_filter test x [] e = absurd cc
 among_filter test x (y ∷ xs) e = by_test (test y) e (among_filter test x xs)
   where
@@ -74,7 +74,7 @@ among_filter test x (y ∷ xs) e = by_test (test y) e (among_filter test x xs)
         tail false b e = e
 
 -- the open place has the open group, and of its members those are waited for
-waits_members : (a : Agenda) (ps : List Place) (x : ℕ) → is_among x (waits_now (left_from a ps)) ≡ true → is_among x (members_of a (open_place (left_from a ps)).group (open_place (left_from a ps)).level) ≡ true
+pub waits_members : (a : Agenda) (ps : List Place) (x : ℕ) → is_among x (waits_now (left_from a ps)) ≡ true → is_among x (members_of a (open_place (left_from a ps)).group (open_place (left_from a ps)).level) ≡ true
 waits_members a [] x e = absurd cc
 waits_members a (p ∷ ps) x e = at_group (waited_for a p) (left_from a ps) (λ f. among_filter (λ who. not (has_said a.log p who)) x (members_of a p.group p.level) f) (waits_members a ps x) e
   where
@@ -124,7 +124,7 @@ holds_own = record {
 
 -- ## the writers that are frozen
 
-among_members : (test : Member → Bool) (w : ℕ) (ms : List Member) → is_among w (map (λ (m : Member). m.writer) (filter test ms)) ≡ true → is_member ms w ≡ true
+pub among_members : (test : Member → Bool) (w : ℕ) (ms : List Member) → is_among w (map (λ (m : Member). m.writer) (filter test ms)) ≡ true → is_member ms w ≡ true
 among_members test w [] e = absurd cc
 among_members test w (m ∷ ms) e = by_test (test m) e (among_members test w ms)
   where

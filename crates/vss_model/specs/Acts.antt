@@ -156,7 +156,3 @@ event_allows s st (Line lane op) mark = line_allows s st op mark
 event_allows s st (AnswerEvent w answer) mark = flush_allows false mark
 event_allows s st Provider mark = flush_allows (is_flush (open_group (left_now st))) mark
 event_allows s st Idle mark = flush_allows false mark
-
--- the marks that an act may have
-abbrev pub is_allowed : Plan → State → Act → Bool
-is_allowed s st act = enabled s st act.event && event_allows s st act.event act.mark

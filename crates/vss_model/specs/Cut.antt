@@ -1,6 +1,6 @@
 -- The cut of a set: the acts before its one Cut step. It is one prefix for all volumes of the set; the image of the set on
 -- a volume shows the volume at it, and the participants of the set are those of the course there. (This project's own.)
-use Rattle.std.specs.Prelude.{ℕ, ◌≡◌, take, Bool, true, false, List, [], ◌∷◌, ◌++◌, length, ◌==◌, ◌&&◌, Option, Some, None, option_map}
+use Rattle.std.specs.Prelude.{ℕ, ◌≡◌, take, Bool, true, false, List, [], ◌∷◌, ◌++◌, length, ◌==◌, ◌&&◌, Option, Some, None}
 use Rattle.write_history.specs.History.{Write}
 use Rattle.set_agenda.specs.declared.group.Group.{Group}
 use Rattle.set_agenda.specs.declared.group.Group.TheVariants.{Orders, PreCommit, Flush, Hold, Cut, Commit, Release, PostCommit}
@@ -48,10 +48,6 @@ cut_from s n before st (act ∷ acts) = cut_if (is_cut_of n st act) before (cut_
 -- the part of the acts before the Cut step of set n, where there is one
 abbrev pub cut : Plan → ℕ → List Act → Option (List Act)
 cut s n acts = cut_from s n [] (start s) acts
-
--- how many effective writes a volume had at the cut of set n
-abbrev pub point : Plan → ℕ → ℕ → List Act → Option ℕ
-point s n v acts = option_map (λ before. length (history_of (state s before) v).writes) (cut s n acts)
 
 -- an image of volume v with this point shows the volume as it was at the cut of its set: the point is the number of
 -- effective writes there, and the effective writes since then begin with those

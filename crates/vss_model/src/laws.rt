@@ -1,13 +1,15 @@
 //! What holds for every run: functions that do nothing, whose contracts are the laws.
 
-ghost use Rattle.std.specs.Prelude.{is_some, ◌⊎◌, length, drop, ◌≡◌, ◌<◌, ◌≤◌, ◌+◌, ◌++◌, ◌∷◌, ◌&&◌, [], true, false, Bool, ℕ, List, Some, None};
+ghost use Rattle.std.specs.Prelude.{slice_get, is_some, ◌⊎◌, length, drop, ◌≡◌, ◌<◌, ◌≤◌, ◌+◌, ◌++◌, ◌∷◌, ◌&&◌, [], true, false, Bool, ℕ, List, Some, None};
 ghost use Rattle.write_history.specs.declared.move_item.Move.{Move};
 ghost use Rattle.scenario.specs.Plan.{Plan, lines_of};
 ghost use Rattle.write_history.specs.History.{content, point_in};
 ghost use Rattle.write_history.specs.Slots.{Placed, copies, used_by};
 ghost use Rattle.set_agenda.specs.declared.group.Group.TheVariants.{Hold, Cut, Release};
 ghost use Rattle.set_agenda.specs.Agenda.{Agenda, plain, open_group, has_said, is_among, is_asking, is_working, next_member};
-ghost use Rattle.vss_model.specs.Sessions.{most_images};
+ghost use Rattle.component_doc.specs.Selection.{Named};
+ghost use Rattle.component_doc.specs.Over.{IsSelectedOver};
+ghost use Rattle.vss_model.specs.Sessions.{most_images, known_metas, has_failed_identify};
 ghost use Rattle.set_agenda.specs.Limits.{spent_of};
 ghost use Rattle.set_agenda.specs.Course.{is_member, limits_now};
 ghost use Rattle.vss_model.specs.Ending.{runs};
@@ -141,6 +143,14 @@ pub fn hold_comes_before_cut_and_release()
         → (state s acts).course.agenda ≡ Some a → has_said a.log (plain Cut) 0 ≡ false }
     ensures release { (s : Plan) (acts : List Act) (a : Agenda) (v : ℕ) → open_group (left_now (state s acts)) ≡ Some Hold
         → (state s acts).course.agenda ≡ Some a → has_said a.log (plain Release) v ≡ false }
+{}
+
+/// What a session names are selectable components of writers that it knows, each named once and in order; and who takes part
+/// has not failed at Identify.
+pub fn named_components_are_known()
+    ensures named { (s : Plan) (acts : List Act) → IsSelectedOver (known_metas s (state s acts)) (Named (state s acts).explicit) }
+    ensures fit { (s : Plan) (acts : List Act) (w : ℕ) → is_member (state s acts).course.members w ≡ true
+        → has_failed_identify (slice_get (state s acts).course.rows w) ≡ false }
 {}
 
 /// While no set is in progress, no volume is held and no writer stands frozen.

@@ -110,18 +110,3 @@ pub fn add_closing(scenario: &Scenario, row: &ClosingRow, out: &mut Text)
         ClosingRow::Writer { writer, row } => add_writer_line(scenario, *writer, row, out),
     }
 }
-
-#[cfg(test)]
-mod tests {
-    use super::*;
-    use std::test::Fail;
-
-    #[test]
-    fn the_moves_end_with_their_number_and_the_clock(rt: HostRuntime) -> Result<(), Fail> {
-        let mut out = Text::new(rt.alloc());
-        out.reserve(100)?;
-        add_end_line(&mut out, 26, 60001);
-        assert_eq!(rt; out.bytes(), b"end moves 26 clock 60001\n".as_slice());
-        Ok(())
-    }
-}

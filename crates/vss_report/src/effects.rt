@@ -123,33 +123,3 @@ pub fn add_losses(scenario: &Scenario, order: Option<Order>, lost: u64, out: &mu
     };
     add_all_lost(scenario, order, lost, out);
 }
-
-#[cfg(test)]
-mod tests {
-    use super::*;
-    use std::test::Fail;
-    use vss_names::{VssResult, WriterError};
-
-    #[test]
-    fn only_a_set_that_ends_has_a_line(rt: HostRuntime) -> Result<(), Fail> {
-        let mut out = Text::new(rt.alloc());
-        out.reserve(500)?;
-        add_end(&mut out, 0, SetOutcome::Complete);
-        add_end(&mut out, 1, SetOutcome::Complete);
-        add_end(
-            &mut out,
-            4294967295,
-            SetOutcome::Failed(VssResult::InsufficientStorage),
-        );
-        add_end(
-            &mut out,
-            2,
-            SetOutcome::Failed(VssResult::Writer(WriterError::Timeout)),
-        );
-        let want = b"= set 1 complete\n\
-            = set 4294967295 failed VSS_E_INSUFFICIENT_STORAGE\n\
-            = set 2 failed VSS_E_WRITERERROR_TIMEOUT\n";
-        assert_eq!(rt; out.bytes(), want.as_slice());
-        Ok(())
-    }
-}

@@ -118,17 +118,3 @@ pub fn closing_line(
     add_closing(scenario, row, out);
     Ok(())
 }
-
-#[cfg(test)]
-mod tests {
-    use super::*;
-    use std::test::Fail;
-
-    #[test]
-    fn a_report_begins_with_its_version(rt: HostRuntime) -> Result<(), Fail> {
-        let mut out = Text::new(rt.alloc());
-        opening_line(&mut out)?;
-        assert_eq!(rt; out.bytes(), b"report 1\n".as_slice());
-        Ok(())
-    }
-}

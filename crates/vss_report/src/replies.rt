@@ -290,21 +290,4 @@ mod tests {
         assert_eq!(rt; out.bytes(), want.as_slice());
         Ok(())
     }
-
-    #[test]
-    fn each_step_of_the_provider_has_its_word(rt: HostRuntime) -> Result<(), Fail> {
-        for (group, want) in [
-            (Group::Orders(Order::Freeze), ""),
-            (Group::PreCommit, "precommit"),
-            (Group::Flush, "flush"),
-            (Group::Hold, "hold"),
-            (Group::Cut, "cut"),
-            (Group::Commit, "commit"),
-            (Group::Release, "release"),
-            (Group::PostCommit, "postcommit"),
-        ] {
-            assert_eq!(rt; step_name(group), want);
-        }
-        Ok(())
-    }
 }

@@ -1,0 +1,630 @@
+-- Before its writers are gathered a session names nothing and nobody takes part; from then on what it names are selectable
+-- components of writers that it knows, and only they take part.
+use Rattle.std.proofs.Common.{◌≡◌, ℕ, ◌+◌, ◌==◌, ◌<◌, zero, suc, List, [], ◌∷◌, ◌++◌, ◌⊎◌, Option, Some, None, refl, Bool, true, false, map, filter, ap, sym, ◌∙◌, subst, fold, inl, inr, arith}
+use Rattle.std.specs.Prelude.{option_map, is_some, ◌&&◌, ◌||◌, not, if◌then◌else◌, slice_get, length}
+use Rattle.std.specs.List.{list_any, range_with_len}
+use Rattle.vss_names.specs.declared.context.Context.{Context}
+use Rattle.vss_names.specs.declared.context.Context.TheVariants.{Backup, AppRollback, NasRollback}
+use Rattle.vss_names.specs.declared.vss_result.VssResult.{VssResult}
+use Rattle.vss_names.specs.declared.vss_result.VssResult.TheVariants.{AsyncCancelled, InsufficientStorage}
+use Rattle.writer_state.specs.declared.said.Said.{Said}
+use Rattle.writer_state.specs.declared.writer_row.WriterRow.{WriterRow}
+use Rattle.write_history.specs.declared.mark.Mark.{Mark}
+use Rattle.write_history.specs.declared.mark.Mark.TheVariants.{Clean, Fault, FaultAfter}
+use Rattle.write_history.specs.History.{Write, History}
+use Rattle.writer_meta.specs.Metadata.{Meta}
+use Rattle.component_doc.specs.Selection.{Pair, Selected, Named as NamedPairs, AllOf, naming, Names, is_taker, takers, all_of, known_from as known_of}
+use Rattle.component_doc.specs.Over.{meta_at, is_selectable_of, names_selectable}
+use Rattle.std.specs.List.{list_all}
+use Rattle.set_agenda.specs.declared.group.Group.{Group}
+use Rattle.set_agenda.specs.declared.group.Group.TheVariants.{Orders, PreCommit, Flush, Hold, Cut, Commit, Release, PostCommit}
+use Rattle.set_agenda.specs.declared.kind.Kind.{Kind}
+use Rattle.set_agenda.specs.declared.kind.Kind.TheVariants.{Gather, Prepare, Snapshot, Complete}
+use Rattle.set_agenda.specs.declared.member.Member.{Member}
+use Rattle.set_agenda.specs.Agenda.{Agenda, groups_left, is_among, is_done, open_group, is_working}
+use Rattle.set_agenda.specs.Course.{Course, posted, settled_if, settled_in, settled, begun, failed as course_failed, member_if, members_from, is_member, answered as course_answered, stepped as course_stepped, timed as course_timed, released}
+use Rattle.requestor.specs.declared.mode.Mode.{Mode}
+use Rattle.requestor.specs.declared.mode.Mode.TheVariants.{Components, All}
+use Rattle.requestor.specs.declared.stage.Stage.{Stage}
+use Rattle.requestor.specs.declared.stage.Stage.TheVariants.{Opened, Gathered, Started, Prepared, Done, Finished, Failed}
+use Rattle.requestor.specs.declared.session_call.SessionCall.TheVariants as call
+use Rattle.requestor.specs.Session.{Session, agenda_ended, set_failed, stage_after, has_writers}
+use Rattle.requestor.specs.Check.{is_stage}
+use Rattle.scenario.specs.Plan.{Plan, WriterPlan}
+use Rattle.vss_model.specs.State.{State, SetRow, Kept, start, in_progress, left_now}
+use Rattle.vss_model.specs.Ending.{Ending, NothingEnds, AgendaEnds, SetFails, ending, concluded, followed, runs, failed_in, failed}
+use Rattle.vss_model.specs.Images.{Replied, cleared, set_loses_image, with_room_if, put, write, reverted_as}
+use Rattle.vss_model.specs.Sessions.{begin_in, disable, has_failed_identify, has_no_volume, start_set, selected_in, is_known, meta_if, known_from, known_metas, closed}
+use Rattle.vss_model.specs.Steps.{answered, cut_set, step_made, is_flush, is_failed_step, stepped_as, stepped, ticked, later}
+use Rattle.vss_model.specs.Acts.{Act, after, state}
+use Rattle.vss_model.specs.Laws.{LetsGo}
+use Rattle.vss_model.proofs.Rule.{IsKeptAt, after_at}
+use Rattle.vss_model.proofs.Orderly.{true_not_false}
+use Rattle.vss_model.proofs.LogRule.{unspoken, course-step_made}
+use Rattle.vss_model.proofs.HeldOfSet.{Follows, GoesOn, goes_answered, goes_stepped, goes_timed}
+use Rattle.vss_model.proofs.KnownWriters.{is_unfit, AsFit, AsksFit, AsksFitIn, is_gathering, Keeps, keeps_failed, keeps_answered, keeps_stepped, keeps_timed, members_answered, members_timed}
+use Rattle.vss_model.proofs.Named.{AreOver, known_same, named_over}
+
+-- ## the facts
+
+abbrev BareAgenda : Option Agenda → Type 0
+BareAgenda None = Unit {0}
+BareAgenda (Some a) = (is_gathering a.kind ≡ true) ⊎ (a.members ≡ [])
+
+record IsBare (st : State) : Type 0 where
+  explicit : st.explicit ≡ []
+  members : st.course.members ≡ []
+  agenda : BareAgenda st.course.agenda
+
+abbrev pub is_late : Stage → Bool
+is_late Opened = false
+is_late Gathered = true
+is_late Started = true
+is_late Prepared = true
+is_late Done = true
+is_late Finished = true
+is_late Failed = true
+
+abbrev LateIn : Option Session → Type 0
+LateIn None = ⊥
+LateIn (Some q) = is_late q.stage ≡ true
+
+record IsGathered (s : Plan) (st : State) : Type 0 where
+  over : AreOver (known_metas s st) st.explicit
+  members : (w : ℕ) → is_member st.course.members w ≡ true → is_unfit st.course.rows w ≡ false
+  agenda : AsksFitIn st.course.agenda st.course.rows
+  late : LateIn st.session
+
+-- ## what follows
+
+explicit-concluded : (e : Ending) (st : State) → (concluded e st).explicit ≡ st.explicit
+explicit-concluded NothingEnds st = refl
+explicit-concluded AgendaEnds st = refl
+explicit-concluded (SetFails why) st = refl
+
+course-concluded : (e : Ending) (st : State) → (concluded e st).course ≡ st.course
+course-concluded NothingEnds st = refl
+course-concluded AgendaEnds st = refl
+course-concluded (SetFails why) st = refl
+
+late_ended : (c : Context) (x : Stage) → is_late x ≡ true → is_late (stage_after c x) ≡ true
+late_ended c Opened e = absurd cc
+late_ended c Gathered e = refl
+late_ended Backup Started e = refl
+late_ended AppRollback Started e = refl
+late_ended NasRollback Started e = refl
+late_ended c Prepared e = refl
+late_ended c Done e = refl
+late_ended c Finished e = refl
+late_ended c Failed e = refl
+
+late_by_end : (q : Option Session) → LateIn q → LateIn (option_map agenda_ended q)
+late_by_end None h = absurd h
+late_by_end (Some q) h = late_ended q.context q.stage h
+
+late_by_failure : (why : VssResult) (q : Option Session) → LateIn q → LateIn (option_map (set_failed why) q)
+late_by_failure why None h = absurd h
+late_by_failure why (Some q) h = refl
+
+late-concluded : (e : Ending) (st : State) → LateIn st.session → LateIn (concluded e st).session
+late-concluded NothingEnds st h = h
+late-concluded AgendaEnds st h = late_by_end st.session h
+late-concluded (SetFails why) st h = late_by_failure why st.session h
+
+bare_concluded : (e : Ending) (st : State) → IsBare st → IsBare (concluded e st)
+bare_concluded e st h = record {
+  explicit = explicit-concluded e st ∙ h.explicit;
+  members = ap (λ (c : Course). c.members) (course-concluded e st) ∙ h.members;
+  agenda = subst (λ (c : Course). BareAgenda c.agenda) (sym (course-concluded e st)) h.agenda;
+}
+
+gathered_concluded : (s : Plan) (e : Ending) (st : State) → IsGathered s st → IsGathered s (concluded e st)
+gathered_concluded s e st h =
+    let x = concluded e st in
+    let same = course-concluded e st in
+    record {
+      over = subst (AreOver (known_metas s x)) (sym (explicit-concluded e st)) (subst (λ ms. AreOver ms st.explicit) (sym (known_same s st x (ap (λ (c : Course). c.disabled) same) (λ w. ap (λ (c : Course). is_unfit c.rows w) same))) h.over);
+      members = λ w f. ap (λ (c : Course). is_unfit c.rows w) same ∙ h.members w (subst (λ (c : Course). is_member c.members w ≡ true) same f);
+      agenda = subst (λ (c : Course). AsksFitIn c.agenda c.rows) (sym same) h.agenda;
+      late = late-concluded e st h.late;
+    }
+
+bare_followed : (ran : Bool) (c : Course) (st : State) → c.members ≡ [] → BareAgenda c.agenda → IsBare st → IsBare (followed ran c st)
+unfolding followed
+bare_followed ran c st e f h = bare_concluded (ending st.course.outcome c.outcome ran c.agenda) (record st { course = c }) (record { explicit = h.explicit; members = e; agenda = f })
+
+gathered_followed : (s : Plan) (ran : Bool) (c : Course) (st : State) → Keeps st.course c → AsksFitIn c.agenda c.rows → IsGathered s st → IsGathered s (followed ran c st)
+unfolding followed
+gathered_followed s ran c st k a h =
+    gathered_concluded s (ending st.course.outcome c.outcome ran c.agenda) (record st { course = c })
+    (record {
+      over = subst (λ ms. AreOver ms st.explicit) (sym (known_same s st (record st { course = c }) k.disabled k.fit)) h.over;
+      members = λ w f. k.fit w ∙ h.members w (subst (λ ms. is_member ms w ≡ true) k.members f);
+      agenda = a;
+      late = h.late;
+    })
+
+bare_follows : (a : Option Agenda) (c d : Course) → Follows a c.members c.outcome d.agenda d.members d.outcome → BareAgenda a → BareAgenda d.agenda
+bare_follows a c d f h = by_agenda a d.agenda f h
+  where
+    by_agenda : (a b : Option Agenda) → Follows a c.members c.outcome b d.members d.outcome → BareAgenda a → BareAgenda b
+    by_agenda a None f h = tt
+    by_agenda None (Some b) f h = absurd f
+    by_agenda (Some a) (Some b) f (inl h) = inl (ap is_gathering f.kind ∙ h)
+    by_agenda (Some a) (Some b) f (inr h) = inr (f.members ∙ h)
+
+asks_follows : (a b : Option Agenda) (c d : Course) → Follows a c.members c.outcome b d.members d.outcome → AsFit c.rows d.rows → AsksFitIn a c.rows → AsksFitIn b d.rows
+asks_follows a None c d f fit h = tt
+asks_follows None (Some b) c d f fit h = absurd f
+asks_follows (Some a) (Some b) c d f fit h = record {
+  kind = ap is_gathering f.kind ∙ h.kind;
+  fit = λ w e. fit w ∙ h.fit w (subst (λ ms. is_member ms w ≡ true) f.members e);
+}
+
+-- ## an agenda begins
+
+begun_members : (k : Kind) (ms : List Member) (vs : List ℕ) (now : ℕ) (c : Course) → Keeps c (begun k ms vs now c)
+unfolding begun posted settled
+begun_members k ms vs now c = by_done (is_done (groups_left (unspoken k ms vs now)))
+  where
+    by_done : (b : Bool) → Keeps c (posted c (settled_if b k (record c { agenda = Some (unspoken k ms vs now) })))
+    by_done true = record { disabled = refl; members = refl; fit = λ w. refl }
+    by_done false = record { disabled = refl; members = refl; fit = λ w. refl }
+
+bare_begun_agenda : (k : Kind) (ms : List Member) (vs : List ℕ) (now : ℕ) (c : Course) → (is_gathering k ≡ true) ⊎ (ms ≡ []) → BareAgenda (begun k ms vs now c).agenda
+unfolding begun posted settled
+bare_begun_agenda k ms vs now c h = by_done (is_done (groups_left (unspoken k ms vs now)))
+  where
+    by_done : (b : Bool) → BareAgenda (settled_if b k (record c { agenda = Some (unspoken k ms vs now) })).agenda
+    by_done true = tt
+    by_done false = h
+
+fit_begun_agenda : (k : Kind) (ms : List Member) (vs : List ℕ) (now : ℕ) (c : Course) → is_gathering k ≡ false → ((w : ℕ) → is_member ms w ≡ true → is_unfit c.rows w ≡ false) → AsksFitIn (begun k ms vs now c).agenda (begun k ms vs now c).rows
+unfolding begun posted settled
+fit_begun_agenda k ms vs now c e h = by_done (is_done (groups_left (unspoken k ms vs now)))
+  where
+    by_done : (b : Bool) → AsksFitIn (settled_if b k (record c { agenda = Some (unspoken k ms vs now) })).agenda (settled_if b k (record c { agenda = Some (unspoken k ms vs now) })).rows
+    by_done true = tt
+    by_done false = record { kind = e; fit = h }
+
+bare_begun : (k : Kind) (ms : List Member) (vs : List ℕ) (now : ℕ) (c : Course) (st : State) → c.members ≡ [] → (is_gathering k ≡ true) ⊎ (ms ≡ []) → IsBare st → IsBare (followed true (begun k ms vs now c) st)
+bare_begun k ms vs now c st e g h = bare_followed true (begun k ms vs now c) st ((begun_members k ms vs now c).members ∙ e) (bare_begun_agenda k ms vs now c g) h
+
+gathered_begun : (s : Plan) (k : Kind) (ms : List Member) (vs : List ℕ) (now : ℕ) (st : State) → is_gathering k ≡ false → ((w : ℕ) → is_member ms w ≡ true → is_unfit st.course.rows w ≡ false) → IsGathered s st → IsGathered s (followed true (begun k ms vs now st.course) st)
+gathered_begun s k ms vs now st e fit h = gathered_followed s true (begun k ms vs now st.course) st (begun_members k ms vs now st.course) (fit_begun_agenda k ms vs now st.course e fit) h
+
+-- ## who takes part is known
+
+equal : (a b : ℕ) → (a == b) ≡ true → a ≡ b
+equal a b e = grind arith
+
+known_if : (b : Bool) (m : Meta) → is_some (meta_if b m) ≡ true → b ≡ true
+known_if true m e = refl
+known_if false m e = absurd cc
+
+known_at : (s : Plan) (st : State) (k : ℕ) (ps : List WriterPlan) (w : ℕ) → is_some (meta_at (slice_get (known_from s st k ps) w)) ≡ true → is_known s st (k + w) ≡ true
+known_at s st k [] zero e = absurd cc
+known_at s st k [] (suc w) e = absurd cc
+known_at s st k (p ∷ ps) zero e = ap (is_known s st) (plus k) ∙ known_if (is_known s st k) p.meta e
+  where
+    plus : (a : ℕ) → a + zero ≡ a
+    plus a = omega arith
+known_at s st k (p ∷ ps) (suc w) e = ap (is_known s st) (shift k w) ∙ known_at s st (k + 1) ps w e
+  where
+    shift : (a b : ℕ) → a + suc b ≡ (a + 1) + b
+    shift a b = omega arith
+
+fit_if_known : (a b : Bool) → (not a && not b) ≡ true → b ≡ false
+fit_if_known true b e = absurd cc
+fit_if_known false true e = absurd cc
+fit_if_known false false e = refl
+
+fit_of : (s : Plan) (st : State) (w : ℕ) → is_some (meta_at (slice_get (known_metas s st) w)) ≡ true → is_unfit st.course.rows w ≡ false
+fit_of s st w e = fit_if_known _ (is_unfit st.course.rows w) (subst (λ x. is_known s st x ≡ true) (zero_plus w) (known_at s st 0 s.writers w e))
+  where
+    zero_plus : (a : ℕ) → 0 + a ≡ a
+    zero_plus a = omega arith
+
+selectable_known : (i : ℕ) (o : Option Meta) → is_selectable_of i o ≡ true → is_some o ≡ true
+selectable_known i None e = absurd cc
+selectable_known i (Some m) e = refl
+
+and_left : (a b : Bool) → (a && b) ≡ true → a ≡ true
+and_left true b e = refl
+and_left false b e = absurd cc
+
+and_right : (a b : Bool) → (a && b) ≡ true → b ≡ true
+and_right true b e = e
+and_right false b e = absurd cc
+
+named_known : (ms : List (Option Meta)) (ps : List Pair) (w : ℕ) → list_all (names_selectable ms) ps ≡ true → list_any (λ (p : Pair). p.writer == w) ps ≡ true → is_some (meta_at (slice_get ms w)) ≡ true
+named_known ms [] w e f = absurd cc
+named_known ms (p ∷ ps) w e f = by_head (p.writer == w) refl f (named_known ms ps w (and_right (names_selectable ms p) (list_all (names_selectable ms) ps) e))
+  where
+    by_head : (b : Bool) → (p.writer == w) ≡ b → (b || list_any (λ (x : Pair). x.writer == w) ps) ≡ true → (list_any (λ (x : Pair). x.writer == w) ps ≡ true → is_some (meta_at (slice_get ms w)) ≡ true) → is_some (meta_at (slice_get ms w)) ≡ true
+    by_head true g h ih = subst (λ x. is_some (meta_at (slice_get ms x)) ≡ true) (equal p.writer w g) (selectable_known p.component (meta_at (slice_get ms p.writer)) (and_left (names_selectable ms p) (list_all (names_selectable ms) ps) e))
+    by_head false g h ih = ih h
+
+-- the writers that are known, from number k on
+none_known_below : (ms : List (Option Meta)) (k n : ℕ) → n < k → list_any (λ x. x == n) (known_of k ms) ≡ false
+none_known_below [] k n l = refl
+none_known_below (None ∷ ms) k n l = none_known_below ms (k + 1) n (next n k l)
+  where
+    next : (a b : ℕ) → a < b → a < b + 1
+    next a b l = omega (arith, l)
+none_known_below (Some m ∷ ms) k n l = neither (k == n) (list_any (λ x. x == n) (known_of (k + 1) ms)) (differs k n l) (none_known_below ms (k + 1) n (next n k l))
+  where
+    next : (a b : ℕ) → a < b → a < b + 1
+    next a b l = omega (arith, l)
+
+    differs : (a b : ℕ) → b < a → (a == b) ≡ false
+    differs a b l = grind arith
+
+    neither : (a b : Bool) → a ≡ false → b ≡ false → (a || b) ≡ false
+    neither true b e f = absurd cc
+    neither false b e f = f
+
+all_known : (ms : List (Option Meta)) (k n w : ℕ) → n ≡ k + w → list_any (λ x. x == n) (known_of k ms) ≡ true → is_some (meta_at (slice_get ms w)) ≡ true
+all_known [] k n w e f = absurd cc
+all_known (None ∷ ms) k n zero e f = absurd (true_not_false (list_any (λ x. x == n) (known_of (k + 1) ms)) f (none_known_below ms (k + 1) n (here n k e)))
+  where
+    here : (a b : ℕ) → a ≡ b + zero → a < b + 1
+    here a b e = omega (arith, e)
+all_known (None ∷ ms) k n (suc w) e f = all_known ms (k + 1) n w (shift n k w e) f
+  where
+    shift : (a b c : ℕ) → a ≡ b + suc c → a ≡ (b + 1) + c
+    shift a b c e = omega (arith, e)
+all_known (Some m ∷ ms) k n zero e f = refl
+all_known (Some m ∷ ms) k n (suc w) e f = all_known ms (k + 1) n w (shift n k w e) (rest (k == n) (list_any (λ x. x == n) (known_of (k + 1) ms)) (differs n k w e) f)
+  where
+    shift : (a b c : ℕ) → a ≡ b + suc c → a ≡ (b + 1) + c
+    shift a b c e = omega (arith, e)
+
+    differs : (a b c : ℕ) → a ≡ b + suc c → (b == a) ≡ false
+    differs a b c e = grind arith
+
+    rest : (a b : Bool) → a ≡ false → (a || b) ≡ true → b ≡ true
+    rest true b e f = absurd cc
+    rest false b e f = f
+
+taker_known : (mode : Mode) (s : Plan) (st : State) (w : ℕ) → AreOver (known_metas s st) st.explicit → is_taker (selected_in mode s st) w ≡ true → is_unfit st.course.rows w ≡ false
+taker_known Components s st w over e =
+    fit_of s st w (named_known (known_metas s st) st.explicit w (and_left (list_all (names_selectable (known_metas s st)) st.explicit) _ over) e)
+taker_known All s st w over e = fit_of s st w (all_known (known_metas s st) 0 w w (plus w) e)
+  where
+    plus : (a : ℕ) → a ≡ 0 + a
+    plus a = omega arith
+
+filter_passes : (test : ℕ → Bool) (w : ℕ) (xs : List ℕ) → is_among w (filter test xs) ≡ true → test w ≡ true
+filter_passes test w [] e = absurd cc
+filter_passes test w (x ∷ xs) e = by_test (test x) refl e (filter_passes test w xs)
+  where
+    by_head : (b : Bool) → (x == w) ≡ b → test x ≡ true → (b || is_among w (filter test xs)) ≡ true → (is_among w (filter test xs) ≡ true → test w ≡ true) → test w ≡ true
+    by_head true f g h ih = subst (λ y. test y ≡ true) (equal x w f) g
+    by_head false f g h ih = ih h
+
+    by_test : (b : Bool) → test x ≡ b → is_among w (if b then x ∷ filter test xs else filter test xs) ≡ true → (is_among w (filter test xs) ≡ true → test w ≡ true) → test w ≡ true
+    by_test true g h ih = by_head (x == w) refl g h ih
+    by_test false g h ih = ih h
+
+member_passes : (test : ℕ → Bool) (k : ℕ) (rows : List WriterRow) (w : ℕ) → is_member (members_from test k rows) w ≡ true → test w ≡ true
+member_passes test k [] w e = absurd cc
+member_passes test k (r ∷ rows) w e = by_test (test k) refl e (member_passes test (k + 1) rows w)
+  where
+    by_head : (b : Bool) → (k == w) ≡ b → test k ≡ true → (b || is_member (members_from test (k + 1) rows) w) ≡ true → (is_member (members_from test (k + 1) rows) w ≡ true → test w ≡ true) → test w ≡ true
+    by_head true f g h ih = subst (λ y. test y ≡ true) (equal k w f) g
+    by_head false f g h ih = ih h
+
+    by_test : (b : Bool) → test k ≡ b → is_member (member_if b k r ++ members_from test (k + 1) rows) w ≡ true → (is_member (members_from test (k + 1) rows) w ≡ true → test w ≡ true) → test w ≡ true
+    by_test true g h ih = by_head (k == w) refl g h ih
+    by_test false g h ih = ih h
+
+-- the participants that `prepare` fixes
+abbrev participants : Plan → Mode → State → List Member
+participants s mode st = members_from (λ w. is_among w (takers (length s.writers) (selected_in mode s st))) 0 st.course.rows
+
+participants_fit : (s : Plan) (mode : Mode) (st : State) (w : ℕ) → AreOver (known_metas s st) st.explicit → is_member (participants s mode st) w ≡ true → is_unfit st.course.rows w ≡ false
+participants_fit s mode st w over e =
+    taker_known mode s st w over (filter_passes (is_taker (selected_in mode s st)) w (range_with_len 0 (length s.writers)) (member_passes (λ x. is_among x (takers (length s.writers) (selected_in mode s st))) 0 st.course.rows w e))
+
+gathered_prepared : (s : Plan) (mode : Mode) (now : ℕ) (st : State) → AreOver (known_metas s st) st.explicit → LateIn st.session
+    → IsGathered s (followed true (begun Prepare (participants s mode st) [] now (record st.course { members = participants s mode st })) st)
+unfolding followed
+gathered_prepared s mode now st over late =
+    let ms = participants s mode st in
+    let d : Course = begun Prepare ms [] now (record st.course { members = ms }) in
+    let x : State = record st { course = d } in
+    let k = begun_members Prepare ms [] now (record st.course { members = ms }) in
+    gathered_concluded s (ending st.course.outcome d.outcome true d.agenda) x
+    (record {
+      over = subst (λ xs. AreOver xs st.explicit) (sym (known_same s st x k.disabled k.fit)) over;
+      members = λ w f. k.fit w ∙ participants_fit s mode st w over (subst (λ xs. is_member xs w ≡ true) k.members f);
+      agenda = fit_begun_agenda Prepare ms [] now (record st.course { members = ms }) refl (λ w f. participants_fit s mode st w over f);
+      late = late;
+    })
+
+-- ## what changes neither names nor course
+
+bare_same : (st x : State) → x.explicit ≡ st.explicit → x.course ≡ st.course → IsBare st → IsBare x
+bare_same st x e f h = record {
+  explicit = e ∙ h.explicit;
+  members = ap (λ (c : Course). c.members) f ∙ h.members;
+  agenda = subst (λ (c : Course). BareAgenda c.agenda) (sym f) h.agenda;
+}
+
+gathered_same : (s : Plan) (st x : State) → x.explicit ≡ st.explicit → x.course ≡ st.course → LateIn x.session → IsGathered s st → IsGathered s x
+gathered_same s st x e f late h = record {
+  over = subst (AreOver (known_metas s x)) (sym e) (subst (λ ms. AreOver ms st.explicit) (sym (known_same s st x (ap (λ (c : Course). c.disabled) f) (λ w. ap (λ (c : Course). is_unfit c.rows w) f))) h.over);
+  members = λ w g. ap (λ (c : Course). is_unfit c.rows w) f ∙ h.members w (subst (λ (c : Course). is_member c.members w ≡ true) f g);
+  agenda = subst (λ (c : Course). AsksFitIn c.agenda c.rows) (sym f) h.agenda;
+  late = late;
+}
+
+-- nothing is named and nobody takes part, or all that is named is known
+abbrev NamesKnown : Plan → State → Type 0
+NamesKnown s st = IsBare st ⊎ IsGathered s st
+
+same : (s : Plan) (st x : State) → x.explicit ≡ st.explicit → x.course ≡ st.course → (LateIn st.session → LateIn x.session) → NamesKnown s st → NamesKnown s x
+same s st x e f late (inl h) = inl (bare_same st x e f h)
+same s st x e f late (inr h) = inr (gathered_same s st x e f (late h.late) h)
+
+-- ## the agenda goes on
+
+on_answers : (s : Plan) (w : ℕ) (said : Said) (st : State) → NamesKnown s st → NamesKnown s (answered w said st)
+unfolding answered
+on_answers s w said st (inl h) =
+    let d = course_answered w said st.clock st.course in
+    inl (bare_followed (runs st) d st (members_answered w said st.clock st.course ∙ h.members) (bare_follows st.course.agenda st.course d (goes_answered w said st.clock st.course) h.agenda) h)
+on_answers s w said st (inr h) =
+    let d = course_answered w said st.clock st.course in
+    let k = keeps_answered w said st.clock st.course h.agenda in
+    inr (gathered_followed s (runs st) d st k (asks_follows st.course.agenda d.agenda st.course d (goes_answered w said st.clock st.course) k.fit h.agenda) h)
+
+on_ticks : (s : Plan) (n : ℕ) (st : State) → NamesKnown s st → NamesKnown s (ticked n st)
+unfolding ticked
+on_ticks s n st (inl h) =
+    let d = course_timed (st.clock + n) st.course in
+    inl (bare_followed (runs st) d (later n st) (members_timed (st.clock + n) st.course ∙ h.members) (bare_follows st.course.agenda st.course d (goes_timed (st.clock + n) st.course) h.agenda) (bare_same st (later n st) refl refl h))
+on_ticks s n st (inr h) =
+    let d = course_timed (st.clock + n) st.course in
+    let k = keeps_timed (st.clock + n) st.course h.agenda in
+    inr (gathered_followed s (runs st) d (later n st) k (asks_follows st.course.agenda d.agenda st.course d (goes_timed (st.clock + n) st.course) k.fit h.agenda) (gathered_same s st (later n st) refl refl h.late h))
+
+stepped_on : (s : Plan) (ok ran : Bool) (now : ℕ) (x : State) → NamesKnown s x → NamesKnown s (followed ran (course_stepped ok now x.course) x)
+stepped_on s ok ran now x (inl h) =
+    let d = course_stepped ok now x.course in
+    inl (bare_followed ran d x ((keeps_stepped ok now x.course).members ∙ h.members) (bare_follows x.course.agenda x.course d (goes_stepped ok now x.course) h.agenda) h)
+stepped_on s ok ran now x (inr h) =
+    let d = course_stepped ok now x.course in
+    let k = keeps_stepped ok now x.course in
+    inr (gathered_followed s ran d x k (asks_follows x.course.agenda d.agenda x.course d (goes_stepped ok now x.course) k.fit h.agenda) h)
+
+explicit-cut_set : (o : Option SetRow) (st : State) → (cut_set o st).explicit ≡ st.explicit
+explicit-cut_set None st = refl
+explicit-cut_set (Some r) st = refl
+
+session-cut_set : (o : Option SetRow) (st : State) → (cut_set o st).session ≡ st.session
+session-cut_set None st = refl
+session-cut_set (Some r) st = refl
+
+made_same : (s : Plan) (g : Option Group) (st : State) → NamesKnown s st → NamesKnown s (step_made g st)
+made_same s None st h = h
+made_same s (Some (Orders o)) st h = h
+made_same s (Some PreCommit) st h = h
+made_same s (Some Flush) st h = h
+made_same s (Some Hold) st h = h
+made_same s (Some Cut) st h = same s st (cut_set (in_progress st) st) (explicit-cut_set (in_progress st) st) (course-step_made (Some Cut) st) (λ l. subst LateIn (sym (session-cut_set (in_progress st) st)) l) h
+made_same s (Some Commit) st h = h
+made_same s (Some Release) st h = h
+made_same s (Some PostCommit) st h = h
+
+on_stepped_as : (s : Plan) (fails : Bool) (g : Option Group) (st : State) → NamesKnown s st → NamesKnown s (stepped_as fails g st)
+on_stepped_as s true g st h = stepped_on s false (runs st) st.clock st h
+on_stepped_as s false g st h =
+    subst (λ c. NamesKnown s (followed (runs st) (course_stepped true st.clock c) (step_made g st))) (course-step_made g st) (stepped_on s true (runs st) st.clock (step_made g st) (made_same s g st h))
+
+on_steps : (s : Plan) (mark : Mark) (st : State) → NamesKnown s st → NamesKnown s (stepped mark st)
+unfolding stepped
+on_steps s mark st h = on_stepped_as s (is_failed_step (is_flush (open_group (left_now st))) mark) (open_group (left_now st)) st h
+
+-- ## failures and writes
+
+failed_agenda : (why : VssResult) (c : Course) → (course_failed why c).agenda ≡ None
+unfolding course_failed
+failed_agenda why c = refl
+
+on_failed : (s : Plan) (o : Option SetRow) (why : VssResult) (x : State) → NamesKnown s x → NamesKnown s (failed_in o why x)
+on_failed s None why x h = h
+on_failed s (Some r) why x (inl h) =
+    let d = course_failed why x.course in
+    inl (bare_concluded (SetFails why) (record x { course = d }) (record { explicit = h.explicit; members = (keeps_failed why x.course).members ∙ h.members; agenda = subst BareAgenda (sym (failed_agenda why x.course)) tt }))
+on_failed s (Some r) why x (inr h) =
+    let d = course_failed why x.course in
+    let y : State = record x { course = d } in
+    let k = keeps_failed why x.course in
+    inr (gathered_concluded s (SetFails why) y (record {
+      over = subst (λ ms. AreOver ms x.explicit) (sym (known_same s x y k.disabled k.fit)) h.over;
+      members = λ w f. k.fit w ∙ h.members w (subst (λ ms. is_member ms w ≡ true) k.members f);
+      agenda = subst (λ a. AsksFitIn a d.rows) (sym (failed_agenda why x.course)) tt;
+      late = h.late;
+    }))
+
+on_room : (s : Plan) (b : Bool) (x : State) → NamesKnown s x → NamesKnown s (with_room_if b x)
+on_room s true x h = on_failed s (in_progress x) InsufficientStorage x h
+on_room s false x h = h
+
+on_put : (s : Plan) (v : ℕ) (w : Write) (mark : Mark) (x : State) → NamesKnown s x → NamesKnown s (put v w mark x)
+on_put s v w Clean x h = same s x (put v w Clean x) refl refl (λ l. l) h
+on_put s v w Fault x h = h
+on_put s v w (FaultAfter n) x h = h
+
+on_write : (s : Plan) (v : ℕ) (w : Write) (mark : Mark) (st : State) → NamesKnown s st → NamesKnown s (write s v w mark st).1
+unfolding write
+on_write s v w mark st h =
+    on_put s v w mark _ (on_room s (set_loses_image (in_progress st) st.volumes (cleared s v w.block st).volumes) (cleared s v w.block st) (same s st (cleared s v w.block st) refl refl (λ l. l) h))
+
+on_revert : (s : Plan) (v : ℕ) (k : Kept) (mark : Mark) (st : State) → NamesKnown s st → NamesKnown s (reverted_as s v k mark st).1
+on_revert s v k Clean st h = same s st (reverted_as s v k Clean st).1 refl refl (λ l. l) h
+on_revert s v k Fault st h = h
+on_revert s v k (FaultAfter n) st h = same s st (reverted_as s v k (FaultAfter n) st).1 refl refl (λ l. l) h
+
+-- ## session calls
+
+late_at : (q : Option Session) (x : Session) → q ≡ Some x → LateIn q → is_late x.stage ≡ true
+late_at q x e h = subst LateIn e h
+
+opened_not_late : (x : Stage) (b : Bool) → (is_stage x Opened && b) ≡ true → is_late x ≡ true → ⊥
+opened_not_late Opened b e h = cc
+opened_not_late Gathered b e h = cc
+opened_not_late Started b e h = cc
+opened_not_late Prepared b e h = cc
+opened_not_late Done b e h = cc
+opened_not_late Finished b e h = cc
+opened_not_late Failed b e h = cc
+
+names_late : (x : Stage) (b : Bool) → ((is_stage x Gathered || is_stage x Started) && b) ≡ true → is_late x ≡ true
+names_late Opened b e = absurd cc
+names_late Gathered b e = refl
+names_late Started b e = refl
+names_late Prepared b e = refl
+names_late Done b e = refl
+names_late Finished b e = refl
+names_late Failed b e = refl
+
+prepares_late : (x : Stage) (b : Bool) → (is_stage x Started && b) ≡ true → is_late x ≡ true
+prepares_late Opened b e = absurd cc
+prepares_late Gathered b e = refl
+prepares_late Started b e = refl
+prepares_late Prepared b e = refl
+prepares_late Done b e = refl
+prepares_late Finished b e = refl
+prepares_late Failed b e = refl
+
+none_runs : (a : Option Agenda) → is_some a ≡ false → a ≡ None
+none_runs None e = refl
+none_runs (Some a) e = absurd cc
+
+nobody : (ms : List Member) (w : ℕ) → ms ≡ [] → is_member ms w ≡ true → ⊥
+nobody [] w e f = cc
+nobody (m ∷ ms) w e f = cc
+
+over_nothing : (ms : List (Option Meta)) (ps : List Pair) → ps ≡ [] → AreOver ms ps
+over_nothing ms ps e = subst (AreOver ms) (sym e) refl
+
+on_names : (s : Plan) (w : ℕ) (name : List ℕ) (q : Session) (explicit : List Pair) (st : State) → LetsGo call.Component q st → naming (known_metas s st) w name st.explicit ≡ Names explicit → NamesKnown s st → NamesKnown s (record st { explicit = explicit })
+on_names s w name q explicit st g e (inl h) =
+    let x : State = record st { explicit = explicit } in
+    inr (record {
+      over = subst (λ ms. AreOver ms explicit) (sym (known_same s st x refl (λ u. refl))) (named_over (known_metas s st) w name st.explicit explicit e (over_nothing (known_metas s st) st.explicit h.explicit));
+      members = λ u f. absurd (nobody st.course.members u h.members f);
+      agenda = subst (λ a. AsksFitIn a st.course.rows) (sym (none_runs st.course.agenda g.quiet)) tt;
+      late = subst LateIn (sym g.stands) (names_late q.stage (has_writers q.context) g.allowed);
+    })
+on_names s w name q explicit st g e (inr h) =
+    let x : State = record st { explicit = explicit } in
+    inr (record {
+      over = subst (λ ms. AreOver ms explicit) (sym (known_same s st x refl (λ u. refl))) (named_over (known_metas s st) w name st.explicit explicit e h.over);
+      members = h.members;
+      agenda = h.agenda;
+      late = h.late;
+    })
+
+on_disables : (s : Plan) (w : ℕ) (q : Session) (st : State) → LetsGo call.Disable q st → NamesKnown s st → NamesKnown s (disable w st).1
+on_disables s w q st g (inl h) = inl (record { explicit = h.explicit; members = h.members; agenda = h.agenda })
+on_disables s w q st g (inr h) = absurd (opened_not_late q.stage (has_writers q.context) g.allowed (late_at st.session q g.stands h.late))
+
+on_starts : (s : Plan) (q : Session) (st : State) → NamesKnown s st → NamesKnown s (start_set q st).1
+on_starts s q st h = same s st (start_set q st).1 refl refl (λ l. refl) h
+
+on_end : (s : Plan) (q : Session) (st : State) → NamesKnown s (closed q st)
+unfolding closed released
+on_end s q st = inl (record { explicit = refl; members = refl; agenda = tt })
+
+on_begin : (s : Plan) (lane : ℕ) (all : Bool) (c : Option Context) (st : State) → st.session ≡ None → NamesKnown s st → NamesKnown s (begin_in lane all c st).1
+on_begin s lane all None st e h = h
+on_begin s lane all (Some c) st e (inl h) = inl (record { explicit = refl; members = h.members; agenda = h.agenda })
+on_begin s lane all (Some c) st e (inr h) = absurd (subst LateIn e h.late)
+
+either : (s : Plan) (b : Bool) (x y : Replied) → NamesKnown s x.1 → NamesKnown s y.1 → NamesKnown s (if b then x else y).1
+either s true x y h i = h
+either s false x y h i = i
+
+on_gather : (s : Plan) (q : Session) (ms : List Member) (c : Course) (st : State) → LetsGo call.Gather q st → c.members ≡ st.course.members → NamesKnown s st → NamesKnown s (followed true (begun Gather ms [] st.clock c) st)
+on_gather s q ms c st g e (inl h) = inl (bare_begun Gather ms [] st.clock c st (e ∙ h.members) (inl refl) h)
+on_gather s q ms c st g e (inr h) = absurd (opened_not_late q.stage (has_writers q.context) g.allowed (late_at st.session q g.stands h.late))
+
+on_prepare : (s : Plan) (q : Session) (st : State) → LetsGo call.Prepare q st → NamesKnown s st → NamesKnown s (followed true (begun Prepare (participants s q.mode st) [] st.clock (record st.course { members = participants s q.mode st })) st)
+on_prepare s q st g (inl h) = inr (gathered_prepared s q.mode st.clock st (over_nothing (known_metas s st) st.explicit h.explicit) (subst LateIn (sym g.stands) (prepares_late q.stage (has_writers q.context) g.allowed)))
+on_prepare s q st g (inr h) = inr (gathered_prepared s q.mode st.clock st h.over h.late)
+
+-- an agenda of some of the participants
+filter_member : (test : Member → Bool) (ms : List Member) (w : ℕ) → is_member (filter test ms) w ≡ true → is_member ms w ≡ true
+filter_member test [] w e = e
+filter_member test (m ∷ ms) w e = by_test (test m) e (filter_member test ms w)
+  where
+    or_right : (a b : Bool) → b ≡ true → (a || b) ≡ true
+    or_right true b e = refl
+    or_right false b e = e
+
+    or_along : (a b c : Bool) → (b ≡ true → c ≡ true) → (a || b) ≡ true → (a || c) ≡ true
+    or_along true b c f e = refl
+    or_along false b c f e = f e
+
+    by_test : (b : Bool) → is_member (if b then m ∷ filter test ms else filter test ms) w ≡ true → (is_member (filter test ms) w ≡ true → is_member ms w ≡ true) → ((m.writer == w) || is_member ms w) ≡ true
+    by_test true e ih = or_along (m.writer == w) (is_member (filter test ms) w) (is_member ms w) ih e
+    by_test false e ih = or_right (m.writer == w) (is_member ms w) (ih e)
+
+on_part : (s : Plan) (k : Kind) (test : Member → Bool) (vs : List ℕ) (st : State) → is_gathering k ≡ false → NamesKnown s st → NamesKnown s (followed true (begun k (filter test st.course.members) vs st.clock st.course) st)
+on_part s k test vs st e (inl h) = inl (bare_begun k (filter test st.course.members) vs st.clock st.course st h.members (inr (ap (filter test) h.members)) h)
+on_part s k test vs st e (inr h) = inr (gathered_begun s k (filter test st.course.members) vs st.clock st e (λ w f. h.members w (filter_member test st.course.members w f)) h)
+
+on_all : (s : Plan) (k : Kind) (vs : List ℕ) (st : State) → is_gathering k ≡ false → NamesKnown s st → NamesKnown s (followed true (begun k st.course.members vs st.clock st.course) st)
+on_all s k vs st e (inl h) = inl (bare_begun k st.course.members vs st.clock st.course st h.members (inr h.members) h)
+on_all s k vs st e (inr h) = inr (gathered_begun s k st.course.members vs st.clock st e h.members h)
+
+kept_at : (s : Plan) (st : State) → NamesKnown s st → IsKeptAt (NamesKnown s) s st
+kept_at s st h = record {
+  lines = record {
+    stays = h;
+    writes = λ v w mark f. on_write s v w mark st h;
+    reverts = λ n v k mark f g. on_revert s v k mark st h;
+    ticks = λ n. on_ticks s n st h;
+    deletes_set = λ n f. same s st _ refl refl (λ l. l) h;
+    deletes_image = λ n v k f. same s st _ refl refl (λ l. l) h;
+    names = λ w name q explicit g f. on_names s w name q explicit st g f h;
+    disables = λ w q g. on_disables s w q st g h;
+    starts = λ q g f. on_starts s q st h;
+    adds = λ v r q g f i. same s st _ refl refl (λ l. l) h;
+    aborts = λ q f. on_failed s (in_progress st) AsyncCancelled st h;
+    ends = λ q f. on_end s q (failed AsyncCancelled st);
+  };
+  begins = λ lane all c g. on_begin s lane all c st g h;
+  agendas = record {
+    gathers = λ q g. on_gather s q _ _ st g refl h;
+    prepares = λ q g. either s (has_no_volume (in_progress st)) _ _ h (on_prepare s q st g h);
+    snapshots = λ q g. either s (has_no_volume (in_progress st)) _ _ h (on_all s Snapshot _ st refl h);
+    completes = λ q g. on_part s Complete _ [] st refl h;
+  };
+  answers = λ w said g. on_answers s w said st h;
+  steps = λ mark g. on_steps s mark st h;
+}
+
+names_from : (s : Plan) (st : State) (acts : List Act) → NamesKnown s st → NamesKnown s (fold (after s) st acts)
+names_from s st [] h = h
+names_from s st (act ∷ acts) h = names_from s (after s st act) acts (after_at (NamesKnown s) s st (kept_at s st h) act)
+
+names_over : (s : Plan) (st : State) → NamesKnown s st → AreOver (known_metas s st) st.explicit
+names_over s st (inl h) = over_nothing (known_metas s st) st.explicit h.explicit
+names_over s st (inr h) = h.over
+
+-- at every list of acts
+pub named_known_components : (s : Plan) (acts : List Act) → AreOver (known_metas s (state s acts)) (state s acts).explicit
+named_known_components s acts = names_over s (state s acts) (names_from s (start s) acts (inl (record { explicit = refl; members = refl; agenda = tt })))
+
+asked_are_fit : (s : Plan) (st : State) (w : ℕ) → NamesKnown s st → is_member st.course.members w ≡ true → is_unfit st.course.rows w ≡ false
+asked_are_fit s st w (inl h) e = absurd (nobody st.course.members w h.members e)
+asked_are_fit s st w (inr h) e = h.members w e
+
+-- who takes part has not failed at Identify
+pub participants_are_fit : (s : Plan) (acts : List Act) (w : ℕ) → is_member (state s acts).course.members w ≡ true → has_failed_identify (slice_get (state s acts).course.rows w) ≡ false
+participants_are_fit s acts w e = asked_are_fit s (state s acts) w (names_from s (start s) acts (inl (record { explicit = refl; members = refl; agenda = tt }))) e

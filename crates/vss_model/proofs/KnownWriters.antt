@@ -1,0 +1,345 @@
+-- The writers whose metadata the session has do not change once they are gathered, and only they are asked to take part.
+use Rattle.std.proofs.Common.{◌≡◌, ℕ, ◌+◌, ◌==◌, zero, suc, List, [], ◌∷◌, Option, Some, None, refl, Bool, true, false, map, filter, ap, sym, ◌∙◌, subst, arith}
+use Rattle.std.specs.Prelude.{option_map, ◌&&◌, ◌||◌, not, if◌then◌else◌, slice_get}
+use Rattle.std.specs.List.{list_any}
+use Rattle.vss_names.specs.declared.order.Order.{Order}
+use Rattle.vss_names.specs.declared.order.Order.TheVariants.{Identify, PrepareBackup, PrepareSnapshot, Freeze, Thaw, PostSnapshot, BackupComplete}
+use Rattle.vss_names.specs.declared.level.Level.{Level}
+use Rattle.vss_names.specs.declared.level.Level.TheVariants.{System, BackEnd, FrontEnd}
+use Rattle.vss_names.specs.declared.vss_result.VssResult.{VssResult}
+use Rattle.vss_names.specs.declared.writer_state.WriterState.{WriterState}
+use Rattle.vss_names.specs.declared.writer_state.WriterState.TheVariants as state
+use Rattle.writer_state.specs.declared.said.Said.{Said}
+use Rattle.writer_state.specs.declared.said.Said.TheVariants.{Ok, Veto, Lost}
+use Rattle.writer_state.specs.declared.writer_row.WriterRow.{WriterRow}
+use Rattle.writer_state.specs.WriterState.{is_ok, is_failed, stable_again, state_after}
+use Rattle.writer_state.specs.WriterRow.{row_after, row_aborted, row_ended, one_more}
+use Rattle.set_agenda.specs.declared.group.Group.{Group}
+use Rattle.set_agenda.specs.declared.group.Group.TheVariants.{Orders, PreCommit, Flush, Hold, Cut, Commit, Release, PostCommit}
+use Rattle.set_agenda.specs.declared.kind.Kind.{Kind}
+use Rattle.set_agenda.specs.declared.kind.Kind.TheVariants.{Gather, Prepare, Snapshot, Complete}
+use Rattle.set_agenda.specs.declared.limit.Limit.{Limit}
+use Rattle.set_agenda.specs.declared.limit.Limit.TheVariants.{Hold as HoldLimit, Freeze as FreezeLimit, Answer as AnswerLimit}
+use Rattle.set_agenda.specs.declared.member.Member.{Member}
+use Rattle.set_agenda.specs.declared.place.Place.{Place}
+use Rattle.set_agenda.specs.Agenda.{Agenda, Open, plain, at_level, places, order_of, is_orders, is_at, writers_at, members_of, waited_for, with_group, left_from, groups_left, left, open_place, is_asked, is_among, order_if, open_order, order_now, waits_now, is_done}
+use Rattle.set_agenda.specs.Limits.{Running as RunningLimit, running_limits, spent_of}
+use Rattle.set_agenda.specs.Course.{Course, row_if, rows_where, is_member, posted, failed as course_failed, settled_if, settled_in, settled, is_decisive, told, decided, answered_to, answered as course_answered, worked, stepped_as as course_stepped_as, stepped as course_stepped, freeze_limit, lost_to, lost, fails_set, lost_decided, treated_as, treated, timed as course_timed}
+use Rattle.vss_model.specs.Sessions.{is_identify_failure, has_failed_identify}
+use Rattle.vss_model.proofs.Orderly.{true_not_false}
+use Rattle.vss_model.proofs.CourseCalls.{asked_if, asked_waits, one_alone, now_orders}
+use Rattle.vss_model.proofs.Spoken.{waits_members, among_filter, among_members}
+
+-- ## who has failed at Identify
+
+abbrev pub is_unfit : List WriterRow → ℕ → Bool
+is_unfit rows w = has_failed_identify (slice_get rows w)
+
+-- the same writers have failed at Identify
+abbrev pub AsFit : List WriterRow → List WriterRow → Type 0
+AsFit rows new = (w : ℕ) → is_unfit new w ≡ is_unfit rows w
+
+pub as_fit : (rows mid new : List WriterRow) → AsFit rows mid → AsFit mid new → AsFit rows new
+as_fit rows mid new h g w = g w ∙ h w
+
+fit_where : (f : WriterRow → WriterRow) (test : ℕ → Bool) (k : ℕ) (rows : List WriterRow) (w : ℕ) → ((r : WriterRow) → test (k + w) ≡ true → is_identify_failure (f r).state ≡ has_failed_identify (slice_get rows w))
+    → is_unfit (rows_where f test k rows) w ≡ is_unfit rows w
+fit_where f test k [] zero g = refl
+fit_where f test k [] (suc w) g = refl
+fit_where f test k (r ∷ rows) zero g = here (test k) refl
+  where
+    here : (b : Bool) → test k ≡ b → is_identify_failure (row_if b f r).state ≡ is_identify_failure r.state
+    here true e = g r (ap test (plus k) ∙ e)
+      where
+        plus : (a : ℕ) → a + zero ≡ a
+        plus a = omega arith
+    here false e = refl
+fit_where f test k (r ∷ rows) (suc w) g = fit_where f test (k + 1) rows w (λ q e. g q (ap test (shift k w) ∙ e))
+  where
+    shift : (a b : ℕ) → a + suc b ≡ (a + 1) + b
+    shift a b = omega arith
+
+-- a change of each row that keeps whether it has failed so
+fit_each : (f : WriterRow → WriterRow) → ((r : WriterRow) → is_identify_failure (f r).state ≡ is_identify_failure r.state) → (test : ℕ → Bool) (k : ℕ) (rows : List WriterRow) → AsFit rows (rows_where f test k rows)
+fit_each f same test k [] zero = refl
+fit_each f same test k [] (suc w) = refl
+fit_each f same test k (r ∷ rows) zero = here (test k)
+  where
+    here : (b : Bool) → is_identify_failure (row_if b f r).state ≡ is_identify_failure r.state
+    here true = same r
+    here false = refl
+fit_each f same test k (r ∷ rows) (suc w) = fit_each f same test (k + 1) rows w
+
+aborted_state : (x : WriterState) → is_identify_failure (if is_failed x then x else stable_again x) ≡ is_identify_failure x
+aborted_state state.Unknown = refl
+aborted_state state.Stable = refl
+aborted_state state.WaitingForFreeze = refl
+aborted_state state.WaitingForThaw = refl
+aborted_state state.WaitingForPostSnapshot = refl
+aborted_state state.WaitingForBackupComplete = refl
+aborted_state state.FailedAtIdentify = refl
+aborted_state state.FailedAtPrepareBackup = refl
+aborted_state state.FailedAtPrepareSnapshot = refl
+aborted_state state.FailedAtFreeze = refl
+aborted_state state.FailedAtThaw = refl
+aborted_state state.FailedAtPostSnapshot = refl
+aborted_state state.FailedAtBackupComplete = refl
+aborted_state state.FailedAtPreRestore = refl
+aborted_state state.FailedAtPostRestore = refl
+aborted_state state.FailedAtBackupShutdown = refl
+
+row_fit_aborted : (r : WriterRow) → is_identify_failure (row_aborted r).state ≡ is_identify_failure r.state
+row_fit_aborted r = by_test (is_failed r.state) ∙ aborted_state r.state
+  where
+    by_test : (b : Bool) → is_identify_failure (if b then r else record r { state = stable_again r.state; aborts = one_more r.aborts }).state ≡ is_identify_failure (if b then r.state else stable_again r.state)
+    by_test true = refl
+    by_test false = refl
+
+-- an order but Identify
+abbrev pub is_later : Order → Bool
+is_later Identify = false
+is_later PrepareBackup = true
+is_later PrepareSnapshot = true
+is_later Freeze = true
+is_later Thaw = true
+is_later PostSnapshot = true
+is_later BackupComplete = true
+
+row_fit_after : (o : Order) (said : Said) (r : WriterRow) → is_later o ≡ true → is_identify_failure (row_after o said r).state ≡ false
+row_fit_after Identify said r e = absurd cc
+row_fit_after PrepareBackup Ok r e = refl
+row_fit_after PrepareBackup (Veto x) r e = refl
+row_fit_after PrepareBackup Lost r e = refl
+row_fit_after PrepareSnapshot Ok r e = refl
+row_fit_after PrepareSnapshot (Veto x) r e = refl
+row_fit_after PrepareSnapshot Lost r e = refl
+row_fit_after Freeze Ok r e = refl
+row_fit_after Freeze (Veto x) r e = refl
+row_fit_after Freeze Lost r e = refl
+row_fit_after Thaw Ok r e = refl
+row_fit_after Thaw (Veto x) r e = refl
+row_fit_after Thaw Lost r e = refl
+row_fit_after PostSnapshot Ok r e = refl
+row_fit_after PostSnapshot (Veto x) r e = refl
+row_fit_after PostSnapshot Lost r e = refl
+row_fit_after BackupComplete Ok r e = refl
+row_fit_after BackupComplete (Veto x) r e = refl
+row_fit_after BackupComplete Lost r e = refl
+
+-- ## who is asked
+
+-- the orders that are given while an agenda of this kind runs
+abbrev LaterNow : List Open → Type 0
+LaterNow os = (o : Order) → order_now os ≡ Some o → is_later o ≡ true
+
+abbrev pub is_gathering : Kind → Bool
+is_gathering Gather = true
+is_gathering Prepare = false
+is_gathering Snapshot = false
+is_gathering Complete = false
+
+later_pass : (p : Place) (ws : List ℕ) (rest : List Open) → ((o : Order) → order_of p.group ≡ Some o → is_later o ≡ true) → LaterNow rest → LaterNow (with_group p ws rest)
+later_pass p [] rest e h = h
+later_pass p (w ∷ ws) rest e h = e
+
+later_order : (x : Order) → is_later x ≡ true → (o : Order) → Some x ≡ Some o → is_later o ≡ true
+later_order x e o f = let same : x ≡ o = cc in subst (λ y. is_later y ≡ true) same e
+
+no_order : (o : Order) → None ≡ Some o → is_later o ≡ true
+no_order o e = absurd cc
+
+later_in : (k : Kind) (a : Agenda) → is_gathering k ≡ false → LaterNow (left_from a (places k))
+later_in Gather a e = absurd cc
+later_in Prepare a e = later_pass (plain (Orders PrepareBackup)) (waited_for a (plain (Orders PrepareBackup))) [] (later_order PrepareBackup refl) no_order
+later_in Complete a e = later_pass (plain (Orders BackupComplete)) (waited_for a (plain (Orders BackupComplete))) [] (later_order BackupComplete refl) no_order
+later_in Snapshot a e =
+    later_pass (plain (Orders PrepareSnapshot)) (waited_for a (plain (Orders PrepareSnapshot))) _ (later_order PrepareSnapshot refl)
+    (later_pass (at_level Freeze FrontEnd) (waited_for a (at_level Freeze FrontEnd)) _ (later_order Freeze refl)
+    (later_pass (at_level Freeze BackEnd) (waited_for a (at_level Freeze BackEnd)) _ (later_order Freeze refl)
+    (later_pass (at_level Freeze System) (waited_for a (at_level Freeze System)) _ (later_order Freeze refl)
+    (later_pass (plain PreCommit) (waited_for a (plain PreCommit)) _ no_order
+    (later_pass (plain Flush) (waited_for a (plain Flush)) _ no_order
+    (later_pass (plain Hold) (waited_for a (plain Hold)) _ no_order
+    (later_pass (plain Cut) (waited_for a (plain Cut)) _ no_order
+    (later_pass (plain Commit) (waited_for a (plain Commit)) _ no_order
+    (later_pass (plain Release) (waited_for a (plain Release)) _ no_order
+    (later_pass (plain PostCommit) (waited_for a (plain PostCommit)) _ no_order
+    (later_pass (at_level Thaw System) (waited_for a (at_level Thaw System)) _ (later_order Thaw refl)
+    (later_pass (at_level Thaw BackEnd) (waited_for a (at_level Thaw BackEnd)) _ (later_order Thaw refl)
+    (later_pass (at_level Thaw FrontEnd) (waited_for a (at_level Thaw FrontEnd)) _ (later_order Thaw refl)
+    (later_pass (plain (Orders PostSnapshot)) (waited_for a (plain (Orders PostSnapshot))) [] (later_order PostSnapshot refl) no_order))))))))))))))
+
+order_members : (g : Group) (a : Agenda) (l : Option Level) (w : ℕ) → is_orders g ≡ true → is_among w (members_of a g l) ≡ true → is_member a.members w ≡ true
+order_members (Orders Identify) a l w e h = among_members (λ m. is_at l m.level) w a.members h
+order_members (Orders PrepareBackup) a l w e h = among_members (λ m. is_at l m.level) w a.members h
+order_members (Orders PrepareSnapshot) a l w e h = among_members (λ m. is_at l m.level) w a.members h
+order_members (Orders Freeze) a l w e h = among_members (λ m. is_at l m.level) w a.members h
+order_members (Orders Thaw) a l w e h = among_members (λ m. is_at l m.level) w a.members h
+order_members (Orders PostSnapshot) a l w e h = among_members (λ m. is_at l m.level) w a.members (among_filter _ w (writers_at a.members l) h)
+order_members (Orders BackupComplete) a l w e h = among_members (λ m. is_at l m.level) w a.members h
+order_members PreCommit a l w e h = absurd cc
+order_members Flush a l w e h = absurd cc
+order_members Hold a l w e h = absurd cc
+order_members Cut a l w e h = absurd cc
+order_members Commit a l w e h = absurd cc
+order_members Release a l w e h = absurd cc
+order_members PostCommit a l w e h = absurd cc
+
+-- ## calls on an agenda that gathers no more
+
+-- none of its members has failed at Identify
+pub record AsksFit (a : Agenda) (rows : List WriterRow) : Type 0 where
+  pub kind : is_gathering a.kind ≡ false
+  pub fit : (w : ℕ) → is_member a.members w ≡ true → is_unfit rows w ≡ false
+
+abbrev pub AsksFitIn : Option Agenda → List WriterRow → Type 0
+AsksFitIn None rows = Unit {0}
+AsksFitIn (Some a) rows = AsksFit a rows
+
+waits_fit : (a : Agenda) (rows : List WriterRow) → AsksFit a rows → is_orders (open_place (groups_left a)).group ≡ true → (w : ℕ) → is_among w (waits_now (groups_left a)) ≡ true → is_unfit rows w ≡ false
+waits_fit a rows h e w f = h.fit w (order_members (open_place (groups_left a)).group a (open_place (groups_left a)).level w e (waits_members a (places a.kind) w f))
+
+-- what a call keeps: who is disabled, who takes part, and who has failed at Identify
+pub record Keeps (c d : Course) : Type 0 where
+  pub disabled : d.disabled ≡ c.disabled
+  pub members : d.members ≡ c.members
+  pub fit : AsFit c.rows d.rows
+
+pub keeps_same : (c : Course) → Keeps c c
+keeps_same c = record { disabled = refl; members = refl; fit = λ w. refl }
+
+pub keeps_then : (c d e : Course) → Keeps c d → Keeps d e → Keeps c e
+keeps_then c d e h g = record { disabled = g.disabled ∙ h.disabled; members = g.members ∙ h.members; fit = as_fit c.rows d.rows e.rows h.fit g.fit }
+
+keeps_told : (o : Order) (said : Said) (now : ℕ) (ws : List ℕ) (c : Course) → is_later o ≡ true → ((w : ℕ) → is_among w ws ≡ true → is_unfit c.rows w ≡ false) → Keeps c (told o said now ws c)
+unfolding told
+keeps_told o said now ws c e fit = record {
+  disabled = refl;
+  members = refl;
+  fit = λ w. fit_where (row_after o said) (λ x. is_among x ws) 0 c.rows w (λ r f. row_fit_after o said r e ∙ sym (fit w (subst (λ x. is_among x ws ≡ true) (zero_plus w) f)));
+}
+  where
+    zero_plus : (a : ℕ) → 0 + a ≡ a
+    zero_plus a = omega arith
+
+pub keeps_failed : (why : VssResult) (c : Course) → Keeps c (course_failed why c)
+unfolding course_failed
+keeps_failed why c = record { disabled = refl; members = refl; fit = fit_each row_aborted row_fit_aborted (is_member c.members) 0 c.rows }
+
+keeps_settled_if : (b : Bool) (k : Kind) (c : Course) → Keeps c (settled_if b k c)
+keeps_settled_if true k c = record { disabled = refl; members = refl; fit = λ w. refl }
+keeps_settled_if false k c = keeps_same c
+
+keeps_settled_in : (a : Option Agenda) (c : Course) → Keeps c (settled_in a c)
+keeps_settled_in None c = keeps_same c
+keeps_settled_in (Some a) c = keeps_settled_if (is_done (groups_left a)) a.kind c
+
+pub keeps_settled : (c : Course) → Keeps c (settled c)
+unfolding settled
+keeps_settled c = keeps_settled_in c.agenda c
+
+pub keeps_posted : (before c d : Course) → Keeps c d → Keeps c (posted before d)
+unfolding posted
+keeps_posted before c d h = record { disabled = h.disabled; members = h.members; fit = h.fit }
+
+keeps_decided : (b : Bool) (said : Said) (c d : Course) → Keeps c d → Keeps c (decided b said d)
+keeps_decided true said c d h = keeps_then c d (decided true said d) h (keeps_failed _ d)
+keeps_decided false said c d h = keeps_then c d (decided false said d) h (keeps_settled d)
+
+now_if : (b : Bool) (x : Option Order) (o : Order) → order_if b x ≡ Some o → x ≡ Some o
+now_if true x o e = e
+now_if false x o e = absurd cc
+
+keeps_answered_to : (x : Option Order) (w : ℕ) (said : Said) (now : ℕ) (a : Agenda) (c : Course) → open_order (groups_left a) w ≡ x → AsksFit a c.rows → Keeps c (answered_to x w said now c)
+keeps_answered_to None w said now a c e h = keeps_same c
+keeps_answered_to (Some o) w said now a c e h =
+    let os = groups_left a in
+    let asked = asked_waits os w (asked_if (is_asked w os) (order_now os) o e) in
+    let later = later_in a.kind a h.kind o (now_if (is_asked w os) (order_now os) o e) in
+    keeps_decided (is_decisive o && not (is_ok said)) said c (told o said now (w ∷ []) c)
+    (keeps_told o said now (w ∷ []) c later (λ x f. waits_fit a c.rows h asked.0 x (one_alone w x (waits_now os) asked.1 f)))
+
+keeps_answered_at : (x : Option Agenda) (w : ℕ) (said : Said) (now : ℕ) (c : Course) → AsksFitIn x c.rows → Keeps c (answered_to (open_order (left x) w) w said now c)
+keeps_answered_at None w said now c h = keeps_same c
+keeps_answered_at (Some a) w said now c h = keeps_answered_to (open_order (groups_left a) w) w said now a c refl h
+
+pub keeps_answered : (w : ℕ) (said : Said) (now : ℕ) (c : Course) → AsksFitIn c.agenda c.rows → Keeps c (course_answered w said now c)
+keeps_answered w said now c h = keeps_posted c c _ (keeps_answered_at c.agenda w said now c h)
+
+keeps_worked : (now : ℕ) (c : Course) → Keeps c (worked now c)
+unfolding worked
+keeps_worked now c = record { disabled = refl; members = refl; fit = λ w. refl }
+
+keeps_stepped_as : (ok : Bool) (now : ℕ) (c : Course) → Keeps c (course_stepped_as ok now c)
+keeps_stepped_as true now c = keeps_then c (worked now c) (course_stepped_as true now c) (keeps_worked now c) (keeps_settled (worked now c))
+keeps_stepped_as false now c = keeps_failed _ c
+
+pub keeps_stepped : (ok : Bool) (now : ℕ) (c : Course) → Keeps c (course_stepped ok now c)
+keeps_stepped ok now c = keeps_posted c c _ (keeps_stepped_as ok now c)
+
+keeps_lost_to : (x : Option Order) (now : ℕ) (a : Agenda) (c : Course) → c.agenda ≡ Some a → order_now (groups_left a) ≡ x → AsksFit a c.rows → Keeps c (lost_to x now c)
+keeps_lost_to None now a c e f h = keeps_same c
+keeps_lost_to (Some o) now a c e f h =
+    keeps_told o Lost now (waits_now (left c.agenda)) c (later_in a.kind a h.kind o f)
+    (λ w g. waits_fit a c.rows h (now_orders (groups_left a) o f) w (subst (λ x. is_among w (waits_now (left x)) ≡ true) e g))
+
+keeps_lost_in : (x : Option Agenda) (now : ℕ) (c : Course) → c.agenda ≡ x → AsksFitIn x c.rows → Keeps c (lost_to (order_now (left x)) now c)
+keeps_lost_in None now c e h = keeps_same c
+keeps_lost_in (Some a) now c e h = keeps_lost_to (order_now (groups_left a)) now a c e refl h
+
+keeps_lost_decided : (b : Bool) (c d : Course) → Keeps c d → Keeps c (lost_decided b d)
+keeps_lost_decided true c d h = keeps_then c d (lost_decided true d) h (keeps_failed _ d)
+keeps_lost_decided false c d h = keeps_then c d (lost_decided false d) h (keeps_settled d)
+
+keeps_treated_as : (l : Limit) (now : ℕ) (c : Course) → AsksFitIn c.agenda c.rows → Keeps c (treated_as l now c)
+keeps_treated_as HoldLimit now c h = keeps_failed _ c
+keeps_treated_as FreezeLimit now c h = keeps_then c (lost now c) (treated_as FreezeLimit now c) (keeps_lost_in c.agenda now c refl h) (keeps_failed _ (lost now c))
+keeps_treated_as AnswerLimit now c h = keeps_lost_decided (fails_set (order_now (left c.agenda))) c (lost now c) (keeps_lost_in c.agenda now c refl h)
+
+keeps_treated : (l : Option RunningLimit) (now : ℕ) (c : Course) → AsksFitIn c.agenda c.rows → Keeps c (treated l now c)
+keeps_treated None now c h = keeps_same c
+keeps_treated (Some l) now c h = keeps_treated_as l.limit now c h
+
+pub keeps_timed : (now : ℕ) (c : Course) → AsksFitIn c.agenda c.rows → Keeps c (course_timed now c)
+keeps_timed now c h = keeps_posted c c _ (keeps_treated (spent_of now (running_limits (freeze_limit c) c.agenda)) now c h)
+
+-- ## the participants stay, whoever is asked
+
+members_decided : (b : Bool) (said : Said) (d : Course) → (decided b said d).members ≡ d.members
+members_decided true said d = (keeps_failed _ d).members
+members_decided false said d = (keeps_settled d).members
+
+members_told : (o : Order) (said : Said) (now : ℕ) (ws : List ℕ) (c : Course) → (told o said now ws c).members ≡ c.members
+unfolding told
+members_told o said now ws c = refl
+
+members_answered_to : (x : Option Order) (w : ℕ) (said : Said) (now : ℕ) (c : Course) → (answered_to x w said now c).members ≡ c.members
+members_answered_to None w said now c = refl
+members_answered_to (Some o) w said now c = members_decided (is_decisive o && not (is_ok said)) said (told o said now (w ∷ []) c) ∙ members_told o said now (w ∷ []) c
+
+members_posted : (before c : Course) → (posted before c).members ≡ c.members
+unfolding posted
+members_posted before c = refl
+
+pub members_answered : (w : ℕ) (said : Said) (now : ℕ) (c : Course) → (course_answered w said now c).members ≡ c.members
+members_answered w said now c = members_posted c _ ∙ members_answered_to (open_order (left c.agenda) w) w said now c
+
+members_lost_to : (x : Option Order) (now : ℕ) (c : Course) → (lost_to x now c).members ≡ c.members
+members_lost_to None now c = refl
+members_lost_to (Some o) now c = members_told o Lost now (waits_now (left c.agenda)) c
+
+members_lost_decided : (b : Bool) (d : Course) → (lost_decided b d).members ≡ d.members
+members_lost_decided true d = (keeps_failed _ d).members
+members_lost_decided false d = (keeps_settled d).members
+
+members_treated_as : (l : Limit) (now : ℕ) (c : Course) → (treated_as l now c).members ≡ c.members
+members_treated_as HoldLimit now c = (keeps_failed _ c).members
+members_treated_as FreezeLimit now c = (keeps_failed _ (lost now c)).members ∙ members_lost_to (order_now (left c.agenda)) now c
+members_treated_as AnswerLimit now c = members_lost_decided (fails_set (order_now (left c.agenda))) (lost now c) ∙ members_lost_to (order_now (left c.agenda)) now c
+
+members_treated : (l : Option RunningLimit) (now : ℕ) (c : Course) → (treated l now c).members ≡ c.members
+members_treated None now c = refl
+members_treated (Some l) now c = members_treated_as l.limit now c
+
+pub members_timed : (now : ℕ) (c : Course) → (course_timed now c).members ≡ c.members
+members_timed now c = members_posted c _ ∙ members_treated (spent_of now (running_limits (freeze_limit c) c.agenda)) now c

@@ -1,0 +1,73 @@
+-- What a session names are selectable components of writers that it knows.
+use Rattle.std.proofs.Common.{◌≡◌, ℕ, ◌+◌, ◌==◌, zero, suc, List, [], ◌∷◌, ◌++◌, ◌⊎◌, Option, Some, None, refl, Bool, true, false, map, filter, ap, sym, ◌∙◌, subst, fold, inl, inr, arith}
+use Rattle.std.specs.Prelude.{option_map, is_some, ◌&&◌, ◌||◌, not, if◌then◌else◌, slice_get, length}
+use Rattle.std.specs.List.{list_all, list_any}
+use Rattle.vss_names.specs.declared.context.Context.{Context}
+use Rattle.vss_names.specs.declared.context.Context.TheVariants.{Backup, AppRollback, NasRollback}
+use Rattle.vss_names.specs.declared.order.Order.{Order}
+use Rattle.vss_names.specs.declared.vss_result.VssResult.{VssResult}
+use Rattle.vss_names.specs.declared.vss_result.VssResult.TheVariants.{AsyncCancelled, InsufficientStorage}
+use Rattle.writer_state.specs.declared.said.Said.{Said}
+use Rattle.writer_state.specs.declared.writer_row.WriterRow.{WriterRow}
+use Rattle.writer_state.specs.WriterState.{is_ok}
+use Rattle.write_history.specs.declared.mark.Mark.{Mark}
+use Rattle.write_history.specs.declared.mark.Mark.TheVariants.{Clean, Fault, FaultAfter}
+use Rattle.write_history.specs.History.{Write}
+use Rattle.writer_meta.specs.Metadata.{Meta}
+use Rattle.component_doc.specs.Selection.{Pair, Naming, Names, naming, naming_of, naming_found, naming_if, has_pair, with_pair, found_in, found_of}
+use Rattle.component_doc.specs.Over.{names_selectable, is_ascending}
+use Rattle.component_doc.proofs.Added.{over-more}
+use Rattle.set_agenda.specs.declared.group.Group.{Group}
+use Rattle.set_agenda.specs.declared.kind.Kind.{Kind}
+use Rattle.set_agenda.specs.declared.kind.Kind.TheVariants.{Gather, Prepare, Snapshot, Complete}
+use Rattle.set_agenda.specs.declared.member.Member.{Member}
+use Rattle.set_agenda.specs.Agenda.{Agenda, open_group, is_working}
+use Rattle.set_agenda.specs.Course.{Course, answered as course_answered, stepped as course_stepped, timed as course_timed}
+use Rattle.requestor.specs.declared.stage.Stage.{Stage}
+use Rattle.requestor.specs.declared.stage.Stage.TheVariants.{Opened, Gathered, Started, Prepared, Done, Finished, Failed}
+use Rattle.requestor.specs.declared.session_call.SessionCall.TheVariants as call
+use Rattle.requestor.specs.Session.{Session, agenda_ended, set_failed, stage_after, has_writers}
+use Rattle.requestor.specs.Check.{is_stage}
+use Rattle.scenario.specs.Plan.{Plan, WriterPlan, class_of}
+use Rattle.vss_model.specs.State.{State, SetRow, Kept, in_progress, left_now}
+use Rattle.vss_model.specs.Ending.{Ending, NothingEnds, AgendaEnds, SetFails, ending, concluded, followed, runs}
+use Rattle.vss_model.specs.Sessions.{is_disabled, has_failed_identify, is_known, meta_if, known_from, known_metas}
+use Rattle.vss_model.specs.Acts.{Act, after, state}
+use Rattle.vss_model.proofs.Orderly.{true_not_false}
+use Rattle.vss_model.proofs.KnownWriters.{AsFit, Keeps, is_unfit, members_timed}
+
+-- ## who is known
+
+same_known : (s : Plan) (st x : State) → x.course.disabled ≡ st.course.disabled → AsFit st.course.rows x.course.rows → (w : ℕ) → is_known s x w ≡ is_known s st w
+same_known s st x e f w =
+    ap (λ ds. not (list_any (λ d. class_of s d == class_of s w) ds) && not (has_failed_identify (slice_get x.course.rows w))) e
+    ∙ ap (λ b. not (is_disabled s st w) && not b) (f w)
+
+known_along : (s : Plan) (st x : State) → ((w : ℕ) → is_known s x w ≡ is_known s st w) → (w : ℕ) (ps : List WriterPlan) → known_from s x w ps ≡ known_from s st w ps
+known_along s st x same w [] = refl
+known_along s st x same w (p ∷ ps) = ap (λ b. meta_if b p.meta ∷ known_from s x (w + 1) ps) (same w) ∙ ap (λ ms. meta_if (is_known s st w) p.meta ∷ ms) (known_along s st x same (w + 1) ps)
+
+pub known_same : (s : Plan) (st x : State) → x.course.disabled ≡ st.course.disabled → AsFit st.course.rows x.course.rows → known_metas s x ≡ known_metas s st
+known_same s st x e f = known_along s st x (same_known s st x e f) 0 s.writers
+
+-- ## what is named
+
+abbrev pub AreOver : List (Option Meta) → List Pair → Type 0
+AreOver ms ps = (list_all (names_selectable ms) ps && is_ascending ps) ≡ true
+
+named_if : (ms : List (Option Meta)) (q : Pair) (ps new : List Pair) (a b : Bool) → naming_if a b q ps ≡ Names new → (a ≡ true → b ≡ false → AreOver ms (with_pair q ps)) → AreOver ms new
+named_if ms q ps new false b i over = absurd cc
+named_if ms q ps new true true i over = absurd cc
+named_if ms q ps new true false i over = let same : with_pair q ps ≡ new = cc in subst (AreOver ms) same (over refl refl)
+
+named_of : (ms : List (Option Meta)) (w : ℕ) (name : List ℕ) (o : Option (Option Meta)) (ps new : List Pair) → slice_get ms w ≡ o → naming_of w name o ps ≡ Names new → AreOver ms ps → AreOver ms new
+named_of ms w name None ps new e i over = absurd cc
+named_of ms w name (Some None) ps new e i over = absurd cc
+named_of ms w name (Some (Some m)) ps new e i over =
+    (elim (found_in name m.parts) as (λ x. found_of name (slice_get ms w) ≡ x → naming_found w x ps ≡ Names new → AreOver ms new) [
+      | None ↦ λ f g. absurd cc
+      | Some x ↦ λ f g. named_if ms (record { writer = w; component = x.component }) ps new x.selectable (has_pair ps w x.component) g (λ a b. over-more ms name (record { writer = w; component = x.component }) x ps (sym f) refl a b over)
+    ]) (ap (found_of name) e) i
+
+pub named_over : (ms : List (Option Meta)) (w : ℕ) (name : List ℕ) (ps new : List Pair) → naming ms w name ps ≡ Names new → AreOver ms ps → AreOver ms new
+named_over ms w name ps new i over = named_of ms w name (slice_get ms w) ps new refl i over
