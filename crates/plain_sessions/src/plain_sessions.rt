@@ -1,4 +1,4 @@
-ghost use Rattle.std.specs.Prelude.{◌≡◌, ◌&&◌, ◌||◌, ℕ, not, true, false, IfOk, OnErr, [], is_some, Some, IfSome};
+ghost use Rattle.std.specs.Prelude.{◌≡◌, ◌&&◌, ◌||◌, ℕ, not, true, false, IfOk, IsOk, OnErr, [], is_some, Some, IfSome};
 ghost use Rattle.scenario.specs.Plan.{Plan};
 ghost use Rattle.scenario.specs.Calls.{call_of};
 ghost use Rattle.scenario.specs.Bounds.{is_begin};
@@ -65,6 +65,7 @@ impl PlainSessions {
         ensures called { IfOk result (IsCall self.old self.new (Line lane op)) }
         ensures clean { IfOk result IsClean }
         ensures memory { OnErr result (self.new ≡ self.old) }
+        ensures enough { IsOk result }
         ensures begun { IfOk result (λ called. self.new.begun ≡ (self.old.begun || is_begin op)) }
     {
         let _alloc = alloc;

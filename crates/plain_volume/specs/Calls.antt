@@ -5,6 +5,7 @@ use Rattle.hex.specs.Hex.{IsBytes}
 use Rattle.vss_names.specs.Faults.{Rose}
 use Rattle.block_data.specs.Digest.{sha256}
 use Rattle.write_history.specs.History.{History, Image, Write, content, contents, written, cut}
+use Rattle.write_history.specs.Slots.{needs_slot}
 use Rattle.plain_volume.specs.declared.fingerprint.Fingerprint.{Fingerprint}
 use Rattle.plain_volume.specs.declared.write_fault.WriteFault.{WriteFault}
 use Rattle.plain_volume.specs.declared.write_fault.WriteFault.TheVariants.{Failed, OutOfMemory}
@@ -36,10 +37,15 @@ pub record IsFailed {D : Type 0} (blocks_told : D → Option (List (List ℕ))) 
   pub stands : StandsAsBefore blocks_told old new
   pub rose : Rose (count old.device) (count new.device)
 
+-- the memory for a copy of block b was refused: an image stands that has no copy of it yet, and nothing changed
+pub record IsUncopied {D : Type 0} (blocks_told : D → Option (List (List ℕ))) (size : D → ℕ) (old new : VolumeValue D) (b : ℕ) : Type 0 where
+  pub same : new ≡ old
+  pub lacks : (h : History) → StandsFor blocks_told size old h → needs_slot h.writes h.images b ≡ true
+
 abbrev pub IsWrite : {D : Type 0} → (D → Option (List (List ℕ))) → (D → ℕ) → (D → ℕ) → VolumeValue D → VolumeValue D → Write → Result Unit WriteFault → Type 0
 IsWrite blocks_told size count old new w (Ok done) = IsWritten blocks_told size count old new w
 IsWrite blocks_told size count old new w (Err Failed) = IsFailed blocks_told size count old new
-IsWrite blocks_told size count old new w (Err OutOfMemory) = new ≡ old
+IsWrite blocks_told size count old new w (Err OutOfMemory) = IsUncopied blocks_told size old new w.block
 
 -- ## reads
 

@@ -1,4 +1,4 @@
-ghost use Rattle.std.specs.Prelude.{◌≡◌, ◌<◌, ◌≤◌, ℕ, [], ◌∷◌, length, replicate, None, IfOk, OnOk, is_err};
+ghost use Rattle.std.specs.Prelude.{◌≡◌, ◌<◌, ◌≤◌, ℕ, [], ◌∷◌, length, replicate, None, IfOk, IfErr, OnOk, is_err};
 ghost use Rattle.std.specs.List.{concat};
 ghost use Rattle.hex.specs.Hex.{IsBytes};
 ghost use Rattle.block_data.specs.Digest.{sha256};
@@ -18,7 +18,7 @@ use block_data::{BlockBuf, Payload};
 use std::alloc::Global;
 use std::marker::Model;
 use volume_device::Device;
-use vss_names::{Failed, OutOfMemory};
+use vss_names::Failed;
 
 /// A device with at most one image of it. Contracts see it as its device, the set of the image, and the image's places.
 #[derive(Drop)]
@@ -42,12 +42,17 @@ impl<D: Device> Model for PlainVolume<D> {
 }
 
 impl<D: Device> PlainVolume<D> {
-    /// A volume over a device, without an image.
-    pub fn new(alloc: Global, device: D) -> Result<PlainVolume<D>, OutOfMemory>
-        ensures { IfOk result (λ volume. volume ≡ record { device = device; sets = []; places = replicate (D.size device) None }) }
+    /// A volume over a device, without an image. Where memory is refused the device is given back as it is.
+    pub fn new(alloc: Global, device: D) -> Result<PlainVolume<D>, D>
+        ensures volume { IfOk result (λ volume. volume ≡ record { device = device; sets = []; places = replicate (D.size device) None }) }
+        ensures refused { IfErr result (λ given. given ≡ device) }
     {
-        let scratch = BlockBuf::zeroed(alloc)?;
-        let image = ImagePlaces::new(alloc, device.blocks())?;
+        let Ok(scratch) = BlockBuf::zeroed(alloc) else {
+            return Err(device);
+        };
+        let Ok(image) = ImagePlaces::new(alloc, device.blocks()) else {
+            return Err(device);
+        };
         Ok(PlainVolume {
             device,
             scratch,

@@ -17,7 +17,10 @@ fn volume(
     let writes = Numbers::copy(alloc, writes)?;
     let flushes = Numbers::copy(alloc, flushes)?;
     let device = MemDevice::new(alloc, 4)?.failing(reads, writes, flushes);
-    PlainVolume::new(alloc, device)
+    match PlainVolume::new(alloc, device) {
+        Ok(volume) => Ok(volume),
+        Err(_given) => Err(OutOfMemory),
+    }
 }
 
 fn fill<D: Device>(
@@ -72,20 +75,6 @@ fn an_image_shows_the_old_block(rt: HostRuntime) -> Result<(), Fail> {
 }
 
 #[test]
-fn a_second_write_copies_nothing_again(rt: HostRuntime) -> Result<(), Fail> {
-    let alloc = rt.alloc();
-    // the first write copies by the first read; a second copy would meet the failing one
-    let mut volume = volume(alloc, &[2], &[], &[])?;
-    volume.cut(1);
-    assert!(rt; fill(&rt, alloc, &mut volume, 0, 7).is_ok());
-    assert!(rt; fill(&rt, alloc, &mut volume, 0, 8).is_ok());
-    assert!(rt; first(&rt, &mut volume, 0, true) == Some(0));
-    assert!(rt; first(&rt, &mut volume, 0, false) == None);
-    assert!(rt; first(&rt, &mut volume, 0, false) == Some(8));
-    Ok(())
-}
-
-#[test]
 fn a_failed_write_or_copy_leaves_the_image_right(rt: HostRuntime) -> Result<(), Fail> {
     let alloc = rt.alloc();
     let mut volume = volume(alloc, &[1], &[1], &[])?;
@@ -98,22 +87,6 @@ fn a_failed_write_or_copy_leaves_the_image_right(rt: HostRuntime) -> Result<(), 
     assert_eq!(rt; volume.used(), 1);
     assert!(rt; first(&rt, &mut volume, 3, true) == Some(0));
     assert!(rt; first(&rt, &mut volume, 3, false) == Some(7));
-    Ok(())
-}
-
-#[test]
-fn an_image_that_is_dropped_keeps_nothing(rt: HostRuntime) -> Result<(), Fail> {
-    let alloc = rt.alloc();
-    let mut volume = volume(alloc, &[], &[], &[])?;
-    volume.cut(1);
-    assert!(rt; fill(&rt, alloc, &mut volume, 0, 7).is_ok());
-    volume.drop_image(2);
-    assert_eq!(rt; volume.used(), 1);
-    volume.drop_image(1);
-    assert_eq!(rt; volume.used(), 0);
-    assert!(rt; volume.sets().is_empty());
-    assert!(rt; fill(&rt, alloc, &mut volume, 1, 7).is_ok());
-    assert_eq!(rt; volume.used(), 0);
     Ok(())
 }
 

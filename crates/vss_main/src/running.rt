@@ -1,9 +1,9 @@
-ghost use Rattle.std.specs.Prelude.{◌≡◌, ◌<◌, ◌↔◌, IfOk, IsErrOf, true, false};
+ghost use Rattle.std.specs.Prelude.{◌≡◌, ◌<◌, ◌≤◌, ◌↔◌, IfOk, IsErrOf, true, false};
 ghost use Rattle.vss_names.specs.Faults.{Rose};
 ghost use Rattle.io_edge.specs.Streams.{IfGave};
 ghost use Rattle.volume_device.specs.declared.store.Store.TheVariants as store;
 ghost use Rattle.vss_main.specs.Command.{is_command, most_bytes};
-ghost use Rattle.vss_main.specs.TopCall.{IsRun, IsStatus, IsAnswered};
+ghost use Rattle.vss_main.specs.TopCall.{IsRun, AreGivenBack, IsStatus, IsAnswered};
 
 use crate::status::Status;
 use io_edge::{ReadError, Sink, Source, read_all, write_all};
@@ -27,7 +27,9 @@ fn is_command(words: &[String]) -> bool
 
 /// Runs a scenario to its end over devices in memory, closes its report, and gives the devices back.
 fn report_of<M: Maker>(alloc: Global, scenario: Scenario, maker: &mut M) -> Result<Text, PlayFault>
-    ensures ran { IfOk result (λ report. IsRun M.Made.told (M.tells maker.old store.Memory) (M.kept maker.old) (M.kept maker.new) (M.count maker.old) (M.count maker.new) scenario report.bytes) }
+    ensures ran { IfOk result (λ report. IsRun M.Made.told (M.tells maker.old store.Memory) (M.named maker.old) (M.named maker.new) (M.kept maker.old) (M.kept maker.new) (M.count maker.old) (M.count maker.new) scenario report.bytes) }
+    ensures later { M.count maker.old ≤ M.count maker.new }
+    ensures given_back { IsErrOf result PlayFault.Failed → AreGivenBack scenario (M.named maker.old) (M.named maker.new) (M.kept maker.old) (M.kept maker.new) }
     ensures rose { IsErrOf result PlayFault.Failed → Rose (M.count maker.old) (M.count maker.new) }
 {
     let play = Play::new(alloc, scenario, &Store::Memory, maker)?;
@@ -79,6 +81,8 @@ pub fn run<R: Threads + Wait + Sync, S: Source, K: Sink, M: Maker, G: Gate>(
       taken_last = K.taken sink.new;
       writes_first = K.count sink.old;
       writes_last = K.count sink.new;
+      named_first = M.named maker.old;
+      named_last = M.named maker.new;
       kept_first = M.kept maker.old;
       kept_last = M.kept maker.new;
       count_first = M.count maker.old;
@@ -93,6 +97,8 @@ pub fn run<R: Threads + Wait + Sync, S: Source, K: Sink, M: Maker, G: Gate>(
       taken_last = K.taken sink.new;
       writes_first = K.count sink.old;
       writes_last = K.count sink.new;
+      named_first = M.named maker.old;
+      named_last = M.named maker.new;
       kept_first = M.kept maker.old;
       kept_last = M.kept maker.new;
       count_first = M.count maker.old;

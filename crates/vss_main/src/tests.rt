@@ -17,7 +17,7 @@ const ONE_SET_REPORT: &[u8] =
 const FAILED_FLUSH_REPORT: &[u8] =
     b"report 1\n1 lane a 4 ok\n2 lane a 5 set 1\n3 lane a 6 ok\n4 lane a 7 VSS_S_ASYNC_PENDING\n5 provider precommit\n6 provider flush C fault\n= set 1 failed VSS_E_UNEXPECTED_PROVIDER_ERROR\n7 lane a 8 VSS_E_UNEXPECTED_PROVIDER_ERROR\n8 lane a 9 ok\n9 lane a 10 VSS_E_OBJECT_NOT_FOUND\n10 lane a 11 ok\nend moves 10 clock 0\nvolume C used 0 of 1 70986737435b5f89e119558ba7d29e5bb8768dd18c16beaaaa09298bf586b275\n";
 
-/// A maker whose device of volume C fails these calls.
+/// A maker whose device of volume C, `C.vol`, fails these calls.
 fn maker_of(
     alloc: Global,
     refused: bool,
@@ -26,7 +26,7 @@ fn maker_of(
 ) -> Result<MemMaker, OutOfMemory> {
     let mut plan = Vec::new(alloc);
     plan.push(Planned {
-        name: Text::copy(alloc, b"C")?,
+        name: Text::copy(alloc, b"C.vol")?,
         refused,
         reads: Numbers::copy(alloc, reads)?,
         writes: Numbers::new(alloc),

@@ -9,3 +9,4 @@ pub mod GivingBack
 pub mod NewDevices
 pub mod InTurn
 pub mod ClosingLines
+pub mod GoingLanes

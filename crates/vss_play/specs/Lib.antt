@@ -1,3 +1,4 @@
 pub mod Played
 pub mod Running
 pub mod Closing
+pub mod Messages

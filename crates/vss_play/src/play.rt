@@ -5,7 +5,7 @@ ghost use Rattle.scenario.specs.Bounds.{IsPlan};
 ghost use Rattle.vss_model.specs.Trail.{event_of};
 ghost use Rattle.vss_report.specs.ToldLines.{IsLineOf};
 ghost use Rattle.vss_play.specs.Running.{IsMade};
-ghost use Rattle.vss_play.specs.Played.{run_of, is_finished, tells_in, IsKept, IsTurn, IsFresh, IsUndone, IsQuietPlay, IsClosed, AnyRose};
+ghost use Rattle.vss_play.specs.Played.{run_of, is_finished, tells_in, IsKept, IsTurn, IsFresh, IsUndone, IsQuietPlay, IsClosed, AnyRose, AreNamed, device_names};
 
 use crate::closing::close_all;
 use crate::devices::{give_all, make_devices};
@@ -13,7 +13,8 @@ use crate::moved::Moved;
 use crate::play_fault::PlayFault;
 use crate::step_fault::StepFault;
 use crate::turn::{
-    advance, are_used_up, first_cursors, mark_of, next_line, push_move, write_lines,
+    advance, are_used_up, first_cursors, lanes_with_lines, mark_of, next_line, push_move,
+    write_lines,
 };
 use scenario::Scenario;
 use std::alloc::Global;
@@ -33,24 +34,27 @@ pub struct Play<D: Device> {
     world: World<D>,
     /// For each lane, how many lines it has made.
     cursors: Vec<u32>,
+    /// How many lanes have a line left.
+    going: u32,
     trail: Trail,
     lines: Text,
 }
 
 impl<D: Device> Model for Play<D> {
     ghost use Rattle.vss_play.specs.Played.{Played};
-    ghost use Rattle.vss_play.specs.Running.{IsPlay};
+    ghost use Rattle.vss_play.specs.Running.{IsPlaying};
 
     ghost Value = { Played D };
 
     ghost view = { λ a. record { plan = a.scenario; trail = a.trail.moves; devices = a.world.devices } };
 
-    ghost invariant = { λ a. IsPlay D.told D.size D.count a.scenario a.world a.cursors.items a.trail.moves a.lines.bytes };
+    ghost invariant = { λ a. IsPlaying D.told D.size D.count a.scenario a.world a.cursors.items a.going a.trail.moves a.lines.bytes };
 }
 
 impl<D: Device> Play<D> {
-    /// A run of which nothing has happened yet. The maker makes each volume's device by its name, in order of the volumes.
-    /// Where it refuses one, it gets back those that it made; where memory is wanting once all are made, they are dropped.
+    /// A run of which nothing has happened yet. The maker makes each volume's device by the volume's name with `.vol` behind it,
+    /// in order of the volumes.
+    /// Where one is refused, or memory, the maker gets back those that it made.
     pub fn new<M: Maker<Made = D>>(
         alloc: Global,
         scenario: Scenario,
@@ -59,11 +63,13 @@ impl<D: Device> Play<D> {
     ) -> Result<Play<D>, PlayFault>
         ensures fresh { IfOk result (IsFresh D.told D.count (M.tells maker.old store.now) scenario) }
         ensures tells { M.tells maker.new ≡ M.tells maker.old }
+        ensures named { OnOk result (AreNamed (device_names scenario) (M.named maker.old) (M.named maker.new)) }
         ensures kept { OnOk result (M.kept maker.new ≡ M.kept maker.old) }
-        ensures undone { OnErr result (IsUndone D.count (M.kept maker.old) (M.kept maker.new)) }
+        ensures undone { OnErr result (IsUndone D.count scenario (M.named maker.old) (M.named maker.new) (M.kept maker.old) (M.kept maker.new)) }
         ensures places { IfOk result (λ play. length play.devices ≤ M.places maker.new) }
         ensures later { M.count maker.old ≤ M.count maker.new }
         ensures unfailed { OnOk result (M.count maker.new ≡ M.count maker.old) }
+        ensures unmade { IsErrOf result PlayFault.OutOfMemory → M.count maker.new ≡ M.count maker.old }
         ensures rose { IsErrOf result PlayFault.Failed → Rose (M.count maker.old) (M.count maker.new) }
     {
         let mut lines = Text::new(alloc);
@@ -73,15 +79,21 @@ impl<D: Device> Play<D> {
         let Ok(cursors) = first_cursors(alloc, scenario.lanes()) else {
             return Err(PlayFault::OutOfMemory);
         };
+        let going = lanes_with_lines(&scenario);
         let devices = make_devices(alloc, &scenario, store, maker)?;
-        let Ok(world) = World::new(alloc, &scenario, devices) else {
-            return Err(PlayFault::OutOfMemory);
+        let world = match World::new(alloc, &scenario, devices) {
+            Ok(world) => world,
+            Err(given) => {
+                give_all(given, maker);
+                return Err(PlayFault::OutOfMemory);
+            }
         };
         let trail = Trail::new(alloc);
         Ok(Play {
             scenario,
             world,
             cursors,
+            going,
             trail,
             lines,
         })
@@ -101,17 +113,17 @@ impl<D: Device> Play<D> {
             },
             Actor::Writer(_) => {
                 // No scenario that is run has writers.
-                let _lanes = self.scenario.lanes();
+                let _facts = self.scenario.lanes();
                 Ok(Moved::Finished)
             }
             Actor::Advance => {
-                if are_used_up(&self.scenario, &self.cursors) {
+                if are_used_up(self.going) {
                     return Ok(Moved::Finished);
                 }
                 self.make(alloc, actor, 0, Event::Provider)
             }
             Actor::Idle => {
-                if are_used_up(&self.scenario, &self.cursors) {
+                if are_used_up(self.going) {
                     return Ok(Moved::Finished);
                 }
                 Ok(Moved::Blocked)
@@ -162,7 +174,7 @@ impl<D: Device> Play<D> {
                     &mut self.lines,
                 );
                 push_move(&mut self.trail, item);
-                advance(&mut self.cursors, actor);
+                self.going = advance(&self.scenario, &mut self.cursors, actor, self.going);
                 Ok(Moved::Moved)
             }
         }
@@ -199,6 +211,7 @@ impl<D: Device> Play<D> {
         ensures quiet { IsQuietPlay D.told D.count self.old self.new }
         ensures kept { IsKept D.told D.count self.new }
         ensures unfailed { OnOk result (map D.count self.new.devices ≡ map D.count self.old.devices) }
+        ensures wanting { IsErrOf result PlayFault.OutOfMemory → map D.count self.new.devices ≡ map D.count self.old.devices }
         ensures rose { IsErrOf result PlayFault.Failed → AnyRose (map D.count self.old.devices) (map D.count self.new.devices) }
     {
         let before = out.len();
@@ -215,6 +228,8 @@ impl<D: Device> Play<D> {
     /// Hands the devices back to a maker, in order of the volumes, as they are.
     pub fn give_back<M: Maker<Made = D>>(self, maker: &mut M)
         ensures tells { M.tells maker.new ≡ M.tells maker.old }
+        ensures named { M.named maker.new ≡ M.named maker.old }
+        ensures later { M.count maker.old ≤ M.count maker.new }
         ensures kept { length self.devices ≤ M.places maker.old → M.kept maker.new ≡ option_map (λ devices. devices ++ self.devices) (M.kept maker.old) }
         ensures count { M.count maker.new ≡ all_counted (M.count maker.old) (map D.count self.devices) }
     {
@@ -222,6 +237,7 @@ impl<D: Device> Play<D> {
             scenario: _,
             world,
             cursors: _,
+            going: _,
             trail: _,
             lines: _,
         } = self;

@@ -5,7 +5,7 @@ use Rattle.std.specs.List.{list_any, concat}
 use Rattle.vss_names.specs.declared.vss_result.VssResult.TheVariants.{ObjectNotFound}
 use Rattle.write_history.specs.declared.mark.Mark.TheVariants.{Clean}
 use Rattle.write_history.specs.History.{History, Image, Write, content, contents, point_in, sets_of}
-use Rattle.write_history.specs.Slots.{used}
+use Rattle.write_history.specs.Slots.{used, needs_slot}
 use Rattle.hex.specs.Hex.{IsBytes}
 use Rattle.block_data.specs.Digest.{sha256}
 use Rattle.scenario.specs.declared.volume_row.VolumeRow.{VolumeRow}
@@ -27,8 +27,8 @@ use Rattle.plain_volume.proofs.Lists.{slice_get_map, slice_get_inside, length-ma
 use Rattle.plain_sessions.specs.Keeps.{SessionsValue, Keeps}
 use Rattle.vss_world.specs.Stands.{world_of, IsOf, AllStand, Stands, IsMoved, tells_of, simple_outcome, IfStands, IsQuiet, used_at, blocks_at}
 use Rattle.plain_volume.specs.Calls.{IsQuiet as QuietVolume}
-use Rattle.std.proofs.lemmas.Option.{slice_get_read}
-use Rattle.vss_world.specs.Calls.{IsGot, has_set, has_set_in, same}
+use Rattle.std.proofs.lemmas.Option.{slice_get_read, slice_get_within}
+use Rattle.vss_world.specs.Calls.{IsGot, NeedsCopy, has_set, has_set_in, same}
 use Rattle.vss_world.proofs.Relation.{is_at, stand_at, stand_long, stands_of, size_at, later_same, stand_set, change_at-same, tied_of, devices_alike, later_set}
 use Rattle.vss_world.proofs.Blocks.{few_sets, after_line, outcome_of, got_moves}
 
@@ -159,6 +159,14 @@ pub used_here : {D : Type 0} → (blocks_told : D → Option (List (List ℕ))) 
 used_here blocks_told size vs x v result y at inside is = λ s acts of stands.
     let here = is_here blocks_told size s acts vs x v y at inside of stands in
     is (history_of (state s acts) v) here.stands ∙ ap (λ (n : ℕ). used n (history_of (state s acts) v).writes (history_of (state s acts) v).images) here.sized ∙ ap (λ (o : Option VolumeRow). used_at o (history_of (state s acts) v)) (sym here.of_row)
+
+-- the old block of a write is copied first
+pub copies_here : {D : Type 0} → (blocks_told : D → Option (List (List ℕ))) (size : D → ℕ) (vs : List (VolumeValue D)) (x : SessionsValue) (v b : ℕ) → NeedsCopy blocks_told size (slice_get vs v) b
+    → IfStands blocks_told size (world_of vs x) (λ s st. needs_slot (history_of st v).writes (history_of st v).images b ≡ true)
+copies_here {D = D} blocks_told size vs x v b needs = λ s acts of stands. at_volume s acts of stands (slice_get vs v) refl needs where
+  at_volume : (s : Plan) (acts : List Act) → IsOf size (world_of vs x) s → Stands blocks_told (world_of vs x) s acts → (o : Option (VolumeValue D)) → slice_get vs v ≡ o → NeedsCopy blocks_told size o b → needs_slot (history_of (state s acts) v).writes (history_of (state s acts) v).images b ≡ true
+  at_volume s acts of stands None e copy = absurd copy
+  at_volume s acts of stands (Some y) e copy = copy (history_of (state s acts) v) (is_here blocks_told size s acts vs x v y e (slice_get_within vs v y e) of stands).stands
 
 kept-sets : (tells : Bool) (m : ℕ) (ws : List Write) (sets : List ℕ) (places : List (Option (List ℕ))) (images : List Image) (st : State) → AreImages tells m ws sets places images → sets_of (kept st (record { writes = ws; images = images })) ≡ filter (is_kept_set st) sets
 kept-sets tells m ws [] places [] st are = refl

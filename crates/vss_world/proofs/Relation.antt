@@ -121,8 +121,8 @@ later_set {D = D} count (z ∷ vs) (suc v) x y at l = (omega arith, later_set co
 
 pub rose_set : {D : Type 0} → (count : D → ℕ) (vs : List (VolumeValue D)) (v : ℕ) (x y : VolumeValue D) → slice_get vs v ≡ Some x → Rose (count x.device) (count y.device) → RoseAt (Some v) (map count (map (λ (z : VolumeValue D). z.device) vs)) (map count (map (λ (z : VolumeValue D). z.device) (slice_set vs v y)))
 rose_set {D = D} count [] v x y at rose = cc
-rose_set {D = D} count (z ∷ vs) zero x y at rose = let is : z ≡ x = cc in subst (λ (u : VolumeValue D). Rose (count u.device) (count y.device)) (sym is) rose
-rose_set {D = D} count (z ∷ vs) (suc v) x y at rose = rose_set count vs v x y at rose
+rose_set {D = D} count (z ∷ vs) zero x y at rose = let is : z ≡ x = cc in (subst (λ (u : VolumeValue D). Rose (count u.device) (count y.device)) (sym is) rose, refl)
+rose_set {D = D} count (z ∷ vs) (suc v) x y at rose = (refl, rose_set count vs v x y at rose)
 
 -- ## one call
 

@@ -3,6 +3,7 @@ use Rattle.std.proofs.Common.{◌≡◌, ℕ, zero, suc, ◌<◌, ◌≤◌, Lis
 use Rattle.std.specs.Prelude.{slice_get, slice_set, map, is_some, not, ◌==◌, Result, Ok, Err, OnOk, is_err}
 use Rattle.vss_names.specs.Faults.{Rose}
 use Rattle.write_history.specs.History.{History, Image, Write, cut}
+use Rattle.write_history.specs.Slots.{needs_slot}
 use Rattle.scenario.specs.declared.volume_row.VolumeRow.{VolumeRow}
 use Rattle.scenario.specs.Plan.{Plan}
 use Rattle.scenario.specs.Built.{IsBuilt}
@@ -31,7 +32,7 @@ use Rattle.plain_sessions.specs.declared.session_move.SessionMove.{SessionMove}
 use Rattle.plain_sessions.specs.Keeps.{SessionsValue, Keeps, HasRoom, IsMove, IsWait, images_changed, volume_told}
 use Rattle.vss_world.specs.Stands.{world_of, IsOf, AllStand, Stands, IsMoved, IsBlocked, RoseAt, tells_of, volume_of, volume_of_step}
 use Rattle.vss_world.specs.Stands.{AreLater as CountsLater}
-use Rattle.vss_world.specs.Calls.{HasBlock, AllQuiet, FirstLasts, FirstChanged, IsFlushed, IsChanged, history_changed}
+use Rattle.vss_world.specs.Calls.{HasBlock, NeedsCopy, AllQuiet, FirstLasts, FirstChanged, IsFlushed, IsChanged, history_changed}
 use Rattle.vss_world.proofs.Relation.{stands_of, stand_long, devices_alike}
 use Rattle.vss_world.proofs.Blocks.{few_sets}
 
@@ -237,7 +238,7 @@ flushed_first {D = D} blocks_told size count (z ∷ vs) x y ok at kept stands ro
     let e : z ≡ x = cc in
     record {
       quiet = (subst (λ (w : VolumeValue D). IsKept blocks_told size count w.device y.device) (sym e) kept, subst (λ (w : VolumeValue D). StandsAsBefore blocks_told w y) (sym e) stands, quiet_same blocks_told size count vs);
-      rose = λ failed. subst (λ (w : VolumeValue D). Rose (count w.device) (count y.device)) (sym e) (rose failed);
+      rose = λ failed. (subst (λ (w : VolumeValue D). Rose (count w.device) (count y.device)) (sym e) (rose failed), refl);
       unfailed = λ is_ok. devices_alike count (z ∷ vs) 0 x y at (unfailed is_ok);
     }
 
@@ -248,6 +249,10 @@ pub at_index : {D : Type 0} → (size : D → ℕ) (vs : List (VolumeValue D)) (
 at_index {D = D} size [] v b y has is = absurd has
 at_index {D = D} size (z ∷ vs) zero b y has is = ap Some (sym is)
 at_index {D = D} size (z ∷ vs) (suc v) b y has is = at_index size vs v b y has is
+
+-- the memory for a copy of the old block was refused
+pub needs_at : {D : Type 0} → (blocks_told : D → Option (List (List ℕ))) (size : D → ℕ) (vs : List (VolumeValue D)) (v b : ℕ) (y : VolumeValue D) → slice_get vs v ≡ Some y → ((h : History) → StandsFor blocks_told size y h → needs_slot h.writes h.images b ≡ true) → NeedsCopy blocks_told size (slice_get vs v) b
+needs_at {D = D} blocks_told size vs v b y at lacks = subst (λ (o : Option (VolumeValue D)). NeedsCopy blocks_told size o b) (sym at) lacks
 
 -- a call that left it as it was, as one that becomes the same
 pub same_stands : {D : Type 0} → (blocks_told : D → Option (List (List ℕ))) (size count : D → ℕ) (x y : VolumeValue D) → IsKept blocks_told size count x.device y.device → StandsAsBefore blocks_told x y → (h : History) → StandsFor blocks_told size x h → StandsFor blocks_told size y h

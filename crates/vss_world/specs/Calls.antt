@@ -2,6 +2,7 @@
 use Rattle.std.specs.Prelude.{ℕ, ◌≡◌, ◌<◌, ◌==◌, Bool, true, false, List, [], ◌∷◌, map, Option, Some, None, slice_get, slice_set, replicate}
 use Rattle.vss_names.specs.Faults.{Rose}
 use Rattle.write_history.specs.History.{History, Write, written, dropped}
+use Rattle.write_history.specs.Slots.{needs_slot}
 use Rattle.vss_model.specs.declared.told.Told.{Told}
 use Rattle.vss_model.specs.declared.told.Told.TheVariants as told
 use Rattle.plain_volume.specs.Volume.{VolumeValue, StandsFor}
@@ -26,6 +27,11 @@ pub record IsCall {D : Type 0} (blocks_told : D → Option (List (List ℕ))) (s
   pub stands : (h : History) → StandsFor blocks_told size before h → StandsFor blocks_told size now (becomes h)
   pub rose : failed ≡ true → Rose (count before.device) (count now.device)
   pub unfailed : failed ≡ false → count now.device ≡ count before.device
+
+-- an image of the volume stands, and the block was not written since it was cut
+abbrev pub NeedsCopy : {D : Type 0} → (D → Option (List (List ℕ))) → (D → ℕ) → Option (VolumeValue D) → ℕ → Type 0
+NeedsCopy blocks_told size None b = ⊥
+NeedsCopy blocks_told size (Some v) b = (h : History) → StandsFor blocks_told size v h → needs_slot h.writes h.images b ≡ true
 
 abbrev pub same : History → History
 same h = h

@@ -1,11 +1,11 @@
 -- What the core of the service stands for: a list of acts. Where its devices tell their blocks, they hold the volumes'
 -- contents. (This project's own.)
-use Rattle.std.specs.Prelude.{ℕ, ◌≡◌, ◌≤◌, Bool, true, false, List, [], ◌∷◌, ◌++◌, length, map, Option, Some, None, is_some, slice_get, IfSome, replicate}
+use Rattle.std.specs.Prelude.{ℕ, zero, suc, ◌≡◌, ◌≤◌, Bool, true, false, List, [], ◌∷◌, ◌++◌, length, map, Option, Some, None, is_some, slice_get, IfSome, replicate}
 use Rattle.vss_names.specs.Faults.{Rose}
 use Rattle.writer_state.specs.declared.writer_row.WriterRow.{WriterRow}
 use Rattle.block_data.specs.Runs.{zeros}
 use Rattle.write_history.specs.History.{History, contents}
-use Rattle.write_history.specs.Slots.{used}
+use Rattle.write_history.specs.Slots.{used, needs_slot}
 use Rattle.scenario.specs.declared.op.Op.{Op}
 use Rattle.scenario.specs.declared.op.Op.TheVariants.{WriteFill, WriteStamp, Read, ImageDigest, ImageBlock, Revert}
 use Rattle.scenario.specs.declared.volume_row.VolumeRow.{VolumeRow}
@@ -20,7 +20,7 @@ use Rattle.vss_model.specs.declared.outcome.Outcome.{Outcome}
 use Rattle.vss_model.specs.declared.told.Told.{Told}
 use Rattle.vss_model.specs.declared.told.Told.TheVariants as told
 use Rattle.set_agenda.specs.Agenda.{open_group}
-use Rattle.vss_model.specs.State.{State, left_now}
+use Rattle.vss_model.specs.State.{State, left_now, history_of}
 use Rattle.vss_model.specs.Steps.{is_flush}
 use Rattle.vss_model.specs.Acts.{Act, state, enabled, event_allows}
 use Rattle.vss_model.specs.Told.{mark_of}
@@ -97,6 +97,32 @@ begins (AnswerEvent w answer) = false
 begins Provider = false
 begins Idle = false
 
+-- ## memory
+
+-- The events for which memory is taken: a write, since the old block may have to be copied first.
+abbrev pub is_write : Op → Bool
+is_write (WriteFill v b x) = true
+is_write (WriteStamp v b n) = true
+is_write _ = false
+
+abbrev pub takes_memory : Event → Bool
+takes_memory (Line lane op) = is_write op
+takes_memory (AnswerEvent w answer) = false
+takes_memory Provider = false
+takes_memory Idle = false
+
+-- the old block is copied first: an image of the volume stands, and the block was not written since the newest one was cut
+abbrev pub copies_for : State → Op → Bool
+copies_for st (WriteFill v b x) = needs_slot (history_of st v).writes (history_of st v).images b
+copies_for st (WriteStamp v b n) = needs_slot (history_of st v).writes (history_of st v).images b
+copies_for st _ = false
+
+abbrev pub copies_first : State → Event → Bool
+copies_first st (Line lane op) = copies_for st op
+copies_first st (AnswerEvent w answer) = false
+copies_first st Provider = false
+copies_first st Idle = false
+
 -- ## faults
 
 -- no count falls
@@ -105,14 +131,16 @@ AreLater [] [] = Unit {0}
 AreLater (a ∷ xs) (b ∷ ys) = (a ≤ b) × AreLater xs ys
 AreLater _ _ = ⊥
 
-abbrev pub RoseIn : Option ℕ → Option ℕ → Type 0
-RoseIn (Some before) (Some now) = Rose before now
-RoseIn _ _ = ⊥
+-- the count at this place rose, and every other count is as it was
+abbrev pub RoseAlone : ℕ → List ℕ → List ℕ → Type 0
+RoseAlone zero (a ∷ xs) (b ∷ ys) = Rose a b × (ys ≡ xs)
+RoseAlone (suc v) (a ∷ xs) (b ∷ ys) = (b ≡ a) × RoseAlone v xs ys
+RoseAlone _ _ _ = ⊥
 
--- the count of the device of a volume rose
+-- the count of the device of a volume rose, and no other
 abbrev pub RoseAt : Option ℕ → List ℕ → List ℕ → Type 0
 RoseAt None old new = ⊥
-RoseAt (Some v) old new = RoseIn (slice_get old v) (slice_get new v)
+RoseAt (Some v) old new = RoseAlone v old new
 
 -- the volume of a line, and that of a step
 abbrev pub volume_of_line : Op → Option ℕ
@@ -142,8 +170,8 @@ pub record IsBlocked {D : Type 0} (blocks_told : D → Option (List (List ℕ)))
   pub not_enabled : (acts : List Act) → Stands blocks_told old s acts → enabled s (state s acts) event ≡ false
 
 -- The event was enabled. It was answered as defined, with a mark that is allowed, and what stood for a list of acts stands for
--- the list with this act. A mark other than Clean comes only where the count of the device of the act's volume rose, and Clean only
--- where each count is as it was.
+-- the list with this act. A mark other than Clean comes only where the count of the device of the act's volume rose and each other
+-- count is as it was, and Clean only where each count is as it was.
 pub record IsMoved {D : Type 0} (blocks_told : D → Option (List (List ℕ))) (size count : D → ℕ) (old new : WorldValue D) (s : Plan) (event : Event) (o : Outcome) : Type 0 where
   pub is_enabled : (acts : List Act) → Stands blocks_told old s acts → enabled s (state s acts) event ≡ true
   pub is_allowed : (acts : List Act) → Stands blocks_told old s acts → event_allows s (state s acts) event (mark_of o.told) ≡ true

@@ -1,11 +1,11 @@
 //! The calls on the volumes of which moves are made.
 
-ghost use Rattle.std.specs.Prelude.{◌≡◌, ◌<◌, ◌≤◌, [], Some, true, false, length, map, slice_get, vec_capacity, IfOk, OnOk, OnErr};
+ghost use Rattle.std.specs.Prelude.{◌≡◌, ◌<◌, ◌≤◌, [], Some, true, false, length, map, slice_get, vec_capacity, IfOk, IsErr, OnOk, OnErr};
 ghost use Rattle.block_data.specs.PayloadBytes.{payload_bytes};
 ghost use Rattle.block_data.specs.declared.payload.Payload.TheVariants.{Fill};
 ghost use Rattle.vss_model.specs.Steps.{is_flush};
 ghost use Rattle.plain_volume.specs.Calls.{now_at, shown_at};
-ghost use Rattle.vss_world.specs.Calls.{HasBlock, IsPut, IsGot, IsFlushed, FirstLasts, IsChanged, FirstChanged, has_set, new_volume};
+ghost use Rattle.vss_world.specs.Calls.{HasBlock, NeedsCopy, IsPut, IsGot, IsFlushed, FirstLasts, IsChanged, FirstChanged, has_set, new_volume};
 
 use block_data::Payload;
 use plain_sessions::ImageChange;
@@ -16,7 +16,7 @@ use volume_device::Device;
 use vss_model::Told;
 use vss_names::OutOfMemory;
 
-/// Volumes over the devices of a list, which is empty then and has room for them.
+/// Volumes over the devices of a list, which is empty then and has room for them. Where memory is refused it has them still.
 pub(crate) fn volumes_over<D: Device>(
     alloc: Global,
     list: &mut Vec<D>,
@@ -25,13 +25,20 @@ pub(crate) fn volumes_over<D: Device>(
     ensures volumes { IfOk result (λ volumes. volumes.items ≡ map (new_volume D.size) list.old.items) }
     ensures empty { OnOk result (list.new.items ≡ []) }
     ensures room { IfOk result (λ volumes. length volumes.items ≤ vec_capacity list.new) }
+    ensures same { OnErr result (list.new.items ≡ list.old.items) }
 {
     let mut volumes = Vec::with_capacity(alloc, 1)?;
     match list.pop() {
-        Some(device) => {
-            volumes.push(PlainVolume::new(alloc, device)?)?;
-            Ok(volumes)
-        }
+        Some(device) => match PlainVolume::new(alloc, device) {
+            Ok(volume) => {
+                let _ = volumes.push(volume);
+                Ok(volumes)
+            }
+            Err(given) => {
+                let _ = list.push(given);
+                Err(OutOfMemory)
+            }
+        },
         None => Ok(volumes),
     }
 }
@@ -47,6 +54,7 @@ pub(crate) fn write_fill<D: Device>(
     requires { HasBlock D.size (slice_get volumes.old.items volume) block }
     ensures put { IfOk result (IsPut D.told D.size D.count volumes.old.items volumes.new.items volume (record { block = block; bytes = payload_bytes (Fill byte) })) }
     ensures memory { OnErr result (volumes.new.items ≡ volumes.old.items) }
+    ensures copies { IsErr result → NeedsCopy D.told D.size (slice_get volumes.old.items volume) block }
 {
     let written = volumes[volume as usize].write(alloc, block, &Payload::Fill(byte));
     match written {

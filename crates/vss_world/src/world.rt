@@ -12,7 +12,7 @@ ghost use Rattle.scenario.specs.Bounds.{IsPlan, IsBlock, IsOp, is_begin};
 ghost use Rattle.scenario.specs.Calls.{call_of};
 ghost use Rattle.scenario.specs.declared.op.Op.TheVariants as op;
 ghost use Rattle.vss_model.specs.declared.event.Event.TheVariants.{Line, Provider};
-ghost use Rattle.vss_world.specs.Stands.{IsOf, IsEvent, IsStepped, StepLasts, IsMoved, IsBlocked, Stands, AllNew, IsQuiet, IfStands, RoseAt, AreLater, begins, blocks_at, used_at, tells_of, simple_outcome};
+ghost use Rattle.vss_world.specs.Stands.{IsOf, IsEvent, IsStepped, StepLasts, IsMoved, IsBlocked, Stands, AllNew, IsQuiet, IfStands, RoseAt, AreLater, begins, blocks_at, used_at, tells_of, simple_outcome, takes_memory, copies_first, is_write, copies_for};
 
 use crate::moves::{
     change_first, has_image, make_step, read, read_image, volumes_over, write_fill,
@@ -80,17 +80,21 @@ fn all_complete(sets: &[u32], sessions: &PlainSessions) -> bool
 }
 
 impl<D: Device> World<D> {
-    /// A core over new devices, one for each volume of the scenario in order, with its number of blocks.
-    pub fn new(alloc: Global, scenario: &Scenario, devices: Vec<D>) -> Result<World<D>, OutOfMemory>
+    /// A core over new devices, one for each volume of the scenario in order, with its number of blocks. Where memory is refused
+    /// the devices are given back as they are.
+    pub fn new(alloc: Global, scenario: &Scenario, devices: Vec<D>) -> Result<World<D>, Vec<D>>
         requires sizes { map D.size devices.items ≡ map (λ r. r.blocks) scenario.now.volumes }
         requires fresh { AllNew D.told D.size devices.items }
         ensures stands { IfOk result (λ world. Stands D.told world scenario.now []) }
         ensures devices { IfOk result (λ world. world.devices ≡ devices.items) }
         ensures begun { IfOk result (λ world. world.begun ≡ false) }
+        ensures refused { IfErr result (λ given. given.items ≡ devices.items) }
     {
-        let _count = scenario.volumes();
+        let _facts = scenario.volumes();
         let mut list = devices;
-        let volumes = volumes_over(alloc, &mut list)?;
+        let Ok(volumes) = volumes_over(alloc, &mut list) else {
+            return Err(list);
+        };
         Ok(World {
             volumes,
             sessions: PlainSessions::new(),
@@ -98,7 +102,8 @@ impl<D: Device> World<D> {
         })
     }
 
-    /// Makes an event, where it is enabled. Want of memory changes nothing.
+    /// Makes an event, where it is enabled. Want of memory changes nothing, and comes only in a write whose old block is copied
+    /// first.
     pub fn step(
         &mut self,
         alloc: Global,
@@ -109,6 +114,8 @@ impl<D: Device> World<D> {
         requires in_range { IsEvent self.old.begun scenario.now event }
         ensures memory { OnErr result (self.new ≡ self.old) }
         ensures stepped { IfOk result (IsStepped D.told D.size D.count self.old self.new scenario.now event) }
+        ensures takes { IsErr result → takes_memory event ≡ true }
+        ensures copies { IsErr result → IfStands D.told D.size self.old (λ s st. copies_first st event ≡ true) }
         ensures begun { IfOk result (λ reply. self.new.begun ≡ (self.old.begun || begins event)) }
         ensures lasts { event ≡ Provider → IfOk result (StepLasts D.told D.lasting self.old self.new) }
     {
@@ -117,7 +124,7 @@ impl<D: Device> World<D> {
             Event::Provider => Ok(self.provider(scenario)),
             // no writer is waited for, so none may answer, and no time goes by
             Event::Answer { .. } | Event::Idle => {
-                let _never = self.sessions.waits_for_writers();
+                let _facts = self.sessions.waits_for_writers();
                 Ok(Reply::Blocked)
             }
         }
@@ -135,6 +142,8 @@ impl<D: Device> World<D> {
         requires in_range { IsEvent self.old.begun scenario.now (Line lane op) }
         ensures memory { OnErr result (self.new ≡ self.old) }
         ensures stepped { IfOk result (IsStepped D.told D.size D.count self.old self.new scenario.now (Line lane op)) }
+        ensures takes { IsErr result → is_write op ≡ true }
+        ensures copies { IsErr result → IfStands D.told D.size self.old (λ s st. copies_for st op ≡ true) }
         ensures begun { IfOk result (λ reply. self.new.begun ≡ (self.old.begun || is_begin op)) }
     {
         match op {
@@ -186,9 +195,10 @@ impl<D: Device> World<D> {
         requires in_range { IsBlock scenario.now volume block }
         ensures memory { OnErr result (self.new ≡ self.old) }
         ensures stepped { IfOk result (IsStepped D.told D.size D.count self.old self.new scenario.now (Line lane (op.WriteFill volume block byte))) }
+        ensures copies { IsErr result → IfStands D.told D.size self.old (λ s st. copies_for st (op.WriteFill volume block byte) ≡ true) }
         ensures begun { self.new.begun ≡ self.old.begun }
     {
-        let _count = scenario.volumes();
+        let _facts = scenario.volumes();
         if self.sessions.is_held() {
             return Ok(Reply::Blocked);
         }
@@ -203,7 +213,7 @@ impl<D: Device> World<D> {
         ensures stepped { IsStepped D.told D.size D.count self.old self.new scenario.now (Line lane (op.Read volume block)) result }
         ensures begun { self.new.begun ≡ self.old.begun }
     {
-        let _count = scenario.volumes();
+        let _facts = scenario.volumes();
         Reply::Moved(outcome_of(read(&mut self.volumes, volume, block)))
     }
 
@@ -221,7 +231,7 @@ impl<D: Device> World<D> {
         ensures stepped { IsStepped D.told D.size D.count self.old self.new scenario.now (Line lane (op.ImageBlock set volume block)) result }
         ensures begun { self.new.begun ≡ self.old.begun }
     {
-        let _count = scenario.volumes();
+        let _facts = scenario.volumes();
         if !has_image(&self.volumes, volume, set) {
             return not_found();
         }
@@ -231,7 +241,7 @@ impl<D: Device> World<D> {
         Reply::Moved(outcome_of(read_image(&mut self.volumes, volume, block)))
     }
 
-    /// Makes a session line.
+    /// Makes a session line. No memory is taken for one as yet.
     fn call(
         &mut self,
         alloc: Global,
@@ -242,11 +252,11 @@ impl<D: Device> World<D> {
         requires of { IsOf D.size self.old scenario.now }
         requires in_range { IsEvent self.old.begun scenario.now (Line lane op) }
         requires is_call { is_some (call_of op) ≡ true }
-        ensures memory { OnErr result (self.new ≡ self.old) }
+        ensures enough { IsOk result }
         ensures stepped { IfOk result (IsStepped D.told D.size D.count self.old self.new scenario.now (Line lane op)) }
         ensures begun { IfOk result (λ reply. self.new.begun ≡ (self.old.begun || is_begin op)) }
     {
-        let _count = scenario.volumes();
+        let _facts = scenario.volumes();
         match self.sessions.call(alloc, lane, op)? {
             Called::Waits => Ok(Reply::Blocked),
             Called::Moves(item) => {
@@ -263,7 +273,7 @@ impl<D: Device> World<D> {
         ensures lasts { StepLasts D.told D.lasting self.old self.new result }
         ensures begun { self.new.begun ≡ self.old.begun }
     {
-        let _count = scenario.volumes();
+        let _facts = scenario.volumes();
         let Some((group, _volume)) = self.sessions.next_step() else {
             return Reply::Blocked;
         };
@@ -278,7 +288,7 @@ impl<D: Device> World<D> {
         ensures sets { result.now ≡ self.now.listed }
         ensures few { length result.now < 513 }
     {
-        let _volumes = self.volumes.len();
+        let _facts = self.volumes.len();
         &[]
     }
 
@@ -287,7 +297,7 @@ impl<D: Device> World<D> {
         ensures images { result.now ≡ self.now.evicted }
         ensures few { length result.now < 513 }
     {
-        let _volumes = self.volumes.len();
+        let _facts = self.volumes.len();
         &[]
     }
 

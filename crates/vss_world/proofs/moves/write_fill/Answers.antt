@@ -1,5 +1,5 @@
 use Rattle.std.proofs.Common.{refl}
-use Rattle.vss_world.proofs.Sessions.{at_index, same_stands}
+use Rattle.vss_world.proofs.Sessions.{at_index, needs_at, same_stands}
 use Rattle.vss_world.proofs.moves.write_fill.Goals as goal
 
 pub returns-in-Ok-clause-put : goal.returns-in-Ok-clause-put
@@ -27,3 +27,9 @@ returns-in-Failed-clause-put g c =
       rose = λ h. failed.rose;
       unfailed = λ h. cc;
     }
+
+pub returns-in-OutOfMemory-clause-copies : goal.returns-in-OutOfMemory-clause-copies
+returns-in-OutOfMemory-clause-copies g c = λ h.
+    let refused = rw c.in-OutOfMemory.is at c.in-Err.ensures in
+    needs_at g.D.Device.told g.D.Device.size c.args.volumes.now.items c.args.volume c.args.block c.index_mut.result.now
+    (at_index g.D.Device.size c.args.volumes.now.items c.args.volume c.args.block c.index_mut.result.now c.requires c.index_mut.ensures.value) refused.lacks
