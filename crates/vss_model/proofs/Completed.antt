@@ -1,10 +1,9 @@
 -- A set that completes has its image on each of its volumes in that act.
 use Rattle.std.proofs.Common.{◌≡◌, ℕ, ◌+◌, ◌==◌, ◌<◌, zero, suc, List, [], ◌∷◌, ◌++◌, ◌⊎◌, Option, Some, None, refl, Bool, true, false, map, filter, length, ap, sym, ◌∙◌, subst, find, fold, inl, inr, arith}
-use Rattle.std.specs.Prelude.{is_some, option_map, ◌&&◌, ◌||◌, not, if◌then◌else◌, slice_get}
+use Rattle.std.specs.Prelude.{is_some, option_map, ◌&&◌, ◌||◌, not, if◌then◌else◌}
 use Rattle.std.proofs.lemmas.List.Folds.{list_any-append}
 use Rattle.vss_names.specs.declared.context.Context.{Context}
 use Rattle.vss_names.specs.declared.level.Level.TheVariants.{System, BackEnd, FrontEnd}
-use Rattle.vss_names.specs.declared.order.Order.{Order}
 use Rattle.vss_names.specs.declared.order.Order.TheVariants.{PrepareSnapshot, Freeze}
 use Rattle.vss_names.specs.declared.set_outcome.SetOutcome.{SetOutcome}
 use Rattle.vss_names.specs.declared.set_outcome.SetOutcome.TheVariants.{Running as RunningSet, Complete as CompleteSet, Failed as FailedSet}
@@ -13,7 +12,7 @@ use Rattle.vss_names.specs.declared.vss_result.VssResult.TheVariants.{Insufficie
 use Rattle.writer_state.specs.declared.said.Said.{Said}
 use Rattle.write_history.specs.declared.mark.Mark.{Mark}
 use Rattle.write_history.specs.declared.mark.Mark.TheVariants.{Clean, Fault, FaultAfter}
-use Rattle.write_history.specs.History.{Write, Image, History, fresh, point_in, dropped, written, reverted, reverted_in_part, after_set}
+use Rattle.write_history.specs.History.{Write, Image, History, point_in, dropped, written, reverted, reverted_in_part}
 use Rattle.write_history.specs.Slots.{Placed, gone_up_to}
 use Rattle.set_agenda.specs.declared.group.Group.{Group}
 use Rattle.set_agenda.specs.declared.group.Group.TheVariants.{Orders, PreCommit, Flush, Hold, Cut, Commit, Release, PostCommit}
@@ -21,12 +20,12 @@ use Rattle.set_agenda.specs.declared.kind.Kind.{Kind}
 use Rattle.set_agenda.specs.declared.kind.Kind.TheVariants.{Gather, Prepare, Snapshot, Complete}
 use Rattle.set_agenda.specs.declared.member.Member.{Member}
 use Rattle.set_agenda.specs.declared.place.Place.{Place}
-use Rattle.set_agenda.specs.Agenda.{Agenda, Entry, Open, plain, at_level, places, same_place, is_orders, is_snapshot, has_said, waited_for, with_group, left_from, groups_left, open_group, open_place, is_among, is_done, is_working, at_place, all_say}
-use Rattle.set_agenda.specs.Course.{Course, posted, failed as course_failed, outcome_after, settled_if, settled_in, settled, begun, answered as course_answered, stepped as course_stepped, timed as course_timed, change_at, released}
+use Rattle.set_agenda.specs.Agenda.{Agenda, Entry, Open, plain, at_level, places, same_place, is_orders, has_said, waited_for, with_group, left_from, groups_left, open_group, open_place, is_among, is_done, is_working, at_place, all_say}
+use Rattle.set_agenda.specs.Course.{Course, posted, failed as course_failed, outcome_after, settled_if, settled, begun, stepped as course_stepped, change_at, released}
 use Rattle.requestor.specs.Session.{Session}
 use Rattle.scenario.specs.Plan.{Plan, blocks_of}
-use Rattle.vss_model.specs.State.{State, SetRow, Kept, start, is_running, is_complete, in_progress, row_of, row_changed, history_of, history_in, left_now, has_image, is_kept_set, kept_at, kept_if, kept_of, kept_image}
-use Rattle.vss_model.specs.Ending.{Ending, NothingEnds, AgendaEnds, SetFails, ending, row_settled, concluded, followed, runs, failed_in, failed}
+use Rattle.vss_model.specs.State.{State, SetRow, Kept, is_complete, in_progress, row_of, row_changed, history_of, left_now, has_image, kept_if, kept_of, kept_image}
+use Rattle.vss_model.specs.Ending.{Ending, NothingEnds, AgendaEnds, SetFails, ending, concluded, followed, runs, failed_in, failed}
 use Rattle.vss_model.specs.Images.{Replied, cleared, has_lost_image, set_loses_image, with_room_if, put, write, reverted_as, is_in_set}
 use Rattle.vss_model.specs.Sessions.{begin_in, new_set, new_number, start_set, change_set, with_volume, has_no_volume, closed}
 use Rattle.vss_model.specs.Steps.{answered, cut_if as image_cut_if, cut_each, with_cut, row_cut, cut_set, is_flush, is_failed_step, stepped_as, stepped, ticked, later}
@@ -34,10 +33,10 @@ use Rattle.vss_model.specs.Acts.{Act, after, state}
 use Rattle.vss_model.specs.Cut.{is_cut_group}
 use Rattle.vss_model.specs.Facts.{NumberedFrom, has_failed}
 use Rattle.vss_model.proofs.Appending.{state-append}
-use Rattle.vss_model.proofs.Rule.{MayBeginIn, IsKeptByLinesAt, IsKeptAt, after_at}
+use Rattle.vss_model.proofs.Rule.{IsKeptAt, after_at}
 use Rattle.vss_model.proofs.Orderly.{true_not_false}
-use Rattle.vss_model.proofs.OrderlyActs.{Moves, MovesOn, moves_answered, moves_stepped, moves_timed, ending_idle, ending_on, orderly}
-use Rattle.vss_model.proofs.CourseCalls.{Settles, Says, Rests, Call, IsCall, call_answered, call_stepped, call_timed}
+use Rattle.vss_model.proofs.OrderlyActs.{Moves, MovesOn, moves_answered, moves_stepped, moves_timed, ending_on, orderly}
+use Rattle.vss_model.proofs.CourseCalls.{Settles, Says, Call, call_answered, call_stepped, call_timed}
 use Rattle.vss_model.proofs.LogRule.{unspoken}
 use Rattle.vss_model.proofs.CutLog.{is_cut_made}
 use Rattle.vss_model.proofs.HeldOfSet.{find-row_cut, volumes-row_cut_if}

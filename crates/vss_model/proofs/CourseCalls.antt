@@ -1,11 +1,10 @@
 -- What a call does to a running agenda: it stops it and fails the set; or it leaves it as it is, or ends it where nothing was left;
 -- or something is said at the open place by members that are waited for there.
-use Rattle.std.proofs.Common.{◌≡◌, ℕ, ◌==◌, List, [], ◌∷◌, ◌⊎◌, Option, Some, None, refl, Bool, true, false, ap, sym, ◌∙◌, subst, inl, inr, arith}
+use Rattle.std.proofs.Common.{◌≡◌, ℕ, ◌==◌, List, [], ◌∷◌, ◌⊎◌, Option, Some, None, refl, Bool, true, false, ap, sym, subst, inl, inr, arith}
 use Rattle.std.specs.Prelude.{option_map, ◌&&◌, ◌||◌, not}
 use Rattle.vss_names.specs.declared.order.Order.{Order}
 use Rattle.vss_names.specs.declared.order.Order.TheVariants.{Identify, PrepareBackup, PrepareSnapshot, Freeze, Thaw, PostSnapshot, BackupComplete}
 use Rattle.vss_names.specs.declared.set_outcome.SetOutcome.{SetOutcome}
-use Rattle.vss_names.specs.declared.set_outcome.SetOutcome.TheVariants.{Failed as FailedSet}
 use Rattle.vss_names.specs.declared.vss_result.VssResult.{VssResult}
 use Rattle.writer_state.specs.declared.said.Said.{Said}
 use Rattle.writer_state.specs.declared.said.Said.TheVariants.{Ok, Lost}
@@ -15,7 +14,7 @@ use Rattle.set_agenda.specs.declared.group.Group.TheVariants.{Orders, PreCommit,
 use Rattle.set_agenda.specs.declared.limit.Limit.{Limit}
 use Rattle.set_agenda.specs.declared.limit.Limit.TheVariants.{Hold as HoldLimit, Freeze as FreezeLimit, Answer as AnswerLimit}
 use Rattle.set_agenda.specs.declared.place.Place.{Place}
-use Rattle.set_agenda.specs.Agenda.{Agenda, Open, order_of, is_orders, is_freeze, waited_for, with_group, left_from, places, groups_left, left, open_place, is_asked, is_among, order_if, open_order, order_now, waits_now, head_or_0, next_member, is_done, is_working, all_say}
+use Rattle.set_agenda.specs.Agenda.{Agenda, Open, order_of, is_orders, is_freeze, waited_for, with_group, left_from, places, groups_left, left, open_place, is_asked, is_among, order_if, open_order, order_now, waits_now, next_member, is_done, is_working, all_say}
 use Rattle.set_agenda.specs.Limits.{Running as RunningLimit, running_limits, spent_of}
 use Rattle.set_agenda.specs.Course.{Course, posted, outcome_after, failed as course_failed, settled_if, settled_in, settled, is_decisive, told, decided, answered_to, answered as course_answered, worked, stepped_as as course_stepped_as, stepped as course_stepped, freeze_limit, lost_to, lost, fails_set, lost_decided, treated_as, treated, timed as course_timed}
 use Rattle.vss_model.specs.Facts.{has_failed}

@@ -1,5 +1,5 @@
 -- Where one more act leaves the cut of a set.
-use Rattle.std.proofs.Common.{◌≡◌, ℕ, ◌+◌, List, [], ◌∷◌, ◌++◌, Option, Some, None, refl, Bool, true, false, ap, sym, ◌∙◌, fold}
+use Rattle.std.proofs.Common.{◌≡◌, ℕ, List, [], ◌∷◌, ◌++◌, Option, Some, None, refl, Bool, true, false, ap, sym, ◌∙◌, fold}
 use Rattle.std.proofs.lemmas.List.{append_assoc}
 use Rattle.scenario.specs.Plan.{Plan}
 use Rattle.vss_model.specs.State.{State, start}

@@ -1,6 +1,6 @@
 -- What the log of a running agenda says: nothing but ok to Freeze, and before the Cut step nothing of a Release or a Thaw.
 -- So at the Cut step every volume is held and every participant is frozen.
-use Rattle.std.proofs.Common.{◌≡◌, ℕ, ◌==◌, List, [], ◌∷◌, ◌++◌, Option, refl, Bool, true, false, map, sym, ◌∙◌, ◌+◌}
+use Rattle.std.proofs.Common.{◌≡◌, ℕ, ◌==◌, List, [], ◌∷◌, ◌++◌, Option, refl, Bool, true, false, map, sym, ◌∙◌}
 use Rattle.std.specs.Prelude.{◌&&◌, ◌||◌, not, if◌then◌else◌}
 use Rattle.std.specs.List.{list_any}
 use Rattle.std.proofs.lemmas.List.Folds.{list_any-append}

@@ -1,18 +1,17 @@
 -- A device that fails to flush fails the set in progress in that act.
-use Rattle.std.proofs.Common.{◌≡◌, ℕ, ◌==◌, List, [], ◌∷◌, find, Option, Some, None, refl, Bool, true, false, map, ap, sym, ◌∙◌, subst}
+use Rattle.std.proofs.Common.{◌≡◌, ℕ, ◌==◌, List, [], ◌∷◌, find, Option, Some, None, refl, Bool, true, false, map, ap, ◌∙◌, subst}
 use Rattle.std.specs.Prelude.{option_map, not}
 use Rattle.vss_names.specs.declared.set_outcome.SetOutcome.{SetOutcome}
-use Rattle.vss_names.specs.declared.set_outcome.SetOutcome.TheVariants.{Running, Complete, Failed}
+use Rattle.vss_names.specs.declared.set_outcome.SetOutcome.TheVariants.{Running, Failed}
 use Rattle.vss_names.specs.declared.vss_result.VssResult.{VssResult}
 use Rattle.vss_names.specs.declared.vss_result.VssResult.TheVariants.{UnexpectedProviderError}
 use Rattle.write_history.specs.declared.mark.Mark.{Mark}
 use Rattle.write_history.specs.declared.mark.Mark.TheVariants.{Fault}
 use Rattle.set_agenda.specs.declared.group.Group.{Group}
-use Rattle.set_agenda.specs.declared.group.Group.TheVariants.{Orders, PreCommit, Flush, Hold, Cut, Commit, Release, PostCommit}
+use Rattle.set_agenda.specs.declared.group.Group.TheVariants.{Flush}
 use Rattle.set_agenda.specs.Agenda.{Agenda, Open, is_orders, open_group, is_working}
 use Rattle.set_agenda.specs.Course.{Course, posted, failed as course_failed, stepped as course_stepped}
 use Rattle.scenario.specs.Plan.{Plan}
-use Rattle.vss_model.specs.declared.event.Event.{Event}
 use Rattle.vss_model.specs.declared.event.Event.TheVariants.{Provider}
 use Rattle.vss_model.specs.State.{State, SetRow, is_running, in_progress, row_of, left_now}
 use Rattle.vss_model.specs.Ending.{ending, row_settled, concluded, followed, runs}

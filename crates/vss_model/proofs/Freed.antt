@@ -1,6 +1,6 @@
 -- Right after an act in which the set in progress fails no agenda runs, so no volume is held and no writer stands frozen.
 use Rattle.std.proofs.Common.{◌≡◌, ℕ, ◌+◌, List, [], ◌∷◌, ◌++◌, ◌⊎◌, Option, Some, None, refl, Bool, true, false, ap, sym, ◌∙◌, subst, inl, inr}
-use Rattle.std.specs.Prelude.{map, is_some, if◌then◌else◌}
+use Rattle.std.specs.Prelude.{is_some, if◌then◌else◌}
 use Rattle.vss_names.specs.declared.context.Context.{Context}
 use Rattle.vss_names.specs.declared.vss_result.VssResult.{VssResult}
 use Rattle.vss_names.specs.declared.vss_result.VssResult.TheVariants.{InsufficientStorage, AsyncCancelled}
@@ -11,7 +11,7 @@ use Rattle.write_history.specs.History.{Write}
 use Rattle.set_agenda.specs.declared.group.Group.{Group}
 use Rattle.set_agenda.specs.declared.kind.Kind.TheVariants.{Gather, Prepare, Snapshot, Complete}
 use Rattle.set_agenda.specs.Agenda.{Agenda, open_group, is_working, is_held as holds, is_frozen as freezes}
-use Rattle.set_agenda.specs.Course.{Course, failed as course_failed, answered as course_answered, timed as course_timed, released}
+use Rattle.set_agenda.specs.Course.{Course, failed as course_failed, released}
 use Rattle.requestor.specs.Session.{Session}
 use Rattle.scenario.specs.Plan.{Plan}
 use Rattle.vss_model.specs.State.{State, SetRow, Kept, in_progress, row_of, left_now, is_held, is_frozen}

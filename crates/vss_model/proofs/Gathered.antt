@@ -11,9 +11,9 @@ use Rattle.writer_state.specs.declared.said.Said.{Said}
 use Rattle.writer_state.specs.declared.writer_row.WriterRow.{WriterRow}
 use Rattle.write_history.specs.declared.mark.Mark.{Mark}
 use Rattle.write_history.specs.declared.mark.Mark.TheVariants.{Clean, Fault, FaultAfter}
-use Rattle.write_history.specs.History.{Write, History, dropped}
+use Rattle.write_history.specs.History.{Write, dropped}
 use Rattle.writer_meta.specs.Metadata.{Meta}
-use Rattle.component_doc.specs.Selection.{Pair, Selected, Named as NamedPairs, AllOf, naming, Names, is_taker, takers, all_of, known_from as known_of}
+use Rattle.component_doc.specs.Selection.{Pair, naming, Names, is_taker, takers, known_from as known_of}
 use Rattle.component_doc.specs.Over.{meta_at, is_selectable_of, names_selectable}
 use Rattle.std.specs.List.{list_all}
 use Rattle.set_agenda.specs.declared.group.Group.{Group}
@@ -21,8 +21,8 @@ use Rattle.set_agenda.specs.declared.group.Group.TheVariants.{Orders, PreCommit,
 use Rattle.set_agenda.specs.declared.kind.Kind.{Kind}
 use Rattle.set_agenda.specs.declared.kind.Kind.TheVariants.{Gather, Prepare, Snapshot, Complete}
 use Rattle.set_agenda.specs.declared.member.Member.{Member}
-use Rattle.set_agenda.specs.Agenda.{Agenda, groups_left, is_among, is_done, open_group, is_working}
-use Rattle.set_agenda.specs.Course.{Course, change_at, posted, settled_if, settled_in, settled, begun, failed as course_failed, member_if, members_from, is_member, answered as course_answered, stepped as course_stepped, timed as course_timed, released}
+use Rattle.set_agenda.specs.Agenda.{Agenda, groups_left, is_among, is_done, open_group}
+use Rattle.set_agenda.specs.Course.{Course, change_at, posted, settled_if, settled, begun, failed as course_failed, member_if, members_from, is_member, answered as course_answered, stepped as course_stepped, timed as course_timed, released}
 use Rattle.requestor.specs.declared.mode.Mode.{Mode}
 use Rattle.requestor.specs.declared.mode.Mode.TheVariants.{Components, All}
 use Rattle.requestor.specs.declared.stage.Stage.{Stage}
@@ -43,7 +43,7 @@ use Rattle.vss_model.proofs.OrderlyActs.{orderly}
 use Rattle.vss_model.proofs.Rule.{IsKeptAt, after_at}
 use Rattle.vss_model.proofs.Orderly.{true_not_false}
 use Rattle.vss_model.proofs.LogRule.{unspoken, course-step_made}
-use Rattle.vss_model.proofs.HeldOfSet.{Follows, GoesOn, goes_answered, goes_stepped, goes_timed}
+use Rattle.vss_model.proofs.HeldOfSet.{Follows, goes_answered, goes_stepped, goes_timed}
 use Rattle.vss_model.proofs.KnownWriters.{is_unfit, AsFit, AsksFit, AsksFitIn, is_gathering, Keeps, keeps_failed, keeps_answered, keeps_stepped, keeps_timed, members_answered, members_timed}
 use Rattle.vss_model.proofs.Named.{AreOver, known_same, named_over}
 

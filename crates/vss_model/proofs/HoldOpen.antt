@@ -1,5 +1,5 @@
 -- While the Hold group is open the Cut step is not made, and nothing is said of a Release.
-use Rattle.std.proofs.Common.{◌≡◌, ℕ, List, [], ◌∷◌, Option, Some, None, refl, Bool, true, false, ap, sym, ◌∙◌, subst}
+use Rattle.std.proofs.Common.{◌≡◌, ℕ, List, [], ◌∷◌, Some, refl, Bool, true, false, ap, sym, subst}
 use Rattle.vss_names.specs.declared.level.Level.TheVariants.{System, BackEnd, FrontEnd}
 use Rattle.vss_names.specs.declared.order.Order.TheVariants.{Identify, PrepareBackup, PrepareSnapshot, Freeze, Thaw, PostSnapshot, BackupComplete}
 use Rattle.set_agenda.specs.declared.group.Group.{Group}
@@ -10,11 +10,11 @@ use Rattle.set_agenda.specs.declared.place.Place.{Place}
 use Rattle.set_agenda.specs.Limits.{is_hold}
 use Rattle.set_agenda.specs.Agenda.{Agenda, Open, plain, at_level, places, has_said, waited_for, with_group, left_from, groups_left, left, open_group}
 use Rattle.scenario.specs.Plan.{Plan}
-use Rattle.vss_model.specs.State.{State, left_now}
+use Rattle.vss_model.specs.State.{left_now}
 use Rattle.vss_model.specs.Acts.{Act, state}
 use Rattle.vss_model.proofs.Orderly.{true_not_false}
 use Rattle.vss_model.proofs.LogRule.{Running}
-use Rattle.vss_model.proofs.CutLog.{is_cut_made, IsSound, SoundLog, sound}
+use Rattle.vss_model.proofs.CutLog.{is_cut_made, SoundLog, sound}
 use Rattle.vss_model.proofs.AtCut.{release_not}
 use Rattle.vss_model.proofs.Spoken.{HoldsFirst, held_first}
 

@@ -1,7 +1,6 @@
 -- The writers whose metadata the session has do not change once they are gathered, and only they are asked to take part.
-use Rattle.std.proofs.Common.{◌≡◌, ℕ, ◌+◌, ◌==◌, zero, suc, List, [], ◌∷◌, Option, Some, None, refl, Bool, true, false, map, filter, ap, sym, ◌∙◌, subst, arith}
-use Rattle.std.specs.Prelude.{option_map, ◌&&◌, ◌||◌, not, if◌then◌else◌, slice_get}
-use Rattle.std.specs.List.{list_any}
+use Rattle.std.proofs.Common.{◌≡◌, ℕ, ◌+◌, zero, suc, List, [], ◌∷◌, Option, Some, None, refl, Bool, true, false, ap, sym, ◌∙◌, subst, arith}
+use Rattle.std.specs.Prelude.{◌&&◌, not, if◌then◌else◌, slice_get}
 use Rattle.vss_names.specs.declared.order.Order.{Order}
 use Rattle.vss_names.specs.declared.order.Order.TheVariants.{Identify, PrepareBackup, PrepareSnapshot, Freeze, Thaw, PostSnapshot, BackupComplete}
 use Rattle.vss_names.specs.declared.level.Level.{Level}
@@ -12,21 +11,19 @@ use Rattle.vss_names.specs.declared.writer_state.WriterState.TheVariants as stat
 use Rattle.writer_state.specs.declared.said.Said.{Said}
 use Rattle.writer_state.specs.declared.said.Said.TheVariants.{Ok, Veto, Lost}
 use Rattle.writer_state.specs.declared.writer_row.WriterRow.{WriterRow}
-use Rattle.writer_state.specs.WriterState.{is_ok, is_failed, stable_again, state_after}
-use Rattle.writer_state.specs.WriterRow.{row_after, row_aborted, row_ended, one_more}
+use Rattle.writer_state.specs.WriterState.{is_ok, is_failed, stable_again}
+use Rattle.writer_state.specs.WriterRow.{row_after, row_aborted, one_more}
 use Rattle.set_agenda.specs.declared.group.Group.{Group}
 use Rattle.set_agenda.specs.declared.group.Group.TheVariants.{Orders, PreCommit, Flush, Hold, Cut, Commit, Release, PostCommit}
 use Rattle.set_agenda.specs.declared.kind.Kind.{Kind}
 use Rattle.set_agenda.specs.declared.kind.Kind.TheVariants.{Gather, Prepare, Snapshot, Complete}
 use Rattle.set_agenda.specs.declared.limit.Limit.{Limit}
 use Rattle.set_agenda.specs.declared.limit.Limit.TheVariants.{Hold as HoldLimit, Freeze as FreezeLimit, Answer as AnswerLimit}
-use Rattle.set_agenda.specs.declared.member.Member.{Member}
 use Rattle.set_agenda.specs.declared.place.Place.{Place}
 use Rattle.set_agenda.specs.Agenda.{Agenda, Open, plain, at_level, places, order_of, is_orders, is_at, writers_at, members_of, waited_for, with_group, left_from, groups_left, left, open_place, is_asked, is_among, order_if, open_order, order_now, waits_now, is_done}
 use Rattle.set_agenda.specs.Limits.{Running as RunningLimit, running_limits, spent_of}
 use Rattle.set_agenda.specs.Course.{Course, row_if, rows_where, is_member, posted, failed as course_failed, settled_if, settled_in, settled, is_decisive, told, decided, answered_to, answered as course_answered, worked, stepped_as as course_stepped_as, stepped as course_stepped, freeze_limit, lost_to, lost, fails_set, lost_decided, treated_as, treated, timed as course_timed}
 use Rattle.vss_model.specs.Sessions.{is_identify_failure, has_failed_identify}
-use Rattle.vss_model.proofs.Orderly.{true_not_false}
 use Rattle.vss_model.proofs.CourseCalls.{asked_if, asked_waits, one_alone, now_orders}
 use Rattle.vss_model.proofs.Spoken.{waits_members, among_filter, among_members}
 

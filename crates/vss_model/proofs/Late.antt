@@ -1,6 +1,6 @@
 -- A call that lets time go by fails the set only where something takes too long, in the words of the causes.
-use Rattle.std.proofs.Common.{◌≡◌, ℕ, ◌+◌, ◌-◌, ◌==◌, List, [], ◌∷◌, ◌++◌, ◌⊎◌, Option, Some, None, refl, Bool, true, false, min, find, fold, filter, ap, sym, ◌∙◌, subst, inl, inr, arith}
-use Rattle.std.specs.Prelude.{nat_lt, is_some, ◌&&◌, ◌||◌, not, if◌then◌else◌, slice_get}
+use Rattle.std.proofs.Common.{◌≡◌, ℕ, ◌+◌, ◌-◌, List, [], ◌∷◌, ◌++◌, ◌⊎◌, Option, Some, None, refl, Bool, true, false, min, find, fold, filter, ap, sym, ◌∙◌, subst, inl, inr, arith}
+use Rattle.std.specs.Prelude.{nat_lt, ◌&&◌, ◌||◌, not, if◌then◌else◌, slice_get}
 use Rattle.std.specs.List.{list_any}
 use Rattle.vss_names.specs.declared.order.Order.{Order}
 use Rattle.vss_names.specs.declared.order.Order.TheVariants.{Identify, PrepareBackup, PrepareSnapshot, Freeze, Thaw, PostSnapshot, BackupComplete}
@@ -11,10 +11,9 @@ use Rattle.set_agenda.specs.declared.group.Group.TheVariants.{Orders, PreCommit,
 use Rattle.set_agenda.specs.declared.limit.Limit.{Limit}
 use Rattle.set_agenda.specs.declared.limit.Limit.TheVariants.{Hold as HoldLimit, Freeze as FreezeLimit, Answer as AnswerLimit}
 use Rattle.set_agenda.specs.declared.member.Member.{Member}
-use Rattle.set_agenda.specs.declared.place.Place.{Place}
 use Rattle.set_agenda.specs.Agenda.{Agenda, Entry, Open, groups_left, left, order_now, order_of, same_place}
 use Rattle.set_agenda.specs.Limits.{Running, last_time, opened_at, is_prepare_snapshot, freeze_opened_at, is_hold, first_time, first_hold, hold_runs, freeze_runs, answer_runs, runs_if, hold_running, running_at, running_limits, spent_of}
-use Rattle.set_agenda.specs.Course.{Course, is_decisive, limit_of, freeze_limit, limits_now, fails_set}
+use Rattle.set_agenda.specs.Course.{Course, limit_of, freeze_limit, fails_set}
 use Rattle.vss_model.specs.Causes.{has_passed, last_of, holds_volumes, is_hold_step, held_too_long, freezes_writers, prepares_snapshot, frozen_too_long, prepares_writers, is_elsewhere, unanswered_too_long, is_late_at, is_late_in}
 
 -- ## tables

@@ -1,6 +1,6 @@
 -- The rule of logs: a fact of the running agenda holds in every state where it holds of an agenda that begins, and is kept by what
 -- members say that are waited for at the open place.
-use Rattle.std.proofs.Common.{◌≡◌, ℕ, List, [], ◌∷◌, ◌⊎◌, Option, Some, None, refl, Bool, true, false, ap, sym, ◌∙◌, subst, fold, ◌+◌, inl, inr}
+use Rattle.std.proofs.Common.{◌≡◌, ℕ, List, [], ◌∷◌, Option, Some, None, refl, Bool, true, false, sym, subst, fold, ◌+◌, inl, inr}
 use Rattle.std.specs.Prelude.{◌&&◌, not, if◌then◌else◌}
 use Rattle.vss_names.specs.declared.context.Context.{Context}
 use Rattle.vss_names.specs.declared.set_outcome.SetOutcome.{SetOutcome}
@@ -16,8 +16,8 @@ use Rattle.set_agenda.specs.declared.group.Group.TheVariants.{Orders, PreCommit,
 use Rattle.set_agenda.specs.declared.kind.Kind.{Kind}
 use Rattle.set_agenda.specs.declared.kind.Kind.TheVariants.{Gather, Prepare, Snapshot, Complete}
 use Rattle.set_agenda.specs.declared.member.Member.{Member}
-use Rattle.set_agenda.specs.Agenda.{Agenda, groups_left, left, open_group, open_place, is_freeze, is_among, waits_now, is_done, is_working, all_say}
-use Rattle.set_agenda.specs.Course.{Course, posted, failed as course_failed, settled_if, settled_in, settled, begun, answered as course_answered, stepped as course_stepped, timed as course_timed, released}
+use Rattle.set_agenda.specs.Agenda.{Agenda, groups_left, open_group, open_place, is_freeze, is_among, waits_now, is_done, is_working, all_say}
+use Rattle.set_agenda.specs.Course.{Course, posted, failed as course_failed, settled_if, settled_in, settled, begun, released}
 use Rattle.requestor.specs.Session.{Session}
 use Rattle.scenario.specs.Plan.{Plan}
 use Rattle.vss_model.specs.State.{State, SetRow, Kept, start, in_progress, left_now}
@@ -28,7 +28,7 @@ use Rattle.vss_model.specs.Steps.{answered, cut_set, step_made, is_flush, is_fai
 use Rattle.vss_model.specs.Acts.{Act, after, state}
 use Rattle.vss_model.specs.Laws.{IsKeptByChanges, IsKeptByWrites}
 use Rattle.vss_model.proofs.Rule.{on_after}
-use Rattle.vss_model.proofs.CourseCalls.{Settles, Says, Rests, Stops, Call, IsCall, call_answered, call_stepped, call_timed}
+use Rattle.vss_model.proofs.CourseCalls.{Settles, Call, call_answered, call_stepped, call_timed}
 
 -- nothing is said yet
 abbrev pub unspoken : Kind → List Member → List ℕ → ℕ → Agenda

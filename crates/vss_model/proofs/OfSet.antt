@@ -1,8 +1,8 @@
 -- An image stands only on a volume that its set had at its cut.
 use Rattle.std.proofs.Common.{◌≡◌, ℕ, ◌+◌, ◌==◌, zero, suc, List, [], ◌∷◌, ◌++◌, ◌⊎◌, Option, Some, None, refl, Bool, true, false, map, ap, sym, ◌∙◌, subst, inl, inr, arith}
-use Rattle.std.specs.Prelude.{is_some, ◌&&◌, if◌then◌else◌, slice_get}
+use Rattle.std.specs.Prelude.{is_some, ◌&&◌, if◌then◌else◌}
 use Rattle.std.proofs.lemmas.List.{append_assoc}
-use Rattle.write_history.specs.History.{Image, History, fresh, point_in, cut as history_cut}
+use Rattle.write_history.specs.History.{Image, History, fresh, point_in}
 use Rattle.set_agenda.specs.Agenda.{open_group, is_among}
 use Rattle.set_agenda.specs.Course.{stepped as course_stepped}
 use Rattle.scenario.specs.Plan.{Plan}

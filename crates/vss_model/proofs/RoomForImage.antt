@@ -1,5 +1,5 @@
 -- Before its Cut each volume of the set in progress has room for one more image.
-use Rattle.std.proofs.Common.{◌≡◌, ℕ, ◌+◌, ◌==◌, ◌<◌, ◌≤◌, suc, List, [], ◌∷◌, ◌++◌, ◌⊎◌, Option, Some, None, refl, Bool, true, false, map, length, ap, sym, ◌∙◌, subst, find, inl, inr, arith}
+use Rattle.std.proofs.Common.{◌≡◌, ℕ, ◌==◌, ◌<◌, ◌≤◌, List, [], ◌∷◌, ◌++◌, ◌⊎◌, Option, Some, None, refl, Bool, true, false, map, length, ap, sym, ◌∙◌, subst, find, inl, inr, arith}
 use Rattle.std.specs.Prelude.{option_map, ◌&&◌, ◌||◌, if◌then◌else◌, nat_le}
 use Rattle.std.proofs.lemmas.List.{append_assoc}
 use Rattle.std.proofs.lemmas.List.Folds.{list_any-append}
@@ -20,7 +20,7 @@ use Rattle.scenario.specs.Plan.{Plan, blocks_of}
 use Rattle.vss_model.specs.State.{State, SetRow, Kept, is_running, in_progress, row_changed, left_now, history_of}
 use Rattle.vss_model.specs.Ending.{Ending, NothingEnds, AgendaEnds, SetFails, ending, row_settled, concluded, followed, runs, failed_in, failed}
 use Rattle.vss_model.specs.Images.{Replied, put, reverted_as, is_in_set}
-use Rattle.vss_model.specs.Sessions.{most_volumes, most_images, begin_in, has_no_volume, new_set, new_number, start_set, with_volume, change_set, add_refusal, closed}
+use Rattle.vss_model.specs.Sessions.{most_volumes, most_images, begin_in, has_no_volume, new_set, new_number, with_volume, change_set, add_refusal, closed}
 use Rattle.vss_model.specs.Steps.{answered, row_cut, cut_set, is_flush, is_failed_step, stepped_as, stepped, ticked, later}
 use Rattle.vss_model.specs.Acts.{Act, after, state}
 use Rattle.vss_model.specs.Laws.{IsKeptByWrites}
@@ -29,10 +29,10 @@ use Rattle.vss_model.proofs.Appending.{state-append}
 use Rattle.vss_model.proofs.Rule.{IsKeptButSteps, on_after_steps}
 use Rattle.vss_model.proofs.Orderly.{find-map, find-settled_over, find-settled_running}
 use Rattle.vss_model.proofs.HeldOfSet.{find-row_cut}
-use Rattle.vss_model.proofs.AtCut.{CutsNow, cuts}
+use Rattle.vss_model.proofs.AtCut.{cuts}
 use Rattle.vss_model.proofs.CutStep.{second_not, both, step_made_same, after_cut, has_set}
 use Rattle.vss_model.proofs.CutAppend.{or_cut, append_nothing, cut-append}
-use Rattle.vss_model.proofs.OneCut.{changed_number, changed_result, not_cut_yet}
+use Rattle.vss_model.proofs.OneCut.{changed_result, not_cut_yet}
 use Rattle.vss_model.proofs.Volumes.{at, FewerIn, fewer_in_map, fewer_in_change, fewer_in_gone, fewer_dropped, fewer_written, fewer_reverted, fewer_in_part}
 use Rattle.vss_model.proofs.FewerImages.{fewer_images_dropped, fewer_released}
 

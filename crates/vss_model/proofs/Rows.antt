@@ -1,13 +1,12 @@
 -- The row of the set in progress: it is the row of its number, and it alone.
-use Rattle.std.proofs.Common.{◌≡◌, ℕ, ◌+◌, ◌==◌, ◌<◌, ◌≤◌, List, [], ◌∷◌, ◌++◌, Option, Some, None, refl, Bool, true, false, map, ap, sym, ◌∙◌, subst, find, arith}
+use Rattle.std.proofs.Common.{◌≡◌, ℕ, ◌+◌, ◌==◌, ◌<◌, ◌≤◌, List, [], ◌∷◌, ◌++◌, Some, refl, Bool, true, false, map, ap, sym, ◌∙◌, subst, find, arith}
 use Rattle.std.specs.Prelude.{option_map, ◌&&◌, ◌||◌, if◌then◌else◌}
 use Rattle.std.specs.List.{list_any}
 use Rattle.vss_names.specs.declared.set_outcome.SetOutcome.{SetOutcome}
 use Rattle.vss_names.specs.declared.set_outcome.SetOutcome.TheVariants.{Running, Complete, Failed}
-use Rattle.vss_model.specs.State.{State, SetRow, is_running, is_complete, in_progress, row_of, is_kept_set}
+use Rattle.vss_model.specs.State.{SetRow, is_running, is_complete}
 use Rattle.vss_model.specs.Ending.{row_settled}
 use Rattle.vss_model.specs.Facts.{NumberedFrom}
-use Rattle.vss_model.proofs.Orderly.{true_not_false}
 
 some_row : (q r : SetRow) → Some q ≡ Some r → q ≡ r
 some_row q r e = cc

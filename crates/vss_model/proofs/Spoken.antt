@@ -1,8 +1,7 @@
 -- What the log of a running agenda says of who spoke: only volumes of the agenda were held, only its members froze, and once the Cut
 -- step is made the Hold group is closed.
-use Rattle.std.proofs.Common.{◌≡◌, ℕ, ◌==◌, List, [], ◌∷◌, ◌++◌, Option, Some, None, refl, Bool, true, false, map, filter, ap, sym, ◌∙◌, subst, arith}
+use Rattle.std.proofs.Common.{◌≡◌, ℕ, ◌==◌, List, [], ◌∷◌, ◌++◌, Option, Some, None, refl, Bool, true, false, map, filter, sym, ◌∙◌, subst}
 use Rattle.std.specs.Prelude.{◌&&◌, ◌||◌, not, if◌then◌else◌}
-use Rattle.std.specs.List.{list_any}
 use Rattle.std.proofs.lemmas.List.Folds.{list_any-append}
 use Rattle.vss_names.specs.declared.level.Level.{Level}
 use Rattle.vss_names.specs.declared.order.Order.TheVariants.{Identify, PrepareBackup, PrepareSnapshot, Freeze, Thaw, PostSnapshot, BackupComplete}
@@ -11,18 +10,17 @@ use Rattle.writer_state.specs.WriterState.{is_ok}
 use Rattle.set_agenda.specs.declared.group.Group.{Group}
 use Rattle.set_agenda.specs.declared.group.Group.TheVariants.{Orders, PreCommit, Flush, Hold, Cut, Commit, Release, PostCommit}
 use Rattle.set_agenda.specs.declared.kind.Kind.{Kind}
-use Rattle.set_agenda.specs.declared.kind.Kind.TheVariants.{Snapshot}
 use Rattle.set_agenda.specs.declared.member.Member.{Member}
 use Rattle.set_agenda.specs.declared.place.Place.{Place}
-use Rattle.set_agenda.specs.Agenda.{Agenda, Entry, Open, plain, places, group_code, level_code, same_place, is_freeze, has_said, has_frozen, is_at, writers_at, members_of, waited_for, with_group, left_from, groups_left, open_group, open_place, is_among, waits_now, at_place, all_say}
+use Rattle.set_agenda.specs.Agenda.{Agenda, Entry, Open, plain, places, group_code, level_code, same_place, is_freeze, has_said, has_frozen, is_at, members_of, waited_for, with_group, left_from, groups_left, open_group, open_place, is_among, waits_now, at_place, all_say}
 use Rattle.set_agenda.specs.Course.{is_member}
 use Rattle.scenario.specs.Plan.{Plan}
 use Rattle.vss_model.specs.Acts.{Act, state}
 use Rattle.vss_model.specs.Cut.{is_cut_group}
 use Rattle.vss_model.proofs.Orderly.{true_not_false}
-use Rattle.vss_model.proofs.LogRule.{IsKeptInLog, Running, in_log, unspoken}
+use Rattle.vss_model.proofs.LogRule.{IsKeptInLog, Running, in_log}
 use Rattle.vss_model.proofs.CutLog.{is_cut_made, said_stays}
-use Rattle.vss_model.proofs.AtCut.{IsAtCut, at_cut, kind_at_cut}
+use Rattle.vss_model.proofs.AtCut.{at_cut, kind_at_cut}
 
 -- ## what is said at a place
 

@@ -1,5 +1,5 @@
 -- What a change of the volumes does to the history at each place, and that most changes leave fewer images.
-use Rattle.std.proofs.Common.{◌≡◌, ℕ, ◌+◌, ◌==◌, ◌≤◌, zero, suc, List, [], ◌∷◌, Option, Some, None, refl, Bool, true, false, map, filter, length, ap, sym, ◌∙◌, subst, arith}
+use Rattle.std.proofs.Common.{◌≡◌, ℕ, ◌+◌, ◌==◌, ◌≤◌, zero, suc, List, [], ◌∷◌, Some, refl, Bool, true, false, map, filter, length, ap, ◌∙◌, arith}
 use Rattle.std.specs.Prelude.{is_some, not, if◌then◌else◌, nat_lt, slice_get}
 use Rattle.write_history.specs.History.{Write, Image, History, fresh, point_in, dropped, written, reverted, reverted_in_part, after_set}
 use Rattle.write_history.specs.Slots.{Placed, gone_up_to}
