@@ -17,6 +17,7 @@ mod entry;
 mod fields;
 mod lane;
 mod lane_line;
+pub mod laws;
 mod names;
 mod numbers;
 mod op;
