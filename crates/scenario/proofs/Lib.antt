@@ -2,3 +2,4 @@ pub mod Ranges
 pub mod Values
 pub mod Sessions
 pub mod Kept
+pub mod Language

@@ -19,13 +19,13 @@ pub words_more : (text : List ℕ) (start at end : ℕ) → at < end → end ≤
     words_from start at (slice_range text at end) ≡ words_from start (at + 1) (slice_range text (at + 1) end)
 words_more text start at end below within other = rw (range_more text at end below within, other) refl
 
--- four words and more are many
-pub fields_many : (a b c d : Span) (text : List ℕ) (start at : ℕ) → fields_of (a ∷ b ∷ c ∷ d ∷ words_from start at text) ≡ Many
-fields_many a b c d [] start at = refl
-fields_many a b c d (byte ∷ text) start at =
-    let on : (t : Bool) → fields_of (a ∷ b ∷ c ∷ d ∷ (if t then span_from start at ∷ words_from (at + 1) (at + 1) text else words_from start (at + 1) text)) ≡ Many =
-    λ t. elim t as (λ v. fields_of (a ∷ b ∷ c ∷ d ∷ (if v then span_from start at ∷ words_from (at + 1) (at + 1) text else words_from start (at + 1) text)) ≡ Many)
-    [ true ↦ refl | false ↦ fields_many a b c d text start (at + 1) ] in
+-- five words and more are many
+pub fields_many : (a b c d e : Span) (text : List ℕ) (start at : ℕ) → fields_of (a ∷ b ∷ c ∷ d ∷ e ∷ words_from start at text) ≡ Many
+fields_many a b c d e [] start at = refl
+fields_many a b c d e (byte ∷ text) start at =
+    let on : (t : Bool) → fields_of (a ∷ b ∷ c ∷ d ∷ e ∷ (if t then span_from start at ∷ words_from (at + 1) (at + 1) text else words_from start (at + 1) text)) ≡ Many =
+    λ t. elim t as (λ v. fields_of (a ∷ b ∷ c ∷ d ∷ e ∷ (if v then span_from start at ∷ words_from (at + 1) (at + 1) text else words_from start (at + 1) text)) ≡ Many)
+    [ true ↦ refl | false ↦ fields_many a b c d e text start (at + 1) ] in
     on (byte == 32)
 
 -- a space ends the word at hand

@@ -4,7 +4,7 @@ use Rattle.std.specs.Prelude.{if◌then◌else◌}
 use Rattle.scenario.specs.Plan.{LaneLine}
 use Rattle.scenario.specs.Bounds.{is_begin, is_end, has_end, ends_sessions}
 use Rattle.scenario.specs.Built.{has_begin, begins_once}
-use Rattle.scenario.specs.Drafts.{implied_end, closed}
+use Rattle.scenario.specs.SoFar.{implied_end, closed}
 
 -- where a session stands, an `end` comes, and each later one ends too
 abbrev pub ends_after : Bool → List LaneLine → Bool

@@ -1,13 +1,15 @@
 -- What every scenario that was read keeps to: its names are parts of its text, its numbers are within the limits, and each
 -- lane ends the sessions that it begins. (The limits are this project's own, but for 64 volumes in a set and 512 images
 -- on a volume, which are the SDK's.)
-use Rattle.std.specs.Prelude.{ℕ, ◌≡◌, ◌<◌, ◌≤◌, ◌+◌, Bool, true, false, List, [], ◌∷◌, length, map, sum, count_by, All, ◌&&◌, ◌||◌, not}
+use Rattle.std.specs.Prelude.{ℕ, ◌≡◌, ◌<◌, ◌≤◌, ◌+◌, Bool, true, false, List, [], ◌∷◌, length, map, sum, count_by, All, IfSome, Option, Some, None, slice_get, nat_lt, ◌==◌, ◌&&◌, ◌||◌, not, if◌then◌else◌}
 use Rattle.std.specs.List.{list_any}
 use Rattle.scenario.specs.declared.op.Op.{Op}
 use Rattle.scenario.specs.declared.op.Op.TheVariants.{WriteFill, WriteStamp, Read, ImageDigest, ImageBlock, Query, Properties, Revert, DeleteSet, DeleteImage, Tick, Begin, Disable, Gather, Component, Document, Start, Add, Prepare, Snapshot, Await, Status, Complete, Abort, End}
 use Rattle.scenario.specs.declared.span.Span.{Span}
 use Rattle.scenario.specs.declared.volume_row.VolumeRow.{VolumeRow}
-use Rattle.scenario.specs.Plan.{Plan, LaneLine, LanePlan, blocks_of}
+use Rattle.writer_meta.specs.Allowed.{IsAllowed}
+use Rattle.writer_calls.specs.declared.scripted.Scripted.{Scripted}
+use Rattle.scenario.specs.Plan.{Plan, GroupPlan, WriterPlan, LaneLine, LanePlan, blocks_of}
 
 -- ## names
 
@@ -94,15 +96,53 @@ pub record IsVolume (s : Plan) (r : VolumeRow) : Type 0 where
   pub most : r.blocks ≤ 65536
   pub few_slots : r.slots ≤ 65536
 
+-- of an area that volumes use
+pub record IsGroup (s : Plan) (g : GroupPlan) : Type 0 where
+  pub name : IsName s g.name
+  pub few_slots : g.slots ≤ 65536
+
+pub record IsWriter (s : Plan) (w : WriterPlan) : Type 0 where
+  pub name : IsName s w.name
+  pub allowed : IsAllowed w.meta
+  -- counted from 1
+  pub nths : All (λ (r : Scripted). (0 < r.nth) × (r.nth ≤ 2000)) w.script
+
 pub record IsLane (s : Plan) (l : LanePlan) : Type 0 where
   pub name : IsName s l.name
+  pub whom : IfSome l.acts_as (λ w. w < length s.writers)
   pub ops : All (λ (x : LaneLine). IsOp s x.op) l.lines
   pub ends : ends_sessions l.lines ≡ true
+
+-- ## groups
+
+-- the groups of these volumes, where those before them have n: each volume is in one of those, or in the next
+abbrev pub groups_from : ℕ → List VolumeRow → Option ℕ
+groups_from n [] = Some n
+groups_from n (r ∷ rows) = if nat_lt r.group n then groups_from n rows else (if r.group == n then groups_from (n + 1) rows else None)
+
+abbrev pub group_slots : Option GroupPlan → ℕ
+group_slots None = 0
+group_slots (Some g) = g.slots
+
+pub record IsInGroup (groups : List GroupPlan) (r : VolumeRow) : Type 0 where
+  pub in_range : r.group < length groups
+  pub slots : r.slots ≡ group_slots (slice_get groups r.group)
+
+-- each volume is in a group and has its slots, and groups are numbered by their first volumes
+pub record AreGrouped (s : Plan) : Type 0 where
+  pub rows : All (IsInGroup s.groups) s.volumes
+  pub numbered : groups_from 0 s.volumes ≡ Some (length s.groups)
+
+-- ## the whole
 
 pub record IsPlan (s : Plan) : Type 0 where
   pub short : length s.source < 4294967295
   pub volumes : All (IsVolume s) s.volumes
   pub few_volumes : length s.volumes ≤ 128
+  pub groups : All (IsGroup s) s.groups
+  pub grouped : AreGrouped s
+  pub writers : All (IsWriter s) s.writers
+  pub few_answers : sum (map (λ (w : WriterPlan). length w.script) s.writers) ≤ 10000
   pub lanes : All (IsLane s) s.lanes
   pub few_lanes : length s.lanes ≤ 64
   pub few_writers : length s.writers ≤ 64

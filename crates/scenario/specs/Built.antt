@@ -1,12 +1,13 @@
 -- What this program runs of the scenarios that the grammar knows: one volume at most, with a slot for each of its blocks; one
 -- lane at most; one session at most, in the context without writers. (This project's own, for the time being.)
-use Rattle.std.specs.Prelude.{◌≡◌, ◌≤◌, Bool, true, false, List, [], ◌∷◌, length, All, None, ◌==◌, ◌&&◌, ◌||◌, not}
+use Rattle.std.specs.Prelude.{◌≡◌, ◌≤◌, Bool, true, false, List, [], ◌∷◌, length, All, None, is_some, nat_le, ◌==◌, ◌&&◌, ◌||◌, not}
 use Rattle.std.specs.List.{list_any, list_all}
 use Rattle.scenario.specs.declared.op.Op.{Op}
 use Rattle.scenario.specs.declared.op.Op.TheVariants.{WriteFill, WriteStamp, Read, ImageDigest, ImageBlock, Query, Properties, Revert, DeleteSet, DeleteImage, Tick, Begin, Disable, Gather, Component, Document, Start, Add, Prepare, Snapshot, Await, Status, Complete, Abort, End}
 use Rattle.scenario.specs.declared.volume_row.VolumeRow.{VolumeRow}
 use Rattle.scenario.specs.Plan.{Plan, LaneLine, LanePlan}
 use Rattle.scenario.specs.Bounds.{is_begin}
+use Rattle.scenario.specs.SoFar.{SoFar, Saying, Skipped, Opening, Area, OwnVolume, SharedVolume, Writer, Answer, Lane, Line}
 
 -- the lines that are run
 abbrev pub is_run : Op → Bool
@@ -56,3 +57,22 @@ pub record IsBuilt (s : Plan) : Type 0 where
   pub one_lane : length s.lanes ≤ 1
   pub lanes : All IsBuiltLane s.lanes
   pub no_writers : s.writers ≡ []
+
+-- ## line by line
+
+abbrev pub last_lines : List LanePlan → List LaneLine
+last_lines [] = []
+last_lines (lane ∷ []) = lane.lines
+last_lines (lane ∷ next ∷ lanes) = last_lines (next ∷ lanes)
+
+-- a line that is run after those before it
+abbrev pub is_next_built : SoFar → Saying → Bool
+is_next_built d Skipped = true
+is_next_built d Opening = true
+is_next_built d (Area area) = false
+is_next_built d (OwnVolume row) = (length d.volumes == 0) && nat_le row.blocks row.slots
+is_next_built d (SharedVolume row area) = false
+is_next_built d (Writer writer) = false
+is_next_built d (Answer w row) = false
+is_next_built d (Lane name whom) = (length d.lanes == 0) && not (is_some whom)
+is_next_built d (Line line) = is_run line.op && not (is_begin line.op && has_begin (last_lines d.lanes))

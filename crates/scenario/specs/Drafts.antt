@@ -1,14 +1,20 @@
--- What the lines of a text say that were read so far. (This project's own format.)
-use Rattle.std.specs.Prelude.{ℕ, ◌≡◌, ◌<◌, ◌≤◌, ◌+◌, ◌++◌, Bool, true, false, List, [], ◌∷◌, length, All, Option, Some, None, IfSome, IsSome, slice_get, if◌then◌else◌}
+-- What is kept of the lines that were read so far, as far as lines are run. (This project's own.)
+use Rattle.std.specs.Prelude.{ℕ, ◌≡◌, ◌<◌, ◌≤◌, ◌+◌, ◌++◌, Bool, true, false, List, [], ◌∷◌, length, map, All, Option, Some, None, IfSome, IsSome, slice_get, Result, Ok, Err}
 use Rattle.scenario.specs.declared.op.Op.{Op}
-use Rattle.scenario.specs.declared.op.Op.TheVariants.{WriteFill, Read, ImageBlock, Begin, Start, Add, Snapshot, Await, End}
+use Rattle.scenario.specs.declared.op.Op.TheVariants.{WriteFill, WriteStamp, Read, ImageDigest, ImageBlock, Query, Properties, Revert, DeleteSet, DeleteImage, Tick, Begin, Disable, Gather, Component, Document, Start, Add, Prepare, Snapshot, Await, Status, Complete, Abort, End}
+use Rattle.scenario.specs.declared.reason.Reason.{Reason}
+use Rattle.scenario.specs.declared.unread.Unread.{Unread}
+use Rattle.scenario.specs.declared.unread.Unread.TheVariants.{Bad, OutOfMemory}
 use Rattle.scenario.specs.declared.span.Span.{Span}
 use Rattle.scenario.specs.declared.volume_row.VolumeRow.{VolumeRow}
 use Rattle.scenario.specs.declared.entry.Entry.{Entry}
 use Rattle.scenario.specs.declared.entry.Entry.TheVariants as entry
 use Rattle.scenario.specs.Plan.{LaneLine, LanePlan, blocks_in}
-use Rattle.scenario.specs.Bounds.{is_begin, begins_agenda, agenda_lines, ends_sessions}
-use Rattle.scenario.specs.Built.{has_begin, begins_once}
+use Rattle.scenario.specs.Bounds.{is_begin, begins_agenda, agenda_lines}
+use Rattle.scenario.specs.Built.{is_run, has_begin, begins_once, is_next_built}
+use Rattle.scenario.specs.SoFar.{SoFar, Saying, own_group}
+use Rattle.scenario.specs.SoFar as saying
+use Rattle.scenario.specs.Grammar.{run_only}
 use Rattle.scenario.specs.Fields.{IsPart}
 
 pub record DraftValue : Type 0 where
@@ -47,18 +53,37 @@ pub record IsRow (n : ℕ) (row : VolumeRow) : Type 0 where
 abbrev pub IsBlockOf : List VolumeRow → ℕ → ℕ → Type 0
 IsBlockOf rows v b = (v < length rows) × (b < blocks_in (slice_get rows v))
 
--- a line that is run, and its numbers are in range
+-- the numbers of a line are in range, where there are these volumes and no writers
+abbrev pub IsRanged : List VolumeRow → Op → Type 0
+IsRanged rows (WriteFill v b x) = IsBlockOf rows v b
+IsRanged rows (WriteStamp v b n) = IsBlockOf rows v b
+IsRanged rows (Read v b) = IsBlockOf rows v b
+IsRanged rows (ImageDigest s v) = v < length rows
+IsRanged rows (ImageBlock s v b) = IsBlockOf rows v b
+IsRanged rows (Query v) = v < length rows
+IsRanged rows (Properties s v) = v < length rows
+IsRanged rows (Revert s v) = v < length rows
+IsRanged rows (DeleteSet s) = Unit {0}
+IsRanged rows (DeleteImage s v) = v < length rows
+IsRanged rows (Tick n) = n ≤ 1000000000
+IsRanged rows (Begin c all) = Unit {0}
+IsRanged rows (Disable w) = ⊥
+IsRanged rows Gather = Unit {0}
+IsRanged rows (Component w full) = ⊥
+IsRanged rows Document = Unit {0}
+IsRanged rows Start = Unit {0}
+IsRanged rows (Add v) = v < length rows
+IsRanged rows Prepare = Unit {0}
+IsRanged rows Snapshot = Unit {0}
+IsRanged rows Await = Unit {0}
+IsRanged rows Status = Unit {0}
+IsRanged rows Complete = Unit {0}
+IsRanged rows Abort = Unit {0}
+IsRanged rows End = Unit {0}
+
+-- and the line is run
 abbrev pub IsRunOp : List VolumeRow → Op → Type 0
-IsRunOp rows (WriteFill v b x) = IsBlockOf rows v b
-IsRunOp rows (Read v b) = IsBlockOf rows v b
-IsRunOp rows (ImageBlock s v b) = IsBlockOf rows v b
-IsRunOp rows (Begin c all) = (c ≡ 25) × (all ≡ false)
-IsRunOp rows Start = Unit {0}
-IsRunOp rows (Add v) = v < length rows
-IsRunOp rows Snapshot = Unit {0}
-IsRunOp rows Await = Unit {0}
-IsRunOp rows End = Unit {0}
-IsRunOp rows _ = ⊥
+IsRunOp rows op = IsRanged rows op × (is_run op ≡ true)
 
 pub record IsDraft (n : ℕ) (d : DraftValue) : Type 0 where
   pub volumes : All (IsRow n) d.volumes
@@ -80,17 +105,45 @@ IsEntry n d (entry.Line line) =
     IsRunOp d.volumes line.op × (length d.lines < 100000) × (is_begin line.op ≡ true → has_begin d.lines ≡ false)
     × (begins_agenda line.op ≡ true → agenda_lines d.lines < 2000) × IsSome d.lane
 
--- ## the end of a lane
+-- ## what is kept, in the words of the language
 
--- the `end` that a lane gets without writing it
-abbrev pub implied_end : LaneLine
-implied_end = record { number = 0; op = End }
-
--- a lane that has a `begin` and no `end` after its last `begin` gets one
-abbrev pub closed : List LaneLine → List LaneLine
-closed lines = if ends_sessions lines then lines else lines ++ implied_end ∷ []
+-- the blocks and slots of all volumes
+abbrev pub size_of : List VolumeRow → ℕ
+size_of [] = 0
+size_of (row ∷ rows) = row.blocks + row.slots + size_of rows
 
 -- the lane, if there is one
 abbrev pub lanes_of : Option Span → List LaneLine → List LanePlan
 lanes_of None lines = []
-lanes_of (Some name) lines = record { name = name; acts_as = None; lines = closed lines } ∷ []
+lanes_of (Some name) lines = record { name = name; acts_as = None; lines = lines } ∷ []
+
+abbrev pub so_far : DraftValue → SoFar
+so_far d = record {
+  opened = d.opened;
+  areas = [];
+  volumes = d.volumes;
+  groups = map own_group d.volumes;
+  size = size_of d.volumes;
+  writers = [];
+  lanes = lanes_of d.lane d.lines;
+}
+
+abbrev pub saying_in : Entry → Saying
+saying_in entry.Skipped = saying.Skipped
+saying_in entry.Opening = saying.Opening
+saying_in (entry.Volume row) = saying.OwnVolume row
+saying_in (entry.Lane name) = saying.Lane name None
+saying_in (entry.Line line) = saying.Line line
+
+abbrev pub told : Result Entry Reason → Result Saying Reason
+told (Ok entry) = Ok (saying_in entry)
+told (Err reason) = Err reason
+
+-- what a line says as far as it is run, after what is kept
+abbrev pub run_of : DraftValue → Result Saying Reason → Result Saying Reason
+run_of d said = run_only (is_next_built (so_far d)) said
+
+-- why a line was not taken
+abbrev pub IsUnread : Result Saying Reason → Unread → Type 0
+IsUnread said (Bad reason) = said ≡ Err reason
+IsUnread said OutOfMemory = Unit {0}

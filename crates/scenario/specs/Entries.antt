@@ -1,28 +1,24 @@
--- What one line says after the lines before it, or that it is refused. Within a line the checks come in this order: its
--- bytes and its newline, its word, its place, its fields, the limits. A line that is skipped is checked for its bytes and
--- its newline alone. (This project's own format and limits.)
-use Rattle.std.specs.Prelude.{ℕ, ◌+◌, ◌==◌, ◌&&◌, ◌||◌, Bool, not, List, [], ◌∷◌, length, slice_index, nat_le, nat_lt, if◌then◌else◌, Option, Some, None, is_some, Result, Ok, Err}
+-- What one line says after the lines before it, or why it is refused. Within a line the checks come in this order: its
+-- bytes, its newline, its first word, its place, the number of its fields, the fields from left to right, the limits. A
+-- line that is skipped is checked for its bytes and its newline alone. (This project's own format and limits.)
+use Rattle.std.specs.Prelude.{ℕ, ◌+◌, ◌==◌, ◌&&◌, ◌||◌, Bool, not, List, [], ◌∷◌, length, slice_index, nat_le, nat_lt, if◌then◌else◌, Option, Some, None, Result, Ok, Err}
 use Rattle.std.specs.List.{list_all}
 use Rattle.scenario.specs.declared.op.Op.{Op}
 use Rattle.scenario.specs.declared.reason.Reason.{Reason}
-use Rattle.scenario.specs.declared.reason.Reason.TheVariants.{NotBuilt}
+use Rattle.scenario.specs.declared.reason.Reason.TheVariants.{BadByte, NoNewline, UnknownWord, Misplaced, TooMany}
 use Rattle.scenario.specs.declared.span.Span.{Span}
-use Rattle.scenario.specs.declared.volume_row.VolumeRow.{VolumeRow}
 use Rattle.scenario.specs.declared.text_line.TextLine.{TextLine}
 use Rattle.scenario.specs.declared.fields.Fields.{Fields}
-use Rattle.scenario.specs.declared.fields.Fields.TheVariants.{One, Three}
 use Rattle.scenario.specs.declared.word.Word.{Word}
 use Rattle.scenario.specs.declared.word.Word.TheVariants as word
-use Rattle.scenario.specs.declared.entry.Entry.{Entry}
-use Rattle.scenario.specs.declared.entry.Entry.TheVariants as entry
-use Rattle.scenario.specs.Plan.{LaneLine}
-use Rattle.scenario.specs.Bounds.{begins_agenda, agenda_lines}
-use Rattle.scenario.specs.Built.{has_begin}
-use Rattle.scenario.specs.Fields.{bytes_of, words_at, fields_of}
-use Rattle.scenario.specs.Names.{is_name, volume_named}
+use Rattle.scenario.specs.Plan.{LanePlan}
+use Rattle.scenario.specs.Bounds.{begins_agenda}
+use Rattle.scenario.specs.Fields.{bytes_of, words_at, fields_for}
 use Rattle.scenario.specs.Words.{word_of}
-use Rattle.scenario.specs.Drafts.{DraftValue}
-use Rattle.scenario.specs.Ops.{◌>>=◌, number_field, op_of}
+use Rattle.scenario.specs.Ops.{◌>>=◌, op_of}
+use Rattle.scenario.specs.SoFar.{SoFar, Saying, line_count, agenda_count}
+use Rattle.scenario.specs.SoFar as saying
+use Rattle.scenario.specs.Declarations.{opening_of, area_of, volume_of, writer_of, answer_of, lane_of}
 
 -- ## bytes
 
@@ -35,86 +31,55 @@ is_skipped bytes = (length bytes == 0) || (slice_index bytes 0 == 35)
 
 -- ## place
 
+abbrev pub has_lane : List LanePlan → Bool
+has_lane lanes = nat_lt 0 (length lanes)
+
 -- the `scenario` line comes first and once, then declarations, then lanes with their lines
-abbrev pub may_stand : DraftValue → Word → Bool
-may_stand d word.Scenario = not d.opened
-may_stand d word.Volume = d.opened && not (is_some d.lane)
-may_stand d word.Lane = d.opened
-may_stand d _ = d.opened && is_some d.lane
-
--- ## declarations
-
--- `scenario 1`
-unfoldable pub opening_of : List ℕ → Fields → Result Entry Reason
-opening_of text (One version) = number_field text 1 1 version >>= (λ n. Ok entry.Opening)
-opening_of text _ = Err NotBuilt
-
--- the blocks and slots of all volumes
-abbrev pub size_of : List VolumeRow → ℕ
-size_of [] = 0
-size_of (row ∷ rows) = row.blocks + row.slots + size_of rows
-
--- a name that no volume has yet
-abbrev pub is_new_volume : List ℕ → List VolumeRow → List ℕ → Bool
-is_new_volume text rows name = is_name name && not (is_some (volume_named text rows name))
-
--- at most 128 volumes, and 131,072 blocks and slots together
-abbrev pub has_room : List VolumeRow → ℕ → ℕ → Bool
-has_room rows blocks slots = nat_lt (length rows) 128 && nat_le (size_of rows + (blocks + slots)) 131072
-
--- one volume is run, with a slot for each block
-abbrev pub is_run_volume : List VolumeRow → ℕ → ℕ → Bool
-is_run_volume rows blocks slots = (length rows == 0) && nat_le blocks slots
-
--- `volume name blocks slots`
-unfoldable pub volume_of : List ℕ → List VolumeRow → Fields → Result Entry Reason
-volume_of text rows (Three name blocks slots) =
-    if is_new_volume text rows (bytes_of text name)
-    then (number_field text 1 65536 blocks >>= (λ b.
-    number_field text 0 65536 slots >>= (λ s.
-    if has_room rows b s && is_run_volume rows b s
-    then Ok (entry.Volume (record { name = name; blocks = b; slots = s; group = length rows }))
-    else Err NotBuilt)))
-    else Err NotBuilt
-volume_of text rows _ = Err NotBuilt
-
--- ## lanes
-
--- `lane name`: one lane is run, so its name is new
-unfoldable pub lane_of : List ℕ → Option Span → Fields → Result Entry Reason
-lane_of text lane (One name) = if is_name (bytes_of text name) && not (is_some lane) then Ok (entry.Lane name) else Err NotBuilt
-lane_of text lane _ = Err NotBuilt
-
--- at most 100,000 lines, and at most 2,000 that may begin an agenda
-abbrev pub has_line_room : List LaneLine → Op → Bool
-has_line_room lines op = nat_lt (length lines) 100000 && (not (begins_agenda op) || nat_lt (agenda_lines lines) 2000)
-
--- a line of the lane at hand
-unfoldable pub line_of : List ℕ → DraftValue → ℕ → Word → Fields → Result Entry Reason
-line_of text d number w fields =
-    op_of text d.volumes (has_begin d.lines) w fields
-    >>= (λ op. if has_line_room d.lines op then Ok (entry.Line (record { number = number; op = op })) else Err NotBuilt)
+abbrev pub may_stand : Bool → Bool → Word → Bool
+may_stand opened in_lane word.Scenario = not opened
+may_stand opened in_lane word.Area = opened && not in_lane
+may_stand opened in_lane word.Volume = opened && not in_lane
+may_stand opened in_lane word.Writer = opened && not in_lane
+may_stand opened in_lane word.Answer = opened && not in_lane
+may_stand opened in_lane word.Lane = opened
+may_stand opened in_lane _ = opened && in_lane
 
 -- ## lines
 
-unfoldable pub row_of : List ℕ → DraftValue → ℕ → Word → Fields → Result Entry Reason
+-- at most 100,000 lines over all lanes, and at most 2,000 that may begin an agenda
+abbrev pub has_line_room : ℕ → ℕ → Op → Bool
+has_line_room lines agendas op = nat_lt lines 100000 && (not (begins_agenda op) || nat_lt agendas 2000)
+
+-- a line of the lane at hand
+unfoldable pub line_of : List ℕ → SoFar → ℕ → Word → Fields → Result Saying Reason
+line_of text d number w fields =
+    op_of text d.volumes d.writers w fields
+    >>= (λ op. if has_line_room (line_count d.lanes) (agenda_count d.lanes) op then Ok (saying.Line (record { number = number; op = op })) else Err TooMany)
+
+unfoldable pub row_of : List ℕ → SoFar → ℕ → Word → Fields → Result Saying Reason
 row_of text d number word.Scenario fields = opening_of text fields
-row_of text d number word.Volume fields = volume_of text d.volumes fields
-row_of text d number word.Lane fields = lane_of text d.lane fields
+row_of text d number word.Area fields = area_of text d fields
+row_of text d number word.Volume fields = volume_of text d fields
+row_of text d number word.Writer fields = writer_of text d fields
+row_of text d number word.Answer fields = answer_of text d fields
+row_of text d number word.Lane fields = lane_of text d fields
 row_of text d number w fields = line_of text d number w fields
 
-abbrev pub placed_row_of : List ℕ → DraftValue → ℕ → Option Word → Fields → Result Entry Reason
-placed_row_of text d number None fields = Err NotBuilt
-placed_row_of text d number (Some w) fields = if may_stand d w then row_of text d number w fields else Err NotBuilt
+abbrev pub placed_row_of : List ℕ → SoFar → ℕ → ℕ → Option Word → List Span → Result Saying Reason
+placed_row_of text d number end None words = Err UnknownWord
+placed_row_of text d number end (Some w) words =
+    if may_stand d.opened (has_lane d.lanes) w then row_of text d number w (fields_for w end words) else Err Misplaced
 
--- by a line's words
-abbrev pub said_of : List ℕ → DraftValue → ℕ → List Span → Result Entry Reason
-said_of text d number [] = Err NotBuilt
-said_of text d number (first ∷ rest) = placed_row_of text d number (word_of (bytes_of text first)) (fields_of rest)
+-- by the words of a line that ends at `end`
+abbrev pub said_of : List ℕ → SoFar → ℕ → ℕ → List Span → Result Saying Reason
+said_of text d number end [] = Err UnknownWord
+said_of text d number end (first ∷ rest) = placed_row_of text d number end (word_of (bytes_of text first)) rest
 
 -- what a line says, with its number in the text
-unfoldable pub entry_of : List ℕ → DraftValue → ℕ → TextLine → Result Entry Reason
-entry_of text d number line =
-    if list_all is_printable (bytes_of text line.span) && line.ended
-    then (if is_skipped (bytes_of text line.span) then Ok entry.Skipped else said_of text d number (words_at text line.span.start line.span.end))
-    else Err NotBuilt
+unfoldable pub saying_of : List ℕ → SoFar → ℕ → TextLine → Result Saying Reason
+saying_of text d number line =
+    if list_all is_printable (bytes_of text line.span)
+    then (if line.ended
+    then (if is_skipped (bytes_of text line.span) then Ok saying.Skipped else said_of text d number line.span.end (words_at text line.span.start line.span.end))
+    else Err NoNewline)
+    else Err BadByte

@@ -1,10 +1,12 @@
--- A line as a word and its fields, with one space (byte 32) before each field. Two spaces make an empty field.
--- (This project's own format.)
-use Rattle.std.specs.Prelude.{ℕ, ◌+◌, ◌≤◌, ◌==◌, List, [], ◌∷◌, slice_range, if◌then◌else◌}
+-- A line as a word and its fields, with one space (byte 32) before each field. Two spaces make an empty field. A field
+-- may also be the rest of the line, spaces and all. (This project's own format.)
+use Rattle.std.specs.Prelude.{ℕ, ◌+◌, ◌≤◌, ◌==◌, List, [], ◌∷◌, slice_range, nat_lt, if◌then◌else◌}
 use Rattle.scenario.specs.declared.span.Span.{Span}
 use Rattle.scenario.specs.declared.fields.Fields.{Fields}
-use Rattle.scenario.specs.declared.fields.Fields.TheVariants.{Zero, One, Two, Three, Four, Many}
+use Rattle.scenario.specs.declared.fields.Fields.TheVariants.{Zero, One, Two, Three, Four, Five, Many}
+use Rattle.scenario.specs.declared.word.Word.{Word}
 use Rattle.scenario.specs.Lines.{span_from}
+use Rattle.scenario.specs.Words.{takes_rest}
 
 -- the words of what follows place `at`, where the word at hand began at `start`
 abbrev pub words_from : ℕ → ℕ → List ℕ → List Span
@@ -27,7 +29,17 @@ fields_of (a ∷ []) = One a
 fields_of (a ∷ b ∷ []) = Two a b
 fields_of (a ∷ b ∷ c ∷ []) = Three a b c
 fields_of (a ∷ b ∷ c ∷ d ∷ []) = Four a b c d
+fields_of (a ∷ b ∷ c ∷ d ∷ e ∷ []) = Five a b c d e
 fields_of _ = Many
+
+-- a field, and what follows it up to the line's end, as it stands; an empty rest is no field
+abbrev pub rest_fields : ℕ → List Span → Fields
+rest_fields end [] = Zero
+rest_fields end (first ∷ more) = if nat_lt (first.end + 1) end then Two first (span_from (first.end + 1) end) else One first
+
+-- the fields of a line that begins with this word and ends at `end`, by the words that follow it
+abbrev pub fields_for : Word → ℕ → List Span → Fields
+fields_for word end words = if takes_rest word then rest_fields end words else fields_of words
 
 -- the bytes of a part of the text
 abbrev pub bytes_of : List ℕ → Span → List ℕ
@@ -45,4 +57,5 @@ AreParts n (One a) = IsPart n a
 AreParts n (Two a b) = IsPart n a × IsPart n b
 AreParts n (Three a b c) = IsPart n a × IsPart n b × IsPart n c
 AreParts n (Four a b c d) = IsPart n a × IsPart n b × IsPart n c × IsPart n d
+AreParts n (Five a b c d e) = IsPart n a × IsPart n b × IsPart n c × IsPart n d × IsPart n e
 AreParts n Many = Unit {0}

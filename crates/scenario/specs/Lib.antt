@@ -9,6 +9,8 @@ pub mod Fields
 pub mod Numbers
 pub mod Names
 pub mod Words
+pub mod SoFar
 pub mod Drafts
 pub mod Ops
+pub mod Declarations
 pub mod Entries

@@ -3,11 +3,8 @@ use Rattle.std.specs.Prelude.{ℕ, List, [], map, None}
 use Rattle.scenario.specs.declared.volume_row.VolumeRow.{VolumeRow}
 use Rattle.scenario.specs.declared.lane.Lane.{Lane}
 use Rattle.scenario.specs.declared.scenario.Scenario.TheInside.{Inside}
-use Rattle.scenario.specs.Plan.{Plan, GroupPlan, LanePlan}
-
--- a volume alone is a group
-abbrev pub own_group : VolumeRow → GroupPlan
-own_group r = record { name = r.name; slots = r.slots }
+use Rattle.scenario.specs.Plan.{Plan, LanePlan}
+use Rattle.scenario.specs.SoFar.{own_group}
 
 abbrev pub lane_plan : Lane → LanePlan
 lane_plan l = record { name = l.name; acts_as = None; lines = l.lines.items }

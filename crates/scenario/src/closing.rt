@@ -1,7 +1,7 @@
 //! The end of a lane.
 ghost use Rattle.std.specs.Prelude.{◌≡◌, IfOk};
 ghost use Rattle.scenario.specs.Bounds.{is_begin, is_end, ends_sessions};
-ghost use Rattle.scenario.specs.Drafts.{closed};
+ghost use Rattle.scenario.specs.SoFar.{closed};
 
 use crate::lane_line::LaneLine;
 use crate::op::Op;

@@ -53,6 +53,7 @@ impl Draft {
     ghost use Rattle.scenario.specs.Bounds.{agenda_lines};
     ghost use Rattle.scenario.specs.Built.{has_begin};
     ghost use Rattle.scenario.specs.Views.{lane_plan};
+    ghost use Rattle.scenario.specs.SoFar.{closed_lane};
     ghost use Rattle.scenario.specs.Drafts.{empty_draft, with_entry, lanes_of};
 
     pub(crate) fn new(alloc: Global) -> Draft
@@ -88,10 +89,17 @@ impl Draft {
         self.lane.is_some()
     }
 
+    /// The name of the lane, if it has begun.
+    pub(crate) fn lane(&self) -> Option<Span>
+        ensures { result ≡ self.now.lane }
+    {
+        self.lane
+    }
+
     /// The volumes, and the lanes with all their lines.
     pub(crate) fn into_parts(self, alloc: Global) -> Result<Parts, OutOfMemory>
         ensures volumes { IfOk result (λ parts. parts.volumes.items ≡ self.volumes) }
-        ensures lanes { IfOk result (λ parts. map lane_plan parts.lanes.items ≡ lanes_of self.lane self.lines) }
+        ensures lanes { IfOk result (λ parts. map lane_plan parts.lanes.items ≡ map closed_lane (lanes_of self.lane self.lines)) }
     {
         let Draft {
             volumes,

@@ -1,25 +1,29 @@
 //! What one line says after the lines before it.
-ghost use Rattle.std.specs.Prelude.{◌≡◌, ◌<◌, ◌≤◌, length, All, IfOk, None, IsSome, IsTrue};
+ghost use Rattle.std.specs.Prelude.{◌≡◌, ◌<◌, ◌≤◌, ◌&&◌, not, false, Ok, length, All, IfOk, IfErr, None, IsSome, IsTrue, is_some};
 ghost use Rattle.std.specs.List.{list_all};
 ghost use Rattle.scenario.specs.Fields.{IsPart, AreParts, words_at};
-ghost use Rattle.scenario.specs.Drafts.{DraftValue, IsDraft, IsEntry, IsRow};
-ghost use Rattle.scenario.specs.Entries.{is_printable, is_skipped, is_new_volume, may_stand, opening_of, volume_of, lane_of, line_of, row_of, said_of, entry_of};
+ghost use Rattle.scenario.specs.Bounds.{is_begin, agenda_lines};
+ghost use Rattle.scenario.specs.Built.{is_run, has_begin};
+ghost use Rattle.scenario.specs.Drafts.{DraftValue, IsDraft, IsEntry, saying_in, so_far, told, run_of, IsUnread};
+ghost use Rattle.scenario.specs.Words.{takes_document};
+ghost use Rattle.scenario.specs.Entries.{is_printable, is_skipped, may_stand, has_line_room, line_of, row_of, said_of, saying_of};
 
+use crate::closing::is_begin;
+use crate::declarations::{
+    answer_refusal, area_of, lane_of, opening_of, volume_of, writer_refusal,
+};
 use crate::draft::{Draft, begins_agenda};
 use crate::entry::Entry;
-use crate::fields::{Fields, bytes_of, fields_after, word_at};
+use crate::fields::{Fields, bytes_of, fields_for, word_at};
 use crate::lane_line::LaneLine;
-use crate::names::{is_name, volume_named};
-use crate::ops::{number_field, op_of};
+use crate::op::Op;
+use crate::ops::op_of;
 use crate::reason::Reason;
 use crate::span::Span;
 use crate::text_line::TextLine;
-use crate::volume_row::VolumeRow;
+use crate::unread::Unread;
 use crate::word::Word;
-
-const MOST_BLOCKS: u32 = 65_536;
-/// Of the blocks and slots of all volumes together.
-const MOST_SIZE: u32 = 131_072;
+use std::alloc::Global;
 
 const MOST_LINES: usize = 100_000;
 /// Of the lines that may begin an agenda.
@@ -41,94 +45,48 @@ fn is_skipped(bytes: &[u8]) -> bool
 
 /// Whether a line that begins with this word may stand after those before it.
 fn may_stand(draft: &Draft, word: Word) -> bool
-    ensures { result ≡ may_stand draft.now word }
+    ensures { result ≡ may_stand draft.now.opened (is_some draft.now.lane) word }
 {
     match word {
         Word::Scenario => !draft.is_opened(),
-        Word::Volume => draft.is_opened() && !draft.has_lane(),
+        Word::Area | Word::Volume | Word::Writer | Word::Answer => {
+            draft.is_opened() && !draft.has_lane()
+        }
         Word::Lane => draft.is_opened(),
-        Word::Write
-        | Word::Read
-        | Word::Image
-        | Word::Begin
-        | Word::Start
-        | Word::Add
-        | Word::Snapshot
-        | Word::Await
-        | Word::End => draft.is_opened() && draft.has_lane(),
+        _ => draft.is_opened() && draft.has_lane(),
     }
 }
 
-/// `scenario 1`.
-#[tactic(auto, unfolding(crate::specs::Entries::opening_of))]
-fn opening_of(text: &[u8], fields: Fields) -> Result<Entry, Reason>
-    requires { AreParts (length text.now) fields }
-    ensures value { result ≡ opening_of text.now fields }
-    ensures kept { (d : DraftValue) → IfOk result (IsEntry (length text.now) d) }
+/// Whether the lane at hand may have one more such line.
+fn has_line_room(draft: &Draft, op: Op) -> bool
+    ensures { result ≡ has_line_room (length draft.now.lines) (agenda_lines draft.now.lines) op }
 {
-    let Fields::One(version) = fields else {
-        return Err(Reason::NotBuilt);
-    };
-    number_field(text, 1, 1, version)?;
-    Ok(Entry::Opening)
+    draft.len() < MOST_LINES && (!begins_agenda(op) || draft.agenda_lines() < MOST_AGENDA_LINES)
 }
 
-/// Whether these bytes are a name that no volume has yet.
-fn is_new_volume(text: &[u8], rows: &[VolumeRow], name: &[u8]) -> bool
-    requires rows { All (IsRow (length text.now)) rows.now }
-    requires few { length rows.now ≤ 128 }
-    ensures value { result ≡ is_new_volume text.now rows.now name.now }
-    ensures short { IsTrue result → length name.now ≤ 32 }
+/// Whether a line is run: some are not yet, and one session alone.
+fn is_built(draft: &Draft, op: Op) -> bool
+    ensures { result ≡ (is_run op && not (is_begin op && has_begin draft.now.lines)) }
 {
-    is_name(name) && volume_named(text, rows, name).is_none()
+    is_run(op) && !(is_begin(op) && draft.has_begin())
 }
 
-/// `volume name blocks slots`. One volume is run, with a slot for each block.
-#[tactic(auto, unfolding(crate::specs::Entries::volume_of))]
-fn volume_of(text: &[u8], draft: &Draft, fields: Fields) -> Result<Entry, Reason>
-    requires parts { AreParts (length text.now) fields }
-    requires draft { IsDraft (length text.now) draft.now }
-    requires no_lane { draft.now.lane ≡ None }
-    ensures value { result ≡ volume_of text.now draft.now.volumes fields }
-    ensures kept { IfOk result (IsEntry (length text.now) draft.now) }
+/// Whether lines of this kind are run.
+fn is_run(op: Op) -> bool
+    ensures { result ≡ is_run op }
 {
-    let Fields::Three(name, blocks, slots) = fields else {
-        return Err(Reason::NotBuilt);
-    };
-    let rows = draft.volumes();
-    if !is_new_volume(text, rows, bytes_of(text, name)) {
-        return Err(Reason::NotBuilt);
+    match op {
+        Op::Begin { context, all } => context == 25 && !all,
+        Op::WriteFill { .. }
+        | Op::Read { .. }
+        | Op::ImageBlock { .. }
+        | Op::Start
+        | Op::Add { .. }
+        | Op::Snapshot
+        | Op::Await
+        | Op::End => true,
+        _ => false,
     }
-    let blocks = number_field(text, 1, MOST_BLOCKS, blocks)?;
-    let slots = number_field(text, 0, MOST_BLOCKS, slots)?;
-    if !rows.is_empty() || slots < blocks || blocks + slots > MOST_SIZE {
-        return Err(Reason::NotBuilt);
-    }
-    Ok(Entry::Volume(VolumeRow {
-        name,
-        blocks,
-        slots,
-        group: 0,
-    }))
-}
-
-/// `lane name`. One lane is run.
-#[tactic(auto, unfolding(crate::specs::Entries::lane_of))]
-fn lane_of(text: &[u8], draft: &Draft, fields: Fields) -> Result<Entry, Reason>
-    requires { AreParts (length text.now) fields }
-    ensures value { result ≡ lane_of text.now draft.now.lane fields }
-    ensures kept { IfOk result (IsEntry (length text.now) draft.now) }
-{
-    let Fields::One(name) = fields else {
-        return Err(Reason::NotBuilt);
-    };
-    if !is_name(bytes_of(text, name)) {
-        return Err(Reason::NotBuilt);
-    }
-    if draft.has_lane() {
-        return Err(Reason::NotBuilt);
-    }
-    Ok(Entry::Lane(name))
 }
 
 /// A line of the lane at hand.
@@ -143,19 +101,20 @@ fn line_of(
     requires parts { AreParts (length text.now) fields }
     requires draft { IsDraft (length text.now) draft.now }
     requires in_lane { IsSome draft.now.lane }
-    ensures value { result ≡ line_of text.now draft.now number word fields }
+    ensures value { told result ≡ run_of draft.now (line_of text.now (so_far draft.now) number word fields) }
     ensures kept { IfOk result (IsEntry (length text.now) draft.now) }
 {
-    let op = op_of(text, draft.volumes(), draft.has_begin(), word, fields)?;
-    if draft.len() >= MOST_LINES
-        || (begins_agenda(op) && draft.agenda_lines() >= MOST_AGENDA_LINES)
-    {
+    let op = op_of(text, draft.volumes(), word, fields)?;
+    if !has_line_room(draft, op) {
+        return Err(Reason::TooMany);
+    }
+    if !is_built(draft, op) {
         return Err(Reason::NotBuilt);
     }
     Ok(Entry::Line(LaneLine { number, op }))
 }
 
-/// What a line says that may stand here.
+/// What a line says that may stand here and has no document.
 #[tactic(auto, unfolding(crate::specs::Entries::row_of))]
 fn row_of(
     text: &[u8],
@@ -166,65 +125,98 @@ fn row_of(
 ) -> Result<Entry, Reason>
     requires parts { AreParts (length text.now) fields }
     requires draft { IsDraft (length text.now) draft.now }
-    requires placed { IsTrue (may_stand draft.now word) }
-    ensures value { result ≡ row_of text.now draft.now number word fields }
+    requires placed { IsTrue (may_stand draft.now.opened (is_some draft.now.lane) word) }
+    requires plain { takes_document word ≡ false }
+    ensures value { told result ≡ run_of draft.now (row_of text.now (so_far draft.now) number word fields) }
     ensures kept { IfOk result (IsEntry (length text.now) draft.now) }
 {
     match word {
         Word::Scenario => opening_of(text, fields),
+        Word::Area => area_of(text, draft, fields),
         Word::Volume => volume_of(text, draft, fields),
+        Word::Answer => Err(answer_refusal(text, draft, fields)),
         Word::Lane => lane_of(text, draft, fields),
-        Word::Write
-        | Word::Read
-        | Word::Image
-        | Word::Begin
-        | Word::Start
-        | Word::Add
-        | Word::Snapshot
-        | Word::Await
-        | Word::End => line_of(text, draft, number, word, fields),
+        _ => line_of(text, draft, number, word, fields),
+    }
+}
+
+/// What a line says that may stand here.
+#[tactic(auto, unfolding(crate::specs::Entries::row_of))]
+fn placed_row_of(
+    alloc: Global,
+    text: &[u8],
+    draft: &Draft,
+    number: u32,
+    word: Word,
+    fields: Fields,
+) -> Result<Entry, Unread>
+    requires parts { AreParts (length text.now) fields }
+    requires draft { IsDraft (length text.now) draft.now }
+    requires placed { IsTrue (may_stand draft.now.opened (is_some draft.now.lane) word) }
+    ensures read { IfOk result (λ entry. run_of draft.now (row_of text.now (so_far draft.now) number word fields) ≡ Ok (saying_in entry)) }
+    ensures kept { IfOk result (IsEntry (length text.now) draft.now) }
+    ensures refused { IfErr result (IsUnread (run_of draft.now (row_of text.now (so_far draft.now) number word fields))) }
+{
+    if let Word::Writer = word {
+        return Err(writer_refusal(alloc, text, draft, fields));
+    }
+    match row_of(text, draft, number, word, fields) {
+        Ok(entry) => Ok(entry),
+        Err(reason) => Err(Unread::Bad(reason)),
     }
 }
 
 /// What a line says, by its words.
-fn said_of(text: &[u8], draft: &Draft, number: u32, span: Span) -> Result<Entry, Reason>
+fn said_of(
+    alloc: Global,
+    text: &[u8],
+    draft: &Draft,
+    number: u32,
+    span: Span,
+) -> Result<Entry, Unread>
     requires short { length text.now < 4294967295 }
     requires part { IsPart (length text.now) span }
     requires draft { IsDraft (length text.now) draft.now }
-    ensures value { result ≡ said_of text.now draft.now number (words_at text.now span.start span.end) }
+    ensures read { IfOk result (λ entry. run_of draft.now (said_of text.now (so_far draft.now) number span.end (words_at text.now span.start span.end)) ≡ Ok (saying_in entry)) }
     ensures kept { IfOk result (IsEntry (length text.now) draft.now) }
+    ensures refused { IfErr result (IsUnread (run_of draft.now (said_of text.now (so_far draft.now) number span.end (words_at text.now span.start span.end)))) }
 {
     let first = word_at(text, span.start, span.end);
     let Some(word) = Word::of(bytes_of(text, first)) else {
-        return Err(Reason::NotBuilt);
+        return Err(Unread::Bad(Reason::UnknownWord));
     };
     if !may_stand(draft, word) {
-        return Err(Reason::NotBuilt);
+        return Err(Unread::Bad(Reason::Misplaced));
     }
-    let fields = fields_after(text, first.end, span.end);
-    row_of(text, draft, number, word, fields)
+    let fields = fields_for(text, word, first.end, span.end);
+    placed_row_of(alloc, text, draft, number, word, fields)
 }
 
 /// What a line says, with its number in the text.
-#[tactic(auto, unfolding(crate::specs::Entries::entry_of))]
+#[tactic(auto, unfolding(crate::specs::Entries::saying_of))]
 pub(crate) fn entry_of(
+    alloc: Global,
     text: &[u8],
     draft: &Draft,
     number: u32,
     line: TextLine,
-) -> Result<Entry, Reason>
+) -> Result<Entry, Unread>
     requires short { length text.now < 4294967295 }
     requires part { IsPart (length text.now) line.span }
     requires draft { IsDraft (length text.now) draft.now }
-    ensures value { result ≡ entry_of text.now draft.now number line }
+    ensures read { IfOk result (λ entry. run_of draft.now (saying_of text.now (so_far draft.now) number line) ≡ Ok (saying_in entry)) }
     ensures kept { IfOk result (IsEntry (length text.now) draft.now) }
+    ensures refused { IfErr result (IsUnread (run_of draft.now (saying_of text.now (so_far draft.now) number line))) }
 {
     let bytes = bytes_of(text, line.span);
-    if !line.ended || !are_printable(bytes) {
-        return Err(Reason::NotBuilt);
+    if !are_printable(bytes) {
+        return Err(Unread::Bad(Reason::BadByte));
+    }
+    if !line.ended {
+        return Err(Unread::Bad(Reason::NoNewline));
     }
     if is_skipped(bytes) {
         return Ok(Entry::Skipped);
     }
-    said_of(text, draft, number, line.span)
+    said_of(alloc, text, draft, number, line.span)
 }

@@ -1,7 +1,8 @@
 ghost use Rattle.std.specs.Prelude.{◌≡◌, ◌<◌, ◌≤◌, ◌+◌, ◌∷◌, length};
-ghost use Rattle.scenario.specs.Fields.{words_at, words_after, fields_of, bytes_of, IsPart, AreParts};
+ghost use Rattle.scenario.specs.Fields.{words_at, words_after, fields_of, rest_fields, fields_for, bytes_of, IsPart, AreParts};
 
 use crate::span::Span;
+use crate::word::Word;
 
 /// The fields of a line, as many as a line may have.
 #[derive(Clone, Copy, Debug, PartialEq, Eq)]
@@ -11,6 +12,7 @@ pub(crate) enum Fields {
     Two(Span, Span),
     Three(Span, Span, Span),
     Four(Span, Span, Span, Span),
+    Five(Span, Span, Span, Span, Span),
     /// More than any line may have.
     Many,
 }
@@ -43,7 +45,7 @@ pub(crate) fn word_at(text: &[u8], start: u32, end: u32) -> Span
 
 /// The fields that follow a word which ends at `at`, up to `end`.
 #[tactic(auto, using(crate::proofs::Ranges::fields_many))]
-pub(crate) fn fields_after(text: &[u8], at: u32, end: u32) -> Fields
+fn fields_after(text: &[u8], at: u32, end: u32) -> Fields
     requires within { end ≤ length text.now }
     requires ordered { at ≤ end }
     requires short { length text.now < 4294967295 }
@@ -69,5 +71,44 @@ pub(crate) fn fields_after(text: &[u8], at: u32, end: u32) -> Fields
     if fourth.end == end {
         return Fields::Four(first, second, third, fourth);
     }
+    let fifth = word_at(text, fourth.end + 1, end);
+    if fifth.end == end {
+        return Fields::Five(first, second, third, fourth, fifth);
+    }
     Fields::Many
+}
+
+/// The field that follows a word which ends at `at`, and the rest of the line up to `end` as it stands, if there is one.
+fn rest_after(text: &[u8], at: u32, end: u32) -> Fields
+    requires within { end ≤ length text.now }
+    requires ordered { at ≤ end }
+    requires short { length text.now < 4294967295 }
+    ensures value { result ≡ rest_fields end (words_after text.now at end) }
+    ensures parts { AreParts (length text.now) result }
+{
+    if at == end {
+        return Fields::Zero;
+    }
+    let first = word_at(text, at + 1, end);
+    if first.end + 1 < end {
+        let start = first.end + 1;
+        Fields::Two(first, Span { start, end })
+    } else {
+        Fields::One(first)
+    }
+}
+
+/// The fields of a line that begins with this word, which ends at `at`, up to `end`.
+pub(crate) fn fields_for(text: &[u8], word: Word, at: u32, end: u32) -> Fields
+    requires within { end ≤ length text.now }
+    requires ordered { at ≤ end }
+    requires short { length text.now < 4294967295 }
+    ensures value { result ≡ fields_for word end (words_after text.now at end) }
+    ensures parts { AreParts (length text.now) result }
+{
+    if word.takes_rest() {
+        rest_after(text, at, end)
+    } else {
+        fields_after(text, at, end)
+    }
 }

@@ -2,18 +2,22 @@
 //!
 //! `specs/Plan.antt` has what a scenario says, as the definitions read it. `specs/Grammar.antt` says which text is which
 //! scenario: the text is cut into lines, each line says something after the lines before it or is refused
-//! (`specs/Entries.antt`, and `specs/Ops.antt` for the lines of a lane), and the first refused line is told. `parse` is
-//! proved to answer exactly that, unless memory runs out. Contracts see a `Scenario` as its plan, which keeps to the
-//! limits of `specs/Bounds.antt` and, for now, to what is run, `specs/Built.antt`.
+//! (`specs/Entries.antt`, with `specs/Declarations.antt` for what is declared and `specs/Ops.antt` for the lines of a lane),
+//! and the first refused line is told. These speak of the whole language, and `language_of` reads a text by them alone.
+//! `reading_of` adds one last check of each line, that it is run so far (`specs/Built.antt`), and `parse` is proved to
+//! answer exactly that, unless memory runs out. Contracts see a `Scenario` as its plan, which keeps to the limits of
+//! `specs/Bounds.antt` and, for now, to what is run.
 #![tactic(auto)]
 
 mod closing;
+mod declarations;
 mod draft;
 mod entries;
 mod entry;
 mod fields;
 mod lane;
 mod lane_line;
+pub mod laws;
 mod names;
 mod numbers;
 mod op;
@@ -25,6 +29,7 @@ mod refused;
 mod scenario;
 mod span;
 mod text_line;
+mod unread;
 mod volume_row;
 mod word;
 

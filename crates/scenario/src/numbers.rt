@@ -1,5 +1,7 @@
-ghost use Rattle.std.specs.Prelude.{◌≡◌, ◌<◌, ◌≤◌, length, IfSome};
-ghost use Rattle.scenario.specs.Numbers.{is_digit, begins_number, value_from, in_range, number_in};
+ghost use Rattle.std.specs.Prelude.{◌≡◌, ◌<◌, ◌≤◌, ◌+◌, length, IfOk};
+ghost use Rattle.scenario.specs.Numbers.{is_digit, begins_number, value_from, in_range, number_in, capped};
+
+use crate::reason::Reason;
 
 fn is_digit(byte: u8) -> bool
     ensures { result ≡ is_digit byte }
@@ -16,35 +18,44 @@ fn begins_number(digits: &[u8]) -> bool
     !(digits[0] == b'0' && 1 < digits.len())
 }
 
-/// The number that these digits are, if it is from `low` to `high`.
-fn value_of(digits: &[u8], low: u32, high: u32) -> Option<u32>
-    ensures value { result ≡ in_range low high (value_from 0 digits.now) }
+/// A value, or the least that is past the bound.
+fn capped(value: u128, high: u64) -> u128
+    ensures value { result ≡ capped high value }
+    ensures most { result ≤ high + 1 }
 {
-    let mut value = 0u64;
-    for byte in digits {
-        if !is_digit(*byte) {
-            return None;
-        }
-        value = value * 10 + u64::from(*byte - b'0');
-        if value > u64::from(high) {
-            return None;
-        }
-    }
-    if value < u64::from(low) {
-        return None;
-    }
-    Some(value as u32)
+    let high = u128::from(high);
+    if high < value { high + 1 } else { value }
 }
 
-/// The number that these bytes are, if they are one from `low` to `high`.
+/// The number that these digits are, from `low` to `high`.
+fn value_of(digits: &[u8], low: u64, high: u64) -> Result<u64, Reason>
+    ensures { result ≡ in_range low high (value_from 0 digits.now) }
+{
+    let mut value = 0u128;
+    for byte in digits {
+        if !is_digit(*byte) {
+            return Err(Reason::BadNumber);
+        }
+        value = capped(value * 10 + u128::from(*byte - b'0'), high);
+    }
+    if value < u128::from(low) {
+        return Err(Reason::OutOfRange);
+    }
+    if value > u128::from(high) {
+        return Err(Reason::OutOfRange);
+    }
+    Ok(value as u64)
+}
+
+/// The number that these bytes are, from `low` to `high`.
 #[tactic(auto, unfolding(crate::specs::Numbers::number_in))]
-pub(crate) fn number_in(digits: &[u8], low: u32, high: u32) -> Option<u32>
+pub(crate) fn number_in(digits: &[u8], low: u64, high: u64) -> Result<u64, Reason>
     ensures value { result ≡ number_in low high digits.now }
-    ensures least { IfSome result (λ n. low ≤ n) }
-    ensures most { IfSome result (λ n. n ≤ high) }
+    ensures least { IfOk result (λ n. low ≤ n) }
+    ensures most { IfOk result (λ n. n ≤ high) }
 {
     if !begins_number(digits) {
-        return None;
+        return Err(Reason::BadNumber);
     }
     value_of(digits, low, high)
 }

@@ -1,8 +1,10 @@
 ghost use Rattle.std.specs.Prelude.{◌≡◌, ◌<◌, ◌+◌, ◌∷◌, List, length, IfOk, IfErr, OnOk};
 ghost use Rattle.scenario.specs.declared.text_line.TextLine.{TextLine as Line};
 ghost use Rattle.scenario.specs.Fields.{IsPart};
-ghost use Rattle.scenario.specs.Drafts.{IsDraft};
-ghost use Rattle.scenario.specs.Grammar.{reading_of, read_from, plan_in, IsScenario, IsRefusal, IsRefused};
+ghost use Rattle.scenario.specs.SoFar.{plan_in};
+ghost use Rattle.scenario.specs.Built.{is_next_built};
+ghost use Rattle.scenario.specs.Drafts.{IsDraft, so_far};
+ghost use Rattle.scenario.specs.Grammar.{reading_of, read_from, IsScenario, IsRefusal, IsRefused};
 
 use crate::draft::Draft;
 use crate::entries::entry_of;
@@ -10,29 +12,37 @@ use crate::reason::Reason;
 use crate::refused::Refused;
 use crate::scenario::Scenario;
 use crate::text_line::{TextLine, line_at};
+use crate::unread::Unread;
 use std::alloc::Global;
 use vss_names::{OutOfMemory, Text};
 
 /// Takes in what one more line says.
-fn take_in(text: &[u8], draft: &mut Draft, number: u32, line: TextLine) -> Result<(), Refused>
+fn take_in(
+    alloc: Global,
+    text: &[u8],
+    draft: &mut Draft,
+    number: u32,
+    line: TextLine,
+) -> Result<(), Refused>
     requires short { length text.now < 4294967295 }
     requires part { IsPart (length text.now) line.span }
     requires draft { IsDraft (length text.now) draft.old }
     ensures on { OnOk result ((rest : List Line) →
-        read_from text.now number draft.old (line ∷ rest)
-        ≡ read_from text.now (number + 1) draft.new rest) }
+        read_from is_next_built text.now number (so_far draft.old) (line ∷ rest)
+        ≡ read_from is_next_built text.now (number + 1) (so_far draft.new) rest) }
     ensures kept { OnOk result (IsDraft (length text.now) draft.new) }
     ensures refused { IfErr result (λ refused. (rest : List Line) →
-        IsRefused (read_from text.now number draft.old (line ∷ rest)) refused) }
+        IsRefused (read_from is_next_built text.now number (so_far draft.old) (line ∷ rest)) refused) }
 {
-    let entry = match entry_of(text, draft, number, line) {
+    let entry = match entry_of(alloc, text, draft, number, line) {
         Ok(entry) => entry,
-        Err(reason) => {
+        Err(Unread::Bad(reason)) => {
             return Err(Refused::Line {
                 line: number,
                 reason,
             });
         }
+        Err(Unread::OutOfMemory) => return Err(Refused::OutOfMemory),
     };
     match draft.add(entry) {
         Ok(()) => Ok(()),
@@ -44,7 +54,7 @@ fn take_in(text: &[u8], draft: &mut Draft, number: u32, line: TextLine) -> Resul
 #[tactic(auto, unfolding(crate::specs::Grammar::reading_of))]
 fn read(alloc: Global, text: &[u8]) -> Result<Draft, Refused>
     requires { length text.now < 4294967295 }
-    ensures read { IfOk result (λ draft. reading_of text.now ≡ IsScenario (plan_in text.now draft)) }
+    ensures read { IfOk result (λ draft. reading_of text.now ≡ IsScenario (plan_in text.now (so_far draft))) }
     ensures kept { IfOk result (IsDraft (length text.now)) }
     ensures refused { IfErr result (IsRefusal text.now) }
 {
@@ -53,7 +63,7 @@ fn read(alloc: Global, text: &[u8]) -> Result<Draft, Refused>
     let mut number = 1u32;
     'lines: while at < text.len() {
         let line = line_at(text, at);
-        match take_in(text, &mut draft, number, line) {
+        match take_in(alloc, text, &mut draft, number, line) {
             Ok(()) => {}
             Err(refused) => return Err(refused),
         }
@@ -63,7 +73,7 @@ fn read(alloc: Global, text: &[u8]) -> Result<Draft, Refused>
     if !draft.is_opened() {
         return Err(Refused::Line {
             line: number,
-            reason: Reason::NotBuilt,
+            reason: Reason::Empty,
         });
     }
     Ok(draft)
@@ -73,16 +83,16 @@ fn read(alloc: Global, text: &[u8]) -> Result<Draft, Refused>
 fn finish(alloc: Global, text: &[u8], draft: Draft) -> Result<Scenario, OutOfMemory>
     requires short { length text.now < 4294967295 }
     requires draft { IsDraft (length text.now) draft }
-    ensures { IfOk result (λ scenario. scenario ≡ plan_in text.now draft) }
+    ensures { IfOk result (λ scenario. scenario ≡ plan_in text.now (so_far draft)) }
 {
     let source = Text::copy(alloc, text)?;
     let parts = draft.into_parts(alloc)?;
     Ok(Scenario::of(source, parts))
 }
 
-/// Reads a scenario from its text, forward and once. A text is refused at its first bad line. A line whose kind, form
-/// or values are not run yet is bad too, and `Reason::NotBuilt` is the one reason so far. Memory is taken for a copy
-/// of the text, for the volumes and for the lines of the lanes.
+/// Reads a scenario from its text, forward and once. A text is refused at its first bad line, with the first check that
+/// this does not pass. The last check of a line is that its kind, form and values are run: `Reason::NotBuilt`. Memory is
+/// taken for a copy of the text, for the volumes, for the lines of the lanes, and for each metadata document that is read.
 pub fn parse(alloc: Global, text: &[u8]) -> Result<Scenario, Refused>
     requires { length text.now < 4294967295 }
     ensures read { IfOk result (λ scenario. reading_of text.now ≡ IsScenario scenario) }

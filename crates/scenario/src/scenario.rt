@@ -5,6 +5,7 @@ ghost use Rattle.scenario.specs.Built.{IsBuilt};
 
 use crate::lane::Lane;
 use crate::lane_line::LaneLine;
+use crate::op::Op;
 use crate::parts::Parts;
 use crate::span::Span;
 use crate::volume_row::VolumeRow;
@@ -65,6 +66,29 @@ impl Scenario {
         self.volumes[v as usize]
     }
 
+    /// How many groups of volumes there are. They are numbered by their first volumes, and each volume that is run is one.
+    pub fn groups(&self) -> u32
+        ensures { result ≡ length self.now.groups }
+    {
+        self.volumes.len() as u32
+    }
+
+    /// The name of a declared area; of a volume with an area of its own, the volume's name.
+    pub fn group_name(&self, g: u32) -> Span
+        requires { g < length self.now.groups }
+        ensures { option_map (λ group. group.name) (slice_get self.now.groups g) ≡ Some result }
+    {
+        self.volumes[g as usize].name
+    }
+
+    /// The slots of a group's diff area.
+    pub fn group_slots(&self, g: u32) -> u32
+        requires { g < length self.now.groups }
+        ensures { option_map (λ group. group.slots) (slice_get self.now.groups g) ≡ Some result }
+    {
+        self.volumes[g as usize].slots
+    }
+
     /// How many lanes there are.
     pub fn lanes(&self) -> u32
         ensures count { result ≡ length self.now.lanes }
@@ -80,6 +104,32 @@ impl Scenario {
         ensures { option_map (λ l. l.name) (slice_get self.now.lanes lane) ≡ Some result }
     {
         self.lanes[lane as usize].name
+    }
+
+    /// How many lines a lane has, with the `end` that it gets without writing it.
+    pub fn lane_len(&self, lane: u32) -> u32
+        requires { lane < length self.now.lanes }
+        ensures { result ≡ length (lines_of self.now lane) }
+    {
+        self.lanes[lane as usize].lines.len() as u32
+    }
+
+    /// What line `i` of a lane says, counted from 0.
+    pub fn op(&self, lane: u32, i: u32) -> Op
+        requires lane { lane < length self.now.lanes }
+        requires line { i < length (lines_of self.now lane) }
+        ensures { option_map (λ line. line.op) (slice_get (lines_of self.now lane) i) ≡ Some result }
+    {
+        self.lanes[lane as usize].lines[i as usize].op
+    }
+
+    /// The number that line `i` of a lane has in the text; 0 for the `end` that it gets without writing it.
+    pub fn op_line(&self, lane: u32, i: u32) -> u32
+        requires lane { lane < length self.now.lanes }
+        requires line { i < length (lines_of self.now lane) }
+        ensures { option_map (λ line. line.number) (slice_get (lines_of self.now lane) i) ≡ Some result }
+    {
+        self.lanes[lane as usize].lines[i as usize].number
     }
 
     /// Line `i` of a lane, counted from 0; none where there is no such line or no such lane.

@@ -7,21 +7,27 @@ use std::test::Fail;
 const PLAIN_PATH: &str =
     "scenario 1\nvolume C 4 4\nlane a\nbegin 25\nstart\nadd C\nsnapshot\nawait\nwrite C 1 fill 7\nimage 1 C 1\nread C 1\nend\n";
 
-/// The refused line, 0 where the text is read, and 1,000,000 where memory runs out or the reason is another.
-fn refused_line(alloc: Global, text: &str) -> u32 {
-    if text.len() > 100_000 {
-        return 1_000_000;
+const DATABASE: &str =
+    r#"{"class":"22222222-2222-4222-8222-222222222222","components":[{"name":"main","path":"","selectable":true,"type":1}],"level":2,"name":"Database","source":1,"usage":3}"#;
+
+/// The refused line with its reason; none where the text is read.
+fn refusal_of(alloc: Global, text: &[u8]) -> Result<Option<(u32, Reason)>, Fail> {
+    if text.len() > 1_000_000 {
+        return Ok(None);
     }
-    match parse(alloc, text.as_bytes()) {
-        Ok(_) => 0,
-        Err(
-            Refused::Line {
-                line,
-                reason: Reason::NotBuilt,
-            },
-        ) => line,
-        Err(_) => 1_000_000,
+    match parse(alloc, text) {
+        Ok(_) => Ok(None),
+        Err(Refused::Line { line, reason }) => Ok(Some((line, reason))),
+        Err(refused) => Err(Fail::from(refused)),
     }
+}
+
+/// The reason for which the last line is refused, after lines that are read.
+fn reason_of_last(alloc: Global, before: &str, line: &str) -> Result<Option<Reason>, Fail> {
+    let mut text = before.as_bytes().to_vec(alloc)?;
+    text.extend_from_slice(line.as_bytes())?;
+    text.push(b'\n')?;
+    Ok(refusal_of(alloc, &text)?.map(|(_, reason)| reason))
 }
 
 #[test]
@@ -33,6 +39,9 @@ fn the_plain_path_is_one_volume_and_one_lane(rt: HostRuntime) -> Result<(), Fail
     assert_eq!(rt; volume.slots, 4);
     assert_eq!(rt; volume.group, 0);
     assert_eq!(rt; scenario.token(volume.name), b"C".as_slice());
+    assert_eq!(rt; scenario.groups(), 1);
+    assert_eq!(rt; scenario.group_name(0), volume.name);
+    assert_eq!(rt; scenario.group_slots(0), 4);
     assert_eq!(rt; scenario.lanes(), 1);
     assert_eq!(rt; scenario.lane_name(0), Span { start: 29, end: 30 });
     for (i, (number, op)) in [
@@ -90,73 +99,212 @@ fn the_plain_path_is_one_volume_and_one_lane(rt: HostRuntime) -> Result<(), Fail
 }
 
 #[test]
-fn the_first_bad_line_is_told(rt: HostRuntime) {
-    for (text, line) in [
-        ("", 1),
-        ("# nothing\n\n", 3),
-        ("scenario 1", 1),
-        ("scenario 1\n", 0),
-        ("\n# a comment\nscenario 1\n\n", 0),
-        ("scenario 1\n#\ta tab\n", 2),
-        ("scenario 1\n# no newline", 2),
-        ("scenario 2\n", 1),
-        ("scenario 01\n", 1),
-        ("scenario  1\n", 1),
-        ("scenario 1 \n", 1),
-        (" scenario 1\n", 1),
-        ("scenario 1\nscenario 1\n", 2),
-        ("volume C 4 4\nscenario 1\n", 1),
-        ("scenario 1\nvolume C 4 3\n", 2),
-        ("scenario 1\nvolume C 4\n", 2),
-        ("scenario 1\nvolume C 01 1\n", 2),
-        ("scenario 1\nvolume C 0 1\n", 2),
-        ("scenario 1\nvolume C 65536 65536\n", 0),
-        ("scenario 1\nvolume C 4 65537\n", 2),
-        ("scenario 1\nvolume C 4 99999999999999999999999\n", 2),
-        ("scenario 1\nvolume 9 1 1\n", 2),
-        ("scenario 1\nvolume a.b-c_9 1 1\n", 0),
-        ("scenario 1\nvolume a:b 1 1\n", 2),
+fn the_first_bad_line_is_told(rt: HostRuntime) -> Result<(), Fail> {
+    for (text, line, reason) in [
+        ("", 1, Reason::Empty),
+        ("# nothing\n\n", 3, Reason::Empty),
+        ("scenario 1", 1, Reason::NoNewline),
+        ("scenario 1\t", 1, Reason::BadByte),
+        ("scenario 1\n#\ta tab\n", 2, Reason::BadByte),
+        ("scenario 1\n# no newline", 2, Reason::NoNewline),
+        ("scenario 2\n", 1, Reason::OutOfRange),
+        ("scenario 01\n", 1, Reason::BadNumber),
+        ("scenario  1\n", 1, Reason::BadCount),
+        ("scenario 1 \n", 1, Reason::BadCount),
+        (" scenario 1\n", 1, Reason::UnknownWord),
+        ("scenario 1\nscenario 1\n", 2, Reason::Misplaced),
+        ("volume C 4 4\nscenario 1\n", 1, Reason::Misplaced),
         (
-            "scenario 1\nvolume abcdefghijklmnopqrstuvwxyz012345 1 1\n",
-            0,
+            "scenario 1\nlane a\nread C 1\nfinish\n\tx\n",
+            3,
+            Reason::UnknownName,
         ),
         (
-            "scenario 1\nvolume abcdefghijklmnopqrstuvwxyz0123456 1 1\n",
-            2,
-        ),
-        ("scenario 1\nvolume C 4 4\nvolume D 4 4\n", 3),
-        ("scenario 1\nlane a\nvolume C 4 4\n", 3),
-        ("scenario 1\nwriter w {}\n", 2),
-        ("scenario 1\nlane a as x\n", 2),
-        ("scenario 1\nlane a\nlane b\n", 3),
-        ("scenario 1\nstart\n", 2),
-        ("scenario 1\nlane a\nstart now\n", 3),
-        ("scenario 1\nlane a\nbegin 9\n", 3),
-        ("scenario 1\nlane a\nbegin 25\nend\nbegin 25\n", 5),
-        ("scenario 1\nvolume C 4 4\nlane a\ntick 5\n", 4),
-        ("scenario 1\nvolume C 4 4\nlane a\nwrite C 4 fill 1\n", 4),
-        ("scenario 1\nvolume C 4 4\nlane a\nwrite C 3 fill 255\n", 0),
-        ("scenario 1\nvolume C 4 4\nlane a\nwrite C 3 fill 256\n", 4),
-        ("scenario 1\nvolume C 4 4\nlane a\nwrite C 3 stamp 1\n", 4),
-        ("scenario 1\nvolume C 4 4\nlane a\nwrite D 3 fill 1\n", 4),
-        ("scenario 1\nvolume C 4 4\nlane a\nread c 3\n", 4),
-        ("scenario 1\nvolume C 4 4\nlane a\nimage 0 C 1\n", 4),
-        (
-            "scenario 1\nvolume C 4 4\nlane a\nimage 4294967295 C 1\n",
-            0,
-        ),
-        (
-            "scenario 1\nvolume C 4 4\nlane a\nimage 4294967296 C 1\n",
-            4,
-        ),
-        ("scenario 1\nvolume C 4 4\nlane a\nimage 1 C\n", 4),
-        (
-            "scenario 1\nvolume C 4 4\nlane C\nadd C\nadd C\nfinish\n\tx\n",
-            6,
+            "scenario 1\nlane a\nbegin 25\nend\nbegin 25\n",
+            5,
+            Reason::NotBuilt,
         ),
     ] {
-        assert_eq!(rt; refused_line(rt.alloc(), text), line, "{text}");
+        assert_eq!(rt;
+            refusal_of(rt.alloc(), text.as_bytes())?,
+            Some((line, reason)),
+            "{text}"
+        );
     }
+    Ok(())
+}
+
+#[test]
+fn a_declaration_is_refused_by_its_first_failed_check(rt: HostRuntime) -> Result<(), Fail> {
+    let alloc = rt.alloc();
+    for (line, reason) in [
+        ("\tx", Some(Reason::BadByte)),
+        ("", None),
+        ("areas G 4", Some(Reason::UnknownWord)),
+        ("read C 1", Some(Reason::Misplaced)),
+        ("area G", Some(Reason::BadCount)),
+        ("area 9 4", Some(Reason::BadName)),
+        ("area G x", Some(Reason::BadNumber)),
+        ("area G 65537", Some(Reason::OutOfRange)),
+        ("area G 65536", Some(Reason::NotBuilt)),
+        ("volume C 4", Some(Reason::BadCount)),
+        ("volume a:b 4 4", Some(Reason::BadName)),
+        (
+            "volume abcdefghijklmnopqrstuvwxyz0123456 1 1",
+            Some(Reason::BadName),
+        ),
+        ("volume abcdefghijklmnopqrstuvwxyz012345 1 1", None),
+        ("volume a.b-c_9 1 1", None),
+        ("volume 9 x x", Some(Reason::BadName)),
+        ("volume C x 9999999", Some(Reason::BadNumber)),
+        ("volume C 0 x", Some(Reason::OutOfRange)),
+        ("volume C 4 01", Some(Reason::BadNumber)),
+        (
+            "volume C 4 99999999999999999999999999999999999999999",
+            Some(Reason::OutOfRange),
+        ),
+        (
+            "volume C 4 9999999999999999999999999999999999999999x",
+            Some(Reason::BadNumber),
+        ),
+        ("volume C 65536 65536", None),
+        ("volume C 65537 65536", Some(Reason::OutOfRange)),
+        ("volume C 4 65537", Some(Reason::OutOfRange)),
+        ("volume C 4 3", Some(Reason::NotBuilt)),
+        ("volume C 4 in", Some(Reason::BadNumber)),
+        ("volume C 0 on G", Some(Reason::OutOfRange)),
+        ("volume C 4 on G", Some(Reason::UnknownWord)),
+        ("volume C 4 in G", Some(Reason::UnknownName)),
+        ("writer w", Some(Reason::BadCount)),
+        ("writer w ", Some(Reason::BadCount)),
+        ("writer  {}", Some(Reason::BadName)),
+        ("writer w {} {}", Some(Reason::BadDocument)),
+        ("answer w freeze 1", Some(Reason::BadCount)),
+        ("answer w freeze 1 lost", Some(Reason::UnknownName)),
+        (
+            "answer w freeze 1 veto VSS_E_WRITERERROR_TIMEOUT",
+            Some(Reason::UnknownName),
+        ),
+        ("lane", Some(Reason::BadCount)),
+        ("lane a as", Some(Reason::BadCount)),
+        ("lane 9 is x", Some(Reason::BadName)),
+        ("lane a is x", Some(Reason::UnknownWord)),
+        ("lane a as x", Some(Reason::UnknownName)),
+        ("lane a", None),
+    ] {
+        assert_eq!(rt;
+            reason_of_last(alloc, "scenario 1\n", line)?,
+            reason,
+            "{line}"
+        );
+    }
+    for (line, reason) in [
+        ("volume C 1 1", Some(Reason::DoubleName)),
+        ("volume D 1 0", Some(Reason::TooMany)),
+        ("area C 1", Some(Reason::TooMany)),
+        ("area C 0", Some(Reason::NotBuilt)),
+        ("lane C", None),
+    ] {
+        let before = "scenario 1\nvolume C 65536 65536\n";
+        assert_eq!(rt; reason_of_last(alloc, before, line)?, reason, "{line}");
+    }
+    let described = reason_of_last(alloc, "scenario 1\nwriter w ", DATABASE)?;
+    assert_eq!(rt; described, Some(Reason::NotBuilt));
+    Ok(())
+}
+
+#[test]
+fn a_lane_line_is_refused_by_its_first_failed_check(rt: HostRuntime) -> Result<(), Fail> {
+    for (line, reason) in [
+        ("scenario 1", Some(Reason::Misplaced)),
+        ("area G 1", Some(Reason::Misplaced)),
+        ("volume D 1 1", Some(Reason::Misplaced)),
+        ("writer w {}", Some(Reason::Misplaced)),
+        ("answer w freeze 1 lost", Some(Reason::Misplaced)),
+        ("lane a", Some(Reason::DoubleName)),
+        ("lane C", Some(Reason::NotBuilt)),
+        ("write C 3 fill", Some(Reason::BadCount)),
+        ("write D x full z", Some(Reason::UnknownName)),
+        ("write C x full z", Some(Reason::BadNumber)),
+        ("write C 4 full z", Some(Reason::OutOfRange)),
+        ("write C 3 full z", Some(Reason::UnknownWord)),
+        ("write C 3 fill z", Some(Reason::BadNumber)),
+        ("write C 3 fill 256", Some(Reason::OutOfRange)),
+        ("write C 3 fill 255", None),
+        (
+            "write C 3 stamp 18446744073709551616",
+            Some(Reason::OutOfRange),
+        ),
+        (
+            "write C 3 stamp 18446744073709551615",
+            Some(Reason::NotBuilt),
+        ),
+        ("read C", Some(Reason::BadCount)),
+        ("read c 3", Some(Reason::UnknownName)),
+        ("read C 4", Some(Reason::OutOfRange)),
+        ("read C 3", None),
+        ("image 1", Some(Reason::BadCount)),
+        ("image x D", Some(Reason::BadNumber)),
+        ("image 0 D", Some(Reason::OutOfRange)),
+        ("image 1 D", Some(Reason::UnknownName)),
+        ("image 1 C", Some(Reason::NotBuilt)),
+        ("image 4294967296 C 1", Some(Reason::OutOfRange)),
+        ("image 4294967295 C 4", Some(Reason::OutOfRange)),
+        ("image 4294967295 C 3", None),
+        ("query", Some(Reason::BadCount)),
+        ("query D", Some(Reason::UnknownName)),
+        ("query C", Some(Reason::NotBuilt)),
+        ("properties 1", Some(Reason::BadCount)),
+        ("properties 0 D", Some(Reason::OutOfRange)),
+        ("properties 1 D", Some(Reason::UnknownName)),
+        ("properties 1 C", Some(Reason::NotBuilt)),
+        ("revert 1", Some(Reason::BadCount)),
+        ("revert 0 D", Some(Reason::OutOfRange)),
+        ("revert 1 D", Some(Reason::UnknownName)),
+        ("revert 1 C", Some(Reason::NotBuilt)),
+        ("delete", Some(Reason::BadCount)),
+        ("delete 0", Some(Reason::OutOfRange)),
+        ("delete 1", Some(Reason::NotBuilt)),
+        ("delete 1 D", Some(Reason::UnknownName)),
+        ("delete 1 C", Some(Reason::NotBuilt)),
+        ("tick", Some(Reason::BadCount)),
+        ("tick -1", Some(Reason::BadNumber)),
+        ("tick 0", Some(Reason::OutOfRange)),
+        ("tick 1000000001", Some(Reason::OutOfRange)),
+        ("tick 1000000000", Some(Reason::NotBuilt)),
+        ("begin", Some(Reason::BadCount)),
+        ("begin x all", Some(Reason::BadNumber)),
+        ("begin 4294967296 x", Some(Reason::OutOfRange)),
+        ("begin 4294967295 x", Some(Reason::UnknownWord)),
+        ("begin 25 all", Some(Reason::NotBuilt)),
+        ("begin 9", Some(Reason::NotBuilt)),
+        ("begin 25", None),
+        ("disable", Some(Reason::BadCount)),
+        ("disable w", Some(Reason::UnknownName)),
+        ("component w ", Some(Reason::BadCount)),
+        ("component w main\\log 1", Some(Reason::UnknownName)),
+        ("add C D", Some(Reason::BadCount)),
+        ("add D", Some(Reason::UnknownName)),
+        ("add C", None),
+        ("gather now", Some(Reason::BadCount)),
+        ("gather", Some(Reason::NotBuilt)),
+        ("document", Some(Reason::NotBuilt)),
+        ("prepare", Some(Reason::NotBuilt)),
+        ("status", Some(Reason::NotBuilt)),
+        ("complete", Some(Reason::NotBuilt)),
+        ("abort", Some(Reason::NotBuilt)),
+        ("start ", Some(Reason::BadCount)),
+        ("start", None),
+        ("snapshot", None),
+        ("await", None),
+        ("end", None),
+        ("# end", None),
+        ("finish", Some(Reason::UnknownWord)),
+    ] {
+        let before = "scenario 1\nvolume C 4 4\nlane a\n";
+        assert_eq!(rt; reason_of_last(rt.alloc(), before, line)?, reason, "{line}");
+    }
+    Ok(())
 }
 
 #[test]
@@ -192,7 +340,7 @@ fn lines_are_counted_up_to_their_limits(rt: HostRuntime) -> Result<(), Fail> {
         assert!(rt; text.len() < 1_000_000);
         let refused = Refused::Line {
             line: most + 3,
-            reason: Reason::NotBuilt,
+            reason: Reason::TooMany,
         };
         assert_eq!(rt; parse(rt.alloc(), &text).err(), Some(refused), "{line}");
     }

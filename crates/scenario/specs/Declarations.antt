@@ -1,0 +1,172 @@
+-- The lines before the lanes, and the line that begins a lane. The fields are checked from left to right, then the limits.
+-- (This project's own format and limits.)
+use Rattle.std.specs.Prelude.{ℕ, ◌+◌, ◌&&◌, Bool, List, [], length, codes, nat_le, nat_lt, if◌then◌else◌, find, Option, Some, None, is_some, ok_or, Result, Ok, Err, slice_get}
+use Rattle.vss_names.specs.declared.order.Order.{Order}
+use Rattle.vss_names.specs.declared.writer_error.WriterError.{WriterError}
+use Rattle.vss_names.specs.Order.{order_of_name}
+use Rattle.vss_names.specs.WriterError.{error_of_name}
+use Rattle.writer_meta.specs.Metadata.{Meta}
+use Rattle.writer_meta.specs.Refusal.{Refusal}
+use Rattle.writer_meta.specs.Document.{metadata_in}
+use Rattle.writer_calls.specs.declared.answer.Answer.{Answer}
+use Rattle.writer_calls.specs.declared.answer.Answer.TheVariants.{Veto}
+use Rattle.writer_calls.specs.declared.scripted.Scripted.{Scripted}
+use Rattle.writer_calls.specs.Script.{is_row_for}
+use Rattle.scenario.specs.declared.reason.Reason.{Reason}
+use Rattle.scenario.specs.declared.reason.Reason.TheVariants.{UnknownWord, BadCount, BadName, DoubleName, UnknownName, BadDocument, TooMany}
+use Rattle.scenario.specs.declared.span.Span.{Span}
+use Rattle.scenario.specs.declared.volume_row.VolumeRow.{VolumeRow}
+use Rattle.scenario.specs.declared.fields.Fields.{Fields}
+use Rattle.scenario.specs.declared.fields.Fields.TheVariants.{One, Two, Three, Four, Five}
+use Rattle.scenario.specs.Plan.{GroupPlan, WriterPlan, script_in}
+use Rattle.scenario.specs.Fields.{bytes_of}
+use Rattle.scenario.specs.Names.{is_name, area_named, volume_named, writer_named, lane_named}
+use Rattle.scenario.specs.Ops.{◌>>=◌, number_field, writer_field, is_word}
+use Rattle.scenario.specs.SoFar.{SoFar, Saying, group_for, answer_count}
+use Rattle.scenario.specs.SoFar as saying
+
+-- a new name, where `taken` says whether one of its kind has it
+unfoldable pub name_field : List ℕ → Bool → Span → Result Span Reason
+name_field text taken span = if is_name (bytes_of text span) then (if taken then Err DoubleName else Ok span) else Err BadName
+
+-- `scenario 1`
+unfoldable pub opening_of : List ℕ → Fields → Result Saying Reason
+opening_of text (One version) = number_field text 1 1 version >>= (λ n. Ok saying.Opening)
+opening_of text _ = Err BadCount
+
+-- ## areas and volumes
+
+-- at most 131,072 blocks and slots together
+abbrev pub has_space : SoFar → ℕ → Bool
+has_space d size = nat_le (d.size + size) 131072
+
+-- `area name slots`
+abbrev pub area_of : List ℕ → SoFar → Fields → Result Saying Reason
+area_of text d (Two name slots) = do
+  n ← name_field text (is_some (area_named text d.areas (bytes_of text name))) name
+  s ← number_field text 0 65536 slots
+  if nat_lt (length d.areas) 128 && has_space d s then Ok (saying.Area (record { name = n; slots = s })) else Err TooMany
+area_of text d _ = Err BadCount
+
+-- at most 128 volumes
+abbrev pub has_volume_room : SoFar → ℕ → Bool
+has_volume_room d size = nat_lt (length d.volumes) 128 && has_space d size
+
+-- the name of a volume that is new, and its blocks
+abbrev pub new_volume : List ℕ → SoFar → Span → Result Span Reason
+new_volume text d name = name_field text (is_some (volume_named text d.volumes (bytes_of text name))) name
+
+abbrev pub blocks_field : List ℕ → Span → Result ℕ Reason
+blocks_field text blocks = number_field text 1 65536 blocks
+
+abbrev pub own_row : SoFar → Span → ℕ → ℕ → VolumeRow
+own_row d name blocks slots = record { name = name; blocks = blocks; slots = slots; group = length d.groups }
+
+-- `volume name blocks slots`
+unfoldable pub own_volume_of : List ℕ → SoFar → Span → Span → Span → Result Saying Reason
+own_volume_of text d name blocks slots = do
+  n ← new_volume text d name
+  b ← blocks_field text blocks
+  s ← number_field text 0 65536 slots
+  if has_volume_room d (b + s) then Ok (saying.OwnVolume (own_row d n b s)) else Err TooMany
+
+abbrev pub shared_row : SoFar → Span → ℕ → GroupPlan → VolumeRow
+shared_row d name blocks area = record { name = name; blocks = blocks; slots = area.slots; group = group_for d.groups area }
+
+-- a declared area with the place that its name was found at
+abbrev pub area_at : Option GroupPlan → Result GroupPlan Reason
+area_at found = ok_or found UnknownName
+
+abbrev pub area_in : List GroupPlan → Option ℕ → Option GroupPlan
+area_in areas None = None
+area_in areas (Some a) = slice_get areas a
+
+abbrev pub area_field : List ℕ → List GroupPlan → Span → Result GroupPlan Reason
+area_field text areas span = area_at (area_in areas (area_named text areas (bytes_of text span)))
+
+-- `volume name blocks in area`
+unfoldable pub shared_volume_of : List ℕ → SoFar → Span → Span → Span → Span → Result Saying Reason
+shared_volume_of text d name blocks kind area = do
+  n ← new_volume text d name
+  b ← blocks_field text blocks
+  if is_word text kind (codes "in")
+      then (area_field text d.areas area >>= (λ a. if has_volume_room d b then Ok (saying.SharedVolume (shared_row d n b a) a) else Err TooMany))
+      else Err UnknownWord
+
+abbrev pub volume_of : List ℕ → SoFar → Fields → Result Saying Reason
+volume_of text d (Three name blocks slots) = own_volume_of text d name blocks slots
+volume_of text d (Four name blocks kind area) = shared_volume_of text d name blocks kind area
+volume_of text d _ = Err BadCount
+
+-- ## writers and their answers
+
+abbrev pub described : Result Meta Refusal → Result Meta Reason
+described (Ok meta) = Ok meta
+described (Err refusal) = Err BadDocument
+
+abbrev pub document_field : List ℕ → Span → Result Meta Reason
+document_field text span = described (metadata_in (bytes_of text span))
+
+-- `writer name rest`, the rest a metadata document; at most 64 writers
+abbrev pub writer_of : List ℕ → SoFar → Fields → Result Saying Reason
+writer_of text d (Two name document) = do
+  n ← name_field text (is_some (writer_named text d.writers (bytes_of text name))) name
+  meta ← document_field text document
+  if nat_lt (length d.writers) 64 then Ok (saying.Writer (record { name = n; meta = meta; script = [] })) else Err TooMany
+writer_of text d _ = Err BadCount
+
+abbrev pub order_field : List ℕ → Span → Result Order Reason
+order_field text span = ok_or (order_of_name (bytes_of text span)) UnknownWord
+
+abbrev pub code_field : List ℕ → Span → Result WriterError Reason
+code_field text span = ok_or (error_of_name (bytes_of text span)) UnknownWord
+
+-- which order of a writer an `answer` line speaks of: no line before it does
+abbrev pub nth_field : List ℕ → List WriterPlan → ℕ → Order → Span → Result ℕ Reason
+nth_field text writers w order span =
+    number_field text 1 2000 span >>= (λ n. if is_some (find (is_row_for order n) (script_in (slice_get writers w))) then Err DoubleName else Ok n)
+
+-- at most 10,000 `answer` lines
+abbrev pub answer_if : SoFar → ℕ → Scripted → Result Saying Reason
+answer_if d w row = if nat_lt (answer_count d.writers) 10000 then Ok (saying.Answer w row) else Err TooMany
+
+abbrev pub row_for : Order → ℕ → Option Answer → Scripted
+row_for order nth answer = record { order = order; nth = nth; answer = answer }
+
+-- `answer writer order nth lost`, `answer writer order nth veto code`
+abbrev pub answer_of : List ℕ → SoFar → Fields → Result Saying Reason
+answer_of text d (Four writer order nth kind) = do
+  w ← writer_field text d.writers writer
+  o ← order_field text order
+  n ← nth_field text d.writers w o nth
+  if is_word text kind (codes "lost") then answer_if d w (row_for o n None) else Err UnknownWord
+answer_of text d (Five writer order nth kind code) = do
+  w ← writer_field text d.writers writer
+  o ← order_field text order
+  n ← nth_field text d.writers w o nth
+  if is_word text kind (codes "veto") then (code_field text code >>= (λ error. answer_if d w (row_for o n (Some (Veto error))))) else Err UnknownWord
+answer_of text d _ = Err BadCount
+
+-- ## lanes
+
+abbrev pub new_lane : List ℕ → SoFar → Span → Result Span Reason
+new_lane text d name = name_field text (is_some (lane_named text d.lanes (bytes_of text name))) name
+
+-- at most 64 lanes
+abbrev pub lane_if : SoFar → Span → Option ℕ → Result Saying Reason
+lane_if d name whom = if nat_lt (length d.lanes) 64 then Ok (saying.Lane name whom) else Err TooMany
+
+-- `lane name`
+unfoldable pub free_lane_of : List ℕ → SoFar → Span → Result Saying Reason
+free_lane_of text d name = new_lane text d name >>= (λ n. lane_if d n None)
+
+-- `lane name as writer`
+unfoldable pub acting_lane_of : List ℕ → SoFar → Span → Span → Span → Result Saying Reason
+acting_lane_of text d name kind writer = do
+  n ← new_lane text d name
+  if is_word text kind (codes "as") then (writer_field text d.writers writer >>= (λ w. lane_if d n (Some w))) else Err UnknownWord
+
+abbrev pub lane_of : List ℕ → SoFar → Fields → Result Saying Reason
+lane_of text d (One name) = free_lane_of text d name
+lane_of text d (Three name kind writer) = acting_lane_of text d name kind writer
+lane_of text d _ = Err BadCount

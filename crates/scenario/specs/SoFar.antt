@@ -1,0 +1,120 @@
+-- What the lines of a text say that were read so far, and what one more line adds. (This project's own format.)
+use Rattle.std.specs.Prelude.{ℕ, ◌+◌, ◌-◌, ◌++◌, ◌==◌, Bool, true, false, List, [], ◌∷◌, length, map, sum, Option, Some, None, if◌then◌else◌}
+use Rattle.std.specs.List.{position_or_len}
+use Rattle.writer_calls.specs.declared.scripted.Scripted.{Scripted}
+use Rattle.scenario.specs.declared.op.Op.TheVariants.{End}
+use Rattle.scenario.specs.declared.span.Span.{Span}
+use Rattle.scenario.specs.declared.volume_row.VolumeRow.{VolumeRow}
+use Rattle.scenario.specs.Plan.{Plan, GroupPlan, WriterPlan, LaneLine, LanePlan}
+use Rattle.scenario.specs.Bounds.{ends_sessions, agenda_lines}
+
+pub record SoFar : Type 0 where
+  -- the `scenario` line was read
+  pub opened : Bool
+  -- those that `area` lines declare
+  pub areas : List GroupPlan
+  pub volumes : List VolumeRow
+  -- the areas that volumes use, by the first volume of each
+  pub groups : List GroupPlan
+  -- the blocks of all volumes and the slots of all areas together
+  pub size : ℕ
+  pub writers : List WriterPlan
+  -- each with the lines that were read
+  pub lanes : List LanePlan
+
+abbrev pub nothing : SoFar
+nothing = record { opened = false; areas = []; volumes = []; groups = []; size = 0; writers = []; lanes = [] }
+
+-- what one line says
+pub data Saying : Type 0 where
+  -- nothing: the line is skipped
+  Skipped : Saying
+  -- the `scenario` line
+  Opening : Saying
+  Area : GroupPlan → Saying
+  -- a volume with an area of its own
+  OwnVolume : VolumeRow → Saying
+  -- a volume in a declared area
+  SharedVolume : VolumeRow → GroupPlan → Saying
+  Writer : WriterPlan → Saying
+  -- a row of a writer's script
+  Answer : ℕ → Scripted → Saying
+  -- a lane begins
+  Lane : Span → Option ℕ → Saying
+  -- a line of the lane at hand
+  Line : LaneLine → Saying
+
+-- ## parts
+
+-- a volume alone is a group, which has the volume's name
+abbrev pub own_group : VolumeRow → GroupPlan
+own_group r = record { name = r.name; slots = r.slots }
+
+-- the number of a declared area's group: that of its first volume, or the next number. A name stands in one place of the
+-- text, which tells declared areas apart.
+abbrev pub group_for : List GroupPlan → GroupPlan → ℕ
+group_for groups area = position_or_len (λ (g : GroupPlan). g.name.start == area.name.start) groups
+
+-- the groups with that of a volume in a declared area, whose group has this number
+abbrev pub with_group : ℕ → GroupPlan → List GroupPlan → List GroupPlan
+with_group g area groups = if g == length groups then groups ++ area ∷ [] else groups
+
+-- a row more in the script of writer w
+abbrev pub with_answer : ℕ → Scripted → List WriterPlan → List WriterPlan
+with_answer w row [] = []
+with_answer w row (writer ∷ writers) =
+    if w == 0 then record writer { script = writer.script ++ row ∷ [] } ∷ writers else writer ∷ with_answer (w - 1) row writers
+
+-- a line more in the last lane
+abbrev pub with_line : LaneLine → List LanePlan → List LanePlan
+with_line line [] = []
+with_line line (lane ∷ []) = record lane { lines = lane.lines ++ line ∷ [] } ∷ []
+with_line line (lane ∷ next ∷ lanes) = lane ∷ with_line line (next ∷ lanes)
+
+-- ## one line more
+
+abbrev pub after : SoFar → Saying → SoFar
+after d Skipped = d
+after d Opening = record d { opened = true }
+after d (Area area) = record d { areas = d.areas ++ area ∷ []; size = d.size + area.slots }
+after d (OwnVolume row) = record d { volumes = d.volumes ++ row ∷ []; groups = d.groups ++ own_group row ∷ []; size = d.size + (row.blocks + row.slots) }
+after d (SharedVolume row area) = record d { volumes = d.volumes ++ row ∷ []; groups = with_group row.group area d.groups; size = d.size + row.blocks }
+after d (Writer writer) = record d { writers = d.writers ++ writer ∷ [] }
+after d (Answer w row) = record d { writers = with_answer w row d.writers }
+after d (Lane name whom) = record d { lanes = d.lanes ++ record { name = name; acts_as = whom; lines = [] } ∷ [] }
+after d (Line line) = record d { lanes = with_line line d.lanes }
+
+-- ## counts
+
+abbrev pub line_count : List LanePlan → ℕ
+line_count lanes = sum (map (λ (l : LanePlan). length l.lines) lanes)
+
+-- the lines that may begin an agenda, over all lanes
+abbrev pub agenda_count : List LanePlan → ℕ
+agenda_count lanes = sum (map (λ (l : LanePlan). agenda_lines l.lines) lanes)
+
+abbrev pub answer_count : List WriterPlan → ℕ
+answer_count writers = sum (map (λ (w : WriterPlan). length w.script) writers)
+
+-- ## the end
+
+-- the `end` that a lane gets without writing it
+abbrev pub implied_end : LaneLine
+implied_end = record { number = 0; op = End }
+
+-- a lane that has a `begin` and no `end` after its last `begin` gets one
+abbrev pub closed : List LaneLine → List LaneLine
+closed lines = if ends_sessions lines then lines else lines ++ implied_end ∷ []
+
+abbrev pub closed_lane : LanePlan → LanePlan
+closed_lane lane = record lane { lines = closed lane.lines }
+
+-- what all lines say together
+abbrev pub plan_in : List ℕ → SoFar → Plan
+plan_in text d = record {
+  source = text;
+  volumes = d.volumes;
+  groups = d.groups;
+  writers = d.writers;
+  lanes = map closed_lane d.lanes;
+}

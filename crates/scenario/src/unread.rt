@@ -1,0 +1,9 @@
+use crate::reason::Reason;
+
+/// Why a line is not taken.
+#[derive(Clone, Copy, Debug, PartialEq, Eq)]
+pub(crate) enum Unread {
+    /// The first check that it does not pass.
+    Bad(Reason),
+    OutOfMemory,
+}
