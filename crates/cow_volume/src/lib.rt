@@ -17,8 +17,6 @@ mod reads;
 mod renewing;
 mod revert_fault;
 mod reverts;
-#[cfg(test)]
-mod tests;
 mod write_fault;
 mod written;
 

@@ -42,5 +42,3 @@ pub use scenario::Scenario;
 pub use span::Span;
 pub use volume_row::VolumeRow;
 
-#[cfg(test)]
-mod tests;

@@ -11,7 +11,7 @@ use Rattle.vss_names.specs.declared.set_outcome.SetOutcome.TheVariants.{Running,
 use Rattle.writer_state.specs.declared.said.Said.{Said}
 use Rattle.write_history.specs.declared.mark.Mark.{Mark}
 use Rattle.write_history.specs.declared.mark.Mark.TheVariants.{Clean, Fault, FaultAfter}
-use Rattle.write_history.specs.History.{Write, Image, History, point_in, names, blocks_named, dropped, written, reverted, reverted_in_part, after_set, cut as history_cut}
+use Rattle.write_history.specs.History.{Write, Image, History, point_in, names, blocks_named, dropped, written, reverted, reverted_in_part, after_set, cut as history_cut, AreLater, AreInTime}
 use Rattle.write_history.specs.Slots.{Placed, gone_up_to, named, used_by}
 use Rattle.set_agenda.specs.declared.group.Group.{Group}
 use Rattle.set_agenda.specs.declared.group.Group.TheVariants.{Hold, Release}
@@ -28,7 +28,7 @@ use Rattle.vss_model.specs.Steps.{answered, cut_if, cut_each, row_cut, cut_set, 
 use Rattle.vss_model.specs.Acts.{Act, after, state}
 use Rattle.vss_model.specs.Cut.{is_provider, is_cut_group}
 use Rattle.vss_model.specs.Laws.{IsKeptByWrites}
-use Rattle.vss_model.specs.Facts.{AreLater, AreInTime, IsOrderly}
+use Rattle.vss_model.specs.Facts.{IsOrderly}
 use Rattle.vss_model.proofs.Rule.{IsKeptButSteps, but_steps, on_after_steps, working_of}
 use Rattle.vss_model.proofs.Appending.{state-append}
 use Rattle.vss_model.proofs.Orderly.{true_not_false, find-map, find-settled_over, find-settled_running}

@@ -14,7 +14,7 @@ use Rattle.writer_state.specs.declared.said.Said.{Said}
 use Rattle.writer_state.specs.declared.said.Said.TheVariants.{Ok}
 use Rattle.write_history.specs.declared.mark.Mark.{Mark}
 use Rattle.write_history.specs.declared.mark.Mark.TheVariants.{Clean, Fault, FaultAfter}
-use Rattle.write_history.specs.History.{Write, Image, History, content, last_bytes, fresh, point_in, dropped, written, reverted}
+use Rattle.write_history.specs.History.{Write, Image, History, content, last_bytes, fresh, point_in, dropped, written, reverted, AreLater, AreInTime}
 use Rattle.block_data.specs.Runs.{zeros}
 use Rattle.set_agenda.specs.declared.group.Group.{Group}
 use Rattle.set_agenda.specs.declared.group.Group.TheVariants.{Cut}
@@ -32,7 +32,7 @@ use Rattle.vss_model.specs.Sessions.{begin_in, has_no_volume, start_set, new_set
 use Rattle.vss_model.specs.Steps.{answered, cut_if as history_cut_if, cut_each, row_cut, cut_set, is_flush, is_failed_step, stepped_as, stepped, ticked, later}
 use Rattle.vss_model.specs.Acts.{Act, after, state}
 use Rattle.vss_model.specs.Laws.{IsKeptByWrites}
-use Rattle.vss_model.specs.Facts.{AreLater, AreInTime, NumberedFrom, OverButNewest, IsOrderly}
+use Rattle.vss_model.specs.Facts.{NumberedFrom, OverButNewest, IsOrderly}
 use Rattle.vss_model.specs.Cut.{is_provider, is_cut_group, is_set, is_cut_of, cut_if, cut_from, cut, IsShownAt, IsCutAt}
 use Rattle.vss_model.proofs.Rule.{IsKeptButSteps, on_after_steps, working_of}
 use Rattle.vss_model.proofs.Appending.{state-append}

@@ -3,7 +3,7 @@ use Rattle.std.proofs.Common.{◌≡◌, ℕ, zero, suc, ◌+◌, ◌<◌, ◌�
 use Rattle.std.specs.Prelude.{slice_get, filter, find, not, nat_lt, unwrap_or, ◌&&◌, ◌||◌, if◌then◌else◌, All}
 use Rattle.std.specs.List.{range_with_len}
 use Rattle.std.proofs.lemmas.Bool.Decides.{nat_tests}
-use Rattle.write_history.specs.History.{Write, History, Image, names, after_set}
+use Rattle.write_history.specs.History.{Write, History, Image, names, after_set, AreInTime}
 use Rattle.write_history.specs.Slots.{used, lacks_slot, needs_slot, gone_up_to, evicted_up_to, writes_since}
 use Rattle.scenario.specs.declared.volume_row.VolumeRow.{VolumeRow}
 use Rattle.scenario.specs.Plan.{Plan, blocks_in, slots_in, placed, placed_in}
@@ -13,7 +13,7 @@ use Rattle.vss_model.specs.State.{SetRow, in_progress, history_in, has_image}
 use Rattle.vss_model.specs.Images.{cleared, has_lost_image, set_loses_image}
 use Rattle.vss_model.specs.Acts.{Act, state}
 use Rattle.vss_model.specs.Causes.{loses_own_image}
-use Rattle.vss_model.specs.Facts.{NumberedFrom, AreLive, AllLive, AreInTime, is_live, has_failed}
+use Rattle.vss_model.specs.Facts.{NumberedFrom, AreLive, AllLive, is_live, has_failed}
 use Rattle.vss_model.proofs.OneCut.{images_in_time}
 use Rattle.vss_model.proofs.OrderlyActs.{orderly}
 

@@ -108,16 +108,6 @@ holds_for n copies = list_any (λ c. c.set == n) copies
 
 -- ## images in time
 
--- the images after one are of later sets, and have points that are no less
-abbrev pub AreLater : Image → List Image → Type 0
-AreLater i [] = Unit {0}
-AreLater i (j ∷ js) = (i.set < j.set) × (i.point ≤ j.point) × AreLater i js
-
--- images rise in set, their points do not fall, and none is past the end of so many effective writes
-abbrev pub AreInTime : ℕ → List Image → Type 0
-AreInTime writes [] = Unit {0}
-AreInTime writes (i ∷ images) = (i.point ≤ writes) × AreLater i images × AreInTime writes images
-
 -- the image of set n, with point p, is the last of these
 pub record IsNewest (n p : ℕ) (images : List Image) : Type 0 where
   pub older : List Image

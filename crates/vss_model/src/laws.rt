@@ -3,7 +3,7 @@
 ghost use Rattle.std.specs.Prelude.{slice_get, is_some, ◌⊎◌, length, drop, ◌≡◌, ◌<◌, ◌≤◌, ◌+◌, ◌++◌, ◌∷◌, ◌&&◌, [], true, false, Bool, ℕ, List, Some, None};
 ghost use Rattle.write_history.specs.declared.move_item.Move.{Move};
 ghost use Rattle.scenario.specs.Plan.{Plan, lines_of};
-ghost use Rattle.write_history.specs.History.{content, point_in};
+ghost use Rattle.write_history.specs.History.{content, point_in, AreInTime};
 ghost use Rattle.write_history.specs.Slots.{Placed, copies, used_by};
 ghost use Rattle.set_agenda.specs.declared.group.Group.TheVariants.{Hold, Cut, Release};
 ghost use Rattle.set_agenda.specs.Agenda.{Agenda, plain, open_group, has_said, is_among, is_asking, is_working, next_member};
@@ -18,7 +18,7 @@ ghost use Rattle.vss_model.specs.Cut.{cut, is_cut_group, IsShownAt, IsCutAt};
 ghost use Rattle.requestor.specs.declared.stage.Stage.TheVariants.{Opened};
 ghost use Rattle.requestor.specs.Check.{is_stage};
 ghost use Rattle.requestor.specs.Session.{Session};
-ghost use Rattle.vss_model.specs.Facts.{AreInTime, IsNewest, IsOrderly, has_failed, holds_for};
+ghost use Rattle.vss_model.specs.Facts.{IsNewest, IsOrderly, has_failed, holds_for};
 ghost use Rattle.vss_model.specs.Acts.{Act, after, state, order_of_writer, idle_now};
 ghost use Rattle.vss_model.specs.Trail.{run, moved, acts, acts_if, event_of, is_legal, is_legal_move, is_complete, cursor, faults};
 ghost use Rattle.scenario.specs.Bounds.{IsPlan, has_end};

@@ -2,7 +2,7 @@
 use Rattle.std.proofs.Common.{◌≡◌, ℕ, zero, suc, ◌<◌, ◌≤◌, List, [], ◌∷◌, ◌++◌, length, refl, ap, sym, ◌∙◌, arith, Bool, true, false, ◌&&◌, ◌||◌, Option, Some, subst, get_or, ◌⊎◌, inl, inr}
 use Rattle.std.specs.Prelude.{slice_get, slice_set, map, is_some, not, ◌==◌, Result, Ok, Err, OnOk, is_err}
 use Rattle.vss_names.specs.Faults.{Rose}
-use Rattle.write_history.specs.History.{History, Image, Write, cut}
+use Rattle.write_history.specs.History.{History, Image, Write, cut, AreInTime, AreLater}
 use Rattle.write_history.specs.Slots.{needs_slot}
 use Rattle.scenario.specs.declared.volume_row.VolumeRow.{VolumeRow}
 use Rattle.scenario.specs.Plan.{Plan}
@@ -14,7 +14,7 @@ use Rattle.vss_model.specs.State.{State, SetRow, history_in, history_of}
 use Rattle.writer_calls.specs.declared.answer.Answer.{Answer}
 use Rattle.vss_model.specs.declared.event.Event.TheVariants.{Answer as AnswerEvent, Idle}
 use Rattle.vss_model.specs.Acts.{Act, state, after, enabled}
-use Rattle.vss_model.specs.Facts.{NumberedFrom, AreLive, AllLive, is_live, has_failed, AreInTime, AreLater}
+use Rattle.vss_model.specs.Facts.{NumberedFrom, AreLive, AllLive, is_live, has_failed}
 use Rattle.set_agenda.specs.declared.group.Group.{Group}
 use Rattle.vss_model.specs.Steps.{is_flush}
 use Rattle.vss_model.specs.Told.{mark_of, mark_if}

@@ -18,6 +18,8 @@ mod documented_area;
 #[cfg(test)]
 mod gate;
 #[cfg(test)]
+mod groups;
+#[cfg(test)]
 mod lists;
 #[cfg(test)]
 mod maps;

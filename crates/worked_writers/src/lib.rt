@@ -23,3 +23,5 @@ mod selections;
 mod sessions;
 #[cfg(test)]
 mod states;
+#[cfg(test)]
+mod texts;

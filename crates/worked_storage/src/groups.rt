@@ -1,7 +1,9 @@
+//! Groups of copy-on-write volumes: images, evictions, reverts, and devices that fail.
+
 ghost use Rattle.std.specs.Prelude.{◌<◌, ◌≤◌};
 
-use super::*;
 use block_data::{BlockBuf, Payload};
+use cow_volume::*;
 use diff_area::Area;
 use std::alloc::Global;
 use std::process::Abort;

@@ -1,6 +1,6 @@
 //! Texts that are read, and texts that are refused.
 
-use crate::{LaneLine, Op, Reason, Refused, Span, parse};
+use scenario::{LaneLine, Op, Reason, Refused, Span, parse};
 use std::alloc::Global;
 use std::test::Fail;
 
