@@ -41,4 +41,3 @@ pub use refused::Refused;
 pub use scenario::Scenario;
 pub use span::Span;
 pub use volume_row::VolumeRow;
-
