@@ -71,9 +71,6 @@ group_of s v = placed_in s.volumes (slice_get s.volumes v)
 
 -- ## writers and lanes
 
-abbrev pub metas : Plan → List Meta
-metas s = map (λ w. w.meta) s.writers
-
 abbrev pub class_in : Option WriterPlan → ℕ
 class_in None = 0
 class_in (Some w) = w.meta.class

@@ -1,6 +1,6 @@
 -- What the core of the service stands for: a list of acts. Where its devices tell their blocks, they hold the volumes'
 -- contents. (This project's own.)
-use Rattle.std.specs.Prelude.{ℕ, zero, suc, ◌≡◌, ◌≤◌, Bool, true, false, List, [], ◌∷◌, ◌++◌, length, map, Option, Some, None, is_some, slice_get, IfSome, replicate}
+use Rattle.std.specs.Prelude.{ℕ, zero, suc, ◌≡◌, ◌<◌, ◌≤◌, Bool, true, false, List, [], ◌∷◌, ◌++◌, length, map, Option, Some, None, is_some, slice_get, IfSome, replicate}
 use Rattle.vss_names.specs.Faults.{Rose}
 use Rattle.writer_state.specs.declared.writer_row.WriterRow.{WriterRow}
 use Rattle.block_data.specs.Runs.{zeros}
@@ -87,7 +87,7 @@ tells_of blocks_told ds = map (λ d. is_some (blocks_told d)) ds
 -- a session is begun once
 abbrev pub IsEvent : Bool → Plan → Event → Type 0
 IsEvent begun s (Line lane op) = IsOp s op × (is_run op ≡ true) × (is_begin op ≡ true → begun ≡ false)
-IsEvent begun s (AnswerEvent w answer) = Unit {0}
+IsEvent begun s (AnswerEvent w answer) = w < length s.writers
 IsEvent begun s Provider = Unit {0}
 IsEvent begun s Idle = Unit {0}
 
