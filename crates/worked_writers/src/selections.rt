@@ -22,6 +22,7 @@ const SQL_ALL: &str =
     r#"{"components":[{"class":"44444444-4444-4444-8444-444444444444","explicit":false,"path":"main","writer":0},{"class":"44444444-4444-4444-8444-444444444444","explicit":false,"path":"main\\log1","writer":0},{"class":"44444444-4444-4444-8444-444444444444","explicit":false,"path":"main\\log2","writer":0}],"context":9,"select":false}"#;
 
 /// Of one writer.
+#[tactic(auto, using(crate::proofs::Few::few_known))]
 fn known(alloc: Global, metadata: &Metadata) -> Result<Metas, Fail>
     requires { IsAllowed (meta_of metadata.now) }
     ensures allowed { IfOk result (λ metas. AreAllowed (metas_of metas)) }
