@@ -38,7 +38,7 @@ fn the_plain_path_is_one_volume_and_one_lane(rt: HostRuntime) -> Result<(), Fail
     assert_eq!(rt; volume.blocks, 4);
     assert_eq!(rt; volume.slots, 4);
     assert_eq!(rt; volume.group, 0);
-    assert_eq!(rt; scenario.token(volume.name), b"C".as_slice());
+    assert_eq!(rt; volume.name, Span { start: 18, end: 19 });
     assert_eq!(rt; scenario.groups(), 1);
     assert_eq!(rt; scenario.group_name(0), volume.name);
     assert_eq!(rt; scenario.group_slots(0), 4);
