@@ -10,6 +10,8 @@ mod areas;
 #[cfg(test)]
 mod blocks;
 #[cfg(test)]
+mod catalogs;
+#[cfg(test)]
 mod clock;
 #[cfg(test)]
 mod devices;
