@@ -66,8 +66,8 @@ unfolding blocks_in
 blocks-again v at n rest are h =
     let p = passed (number_in at rest) (λ m. if nat_le 1 m && nat_le m 65536 then Ok m else Err (Blocks v m)) n h in
     let test = if_true _ p.value n (Blocks v p.value) p.next in
-    let low = is_at_most 1 p.value (and_left _ _ test.0) in
-    let high = is_at_most p.value 65536 (and_right _ _ test.0) in
+    let low = is_at_most 1 p.value (and_left (nat_le 1 p.value) (nat_le p.value 65536) test.0) in
+    let high = is_at_most p.value 65536 (and_right (nat_le 1 p.value) (nat_le p.value 65536) test.0) in
     let is = number-again at p.value rest are p.first in
     let same = test.1 in
     (omega arith, omega arith, is.bytes ∙ ap (λ (k : ℕ). number_bytes k ++ drop 4 rest) same)
@@ -98,7 +98,7 @@ pub record StartsWithSets (n last : ℕ) (rest sets : List ℕ) : Type 0 where
   pub many : length sets ≡ n
   pub bytes : rest ≡ flat_map number_bytes sets ++ drop (4 * length sets) rest
 
-sets-none : (last : ℕ) (rest sets : List ℕ) → Ok sets ≡ Ok {E = CatalogFault} [] → StartsWithSets 0 last rest sets
+sets-none : (last : ℕ) (rest sets : List ℕ) → sets ≡ [] → StartsWithSets 0 last rest sets
 sets-none last rest [] h = record { rise = tt; many = refl; bytes = refl }
 sets-none last rest (s ∷ sets) h = absurd cc
 
@@ -117,7 +117,7 @@ sets-one n last set rest more (s ∷ sets) low high e is same =
 
 pub sets-again : (v n last at : ℕ) (rest sets : List ℕ) → AreBytes rest → sets_in v n last at rest ≡ Ok sets → StartsWithSets n last rest sets
 unfolding sets_in
-sets-again v zero last at rest sets are h = sets-none last rest sets (sym h)
+sets-again v zero last at rest sets are h = let none : sets ≡ [] = cc in sets-none last rest sets none
 sets-again v (suc n) last at rest sets are h =
     let p = passed (set_in v last at rest) (λ set. sets_in v n set (at + 4) (drop 4 rest) >>= (λ more. Ok (set ∷ more))) sets h in
     let q = passed (sets_in v n p.value (at + 4) (drop 4 rest)) (λ more. Ok (p.value ∷ more)) sets p.next in
@@ -229,8 +229,8 @@ unfolding volumes_in
 volumes-again n rest are h =
     let p = passed (number_in 8 rest) (λ m. if nat_le 1 m && nat_le m 128 then Ok m else Err (Volumes m)) n h in
     let test = if_true _ p.value n (Volumes p.value) p.next in
-    let low = is_at_most 1 p.value (and_left _ _ test.0) in
-    let high = is_at_most p.value 128 (and_right _ _ test.0) in
+    let low = is_at_most 1 p.value (and_left (nat_le 1 p.value) (nat_le p.value 128) test.0) in
+    let high = is_at_most p.value 128 (and_right (nat_le 1 p.value) (nat_le p.value 128) test.0) in
     let is = number-again 8 p.value rest are p.first in
     let same = test.1 in
     (omega arith, omega arith, is.bytes ∙ ap (λ (k : ℕ). number_bytes k ++ drop 4 rest) same)

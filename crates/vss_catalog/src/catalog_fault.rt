@@ -49,7 +49,7 @@ impl fmt::Display for CatalogFault {
                 write!(f, "volume {volume} has {found} images")
             }
             CatalogFault::Order { volume, at } => {
-                write!(f, "volume {volume}, byte {at}: no rising set")
+                write!(f, "volume {volume}: order at {at}")
             }
             CatalogFault::Rest { at } => write!(f, "more bytes at byte {at}"),
             CatalogFault::OutOfMemory => f.write_str("out of memory"),

@@ -15,7 +15,7 @@ pub returns-in_err-set-clause-refused : goal.returns-in_err-set-clause-refused
 returns-in_err-set-clause-refused c =
     let l = c.loop-k in
     let said = ap (set_in c.args.v l.last (c.args.at + 4 * l.k)) (sym c.bytes_from.ensures) ∙ c.in_err-set.ensures.refused in
-    Tells-handed_on _ _ _ c.from_residual-in_err-set.ensures.1
+    Tells-handed_on _ _ _ c.from_residual.ensures.1
     (tells-exact _ _ (l.invariant.read ∙ sets-fault c.args.v c.args.count l.k l.last c.args.at _ c.args.rest.now l.sets.items c.loop-k-test.true said))
 
 pub loop-k-preserved : goal.loop-k-preserved
