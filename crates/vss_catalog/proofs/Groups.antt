@@ -4,6 +4,7 @@ use Rattle.std.specs.List.{range_with_len}
 use Rattle.std.proofs.lemmas.Bool.Decides.{nat_tests}
 use Rattle.std.proofs.lemmas.List.FromFn.{map-range_with_len_more}
 use Rattle.vss_names.specs.TextValue.{TextValue}
+use Rattle.cow_volume.specs.Calls.{blocks_at, sets_at}
 use Rattle.cow_volume.specs.GroupValue.{GroupValue}
 use Rattle.vss_catalog.specs.Entries.{EntryValue}
 use Rattle.vss_catalog.specs.Group.{are_names_for, entry_at, entries_of}
@@ -24,3 +25,9 @@ pub entries-next : {D : Type 0} (g : GroupValue D) (names : List TextValue) (v :
 entries-next g names v e old new is so h =
     is ∙ ap (λ (es : List EntryValue). es ++ e ∷ []) so ∙ ap (λ (x : EntryValue). map (entry_at g names) (range_with_len 0 v) ++ x ∷ []) h
     ∙ sym (map-range_with_len_more (entry_at g names) 0 v v (omega arith))
+
+pub is_entry : {D : Type 0} (g : GroupValue D) (names : List TextValue) (v : ℕ) (e : EntryValue) (name : List ℕ) (blocks : ℕ) (sets : List ℕ) → e ≡ record { name = name; blocks = blocks; images = sets }
+    → name ≡ bytes_in (slice_get names v) → blocks ≡ blocks_at g v → sets ≡ sets_at g v → e ≡ entry_at g names v
+is_entry g names v e name blocks sets is a b c =
+    let from : List ℕ → ℕ → List ℕ → EntryValue = λ n m s. record { name = n; blocks = m; images = s } in
+    is ∙ ap (λ (n : List ℕ). from n blocks sets) a ∙ ap (λ (m : ℕ). from (bytes_in (slice_get names v)) m sets) b ∙ ap (from (bytes_in (slice_get names v)) (blocks_at g v)) c

@@ -54,9 +54,10 @@ impl Catalog {
     {
         let mut entries = Vec::new(alloc);
         for v in 0..group.volumes() {
-            let images = Numbers::copy(alloc, group.images(v))?;
+            let sets = Numbers::copy(alloc, group.images(v))?;
             let name = name_at(names, v as usize);
-            entries.push(Entry::of(alloc, name, group.blocks(v), images)?)?;
+            let entry = Entry::of(alloc, name, group.blocks(v), sets)?;
+            entries.push(entry)?;
         }
         Ok(Catalog { entries })
     }

@@ -1,4 +1,4 @@
-ghost use Rattle.std.specs.Prelude.{◌≡◌, ◌<◌, ◌≤◌, length, slice_get, IsTrue};
+ghost use Rattle.std.specs.Prelude.{◌≡◌, ◌<◌, ◌≤◌, length, slice_get, Some, IsTrue};
 ghost use Rattle.std.specs.List.{list_all};
 ghost use Rattle.vss_catalog.specs.Names.{is_letter, is_name_byte, is_name, are_names, bytes_in};
 
@@ -46,6 +46,14 @@ pub fn are_names(names: &[Text]) -> bool
     names.iter().all(|name| is_name(name.bytes()))
 }
 
+/// One of these texts.
+fn text_at(texts: &[Text], at: usize) -> &Text
+    requires { at < length texts.now }
+    ensures { slice_get texts.now at ≡ Some result.now }
+{
+    &texts[at]
+}
+
 /// The bytes of one of these names.
 pub fn name_at(names: &[Text], at: usize) -> &[u8]
     requires names { IsTrue (are_names names.now) }
@@ -53,5 +61,5 @@ pub fn name_at(names: &[Text], at: usize) -> &[u8]
     ensures bytes { result.now ≡ bytes_in (slice_get names.now at) }
     ensures short { length result.now ≤ MOST_NAME }
 {
-    names[at].bytes()
+    text_at(names, at).bytes()
 }
