@@ -1,19 +1,18 @@
 -- What is written of a catalog is read back.
-use Rattle.std.proofs.Common.{ℕ, zero, suc, ◌≡◌, ◌<◌, ◌≤◌, ◌+◌, ◌-◌, ◌*◌, Bool, true, false, ◌&&◌, nat_le, nat_lt, nat_eq, List, [], ◌∷◌, ◌++◌, length, take, drop, codes, slice_get, Result, Ok, Err, refl, sym, ap, ◌∙◌, arith}
-use Rattle.std.specs.List.{flat_map, starts_with}
+use Rattle.std.proofs.Common.{ℕ, zero, suc, ◌≡◌, ◌<◌, ◌≤◌, ◌+◌, ◌-◌, ◌*◌, true, nat_eq, List, [], ◌∷◌, ◌++◌, length, take, drop, codes, slice_get, Ok, Err, refl, sym, ap, ◌∙◌, arith}
+use Rattle.std.specs.List.{flat_map}
 use Rattle.std.specs.Str.{bytes_eq}
 use Rattle.std.proofs.lemmas.Bool.Decides.{nat_tests}
-use Rattle.std.proofs.lemmas.List.{append_assoc, append-nil, length-append, drop_at, take_at, drop-drop}
+use Rattle.std.proofs.lemmas.List.{append_assoc, length-append, drop_at, take_at, drop-drop}
 use Rattle.sha2.proofs.Facts256.{length-sha256}
 use Rattle.block_data.specs.Digest.{sha256}
 use Rattle.vss_catalog.specs.Allowed.{AreRising, IsEntry, AreEntries, IsCatalog}
 use Rattle.vss_catalog.specs.Entries.{EntryValue}
 use Rattle.vss_names.specs.TextValue.{TextValue}
-use Rattle.vss_catalog.specs.Names.{is_letter, is_name_byte, is_name, are_names, bytes_in}
-use Rattle.vss_catalog.specs.Reading.{◌>>=◌, number_in, name_of_length, name_in, blocks_in, count_in, set_in, sets_in, entry_in, entries_in, letters_in, volumes_in, body_in, front_of, is_sealed, catalog_in}
+use Rattle.vss_catalog.specs.Names.{is_name, are_names, bytes_in}
+use Rattle.vss_catalog.specs.Reading.{◌>>=◌, name_of_length, name_in, blocks_in, count_in, set_in, sets_in, entry_in, entries_in, letters_in, volumes_in, body_in, front_of, is_sealed, catalog_in}
 use Rattle.vss_catalog.specs.Written.{number_bytes, entry_bytes, size_of, body_of, bytes_of}
-use Rattle.vss_catalog.specs.declared.catalog_fault.CatalogFault.{CatalogFault}
-use Rattle.vss_catalog.specs.declared.catalog_fault.CatalogFault.TheVariants.{Digest, Magic, Volumes, Short, Name, Blocks, Images, Order, Rest}
+use Rattle.vss_catalog.specs.declared.catalog_fault.CatalogFault.TheVariants.{Digest, Volumes, Short, Name, Blocks, Images, Order}
 use Rattle.vss_catalog.proofs.Numbers.{length-number_bytes, number-back, past-number}
 use Rattle.vss_catalog.proofs.Steps.{then, passes, fails, and_left, and_right, both, at_most, is_at_most, below, not_below}
 

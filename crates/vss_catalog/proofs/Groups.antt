@@ -1,5 +1,5 @@
 -- The entries of a group, and its names.
-use Rattle.std.proofs.Common.{ℕ, zero, suc, ◌≡◌, ◌<◌, ◌≤◌, ◌+◌, Bool, true, ◌==◌, ◌&&◌, List, [], ◌∷◌, ◌++◌, length, map, slice_get, refl, sym, ap, ◌∙◌, arith}
+use Rattle.std.proofs.Common.{ℕ, ◌≡◌, ◌+◌, true, ◌==◌, List, [], ◌∷◌, ◌++◌, length, map, slice_get, sym, ap, ◌∙◌, arith}
 use Rattle.std.specs.List.{range_with_len}
 use Rattle.std.proofs.lemmas.Bool.Decides.{nat_tests}
 use Rattle.std.proofs.lemmas.List.FromFn.{map-range_with_len_more}
@@ -7,8 +7,8 @@ use Rattle.vss_names.specs.TextValue.{TextValue}
 use Rattle.cow_volume.specs.Calls.{blocks_at, sets_at}
 use Rattle.cow_volume.specs.GroupValue.{GroupValue}
 use Rattle.vss_catalog.specs.Entries.{EntryValue}
-use Rattle.vss_catalog.specs.Group.{are_names_for, entry_at, entries_of}
-use Rattle.vss_catalog.specs.Names.{is_name, are_names, bytes_in}
+use Rattle.vss_catalog.specs.Group.{are_names_for, entry_at}
+use Rattle.vss_catalog.specs.Names.{are_names, bytes_in}
 use Rattle.vss_catalog.proofs.Steps.{and_left, and_right}
 
 equal : (a b : ℕ) → (a == b) ≡ true → a ≡ b

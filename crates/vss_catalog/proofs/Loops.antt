@@ -1,12 +1,12 @@
 -- What was read so far, and then what is still to be read, is what is read of all.
-use Rattle.std.proofs.Common.{ℕ, zero, suc, ◌≡◌, ◌<◌, ◌≤◌, ◌+◌, ◌-◌, ◌*◌, List, [], ◌∷◌, ◌++◌, length, take, drop, Result, Ok, Err, refl, sym, ap, ◌∙◌, arith}
+use Rattle.std.proofs.Common.{ℕ, zero, suc, ◌≡◌, ◌<◌, ◌≤◌, ◌+◌, ◌-◌, ◌*◌, List, [], ◌∷◌, ◌++◌, length, drop, Result, Ok, Err, refl, sym, ap, ◌∙◌, arith}
 use Rattle.std.proofs.lemmas.List.{drop-drop, drop_all}
 use Rattle.vss_catalog.specs.Entries.{EntryValue}
 use Rattle.vss_catalog.specs.Reading.{◌>>=◌, set_in, sets_in, entry_in, entries_in, end_in, Tells}
 use Rattle.vss_catalog.specs.Written.{size_of}
 use Rattle.vss_catalog.specs.declared.catalog_fault.CatalogFault.{CatalogFault}
 use Rattle.vss_catalog.specs.declared.catalog_fault.CatalogFault.TheVariants.{Rest}
-use Rattle.vss_catalog.proofs.Steps.{then, then-fault, after, after-none, after-end, after-one, Tells-then, tells-on}
+use Rattle.vss_catalog.proofs.Steps.{after, after-none, after-end, after-one, tells-on}
 
 -- ## sets
 

@@ -1,12 +1,11 @@
 -- Numbers as they are written and read.
-use Rattle.std.proofs.Common.{ℕ, zero, suc, ◌≡◌, ◌<◌, ◌≤◌, ◌+◌, ◌*◌, ◌/◌, ◌%◌, ◌^◌, Bool, true, false, List, [], ◌∷◌, ◌++◌, length, take, drop, Result, Ok, Err, refl, sym, ap, ◌∙◌, arith}
-use Rattle.std.proofs.lemmas.List.{append_assoc, length-append, drop_at, drop-drop}
+use Rattle.std.proofs.Common.{ℕ, zero, suc, ◌≡◌, ◌<◌, ◌≤◌, ◌+◌, ◌*◌, ◌/◌, ◌%◌, List, [], ◌∷◌, ◌++◌, length, take, drop, Ok, Err, refl, sym, ap, ◌∙◌, arith}
+use Rattle.std.proofs.lemmas.List.{length-append, drop_at}
 use Rattle.byteorder.specs.Endian.{little_number}
 use Rattle.byteorder.specs.Numbers.{little_number-reads_back, length-bytes_low_first}
 use Rattle.vss_catalog.specs.Allowed.{AreBytes}
-use Rattle.vss_catalog.specs.Reading.{◌>>=◌, number_in}
+use Rattle.vss_catalog.specs.Reading.{number_in}
 use Rattle.vss_catalog.specs.Written.{number_bytes}
-use Rattle.vss_catalog.specs.declared.catalog_fault.CatalogFault.{CatalogFault}
 use Rattle.vss_catalog.specs.declared.catalog_fault.CatalogFault.TheVariants.{Short}
 use Rattle.vss_catalog.proofs.Steps.{fails, if_false, not_below, is_not_below}
 

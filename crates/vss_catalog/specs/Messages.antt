@@ -12,6 +12,6 @@ message_of (Short at) = codes "cut off at byte " ++ decimal at
 message_of (Name volume) = codes "volume " ++ decimal volume ++ codes " has no name"
 message_of (Blocks volume found) = codes "volume " ++ decimal volume ++ codes " has " ++ decimal found ++ codes " blocks"
 message_of (Images volume found) = codes "volume " ++ decimal volume ++ codes " has " ++ decimal found ++ codes " images"
-message_of (Order volume at) = codes "volume " ++ decimal volume ++ codes ": order at " ++ decimal at
+message_of (Order volume at) = codes "volume " ++ decimal volume ++ codes " at " ++ decimal at ++ codes " falls"
 message_of (Rest at) = codes "more bytes at byte " ++ decimal at
 message_of OutOfMemory = codes "out of memory"

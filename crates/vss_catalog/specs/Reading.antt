@@ -1,7 +1,7 @@
 -- What bytes say as a catalog, or why they are none. The digest comes first. Then the fields are read forwards: a field that is
 -- cut off is told at its first byte, and else the first field that is not of the format; last, bytes that are left. `at` is
 -- the place of the bytes `rest` among all. (This project's own format.)
-use Rattle.std.specs.Prelude.{◌≡◌, ℕ, zero, suc, ◌+◌, ◌-◌, ◌*◌, Bool, List, [], ◌∷◌, length, take, drop, codes, nat_le, nat_lt, nat_eq, ◌&&◌, if◌then◌else◌, Result, Ok, Err}
+use Rattle.std.specs.Prelude.{◌≡◌, ℕ, zero, suc, ◌+◌, ◌-◌, Bool, List, [], ◌∷◌, length, take, drop, codes, nat_le, nat_lt, nat_eq, ◌&&◌, if◌then◌else◌, Result, Ok, Err}
 use Rattle.std.specs.List.{starts_with}
 use Rattle.std.specs.Str.{bytes_eq}
 use Rattle.byteorder.specs.Endian.{little_number}

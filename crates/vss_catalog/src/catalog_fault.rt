@@ -48,9 +48,7 @@ impl fmt::Display for CatalogFault {
             CatalogFault::Images { volume, found } => {
                 write!(f, "volume {volume} has {found} images")
             }
-            CatalogFault::Order { volume, at } => {
-                write!(f, "volume {volume}: order at {at}")
-            }
+            CatalogFault::Order { volume, at } => { write!(f, "volume {volume} at {at} falls") }
             CatalogFault::Rest { at } => write!(f, "more bytes at byte {at}"),
             CatalogFault::OutOfMemory => f.write_str("out of memory"),
         }

@@ -108,13 +108,7 @@ fn set_in(v: u32, last: u32, at: u32, rest: &[u8]) -> Result<u32, CatalogFault>
 }
 
 /// So many sets of volume `v`, each above the one before it.
-fn sets_in(
-    alloc: Global,
-    v: u32,
-    count: u32,
-    at: u32,
-    rest: &[u8],
-) -> Result<Numbers, CatalogFault>
+fn sets_in(alloc: Global, v: u32, count: u32, at: u32, rest: &[u8]) -> Result<Numbers, CatalogFault>
     requires few { count ≤ MOST_IMAGES }
     requires near { at + 4 * count < 2 ^ 32 }
     ensures ok { IfOk result (λ sets. sets_in v count 0 at rest.now ≡ Ok sets) }
@@ -142,7 +136,13 @@ fn entry_in(alloc: Global, v: u32, at: u32, rest: &[u8]) -> Result<Entry, Catalo
     let len = name.len() as u32;
     let blocks = blocks_in(v, at + 4 + len, bytes_from(rest, 4 + name.len()))?;
     let count = count_in(v, at + 8 + len, bytes_from(rest, 8 + name.len()))?;
-    let images = sets_in(alloc, v, count, at + 12 + len, bytes_from(rest, 12 + name.len()))?;
+    let images = sets_in(
+        alloc,
+        v,
+        count,
+        at + 12 + len,
+        bytes_from(rest, 12 + name.len()),
+    )?;
     Ok(Entry::of(alloc, name, blocks, images)?)
 }
 

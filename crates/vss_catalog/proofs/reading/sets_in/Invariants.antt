@@ -1,4 +1,4 @@
-use Rattle.std.proofs.Common.{◌≡◌, ◌≤◌, ◌+◌, ◌-◌, ◌*◌, length, drop}
+use Rattle.std.proofs.Common.{◌≡◌, ◌+◌, ◌-◌, ◌*◌, length, drop}
 use Rattle.vss_catalog.specs.Reading.{sets_in}
 use Rattle.vss_catalog.proofs.Steps.{after}
 use Rattle.vss_catalog.proofs.reading.sets_in.Given as goal
