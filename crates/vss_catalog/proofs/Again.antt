@@ -1,0 +1,284 @@
+-- Bytes that are read as a catalog are those that are written of it, and it is allowed.
+use Rattle.std.proofs.Common.{ℕ, zero, suc, ◌≡◌, ◌<◌, ◌≤◌, ◌+◌, ◌-◌, ◌*◌, Bool, true, false, ◌&&◌, if◌then◌else◌, nat_le, nat_lt, nat_eq, List, [], ◌∷◌, ◌++◌, length, take, drop, codes, Result, Ok, Err, refl, sym, ap, ◌∙◌, arith}
+use Rattle.std.specs.List.{flat_map}
+use Rattle.std.specs.Str.{bytes_eq}
+use Rattle.std.proofs.lemmas.Bool.Decides.{nat_tests}
+use Rattle.std.proofs.lemmas.List.{append_assoc, take-append-drop, length-take-le, drop-drop}
+use Rattle.block_data.specs.Digest.{sha256}
+use Rattle.vss_catalog.specs.Allowed.{AreRising, IsEntry, AreEntries, IsCatalog, AreBytes}
+use Rattle.vss_catalog.specs.Entries.{EntryValue}
+use Rattle.vss_catalog.specs.Names.{is_name}
+use Rattle.vss_catalog.specs.Reading.{◌>>=◌, number_in, name_of_length, name_in, blocks_in, count_in, set_in, sets_in, entry_in, end_in, entries_in, letters_in, volumes_in, body_in, front_of, is_sealed, catalog_in}
+use Rattle.vss_catalog.specs.Written.{number_bytes, entry_bytes, size_of, body_of, bytes_of}
+use Rattle.vss_catalog.specs.declared.catalog_fault.CatalogFault.{CatalogFault}
+use Rattle.vss_catalog.specs.declared.catalog_fault.CatalogFault.TheVariants.{Digest, Magic, Volumes, Short, Name, Blocks, Images, Order}
+use Rattle.vss_catalog.proofs.Numbers.{number-again, bytes-past, bytes-in}
+use Rattle.vss_catalog.proofs.Steps.{passed, if_true, and_left, and_right, is_at_most, is_below, is_not_below}
+
+-- a test that has to be passed, before a second
+first_if : {A : Type 0} (b : Bool) (r : Result A CatalogFault) (y : A) (f : CatalogFault) → (if b then r else Err f) ≡ Ok y → (b ≡ true) × (r ≡ Ok y)
+first_if true r y f h = (refl, h)
+first_if false r y f h = absurd cc
+
+not_if : {A : Type 0} (b : Bool) (r : Result A CatalogFault) (y : A) (f : CatalogFault) → (if b then Err f else r) ≡ Ok y → (b ≡ false) × (r ≡ Ok y)
+not_if true r y f h = absurd cc
+not_if false r y f h = (refl, h)
+
+-- ## names
+
+record IsNamed (v at len : ℕ) (rest name : List ℕ) : Type 0 where
+  named : is_name name ≡ true
+  len_is : length name ≡ len
+  bytes : rest ≡ name ++ drop (length name) rest
+
+name_of-again : (v at len : ℕ) (rest name : List ℕ) → name_of_length v at rest len ≡ Ok name → IsNamed v at len rest name
+name_of-again v at len rest name h =
+    let range = first_if _ _ name (Name v) h in
+    let whole = not_if _ _ name (Short at) range.1 in
+    let test = if_true _ (take len rest) name (Name v) whole.1 in
+    let enough = is_not_below (length rest) len whole.0 in
+    let l : length name ≡ len = ap length (sym test.1) ∙ length-take-le len rest enough in
+    record {
+      named = ap is_name (sym test.1) ∙ test.0;
+      len_is = l;
+      bytes = sym (take-append-drop len rest) ∙ ap (λ (xs : List ℕ). xs ++ drop len rest) test.1 ∙ ap (λ (n : ℕ). name ++ drop n rest) (sym l);
+    }
+
+record StartsWithName (rest name : List ℕ) : Type 0 where
+  named : is_name name ≡ true
+  bytes : rest ≡ number_bytes (length name) ++ (name ++ drop (4 + length name) rest)
+
+name-again : (v at : ℕ) (rest name : List ℕ) → AreBytes rest → name_in v at rest ≡ Ok name → StartsWithName rest name
+unfolding name_in
+name-again v at rest name are h =
+    let p = passed (number_in at rest) (λ len. name_of_length v (at + 4) (drop 4 rest) len) name h in
+    let n = number-again at p.value rest are p.first in
+    let is = name_of-again v (at + 4) p.value (drop 4 rest) name p.next in
+    record {
+      named = is.named;
+      bytes = n.bytes ∙ ap (λ (k : ℕ). number_bytes k ++ drop 4 rest) (sym is.len_is) ∙ ap (λ (xs : List ℕ). number_bytes (length name) ++ xs) (is.bytes ∙ ap (λ (xs : List ℕ). name ++ xs) (drop-drop (length name) 4 rest));
+    }
+
+-- ## numbers
+
+blocks-again : (v at n : ℕ) (rest : List ℕ) → AreBytes rest → blocks_in v at rest ≡ Ok n → (0 < n) × (n ≤ 65536) × (rest ≡ number_bytes n ++ drop 4 rest)
+unfolding blocks_in
+blocks-again v at n rest are h =
+    let p = passed (number_in at rest) (λ m. if nat_le 1 m && nat_le m 65536 then Ok m else Err (Blocks v m)) n h in
+    let test = if_true _ p.value n (Blocks v p.value) p.next in
+    let low = is_at_most 1 p.value (and_left (nat_le 1 p.value) (nat_le p.value 65536) test.0) in
+    let high = is_at_most p.value 65536 (and_right (nat_le 1 p.value) (nat_le p.value 65536) test.0) in
+    let is = number-again at p.value rest are p.first in
+    let same = test.1 in
+    (omega arith, omega arith, is.bytes ∙ ap (λ (k : ℕ). number_bytes k ++ drop 4 rest) same)
+
+count-again : (v at n : ℕ) (rest : List ℕ) → AreBytes rest → count_in v at rest ≡ Ok n → (n ≤ 512) × (rest ≡ number_bytes n ++ drop 4 rest)
+unfolding count_in
+count-again v at n rest are h =
+    let p = passed (number_in at rest) (λ m. if nat_le m 512 then Ok m else Err (Images v m)) n h in
+    let test = if_true _ p.value n (Images v p.value) p.next in
+    let high = is_at_most p.value 512 test.0 in
+    let is = number-again at p.value rest are p.first in
+    let same = test.1 in
+    (omega arith, is.bytes ∙ ap (λ (k : ℕ). number_bytes k ++ drop 4 rest) same)
+
+set-again : (v last at set : ℕ) (rest : List ℕ) → AreBytes rest → set_in v last at rest ≡ Ok set → (last < set) × (set < 4294967296) × (rest ≡ number_bytes set ++ drop 4 rest)
+unfolding set_in
+set-again v last at set rest are h =
+    let p = passed (number_in at rest) (λ m. if nat_lt last m then Ok m else Err (Order v at)) set h in
+    let test = if_true _ p.value set (Order v at) p.next in
+    let high = is_below last p.value test.0 in
+    let is = number-again at p.value rest are p.first in
+    let narrow = is.narrow in
+    let same = test.1 in
+    (omega arith, omega arith, is.bytes ∙ ap (λ (k : ℕ). number_bytes k ++ drop 4 rest) same)
+
+pub record StartsWithSets (n last : ℕ) (rest sets : List ℕ) : Type 0 where
+  pub rise : AreRising last sets
+  pub many : length sets ≡ n
+  pub bytes : rest ≡ flat_map number_bytes sets ++ drop (4 * length sets) rest
+
+sets-none : (last : ℕ) (rest sets : List ℕ) → sets ≡ [] → StartsWithSets 0 last rest sets
+sets-none last rest [] h = record { rise = tt; many = refl; bytes = refl }
+sets-none last rest (s ∷ sets) h = absurd cc
+
+sets-one : (n last set : ℕ) (rest more sets : List ℕ) → last < set → set < 4294967296 → rest ≡ number_bytes set ++ drop 4 rest → StartsWithSets n set (drop 4 rest) more → set ∷ more ≡ sets → StartsWithSets (suc n) last rest sets
+sets-one n last set rest more [] low high e is same = absurd cc
+sets-one n last set rest more (s ∷ sets) low high e is same =
+    let head : set ≡ s = cc in
+    let tail : more ≡ sets = cc in
+    let k : 4 + 4 * length more ≡ 4 * suc (length more) = omega arith in
+    let bytes : rest ≡ flat_map number_bytes (set ∷ more) ++ drop (4 * length (set ∷ more)) rest =
+    e ∙ ap (λ (xs : List ℕ). number_bytes set ++ xs) (is.bytes ∙ ap (λ (xs : List ℕ). flat_map number_bytes more ++ xs) (drop-drop (4 * length more) 4 rest ∙ ap (λ (m : ℕ). drop m rest) k))
+    ∙ sym (append_assoc (number_bytes set) (flat_map number_bytes more) (drop (4 * suc (length more)) rest))
+    in
+    let all : StartsWithSets (suc n) last rest (set ∷ more) = record { rise = (low, high, is.rise); many = ap suc is.many; bytes = bytes } in
+    rw same at all
+
+pub sets-again : (v n last at : ℕ) (rest sets : List ℕ) → AreBytes rest → sets_in v n last at rest ≡ Ok sets → StartsWithSets n last rest sets
+unfolding sets_in
+sets-again v zero last at rest sets are h = let none : sets ≡ [] = cc in sets-none last rest sets none
+sets-again v (suc n) last at rest sets are h =
+    let p = passed (set_in v last at rest) (λ set. sets_in v n set (at + 4) (drop 4 rest) >>= (λ more. Ok (set ∷ more))) sets h in
+    let q = passed (sets_in v n p.value (at + 4) (drop 4 rest)) (λ more. Ok (p.value ∷ more)) sets p.next in
+    let one = set-again v last at p.value rest are p.first in
+    let others = sets-again v n p.value (at + 4) (drop 4 rest) q.value (bytes-past 4 rest are) q.first in
+    let same : p.value ∷ q.value ≡ sets = let e = q.next in cc in
+    sets-one n last p.value rest q.value sets one.0 one.1 one.2 others same
+
+-- ## entries
+
+record StartsWithEntry (rest : List ℕ) (e : EntryValue) : Type 0 where
+  is : IsEntry e
+  bytes : rest ≡ entry_bytes e ++ drop (size_of e) rest
+
+entry-joined : (rest name sets : List ℕ) (blocks : ℕ)
+    → rest ≡ number_bytes (length name) ++ (name ++ drop (4 + length name) rest)
+    → drop (4 + length name) rest ≡ number_bytes blocks ++ drop 4 (drop (4 + length name) rest)
+    → drop (8 + length name) rest ≡ number_bytes (length sets) ++ drop 4 (drop (8 + length name) rest)
+    → drop (12 + length name) rest ≡ flat_map number_bytes sets ++ drop (4 * length sets) (drop (12 + length name) rest)
+    → rest ≡ entry_bytes (record { name = name; blocks = blocks; images = sets }) ++ drop (12 + length name + 4 * length sets) rest
+unfolding entry_bytes
+entry-joined rest name sets blocks a b c d =
+    let k : 4 + length name + 4 ≡ 8 + length name = omega arith in
+    let l : 8 + length name + 4 ≡ 12 + length name = omega arith in
+    let left = drop (12 + length name + 4 * length sets) rest in
+    let d2 : drop (12 + length name) rest ≡ flat_map number_bytes sets ++ left = d ∙ ap (λ (xs : List ℕ). flat_map number_bytes sets ++ xs) (drop-drop (4 * length sets) (12 + length name) rest) in
+    let c2 : drop (8 + length name) rest ≡ number_bytes (length sets) ++ (flat_map number_bytes sets ++ left) =
+    c ∙ ap (λ (xs : List ℕ). number_bytes (length sets) ++ xs) (drop-drop 4 (8 + length name) rest ∙ ap (λ (n : ℕ). drop n rest) l ∙ d2) in
+    let b2 : drop (4 + length name) rest ≡ number_bytes blocks ++ (number_bytes (length sets) ++ (flat_map number_bytes sets ++ left)) =
+    b ∙ ap (λ (xs : List ℕ). number_bytes blocks ++ xs) (drop-drop 4 (4 + length name) rest ∙ ap (λ (n : ℕ). drop n rest) k ∙ c2) in
+    let grouped : number_bytes (length name) ++ (name ++ (number_bytes blocks ++ (number_bytes (length sets) ++ (flat_map number_bytes sets ++ left)))) ≡ number_bytes (length name) ++ name ++ number_bytes blocks ++ number_bytes (length sets) ++ flat_map number_bytes sets ++ left = simp append_assoc in
+    a ∙ ap (λ (xs : List ℕ). number_bytes (length name) ++ (name ++ xs)) b2 ∙ grouped
+
+entry-again : (v at : ℕ) (rest : List ℕ) (e : EntryValue) → AreBytes rest → entry_in v at rest ≡ Ok e → StartsWithEntry rest e
+unfolding entry_in
+entry-again v at rest e are h =
+    let p = passed (name_in v at rest) _ e h in
+    let name = p.value in
+    let q = passed (blocks_in v (at + 4 + length name) (drop (4 + length name) rest)) _ e p.next in
+    let r = passed (count_in v (at + 8 + length name) (drop (8 + length name) rest)) _ e q.next in
+    let s = passed (sets_in v r.value 0 (at + 12 + length name) (drop (12 + length name) rest)) _ e r.next in
+    let n = name-again v at rest name are p.first in
+    let b = blocks-again v (at + 4 + length name) q.value (drop (4 + length name) rest) (bytes-past (4 + length name) rest are) q.first in
+    let c = count-again v (at + 8 + length name) r.value (drop (8 + length name) rest) (bytes-past (8 + length name) rest are) r.first in
+    let i = sets-again v r.value 0 (at + 12 + length name) (drop (12 + length name) rest) s.value (bytes-past (12 + length name) rest are) s.first in
+    let many = i.many in
+    let few = c.0 in
+    let c2 = c.1 ∙ ap (λ (k : ℕ). number_bytes k ++ drop 4 (drop (8 + length name) rest)) (sym many) in
+    let made : EntryValue = record { name = name; blocks = q.value; images = s.value } in
+    let all : StartsWithEntry rest made = record {
+      is = record { named = n.named; some = b.0; most = b.1; few = omega arith; rise = i.rise };
+      bytes = entry-joined rest name s.value q.value n.bytes b.2 c2 i.bytes;
+    } in
+    let same : made ≡ e = let t = s.next in cc in
+    rw same at all
+
+record AreWritten (n : ℕ) (rest : List ℕ) (es : List EntryValue) : Type 0 where
+  each : AreEntries es
+  many : length es ≡ n
+  bytes : rest ≡ flat_map entry_bytes es
+
+none-again : (at : ℕ) (rest : List ℕ) (es : List EntryValue) → end_in at rest ≡ Ok es → AreWritten 0 rest es
+none-again at [] [] h = record { each = tt; many = refl; bytes = refl }
+none-again at [] (e ∷ es) h = absurd cc
+none-again at (b ∷ rest) es h = absurd cc
+
+entries-one : (n : ℕ) (rest : List ℕ) (e : EntryValue) (more es : List EntryValue) → StartsWithEntry rest e → AreWritten n (drop (size_of e) rest) more → e ∷ more ≡ es → AreWritten (suc n) rest es
+entries-one n rest e more es one others same =
+    let all : AreWritten (suc n) rest (e ∷ more) = record {
+      each = (one.is, others.each);
+      many = ap suc others.many;
+      bytes = one.bytes ∙ ap (λ (xs : List ℕ). entry_bytes e ++ xs) others.bytes;
+    } in
+    rw same at all
+
+entries-again : (n v at : ℕ) (rest : List ℕ) (es : List EntryValue) → AreBytes rest → entries_in n v at rest ≡ Ok es → AreWritten n rest es
+unfolding entries_in
+entries-again zero v at rest es are h = none-again at rest es h
+entries-again (suc n) v at rest es are h =
+    let p = passed (entry_in v at rest) (λ entry. entries_in n (v + 1) (at + size_of entry) (drop (size_of entry) rest) >>= (λ more. Ok (entry ∷ more))) es h in
+    let e = p.value in
+    let q = passed (entries_in n (v + 1) (at + size_of e) (drop (size_of e) rest)) (λ more. Ok (e ∷ more)) es p.next in
+    let same : e ∷ q.value ≡ es = let t = q.next in cc in
+    entries-one n rest e q.value es (entry-again v at rest e are p.first) (entries-again n (v + 1) (at + size_of e) (drop (size_of e) rest) q.value (bytes-past (size_of e) rest are) q.first) same
+
+-- ## the whole
+
+alike_one : (x y : ℕ) → nat_eq x y ≡ true → x ≡ y
+alike_one x y h = grind (arith, nat_tests)
+
+alike : (xs ys : List ℕ) → bytes_eq xs ys ≡ true → xs ≡ ys
+alike [] [] h = refl
+alike [] (y ∷ ys) h = absurd cc
+alike (x ∷ xs) [] h = absurd cc
+alike (x ∷ xs) (y ∷ ys) h =
+    let head : x ≡ y = alike_one x y (and_left _ _ h) in
+    rw head (ap (λ (zs : List ℕ). y ∷ zs) (alike xs ys (and_right _ _ h)))
+
+letters-again : (body rest : List ℕ) → letters_in body ≡ Ok rest → (rest ≡ drop 8 body) × (body ≡ codes "VSSCAT01" ++ rest)
+unfolding letters_in
+letters-again body rest h =
+    let long = not_if _ _ rest (Short 0) h in
+    let test = if_true _ (drop 8 body) rest Magic long.1 in
+    let front : take 8 body ≡ codes "VSSCAT01" = sym (alike (codes "VSSCAT01") (take 8 body) test.0) in
+    (sym test.1, sym (take-append-drop 8 body) ∙ ap (λ (xs : List ℕ). xs ++ drop 8 body) front ∙ ap (λ (xs : List ℕ). codes "VSSCAT01" ++ xs) test.1)
+
+volumes-again : (n : ℕ) (rest : List ℕ) → AreBytes rest → volumes_in rest ≡ Ok n → (0 < n) × (n ≤ 128) × (rest ≡ number_bytes n ++ drop 4 rest)
+unfolding volumes_in
+volumes-again n rest are h =
+    let p = passed (number_in 8 rest) (λ m. if nat_le 1 m && nat_le m 128 then Ok m else Err (Volumes m)) n h in
+    let test = if_true _ p.value n (Volumes p.value) p.next in
+    let low = is_at_most 1 p.value (and_left (nat_le 1 p.value) (nat_le p.value 128) test.0) in
+    let high = is_at_most p.value 128 (and_right (nat_le 1 p.value) (nat_le p.value 128) test.0) in
+    let is = number-again 8 p.value rest are p.first in
+    let same = test.1 in
+    (omega arith, omega arith, is.bytes ∙ ap (λ (k : ℕ). number_bytes k ++ drop 4 rest) same)
+
+record IsBody (body : List ℕ) (es : List EntryValue) : Type 0 where
+  is : IsCatalog es
+  bytes : body_of es ≡ body
+
+body-joined : (body rest : List ℕ) (n : ℕ) (es : List EntryValue) → body ≡ codes "VSSCAT01" ++ rest → rest ≡ number_bytes n ++ drop 4 rest → length es ≡ n → drop 4 rest ≡ flat_map entry_bytes es → body_of es ≡ body
+unfolding body_of
+body-joined body rest n es a b c d =
+    append_assoc (codes "VSSCAT01") (number_bytes (length es)) (flat_map entry_bytes es)
+    ∙ ap (λ (k : ℕ). codes "VSSCAT01" ++ (number_bytes k ++ flat_map entry_bytes es)) c
+    ∙ ap (λ (xs : List ℕ). codes "VSSCAT01" ++ (number_bytes n ++ xs)) (sym d)
+    ∙ ap (λ (xs : List ℕ). codes "VSSCAT01" ++ xs) (sym b) ∙ sym a
+
+body-again : (body : List ℕ) (es : List EntryValue) → AreBytes body → body_in body ≡ Ok es → IsBody body es
+unfolding body_in
+body-again body es are h =
+    let p = passed (letters_in body) (λ rest. volumes_in rest >>= (λ count. entries_in count 0 12 (drop 4 rest))) es h in
+    let rest = p.value in
+    let q = passed (volumes_in rest) (λ count. entries_in count 0 12 (drop 4 rest)) es p.next in
+    let l = letters-again body rest p.first in
+    let bytes : AreBytes rest = rw l.0 (bytes-past 8 body are) in
+    let v = volumes-again q.value rest bytes q.first in
+    let w = entries-again q.value 0 12 (drop 4 rest) es (bytes-past 4 rest bytes) q.next in
+    let many = w.many in
+    let low = v.0 in
+    let high = v.1 in
+    record { is = record { some = omega arith; few = omega arith; each = w.each }; bytes = body-joined body rest q.value es l.1 v.2 many w.bytes }
+
+sealed-again : (bytes : List ℕ) → is_sealed bytes ≡ true → bytes ≡ front_of bytes ++ sha256 (front_of bytes)
+unfolding is_sealed
+sealed-again bytes h =
+    let tail = alike (sha256 (front_of bytes)) (drop (length bytes - 32) bytes) (and_right _ _ h) in
+    sym (take-append-drop (length bytes - 32) bytes) ∙ ap (λ (xs : List ℕ). front_of bytes ++ xs) (sym tail)
+
+opened : (bytes : List ℕ) (es : List EntryValue) → AreBytes bytes → catalog_in bytes ≡ Ok es → (is_sealed bytes ≡ true) × IsBody (front_of bytes) es
+unfolding catalog_in
+opened bytes es are h =
+    let test = first_if (is_sealed bytes) (body_in (front_of bytes)) es Digest h in
+    (test.0, body-again (front_of bytes) es (bytes-in (length bytes - 32) bytes are) test.1)
+
+pub catalog-again : (bytes : List ℕ) (es : List EntryValue) → AreBytes bytes → catalog_in bytes ≡ Ok es → bytes_of es ≡ bytes
+unfolding bytes_of
+catalog-again bytes es are h =
+    let o = opened bytes es are h in
+    ap (λ (body : List ℕ). body ++ sha256 body) o.1.bytes ∙ sym (sealed-again bytes o.0)
+
+pub catalog-allowed : (bytes : List ℕ) (es : List EntryValue) → AreBytes bytes → catalog_in bytes ≡ Ok es → IsCatalog es
+catalog-allowed bytes es are h = (opened bytes es are h).1.is

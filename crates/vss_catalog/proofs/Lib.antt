@@ -1,0 +1,6 @@
+pub mod Again
+pub mod Back
+pub mod Groups
+pub mod Loops
+pub mod Numbers
+pub mod Steps

@@ -1,0 +1,121 @@
+ghost use Rattle.std.specs.Prelude.{◌≡◌, ◌<◌, ◌≤◌, ◌==◌, ◌&&◌, length, slice_get, Some, Ok, IfOk, IfErr, IsTrue, List};
+ghost use Rattle.diff_area.specs.Records.{AreVolumes};
+ghost use Rattle.vss_catalog.specs.Entries.{EntryValue};
+ghost use Rattle.vss_catalog.specs.Group.{are_names_for, entries_of};
+ghost use Rattle.vss_catalog.specs.Reading.{catalog_in, Tells};
+ghost use Rattle.vss_catalog.specs.Written.{bytes_of};
+
+use crate::catalog_fault::CatalogFault;
+use crate::entry::Entry;
+use crate::names::{are_names, name_at};
+use crate::reading::{MAGIC, body_in, sealed_in};
+use crate::writing::{push_entries, push_number};
+use block_data::digest;
+use cow_volume::CowGroup;
+use std::alloc::Global;
+use std::marker::Model;
+use volume_device::Device;
+use vss_names::{Numbers, OutOfMemory, Text};
+
+/// The catalog of a group of volumes: for each its name, its number of blocks and the sets of its images. Contracts see a list
+/// of entries.
+#[derive(Debug, Drop)]
+pub struct Catalog {
+    entries: Vec<Entry>,
+}
+
+impl Model for Catalog {
+    ghost use Rattle.std.specs.Prelude.{◌<◌, ◌^◌, List, length};
+    ghost use Rattle.vss_catalog.specs.Entries.{EntryValue};
+
+    ghost Value = { List EntryValue };
+
+    ghost view = { λ c. c.entries.items };
+
+    ghost invariant = { λ c. length c.entries.items < 2 ^ 32 };
+}
+
+impl Catalog {
+    /// Whether there is a name for each volume of the group, and no more.
+    pub fn are_names_for<D: Device>(names: &[Text], group: &CowGroup<D>) -> bool
+        ensures { result ≡ are_names_for group.now names.now }
+    {
+        names.len() == group.volumes() as usize && are_names(names)
+    }
+
+    /// The catalog of a group, whose volumes have these names.
+    pub fn of_group<D: Device>(
+        alloc: Global,
+        names: &[Text],
+        group: &CowGroup<D>,
+    ) -> Result<Catalog, OutOfMemory>
+        requires { IsTrue (are_names_for group.now names.now) }
+        ensures { IfOk result (λ catalog. catalog ≡ entries_of group.now names.now) }
+    {
+        let mut entries = Vec::new(alloc);
+        for v in 0..group.volumes() {
+            let sets = Numbers::copy(alloc, group.images(v))?;
+            let name = name_at(names, v as usize);
+            let entry = Entry::of(alloc, name, group.blocks(v), sets)?;
+            entries.push(entry)?;
+        }
+        Ok(Catalog { entries })
+    }
+
+    /// The catalog that bytes say.
+    #[tactic(auto, unfolding(crate::specs::Reading::catalog_in))]
+    pub fn decode(alloc: Global, bytes: &[u8]) -> Result<Catalog, CatalogFault>
+        ensures ok { IfOk result (λ catalog. catalog_in bytes.now ≡ Ok catalog) }
+        ensures refused { IfErr result (λ fault. Tells fault (catalog_in bytes.now)) }
+    {
+        let Some(front) = sealed_in(bytes) else {
+            return Err(CatalogFault::Digest);
+        };
+        let entries = body_in(alloc, front)?;
+        Ok(Catalog { entries })
+    }
+
+    /// The bytes of the catalog.
+    #[tactic(auto, unfolding(crate::specs::Written::bytes_of, crate::specs::Written::body_of))]
+    pub fn encode(&self, alloc: Global) -> Result<Text, OutOfMemory>
+        ensures { IfOk result (λ text. text.bytes ≡ bytes_of self.now) }
+    {
+        let mut text = Text::copy(alloc, MAGIC.as_slice())?;
+        push_number(&mut text, self.volumes())?;
+        push_entries(&mut text, &self.entries)?;
+        let digest = digest(text.bytes());
+        text.add(digest.as_slice())?;
+        Ok(text)
+    }
+
+    /// How many volumes the group has.
+    pub fn volumes(&self) -> u32
+        ensures { result ≡ length self.now }
+    {
+        self.entries.len() as u32
+    }
+
+    /// The name of a volume.
+    pub fn name(&self, volume: u32) -> &Text
+        requires { volume < length self.now }
+        ensures { (e : EntryValue) → slice_get self.now volume ≡ Some e → result.now.bytes ≡ e.name }
+    {
+        self.entries[volume as usize].name()
+    }
+
+    /// How many blocks a volume has.
+    pub fn blocks(&self, volume: u32) -> u32
+        requires { volume < length self.now }
+        ensures { (e : EntryValue) → slice_get self.now volume ≡ Some e → result ≡ e.blocks }
+    {
+        self.entries[volume as usize].blocks()
+    }
+
+    /// The sets of the images of a volume, the oldest first.
+    pub fn images(&self, volume: u32) -> &[u32]
+        requires { volume < length self.now }
+        ensures { (e : EntryValue) → slice_get self.now volume ≡ Some e → result.now ≡ e.images }
+    {
+        self.entries[volume as usize].images()
+    }
+}

@@ -1,0 +1,18 @@
+//! What holds of every catalog: functions that do nothing, whose contracts are the laws.
+
+ghost use Rattle.std.specs.Prelude.{◌≡◌, ℕ, List, Ok};
+ghost use Rattle.vss_catalog.specs.Allowed.{IsCatalog, AreBytes};
+ghost use Rattle.vss_catalog.specs.Entries.{EntryValue};
+ghost use Rattle.vss_catalog.specs.Reading.{catalog_in};
+ghost use Rattle.vss_catalog.specs.Written.{bytes_of};
+
+/// The bytes of a catalog say that catalog.
+pub fn what_is_written_is_read_back()
+    ensures { (entries : List EntryValue) → IsCatalog entries → catalog_in (bytes_of entries) ≡ Ok entries }
+{}
+
+/// Bytes that say a catalog are the bytes of that catalog, and it is allowed.
+pub fn what_is_read_is_written_again()
+    ensures bytes { (bytes : List ℕ) (entries : List EntryValue) → AreBytes bytes → catalog_in bytes ≡ Ok entries → bytes_of entries ≡ bytes }
+    ensures allowed { (bytes : List ℕ) (entries : List EntryValue) → AreBytes bytes → catalog_in bytes ≡ Ok entries → IsCatalog entries }
+{}

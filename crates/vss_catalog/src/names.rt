@@ -1,0 +1,65 @@
+ghost use Rattle.std.specs.Prelude.{◌≡◌, ◌<◌, ◌≤◌, length, slice_get, Some, IsTrue};
+ghost use Rattle.std.specs.List.{list_all};
+ghost use Rattle.vss_catalog.specs.Names.{is_letter, is_name_byte, is_name, are_names, bytes_in};
+
+use crate::limits::MOST_NAME;
+use vss_names::Text;
+
+fn is_letter(byte: u8) -> bool
+    ensures { result ≡ is_letter byte }
+{
+    (b'A' <= byte && byte <= b'Z') || (b'a' <= byte && byte <= b'z')
+}
+
+fn is_name_byte(byte: u8) -> bool
+    ensures { result ≡ is_name_byte byte }
+{
+    is_letter(byte)
+        || (b'0' <= byte && byte <= b'9')
+        || byte == b'_'
+        || byte == b'-'
+        || byte == b'.'
+}
+
+fn are_name_bytes(name: &[u8]) -> bool
+    ensures { result ≡ list_all is_name_byte name.now }
+{
+    name.iter().all(|byte| is_name_byte(*byte))
+}
+
+/// Whether these bytes are a name.
+#[tactic(auto, unfolding(crate::specs::Names::is_name))]
+pub fn is_name(name: &[u8]) -> bool
+    ensures value { result ≡ is_name name.now }
+    ensures short { IsTrue result → length name.now ≤ MOST_NAME }
+{
+    if name.is_empty() || name.len() > MOST_NAME as usize || !is_letter(name[0]) {
+        return false;
+    }
+    are_name_bytes(name)
+}
+
+/// Whether each of these is a name.
+pub fn are_names(names: &[Text]) -> bool
+    ensures { result ≡ are_names names.now }
+{
+    names.iter().all(|name| is_name(name.bytes()))
+}
+
+/// One of these texts.
+fn text_at(texts: &[Text], at: usize) -> &Text
+    requires { at < length texts.now }
+    ensures { slice_get texts.now at ≡ Some result.now }
+{
+    &texts[at]
+}
+
+/// The bytes of one of these names.
+pub fn name_at(names: &[Text], at: usize) -> &[u8]
+    requires names { IsTrue (are_names names.now) }
+    requires within { at < length names.now }
+    ensures bytes { result.now ≡ bytes_in (slice_get names.now at) }
+    ensures short { length result.now ≤ MOST_NAME }
+{
+    text_at(names, at).bytes()
+}
