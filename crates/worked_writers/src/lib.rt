@@ -14,6 +14,8 @@ mod documents;
 #[cfg(test)]
 mod mailboxes;
 #[cfg(test)]
+mod reports;
+#[cfg(test)]
 mod requestors;
 #[cfg(test)]
 mod scripts;
