@@ -4,5 +4,6 @@ pub mod Losses
 pub mod States
 pub mod MoveLines
 pub mod Parting
+pub mod Joined
 pub mod Values
 pub mod Named
