@@ -6,4 +6,3 @@ pub mod MoveLines
 pub mod Parting
 pub mod Joined
 pub mod Values
-pub mod Named

@@ -1,7 +1,7 @@
 -- The lines of a report as they are read back, by their words: a move, an effect, the end of the moves, or none of these. A
 -- name is one of the scenario's. A number of a move and that of restored blocks are read for what they say, all other numbers
 -- and digests for their form alone. (This project's own.)
-use Rattle.std.specs.Prelude.{ℕ, ◌≤◌, ◌==◌, ◌&&◌, ◌||◌, Bool, true, false, List, [], ◌∷◌, ◌++◌, length, map, find, nat_le, not, if◌then◌else◌, Option, Some, None, is_some, codes}
+use Rattle.std.specs.Prelude.{ℕ, ◌≤◌, ◌==◌, ◌&&◌, ◌||◌, Bool, false, List, [], ◌∷◌, ◌++◌, length, map, find, nat_le, not, if◌then◌else◌, Option, Some, None, is_some, codes}
 use Rattle.std.specs.List.{list_all, list_any, range_with_len}
 use Rattle.std.specs.Str.{bytes_eq}
 use Rattle.std.specs.Fmt.{decimal}

@@ -1,4 +1,4 @@
-use Rattle.std.proofs.Common.{◌≡◌, ◌≤◌, drop, length}
+use Rattle.std.proofs.Common.{◌≡◌, drop}
 use Rattle.std.specs.Prelude.{slice_range}
 use Rattle.vss_report.specs.Pieces.{pieces}
 use Rattle.vss_report.proofs.Parting.{all_before}
