@@ -19,7 +19,7 @@ use Rattle.vss_model.specs.Acts.{reply}
 use Rattle.vss_model.specs.Told.{IsDigestIf, IsFirstIf}
 use Rattle.vss_model.specs.Trail.{Run, begin, run, event_of, act_of, moved}
 use Rattle.vss_report.specs.Words.{spaced, as_line, volume_text}
-use Rattle.vss_report.specs.Report.{IsReplyText, IsTextOf, IsMoveText, IsLines, IsVolumeText, IsImageText, AreImageTexts, AreVolumeTexts, IsReport, first_line, move_text, end_text, writers_text}
+use Rattle.vss_report.specs.Report.{IsReplyText, IsTextOf, IsLines, IsVolumeText, IsImageText, AreImageTexts, AreVolumeTexts, IsReport, first_line, move_text, end_text, writers_text}
 use Rattle.vss_report.specs.ToldReport.{told_reply, told_event, told_move, told_moves, told_image, told_images, told_volume, told_volumes, told_closing, told_report, all_tell}
 
 digest_told : (rows : List VolumeRow) (v : ℕ) (bytes : List ℕ) → IsDigestIf (slice_get (map (λ _. true) rows) v) bytes (sha256 bytes)

@@ -5,17 +5,28 @@
 //! report of its run has, wherever the outcome is what the move comes to.
 //!
 //! `specs/Words.antt` has the texts of the things that a report names, `specs/ToldLines.antt` the lines from what a program
-//! was told, `specs/Report.antt` the report as a relation between a trail and a text, and `specs/Shapes.antt` the lines that
-//! are read back as a trail.
+//! was told, `specs/Report.antt` the report as a relation between a trail and a text. `trail_of` reads a report
+//! back: `specs/Pieces.antt` has a text in lines and words, `specs/Shapes.antt` what a line is, and `specs/ReadBack.antt` which
+//! text tells which trail, or which of its lines is the first that is not of the form.
 #![tactic(auto)]
 
 mod closing;
+mod effect_words;
 mod effects;
 pub mod laws;
+mod line_kind;
 mod lines;
+mod move_words;
 mod names;
+mod pieces;
+mod read_back;
 mod replies;
+mod reply_words;
+mod report_fault;
+mod shapes;
 mod words;
 
 pub use lines::{MOST_BYTES, closing_line, move_lines, opening_line};
+pub use read_back::trail_of;
+pub use report_fault::ReportFault;
 pub use vss_model::{ClosingRow, Evicted, Lists, Outcome, Told};

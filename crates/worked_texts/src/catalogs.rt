@@ -70,8 +70,10 @@ fn a_catalog_is_read_as_it_was_written(rt: HostRuntime) -> Result<(), Fail> {
         return Err("no catalog".into());
     };
     assert!(rt; catalog.volumes() == 2);
-    assert!(rt; catalog.name(0).bytes() == b"C" && catalog.name(1).bytes() == b"D");
-    assert!(rt; catalog.blocks(0) == 2 && catalog.images(1) == &[1]);
+    assert_eq!(&rt; catalog.name(0).bytes(), b"C".as_slice());
+    assert_eq!(&rt; catalog.name(1).bytes(), b"D".as_slice());
+    assert!(rt; catalog.blocks(0) == 2);
+    assert_eq!(&rt; catalog.images(1), [1].as_slice());
     let again = catalog.encode(alloc)?;
     assert!(rt; again.bytes() == text.bytes());
     Ok(())
@@ -104,9 +106,30 @@ fn a_field_out_of_range_is_told_by_its_own_fault(rt: HostRuntime) -> Result<(), 
         (12, 33, CatalogFault::Name { volume: 0 }),
         (12, 31, CatalogFault::Short { at: 16 }),
         (16, 0x31, CatalogFault::Name { volume: 0 }),
-        (17, 0, CatalogFault::Blocks { volume: 0, found: 0 }),
-        (34, 65_537, CatalogFault::Blocks { volume: 1, found: 65_537 }),
-        (21, 513, CatalogFault::Images { volume: 0, found: 513 }),
+        (
+            17,
+            0,
+            CatalogFault::Blocks {
+                volume: 0,
+                found: 0,
+            },
+        ),
+        (
+            34,
+            65_537,
+            CatalogFault::Blocks {
+                volume: 1,
+                found: 65_537,
+            },
+        ),
+        (
+            21,
+            513,
+            CatalogFault::Images {
+                volume: 0,
+                found: 513,
+            },
+        ),
         (25, 0, CatalogFault::Order { volume: 0, at: 25 }),
         (21, 2, CatalogFault::Order { volume: 0, at: 29 }),
         (38, 2, CatalogFault::Short { at: 46 }),

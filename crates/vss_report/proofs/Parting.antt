@@ -1,0 +1,90 @@
+-- A text in pieces, one byte on.
+use Rattle.std.proofs.Common.{◌≡◌, ℕ, ◌+◌, ◌-◌, ◌<◌, ◌≤◌, Bool, true, false, List, [], ◌∷◌, ◌++◌, length, drop, get_or, refl, ap, ◌∙◌, arith}
+use Rattle.std.specs.Prelude.{◌==◌, if◌then◌else◌, nat_lt, slice_range}
+use Rattle.std.proofs.lemmas.Bool.Decides.{nat_tests}
+use Rattle.std.proofs.lemmas.List.{drop_more, drop_all, take_more, length-drop, length-take-le, get_or-drop}
+use Rattle.vss_report.specs.Pieces.{before, pieces, pieces_at, is_over}
+
+-- the bytes of a list before the first piece
+abbrev pub all_before : List ℕ → List (List ℕ) → List (List ℕ)
+all_before [] ps = ps
+all_before (b ∷ bs) ps = before b (all_before bs ps)
+
+not_over : (byte : ℕ) (ps : List (List ℕ)) → is_over (before byte ps) ≡ false
+not_over byte [] = refl
+not_over byte (p ∷ ps) = refl
+
+pieces_are_some : (mark : ℕ) (text : List ℕ) → is_over (pieces mark text) ≡ false
+pieces_are_some mark [] = refl
+pieces_are_some mark (byte ∷ rest) =
+    let on : (t : Bool) → is_over (if t then [] ∷ pieces mark rest else before byte (pieces mark rest)) ≡ false =
+    λ t. elim t as (λ v. is_over (if v then [] ∷ pieces mark rest else before byte (pieces mark rest)) ≡ false)
+    [ true ↦ refl | false ↦ not_over byte (pieces mark rest) ] in
+    on (byte == mark)
+
+pub some_piece : (mark : ℕ) (text : List ℕ) (at : ℕ) → is_over (pieces_at mark text at) ≡ nat_lt (length text) at
+some_piece mark text at =
+    let on : (t : Bool) → is_over (if t then [] else pieces mark (drop at text)) ≡ t =
+    λ t. elim t as (λ v. is_over (if v then [] else pieces mark (drop at text)) ≡ v)
+    [ true ↦ refl | false ↦ pieces_are_some mark (drop at text) ] in
+    on (nat_lt (length text) at)
+
+pub no_piece : (mark : ℕ) (text : List ℕ) (at : ℕ) → length text < at → pieces_at mark text at ≡ []
+no_piece mark text at h = let past : nat_lt (length text) at ≡ true = grind (arith, nat_tests) in rw past refl
+
+pub here : (mark : ℕ) (text : List ℕ) (at : ℕ) → at ≤ length text → pieces_at mark text at ≡ pieces mark (drop at text)
+here mark text at h = let within : nat_lt (length text) at ≡ false = grind (arith, nat_tests) in rw within refl
+
+-- ## a piece, byte by byte
+
+all_before-snoc : (xs : List ℕ) (b : ℕ) (ps : List (List ℕ)) → all_before (xs ++ b ∷ []) ps ≡ all_before xs (before b ps)
+all_before-snoc [] b ps = refl
+all_before-snoc (x ∷ xs) b ps = ap (before x) (all_before-snoc xs b ps)
+
+all_before-whole : (xs : List ℕ) (ps : List (List ℕ)) → all_before xs ([] ∷ ps) ≡ xs ∷ ps
+all_before-whole [] ps = refl
+all_before-whole (x ∷ xs) ps = ap (before x) (all_before-whole xs ps)
+
+length-range : (text : List ℕ) (at end : ℕ) → at ≤ end → end ≤ length text → length (slice_range text at end) ≡ end - at
+length-range text at end h within = length-take-le (end - at) (drop at text) (rw (length-drop at text) (omega arith))
+
+range_one_more : (text : List ℕ) (at end : ℕ) → at ≤ end → end < length text → slice_range text at (end + 1) ≡ slice_range text at end ++ get_or text end 0 ∷ []
+range_one_more text at end h inside =
+    let one : end + 1 - at ≡ end - at + 1 = omega arith in
+    let rest : end - at < length (drop at text) = rw (length-drop at text) (omega arith) in
+    let same : at + (end - at) ≡ end = omega arith in
+    rw (one, take_more (drop at text) (end - at) 0 rest, get_or-drop at text (end - at) 0, same) refl
+
+-- a byte that parts nothing is of the piece at hand
+pub passes : (mark : ℕ) (text : List ℕ) (at end : ℕ) (whole : List (List ℕ)) → at ≤ end → end < length text → (get_or text end 0 == mark) ≡ false
+    → whole ≡ all_before (slice_range text at end) (pieces mark (drop end text))
+    → whole ≡ all_before (slice_range text at (end + 1)) (pieces mark (drop (end + 1) text))
+passes mark text at end whole h inside other e =
+    rw (range_one_more text at end h inside, all_before-snoc (slice_range text at end) (get_or text end 0) (pieces mark (drop (end + 1) text)))
+    (e ∙ rw (drop_more text end 0 inside, other) refl)
+
+-- the byte that parts ends it
+pub ends : (mark : ℕ) (text : List ℕ) (at end : ℕ) → at ≤ end → end < length text → (get_or text end 0 == mark) ≡ true
+    → pieces mark (drop at text) ≡ all_before (slice_range text at end) (pieces mark (drop end text))
+    → pieces_at mark text at ≡ slice_range text at end ∷ pieces_at mark text (at + length (slice_range text at end) + 1)
+ends mark text at end h inside parts e =
+    let long : length (slice_range text at end) ≡ end - at = length-range text at end h (omega arith) in
+    let next : at + length (slice_range text at end) + 1 ≡ end + 1 = omega (arith, long) in
+    rw (next, here mark text at (omega arith), here mark text (end + 1) (omega arith))
+    (e ∙ ap (all_before (slice_range text at end)) (rw (drop_more text end 0 inside, parts) refl) ∙ all_before-whole (slice_range text at end) (pieces mark (drop (end + 1) text)))
+
+-- the text's end does too
+pub ends_text : (mark : ℕ) (text : List ℕ) (at end : ℕ) → at ≤ length text → end ≡ length text
+    → pieces mark (drop at text) ≡ all_before (slice_range text at end) (pieces mark (drop end text))
+    → pieces_at mark text at ≡ slice_range text at (length text) ∷ pieces_at mark text (at + length (slice_range text at (length text)) + 1)
+ends_text mark text at end h whole e =
+    let long : length (slice_range text at (length text)) ≡ length text - at = length-range text at (length text) h (omega arith) in
+    let past : length text < at + length (slice_range text at (length text)) + 1 = omega (arith, long) in
+    let last : pieces mark (drop end text) ≡ [] ∷ [] = rw (drop_all end text (omega arith)) refl in
+    let all : pieces mark (drop at text) ≡ slice_range text at end ∷ [] =
+    e ∙ ap (all_before (slice_range text at end)) last ∙ all_before-whole (slice_range text at end) [] in
+    let same : slice_range text at end ∷ [] ≡ slice_range text at (length text) ∷ [] = ap (λ n. slice_range text at n ∷ []) whole in
+    rw (here mark text at h, no_piece mark text _ past) (all ∙ same)
+
+pub from_first : (mark : ℕ) (text : List ℕ) → pieces_at mark text 0 ≡ pieces mark text
+from_first mark text = here mark text 0 (omega arith)

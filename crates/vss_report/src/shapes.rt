@@ -1,0 +1,162 @@
+//! What the words of a line may be: a fixed word, a number, digits, a name of the scenario, a name of a table.
+
+ghost use Rattle.std.specs.Prelude.{◌≡◌, ◌+◌, ◌≤◌, ◌<◌, length, is_some, IfSome};
+ghost use Rattle.std.specs.List.{list_all};
+ghost use Rattle.std.specs.Str.{bytes_eq};
+ghost use Rattle.scenario.specs.Numbers as numbers;
+ghost use Rattle.vss_report.specs.Shapes as shapes;
+
+use crate::names::{lane_name, volume_name};
+use scenario::Scenario;
+use vss_names::{Order, VssResult, WriterError};
+
+/// Whether a word is this one.
+pub fn is(word: &[u8], text: &str) -> bool
+    ensures { result ≡ bytes_eq word.now text.now }
+{
+    word == text.as_bytes()
+}
+
+fn is_digit(byte: u8) -> bool
+    ensures { result ≡ numbers.is_digit byte }
+{
+    b'0' <= byte && byte <= b'9'
+}
+
+fn begins_number(word: &[u8]) -> bool
+    ensures { result ≡ numbers.begins_number word.now }
+{
+    if word.is_empty() {
+        return false;
+    }
+    !(word[0] == b'0' && 1 < word.len())
+}
+
+fn are_digits(word: &[u8]) -> bool
+    ensures { result ≡ list_all numbers.is_digit word.now }
+{
+    word.iter().all(|byte| is_digit(*byte))
+}
+
+/// Whether a word is a number, of any length.
+#[tactic(auto, using(crate::proofs::Values::number_by_digits))]
+pub fn is_number(word: &[u8]) -> bool
+    ensures { result ≡ shapes.is_number word.now }
+{
+    begins_number(word) && are_digits(word)
+}
+
+/// A value, or the least that is past the bound.
+fn capped(value: u64, most: u32) -> u64
+    ensures value { result ≡ numbers.capped most value }
+    ensures most { result ≤ most + 1 }
+{
+    let most = u64::from(most);
+    if most < value { most + 1 } else { value }
+}
+
+/// The number that these digits are, where it is not above the bound.
+fn value_of(digits: &[u8], most: u32) -> Option<u32>
+    ensures { result ≡ shapes.up_to most (numbers.value_from 0 digits.now) }
+{
+    let mut value = 0u64;
+    for byte in digits {
+        if !is_digit(*byte) {
+            return None;
+        }
+        value = capped(value * 10 + u64::from(*byte - b'0'), most);
+    }
+    if value > u64::from(most) {
+        return None;
+    }
+    Some(value as u32)
+}
+
+/// The number that a word is, where it is one that is not above the bound.
+pub fn number_up_to(word: &[u8], most: u32) -> Option<u32>
+    ensures { result ≡ shapes.number_up_to most word.now }
+{
+    if !begins_number(word) {
+        return None;
+    }
+    value_of(word, most)
+}
+
+fn is_hex_digit(byte: u8) -> bool
+    ensures { result ≡ shapes.is_hex_digit byte }
+{
+    is_digit(byte) || (b'a' <= byte && byte <= b'f')
+}
+
+fn are_hex_digits(word: &[u8]) -> bool
+    ensures { result ≡ list_all shapes.is_hex_digit word.now }
+{
+    word.iter().all(|byte| is_hex_digit(*byte))
+}
+
+/// Whether a word is so many hexadecimal digits of lower case.
+pub fn is_hex(word: &[u8], count: usize) -> bool
+    ensures { result ≡ shapes.is_hex count word.now }
+{
+    word.len() == count && are_hex_digits(word)
+}
+
+/// Whether a word is what a writer answers.
+pub fn is_answer(word: &[u8]) -> bool
+    ensures { result ≡ shapes.is_answer word.now }
+{
+    is(word, "ok") || WriterError::of_name(word).is_some()
+}
+
+/// Whether a word is the name of an order.
+pub fn is_order(word: &[u8]) -> bool
+    ensures { result ≡ shapes.is_order word.now }
+{
+    Order::of_name(word).is_some()
+}
+
+/// Whether a word is the name of a result.
+pub fn is_result(word: &[u8]) -> bool
+    ensures { result ≡ shapes.is_result word.now }
+{
+    VssResult::of_name(word).is_some()
+}
+
+/// The lane with this name.
+pub fn lane_named(scenario: &Scenario, name: &[u8]) -> Option<u32>
+    ensures { result ≡ shapes.lane_named scenario.now name.now }
+{
+    for lane in 0..scenario.lanes() {
+        if lane_name(scenario, lane) == name {
+            return Some(lane);
+        }
+    }
+    None
+}
+
+/// The volume with this name.
+fn volume_named(scenario: &Scenario, name: &[u8]) -> Option<u32>
+    ensures { result ≡ shapes.volume_named scenario.now name.now }
+{
+    for volume in 0..scenario.volumes() {
+        if volume_name(scenario, volume) == name {
+            return Some(volume);
+        }
+    }
+    None
+}
+
+/// Whether a word is the name of a volume.
+pub fn is_volume(scenario: &Scenario, word: &[u8]) -> bool
+    ensures { result ≡ shapes.is_volume scenario.now word.now }
+{
+    volume_named(scenario, word).is_some()
+}
+
+/// The writer with this name. No scenario that is read has writers.
+pub fn writer_named(scenario: &Scenario, name: &[u8]) -> Option<u32>
+    ensures { result ≡ shapes.writer_named scenario.now name.now }
+{
+    let _count = scenario.volumes();
+    None
+}
