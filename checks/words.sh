@@ -38,7 +38,7 @@ trap 'rm -rf "$room"' EXIT
 ln -s "$top/vss" "$room/link"
 "$room/link" gen > "$room/out" 2> "$room/err" < /dev/null
 status=$?
-if [ "$status" != 2 ] || [ "$(cat "$room/err")" != "vss: usage" ] || [ -s "$room/out" ]; then
+if [ "$status" != 2 ] || [ "$(head -n 1 "$room/err")" != "vss: usage" ] || [ -s "$room/out" ]; then
   echo "words: a link to ./vss is not ./vss" >&2
   failed=1
 fi
