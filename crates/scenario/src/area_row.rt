@@ -1,7 +1,7 @@
 use crate::span::Span;
 
 /// A declared area.
-#[derive(Clone, Copy, Debug, PartialEq, Eq)]
+#[derive(Clone, Copy)]
 pub(crate) struct AreaRow {
     pub name: Span,
     pub slots: u32,

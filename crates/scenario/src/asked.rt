@@ -1,7 +1,7 @@
 use vss_names::Order;
 
 /// Which order of which writer an `answer` line speaks of.
-#[derive(Clone, Copy, Debug, PartialEq, Eq)]
+#[derive(Clone, Copy)]
 pub(crate) struct Asked {
     pub writer: u32,
     pub order: Order,

@@ -1,22 +1,18 @@
-ghost use Rattle.std.specs.Prelude.{◌≡◌, ◌<◌, ◌≤◌, ◌+◌, ◌||◌, true, length, map, find, slice_get, vec_len, None, IfOk, IfSome, OnOk};
-ghost use Rattle.writer_calls.specs.Script.{is_row_for};
-ghost use Rattle.scenario.specs.Bounds.{is_begin, begins_agenda};
-ghost use Rattle.scenario.specs.Plan.{script_in};
-ghost use Rattle.scenario.specs.SoFar.{with_group, with_area_group, with_answer, with_line};
+ghost use Rattle.std.specs.Prelude.{◌≡◌, ◌<◌, true, length, map, IfOk, IfSome, OnOk};
+ghost use Rattle.scenario.specs.Bounds.{begins_agenda};
 ghost use Rattle.scenario.specs.Declarations.{is_answered};
-ghost use Rattle.scenario.specs.Drafts.{agendas_with};
 ghost use Rattle.scenario.specs.Rows.{writer_plan, lane_plan};
 
 use crate::area_row::AreaRow;
-use crate::closing::{closed_lanes, is_begin};
+use crate::closing::closed_lanes;
 use crate::counts::Counts;
 use crate::entry::Entry;
 use crate::fields::bytes_of;
 use crate::group_row::GroupRow;
+use crate::kept_rows::{add_answer, add_group, add_line, set_group};
 use crate::lane::Lane;
 use crate::lane_line::LaneLine;
 use crate::name_table::NameTable;
-use crate::op::Op;
 use crate::parts::Parts;
 use crate::script::Script;
 use crate::span::Span;
@@ -66,80 +62,6 @@ impl Model for Draft {
       names = record { areas = d.area_names; volumes = d.volume_names; writers = d.writer_names; lanes = d.lane_names };
       counts = d.counts;
     } };
-}
-
-/// Appends the group of a declared area that has none.
-fn add_group(groups: &mut Vec<GroupRow>, area: AreaRow) -> Result<(), OutOfMemory>
-    ensures { OnOk result (groups.new.items ≡ with_group area groups.old.items) }
-{
-    if area.group.is_none() {
-        groups.push(GroupRow {
-            name: area.name,
-            slots: area.slots,
-        })?;
-    }
-    Ok(())
-}
-
-/// Gives a declared area its group.
-fn set_group(areas: &mut Vec<AreaRow>, a: u32, area: AreaRow, group: u32)
-    requires { a < vec_len areas.old }
-    ensures { areas.new.items ≡ with_area_group a area group areas.old.items }
-{
-    areas[a as usize] = AreaRow {
-        name: area.name,
-        slots: area.slots,
-        group: Some(group),
-    };
-}
-
-/// Appends a row to the script of a writer.
-fn add_answer(writers: &mut Vec<Writer>, w: u32, row: Scripted) -> Result<(), OutOfMemory>
-    requires known { w < vec_len writers.old }
-    requires nth { row.nth ≤ 2000 }
-    requires new { find (is_row_for row.order row.nth) (script_in (slice_get (map writer_plan writers.old.items) w)) ≡ None }
-    ensures { OnOk result (map writer_plan writers.new.items ≡ with_answer w row (map writer_plan writers.old.items)) }
-{
-    writers[w as usize].script.add(row)?;
-    Ok(())
-}
-
-/// Appends a line to the last lane.
-fn add_line(lanes: &mut Vec<Lane>, line: LaneLine) -> Result<(), OutOfMemory>
-    requires { 0 < vec_len lanes.old }
-    ensures { OnOk result (map lane_plan lanes.new.items ≡ with_line line (map lane_plan lanes.old.items)) }
-{
-    let last = lanes.len() - 1;
-    lanes[last].lines.push(line)?;
-    Ok(())
-}
-
-pub(crate) fn begins_agenda(op: Op) -> bool
-    ensures { result ≡ begins_agenda op }
-{
-    match op {
-        Op::Gather | Op::Prepare | Op::Snapshot | Op::Complete => true,
-        _ => false,
-    }
-}
-
-/// The counts with one line more.
-fn with_line(counts: Counts, op: Op) -> Counts
-    requires lines { counts.lines < 100000 }
-    requires agendas { begins_agenda op ≡ true → counts.agenda_lines < 2000 }
-    ensures { result ≡ record counts { lines = counts.lines + 1; agenda_lines = agendas_with counts.agenda_lines op; begun = counts.begun || is_begin op } }
-{
-    let agenda_lines = if begins_agenda(op) {
-        counts.agenda_lines + 1
-    } else {
-        counts.agenda_lines
-    };
-    Counts {
-        lines: counts.lines + 1,
-        agenda_lines,
-        answers: counts.answers,
-        begun: counts.begun || is_begin(op),
-    }
 }
 
 impl Draft {
@@ -416,7 +338,7 @@ impl Draft {
         }) }
     {
         add_line(&mut self.lanes, line)?;
-        self.counts = with_line(self.counts, line.op);
+        self.counts = self.counts.with_line(line.op);
         Ok(())
     }
 

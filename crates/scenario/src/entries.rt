@@ -6,9 +6,9 @@ ghost use Rattle.scenario.specs.Drafts.{IsDraft, IsEntry, saying_in, told, IsUnr
 ghost use Rattle.scenario.specs.Words.{takes_document};
 ghost use Rattle.scenario.specs.Entries.{is_printable, is_skipped, has_lane, may_stand, has_line_room, line_of, row_of, said_of, saying_of};
 
-use crate::counts::Counts;
+use crate::counts::{Counts, begins_agenda};
 use crate::declarations::{area_of, lane_of, opening_of, volume_of};
-use crate::draft::{Draft, begins_agenda};
+use crate::draft::Draft;
 use crate::entry::Entry;
 use crate::fields::{Fields, bytes_of, fields_for, word_at};
 use crate::lane_line::LaneLine;

@@ -25,6 +25,7 @@ mod entry;
 mod field_values;
 mod fields;
 mod group_row;
+mod kept_rows;
 mod lane;
 mod lane_line;
 pub mod laws;

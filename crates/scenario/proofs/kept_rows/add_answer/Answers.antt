@@ -1,6 +1,6 @@
 use Rattle.std.proofs.Common.{refl, arith}
 use Rattle.scenario.proofs.Changes.{answer_stored}
-use Rattle.scenario.proofs.draft.add_answer.Goals as goal
+use Rattle.scenario.proofs.kept_rows.add_answer.Goals as goal
 
 pub returns : goal.returns
 returns c =
