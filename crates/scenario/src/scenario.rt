@@ -129,10 +129,7 @@ impl Scenario {
         requires { w < length self.now.writers }
         ensures { result ≡ scripted_answer (script_of self.now w) order nth }
     {
-        match self.writers[w as usize].script.row_for(order, nth) {
-            Some(row) => row.answer,
-            None => Some(Answer::Ok),
-        }
+        self.writers[w as usize].script.answer(order, nth)
     }
 
     /// How many lanes there are.

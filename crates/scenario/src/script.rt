@@ -1,13 +1,13 @@
 ghost use Rattle.std.specs.Prelude.{◌≡◌, ◌≤◌, ◌<◌, ◌++◌, ◌∷◌, [], None, find, OnErr, OnOk};
 ghost use Rattle.set_agenda.specs.Agenda.{order_code};
-ghost use Rattle.writer_calls.specs.Script.{is_row_for};
+ghost use Rattle.writer_calls.specs.Script.{is_row_for, scripted_answer};
 ghost use Rattle.scenario.specs.Keys.{key_of};
 
 use indexmap::IndexMap;
 use std::alloc::Global;
 use std::marker::Model;
 use vss_names::{Order, OutOfMemory};
-use writer_calls::Scripted;
+use writer_calls::{Answer, Scripted};
 
 /// What a writer answers, in order of the `answer` lines. The row for an order is found in a table.
 #[derive(Drop)]
@@ -65,6 +65,16 @@ impl Script {
         ensures { result ≡ find (is_row_for order nth) self.now }
     {
         self.rows.get(&key_of(order, nth)).copied()
+    }
+
+    /// The answer to the `nth` order of this kind: ok where no row speaks of it; none is a lost answer.
+    pub(crate) fn answer(&self, order: Order, nth: u32) -> Option<Answer>
+        ensures { result ≡ scripted_answer self.now order nth }
+    {
+        match self.row_for(order, nth) {
+            Some(row) => row.answer,
+            None => Some(Answer::Ok),
+        }
     }
 
     /// One row more, for an order that no row speaks of.
