@@ -8,4 +8,5 @@ pub mod Groups
 pub mod Kept
 pub mod StillBuilt
 pub mod Whole
+pub mod Stored
 pub mod Language
