@@ -24,6 +24,7 @@ mod replies;
 mod reply_words;
 mod report_fault;
 mod shapes;
+mod state_words;
 mod words;
 
 pub use lines::{MOST_BYTES, closing_line, move_lines, opening_line};

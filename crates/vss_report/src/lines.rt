@@ -4,7 +4,7 @@ ghost use Rattle.std.specs.Prelude.{◌≡◌, ◌+◌, ◌≤◌, ◌<◌, ◌+
 ghost use Rattle.std.specs.Fmt.{decimal};
 ghost use Rattle.vss_report.specs.Words.{spaced, as_line};
 ghost use Rattle.vss_report.specs.Report.{first_line};
-ghost use Rattle.vss_report.specs.ToldLines.{told_actor, told_text, told_lines, AreLinesOf, AreInRange, IsActor, IsTold, closing_text, IsClosingRow};
+ghost use Rattle.vss_report.specs.ToldLines.{told_actor, told_text, told_lines, AreLinesOf, AreInRange, HasRowsIfTold, IsActor, IsTold, closing_text, IsClosingRow};
 
 use crate::closing::add_closing;
 use crate::effects::{add_all_evicted, add_end, add_losses};
@@ -17,7 +17,7 @@ use vss_names::{OutOfMemory, Text};
 use write_history::{Actor, Move};
 
 /// The most bytes that the lines of one move, or one closing line, take.
-pub const MOST_BYTES: usize = 65536;
+pub const MOST_BYTES: usize = 4194304;
 
 /// Appends who moves; a lane with the number of its line.
 fn add_actor(scenario: &Scenario, line: u32, actor: Actor, out: &mut Text)
@@ -54,7 +54,7 @@ fn add_move(
     requires actor { IsActor scenario.now «actor» }
     requires told { IsTold scenario.now «told» }
     requires few { length lists.now.listed.now < 513 }
-    requires all { length lists.now.rows.now ≡ length scenario.now.writers }
+    requires all { HasRowsIfTold scenario.now «told» lists.now.rows.now }
     requires room { 11100 ≤ out.old.spare }
     ensures bytes { out.new.bytes ≡ out.old.bytes
         ++ as_line (decimal number ++ spaced (told_actor scenario.now line «actor») ++ spaced (told_text scenario.now lists.now.listed.now lists.now.rows.now «told»)) }
