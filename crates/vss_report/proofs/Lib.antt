@@ -6,3 +6,10 @@ pub mod MoveLines
 pub mod Parting
 pub mod Joined
 pub mod Values
+pub mod LegibleWords
+pub mod DigestBytes
+pub mod Says
+pub mod ReadStates
+pub mod ReadReplies
+pub mod ReadLines
+pub mod ReadTrail

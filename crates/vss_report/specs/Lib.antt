@@ -5,3 +5,4 @@ pub mod ToldLines
 pub mod Pieces
 pub mod Shapes
 pub mod ReadBack
+pub mod Legible
