@@ -13,3 +13,5 @@ pub mod ReadStates
 pub mod ReadReplies
 pub mod ReadLines
 pub mod ReadTrail
+pub mod LaneReplies
+pub mod ToldLegible

@@ -6,3 +6,4 @@ pub mod Pieces
 pub mod Shapes
 pub mod ReadBack
 pub mod Legible
+pub mod LegibleOutcome
