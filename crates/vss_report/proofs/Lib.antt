@@ -15,3 +15,4 @@ pub mod ReadLines
 pub mod ReadTrail
 pub mod LaneReplies
 pub mod ToldLegible
+pub mod RowCodes

@@ -137,9 +137,11 @@ actor_legible : (s : Plan) (tells : List Bool) (r : Run) (a : Actor) (mark : Mar
     → IsActor s a → IsTold s t → IsShortTold t listed → HasRowsIfTold s t rows → All HasItsCode r.state.course.rows → IsReplyTo s tells a mark (reply s r.state (act_of mark event))
 actor_legible s tells r (Lane i) mark event t listed rows plan is h actor in_plan short many coded =
     let e = line_event_is i (next_line s r i) event is in
-    let at : Happens s tells r.state mark t listed rows (Line i e.op) = subst (Happens s tells r.state mark t listed rows) e.is h in
-    (actor, subst (λ x. IsLaneReply s tells mark (reply s r.state (act_of mark x))) (sym e.is)
-    (lane_legible s tells r.state mark (reply s r.state (act_of mark (Line i e.op))) t listed rows (line_reply s i e.op mark r.state plan at.allowed) at.fits at.lists short many coded))
+    let at : Happens s tells r.state mark t listed rows (Line i e.op) = subst (Happens s tells r.state mark t listed rows) e.is h in (
+      actor,
+      subst (λ x. IsLaneReply s tells mark (reply s r.state (act_of mark x))) (sym e.is)
+          (lane_legible s tells r.state mark (reply s r.state (act_of mark (Line i e.op))) t listed rows (line_reply s i e.op mark r.state plan at.allowed) at.fits at.lists short many coded),
+    )
 actor_legible s tells r (Writer w) mark event t listed rows plan is h actor in_plan short many coded =
     let e = script_event_is s r.state w (order_of_writer r.state w) event is in
     let at : Happens s tells r.state mark t listed rows (AnswerEvent w e.answer) = subst (Happens s tells r.state mark t listed rows) e.is h in

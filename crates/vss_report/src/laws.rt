@@ -1,13 +1,14 @@
 //! What holds for every report: functions that do nothing, whose contracts are the laws.
 
-ghost use Rattle.std.specs.Prelude.{◌≡◌, ◌++◌, ◌∷◌, [], Bool, ℕ, List, Ok};
+ghost use Rattle.std.specs.Prelude.{◌≡◌, ◌++◌, ◌∷◌, [], Bool, ℕ, List, All, Ok};
 ghost use Rattle.write_history.specs.declared.move_item.Move.{Move};
 ghost use Rattle.scenario.specs.Plan.{Plan};
+ghost use Rattle.vss_model.specs.Acts.{Act, state};
 ghost use Rattle.vss_model.specs.Trail.{begin, run};
 ghost use Rattle.vss_report.specs.Report.{IsMoveText, IsReport, IsReportSoFar, first_line};
 ghost use Rattle.vss_report.specs.ToldReport.{all_tell, told_report};
 ghost use Rattle.vss_report.specs.ReadBack.{reading_back};
-ghost use Rattle.vss_report.specs.Legible.{IsLegible, IsLegibleMove, AreLegible, IsLegibleTrail};
+ghost use Rattle.vss_report.specs.Legible.{HasItsCode, IsLegible, IsLegibleMove, AreLegible, IsLegibleTrail};
 
 /// The report of a trail grows by the lines of each move.
 pub fn one_more_line()
@@ -31,6 +32,12 @@ pub fn report_reads_back()
     ensures one { (s : Plan) (tells others : List Bool) (trail other : List Move) (text : List ℕ)
         → IsLegible s → IsLegibleTrail s tells trail → IsLegibleTrail s others other
         → IsReport s tells trail text → IsReport s others other text → trail ≡ other }
+{}
+
+/// A writer that has failed has a code, and no other has one, in every state and after every trail.
+pub fn failures_have_codes()
+    ensures state { (s : Plan) (acts : List Act) → All HasItsCode (state s acts).course.rows }
+    ensures run { (s : Plan) (trail : List Move) → All HasItsCode (run s trail).state.course.rows }
 {}
 
 /// The moves of a trail are legible one by one, each where it comes.

@@ -24,6 +24,7 @@ mod replies;
 mod reply_words;
 mod report_fault;
 mod shapes;
+mod short;
 mod state_words;
 mod words;
 

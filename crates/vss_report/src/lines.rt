@@ -4,12 +4,14 @@ ghost use Rattle.std.specs.Prelude.{◌≡◌, ◌+◌, ◌≤◌, ◌<◌, ◌+
 ghost use Rattle.std.specs.Fmt.{decimal};
 ghost use Rattle.vss_report.specs.Words.{spaced, as_line};
 ghost use Rattle.vss_report.specs.Report.{first_line};
+ghost use Rattle.vss_report.specs.LegibleOutcome.{IsLegibleAs};
 ghost use Rattle.vss_report.specs.ToldLines.{told_actor, told_text, told_lines, AreLinesOf, AreInRange, HasRowsIfTold, IsActor, IsTold, closing_text, IsClosingRow};
 
 use crate::closing::add_closing;
 use crate::effects::{add_all_evicted, add_end, add_losses};
 use crate::names::{lane_name, writer_name};
 use crate::replies::add_told;
+use crate::short::is_short;
 use crate::words::{add, add_number, add_spaced_number};
 use scenario::Scenario;
 use vss_model::{ClosingRow, Lists, Outcome, Told};
@@ -78,7 +80,7 @@ pub fn opening_line(out: &mut Text) -> Result<(), OutOfMemory>
 }
 
 /// Appends the line of a move, and those of its effects. `number` counts the moves from 1; `line` is the number of the lane's
-/// line, and is not used for another actor.
+/// line, and is not used for another actor. Where the move is legal, its lines tell it and no other.
 pub fn move_lines(
     scenario: &Scenario,
     number: u32,
@@ -92,9 +94,12 @@ pub fn move_lines(
     ensures ok { OnOk result (out.new.bytes ≡ out.old.bytes ++ told_lines scenario.now number line item.actor outcome.now lists.now.listed.now lists.now.evicted.now lists.now.rows.now) }
     ensures report { AreLinesOf scenario.now number line item outcome.now lists.now.listed.now lists.now.evicted.now lists.now.rows.now
         (told_lines scenario.now number line item.actor outcome.now lists.now.listed.now lists.now.evicted.now lists.now.rows.now) }
+    ensures legible { IsLegibleAs scenario.now item outcome.now lists.now.listed.now lists.now.evicted.now lists.now.rows.now }
     ensures err { OnErr result (out.new ≡ out.old) }
     ensures succeeds { MOST_BYTES ≤ out.old.spare → IsOk result }
 {
+    let _plan = scenario.volumes();
+    is_short(outcome, lists);
     out.reserve(MOST_BYTES)?;
     add_move(scenario, number, line, item.actor, outcome.told, lists, out);
     add_all_evicted(scenario, lists.evicted, out);
