@@ -3,3 +3,4 @@ pub mod Values
 pub mod Sessions
 pub mod Kept
 pub mod Language
+pub mod Named

@@ -105,10 +105,7 @@ impl Scenario {
         ensures { option_map (λ writer. writer.name) (slice_get self.now.writers w) ≡ Some result }
     {
         let _ = &self.source;
-        Span {
-            start: w,
-            end: w,
-        }
+        Span { start: w, end: w }
     }
 
     /// How many lanes there are.
