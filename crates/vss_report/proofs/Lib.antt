@@ -16,3 +16,4 @@ pub mod ReadTrail
 pub mod LaneReplies
 pub mod ToldLegible
 pub mod RowCodes
+pub mod ScenarioNames

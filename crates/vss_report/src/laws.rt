@@ -3,6 +3,8 @@
 ghost use Rattle.std.specs.Prelude.{◌≡◌, ◌++◌, ◌∷◌, [], Bool, ℕ, List, All, Ok};
 ghost use Rattle.write_history.specs.declared.move_item.Move.{Move};
 ghost use Rattle.scenario.specs.Plan.{Plan};
+ghost use Rattle.scenario.specs.Bounds.{IsPlan};
+ghost use Rattle.scenario.specs.Named.{HasNames};
 ghost use Rattle.vss_model.specs.Acts.{Act, state};
 ghost use Rattle.vss_model.specs.Trail.{begin, run};
 ghost use Rattle.vss_report.specs.Report.{IsMoveText, IsReport, IsReportSoFar, first_line};
@@ -32,6 +34,11 @@ pub fn report_reads_back()
     ensures one { (s : Plan) (tells others : List Bool) (trail other : List Move) (text : List ℕ)
         → IsLegible s → IsLegibleTrail s tells trail → IsLegibleTrail s others other
         → IsReport s tells trail text → IsReport s others other text → trail ≡ other }
+{}
+
+/// A scenario within the limits whose names are by the grammar, those of a kind apart, is legible.
+pub fn scenarios_are_legible()
+    ensures { (s : Plan) → IsPlan s → HasNames s → IsLegible s }
 {}
 
 /// A writer that has failed has a code, and no other has one, in every state and after every trail.
