@@ -1,6 +1,6 @@
 -- A digest is 32 bytes, each below 256.
-use Rattle.std.proofs.Common.{◌≡◌, ◌∙◌, ℕ, zero, suc, ◌+◌, ◌*◌, ◌/◌, ◌%◌, ◌<◌, Bool, true, false, List, [], ◌∷◌, ◌++◌, length, get_or, take, refl, ap, sym, subst, arith}
-use Rattle.std.specs.Prelude.{◌&&◌, nat_lt, slice_index, Option, Some, None}
+use Rattle.std.proofs.Common.{◌≡◌, ◌∙◌, ℕ, zero, suc, ◌<◌, Bool, true, false, List, [], ◌∷◌, length, take, refl, ap, sym, subst, arith}
+use Rattle.std.specs.Prelude.{nat_lt, slice_index, Option, Some, None}
 use Rattle.std.specs.List.{list_all}
 use Rattle.std.specs.Int.{byte_at, bytes_high_first, to_be_bytes, w32}
 use Rattle.std.proofs.lemmas.Bool.Decides.{nat_tests}

@@ -1,15 +1,14 @@
 -- Which replies a lane's line may have, by the mark that its act has.
-use Rattle.std.proofs.Common.{◌≡◌, ◌∙◌, ℕ, zero, suc, ◌+◌, ◌<◌, ◌≤◌, Bool, true, false, List, [], ◌∷◌, length, filter, drop, map, Option, Some, None, refl, ap, sym, subst, arith}
-use Rattle.std.specs.Prelude.{All, ◌&&◌, ◌==◌, not, nat_lt, nat_le, is_some, is_none, if◌then◌else◌, slice_get}
+use Rattle.std.proofs.Common.{◌≡◌, ℕ, zero, suc, ◌+◌, ◌<◌, ◌≤◌, Bool, true, false, List, [], ◌∷◌, length, filter, drop, Option, Some, None, refl, ap, subst, arith}
+use Rattle.std.specs.Prelude.{All, ◌&&◌, nat_lt, is_some, is_none, if◌then◌else◌, slice_get}
 use Rattle.std.specs.List.{range_with_len}
 use Rattle.std.proofs.lemmas.Bool.Decides.{nat_tests}
 use Rattle.std.proofs.lemmas.List.Elements.{All-head, All-tail}
 use Rattle.vss_names.specs.declared.context.Context.{Context}
-use Rattle.vss_names.specs.declared.context.Context.TheVariants.{Backup, AppRollback, NasRollback}
 use Rattle.vss_names.specs.declared.vss_result.VssResult.{VssResult}
 use Rattle.write_history.specs.declared.mark.Mark.{Mark}
 use Rattle.write_history.specs.declared.mark.Mark.TheVariants.{Clean, Fault, FaultAfter}
-use Rattle.write_history.specs.History.{Write, names, blocks_named, to_restore}
+use Rattle.write_history.specs.History.{Write, names, to_restore}
 use Rattle.component_doc.specs.Selection.{Naming, IsNotFound, IsNotSelectable, IsNamedAlready, Names, naming}
 use Rattle.requestor.specs.declared.mode.Mode.{Mode}
 use Rattle.requestor.specs.declared.mode.Mode.TheVariants.{Components, All as AllMode}
@@ -27,8 +26,8 @@ use Rattle.scenario.specs.Calls.{call_of}
 use Rattle.vss_model.specs.Reply.{Reply, Fine, Faulted, FaultedAfter, Numbered, Coded, NotSelectable, BlockOf, BlocksOf, KeptSets, PropertiesOf, Deleted, DocumentOf, StatusOf, Answered, Stepped, Idled}
 use Rattle.vss_model.specs.State.{State, SetRow, Kept, history_of, kept_image, in_progress, is_kept_set}
 use Rattle.vss_model.specs.Ending.{runs}
-use Rattle.vss_model.specs.Images.{Replied, write, read_as, image_block, image_blocks, properties, delete_set, count_images, delete_kept, delete_image, reverted_as, revert_refusal, revert_to, revert}
-use Rattle.vss_model.specs.Sessions.{begin_in, component_in, named_as, known_metas, add, add_refusal, add_to, prepare, snapshot, has_no_volume, await_last, session_line, line_without_session, line_in, judged}
+use Rattle.vss_model.specs.Images.{Replied, write, image_block, image_blocks, properties, delete_set, count_images, delete_kept, delete_image, revert_refusal, revert_to, revert}
+use Rattle.vss_model.specs.Sessions.{begin_in, component_in, named_as, known_metas, add, add_refusal, add_to, has_no_volume, await_last, session_line, line_without_session, line_in, judged}
 use Rattle.vss_model.specs.Lines.{called, called_if, line}
 use Rattle.vss_model.specs.Acts.{restorable, may_stop_after, line_allows}
 

@@ -1,6 +1,6 @@
 -- The words of a report: numbers, digits, names and codes. None of them has a space or a newline in it, and each is read as what it is.
-use Rattle.std.proofs.Common.{◌≡◌, ◌∙◌, ℕ, zero, suc, ◌+◌, ◌-◌, ◌*◌, ◌/◌, ◌%◌, ◌^◌, ◌<◌, ◌≤◌, Bool, true, false, List, [], ◌∷◌, ◌++◌, length, get_or, Some, None, Option, refl, ap, sym, arith}
-use Rattle.std.specs.Prelude.{◌==◌, ◌&&◌, ◌||◌, not, nat_le, nat_lt, if◌then◌else◌, is_some, slice_index, codes}
+use Rattle.std.proofs.Common.{◌≡◌, ◌∙◌, ℕ, zero, suc, ◌+◌, ◌-◌, ◌*◌, ◌/◌, ◌%◌, ◌^◌, ◌<◌, Bool, true, false, List, [], ◌∷◌, ◌++◌, length, get_or, Some, None, refl, ap, sym, arith}
+use Rattle.std.specs.Prelude.{◌==◌, ◌&&◌, nat_le, if◌then◌else◌, is_some, slice_index}
 use Rattle.std.specs.List.{list_all}
 use Rattle.std.specs.Str.{bytes_eq}
 use Rattle.std.specs.Fmt.{decimal}
@@ -14,18 +14,15 @@ use Rattle.vss_names.specs.declared.vss_result.VssResult.{VssResult}
 use Rattle.vss_names.specs.declared.vss_result.VssResult.TheVariants.{Writer}
 use Rattle.vss_names.specs.declared.order.Order.{Order}
 use Rattle.vss_names.specs.declared.order.Order.TheVariants.{Identify}
-use Rattle.vss_names.specs.declared.writer_state.WriterState.{WriterState}
-use Rattle.vss_names.specs.declared.writer_state.WriterState.TheVariants.{Unknown}
 use Rattle.vss_names.specs.VssResult as result
 use Rattle.vss_names.specs.WriterError as error
-use Rattle.vss_names.specs.WriterState as state
 use Rattle.vss_names.specs.Order as order
 use Rattle.vss_names.proofs.VssResultRows.{vss_result_of_name-name_of}
 use Rattle.vss_names.proofs.WriterErrorRows.{error_of_name-name_of}
 use Rattle.vss_names.proofs.OrderRows.{order_of_name-name_of}
 use Rattle.scenario.specs.Numbers.{is_digit, begins_number, value_from, number_of}
 use Rattle.scenario.specs.Names.{is_letter, is_name_byte, is_name}
-use Rattle.vss_report.specs.Shapes.{is_number, is_hex_digit, is_hex, is_order, is_result, is_answer}
+use Rattle.vss_report.specs.Shapes.{is_number, is_hex_digit, is_hex, is_order, is_result}
 use Rattle.vss_report.proofs.Joined.{is_free, both, first_of_both, second_of_both, free_where}
 use Rattle.vss_report.proofs.Values.{digits_have_value}
 

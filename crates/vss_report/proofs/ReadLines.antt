@@ -1,6 +1,6 @@
 -- Each line of a report is read as what it tells: a move, an effect, the end of the moves.
 use Rattle.std.proofs.Common.{◌≡◌, ◌∙◌, ℕ, zero, suc, ◌+◌, ◌^◌, ◌<◌, ◌≤◌, Bool, true, false, List, [], ◌∷◌, ◌++◌, length, Option, Some, None, refl, ap, sym, subst, find, cond, inl, inr, arith}
-use Rattle.std.specs.Prelude.{◌==◌, ◌&&◌, ◌||◌, nat_le, if◌then◌else◌, is_some, codes}
+use Rattle.std.specs.Prelude.{◌&&◌, ◌||◌, nat_le, if◌then◌else◌, is_some, codes}
 use Rattle.std.specs.List.{range_with_len}
 use Rattle.std.specs.Str.{bytes_eq}
 use Rattle.std.specs.Fmt.{decimal}
@@ -15,10 +15,9 @@ use Rattle.vss_names.specs.declared.set_outcome.SetOutcome.TheVariants.{Running,
 use Rattle.vss_names.specs.VssResult as result
 use Rattle.vss_names.specs.WriterError as error
 use Rattle.vss_names.specs.Order as order
-use Rattle.write_history.specs.declared.actor.Actor.{Actor}
-use Rattle.write_history.specs.declared.actor.Actor.TheVariants.{Lane, Writer, Advance, Idle}
+use Rattle.write_history.specs.declared.actor.Actor.TheVariants.{Lane, Writer}
 use Rattle.write_history.specs.declared.mark.Mark.{Mark}
-use Rattle.write_history.specs.declared.mark.Mark.TheVariants.{Clean, Fault, FaultAfter}
+use Rattle.write_history.specs.declared.mark.Mark.TheVariants.{Clean, Fault}
 use Rattle.write_history.specs.declared.move_item.Move.{Move as Step}
 use Rattle.write_history.specs.declared.trail.TheConstants.{MOST_MOVES}
 use Rattle.writer_calls.specs.declared.answer.Answer.{Answer}
@@ -27,14 +26,12 @@ use Rattle.set_agenda.specs.declared.group.Group.{Group}
 use Rattle.set_agenda.specs.declared.group.Group.TheVariants.{Orders, PreCommit, Flush, Hold, Cut, Commit, Release, PostCommit}
 use Rattle.scenario.specs.Plan.{Plan}
 use Rattle.vss_model.specs.declared.evicted.Evicted.{Evicted}
-use Rattle.vss_model.specs.State.{SetRow, is_running}
-use Rattle.vss_model.specs.Trail.{Run}
+use Rattle.vss_model.specs.State.{is_running}
 use Rattle.vss_report.specs.declared.line_kind.LineKind.{LineKind}
 use Rattle.vss_report.specs.declared.line_kind.LineKind.TheVariants.{Move, Effect, End, Bad}
-use Rattle.vss_report.specs.Pieces.{pieces}
 use Rattle.vss_report.specs.Words.{spaced, volume_text, writer_text, lane_text, answer_text, step_text, of_volume, fault_if, outcome_text}
-use Rattle.vss_report.specs.Shapes.{named, lane_named, writer_named, volume_named, is_number, is_answer, is_order, is_volume, is_result, marked, lane_move, writer_move, are_two, is_one, mark_of_reply, mark_of_step, mark_of_idle, move_in, is_all, then_count, is_next, kind_of_move, kind_of_words, kind_of}
-use Rattle.vss_report.specs.Legible.{IsShort, AreApart, AreNames, IsLegible, IsVolumeStep, IsStep, IsLegibleImage, IsLegibleEnd}
+use Rattle.vss_report.specs.Shapes.{named, writer_named, is_number, is_answer, is_order, is_volume, is_result, marked, lane_move, writer_move, are_two, mark_of_reply, mark_of_step, mark_of_idle, move_in, is_all, then_count, is_next, kind_of_move, kind_of_words, kind_of}
+use Rattle.vss_report.specs.Legible.{IsShort, AreApart, AreNames, IsLegible, IsVolumeStep, IsStep, IsLegibleImage}
 use Rattle.vss_report.proofs.Joined.{is_free, both}
 use Rattle.vss_report.proofs.LegibleWords.{IsWord, same_bytes, are_digits, no_number, is_number_back, name_word, error_word, result_word, order_word, is_result_back, is_order_back, is_error_back}
 use Rattle.vss_report.proofs.Says.{Says, says_word, says_number, says_spaced, says_then}

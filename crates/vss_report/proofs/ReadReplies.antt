@@ -1,6 +1,6 @@
 -- Each kind of reply, as it is told, is read with the mark of its move.
-use Rattle.std.proofs.Common.{◌≡◌, ◌∙◌, ℕ, ◌+◌, ◌*◌, ◌^◌, ◌<◌, Bool, true, false, List, [], ◌∷◌, ◌++◌, length, take, map, Option, Some, None, refl, ap, sym, subst, arith}
-use Rattle.std.specs.Prelude.{All, ◌&&◌, nat_le, slice_get, if◌then◌else◌, is_some, codes}
+use Rattle.std.proofs.Common.{◌≡◌, ◌∙◌, ℕ, ◌<◌, Bool, true, List, [], ◌∷◌, ◌++◌, length, map, Option, Some, None, refl, ap, sym, subst, arith}
+use Rattle.std.specs.Prelude.{All, ◌&&◌, nat_le, slice_get, if◌then◌else◌, codes}
 use Rattle.std.specs.List.{list_all, concat}
 use Rattle.std.specs.Fmt.{decimal}
 use Rattle.std.proofs.lemmas.Bool.Decides.{nat_tests}
@@ -21,14 +21,13 @@ use Rattle.write_history.specs.declared.mark.Mark.TheVariants.{Clean, Fault, Fau
 use Rattle.writer_state.specs.declared.writer_row.WriterRow.{WriterRow}
 use Rattle.scenario.specs.Names.{is_name}
 use Rattle.scenario.specs.Plan.{Plan, WriterPlan, token}
-use Rattle.vss_model.specs.Told.{IsDigestIf, IsFirstIf}
 use Rattle.vss_model.specs.Reply.{Reply, Fine, Faulted, FaultedAfter, Numbered, Coded, NotSelectable, BlockOf, BlocksOf, KeptSets, PropertiesOf, Deleted, DocumentOf, StatusOf, Answered, Stepped, Idled}
 use Rattle.vss_report.specs.Words.{spaced, sets_text, states_text, writer_in, writer_text}
 use Rattle.vss_report.specs.Report.{IsReplyText}
-use Rattle.vss_report.specs.Shapes.{is_number, is_hex, is_result, are_states, is_all, then_count, up_to, number_up_to, restored, mark_of_reply}
+use Rattle.vss_report.specs.Shapes.{is_number, is_hex, is_result, is_all, then_count, up_to, restored, mark_of_reply}
 use Rattle.vss_report.specs.Legible.{IsShort, AreNames, HasItsCode, IsLaneReply}
 use Rattle.vss_report.proofs.Joined.{both}
-use Rattle.vss_report.proofs.LegibleWords.{IsWord, number_back, is_number_back, number_word, is_hex_back, hex_word, result_word, is_result_back}
+use Rattle.vss_report.proofs.LegibleWords.{number_back, is_number_back, is_hex_back, hex_word, result_word, is_result_back}
 use Rattle.vss_report.proofs.DigestBytes.{IsDigest, digest_if, digest_told, first_if}
 use Rattle.vss_report.proofs.Says.{Says, says_word, says_number, says_spaced, says_then, says_sets}
 use Rattle.vss_report.proofs.ReadStates.{says_states}
@@ -170,21 +169,21 @@ read_status s rows named many has =
 -- ## any reply
 
 pub read_reply : (s : Plan) (tells : List Bool) (m : Mark) (r : Reply) (text : List ℕ) → AreNames (writer_text s) (length s.writers) → IsReplyText s tells r text → IsLaneReply s tells m r → IsReadAs s text m
-read_reply s tells m Fine text named e h = as_told s text (codes "ok") m Clean e h (record { words = codes "ok" ∷ []; says = record { pieces_are = refl; line = refl }; mark_is = refl })
-read_reply s tells m Faulted text named e h = as_told s text (codes "fault") m Fault e h (record { words = codes "fault" ∷ []; says = record { pieces_are = refl; line = refl }; mark_is = refl })
-read_reply s tells m (FaultedAfter k) text named e h = as_told s text _ m (FaultAfter k) e h.0 (read_restored s k h.1)
-read_reply s tells m (Numbered n) text named e h = as_told s text _ m Clean e h.0 (read_number s n h.1)
-read_reply s tells m (Coded why) text named e h = as_told s text _ m Clean e h (read_result s why)
-read_reply s tells m NotSelectable text named e h = as_told s text (codes "NOT_SELECTABLE") m Clean e h (record { words = codes "NOT_SELECTABLE" ∷ []; says = record { pieces_are = refl; line = refl }; mark_is = refl })
-read_reply s tells m (BlockOf v bytes) text named (first, digest, is_first, is_digest, e) h =
-    let f = first_if (slice_get tells v) bytes first h.1 is_first in
-    as_told s text _ m Clean e h.0 (read_block s first digest f.long f.bytes (digest_if (slice_get tells v) bytes digest is_digest))
-read_reply s tells m (BlocksOf v blocks) text named (digest, is_digest, e) h = as_told s text _ m Clean e h (read_digest s digest (digest_if (slice_get tells v) (concat blocks) digest is_digest))
-read_reply s tells m (KeptSets sets) text named e h = as_told s text _ m Clean e h.0 (read_images s sets h.1)
-read_reply s tells m (PropertiesOf c cut used) text named e h = as_told s text _ m Clean e h.0 (read_properties s (context.number_of c) cut used (context_short c) h.1 h.2)
-read_reply s tells m (Deleted n) text named e h = as_told s text _ m Clean e h.0 (read_deleted s n h.1)
-read_reply s tells m (DocumentOf bytes) text named e h = as_told s text _ m Clean e h.0 (read_document s (length bytes) (sha256 bytes) h.1 (digest_told bytes))
-read_reply s tells m (StatusOf rows) text named e h = as_told s text _ m Clean e h.0 (read_status s rows named h.1 h.2)
+read_reply s tells m Fine text named e h = as_told s text (codes "ok") m Clean e.is h (record { words = codes "ok" ∷ []; says = record { pieces_are = refl; line = refl }; mark_is = refl })
+read_reply s tells m Faulted text named e h = as_told s text (codes "fault") m Fault e.is h (record { words = codes "fault" ∷ []; says = record { pieces_are = refl; line = refl }; mark_is = refl })
+read_reply s tells m (FaultedAfter k) text named e h = as_told s text _ m (FaultAfter k) e.is h.0 (read_restored s k h.1)
+read_reply s tells m (Numbered n) text named e h = as_told s text _ m Clean e.is h.0 (read_number s n h.1)
+read_reply s tells m (Coded why) text named e h = as_told s text _ m Clean e.is h (read_result s why)
+read_reply s tells m NotSelectable text named e h = as_told s text (codes "NOT_SELECTABLE") m Clean e.is h (record { words = codes "NOT_SELECTABLE" ∷ []; says = record { pieces_are = refl; line = refl }; mark_is = refl })
+read_reply s tells m (BlockOf v bytes) text named e h =
+    let f = first_if (slice_get tells v) bytes e.first h.1 e.shown.0 in
+    as_told s text _ m Clean e.is h.0 (read_block s e.first e.digest f.long f.bytes (digest_if (slice_get tells v) bytes e.digest e.shown.1))
+read_reply s tells m (BlocksOf v blocks) text named e h = as_told s text _ m Clean e.is h (read_digest s e.digest (digest_if (slice_get tells v) (concat blocks) e.digest e.shown))
+read_reply s tells m (KeptSets sets) text named e h = as_told s text _ m Clean e.is h.0 (read_images s sets h.1)
+read_reply s tells m (PropertiesOf c cut used) text named e h = as_told s text _ m Clean e.is h.0 (read_properties s (context.number_of c) cut used (context_short c) h.1 h.2)
+read_reply s tells m (Deleted n) text named e h = as_told s text _ m Clean e.is h.0 (read_deleted s n h.1)
+read_reply s tells m (DocumentOf bytes) text named e h = as_told s text _ m Clean e.is h.0 (read_document s (length bytes) (sha256 bytes) h.1 (digest_told bytes))
+read_reply s tells m (StatusOf rows) text named e h = as_told s text _ m Clean e.is h.0 (read_status s rows named h.1 h.2)
 read_reply s tells m (Answered o a) text named e h = absurd h
 read_reply s tells m (Stepped g v fault) text named e h = absurd h
 read_reply s tells m (Idled n) text named e h = absurd h

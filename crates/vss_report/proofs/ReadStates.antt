@@ -1,7 +1,6 @@
 -- The states of the writers, as they are told, are read as such.
-use Rattle.std.proofs.Common.{◌≡◌, ◌∙◌, ℕ, suc, ◌+◌, Bool, true, false, List, [], ◌∷◌, ◌++◌, length, Option, Some, None, refl, ap, sym, subst, cond, arith}
+use Rattle.std.proofs.Common.{◌≡◌, ◌∙◌, ℕ, Bool, true, false, List, [], ◌∷◌, ◌++◌, length, Option, Some, None, refl, ap, sym, subst, arith}
 use Rattle.std.specs.Prelude.{All, ◌&&◌, not, if◌then◌else◌, codes}
-use Rattle.std.specs.List.{list_all}
 use Rattle.std.specs.Str.{bytes_eq}
 use Rattle.std.proofs.lemmas.List.{append_assoc, append-nil}
 use Rattle.std.proofs.lemmas.List.Elements.{All-head, All-tail}
@@ -16,7 +15,6 @@ use Rattle.writer_state.specs.declared.writer_row.WriterRow.{WriterRow}
 use Rattle.writer_state.specs.WriterState.{is_failed}
 use Rattle.scenario.specs.Names.{is_name}
 use Rattle.scenario.specs.Plan.{Plan, WriterPlan, token}
-use Rattle.vss_report.specs.Pieces.{pieces}
 use Rattle.vss_report.specs.Words.{spaced, code_word, code_text, state_text, states_text}
 use Rattle.vss_report.specs.Shapes.{is_code, is_coded, is_state, is_state_in, is_named_state, is_state_of, are_states}
 use Rattle.vss_report.specs.Legible.{HasItsCode, has_its_code}

@@ -1,6 +1,6 @@
 -- The report of a trail is read as that trail: line by line, and move by move.
-use Rattle.std.proofs.Common.{◌≡◌, ◌∙◌, ℕ, zero, suc, ◌+◌, ◌^◌, ◌<◌, ◌≤◌, Bool, true, false, List, [], ◌∷◌, ◌++◌, length, Option, Some, None, Result, Ok, Err, refl, ap, sym, subst, arith}
-use Rattle.std.specs.Prelude.{All, ◌&&◌, not, if◌then◌else◌, slice_get, codes}
+use Rattle.std.proofs.Common.{◌≡◌, ◌∙◌, ℕ, ◌+◌, ◌^◌, ◌<◌, ◌≤◌, Bool, true, false, List, [], ◌∷◌, ◌++◌, length, Option, Some, None, Result, Ok, Err, refl, ap, sym, subst, arith}
+use Rattle.std.specs.Prelude.{All, not, if◌then◌else◌, codes}
 use Rattle.std.specs.List.{flat_map}
 use Rattle.std.specs.Fmt.{decimal}
 use Rattle.std.proofs.lemmas.List.{append_assoc, append-nil, length-append}
@@ -10,31 +10,29 @@ use Rattle.vss_names.specs.Order as order
 use Rattle.write_history.specs.declared.actor.Actor.{Actor}
 use Rattle.write_history.specs.declared.actor.Actor.TheVariants.{Lane, Writer, Advance, Idle}
 use Rattle.write_history.specs.declared.mark.Mark.{Mark}
-use Rattle.write_history.specs.declared.mark.Mark.TheVariants.{Clean}
 use Rattle.write_history.specs.declared.move_item.Move.{Move as Step}
 use Rattle.write_history.specs.declared.trail.TheConstants.{MOST_MOVES}
-use Rattle.scenario.specs.Plan.{Plan, LaneLine, lines_of}
+use Rattle.scenario.specs.Plan.{Plan, LaneLine}
 use Rattle.vss_model.specs.declared.event.Event.{Event}
 use Rattle.vss_model.specs.declared.evicted.Evicted.{Evicted}
-use Rattle.vss_model.specs.Reply.{Reply, Fine, Faulted, FaultedAfter, Numbered, Coded, NotSelectable, BlockOf, BlocksOf, KeptSets, PropertiesOf, Deleted, DocumentOf, StatusOf, Answered, Stepped, Idled}
+use Rattle.vss_model.specs.Reply.{Reply, Answered, Stepped, Idled}
 use Rattle.vss_model.specs.State.{State, SetRow}
 use Rattle.vss_model.specs.Acts.{Act, reply}
 use Rattle.vss_model.specs.Effects.{evicted, lost, lost_order, ended}
 use Rattle.vss_model.specs.Trail.{Run, begin, run, run_from, event_of, act_of, moved, cursor, next_line}
 use Rattle.vss_model.proofs.Appending.{moves-run}
-use Rattle.vss_report.specs.declared.line_kind.LineKind.{LineKind}
-use Rattle.vss_report.specs.declared.line_kind.LineKind.TheVariants.{Move, Effect, End, Bad}
+use Rattle.vss_report.specs.declared.line_kind.LineKind.TheVariants.{Move, Effect, End}
 use Rattle.vss_report.specs.Pieces.{pieces, is_over}
-use Rattle.vss_report.specs.Words.{spaced, as_line, lane_text, writer_text, answer_text, step_text, of_volume, fault_if, evicted_text, lost_text, set_text}
-use Rattle.vss_report.specs.Report.{IsReplyText, IsActText, IsTextOf, IsMoveText, IsLines, IsReport, number_in, actor_text, lost_texts, ended_text, effects_text, move_text, first_line, end_text, writers_text}
+use Rattle.vss_report.specs.Words.{spaced, as_line, lane_text, writer_text, answer_text, step_text, of_volume, fault_if, evicted_text, lost_text}
+use Rattle.vss_report.specs.Report.{IsReplyText, IsActText, IsTextOf, IsLines, IsReport, number_in, actor_text, lost_texts, ended_text, effects_text, move_text, first_line, end_text, writers_text}
 use Rattle.vss_report.specs.ReadBack.{next_number, goes_on, read_from, after_first, reading_back}
-use Rattle.vss_report.specs.Shapes.{marked, mark_of_idle, mark_of_step, move_in, kind_of}
+use Rattle.vss_report.specs.Shapes.{marked, move_in, kind_of}
 use Rattle.vss_report.specs.Legible.{IsShort, IsLegible, IsWriterReply, IsStepReply, IsIdleReply, IsReplyTo, IsLegibleImage, IsLegibleEnd, IsLegibleAct, IsLegibleEvent, IsLegibleMove, AreLegible, IsLegibleTrail}
 use Rattle.vss_report.proofs.Joined.{is_free, joined}
 use Rattle.vss_report.proofs.Parting.{pieces_are_some}
 use Rattle.vss_report.proofs.LegibleWords.{name_word}
 use Rattle.vss_report.proofs.Says.{Says, says_word, says_number, says_spaced}
-use Rattle.vss_report.proofs.ReadReplies.{IsReadAs, read_reply}
+use Rattle.vss_report.proofs.ReadReplies.{read_reply}
 use Rattle.vss_report.proofs.ReadLines.{lane_back, writer_back, says_answer, step_back, idle_back, IsReadLine, move_line, evicted_line, lost_line, set_line, end_line}
 
 -- ## line by line
@@ -123,7 +121,7 @@ record IsMoveLine (s : Plan) (r : Run) (actor : Actor) (mark : Mark) (text : Lis
 writer_line : (s : Plan) (tells : List Bool) (r : Run) (w : ℕ) (mark : Mark) (answer : Reply) (text : List ℕ) → IsLegible s → w < length s.writers → IsReplyText s tells answer text → IsWriterReply mark answer → IsMoveLine s r (Writer w) mark text
 writer_line s tells r w mark (Answered o a) text legible l e h =
     let name : List ℕ = writer_text s w in
-    subst (IsMoveLine s r (Writer w) mark) (sym e) (subst (λ m. IsMoveLine s r (Writer w) m (order.name_of o ++ spaced (answer_text a))) (sym h) (record {
+    subst (IsMoveLine s r (Writer w) mark) (sym e.is) (subst (λ m. IsMoveLine s r (Writer w) m (order.name_of o ++ spaced (answer_text a))) (sym h) (record {
       words = codes "writer" ∷ name ∷ order.name_of o ∷ answer_text a ∷ [];
       says = says_spaced (codes "writer " ++ name) (order.name_of o ++ spaced (answer_text a)) (codes "writer" ∷ name ∷ []) (order.name_of o ∷ answer_text a ∷ [])
           (let d = says_word name (name_word name (legible.writers w l)) in record { pieces_are = ap (λ ps. codes "writer" ∷ ps) d.pieces_are; line = d.line })
@@ -135,7 +133,7 @@ writer_line s tells r w mark _ text legible l e h = absurd h
 step_line : (s : Plan) (tells : List Bool) (r : Run) (mark : Mark) (answer : Reply) (text : List ℕ) → IsLegible s → IsReplyText s tells answer text → IsStepReply s mark answer → IsMoveLine s r Advance mark text
 step_line s tells r mark (Stepped g v fault) text legible e h =
     let back = step_back s mark g v fault legible.volumes h in
-    subst (IsMoveLine s r Advance mark) (sym e) (record {
+    subst (IsMoveLine s r Advance mark) (sym e.is) (record {
       words = codes "provider" ∷ back.words;
       says = says_spaced (codes "provider") (step_text g ++ of_volume s v ++ fault_if fault) (codes "provider" ∷ []) back.words (record { pieces_are = refl; line = refl }) back.says;
       move_is = ap (marked Advance) back.mark_is;
@@ -144,7 +142,7 @@ step_line s tells r mark _ text legible e h = absurd h
 
 idle_line : (s : Plan) (tells : List Bool) (r : Run) (mark : Mark) (answer : Reply) (text : List ℕ) → IsReplyText s tells answer text → IsIdleReply mark answer → IsMoveLine s r Idle mark text
 idle_line s tells r mark (Idled n) text e h =
-    subst (IsMoveLine s r Idle mark) (sym e) (subst (λ m. IsMoveLine s r Idle m (decimal n)) (sym h.0) (record {
+    subst (IsMoveLine s r Idle mark) (sym e.is) (subst (λ m. IsMoveLine s r Idle m (decimal n)) (sym h.0) (record {
       words = codes "idle" ∷ decimal n ∷ [];
       says = says_spaced (codes "idle") (decimal n) (codes "idle" ∷ []) (decimal n ∷ []) (record { pieces_are = refl; line = refl }) (says_number n h.1);
       move_is = ap (marked Idle) (idle_back n h.1);

@@ -1,9 +1,9 @@
 -- A writer that has failed has a code, and no other has one: each change of the rows keeps that.
-use Rattle.std.proofs.Common.{◌≡◌, ◌∙◌, ℕ, ◌+◌, Bool, true, false, List, [], ◌∷◌, length, fold, map, Option, Some, None, refl, ap, sym, subst, cond}
+use Rattle.std.proofs.Common.{◌≡◌, ◌∙◌, ℕ, ◌+◌, Bool, true, false, List, [], ◌∷◌, fold, map, Option, Some, None, refl, ap, sym, subst}
 use Rattle.std.specs.Prelude.{All, ◌&&◌, not, if◌then◌else◌}
 use Rattle.std.proofs.lemmas.List.Elements.{All-nil, All-cons}
 use Rattle.vss_names.specs.declared.order.Order.{Order}
-use Rattle.vss_names.specs.declared.order.Order.TheVariants.{Identify, PrepareBackup, PrepareSnapshot, Freeze, Thaw, PostSnapshot, BackupComplete}
+use Rattle.vss_names.specs.declared.order.Order.TheVariants.{Identify}
 use Rattle.vss_names.specs.declared.context.Context.{Context}
 use Rattle.vss_names.specs.declared.vss_result.VssResult.{VssResult}
 use Rattle.vss_names.specs.declared.vss_result.VssResult.TheVariants.{AsyncCancelled}
@@ -12,14 +12,13 @@ use Rattle.vss_names.specs.declared.writer_state.WriterState.TheVariants.{Unknow
 use Rattle.writer_state.specs.declared.said.Said.{Said}
 use Rattle.writer_state.specs.declared.said.Said.TheVariants.{Ok, Veto, Lost}
 use Rattle.writer_state.specs.declared.writer_row.WriterRow.{WriterRow}
-use Rattle.writer_state.specs.WriterState.{after_ok, failed_at, state_after, code_after, is_failed, is_ok, stable_again}
+use Rattle.writer_state.specs.WriterState.{after_ok, failed_at, is_failed, is_ok, stable_again}
 use Rattle.writer_state.specs.WriterRow.{row_after, row_aborted, row_gathered, row_ended, one_more}
 use Rattle.write_history.specs.declared.mark.Mark.{Mark}
 use Rattle.write_history.specs.declared.mark.Mark.TheVariants.{Clean, Fault, FaultAfter}
 use Rattle.write_history.specs.History.{Write}
 use Rattle.write_history.specs.declared.move_item.Move.{Move}
 use Rattle.set_agenda.specs.declared.group.Group.{Group}
-use Rattle.set_agenda.specs.declared.group.Group.TheVariants.{Orders, PreCommit, Flush, Hold, Cut, Commit, Release, PostCommit}
 use Rattle.set_agenda.specs.declared.kind.Kind.{Kind}
 use Rattle.set_agenda.specs.declared.kind.Kind.TheVariants.{Gather, Prepare, Snapshot, Complete}
 use Rattle.set_agenda.specs.declared.limit.Limit.{Limit}
@@ -34,7 +33,7 @@ use Rattle.vss_model.specs.State.{State, SetRow, Kept, start, in_progress, row_o
 use Rattle.vss_model.specs.Ending.{Ending, NothingEnds, AgendaEnds, SetFails, ending, concluded, followed, runs, failed_in, failed}
 use Rattle.vss_model.specs.Images.{Replied, put, reverted_as}
 use Rattle.vss_model.specs.Sessions.{begin_in, has_no_volume, closed}
-use Rattle.vss_model.specs.Steps.{cut_set, step_made, answered, stepped_as, stepped, ticked, later}
+use Rattle.vss_model.specs.Steps.{step_made, answered, stepped_as, stepped, ticked, later}
 use Rattle.vss_model.specs.Acts.{Act, after, state}
 use Rattle.vss_model.specs.Trail.{run, acts}
 use Rattle.vss_model.specs.Laws.{IsKeptByChanges, IsKeptByWrites}

@@ -1,10 +1,10 @@
 -- A scenario whose names are by the grammar, and apart, is legible.
-use Rattle.std.proofs.Common.{◌≡◌, ◌∙◌, ℕ, zero, suc, ◌+◌, ◌^◌, ◌<◌, ◌≤◌, Bool, true, false, List, [], ◌∷◌, length, map, Option, Some, None, refl, ap, sym, subst, arith}
+use Rattle.std.proofs.Common.{◌≡◌, ◌∙◌, ℕ, zero, suc, ◌+◌, ◌^◌, ◌<◌, Bool, true, false, List, [], ◌∷◌, length, map, Option, Some, None, refl, ap, sym, subst, arith}
 use Rattle.std.specs.Prelude.{slice_get}
 use Rattle.std.specs.Str.{bytes_eq}
 use Rattle.scenario.specs.declared.span.Span.{Span}
 use Rattle.scenario.specs.declared.volume_row.VolumeRow.{VolumeRow}
-use Rattle.scenario.specs.Plan.{Plan, WriterPlan, LanePlan, LaneLine, lines_in as lines_in_lane, lines_of}
+use Rattle.scenario.specs.Plan.{Plan, WriterPlan, LanePlan, LaneLine, lines_in as lines_in_lane}
 use Rattle.scenario.specs.Bounds.{IsPlan}
 use Rattle.scenario.specs.Names.{is_name}
 use Rattle.scenario.specs.Fields.{bytes_of}

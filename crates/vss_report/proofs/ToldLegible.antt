@@ -1,5 +1,5 @@
 -- What a program tells of a legal move is legible.
-use Rattle.std.proofs.Common.{◌≡◌, ◌∙◌, ℕ, zero, suc, ◌+◌, ◌<◌, Bool, true, false, List, [], ◌∷◌, length, take, Option, Some, None, refl, ap, sym, subst, find, cond, arith}
+use Rattle.std.proofs.Common.{◌≡◌, ◌∙◌, ℕ, ◌<◌, Bool, true, false, List, [], ◌∷◌, length, take, Option, Some, None, refl, ap, sym, subst, find, cond}
 use Rattle.std.specs.Prelude.{All, ◌==◌, ◌&&◌, not, is_some, slice_get, slice_index}
 use Rattle.std.proofs.lemmas.List.Elements.{All-nil, All-cons, All-head, All-tail}
 use Rattle.hex.specs.Hex.{IsBytes}
@@ -29,13 +29,13 @@ use Rattle.vss_model.specs.declared.told.Told.TheVariants as told
 use Rattle.vss_model.specs.Reply.{Reply, Fine, Faulted, FaultedAfter, Numbered, Coded, NotSelectable, BlockOf, BlocksOf, KeptSets, PropertiesOf, Deleted, DocumentOf, StatusOf, Answered, Stepped, Idled}
 use Rattle.vss_model.specs.State.{State, SetRow, is_running, in_progress, left_now}
 use Rattle.vss_model.specs.Steps.{is_flush, is_failed_step}
-use Rattle.vss_model.specs.Acts.{Act, reply, answer_reply, step_reply, flush_allows, event_allows, enabled, order_of_writer, after}
-use Rattle.vss_model.specs.Effects.{evicted, lost, ended_of, ended}
+use Rattle.vss_model.specs.Acts.{reply, answer_reply, step_reply, flush_allows, event_allows, enabled, order_of_writer, after}
+use Rattle.vss_model.specs.Effects.{ended_of, ended}
 use Rattle.vss_model.specs.Outcome.{IsOutcome, HasLists, EndsAs}
 use Rattle.vss_model.specs.Told.{Fits, IsFirstIf, mark_of}
-use Rattle.vss_model.specs.Trail.{Run, act_of, next_line, line_event, answer_event, script_event, event_of, may_move, event_enabled, allows, is_legal_move}
+use Rattle.vss_model.specs.Trail.{Run, act_of, next_line, line_event, answer_event, script_event, event_of, may_move, event_enabled, allows}
 use Rattle.vss_report.specs.ToldLines.{IsVolumeNumber, IsTold, IsActor, HasRowsIfTold, AreInRange}
-use Rattle.vss_report.specs.Legible.{IsShort, HasItsCode, HasHead, IsLaneReply, IsWriterReply, IsStep, IsStepReply, IsIdleReply, IsReplyTo, IsLegibleImage, IsLegibleEnd, IsLegibleAct, IsLegibleEvent, IsLegibleMove}
+use Rattle.vss_report.specs.Legible.{IsShort, HasItsCode, HasHead, IsLaneReply, IsWriterReply, IsStep, IsStepReply, IsIdleReply, IsReplyTo, IsLegibleImage, IsLegibleEnd, IsLegibleAct, IsLegibleEvent}
 use Rattle.vss_report.specs.LegibleOutcome.{IsShortTold, AreShortSets, AreShort, IsLegibleAs}
 use Rattle.vss_report.proofs.LaneReplies.{IsOfMark, line_reply}
 use Rattle.vss_report.proofs.Joined.{first_of_both, second_of_both}
