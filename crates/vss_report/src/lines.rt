@@ -18,8 +18,11 @@ use vss_model::{ClosingRow, Lists, Outcome, Told};
 use vss_names::{OutOfMemory, Text};
 use write_history::{Actor, Move};
 
-/// The most bytes that the lines of one move, or one closing line, take.
+/// The most bytes that the lines of one move, or one closing line, take. A move may evict 65,536 images, each with its line.
 pub const MOST_BYTES: usize = 4194304;
+
+/// The most bytes that a closing line takes.
+const CLOSING_BYTES: usize = 160;
 
 /// Appends who moves; a lane with the number of its line.
 fn add_actor(scenario: &Scenario, line: u32, actor: Actor, out: &mut Text)
@@ -119,7 +122,7 @@ pub fn closing_line(
     ensures err { OnErr result (out.new ≡ out.old) }
     ensures succeeds { MOST_BYTES ≤ out.old.spare → IsOk result }
 {
-    out.reserve(MOST_BYTES)?;
+    out.reserve(CLOSING_BYTES)?;
     add_closing(scenario, row, out);
     Ok(())
 }
