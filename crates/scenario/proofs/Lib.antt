@@ -10,3 +10,4 @@ pub mod StillBuilt
 pub mod Whole
 pub mod Stored
 pub mod Language
+pub mod Named

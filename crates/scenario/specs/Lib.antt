@@ -16,3 +16,4 @@ pub mod Drafts
 pub mod Ops
 pub mod Declarations
 pub mod Entries
+pub mod Named

@@ -1,8 +1,10 @@
--- Pieces that were joined are parted again: a piece without the byte that parts is what stands before it.
-use Rattle.std.proofs.Common.{◌≡◌, ℕ, Bool, true, false, List, [], ◌∷◌, ◌++◌, refl, ap, arith}
+-- Pieces that were joined are parted again.
+use Rattle.std.proofs.Common.{◌≡◌, ◌∙◌, ℕ, Bool, true, false, List, [], ◌∷◌, ◌++◌, refl, ap, arith}
 use Rattle.std.specs.Prelude.{◌==◌, ◌&&◌, not, if◌then◌else◌}
+use Rattle.std.specs.List.{list_all}
 use Rattle.std.proofs.lemmas.Bool.Decides.{nat_tests}
-use Rattle.vss_report.specs.Pieces.{before, pieces}
+use Rattle.vss_report.specs.Pieces.{before, pieces, is_over}
+use Rattle.vss_report.proofs.Parting.{pieces_are_some}
 
 same : (mark : ℕ) → (mark == mark) ≡ true
 same mark = grind (arith, nat_tests)
@@ -12,18 +14,59 @@ abbrev pub is_free : ℕ → List ℕ → Bool
 is_free mark [] = true
 is_free mark (byte ∷ rest) = not (byte == mark) && is_free mark rest
 
-pub joined : (mark : ℕ) (piece rest : List ℕ) → is_free mark piece ≡ true → pieces mark (piece ++ mark ∷ rest) ≡ piece ∷ pieces mark rest
-joined mark [] rest h = rw (same mark) refl
-joined mark (byte ∷ piece) rest h =
-    let on : (t : Bool) → not t && is_free mark piece ≡ true → (if t then [] ∷ pieces mark (piece ++ mark ∷ rest) else before byte (pieces mark (piece ++ mark ∷ rest))) ≡ (byte ∷ piece) ∷ pieces mark rest =
-    λ t. elim t as (λ v. not v && is_free mark piece ≡ true → (if v then [] ∷ pieces mark (piece ++ mark ∷ rest) else before byte (pieces mark (piece ++ mark ∷ rest))) ≡ (byte ∷ piece) ∷ pieces mark rest)
-    [ true ↦ λ e. absurd (cc e) | false ↦ λ e. ap (before byte) (joined mark piece rest e) ] in
-    on (byte == mark) h
+pub both : (a b : Bool) → a ≡ true → b ≡ true → (a && b) ≡ true
+both true b e f = f
+both false b e f = absurd cc
 
+pub first_of_both : (a b : Bool) → (a && b) ≡ true → a ≡ true
+first_of_both true b e = refl
+first_of_both false b e = absurd cc
+
+pub second_of_both : (a b : Bool) → (a && b) ≡ true → b ≡ true
+second_of_both true b e = e
+second_of_both false b e = absurd cc
+
+pub not_so : (a : Bool) → a ≡ false → not a ≡ true
+not_so false e = refl
+not_so true e = absurd cc
+
+-- ## a text without the byte
+
+-- where each byte passes a test that the mark does not pass
+pub free_where : (test : ℕ → Bool) (mark : ℕ) → ((byte : ℕ) → test byte ≡ true → (byte == mark) ≡ false) → (text : List ℕ) → list_all test text ≡ true → is_free mark text ≡ true
+free_where test mark other [] h = refl
+free_where test mark other (byte ∷ rest) h =
+    both (not (byte == mark)) (is_free mark rest) (not_so (byte == mark) (other byte (first_of_both (test byte) (list_all test rest) h))) (free_where test mark other rest (second_of_both (test byte) (list_all test rest) h))
+
+pub free_append : (mark : ℕ) (a b : List ℕ) → is_free mark a ≡ true → is_free mark b ≡ true → is_free mark (a ++ b) ≡ true
+free_append mark [] b h k = k
+free_append mark (byte ∷ a) b h k =
+    both (not (byte == mark)) (is_free mark (a ++ b)) (first_of_both (not (byte == mark)) (is_free mark a) h) (free_append mark a b (second_of_both (not (byte == mark)) (is_free mark a) h) k)
+
+-- ## pieces
+
+-- it is one piece
 pub alone : (mark : ℕ) (piece : List ℕ) → is_free mark piece ≡ true → pieces mark piece ≡ piece ∷ []
 alone mark [] h = refl
-alone mark (byte ∷ piece) h =
-    let on : (t : Bool) → not t && is_free mark piece ≡ true → (if t then [] ∷ pieces mark piece else before byte (pieces mark piece)) ≡ (byte ∷ piece) ∷ [] =
-    λ t. elim t as (λ v. not v && is_free mark piece ≡ true → (if v then [] ∷ pieces mark piece else before byte (pieces mark piece)) ≡ (byte ∷ piece) ∷ [])
-    [ true ↦ λ e. absurd (cc e) | false ↦ λ e. ap (before byte) (alone mark piece e) ] in
-    on (byte == mark) h
+alone mark (byte ∷ piece) h = by_byte (byte == mark) (pieces mark piece) h (alone mark piece)
+  where
+    by_byte : (t : Bool) (ps : List (List ℕ)) → (not t && is_free mark piece) ≡ true → (is_free mark piece ≡ true → ps ≡ piece ∷ []) → (if t then [] ∷ ps else before byte ps) ≡ (byte ∷ piece) ∷ []
+    by_byte true ps e later = absurd cc
+    by_byte false ps e later = ap (before byte) (later e)
+
+before_append : (byte : ℕ) (ps qs : List (List ℕ)) → is_over ps ≡ false → before byte (ps ++ qs) ≡ before byte ps ++ qs
+before_append byte [] qs h = absurd cc
+before_append byte (p ∷ ps) qs h = refl
+
+-- what stands before the byte, and what stands behind it
+pub parted : (mark : ℕ) (text rest : List ℕ) → pieces mark (text ++ mark ∷ rest) ≡ pieces mark text ++ pieces mark rest
+parted mark [] rest = rw (same mark) refl
+parted mark (byte ∷ text) rest = by_byte (byte == mark) (pieces mark (text ++ mark ∷ rest)) (pieces mark text) (pieces mark rest) (parted mark text rest) (pieces_are_some mark text)
+  where
+    by_byte : (t : Bool) (all ps qs : List (List ℕ)) → all ≡ ps ++ qs → is_over ps ≡ false → (if t then [] ∷ all else before byte all) ≡ (if t then [] ∷ ps else before byte ps) ++ qs
+    by_byte true all ps qs e some = ap (λ xs. [] ∷ xs) e
+    by_byte false all ps qs e some = ap (before byte) e ∙ before_append byte ps qs some
+
+-- a piece without the byte is what stands before it
+pub joined : (mark : ℕ) (piece rest : List ℕ) → is_free mark piece ≡ true → pieces mark (piece ++ mark ∷ rest) ≡ piece ∷ pieces mark rest
+joined mark piece rest h = parted mark piece rest ∙ ap (λ ps. ps ++ pieces mark rest) (alone mark piece h)

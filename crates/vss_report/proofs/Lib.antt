@@ -6,3 +6,14 @@ pub mod MoveLines
 pub mod Parting
 pub mod Joined
 pub mod Values
+pub mod LegibleWords
+pub mod DigestBytes
+pub mod Says
+pub mod ReadStates
+pub mod ReadReplies
+pub mod ReadLines
+pub mod ReadTrail
+pub mod LaneReplies
+pub mod ToldLegible
+pub mod RowCodes
+pub mod ScenarioNames

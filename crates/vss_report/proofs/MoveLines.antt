@@ -17,7 +17,7 @@ use Rattle.vss_model.specs.declared.event.Event.{Event}
 use Rattle.vss_model.specs.declared.evicted.Evicted.{Evicted}
 use Rattle.vss_model.specs.declared.outcome.Outcome.{Outcome}
 use Rattle.vss_model.specs.declared.told.Told.{Told}
-use Rattle.vss_model.specs.Reply.{Reply, Fine, Faulted, FaultedAfter, Numbered, Coded, NotSelectable, BlockOf, BlocksOf, KeptSets, PropertiesOf, Deleted, DocumentOf, StatusOf, Answered, Stepped, Idled}
+use Rattle.vss_model.specs.Reply.{Reply, BlockOf, BlocksOf, KeptSets, StatusOf}
 use Rattle.vss_model.specs.State.{State, SetRow}
 use Rattle.vss_model.specs.Acts.{Act, reply}
 use Rattle.vss_model.specs.Effects.{evicted, lost, lost_order, ended}
@@ -25,29 +25,22 @@ use Rattle.vss_model.specs.Outcome.{IsOutcome, HasLists, EndsAs}
 use Rattle.vss_model.specs.Told.{Fits, mark_of}
 use Rattle.vss_model.specs.Trail.{Run, act_of}
 use Rattle.vss_report.specs.Words.{spaced, as_line, sets_text, states_text, evicted_text, lost_text, set_text}
-use Rattle.vss_report.specs.Report.{IsReplyText, IsActText, IsTextOf, actor_text, ended_text, effects_text, move_text}
+use Rattle.vss_report.specs.Report.{reply_with, IsShownAs, IsReplyText, IsActText, IsTextOf, actor_text, ended_text, effects_text, move_text}
 use Rattle.vss_report.specs.ToldLines.{told_text, told_actor, told_end, told_lines, IsLineOf, AreLinesOf}
 
 -- ## the reply
 
+-- a reply that shows no bytes of a volume
+plain_text : (s : Plan) (tells : List Bool) (r : Reply) (text : List ℕ) → IsShownAs tells r [] [] → text ≡ reply_with s [] [] r → IsReplyText s tells r text
+plain_text s tells r text shown e = record { first = []; digest = []; shown = shown; is = e }
+
 reply_text : (s : Plan) (tells : List Bool) (listed : List ℕ) (rows : List WriterRow) (t : Told) (r : Reply) → Fits tells r t → HasLists r listed rows
     → IsReplyText s tells r (told_text s listed rows t)
-reply_text s tells listed rows t Fine f h = ap (told_text s listed rows) f
-reply_text s tells listed rows t Faulted f h = ap (told_text s listed rows) f
-reply_text s tells listed rows t (FaultedAfter k) f h = ap (told_text s listed rows) f
-reply_text s tells listed rows t (Numbered n) f h = ap (told_text s listed rows) f
-reply_text s tells listed rows t (Coded why) f h = ap (told_text s listed rows) f
-reply_text s tells listed rows t NotSelectable f h = ap (told_text s listed rows) f
-reply_text s tells listed rows t (BlockOf v bytes) (first, digest, is_first, is_digest, f) h = (first, digest, is_first, is_digest, ap (told_text s listed rows) f)
-reply_text s tells listed rows t (BlocksOf v blocks) (digest, is_digest, f) h = (digest, is_digest, ap (told_text s listed rows) f)
-reply_text s tells listed rows t (KeptSets sets) f h = ap (told_text s listed rows) f ∙ ap (λ l. codes "images" ++ sets_text l) h
-reply_text s tells listed rows t (PropertiesOf c cut used) f h = ap (told_text s listed rows) f
-reply_text s tells listed rows t (Deleted n) f h = ap (told_text s listed rows) f
-reply_text s tells listed rows t (DocumentOf bytes) f h = ap (told_text s listed rows) f
-reply_text s tells listed rows t (StatusOf now) f h = ap (told_text s listed rows) f ∙ ap (λ l. codes "status" ++ states_text s s.writers l) h
-reply_text s tells listed rows t (Answered o a) f h = ap (told_text s listed rows) f
-reply_text s tells listed rows t (Stepped g v fault) f h = ap (told_text s listed rows) f
-reply_text s tells listed rows t (Idled n) f h = ap (told_text s listed rows) f
+reply_text s tells listed rows t (BlockOf v bytes) (first, digest, is_first, is_digest, f) h = record { first = first; digest = digest; shown = (is_first, is_digest); is = ap (told_text s listed rows) f }
+reply_text s tells listed rows t (BlocksOf v blocks) (digest, is_digest, f) h = record { first = []; digest = digest; shown = is_digest; is = ap (told_text s listed rows) f }
+reply_text s tells listed rows t (KeptSets sets) f h = plain_text s tells (KeptSets sets) _ tt (ap (told_text s listed rows) f ∙ ap (λ l. codes "images" ++ sets_text l) h)
+reply_text s tells listed rows t (StatusOf now) f h = plain_text s tells (StatusOf now) _ tt (ap (told_text s listed rows) f ∙ ap (λ l. codes "status" ++ states_text s s.writers l) h)
+reply_text s tells listed rows t r f h = plain_text s tells r _ tt (ap (told_text s listed rows) f)
 
 -- ## who moves
 

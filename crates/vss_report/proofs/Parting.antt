@@ -14,7 +14,7 @@ not_over : (byte : ℕ) (ps : List (List ℕ)) → is_over (before byte ps) ≡ 
 not_over byte [] = refl
 not_over byte (p ∷ ps) = refl
 
-pieces_are_some : (mark : ℕ) (text : List ℕ) → is_over (pieces mark text) ≡ false
+pub pieces_are_some : (mark : ℕ) (text : List ℕ) → is_over (pieces mark text) ≡ false
 pieces_are_some mark [] = refl
 pieces_are_some mark (byte ∷ rest) =
     let on : (t : Bool) → is_over (if t then [] ∷ pieces mark rest else before byte (pieces mark rest)) ≡ false =

@@ -13,14 +13,14 @@ use Rattle.write_history.specs.Slots.{used}
 use Rattle.scenario.specs.declared.volume_row.VolumeRow.{VolumeRow}
 use Rattle.scenario.specs.Plan.{Plan}
 use Rattle.vss_model.specs.declared.event.Event.{Event}
-use Rattle.vss_model.specs.Reply.{Reply, Fine, Faulted, FaultedAfter, Numbered, Coded, NotSelectable, BlockOf, BlocksOf, KeptSets, PropertiesOf, Deleted, DocumentOf, StatusOf, Answered, Stepped, Idled}
+use Rattle.vss_model.specs.Reply.{Reply, BlockOf, BlocksOf}
 use Rattle.vss_model.specs.State.{State, kept}
 use Rattle.vss_model.specs.Acts.{reply}
 use Rattle.vss_model.specs.Told.{IsDigestIf, IsFirstIf}
 use Rattle.vss_model.specs.Trail.{Run, begin, run, event_of, act_of, moved}
 use Rattle.vss_report.specs.Words.{spaced, as_line, volume_text}
-use Rattle.vss_report.specs.Report.{IsReplyText, IsTextOf, IsLines, IsVolumeText, IsImageText, AreImageTexts, AreVolumeTexts, IsReport, first_line, move_text, end_text, writers_text}
-use Rattle.vss_report.specs.ToldReport.{told_reply, told_event, told_move, told_moves, told_image, told_images, told_volume, told_volumes, told_closing, told_report, all_tell}
+use Rattle.vss_report.specs.Report.{reply_with, IsShownAs, IsReplyText, IsTextOf, IsLines, IsVolumeText, IsImageText, AreImageTexts, AreVolumeTexts, IsReport, first_line, move_text, end_text, writers_text}
+use Rattle.vss_report.specs.ToldReport.{first_of, digest_of, told_reply, told_event, told_move, told_moves, told_image, told_images, told_volume, told_volumes, told_closing, told_report, all_tell}
 
 digest_told : (rows : List VolumeRow) (v : ℕ) (bytes : List ℕ) → IsDigestIf (slice_get (map (λ _. true) rows) v) bytes (sha256 bytes)
 digest_told [] zero bytes = refl
@@ -34,23 +34,13 @@ first_told [] (suc v) bytes = refl
 first_told (r ∷ rows) zero bytes = refl
 first_told (r ∷ rows) (suc v) bytes = first_told rows v bytes
 
+is_shown : (s : Plan) (reply : Reply) → IsShownAs (all_tell s) reply (first_of reply) (digest_of reply)
+is_shown s (BlockOf v bytes) = (first_told s.volumes v bytes, digest_told s.volumes v bytes)
+is_shown s (BlocksOf v blocks) = digest_told s.volumes v (concat blocks)
+is_shown s _ = tt
+
 is_told_reply : (s : Plan) (reply : Reply) → IsReplyText s (all_tell s) reply (told_reply s reply)
-is_told_reply s Fine = refl
-is_told_reply s Faulted = refl
-is_told_reply s (FaultedAfter k) = refl
-is_told_reply s (Numbered n) = refl
-is_told_reply s (Coded why) = refl
-is_told_reply s NotSelectable = refl
-is_told_reply s (BlockOf v bytes) = (take 8 bytes, sha256 bytes, first_told s.volumes v bytes, digest_told s.volumes v bytes, refl)
-is_told_reply s (BlocksOf v blocks) = (_, digest_told s.volumes v _, refl)
-is_told_reply s (KeptSets sets) = refl
-is_told_reply s (PropertiesOf c cut used) = refl
-is_told_reply s (Deleted k) = refl
-is_told_reply s (DocumentOf bytes) = refl
-is_told_reply s (StatusOf rows) = refl
-is_told_reply s (Answered o a) = refl
-is_told_reply s (Stepped g v fault) = refl
-is_told_reply s (Idled n) = refl
+is_told_reply s reply = record { first = first_of reply; digest = digest_of reply; shown = is_shown s reply; is = refl }
 
 is_told_event : (s : Plan) (r : Run) (actor : Actor) (event : Option Event) (mark : Mark) → IsTextOf s (all_tell s) r actor event mark (told_event s r actor event mark)
 is_told_event s r actor None mark = refl
@@ -100,25 +90,15 @@ first_only [] (suc v) bytes first h = h
 first_only (r ∷ rows) zero bytes first h = h
 first_only (r ∷ rows) (suc v) bytes first h = first_only rows v bytes first h
 
+shown_only : (s : Plan) (reply : Reply) (first digest : List ℕ) → IsShownAs (all_tell s) reply first digest → reply_with s first digest reply ≡ told_reply s reply
+shown_only s (BlockOf v bytes) first digest h =
+    ap (λ x. codes "data " ++ encode_lower x ++ spaced (encode_lower digest)) (first_only s.volumes v bytes first h.0)
+    ∙ ap (λ x. codes "data " ++ encode_lower (take 8 bytes) ++ spaced (encode_lower x)) (digest_only s.volumes v bytes digest h.1)
+shown_only s (BlocksOf v blocks) first digest h = ap (λ x. codes "digest " ++ encode_lower x) (digest_only s.volumes v (concat blocks) digest h)
+shown_only s _ first digest h = refl
+
 reply_only : (s : Plan) (reply : Reply) (text : List ℕ) → IsReplyText s (all_tell s) reply text → text ≡ told_reply s reply
-reply_only s Fine text h = h
-reply_only s Faulted text h = h
-reply_only s (FaultedAfter k) text h = h
-reply_only s (Numbered n) text h = h
-reply_only s (Coded why) text h = h
-reply_only s NotSelectable text h = h
-reply_only s (BlockOf v bytes) text h =
-    h.4 ∙ ap (λ x. codes "data " ++ encode_lower x ++ spaced (encode_lower h.1)) (first_only s.volumes v bytes h.0 h.2)
-    ∙ ap (λ x. codes "data " ++ encode_lower (take 8 bytes) ++ spaced (encode_lower x)) (digest_only s.volumes v bytes h.1 h.3)
-reply_only s (BlocksOf v blocks) text h = h.2 ∙ ap (λ x. codes "digest " ++ encode_lower x) (digest_only s.volumes v (concat blocks) h.0 h.1)
-reply_only s (KeptSets sets) text h = h
-reply_only s (PropertiesOf c cut used) text h = h
-reply_only s (Deleted k) text h = h
-reply_only s (DocumentOf bytes) text h = h
-reply_only s (StatusOf rows) text h = h
-reply_only s (Answered o a) text h = h
-reply_only s (Stepped g v fault) text h = h
-reply_only s (Idled n) text h = h
+reply_only s reply text h = h.is ∙ shown_only s reply h.first h.digest h.shown
 
 event_only : (s : Plan) (r : Run) (actor : Actor) (event : Option Event) (mark : Mark) (text : List ℕ) → IsTextOf s (all_tell s) r actor event mark text → text ≡ told_event s r actor event mark
 event_only s r actor None mark text h = h

@@ -7,7 +7,7 @@ use Rattle.std.proofs.lemmas.List.{drop_more}
 use Rattle.scenario.specs.Numbers.{is_digit, begins_number, value_from, capped}
 use Rattle.vss_report.specs.Shapes.{is_number, up_to}
 
-digits_have_value : (n : ℕ) (word : List ℕ) → is_some (value_from n word) ≡ list_all is_digit word
+pub digits_have_value : (n : ℕ) (word : List ℕ) → is_some (value_from n word) ≡ list_all is_digit word
 digits_have_value n [] = refl
 digits_have_value n (byte ∷ rest) =
     let on : (t : Bool) → is_some (if t then value_from (n * 10 + (byte - 48)) rest else None) ≡ t && list_all is_digit rest =

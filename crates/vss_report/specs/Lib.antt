@@ -5,3 +5,5 @@ pub mod ToldLines
 pub mod Pieces
 pub mod Shapes
 pub mod ReadBack
+pub mod Legible
+pub mod LegibleOutcome

@@ -29,28 +29,38 @@ use Rattle.vss_report.specs.Words.{spaced, as_line, volume_text, writer_text, la
 
 -- ## one move
 
+-- the words of a reply, with these first bytes and this digest where it shows any
+abbrev pub reply_with : Plan → List ℕ → List ℕ → Reply → List ℕ
+reply_with s first digest Fine = codes "ok"
+reply_with s first digest Faulted = codes "fault"
+reply_with s first digest (FaultedAfter k) = codes "fault " ++ decimal k
+reply_with s first digest (Numbered n) = codes "set " ++ decimal n
+reply_with s first digest (Coded why) = result.name_of why
+reply_with s first digest NotSelectable = codes "NOT_SELECTABLE"
+reply_with s first digest (BlockOf v bytes) = codes "data " ++ encode_lower first ++ spaced (encode_lower digest)
+reply_with s first digest (BlocksOf v blocks) = codes "digest " ++ encode_lower digest
+reply_with s first digest (KeptSets sets) = codes "images" ++ sets_text sets
+reply_with s first digest (PropertiesOf c cut used) =
+    codes "properties context " ++ decimal (context.number_of c) ++ codes " cut " ++ decimal cut ++ codes " used " ++ decimal used
+reply_with s first digest (Deleted k) = codes "deleted " ++ decimal k
+reply_with s first digest (DocumentOf bytes) = codes "document " ++ decimal (length bytes) ++ spaced (encode_lower (sha256 bytes))
+reply_with s first digest (StatusOf rows) = codes "status" ++ states_text s s.writers rows
+reply_with s first digest (Answered o a) = order.name_of o ++ spaced (answer_text a)
+reply_with s first digest (Stepped g v fault) = step_text g ++ of_volume s v ++ fault_if fault
+reply_with s first digest (Idled n) = decimal n
+
+-- they are those of the bytes, unless these come from a volume that does not tell
+abbrev pub IsShownAs : List Bool → Reply → List ℕ → List ℕ → Type 0
+IsShownAs tells (BlockOf v bytes) first digest = IsFirstIf (slice_get tells v) bytes first × IsDigestIf (slice_get tells v) bytes digest
+IsShownAs tells (BlocksOf v blocks) first digest = IsDigestIf (slice_get tells v) (concat blocks) digest
+IsShownAs tells _ first digest = Unit {0}
+
 -- the text of a reply
-abbrev pub IsReplyText : Plan → List Bool → Reply → List ℕ → Type 0
-IsReplyText s tells Fine text = text ≡ codes "ok"
-IsReplyText s tells Faulted text = text ≡ codes "fault"
-IsReplyText s tells (FaultedAfter k) text = text ≡ codes "fault " ++ decimal k
-IsReplyText s tells (Numbered n) text = text ≡ codes "set " ++ decimal n
-IsReplyText s tells (Coded why) text = text ≡ result.name_of why
-IsReplyText s tells NotSelectable text = text ≡ codes "NOT_SELECTABLE"
-IsReplyText s tells (BlockOf v bytes) text =
-    (first : List ℕ) × (digest : List ℕ) × IsFirstIf (slice_get tells v) bytes first × IsDigestIf (slice_get tells v) bytes digest
-    × (text ≡ codes "data " ++ encode_lower first ++ spaced (encode_lower digest))
-IsReplyText s tells (BlocksOf v blocks) text =
-    (digest : List ℕ) × IsDigestIf (slice_get tells v) (concat blocks) digest × (text ≡ codes "digest " ++ encode_lower digest)
-IsReplyText s tells (KeptSets sets) text = text ≡ codes "images" ++ sets_text sets
-IsReplyText s tells (PropertiesOf c cut used) text =
-    text ≡ codes "properties context " ++ decimal (context.number_of c) ++ codes " cut " ++ decimal cut ++ codes " used " ++ decimal used
-IsReplyText s tells (Deleted k) text = text ≡ codes "deleted " ++ decimal k
-IsReplyText s tells (DocumentOf bytes) text = text ≡ codes "document " ++ decimal (length bytes) ++ spaced (encode_lower (sha256 bytes))
-IsReplyText s tells (StatusOf rows) text = text ≡ codes "status" ++ states_text s s.writers rows
-IsReplyText s tells (Answered o a) text = text ≡ order.name_of o ++ spaced (answer_text a)
-IsReplyText s tells (Stepped g v fault) text = text ≡ step_text g ++ of_volume s v ++ fault_if fault
-IsReplyText s tells (Idled n) text = text ≡ decimal n
+pub record IsReplyText (s : Plan) (tells : List Bool) (reply : Reply) (text : List ℕ) : Type 0 where
+  pub first : List ℕ
+  pub digest : List ℕ
+  pub shown : IsShownAs tells reply first digest
+  pub is : text ≡ reply_with s first digest reply
 
 abbrev pub number_in : Option LaneLine → ℕ
 number_in None = 0

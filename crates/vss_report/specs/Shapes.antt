@@ -1,11 +1,10 @@
 -- The lines of a report as they are read back, by their words: a move, an effect, the end of the moves, or none of these. A
 -- name is one of the scenario's. A number of a move and that of restored blocks are read for what they say, all other numbers
 -- and digests for their form alone. (This project's own.)
-use Rattle.std.specs.Prelude.{ℕ, ◌≤◌, ◌==◌, ◌&&◌, ◌||◌, Bool, false, List, [], ◌∷◌, ◌++◌, length, map, find, nat_le, not, if◌then◌else◌, Option, Some, None, is_some, codes}
+use Rattle.std.specs.Prelude.{ℕ, ◌≤◌, ◌==◌, ◌&&◌, ◌||◌, Bool, false, List, [], ◌∷◌, length, find, nat_le, if◌then◌else◌, Option, Some, None, is_some, codes}
 use Rattle.std.specs.List.{list_all, list_any, range_with_len}
 use Rattle.std.specs.Str.{bytes_eq}
 use Rattle.std.specs.Fmt.{decimal}
-use Rattle.vss_names.specs.declared.writer_error.WriterError.{WriterError}
 use Rattle.vss_names.specs.declared.writer_state.WriterState.{WriterState}
 use Rattle.vss_names.specs.VssResult as result
 use Rattle.vss_names.specs.WriterError as error
@@ -23,7 +22,7 @@ use Rattle.scenario.specs.Plan.{Plan, WriterPlan, token}
 use Rattle.vss_report.specs.declared.line_kind.LineKind.{LineKind}
 use Rattle.vss_report.specs.declared.line_kind.LineKind.TheVariants.{Move, Effect, End, Bad}
 use Rattle.vss_report.specs.Pieces.{pieces, is_over}
-use Rattle.vss_report.specs.Words.{volume_text, writer_text, lane_text, code_text}
+use Rattle.vss_report.specs.Words.{volume_text, writer_text, lane_text, code_word}
 
 -- ## names
 
@@ -64,17 +63,40 @@ is_result word = is_some (result.vss_result_of_name word)
 abbrev pub is_volume : Plan → List ℕ → Bool
 is_volume s name = is_some (volume_named s name)
 
--- a failed state has a code behind it, and no other has one
-abbrev pub has_its_code : WriterState → Option WriterError → Bool
-has_its_code st None = not (is_failed st)
-has_its_code st (Some code) = is_failed st
+-- so many words, and no more
+abbrev pub is_one : (List ℕ → Bool) → List (List ℕ) → Bool
+is_one test [] = false
+is_one test (word ∷ more) = test word && is_over more
 
-abbrev pub is_state_with : List ℕ → List ℕ → Option WriterError → WriterState → Bool
-is_state_with name word code st = has_its_code st code && bytes_eq (name ++ codes "=" ++ state.name_of st ++ code_text code) word
+abbrev pub are_two : (List ℕ → Bool) → (List ℕ → Bool) → List (List ℕ) → Bool
+are_two test next [] = false
+are_two test next (word ∷ more) = test word && is_one next more
 
--- the name of a writer, and a state with its code
+-- ## states of writers
+
+abbrev pub is_code : List ℕ → Bool
+is_code word = list_any (λ e. bytes_eq word (code_word e)) error.errors
+
+-- what stands behind a state: a failed one has a code, and no other has one
+abbrev pub is_coded : Option WriterState → List (List ℕ) → Bool
+is_coded None more = false
+is_coded (Some st) more = if is_failed st then is_one is_code more else is_over more
+
+-- a state by its parts at `/`
+abbrev pub is_state_in : List (List ℕ) → Bool
+is_state_in [] = false
+is_state_in (name ∷ more) = is_coded (state.state_of_name name) more
+
+abbrev pub is_state : List ℕ → Bool
+is_state word = is_state_in (pieces 47 word)
+
+-- the name of a writer and its state, by their parts at `=`
+abbrev pub is_named_state : List ℕ → List (List ℕ) → Bool
+is_named_state name [] = false
+is_named_state name (who ∷ more) = bytes_eq who name && is_one is_state more
+
 abbrev pub is_state_of : List ℕ → List ℕ → Bool
-is_state_of name word = list_any (λ code. list_any (is_state_with name word code) state.states) (None ∷ map Some error.errors)
+is_state_of name word = is_named_state name (pieces 61 word)
 
 -- the states of these writers, each once and in this order
 abbrev pub are_states : Plan → List WriterPlan → List (List ℕ) → Bool
@@ -83,14 +105,6 @@ are_states s (w ∷ ws) [] = false
 are_states s (w ∷ ws) (word ∷ more) = is_state_of (token s w.name) word && are_states s ws more
 
 -- ## replies
-
-abbrev pub is_one : (List ℕ → Bool) → List (List ℕ) → Bool
-is_one test [] = false
-is_one test (word ∷ more) = test word && is_over more
-
-abbrev pub are_two : (List ℕ → Bool) → (List ℕ → Bool) → List (List ℕ) → Bool
-are_two test next [] = false
-are_two test next (word ∷ more) = test word && is_one next more
 
 -- the words after this one and a number behind it
 abbrev pub after_count : List ℕ → List (List ℕ) → Option (List (List ℕ))

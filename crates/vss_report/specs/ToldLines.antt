@@ -1,5 +1,5 @@
 -- The lines that a program writes of a move and at the end, from what it was told. (This project's own.)
-use Rattle.std.specs.Prelude.{ℕ, ◌+◌, ◌≡◌, ◌<◌, ◌==◌, if◌then◌else◌, Bool, List, [], ◌++◌, length, All, Option, Some, None, codes}
+use Rattle.std.specs.Prelude.{ℕ, ◌+◌, ◌≡◌, ◌<◌, ◌≤◌, ◌==◌, if◌then◌else◌, Bool, List, [], ◌++◌, length, All, Option, Some, None, codes}
 use Rattle.std.specs.List.{flat_map}
 use Rattle.std.specs.Fmt.{decimal}
 use Rattle.hex.specs.Hex.{encode_lower}
@@ -94,14 +94,18 @@ IsActor s (Writer w) = w < length s.writers
 IsActor s Advance = Unit {0}
 IsActor s Idle = Unit {0}
 
+-- where the states of all writers are told, there is a row for each
+abbrev pub HasRowsIfTold : Plan → Told → List WriterRow → Type 0
+HasRowsIfTold s t rows = t ≡ told.Status → length rows ≡ length s.writers
+
 pub record AreInRange (s : Plan) (actor : Actor) (o : Outcome) (listed : List ℕ) (evicted : List Evicted) (rows : List WriterRow) : Type 0 where
   pub actor_is : IsActor s actor
   pub told_is : IsTold s o.told
   pub lost_are : All (λ w. w < length s.writers) (writers_of o.lost)
   pub few_listed : length listed < 513
   pub evicted_are : All (λ (e : Evicted). e.volume < length s.volumes) evicted
-  pub few_evicted : length evicted < 513
-  pub rows_are : length rows ≡ length s.writers
+  pub few_evicted : length evicted ≤ 65536
+  pub rows_are : HasRowsIfTold s o.told rows
 
 -- ## the closing lines
 

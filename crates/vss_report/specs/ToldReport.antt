@@ -4,9 +4,6 @@ use Rattle.std.specs.List.{concat}
 use Rattle.std.specs.Fmt.{decimal}
 use Rattle.hex.specs.Hex.{encode_lower}
 use Rattle.block_data.specs.Digest.{sha256}
-use Rattle.vss_names.specs.Context as context
-use Rattle.vss_names.specs.VssResult as result
-use Rattle.vss_names.specs.Order as order
 use Rattle.write_history.specs.declared.actor.Actor.{Actor}
 use Rattle.write_history.specs.declared.mark.Mark.{Mark}
 use Rattle.write_history.specs.declared.move_item.Move.{Move}
@@ -15,30 +12,24 @@ use Rattle.write_history.specs.Slots.{used}
 use Rattle.scenario.specs.declared.volume_row.VolumeRow.{VolumeRow}
 use Rattle.scenario.specs.Plan.{Plan}
 use Rattle.vss_model.specs.declared.event.Event.{Event}
-use Rattle.vss_model.specs.Reply.{Reply, Fine, Faulted, FaultedAfter, Numbered, Coded, NotSelectable, BlockOf, BlocksOf, KeptSets, PropertiesOf, Deleted, DocumentOf, StatusOf, Answered, Stepped, Idled}
+use Rattle.vss_model.specs.Reply.{Reply, BlockOf, BlocksOf}
 use Rattle.vss_model.specs.State.{State, kept}
 use Rattle.vss_model.specs.Acts.{reply}
 use Rattle.vss_model.specs.Trail.{Run, begin, run, event_of, act_of, moved}
-use Rattle.vss_report.specs.Words.{spaced, as_line, volume_text, answer_text, step_text, of_volume, fault_if, sets_text, states_text}
-use Rattle.vss_report.specs.Report.{first_line, move_text, end_text, writers_text}
+use Rattle.vss_report.specs.Words.{spaced, as_line, volume_text}
+use Rattle.vss_report.specs.Report.{reply_with, first_line, move_text, end_text, writers_text}
+
+abbrev pub first_of : Reply → List ℕ
+first_of (BlockOf v bytes) = take 8 bytes
+first_of _ = []
+
+abbrev pub digest_of : Reply → List ℕ
+digest_of (BlockOf v bytes) = sha256 bytes
+digest_of (BlocksOf v blocks) = sha256 (concat blocks)
+digest_of _ = []
 
 abbrev pub told_reply : Plan → Reply → List ℕ
-told_reply s Fine = codes "ok"
-told_reply s Faulted = codes "fault"
-told_reply s (FaultedAfter k) = codes "fault " ++ decimal k
-told_reply s (Numbered n) = codes "set " ++ decimal n
-told_reply s (Coded why) = result.name_of why
-told_reply s NotSelectable = codes "NOT_SELECTABLE"
-told_reply s (BlockOf v bytes) = codes "data " ++ encode_lower (take 8 bytes) ++ spaced (encode_lower (sha256 bytes))
-told_reply s (BlocksOf v blocks) = codes "digest " ++ encode_lower (sha256 (concat blocks))
-told_reply s (KeptSets sets) = codes "images" ++ sets_text sets
-told_reply s (PropertiesOf c cut used) = codes "properties context " ++ decimal (context.number_of c) ++ codes " cut " ++ decimal cut ++ codes " used " ++ decimal used
-told_reply s (Deleted k) = codes "deleted " ++ decimal k
-told_reply s (DocumentOf bytes) = codes "document " ++ decimal (length bytes) ++ spaced (encode_lower (sha256 bytes))
-told_reply s (StatusOf rows) = codes "status" ++ states_text s s.writers rows
-told_reply s (Answered o a) = order.name_of o ++ spaced (answer_text a)
-told_reply s (Stepped g v fault) = step_text g ++ of_volume s v ++ fault_if fault
-told_reply s (Idled n) = decimal n
+told_reply s reply = reply_with s (first_of reply) (digest_of reply) reply
 
 abbrev pub told_event : Plan → Run → Actor → Option Event → Mark → List ℕ
 told_event s r actor None mark = []

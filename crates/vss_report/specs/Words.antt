@@ -81,10 +81,14 @@ fault_if false = []
 abbrev pub sets_text : List ℕ → List ℕ
 sets_text sets = flat_map (λ n. spaced (decimal n)) sets
 
+-- the code of a failure
+abbrev pub code_word : WriterError → List ℕ
+code_word e = codes "0x" ++ encode_upper (to_be_bytes w32 (error.number_of e))
+
 -- a failed state is followed by its code
 abbrev pub code_text : Option WriterError → List ℕ
 code_text None = []
-code_text (Some e) = codes "/0x" ++ encode_upper (to_be_bytes w32 (error.number_of e))
+code_text (Some e) = codes "/" ++ code_word e
 
 abbrev pub state_text : WriterRow → List ℕ
 state_text r = state.name_of r.state ++ code_text r.code

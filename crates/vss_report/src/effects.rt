@@ -7,7 +7,7 @@ ghost use Rattle.vss_report.specs.Words.{evicted_text, lost_text, outcome_text};
 ghost use Rattle.vss_report.specs.ToldLines.{told_end};
 
 use crate::names::{volume_name, writer_name};
-use crate::words::{add, add_number};
+use crate::words::{add, add_number, add_short_number};
 use scenario::Scenario;
 use vss_model::Evicted;
 use vss_names::{Order, SetOutcome, Text};
@@ -15,12 +15,12 @@ use vss_names::{Order, SetOutcome, Text};
 /// Appends the line of an evicted image.
 fn add_evicted(scenario: &Scenario, image: Evicted, out: &mut Text)
     requires range { image.volume < length scenario.now.volumes }
-    requires room { 64 ≤ out.old.spare }
+    requires room { 54 ≤ out.old.spare }
     ensures bytes { out.new.bytes ≡ out.old.bytes ++ evicted_text scenario.now image }
-    ensures spare { out.old.spare ≤ out.new.spare + 64 }
+    ensures spare { out.old.spare ≤ out.new.spare + 54 }
 {
     add(out, b"= evicted ");
-    add_number(out, image.set as u64);
+    add_short_number(out, image.set);
     add(out, b" ");
     add(out, volume_name(scenario, image.volume));
     add(out, b"\n");
@@ -29,9 +29,9 @@ fn add_evicted(scenario: &Scenario, image: Evicted, out: &mut Text)
 /// Appends the lines of the evicted images.
 pub fn add_all_evicted(scenario: &Scenario, evicted: &[Evicted], out: &mut Text)
     requires range { All (λ (e : Evicted). e.volume < length scenario.now.volumes) evicted.now }
-    requires room { 64 * length evicted.now ≤ out.old.spare }
+    requires room { 54 * length evicted.now ≤ out.old.spare }
     ensures bytes { out.new.bytes ≡ out.old.bytes ++ flat_map (evicted_text scenario.now) evicted.now }
-    ensures spare { out.old.spare ≤ out.new.spare + 64 * length evicted.now }
+    ensures spare { out.old.spare ≤ out.new.spare + 54 * length evicted.now }
 {
     for image in evicted {
         add_evicted(scenario, *image, out);

@@ -8,6 +8,11 @@
 //! was told, `specs/Report.antt` the report as a relation between a trail and a text. `trail_of` reads a report
 //! back: `specs/Pieces.antt` has a text in lines and words, `specs/Shapes.antt` what a line is, and `specs/ReadBack.antt` which
 //! text tells which trail, or which of its lines is the first that is not of the form.
+//!
+//! `laws` has what holds of every report. A report is read back as the trail that it was made of, and as no other, where the
+//! scenario and the moves are legible (`specs/Legible.antt`): names are by the grammar and apart, and each move has a reply that
+//! its actor and its mark can have, with numbers of at most eight bytes. `move_lines` says so of each legal move
+//! (`specs/LegibleOutcome.antt`).
 #![tactic(auto)]
 
 mod closing;
@@ -24,6 +29,8 @@ mod replies;
 mod reply_words;
 mod report_fault;
 mod shapes;
+mod short;
+mod state_words;
 mod words;
 
 pub use lines::{MOST_BYTES, closing_line, move_lines, opening_line};

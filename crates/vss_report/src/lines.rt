@@ -4,20 +4,25 @@ ghost use Rattle.std.specs.Prelude.{◌≡◌, ◌+◌, ◌≤◌, ◌<◌, ◌+
 ghost use Rattle.std.specs.Fmt.{decimal};
 ghost use Rattle.vss_report.specs.Words.{spaced, as_line};
 ghost use Rattle.vss_report.specs.Report.{first_line};
-ghost use Rattle.vss_report.specs.ToldLines.{told_actor, told_text, told_lines, AreLinesOf, AreInRange, IsActor, IsTold, closing_text, IsClosingRow};
+ghost use Rattle.vss_report.specs.LegibleOutcome.{IsLegibleAs};
+ghost use Rattle.vss_report.specs.ToldLines.{told_actor, told_text, told_lines, AreLinesOf, AreInRange, HasRowsIfTold, IsActor, IsTold, closing_text, IsClosingRow};
 
 use crate::closing::add_closing;
 use crate::effects::{add_all_evicted, add_end, add_losses};
 use crate::names::{lane_name, writer_name};
 use crate::replies::add_told;
+use crate::short::is_short;
 use crate::words::{add, add_number, add_spaced_number};
 use scenario::Scenario;
 use vss_model::{ClosingRow, Lists, Outcome, Told};
 use vss_names::{OutOfMemory, Text};
 use write_history::{Actor, Move};
 
-/// The most bytes that the lines of one move, or one closing line, take.
-pub const MOST_BYTES: usize = 65536;
+/// The most bytes that the lines of one move, or one closing line, take. A move may evict 65,536 images, each with its line.
+pub const MOST_BYTES: usize = 4194304;
+
+/// The most bytes that a closing line takes.
+const CLOSING_BYTES: usize = 160;
 
 /// Appends who moves; a lane with the number of its line.
 fn add_actor(scenario: &Scenario, line: u32, actor: Actor, out: &mut Text)
@@ -54,7 +59,7 @@ fn add_move(
     requires actor { IsActor scenario.now «actor» }
     requires told { IsTold scenario.now «told» }
     requires few { length lists.now.listed.now < 513 }
-    requires all { length lists.now.rows.now ≡ length scenario.now.writers }
+    requires all { HasRowsIfTold scenario.now «told» lists.now.rows.now }
     requires room { 11100 ≤ out.old.spare }
     ensures bytes { out.new.bytes ≡ out.old.bytes
         ++ as_line (decimal number ++ spaced (told_actor scenario.now line «actor») ++ spaced (told_text scenario.now lists.now.listed.now lists.now.rows.now «told»)) }
@@ -78,7 +83,7 @@ pub fn opening_line(out: &mut Text) -> Result<(), OutOfMemory>
 }
 
 /// Appends the line of a move, and those of its effects. `number` counts the moves from 1; `line` is the number of the lane's
-/// line, and is not used for another actor.
+/// line, and is not used for another actor. Where the move is legal, its lines tell it and no other.
 pub fn move_lines(
     scenario: &Scenario,
     number: u32,
@@ -92,9 +97,12 @@ pub fn move_lines(
     ensures ok { OnOk result (out.new.bytes ≡ out.old.bytes ++ told_lines scenario.now number line item.actor outcome.now lists.now.listed.now lists.now.evicted.now lists.now.rows.now) }
     ensures report { AreLinesOf scenario.now number line item outcome.now lists.now.listed.now lists.now.evicted.now lists.now.rows.now
         (told_lines scenario.now number line item.actor outcome.now lists.now.listed.now lists.now.evicted.now lists.now.rows.now) }
+    ensures legible { IsLegibleAs scenario.now item outcome.now lists.now.listed.now lists.now.evicted.now lists.now.rows.now }
     ensures err { OnErr result (out.new ≡ out.old) }
     ensures succeeds { MOST_BYTES ≤ out.old.spare → IsOk result }
 {
+    let _plan = scenario.volumes();
+    is_short(outcome, lists);
     out.reserve(MOST_BYTES)?;
     add_move(scenario, number, line, item.actor, outcome.told, lists, out);
     add_all_evicted(scenario, lists.evicted, out);
@@ -114,7 +122,7 @@ pub fn closing_line(
     ensures err { OnErr result (out.new ≡ out.old) }
     ensures succeeds { MOST_BYTES ≤ out.old.spare → IsOk result }
 {
-    out.reserve(MOST_BYTES)?;
+    out.reserve(CLOSING_BYTES)?;
     add_closing(scenario, row, out);
     Ok(())
 }

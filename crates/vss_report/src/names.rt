@@ -26,12 +26,12 @@ pub fn lane_name(scenario: &Scenario, lane: u32) -> &[u8]
     scenario.token(scenario.lane_name(lane))
 }
 
-/// The name of a writer. No scenario that is read has writers.
+/// The name of a writer.
 pub fn writer_name(scenario: &Scenario, writer: u32) -> &[u8]
     requires { writer < length scenario.now.writers }
     ensures text { result.now ≡ writer_text scenario.now writer }
     ensures short { length result.now ≤ 32 }
 {
-    let _count = scenario.volumes();
-    b""
+    let _count = scenario.writers();
+    scenario.token(scenario.writer_name(writer))
 }

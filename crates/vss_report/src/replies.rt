@@ -6,7 +6,7 @@ ghost use Rattle.hex.specs.Hex.{encode_lower};
 ghost use Rattle.vss_names.specs.Context as contexts;
 ghost use Rattle.vss_names.specs.Order as orders;
 ghost use Rattle.vss_report.specs.Words.{spaced, writer_text, state_text, answer_text, step_text, of_volume, fault_if, sets_text, states_text};
-ghost use Rattle.vss_report.specs.ToldLines.{told_text, IsTold, IsVolumeNumber};
+ghost use Rattle.vss_report.specs.ToldLines.{told_text, HasRowsIfTold, IsTold, IsVolumeNumber};
 
 use crate::names::{volume_name, writer_name};
 use crate::words::{add, add_digest, add_first, add_number, add_spaced_number, add_state};
@@ -212,7 +212,7 @@ fn add_status(scenario: &Scenario, rows: &[WriterRow], out: &mut Text)
 pub fn add_told(scenario: &Scenario, told: Told, lists: &Lists<'_>, out: &mut Text)
     requires range { IsTold scenario.now told }
     requires few { length lists.now.listed.now < 513 }
-    requires all { length lists.now.rows.now ≡ length scenario.now.writers }
+    requires all { HasRowsIfTold scenario.now told lists.now.rows.now }
     requires room { 11000 ≤ out.old.spare }
     ensures bytes { out.new.bytes ≡ out.old.bytes ++ told_text scenario.now lists.now.listed.now lists.now.rows.now told }
     ensures spare { out.old.spare ≤ out.new.spare + 11000 }

@@ -5,8 +5,10 @@ ghost use Rattle.std.specs.List.{list_all};
 ghost use Rattle.vss_report.specs.Pieces.{pieces_at};
 ghost use Rattle.vss_report.specs.Shapes as shapes;
 
+use crate::names::writer_name;
 use crate::pieces::{is_over, word_at};
 use crate::shapes::{is, is_hex, is_number, is_result, number_up_to};
+use crate::state_words::is_state_of;
 use scenario::Scenario;
 use write_history::Mark;
 
@@ -96,11 +98,20 @@ fn are_properties(line: &[u8], at: usize) -> bool
     is_over(line, b' ', at)
 }
 
-/// Whether the states of all writers are left. No scenario that is read has writers.
+/// Whether the states of all writers are left, in order.
 fn are_states(scenario: &Scenario, line: &[u8], at: usize) -> bool
     ensures { result ≡ shapes.are_states scenario.now scenario.now.writers (pieces_at 32 line.now at) }
 {
-    let _count = scenario.volumes();
+    let mut at = at;
+    for writer in 0..scenario.writers() {
+        let Some(word) = word_at(line, at) else {
+            return false;
+        };
+        if !is_state_of(writer_name(scenario, writer), word.text) {
+            return false;
+        }
+        at = word.next;
+    }
     is_over(line, b' ', at)
 }
 

@@ -6,7 +6,7 @@ ghost use Rattle.std.specs.Str.{bytes_eq};
 ghost use Rattle.scenario.specs.Numbers as numbers;
 ghost use Rattle.vss_report.specs.Shapes as shapes;
 
-use crate::names::{lane_name, volume_name};
+use crate::names::{lane_name, volume_name, writer_name};
 use scenario::Scenario;
 use vss_names::{Order, VssResult, WriterError};
 
@@ -153,10 +153,14 @@ pub fn is_volume(scenario: &Scenario, word: &[u8]) -> bool
     volume_named(scenario, word).is_some()
 }
 
-/// The writer with this name. No scenario that is read has writers.
+/// The writer with this name.
 pub fn writer_named(scenario: &Scenario, name: &[u8]) -> Option<u32>
     ensures { result ≡ shapes.writer_named scenario.now name.now }
 {
-    let _count = scenario.volumes();
+    for writer in 0..scenario.writers() {
+        if writer_name(scenario, writer) == name {
+            return Some(writer);
+        }
+    }
     None
 }

@@ -32,6 +32,16 @@ pub fn add_number(out: &mut Text, n: u64)
     add(out, buffer.format(n).as_bytes());
 }
 
+/// Appends a number of four bytes in decimal digits.
+pub fn add_short_number(out: &mut Text, n: u32)
+    requires { 10 ≤ out.old.spare }
+    ensures bytes { out.new.bytes ≡ out.old.bytes ++ decimal n }
+    ensures spare { out.old.spare ≤ out.new.spare + 10 }
+{
+    let mut buffer = Buffer::new();
+    add(out, buffer.format(n).as_bytes());
+}
+
 /// Appends a space and a number.
 pub fn add_spaced_number(out: &mut Text, n: u64)
     requires { 21 ≤ out.old.spare }

@@ -7,4 +7,4 @@ use Rattle.vss_report.proofs.effects.add_all_evicted.Given as goal
 abbrev pub invariant-loop-image : goal.invariant-loop-image
 invariant-loop-image l =
     (l.out.bytes ++ flat_map (evicted_text l.scenario) (drop l.image-index l.evicted) ≡ l.initial.out.bytes ++ flat_map (evicted_text l.scenario) l.evicted)
-    × (l.initial.out.spare ≤ l.out.spare + 64 * l.image-index)
+    × (l.initial.out.spare ≤ l.out.spare + 54 * l.image-index)

@@ -1,4 +1,5 @@
 use Rattle.vss_report.proofs.MoveLines.{are_lines}
+use Rattle.vss_report.proofs.ToldLegible.{told_legible}
 use Rattle.vss_report.proofs.lines.move_lines.Goals as goal
 
 pub returns-in_err-reserve-clause-report : goal.returns-in_err-reserve-clause-report
@@ -8,3 +9,11 @@ returns-in_err-reserve-clause-report c =
 pub returns-clause-report : goal.returns-clause-report
 returns-clause-report c =
     are_lines c.args.scenario.now c.args.number c.args.line c.args.item c.args.outcome.now c.args.lists.now.listed.now c.args.lists.now.evicted.now c.args.lists.now.rows.now
+
+pub returns-in_err-reserve-clause-legible : goal.returns-in_err-reserve-clause-legible
+returns-in_err-reserve-clause-legible c =
+    told_legible c.args.scenario.now c.args.item c.args.outcome.now c.args.lists.now.listed.now c.args.lists.now.evicted.now c.args.lists.now.rows.now c.volumes-plan.ensures.plan c.requires c.is_short.ensures
+
+pub returns-clause-legible : goal.returns-clause-legible
+returns-clause-legible c =
+    told_legible c.args.scenario.now c.args.item c.args.outcome.now c.args.lists.now.listed.now c.args.lists.now.evicted.now c.args.lists.now.rows.now c.volumes-plan.ensures.plan c.requires c.is_short.ensures

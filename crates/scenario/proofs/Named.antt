@@ -1,0 +1,393 @@
+-- Each scenario that is read has names by the grammar, those of writers and of lanes apart, and its lines are numbered by the lines of
+-- its text.
+use Rattle.std.proofs.Common.{◌≡◌, ◌∙◌, ℕ, zero, suc, ◌+◌, ◌-◌, ◌^◌, ◌<◌, ◌≤◌, Bool, true, false, List, [], ◌∷◌, ◌++◌, length, map, Option, Some, None, Result, Ok, Err, refl, ap, sym, subst, arith}
+use Rattle.std.specs.Prelude.{◌==◌, ◌&&◌, not, nat_lt, nat_le, is_some, if◌then◌else◌, slice_get, codes}
+use Rattle.std.specs.List.{list_all}
+use Rattle.std.specs.Str.{bytes_eq}
+use Rattle.writer_calls.specs.declared.answer.Answer.TheVariants.{Veto}
+use Rattle.writer_calls.specs.declared.scripted.Scripted.{Scripted}
+use Rattle.scenario.specs.declared.reason.Reason.{Reason}
+use Rattle.scenario.specs.declared.reason.Reason.TheVariants.{Empty, BadName, DoubleName, TooMany, UnknownWord, BadByte, NoNewline, Misplaced}
+use Rattle.scenario.specs.declared.span.Span.{Span}
+use Rattle.scenario.specs.declared.text_line.TextLine.{TextLine}
+use Rattle.scenario.specs.declared.volume_row.VolumeRow.{VolumeRow}
+use Rattle.scenario.specs.declared.fields.Fields.{Fields}
+use Rattle.scenario.specs.declared.fields.Fields.TheVariants.{Zero, One, Two, Three, Four, Five, Many}
+use Rattle.scenario.specs.declared.word.Word.{Word}
+use Rattle.scenario.specs.declared.word.Word.TheVariants as word
+use Rattle.scenario.specs.Plan.{Plan, GroupPlan, WriterPlan, LanePlan, LaneLine}
+use Rattle.scenario.specs.Bounds.{ends_sessions}
+use Rattle.scenario.specs.Names.{is_name, place_from, volume_named, writer_named, lane_named}
+use Rattle.scenario.specs.Lines.{span_from, lines_from, lines_in}
+use Rattle.scenario.specs.Fields.{bytes_of, words_at, fields_for}
+use Rattle.scenario.specs.Words.{word_of}
+use Rattle.scenario.specs.Ops.{◌>>=◌, op_of, number_field, writer_field, is_word}
+use Rattle.scenario.specs.SoFar.{SoFar, Saying, Skipped, Opening, Area, OwnVolume, SharedVolume, Writer, Answer, Lane, Line, nothing, after, with_answer, with_line, implied_end, closed, closed_lane, plan_in, line_count, agenda_count, answer_count}
+use Rattle.scenario.specs.Declarations.{name_field, opening_of, area_of, has_space, has_volume_room, new_volume, blocks_field, own_row, own_volume_of, area_field, shared_row, shared_volume_of, volume_of, document_field, writer_of, order_field, code_field, nth_field, answer_if, row_for, answer_of, new_lane, lane_if, free_lane_of, acting_lane_of, lane_of}
+use Rattle.scenario.specs.Entries.{is_printable, is_skipped, has_lane, may_stand, has_line_room, line_of, row_of, placed_row_of, said_of, saying_of}
+use Rattle.scenario.specs.Grammar.{Reading, IsScenario, IsBad, whole, goes_on, run_only, read_from, language_of}
+use Rattle.scenario.specs.Named.{AllNamed, Differ, Distinct, volume_spans, writer_spans, lane_spans, Numbered, AllNumbered, HasNames}
+
+-- ## what one line says
+
+abbrev IsSaid : List ℕ → SoFar → ℕ → Saying → Type 0
+IsSaid text d number Skipped = Unit {0}
+IsSaid text d number Opening = Unit {0}
+IsSaid text d number (Area area) = Unit {0}
+IsSaid text d number (OwnVolume row) = is_name (bytes_of text row.name) ≡ true
+IsSaid text d number (SharedVolume row area) = is_name (bytes_of text row.name) ≡ true
+IsSaid text d number (Writer w) = (is_name (bytes_of text w.name) ≡ true) × (is_some (writer_named text d.writers (bytes_of text w.name)) ≡ false)
+IsSaid text d number (Answer w row) = Unit {0}
+IsSaid text d number (Lane name whom) = (is_name (bytes_of text name) ≡ true) × (is_some (lane_named text d.lanes (bytes_of text name)) ≡ false)
+IsSaid text d number (Line l) = l.number ≡ number
+
+abbrev IsGood : (Saying → Type 0) → Result Saying Reason → Type 0
+IsGood P (Ok saying) = P saying
+IsGood P (Err why) = Unit {0}
+
+on_bind : {A : Type 0} (P : Saying → Type 0) (r : Result A Reason) (f : A → Result Saying Reason) → ((x : A) → r ≡ Ok x → IsGood P (f x)) → IsGood P (r >>= f)
+on_bind P (Ok x) f h = h x refl
+on_bind P (Err why) f h = tt
+
+on_either : (P : Saying → Type 0) (b : Bool) (x y : Result Saying Reason) → IsGood P x → IsGood P y → IsGood P (if b then x else y)
+on_either P true x y h k = h
+on_either P false x y h k = k
+
+record IsNewName (text : List ℕ) (taken : Bool) (span x : Span) : Type 0 where
+  pub name : is_name (bytes_of text x) ≡ true
+  pub same : x ≡ span
+  pub free : taken ≡ false
+
+new_name : (text : List ℕ) (taken : Bool) (span x : Span) → name_field text taken span ≡ Ok x → IsNewName text taken span x
+unfolding name_field
+new_name text taken span x e = by_tests (is_name (bytes_of text span)) taken refl e
+  where
+    by_tests : (a b : Bool) → is_name (bytes_of text span) ≡ a → (if a then (if b then Err DoubleName else Ok span) else Err BadName) ≡ Ok x → IsNewName text b span x
+    by_tests true true f g = absurd cc
+    by_tests true false f g = let same : span ≡ x = cc in record { name = subst (λ y. is_name (bytes_of text y) ≡ true) same f; same = sym same; free = refl }
+    by_tests false b f g = absurd cc
+
+-- ## each kind of line
+
+opening_said : (text : List ℕ) (d : SoFar) (number : ℕ) (fields : Fields) → IsGood (IsSaid text d number) (opening_of text fields)
+unfolding opening_of
+opening_said text d number (One version) = on_bind (IsSaid text d number) (number_field text 1 1 version) _ (λ n e. tt)
+opening_said text d number _ = tt
+
+area_said : (text : List ℕ) (d : SoFar) (number : ℕ) (fields : Fields) → IsGood (IsSaid text d number) (area_of text d fields)
+area_said text d number (Two name slots) =
+    on_bind (IsSaid text d number) (name_field text _ name) _ (λ n e. on_bind (IsSaid text d number) (number_field text 0 65536 slots) _ (λ s f. on_either (IsSaid text d number) (nat_lt (length d.areas) 128 && has_space d s) (Ok (Area (record { name = n; slots = s }))) (Err TooMany) tt tt))
+area_said text d number _ = tt
+
+own_said : (text : List ℕ) (d : SoFar) (number : ℕ) (name blocks slots : Span) → IsGood (IsSaid text d number) (own_volume_of text d name blocks slots)
+unfolding own_volume_of
+own_said text d number name blocks slots =
+    on_bind (IsSaid text d number) (new_volume text d name) _ (λ n e. on_bind (IsSaid text d number) (blocks_field text blocks) _ (λ b f. on_bind (IsSaid text d number) (number_field text 0 65536 slots) _
+    (λ s g. on_either (IsSaid text d number) (has_volume_room d (b + s)) (Ok (OwnVolume (own_row d n b s))) (Err TooMany) (new_name text _ name n e).name tt)))
+
+shared_said : (text : List ℕ) (d : SoFar) (number : ℕ) (name blocks kind area : Span) → IsGood (IsSaid text d number) (shared_volume_of text d name blocks kind area)
+unfolding shared_volume_of
+shared_said text d number name blocks kind area =
+    on_bind (IsSaid text d number) (new_volume text d name) _ (λ n e. on_bind (IsSaid text d number) (blocks_field text blocks) _ (λ b f. on_either (IsSaid text d number) (is_word text kind (codes "in")) _ (Err UnknownWord)
+    (on_bind (IsSaid text d number) (area_field text d.areas area) _ (λ a g. on_either (IsSaid text d number) (has_volume_room d b) (Ok (SharedVolume (shared_row d n b a) a)) (Err TooMany) (new_name text _ name n e).name tt)) tt))
+
+volume_said : (text : List ℕ) (d : SoFar) (number : ℕ) (fields : Fields) → IsGood (IsSaid text d number) (volume_of text d fields)
+volume_said text d number (Three name blocks slots) = own_said text d number name blocks slots
+volume_said text d number (Four name blocks kind area) = shared_said text d number name blocks kind area
+volume_said text d number _ = tt
+
+writer_new : (text : List ℕ) (d : SoFar) (name n : Span) → IsNewName text (is_some (writer_named text d.writers (bytes_of text name))) name n
+    → (is_name (bytes_of text n) ≡ true) × (is_some (writer_named text d.writers (bytes_of text n)) ≡ false)
+writer_new text d name n h = (h.name, subst (λ x. is_some (writer_named text d.writers (bytes_of text x)) ≡ false) (sym h.same) h.free)
+
+lane_new : (text : List ℕ) (d : SoFar) (name n : Span) → IsNewName text (is_some (lane_named text d.lanes (bytes_of text name))) name n
+    → (is_name (bytes_of text n) ≡ true) × (is_some (lane_named text d.lanes (bytes_of text n)) ≡ false)
+lane_new text d name n h = (h.name, subst (λ x. is_some (lane_named text d.lanes (bytes_of text x)) ≡ false) (sym h.same) h.free)
+
+writer_said : (text : List ℕ) (d : SoFar) (number : ℕ) (fields : Fields) → IsGood (IsSaid text d number) (writer_of text d fields)
+writer_said text d number (Two name document) =
+    on_bind (IsSaid text d number) (name_field text (is_some (writer_named text d.writers (bytes_of text name))) name) _ (λ n e. on_bind (IsSaid text d number) (document_field text document) _
+    (λ meta f. on_either (IsSaid text d number) (nat_lt (length d.writers) 64) (Ok (Writer (record { name = n; meta = meta; script = [] }))) (Err TooMany) (writer_new text d name n (new_name text _ name n e)) tt))
+writer_said text d number _ = tt
+
+row_said : (text : List ℕ) (d : SoFar) (number w : ℕ) (row : Scripted) → IsGood (IsSaid text d number) (answer_if d w row)
+row_said text d number w row = on_either (IsSaid text d number) (nat_lt (answer_count d.writers) 10000) (Ok (Answer w row)) (Err TooMany) tt tt
+
+answer_said : (text : List ℕ) (d : SoFar) (number : ℕ) (fields : Fields) → IsGood (IsSaid text d number) (answer_of text d fields)
+answer_said text d number (Four writer order nth kind) =
+    on_bind (IsSaid text d number) (writer_field text d.writers writer) _ (λ w e. on_bind (IsSaid text d number) (order_field text order) _ (λ o f. on_bind (IsSaid text d number) (nth_field text d.writers w o nth) _
+    (λ n g. on_either (IsSaid text d number) (is_word text kind (codes "lost")) _ (Err UnknownWord) (row_said text d number w (row_for o n None)) tt)))
+answer_said text d number (Five writer order nth kind code) =
+    on_bind (IsSaid text d number) (writer_field text d.writers writer) _ (λ w e. on_bind (IsSaid text d number) (order_field text order) _ (λ o f. on_bind (IsSaid text d number) (nth_field text d.writers w o nth) _
+    (λ n g. on_either (IsSaid text d number) (is_word text kind (codes "veto")) _ (Err UnknownWord) (on_bind (IsSaid text d number) (code_field text code) _ (λ error h. row_said text d number w (row_for o n (Some (Veto error))))) tt)))
+answer_said text d number _ = tt
+
+free_said : (text : List ℕ) (d : SoFar) (number : ℕ) (name : Span) → IsGood (IsSaid text d number) (free_lane_of text d name)
+unfolding free_lane_of
+free_said text d number name =
+    on_bind (IsSaid text d number) (new_lane text d name) _ (λ n e. on_either (IsSaid text d number) (nat_lt (length d.lanes) 64) (Ok (Lane n None)) (Err TooMany) (lane_new text d name n (new_name text _ name n e)) tt)
+
+acting_said : (text : List ℕ) (d : SoFar) (number : ℕ) (name kind writer : Span) → IsGood (IsSaid text d number) (acting_lane_of text d name kind writer)
+unfolding acting_lane_of
+acting_said text d number name kind writer =
+    on_bind (IsSaid text d number) (new_lane text d name) _ (λ n e. on_either (IsSaid text d number) (is_word text kind (codes "as")) _ (Err UnknownWord)
+    (on_bind (IsSaid text d number) (writer_field text d.writers writer) _ (λ w f. on_either (IsSaid text d number) (nat_lt (length d.lanes) 64) (Ok (Lane n (Some w))) (Err TooMany) (lane_new text d name n (new_name text _ name n e)) tt)) tt)
+
+lane_said : (text : List ℕ) (d : SoFar) (number : ℕ) (fields : Fields) → IsGood (IsSaid text d number) (lane_of text d fields)
+lane_said text d number (One name) = free_said text d number name
+lane_said text d number (Three name kind writer) = acting_said text d number name kind writer
+lane_said text d number _ = tt
+
+line_said : (text : List ℕ) (d : SoFar) (number : ℕ) (w : Word) (fields : Fields) → IsGood (IsSaid text d number) (line_of text d number w fields)
+unfolding line_of
+line_said text d number w fields =
+    on_bind (IsSaid text d number) (op_of text d.volumes d.writers w fields) _ (λ op e. on_either (IsSaid text d number) (has_line_room (line_count d.lanes) (agenda_count d.lanes) op) (Ok (Line (record { number = number; op = op }))) (Err TooMany) refl tt)
+
+word_said : (text : List ℕ) (d : SoFar) (number : ℕ) (w : Word) (fields : Fields) → IsGood (IsSaid text d number) (row_of text d number w fields)
+unfolding row_of
+word_said text d number word.Scenario fields = opening_said text d number fields
+word_said text d number word.Area fields = area_said text d number fields
+word_said text d number word.Volume fields = volume_said text d number fields
+word_said text d number word.Writer fields = writer_said text d number fields
+word_said text d number word.Answer fields = answer_said text d number fields
+word_said text d number word.Lane fields = lane_said text d number fields
+word_said text d number w fields = line_said text d number w fields
+
+placed_said : (text : List ℕ) (d : SoFar) (number end : ℕ) (w : Option Word) (words : List Span) → IsGood (IsSaid text d number) (placed_row_of text d number end w words)
+placed_said text d number end None words = tt
+placed_said text d number end (Some w) words = on_either (IsSaid text d number) (may_stand d.opened (has_lane d.lanes) w) _ (Err Misplaced) (word_said text d number w (fields_for w end words)) tt
+
+words_said : (text : List ℕ) (d : SoFar) (number end : ℕ) (words : List Span) → IsGood (IsSaid text d number) (said_of text d number end words)
+words_said text d number end [] = tt
+words_said text d number end (first ∷ rest) = placed_said text d number end (word_of (bytes_of text first)) rest
+
+is_said : (text : List ℕ) (d : SoFar) (number : ℕ) (line : TextLine) → IsGood (IsSaid text d number) (saying_of text d number line)
+unfolding saying_of
+is_said text d number line =
+    on_either (IsSaid text d number) (list_all is_printable (bytes_of text line.span)) _ (Err BadByte)
+    (on_either (IsSaid text d number) line.ended _ (Err NoNewline)
+    (on_either (IsSaid text d number) (is_skipped (bytes_of text line.span)) (Ok Skipped) _ tt (words_said text d number line.span.end (words_at text line.span.start line.span.end))) tt) tt
+
+-- ## names one after another
+
+-- none of these has this name
+abbrev Absent : List ℕ → List ℕ → List Span → Type 0
+Absent text name [] = Unit {0}
+Absent text name (span ∷ spans) = (bytes_eq (bytes_of text span) name ≡ false) × Absent text name spans
+
+named_more : (text : List ℕ) (spans : List Span) (span : Span) → AllNamed text spans → is_name (bytes_of text span) ≡ true → AllNamed text (spans ++ span ∷ [])
+named_more text [] span h e = (e, tt)
+named_more text (x ∷ spans) span h e = (h.0, named_more text spans span h.1 e)
+
+differ_more : (text : List ℕ) (first : Span) (spans : List Span) (span : Span) → Differ text first spans → bytes_eq (bytes_of text first) (bytes_of text span) ≡ false → Differ text first (spans ++ span ∷ [])
+differ_more text first [] span h e = (e, tt)
+differ_more text first (x ∷ spans) span h e = (h.0, differ_more text first spans span h.1 e)
+
+distinct_more : (text : List ℕ) (spans : List Span) (span : Span) → Distinct text spans → Absent text (bytes_of text span) spans → Distinct text (spans ++ span ∷ [])
+distinct_more text [] span h absent = (tt, tt)
+distinct_more text (x ∷ spans) span h absent = (differ_more text x spans span h.0 absent.0, distinct_more text spans span h.1 absent.1)
+
+absent_from : (text name : List ℕ) (n : ℕ) (spans : List Span) → is_some (place_from text name n spans) ≡ false → Absent text name spans
+absent_from text name n [] e = tt
+absent_from text name n (span ∷ spans) e = by_first (bytes_eq (bytes_of text span) name) refl e (absent_from text name (n + 1) spans)
+  where
+    by_first : (b : Bool) → bytes_eq (bytes_of text span) name ≡ b → is_some (if b then Some n else place_from text name (n + 1) spans) ≡ false
+        → (is_some (place_from text name (n + 1) spans) ≡ false → Absent text name spans) → (bytes_eq (bytes_of text span) name ≡ false) × Absent text name spans
+    by_first true f g later = absurd cc
+    by_first false f g later = (f, later g)
+
+-- ## what the lines so far say
+
+numbered_on : (k : ℕ) (lines : List LaneLine) → Numbered k lines → Numbered (k + 1) lines
+numbered_on k [] h = tt
+numbered_on k (l ∷ lines) h = (omega (arith, h.0), numbered_on k lines h.1)
+
+all_numbered_on : (k : ℕ) (lanes : List LanePlan) → AllNumbered k lanes → AllNumbered (k + 1) lanes
+all_numbered_on k [] h = tt
+all_numbered_on k (l ∷ lanes) h = (numbered_on k l.lines h.0, all_numbered_on k lanes h.1)
+
+numbered_more : (k : ℕ) (lines : List LaneLine) (l : LaneLine) → Numbered k lines → l.number < k → Numbered k (lines ++ l ∷ [])
+numbered_more k [] l h e = (e, tt)
+numbered_more k (x ∷ lines) l h e = (h.0, numbered_more k lines l h.1 e)
+
+all_numbered_line : (k : ℕ) (lanes : List LanePlan) (l : LaneLine) → AllNumbered k lanes → l.number < k → AllNumbered k (with_line l lanes)
+all_numbered_line k [] l h e = tt
+all_numbered_line k (x ∷ []) l h e = (numbered_more k x.lines l h.0 e, tt)
+all_numbered_line k (x ∷ y ∷ lanes) l h e = (h.0, all_numbered_line k (y ∷ lanes) l h.1 e)
+
+all_numbered_lane : (k : ℕ) (lanes : List LanePlan) (lane : LanePlan) → AllNumbered k lanes → lane.lines ≡ [] → AllNumbered k (lanes ++ lane ∷ [])
+all_numbered_lane k [] lane h e = (subst (Numbered k) (sym e) tt, tt)
+all_numbered_lane k (x ∷ lanes) lane h e = (h.0, all_numbered_lane k lanes lane h.1 e)
+
+spans_more : {X : Type 0} (f : X → Span) (xs : List X) (x : X) → map f (xs ++ x ∷ []) ≡ map f xs ++ f x ∷ []
+spans_more f [] x = refl
+spans_more f (y ∷ xs) x = ap (λ s. f y ∷ s) (spans_more f xs x)
+
+spans_line : (l : LaneLine) (lanes : List LanePlan) → lane_spans (with_line l lanes) ≡ lane_spans lanes
+spans_line l [] = refl
+spans_line l (x ∷ []) = refl
+spans_line l (x ∷ y ∷ lanes) = ap (λ s. x.name ∷ s) (spans_line l (y ∷ lanes))
+
+spans_answer : (w : ℕ) (row : Scripted) (ws : List WriterPlan) → writer_spans (with_answer w row ws) ≡ writer_spans ws
+spans_answer w row [] = refl
+spans_answer w row (x ∷ ws) = by_place (w == 0) (spans_answer (w - 1) row ws)
+  where
+    by_place : (b : Bool) → writer_spans (with_answer (w - 1) row ws) ≡ writer_spans ws → writer_spans (if b then record x { script = x.script ++ row ∷ [] } ∷ ws else x ∷ with_answer (w - 1) row ws) ≡ x.name ∷ writer_spans ws
+    by_place true e = refl
+    by_place false e = ap (λ s. x.name ∷ s) e
+
+spans_closed : (lanes : List LanePlan) → lane_spans (map closed_lane lanes) ≡ lane_spans lanes
+spans_closed [] = refl
+spans_closed (l ∷ lanes) = ap (λ s. l.name ∷ s) (spans_closed lanes)
+
+record IsNamed (text : List ℕ) (k : ℕ) (d : SoFar) : Type 0 where
+  pub volumes : AllNamed text (volume_spans d.volumes)
+  pub writers : AllNamed text (writer_spans d.writers)
+  pub lanes : AllNamed text (lane_spans d.lanes)
+  pub writers_apart : Distinct text (writer_spans d.writers)
+  pub lanes_apart : Distinct text (lane_spans d.lanes)
+  pub lines : AllNumbered k d.lanes
+
+named_after : (text : List ℕ) (k : ℕ) (d : SoFar) (saying : Saying) → IsSaid text d k saying → IsNamed text k d → IsNamed text (k + 1) (after d saying)
+named_after text k d Skipped said h = record { volumes = h.volumes; writers = h.writers; lanes = h.lanes; writers_apart = h.writers_apart; lanes_apart = h.lanes_apart; lines = all_numbered_on k d.lanes h.lines }
+named_after text k d Opening said h = record { volumes = h.volumes; writers = h.writers; lanes = h.lanes; writers_apart = h.writers_apart; lanes_apart = h.lanes_apart; lines = all_numbered_on k d.lanes h.lines }
+named_after text k d (Area area) said h = record { volumes = h.volumes; writers = h.writers; lanes = h.lanes; writers_apart = h.writers_apart; lanes_apart = h.lanes_apart; lines = all_numbered_on k d.lanes h.lines }
+named_after text k d (OwnVolume row) said h = record {
+  volumes = subst (AllNamed text) (sym (spans_more (λ (r : VolumeRow). r.name) d.volumes row)) (named_more text (volume_spans d.volumes) row.name h.volumes said);
+  writers = h.writers;
+  lanes = h.lanes;
+  writers_apart = h.writers_apart;
+  lanes_apart = h.lanes_apart;
+  lines = all_numbered_on k d.lanes h.lines;
+}
+named_after text k d (SharedVolume row area) said h = record {
+  volumes = subst (AllNamed text) (sym (spans_more (λ (r : VolumeRow). r.name) d.volumes row)) (named_more text (volume_spans d.volumes) row.name h.volumes said);
+  writers = h.writers;
+  lanes = h.lanes;
+  writers_apart = h.writers_apart;
+  lanes_apart = h.lanes_apart;
+  lines = all_numbered_on k d.lanes h.lines;
+}
+named_after text k d (Writer w) said h =
+    let more = spans_more (λ (x : WriterPlan). x.name) d.writers w in
+    record {
+      volumes = h.volumes;
+      writers = subst (AllNamed text) (sym more) (named_more text (writer_spans d.writers) w.name h.writers said.0);
+      lanes = h.lanes;
+      writers_apart = subst (Distinct text) (sym more) (distinct_more text (writer_spans d.writers) w.name h.writers_apart (absent_from text (bytes_of text w.name) 0 (writer_spans d.writers) said.1));
+      lanes_apart = h.lanes_apart;
+      lines = all_numbered_on k d.lanes h.lines;
+    }
+named_after text k d (Answer w row) said h =
+    let same = spans_answer w row d.writers in
+    record {
+      volumes = h.volumes;
+      writers = subst (AllNamed text) (sym same) h.writers;
+      lanes = h.lanes;
+      writers_apart = subst (Distinct text) (sym same) h.writers_apart;
+      lanes_apart = h.lanes_apart;
+      lines = all_numbered_on k d.lanes h.lines;
+    }
+named_after text k d (Lane name whom) said h =
+    let lane : LanePlan = record { name = name; acts_as = whom; lines = [] } in
+    let more = spans_more (λ (x : LanePlan). x.name) d.lanes lane in
+    record {
+      volumes = h.volumes;
+      writers = h.writers;
+      lanes = subst (AllNamed text) (sym more) (named_more text (lane_spans d.lanes) name h.lanes said.0);
+      writers_apart = h.writers_apart;
+      lanes_apart = subst (Distinct text) (sym more) (distinct_more text (lane_spans d.lanes) name h.lanes_apart (absent_from text (bytes_of text name) 0 (lane_spans d.lanes) said.1));
+      lines = all_numbered_lane (k + 1) d.lanes lane (all_numbered_on k d.lanes h.lines) refl;
+    }
+named_after text k d (Line l) said h =
+    let same = spans_line l d.lanes in
+    record {
+      volumes = h.volumes;
+      writers = h.writers;
+      lanes = subst (AllNamed text) (sym same) h.lanes;
+      writers_apart = h.writers_apart;
+      lanes_apart = subst (Distinct text) (sym same) h.lanes_apart;
+      lines = all_numbered_line (k + 1) d.lanes l (all_numbered_on k d.lanes h.lines) (omega (arith, said));
+    }
+
+-- ## the whole text
+
+record IsRead (text : List ℕ) (k : ℕ) (s : Plan) : Type 0 where
+  pub all : SoFar
+  pub is : plan_in text all ≡ s
+  pub named : IsNamed text k all
+
+whole_read : (text : List ℕ) (k : ℕ) (d : SoFar) (s : Plan) (b : Bool) → IsNamed text k d → (if b then IsScenario (plan_in text d) else IsBad k Empty) ≡ IsScenario s → IsRead text k s
+whole_read text k d s true h e = record { all = d; is = cc; named = h }
+whole_read text k d s false h e = absurd cc
+
+read_on : (text : List ℕ) (k : ℕ) (d : SoFar) (lines : List TextLine) (s : Plan) → IsNamed text k d → read_from (λ x saying. true) text k d lines ≡ IsScenario s → IsRead text (k + length lines) s
+read_on text k d [] s h e = subst (λ n. IsRead text n s) (omega arith) (whole_read text k d s d.opened h e)
+read_on text k d (line ∷ lines) s h e =
+    subst (λ n. IsRead text n s) (omega arith) (by_saying (saying_of text d k line) (is_said text d k line) e (λ saying said. read_on text (k + 1) (after d saying) lines s (named_after text k d saying said h)))
+  where
+    by_saying : (r : Result Saying Reason) → IsGood (IsSaid text d k) r → goes_on k (λ saying. read_from (λ x y. true) text (k + 1) (after d saying) lines) (run_only (λ y. true) r) ≡ IsScenario s
+        → ((saying : Saying) → IsSaid text d k saying → read_from (λ x y. true) text (k + 1) (after d saying) lines ≡ IsScenario s → IsRead text (k + 1 + length lines) s) → IsRead text (k + 1 + length lines) s
+    by_saying (Ok saying) said f later = later saying said f
+    by_saying (Err why) said f later = absurd cc
+
+few_if : (b : Bool) (line : TextLine) (xs ys : List TextLine) (n : ℕ) → length xs ≤ n → length ys ≤ n + 1 → length (if b then line ∷ xs else ys) ≤ n + 1
+few_if true line xs ys n h k = omega (arith, h)
+few_if false line xs ys n h k = k
+
+few_last : (b : Bool) (line : TextLine) → length (if b then [] else line ∷ []) ≤ 1
+few_last true line = omega arith
+few_last false line = omega arith
+
+few_lines : (start at : ℕ) (text : List ℕ) → length (lines_from start at text) ≤ length text + 1
+few_lines start at [] = few_last (start == at) (record { span = span_from start at; ended = false })
+few_lines start at (byte ∷ text) =
+    as_long (length (lines_from start at (byte ∷ text))) (length text)
+    (few_if (byte == 10) (record { span = span_from start at; ended = true }) (lines_from (at + 1) (at + 1) text) (lines_from start (at + 1) text) (length text + 1) (few_lines (at + 1) (at + 1) text) (longer (length (lines_from start (at + 1) text)) (length text) (few_lines start (at + 1) text)))
+  where
+    as_long : (n m : ℕ) → n ≤ m + 1 + 1 → n ≤ suc m + 1
+    as_long n m h = omega arith
+
+    longer : (n m : ℕ) → n ≤ m + 1 → n ≤ m + 1 + 1
+    longer n m h = omega arith
+
+-- ## the plan
+
+numbered_closed : (k : ℕ) (lines : List LaneLine) → Numbered k lines → 0 < k → Numbered k (closed lines)
+numbered_closed k lines h some = by_end (ends_sessions lines)
+  where
+    by_end : (b : Bool) → Numbered k (if b then lines else lines ++ implied_end ∷ [])
+    by_end true = h
+    by_end false = numbered_more k lines implied_end h some
+
+all_numbered_closed : (k : ℕ) (lanes : List LanePlan) → AllNumbered k lanes → 0 < k → AllNumbered k (map closed_lane lanes)
+all_numbered_closed k [] h some = tt
+all_numbered_closed k (l ∷ lanes) h some = (numbered_closed k l.lines h.0 some, all_numbered_closed k lanes h.1 some)
+
+numbered_up : (k m : ℕ) (lines : List LaneLine) → k ≤ m → Numbered k lines → Numbered m lines
+numbered_up k m [] l h = tt
+numbered_up k m (x ∷ lines) l h = (omega (arith, h.0), numbered_up k m lines l h.1)
+
+all_numbered_up : (k m : ℕ) (lanes : List LanePlan) → k ≤ m → AllNumbered k lanes → AllNumbered m lanes
+all_numbered_up k m [] l h = tt
+all_numbered_up k m (x ∷ lanes) l h = (numbered_up k m x.lines l h.0, all_numbered_up k m lanes l h.1)
+
+plan_named : (text : List ℕ) (k : ℕ) (d : SoFar) → IsNamed text k d → 0 < k → k ≤ length text + 2 → HasNames (plan_in text d)
+plan_named text k d h some few =
+    let same = spans_closed d.lanes in
+    record {
+      volumes = h.volumes;
+      writers = h.writers;
+      lanes = subst (AllNamed text) (sym same) h.lanes;
+      writers_apart = h.writers_apart;
+      lanes_apart = subst (Distinct text) (sym same) h.lanes_apart;
+      lines = all_numbered_up k (length text + 2) (map closed_lane d.lanes) few (all_numbered_closed k d.lanes h.lines some);
+    }
+
+pub has_names : (text : List ℕ) (s : Plan) → language_of text ≡ IsScenario s → HasNames s
+unfolding language_of
+has_names text s e =
+    let none : IsNamed text 1 nothing = record { volumes = tt; writers = tt; lanes = tt; writers_apart = tt; lanes_apart = tt; lines = tt } in
+    let read = read_on text 1 nothing (lines_in text) s none e in
+    let few = few_lines 0 0 text in
+    subst HasNames read.is (plan_named text (1 + length (lines_in text)) read.all read.named (omega arith) (omega (arith, few)))

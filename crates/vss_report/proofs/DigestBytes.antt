@@ -1,0 +1,80 @@
+-- A digest is 32 bytes, each below 256.
+use Rattle.std.proofs.Common.{◌≡◌, ◌∙◌, ℕ, zero, suc, ◌<◌, Bool, true, false, List, [], ◌∷◌, length, take, refl, ap, sym, subst, arith}
+use Rattle.std.specs.Prelude.{nat_lt, slice_index, Option, Some, None}
+use Rattle.std.specs.List.{list_all}
+use Rattle.std.specs.Int.{byte_at, bytes_high_first, to_be_bytes, w32}
+use Rattle.std.proofs.lemmas.Bool.Decides.{nat_tests}
+use Rattle.std.proofs.lemmas.List.Folds.{list_all-append}
+use Rattle.hex.specs.Hex.{IsBytes}
+use Rattle.sha2.specs.Sha256.{digest_bytes, sha256 as standard}
+use Rattle.sha2.proofs.Facts256.{length-sha256}
+use Rattle.block_data.specs.Digest.{sha256}
+use Rattle.vss_model.specs.Told.{IsDigestIf, IsFirstIf}
+use Rattle.vss_report.specs.Legible.{HasHead}
+use Rattle.vss_report.proofs.Joined.{both, first_of_both, second_of_both}
+
+is_byte : ℕ → Bool
+is_byte n = nat_lt n 256
+
+a_byte : (i n : ℕ) → is_byte (byte_at i n) ≡ true
+unfolding is_byte
+a_byte zero n = grind (arith, nat_tests)
+a_byte (suc i) n = grind (arith, nat_tests)
+
+are_bytes_high : (k n : ℕ) → list_all is_byte (bytes_high_first k n) ≡ true
+are_bytes_high zero n = refl
+are_bytes_high (suc k) n = both (is_byte (byte_at k n)) (list_all is_byte (bytes_high_first k n)) (a_byte k n) (are_bytes_high k n)
+
+are_digest_bytes : (h : List ℕ) (n : ℕ) → list_all is_byte (digest_bytes h n) ≡ true
+unfolding digest_bytes
+are_digest_bytes h zero = refl
+are_digest_bytes h (suc n) =
+    list_all-append is_byte (digest_bytes h n) (to_be_bytes w32 (slice_index h n))
+    ∙ both (list_all is_byte (digest_bytes h n)) (list_all is_byte (to_be_bytes w32 (slice_index h n))) (are_digest_bytes h n) (are_bytes_high 4 (slice_index h n))
+
+bytes_are : (bytes : List ℕ) → list_all is_byte bytes ≡ true → IsBytes bytes
+unfolding is_byte
+bytes_are [] h i = omega arith
+bytes_are (b ∷ bytes) h zero = small b (first_of_both (is_byte b) (list_all is_byte bytes) h)
+  where
+    small : (n : ℕ) → nat_lt n 256 ≡ true → n < 256
+    small n e = grind (arith, nat_tests)
+bytes_are (b ∷ bytes) h (suc i) = bytes_are bytes (second_of_both (is_byte b) (list_all is_byte bytes) h) i
+
+pub digest_is_bytes : (bytes : List ℕ) → IsBytes (sha256 bytes)
+unfolding standard
+digest_is_bytes bytes = bytes_are (sha256 bytes) (are_digest_bytes _ 8)
+
+pub record IsDigest (digest : List ℕ) : Type 0 where
+  pub long : length digest ≡ 32
+  pub bytes : IsBytes digest
+
+digest_of : (bytes digest : List ℕ) → digest ≡ sha256 bytes → IsDigest digest
+digest_of bytes digest e = record {
+  long = ap length e ∙ length-sha256 bytes;
+  bytes = λ i. subst (λ d. slice_index d i < 256) (sym e) (digest_is_bytes bytes i);
+}
+
+-- whether the devices tell or not
+pub digest_if : (tells : Option Bool) (bytes digest : List ℕ) → IsDigestIf tells bytes digest → IsDigest digest
+digest_if None bytes digest h = digest_of bytes digest h
+digest_if (Some false) bytes digest h = record { long = h.0; bytes = h.1 }
+digest_if (Some true) bytes digest h = digest_of bytes digest h
+
+pub digest_told : (bytes : List ℕ) → IsDigest (sha256 bytes)
+digest_told bytes = digest_of bytes (sha256 bytes) refl
+
+pub record IsFirst (first : List ℕ) : Type 0 where
+  pub long : length first ≡ 8
+  pub bytes : IsBytes first
+
+first_of_block : (block first : List ℕ) → length block ≡ 8 → IsBytes block → first ≡ block → IsFirst first
+first_of_block block first long bytes e = record {
+  long = ap length e ∙ long;
+  bytes = λ i. subst (λ d. slice_index d i < 256) (sym e) (bytes i);
+}
+
+pub first_if : (tells : Option Bool) (bytes first : List ℕ) → HasHead tells bytes → IsFirstIf tells bytes first → IsFirst first
+first_if None bytes first head h = first_of_block (take 8 bytes) first head.0 head.1 h
+first_if (Some false) bytes first head h = record { long = h.0; bytes = h.1 }
+first_if (Some true) bytes first head h = first_of_block (take 8 bytes) first head.0 head.1 h
