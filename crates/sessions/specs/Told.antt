@@ -1,0 +1,28 @@
+-- What a move is answered: a reply that is told, with the set that ends in it. (This project's own.)
+use Rattle.std.specs.Prelude.{ℕ, Bool, true, false, Option, None}
+use Rattle.vss_names.specs.declared.order.Order.{Order}
+use Rattle.vss_model.specs.declared.told.Told.{Told}
+use Rattle.vss_model.specs.Facts.{has_failed}
+use Rattle.sessions.specs.declared.ended.Ended.{Ended}
+use Rattle.sessions.specs.declared.image_change.ImageChange.{ImageChange}
+use Rattle.sessions.specs.declared.image_change.ImageChange.TheVariants.{NoChange, Drop}
+use Rattle.sessions.specs.declared.session_move.SessionMove.{SessionMove}
+use Rattle.sessions.specs.Concluded.{nothing_ends}
+
+-- with the writers that were lost, as bits, and their order
+abbrev pub told_of : Told → ℕ → Option Order → Ended → ImageChange → SessionMove
+told_of t lost order e change = record { outcome = record { told = t; lost = lost; lost_order = order; set = e.set; result = e.result }; change = change }
+
+abbrev pub told_with : Told → Ended → ImageChange → SessionMove
+told_with t e change = told_of t 0 None e change
+
+abbrev pub told_alone : Told → SessionMove
+told_alone t = told_with t nothing_ends NoChange
+
+abbrev pub drop_if : Bool → ℕ → ImageChange
+drop_if true n = Drop n
+drop_if false n = NoChange
+
+-- the images of a set go where it failed
+abbrev pub change_after : Ended → ImageChange
+change_after e = drop_if (has_failed e.result) e.set
