@@ -6,3 +6,4 @@ pub mod Moving
 pub mod Disabled
 pub mod Failing
 pub mod CourseSteps
+pub mod Beginning

@@ -6,18 +6,18 @@ use Rattle.vss_names.specs.declared.vss_result.VssResult.{VssResult}
 use Rattle.vss_names.specs.declared.set_outcome.SetOutcome.{SetOutcome}
 use Rattle.vss_names.specs.declared.set_outcome.SetOutcome.TheVariants.{Running, Complete, Failed}
 use Rattle.write_history.specs.History.{History}
-use Rattle.set_agenda.specs.Course.{Course}
+use Rattle.set_agenda.specs.Course.{Course, failed as course_failed}
 use Rattle.coordinator.specs.Effects.{outcome_told}
 use Rattle.vss_model.specs.State.{State, SetRow, is_running, in_progress}
 use Rattle.vss_model.specs.Effects.{ended_of}
 use Rattle.vss_model.specs.Outcome.{EndsAs}
-use Rattle.vss_model.specs.Ending.{Ending, ending, row_settled, followed, concluded, images_dropped}
+use Rattle.vss_model.specs.Ending.{failed_in, Ending, ending, row_settled, followed, concluded, images_dropped}
 use Rattle.vss_model.specs.Facts.{NumberedFrom, OverButNewest, has_failed}
 use Rattle.vss_model.proofs.OneCut.{newest_number}
 use Rattle.sessions.specs.declared.ended.Ended.{Ended}
 use Rattle.sessions.specs.Sets.{current_of}
 use Rattle.sessions.proofs.Concluding.{ending_other, fails, ends_if, goes_if, either, neither, over_stage, rows_as_told}
-use Rattle.sessions.specs.Keeps.{SessionsValue, IsInOrder}
+use Rattle.sessions.specs.Keeps.{SessionsValue, Keeps, IsInOrder}
 use Rattle.sessions.specs.Concluded.{IsTold, IsConcludedTold, ends_as, nothing_ends, volumes_after}
 
 -- ## the row that ended
@@ -173,3 +173,23 @@ pub told_else : (old : SessionsValue) (outcome : SetOutcome) (over : Bool) (e : 
 told_else old outcome over e h told st c ran order kept eo ee =
     let t : (has_failed (outcome_told st.course.outcome c.outcome) || (ran && not (is_some c.agenda))) ≡ false = ap (λ (o : SetOutcome). has_failed o || (ran && not (is_some c.agenda))) (sym eo) ∙ ap (λ (b : Bool). has_failed outcome || b) (sym ee) ∙ h in
     subst (λ (x : Ended). IsTold x st (followed ran c st)) (sym told) (told_nothing st c ran order t)
+
+-- ## the set in progress fails
+
+outcome_failed : (why : VssResult) (c : Course) → (course_failed why c).outcome ≡ Failed why
+unfolding course_failed
+outcome_failed why c = refl
+
+told_failed_in : (st : State) (why : VssResult) (o : Option SetRow) → in_progress st ≡ o → IsInOrder st → IsTold (ends_as (option_map (λ (r : SetRow). r.number) o) (Failed why)) st (failed_in o why st)
+told_failed_in st why None e order = record { ends = ends_none st.sets (in_progress st) order.numbered order.newest refl; volumes = refl }
+told_failed_in st why (Some r) e order = record {
+  ends = subst (λ (p : SetOutcome). EndsAs (ended_of (in_progress st) (map (row_settled p) st.sets)) r.number (Failed why)) (sym (outcome_failed why st.course))
+      (subst (λ (o : Option SetRow). EndsAs (ended_of (in_progress st) (map (row_settled (Failed why)) st.sets)) (ends_as (option_map (λ (q : SetRow). q.number) o) (Failed why)).set (ends_as (option_map (λ (q : SetRow). q.number) o) (Failed why)).result) e
+      (ends_after st.sets (in_progress st) (Failed why) order.numbered order.newest refl));
+  volumes = ap (λ (o : Option SetRow). images_dropped o st.volumes) e;
+}
+
+pub told_failed : (old : SessionsValue) (st : State) (why : VssResult) (e : Ended) → IsInOrder st → Keeps old st → e ≡ ends_as (current_of old.sets) (Failed why) → IsTold e st (failed_in (in_progress st) why st)
+told_failed old st why e order kept is =
+    subst (λ (x : Ended). IsTold x st (failed_in (in_progress st) why st)) (sym (is ∙ ap (λ (rows : List SetRow). ends_as (current_of rows) (Failed why)) kept.sets))
+    (told_failed_in st why (in_progress st) refl order)

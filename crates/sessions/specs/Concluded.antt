@@ -2,13 +2,14 @@
 -- the set say so. (This project's own.)
 use Rattle.std.specs.Prelude.{ℕ, ◌≡◌, ◌&&◌, not, Bool, List, map, if◌then◌else◌, Option, Some, None, is_some}
 use Rattle.vss_names.specs.declared.set_outcome.SetOutcome.{SetOutcome}
+use Rattle.vss_names.specs.declared.vss_result.VssResult.{VssResult}
 use Rattle.vss_names.specs.declared.set_outcome.SetOutcome.TheVariants.{Running, Complete, Failed}
 use Rattle.write_history.specs.History.{History, dropped}
 use Rattle.set_agenda.specs.Course.{Course}
 use Rattle.requestor.specs.Requestor.{after_agenda}
 use Rattle.coordinator.specs.Effects.{outcome_told}
 use Rattle.vss_model.specs.State.{State, in_progress}
-use Rattle.vss_model.specs.Ending.{followed, row_settled}
+use Rattle.vss_model.specs.Ending.{failed_in, followed, row_settled}
 use Rattle.vss_model.specs.Effects.{ended_of}
 use Rattle.vss_model.specs.Facts.{has_failed}
 use Rattle.vss_model.specs.Outcome.{EndsAs}
@@ -50,3 +51,7 @@ pub record IsTold (e : Ended) (st after : State) : Type 0 where
 abbrev pub IsConcludedTold : SessionsValue → SetOutcome → Bool → Ended → Type 0
 IsConcludedTold old outcome over e = (st : State) (c : Course) (ran : Bool) → IsInOrder st → Keeps old (record st { course = c })
     → outcome ≡ outcome_told st.course.outcome c.outcome → over ≡ (ran && not (is_some c.agenda)) → IsTold e st (followed ran c st)
+
+-- the set in progress failed: this ends by it
+abbrev pub IsFailedTold : SessionsValue → VssResult → Ended → Type 0
+IsFailedTold old why e = (st : State) → IsInOrder st → Keeps old st → IsTold e st (failed_in (in_progress st) why st)

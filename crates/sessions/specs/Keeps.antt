@@ -72,11 +72,12 @@ pub record IsStanding (x : SessionsValue) : Type 0 where
 
 -- ## what each call leaves
 
--- the writers stay, and orders are posted once more at most
+-- the writers stay, orders are posted once more at most, and one set more is started at most
 pub record Leaves (old new : SessionsValue) : Type 0 where
   pub writers : new.coordinator.writers ≡ old.coordinator.writers
   pub count : writer_count new.coordinator ≡ writer_count old.coordinator
   pub posts : new.coordinator.posts ≤ old.coordinator.posts + 1
+  pub sets : length new.sets ≤ length old.sets + 1
 
 -- ## metadata
 

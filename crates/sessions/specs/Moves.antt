@@ -11,7 +11,8 @@ use Rattle.set_agenda.specs.declared.group.Group.{Group}
 use Rattle.set_agenda.specs.declared.group.Group.TheVariants.{Orders, PreCommit, Flush, Hold, Commit, Release, PostCommit}
 use Rattle.set_agenda.specs.declared.group.Group.TheVariants as group
 use Rattle.set_agenda.specs.declared.kind.Kind.{Kind}
-use Rattle.set_agenda.specs.Agenda.{open_group}
+use Rattle.set_agenda.specs.Agenda.{open_group, order_now}
+use Rattle.set_agenda.specs.WriterSet.{writers_of}
 use Rattle.set_agenda.specs.Course.{Course}
 use Rattle.component_doc.specs.Held.{Held}
 use Rattle.coordinator.specs.Beginning.{begun_as}
@@ -19,13 +20,14 @@ use Rattle.scenario.specs.declared.op.Op.{Op}
 use Rattle.scenario.specs.declared.op.Op.TheVariants.{Add, Component, Document, Start, Gather, Prepare, Snapshot, Complete}
 use Rattle.scenario.specs.Plan.{Plan}
 use Rattle.vss_model.specs.declared.event.Event.{Event}
+use Rattle.vss_model.specs.declared.told.Told.{Told}
 use Rattle.vss_model.specs.declared.told.Told.TheVariants as told
 use Rattle.vss_model.specs.State.{State, in_progress, history_of, left_now}
 use Rattle.vss_model.specs.Reply.{Reply}
-use Rattle.vss_model.specs.Effects.{ended_of}
+use Rattle.vss_model.specs.Effects.{ended_of, lost_after, lost_order_if}
 use Rattle.vss_model.specs.Sessions.{line_in, volumes_of}
 use Rattle.vss_model.specs.Ending.{failed_in, followed}
-use Rattle.vss_model.specs.Steps.{cut_each, step_made, stepped_as}
+use Rattle.vss_model.specs.Steps.{cut_each, step_made, stepped_as, ticked}
 use Rattle.vss_model.specs.Acts.{after, enabled, event_allows}
 use Rattle.vss_model.specs.Told.{Fits, mark_of}
 use Rattle.vss_model.specs.Outcome.{EndsAs, HasLists, IsOutcome, told_act}
@@ -41,6 +43,16 @@ abbrev pub images_changed : ImageChange → State → List History
 images_changed NoChange st = st.volumes
 images_changed (Cut n) st = cut_each n (volumes_of (in_progress st)) 0 st.volumes
 images_changed (Drop n) st = map (dropped n) st.volumes
+
+-- it cuts images; only a step of the provider does
+abbrev pub cuts : ImageChange → Bool
+cuts NoChange = false
+cuts (Cut n) = true
+cuts (Drop n) = false
+
+abbrev pub IsUncut : Called → Type 0
+IsUncut Waits = Unit {0}
+IsUncut (Moves m) = cuts m.change ≡ false
 
 abbrev pub after_move : Plan → State → Event → SessionMove → State
 after_move s st event m = after s st (told_act event m.outcome.told)
@@ -125,6 +137,14 @@ IsCut g old new change = (st : State) → IsInOrder st → Keeps old st → Came
 abbrev pub HasStepped : Bool → Group → Option ℕ → SessionsValue → SessionsValue → SessionMove → Type 0
 HasStepped fails g v old new m = (st : State) → IsInOrder st → Keeps old st → open_group (left_now st) ≡ Some g
     → (m.outcome.told ≡ told.Step g v fails) × LosesNobody m × CameTo st (stepped_as fails (Some g) st) new m
+
+-- ## time
+
+-- so many ticks went by, with what follows, and this is told
+abbrev pub HasGoneOn : Told → ℕ → SessionsValue → SessionsValue → SessionMove → Type 0
+HasGoneOn t ticks old new m = (st : State) → IsInOrder st → Keeps old st
+    → (m.outcome.told ≡ t) × (writers_of m.outcome.lost ≡ lost_after (Some ticks) st)
+    × (m.outcome.lost_order ≡ lost_order_if (lost_after (Some ticks) st) (order_now (left_now st))) × CameTo st (ticked ticks st) new m
 
 -- ## the states of a call
 

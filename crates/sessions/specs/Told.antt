@@ -1,5 +1,7 @@
 -- What a move is answered: a reply that is told, with the set that ends in it. (This project's own.)
-use Rattle.std.specs.Prelude.{ℕ, Bool, true, false, Option, None}
+use Rattle.std.specs.Prelude.{ℕ, Bool, true, false, Option, Some, None}
+use Rattle.vss_names.specs.declared.context.Context.{Context}
+use Rattle.vss_names.specs.declared.context.Context.TheVariants.{Backup, AppRollback, NasRollback}
 use Rattle.vss_names.specs.declared.order.Order.{Order}
 use Rattle.vss_model.specs.declared.told.Told.{Told}
 use Rattle.vss_model.specs.Facts.{has_failed}
@@ -26,3 +28,18 @@ drop_if false n = NoChange
 -- the images of a set go where it failed
 abbrev pub change_after : Ended → ImageChange
 change_after e = drop_if (has_failed e.result) e.set
+
+-- of a context whose images go with the session: those of the session's set
+abbrev pub change_released : Context → Option ℕ → ImageChange
+change_released Backup None = NoChange
+change_released Backup (Some n) = Drop n
+change_released AppRollback set = NoChange
+change_released NasRollback set = NoChange
+
+abbrev pub change_at_end : Option Context → Option ℕ → ImageChange
+change_at_end None set = NoChange
+change_at_end (Some c) set = change_released c set
+
+abbrev pub drop_or : Bool → ℕ → ImageChange → ImageChange
+drop_or true n other = Drop n
+drop_or false n other = other

@@ -1,4 +1,4 @@
-ghost use Rattle.std.specs.Prelude.{◌≡◌, ◌<◌, ◌&&◌, Some, not, false, true};
+ghost use Rattle.std.specs.Prelude.{◌≡◌, ◌<◌, ◌&&◌, Some, length, not, false, true};
 ghost use Rattle.coordinator.specs.Coordinator.{MayPost, works, writer_count};
 ghost use Rattle.scenario.specs.Plan.{Plan};
 ghost use Rattle.set_agenda.specs.Agenda.{open_group};
@@ -7,7 +7,7 @@ ghost use Rattle.vss_model.specs.Steps.{is_flush};
 ghost use Rattle.vss_model.specs.Told.{mark_if, mark_of};
 ghost use Rattle.vss_model.specs.declared.event.Event.TheVariants.{Answer as AnswerEvent, Provider};
 ghost use Rattle.sessions.specs.Keeps.{IsAt, IsStanding, Keeps, Leaves};
-ghost use Rattle.sessions.specs.Moves.{HasStepped, IsCall, IsCut, IsMove, is_cut};
+ghost use Rattle.sessions.specs.Moves.{HasStepped, IsCall, IsCut, IsMove, IsUncut, is_cut};
 
 use crate::called::Called;
 use crate::image_change::ImageChange;
@@ -23,6 +23,7 @@ impl Sessions {
         requires standing { IsStanding self.old }
         requires known { writer < writer_count self.old.coordinator }
         ensures called { (s : Plan) → IsCall (IsAt self.old s) s self.old self.new (AnswerEvent writer answer) result }
+        ensures uncut { IsUncut result }
         ensures leaves { Leaves self.old self.new }
         ensures clock { self.new.clock ≡ self.old.clock }
     {
@@ -114,6 +115,7 @@ impl Sessions {
         requires { now ≡ self.old.clock }
         ensures cut { IsCut group self.old self.new result }
         ensures coordinator { self.new.coordinator ≡ self.old.coordinator }
+        ensures sets { length self.new.sets ≡ length self.old.sets }
         ensures clock { self.new.clock ≡ self.old.clock }
     {
         if !is_cut(group) {

@@ -1,7 +1,6 @@
-ghost use Rattle.std.specs.Prelude.{◌≡◌, ◌||◌, false};
+ghost use Rattle.std.specs.Prelude.{◌≡◌, ◌||◌, length, false};
 ghost use Rattle.vss_model.specs.Facts.{has_failed};
-ghost use Rattle.sessions.specs.Concluded.{IsConcluded, IsConcludedTold, ended_so, ends_as};
-ghost use Rattle.sessions.specs.Concluded.{nothing_ends};
+ghost use Rattle.sessions.specs.Concluded.{IsConcluded, IsConcludedTold, IsFailedTold, ended_so, ends_as, nothing_ends};
 ghost use Rattle.sessions.specs.Keeps.{Leaves};
 ghost use Rattle.sessions.specs.Moves.{IsFailed};
 ghost use Rattle.sessions.specs.Sets.{current_of};
@@ -13,7 +12,8 @@ use vss_names::{SetOutcome, VssResult};
 impl Sessions {
     /// An agenda ended with this outcome, or the set failed.
     pub(crate) fn end_so(&mut self, outcome: SetOutcome)
-        ensures { self.new ≡ ended_so outcome self.old }
+        ensures ended { self.new ≡ ended_so outcome self.old }
+        ensures sets { length self.new.sets ≡ length self.old.sets }
     {
         self.requestor.agenda_ended(outcome);
         self.sets.settle(outcome);
@@ -26,6 +26,7 @@ impl Sessions {
         ensures fails { has_failed outcome ≡ false → has_failed result.result ≡ false }
         ensures coordinator { self.new.coordinator ≡ self.old.coordinator }
         ensures clock { self.new.clock ≡ self.old.clock }
+        ensures sets { length self.new.sets ≡ length self.old.sets }
     {
         if !ends(outcome, agenda_ended) {
             return nothing_ends();
@@ -46,6 +47,18 @@ impl Sessions {
         let _effects = self.coordinator.fail(why);
         self.end_so(SetOutcome::Failed(why));
         Some(set)
+    }
+
+    /// The same; what ends by it.
+    pub(crate) fn fail_so(&mut self, why: VssResult) -> Ended
+        ensures failed { IsFailed self.old self.new why }
+        ensures told { IsFailedTold self.old why result }
+        ensures ended { result ≡ ends_as (current_of self.old.sets) (SetOutcome.Failed why) }
+        ensures leaves { Leaves self.old self.new }
+        ensures clock { self.new.clock ≡ self.old.clock }
+    {
+        let set = self.fail(why);
+        ends_as(set, SetOutcome::Failed(why))
     }
 }
 
@@ -70,7 +83,7 @@ pub(crate) fn nothing_ends() -> Ended
 }
 
 /// What ends where this set was in progress.
-fn ends_as(current: Option<u32>, outcome: SetOutcome) -> Ended
+pub(crate) fn ends_as(current: Option<u32>, outcome: SetOutcome) -> Ended
     ensures ended { result ≡ ends_as current outcome }
     ensures fails { has_failed outcome ≡ false → has_failed result.result ≡ false }
 {

@@ -12,6 +12,7 @@
 //! memory, and then nothing has changed.
 #![tactic(auto)]
 
+mod agendas;
 mod answering;
 mod called;
 mod ended;

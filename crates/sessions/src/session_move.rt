@@ -1,4 +1,5 @@
-ghost use Rattle.std.specs.Prelude.{◌≡◌};
+ghost use Rattle.std.specs.Prelude.{◌≡◌, false};
+ghost use Rattle.sessions.specs.Moves.{cuts};
 ghost use Rattle.sessions.specs.Told.{change_after, told_alone, told_with};
 
 use crate::ended::Ended;
@@ -44,7 +45,8 @@ impl SessionMove {
 
 /// The images of a set go where it failed.
 pub(crate) fn change_after(ended: Ended) -> ImageChange
-    ensures { result ≡ change_after ended }
+    ensures change { result ≡ change_after ended }
+    ensures uncut { cuts result ≡ false }
 {
     match ended.result {
         SetOutcome::Failed(_) => ImageChange::Drop(ended.set),

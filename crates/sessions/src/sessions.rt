@@ -1,10 +1,11 @@
-ghost use Rattle.std.specs.Prelude.{◌≡◌, ◌<◌, [], option_map, is_some, IfSome, Some, false};
+ghost use Rattle.std.specs.Prelude.{◌≡◌, ◌<◌, ◌≤◌, [], length, true, option_map, is_some, IfSome, Some, false};
 ghost use Rattle.component_doc.specs.Selection.{Named};
 ghost use Rattle.coordinator.specs.Coordinator.{IsOnTime, Stands, runs, works, writer_count};
 ghost use Rattle.requestor.specs.Check.{check};
 ghost use Rattle.coordinator.specs.OpenOrders.{standing_in};
 ghost use Rattle.set_agenda.specs.Agenda.{open_group, next_volume, is_asking};
 ghost use Rattle.scenario.specs.Plan.{Plan};
+ghost use Rattle.set_agenda.specs.Begin.{are_distinct};
 ghost use Rattle.vss_model.specs.Acts.{may_call};
 ghost use Rattle.vss_model.specs.Images.{is_in_set};
 ghost use Rattle.vss_model.specs.Sessions.{volumes_of};
@@ -77,7 +78,9 @@ impl Sessions {
 
     /// The volumes of the set in progress, in the order in which they were added.
     pub fn volumes(&self) -> &[u32]
-        ensures { (st : State) → Keeps self.now st → result.now ≡ volumes_of (in_progress st) }
+        ensures volumes { (st : State) → Keeps self.now st → result.now ≡ volumes_of (in_progress st) }
+        ensures distinct { are_distinct result.now ≡ true }
+        ensures few { length result.now ≤ 64 }
     {
         self.sets.volumes()
     }
@@ -160,6 +163,13 @@ impl Sessions {
             None => false,
             Some(group) => group.order().is_some(),
         }
+    }
+
+    /// Whether the provider has a step to make.
+    pub fn is_working(&self) -> bool
+        ensures { result ≡ works self.now.coordinator }
+    {
+        self.coordinator.is_working()
     }
 
     /// The provider's next step and its volume; none where the provider has no step to make.

@@ -1,4 +1,4 @@
-ghost use Rattle.std.specs.Prelude.{◌≡◌, ◌<◌, [], ◌∷◌, ◌==◌, length, Some, None, true, false};
+ghost use Rattle.std.specs.Prelude.{◌≡◌, ◌<◌, ◌≤◌, [], ◌∷◌, ◌==◌, length, Some, None, true, false};
 ghost use Rattle.set_agenda.specs.Agenda.{is_among};
 ghost use Rattle.set_agenda.specs.Begin.{are_distinct};
 ghost use Rattle.vss_model.specs.Ending.{row_settled};
@@ -75,6 +75,7 @@ impl SetEntry {
     pub(crate) fn volumes(&self) -> &[u32]
         ensures volumes { result.now ≡ self.now.volumes }
         ensures distinct { are_distinct result.now ≡ true }
+        ensures few { length result.now ≤ 64 }
     {
         self.volumes.as_slice()
     }

@@ -1,4 +1,4 @@
-ghost use Rattle.std.specs.Prelude.{◌≡◌, ◌<◌, ◌+◌, ◌++◌, ◌∷◌, ◌==◌, ◌^◌, ◌-◌, [], true, false, length, map, find, option_map, IfOk, IsOk, OnOk, OnErr, IfSome, Some, None};
+ghost use Rattle.std.specs.Prelude.{◌≡◌, ◌<◌, ◌≤◌, ◌+◌, ◌++◌, ◌∷◌, ◌==◌, ◌^◌, ◌-◌, [], true, false, length, map, find, option_map, IfOk, IsOk, OnOk, OnErr, IfSome, Some, None};
 ghost use Rattle.set_agenda.specs.Agenda.{is_among};
 ghost use Rattle.set_agenda.specs.Begin.{are_distinct};
 ghost use Rattle.vss_model.specs.Ending.{row_settled};
@@ -71,6 +71,7 @@ impl SetRows {
     pub(crate) fn volumes(&self) -> &[u32]
         ensures volumes { result.now ≡ volumes_of (running_in self.now) }
         ensures distinct { are_distinct result.now ≡ true }
+        ensures few { length result.now ≤ 64 }
     {
         match self.in_progress() {
             Some(set) => set.volumes(),

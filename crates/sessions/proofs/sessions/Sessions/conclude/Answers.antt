@@ -10,7 +10,7 @@ pub returns-then-not-ends-clause-told : goal.returns-then-not-ends-clause-told
 returns-then-not-ends-clause-told c = told_else c.args.self.now c.args.outcome c.args.agenda_ended c.nothing_ends.result (sym c.ends.ensures ∙ c.if-not-ends.true) c.nothing_ends.ensures
 
 pub returns-clause-keeps : goal.returns-clause-keeps
-returns-clause-keeps c = concluded_then c.args.self.now c.end_so.new.self c.args.outcome c.args.agenda_ended (sym c.ends.ensures ∙ c.if-not-ends.false) c.end_so.ensures
+returns-clause-keeps c = concluded_then c.args.self.now c.end_so.new.self c.args.outcome c.args.agenda_ended (sym c.ends.ensures ∙ c.if-not-ends.false) c.end_so.ensures.ended
 
 pub returns-clause-told : goal.returns-clause-told
 returns-clause-told c = rw (← c.self.view_is) (told_then (record { requestor = c.self.inside.requestor; coordinator = c.self.inside.coordinator; sets = c.self.inside.sets; clock = c.self.inside.clock; selection = c.self.inside.selection }) c.args.outcome c.args.agenda_ended c.current-current.result c.ends_as.result
