@@ -7,3 +7,5 @@ pub mod Disabled
 pub mod Failing
 pub mod CourseSteps
 pub mod Beginning
+pub mod Lines
+pub mod AgendaLines

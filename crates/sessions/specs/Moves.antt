@@ -13,7 +13,7 @@ use Rattle.set_agenda.specs.declared.group.Group.TheVariants as group
 use Rattle.set_agenda.specs.declared.kind.Kind.{Kind}
 use Rattle.set_agenda.specs.Agenda.{open_group, order_now}
 use Rattle.set_agenda.specs.WriterSet.{writers_of}
-use Rattle.set_agenda.specs.Course.{Course}
+use Rattle.set_agenda.specs.Course.{Course, released}
 use Rattle.component_doc.specs.Held.{Held}
 use Rattle.coordinator.specs.Beginning.{begun_as}
 use Rattle.scenario.specs.declared.op.Op.{Op}
@@ -90,6 +90,17 @@ pub record LosesNobody (m : SessionMove) : Type 0 where
   pub lost : m.outcome.lost ≡ 0
   pub order : m.outcome.lost_order ≡ None
 
+-- ## the states of a call
+
+-- so many images stand on the volume of an `add`
+abbrev pub HasImages : ℕ → Op → State → Type 0
+HasImages images (Add v) st = length (history_of st v).images ≡ images
+HasImages images _ st = Unit {0}
+
+pub record IsAtWith (images : ℕ) (op : Op) (x : SessionsValue) (s : Plan) (st : State) : Type 0 where
+  pub at : IsAt x s st
+  pub counted : HasImages images op st
+
 -- ## a session line that the checks let go
 
 -- What the line comes to at a state, once the checks let it go: this reply, and the state afterwards.
@@ -106,6 +117,15 @@ pub record ComesTo (s : Plan) (lane : ℕ) (op : Op) (st : State) (new : Session
 -- at each state at which what was kept before is
 abbrev pub IsGone : SessionsValue → SessionsValue → ℕ → Op → SessionMove → Type 0
 IsGone old new lane op m = (s : Plan) (st : State) → IsAt old s st → ComesTo s lane op st new m
+
+-- the same, where so many images stand on the volume of an `add`
+abbrev pub IsGoneWith : ℕ → SessionsValue → SessionsValue → ℕ → Op → SessionMove → Type 0
+IsGoneWith images old new lane op m = (s : Plan) (st : State) → IsAt old s st → HasImages images op st → ComesTo s lane op st new m
+
+-- the session is over, whatever becomes of the images
+abbrev pub IsClosed : SessionsValue → SessionsValue → Type 0
+IsClosed old new = (st : State) (hs : List History) → Keeps old st
+    → Keeps new (record { session = None; explicit = []; sets = st.sets; course = released st.course; volumes = hs; clock = st.clock })
 
 -- An agenda of this kind began, over this selection and the volumes of the set in progress, with what follows.
 abbrev pub HasBegun : Kind → Held → SessionsValue → SessionsValue → SessionMove → Type 0
@@ -145,17 +165,6 @@ abbrev pub HasGoneOn : Told → ℕ → SessionsValue → SessionsValue → Sess
 HasGoneOn t ticks old new m = (st : State) → IsInOrder st → Keeps old st
     → (m.outcome.told ≡ t) × (writers_of m.outcome.lost ≡ lost_after (Some ticks) st)
     × (m.outcome.lost_order ≡ lost_order_if (lost_after (Some ticks) st) (order_now (left_now st))) × CameTo st (ticked ticks st) new m
-
--- ## the states of a call
-
--- so many images stand on the volume of an `add`
-abbrev pub HasImages : ℕ → Op → State → Type 0
-HasImages images (Add v) st = length (history_of st v).images ≡ images
-HasImages images _ st = Unit {0}
-
-pub record IsAtWith (images : ℕ) (op : Op) (x : SessionsValue) (s : Plan) (st : State) : Type 0 where
-  pub at : IsAt x s st
-  pub counted : HasImages images op st
 
 -- ## memory
 

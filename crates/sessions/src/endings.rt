@@ -1,4 +1,4 @@
-ghost use Rattle.std.specs.Prelude.{◌≡◌, ◌||◌, length, false};
+ghost use Rattle.std.specs.Prelude.{◌≡◌, ◌||◌, length, option_map, false};
 ghost use Rattle.vss_model.specs.Facts.{has_failed};
 ghost use Rattle.sessions.specs.Concluded.{IsConcluded, IsConcludedTold, IsFailedTold, ended_so, ends_as, nothing_ends};
 ghost use Rattle.sessions.specs.Keeps.{Leaves};
@@ -13,6 +13,7 @@ impl Sessions {
     /// An agenda ended with this outcome, or the set failed.
     pub(crate) fn end_so(&mut self, outcome: SetOutcome)
         ensures ended { self.new ≡ ended_so outcome self.old }
+        ensures owner { option_map (λ session. session.owner) self.new.requestor.session ≡ option_map (λ session. session.owner) self.old.requestor.session }
         ensures sets { length self.new.sets ≡ length self.old.sets }
     {
         self.requestor.agenda_ended(outcome);
@@ -40,6 +41,9 @@ impl Sessions {
     pub fn fail(&mut self, why: VssResult) -> Option<u32>
         ensures failed { IsFailed self.old self.new why }
         ensures set { result ≡ current_of self.old.sets }
+        ensures owner { option_map (λ session. session.owner) self.new.requestor.session ≡ option_map (λ session. session.owner) self.old.requestor.session }
+        ensures posts { self.new.coordinator.posts ≡ self.old.coordinator.posts }
+        ensures sets { length self.new.sets ≡ length self.old.sets }
         ensures leaves { Leaves self.old self.new }
         ensures clock { self.new.clock ≡ self.old.clock }
     {
@@ -54,6 +58,9 @@ impl Sessions {
         ensures failed { IsFailed self.old self.new why }
         ensures told { IsFailedTold self.old why result }
         ensures ended { result ≡ ends_as (current_of self.old.sets) (SetOutcome.Failed why) }
+        ensures owner { option_map (λ session. session.owner) self.new.requestor.session ≡ option_map (λ session. session.owner) self.old.requestor.session }
+        ensures posts { self.new.coordinator.posts ≡ self.old.coordinator.posts }
+        ensures sets { length self.new.sets ≡ length self.old.sets }
         ensures leaves { Leaves self.old self.new }
         ensures clock { self.new.clock ≡ self.old.clock }
     {

@@ -12,12 +12,14 @@
 //! memory, and then nothing has changed.
 #![tactic(auto)]
 
+mod agenda_lines;
 mod agendas;
 mod answering;
 mod called;
 mod ended;
 mod endings;
 mod image_change;
+mod session_lines;
 mod session_move;
 mod sessions;
 mod set_entry;
