@@ -57,11 +57,11 @@ completes s lane old new h st m goes order kept has =
     let owner = owners st.session (runs st) lane call.Complete goes in
     pends s lane op.Complete st new m _ (line_of s lane op.Complete st owner.session owner.is) (has st _ order kept refl)
 
-if_pending : (b : Bool) (x y : Replied) → b ≡ false → (if b then x else y) ≡ y
+pub if_pending : (b : Bool) (x y : Replied) → b ≡ false → (if b then x else y) ≡ y
 if_pending true x y e = cc
 if_pending false x y e = refl
 
-if_refused : (b : Bool) (x y : Replied) → b ≡ true → (if b then x else y) ≡ x
+pub if_refused : (b : Bool) (x y : Replied) → b ≡ true → (if b then x else y) ≡ x
 if_refused true x y e = refl
 if_refused false x y e = cc
 

@@ -9,3 +9,4 @@ pub mod CourseSteps
 pub mod Beginning
 pub mod Lines
 pub mod AgendaLines
+pub mod Knowing

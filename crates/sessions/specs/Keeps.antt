@@ -70,6 +70,14 @@ pub record IsStanding (x : SessionsValue) : Type 0 where
   pub sets : length state.sets < 2 ^ 32 - 1
   pub early : x.clock < 2 ^ 62
 
+-- the same, for a state of this scenario
+pub record IsStandingIn (s : Plan) (x : SessionsValue) : Type 0 where
+  pub state : State
+  pub at : IsAt x s state
+  pub posts : MayPost x.coordinator
+  pub sets : length state.sets < 2 ^ 32 - 1
+  pub early : x.clock < 2 ^ 62
+
 -- ## what each call leaves
 
 -- the writers stay, orders are posted once more at most, and one set more is started at most

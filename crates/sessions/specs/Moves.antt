@@ -16,6 +16,10 @@ use Rattle.set_agenda.specs.WriterSet.{writers_of}
 use Rattle.set_agenda.specs.Course.{Course, released}
 use Rattle.component_doc.specs.Held.{Held}
 use Rattle.coordinator.specs.Beginning.{begun_as}
+use Rattle.requestor.specs.declared.mode.Mode.{Mode}
+use Rattle.requestor.specs.declared.mode.Mode.TheVariants.{Components, All}
+use Rattle.requestor.specs.Session.{Session}
+use Rattle.component_doc.specs.Document.{document_text}
 use Rattle.scenario.specs.declared.op.Op.{Op}
 use Rattle.scenario.specs.declared.op.Op.TheVariants.{Add, Component, Document, Start, Gather, Prepare, Snapshot, Complete}
 use Rattle.scenario.specs.Plan.{Plan}
@@ -25,7 +29,7 @@ use Rattle.vss_model.specs.declared.told.Told.TheVariants as told
 use Rattle.vss_model.specs.State.{State, in_progress, history_of, left_now}
 use Rattle.vss_model.specs.Reply.{Reply}
 use Rattle.vss_model.specs.Effects.{ended_of, lost_after, lost_order_if}
-use Rattle.vss_model.specs.Sessions.{line_in, volumes_of}
+use Rattle.vss_model.specs.Sessions.{known_metas, line_in, selected, volumes_of}
 use Rattle.vss_model.specs.Ending.{failed_in, followed}
 use Rattle.vss_model.specs.Steps.{cut_each, step_made, stepped_as, ticked}
 use Rattle.vss_model.specs.Acts.{after, enabled, event_allows}
@@ -122,6 +126,14 @@ IsGone old new lane op m = (s : Plan) (st : State) → IsAt old s st → ComesTo
 abbrev pub IsGoneWith : ℕ → SessionsValue → SessionsValue → ℕ → Op → SessionMove → Type 0
 IsGoneWith images old new lane op m = (s : Plan) (st : State) → IsAt old s st → HasImages images op st → ComesTo s lane op st new m
 
+-- of this scenario alone
+abbrev pub IsGoneIn : Plan → SessionsValue → SessionsValue → ℕ → Op → SessionMove → Type 0
+IsGoneIn s old new lane op m = (st : State) → IsAt old s st → ComesTo s lane op st new m
+
+-- what every line promises, once the checks let it go
+abbrev pub IsGoneAs : Plan → ℕ → SessionsValue → SessionsValue → ℕ → Op → SessionMove → Type 0
+IsGoneAs s images old new lane op m = (st : State) → IsAtWith images op old s st → ComesTo s lane op st new m
+
 -- the session is over, whatever becomes of the images
 abbrev pub IsClosed : SessionsValue → SessionsValue → Type 0
 IsClosed old new = (st : State) (hs : List History) → Keeps old st
@@ -165,6 +177,21 @@ abbrev pub HasGoneOn : Told → ℕ → SessionsValue → SessionsValue → Sess
 HasGoneOn t ticks old new m = (st : State) → IsInOrder st → Keeps old st
     → (m.outcome.told ≡ t) × (writers_of m.outcome.lost ≡ lost_after (Some ticks) st)
     × (m.outcome.lost_order ≡ lost_order_if (lost_after (Some ticks) st) (order_now (left_now st))) × CameTo st (ticked ticks st) new m
+
+-- ## what the session selects
+
+abbrev pub is_all : Mode → Bool
+is_all Components = false
+is_all All = true
+
+-- the session takes all components of the writers that it knows
+abbrev pub takes_all_of : Option Session → Bool
+takes_all_of None = false
+takes_all_of (Some q) = is_all q.mode
+
+-- these are the bytes of the component document, at each state
+abbrev pub IsDocumentIn : Plan → SessionsValue → List ℕ → Type 0
+IsDocumentIn s x bytes = (st : State) (q : Session) → IsAt x s st → st.session ≡ Some q → bytes ≡ document_text (known_metas s st) (selected s q st) q.context
 
 -- ## memory
 

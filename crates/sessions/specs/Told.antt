@@ -1,9 +1,14 @@
 -- What a move is answered: a reply that is told, with the set that ends in it. (This project's own.)
-use Rattle.std.specs.Prelude.{ℕ, Bool, true, false, Option, Some, None}
+use Rattle.std.specs.Prelude.{ℕ, Bool, true, false, Option, Some, None, Result, Ok, Err}
 use Rattle.vss_names.specs.declared.context.Context.{Context}
 use Rattle.vss_names.specs.declared.context.Context.TheVariants.{Backup, AppRollback, NasRollback}
 use Rattle.vss_names.specs.declared.order.Order.{Order}
+use Rattle.vss_names.specs.declared.vss_result.VssResult.TheVariants.{ObjectNotFound, ObjectAlreadyExists}
+use Rattle.component_doc.specs.declared.add_fault.AddFault.{AddFault}
+use Rattle.component_doc.specs.declared.add_fault.AddFault.TheVariants.{NotFound, AlreadyExists, OutOfMemory}
+use Rattle.component_doc.specs.declared.add_fault.AddFault.TheVariants as fault
 use Rattle.vss_model.specs.declared.told.Told.{Told}
+use Rattle.vss_model.specs.declared.told.Told.TheVariants as told
 use Rattle.vss_model.specs.Facts.{has_failed}
 use Rattle.sessions.specs.declared.ended.Ended.{Ended}
 use Rattle.sessions.specs.declared.image_change.ImageChange.{ImageChange}
@@ -43,3 +48,11 @@ change_at_end (Some c) set = change_released c set
 abbrev pub drop_or : Bool → ℕ → ImageChange → ImageChange
 drop_or true n other = Drop n
 drop_or false n other = other
+
+-- what is told of a component that was named, or was not; nothing where memory was wanting
+abbrev pub told_named : Result (Unit {0}) AddFault → Option Told
+told_named (Ok u) = Some told.Ok
+told_named (Err NotFound) = Some (told.Result ObjectNotFound)
+told_named (Err fault.NotSelectable) = Some told.NotSelectable
+told_named (Err AlreadyExists) = Some (told.Result ObjectAlreadyExists)
+told_named (Err OutOfMemory) = None

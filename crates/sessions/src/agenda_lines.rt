@@ -1,27 +1,23 @@
-ghost use Rattle.std.specs.Prelude.{◌≡◌, ◌<◌, false, map, IfOk, OnErr};
-ghost use Rattle.coordinator.specs.Coordinator.{MayPost, runs};
+ghost use Rattle.std.specs.Prelude.{◌≡◌, false, IfOk, OnErr};
+ghost use Rattle.coordinator.specs.Coordinator.{MayPost, runs, writer_count};
 ghost use Rattle.requestor.specs.Check.{check};
 ghost use Rattle.scenario.specs.declared.op.Op.TheVariants as op;
-ghost use Rattle.scenario.specs.Plan.{Plan};
-ghost use Rattle.writer_meta.specs.Metadata.{meta_of};
-ghost use Rattle.vss_model.specs.State.{State};
-ghost use Rattle.sessions.specs.Keeps.{IsAt, IsStanding, Leaves, metas_in};
-ghost use Rattle.sessions.specs.Moves.{ComesTo, IsGone, cuts};
+ghost use Rattle.sessions.specs.Keeps.{Leaves};
+ghost use Rattle.sessions.specs.Moves.{IsGone, cuts};
 
 use crate::session_move::SessionMove;
 use crate::sessions::Sessions;
-use component_doc::Selection;
-use requestor::{Mode, SessionCall, Verdict};
+use requestor::{SessionCall, Verdict};
 use set_agenda::Kind;
 use std::alloc::Global;
 use vss_model::Told;
 use vss_names::{OutOfMemory, VssResult};
-use writer_meta::Metadata;
 
 impl Sessions {
     /// The writers are gathered.
     pub(crate) fn gather(&mut self, alloc: Global, lane: u32) -> Result<SessionMove, OutOfMemory>
-        requires standing { IsStanding self.old }
+        requires room { MayPost self.old.coordinator }
+        requires over { self.old.selection.writers ≡ writer_count self.old.coordinator }
         requires goes { check self.old.requestor.session (runs self.old.coordinator) lane SessionCall.Gather ≡ Verdict.Go }
         ensures gone { IfOk result (IsGone self.old self.new lane op.Gather) }
         ensures uncut { IfOk result (λ moved. cuts moved.change ≡ false) }
@@ -35,7 +31,8 @@ impl Sessions {
 
     /// The writers that take part are told that the backup is complete.
     pub(crate) fn complete(&mut self, alloc: Global, lane: u32) -> Result<SessionMove, OutOfMemory>
-        requires standing { IsStanding self.old }
+        requires room { MayPost self.old.coordinator }
+        requires over { self.old.selection.writers ≡ writer_count self.old.coordinator }
         requires goes { check self.old.requestor.session (runs self.old.coordinator) lane SessionCall.Complete ≡ Verdict.Go }
         ensures gone { IfOk result (IsGone self.old self.new lane op.Complete) }
         ensures uncut { IfOk result (λ moved. cuts moved.change ≡ false) }
@@ -49,7 +46,8 @@ impl Sessions {
 
     /// The snapshot of the set's volumes is made.
     pub(crate) fn snapshot(&mut self, alloc: Global, lane: u32) -> Result<SessionMove, OutOfMemory>
-        requires standing { IsStanding self.old }
+        requires room { MayPost self.old.coordinator }
+        requires over { self.old.selection.writers ≡ writer_count self.old.coordinator }
         requires goes { check self.old.requestor.session (runs self.old.coordinator) lane SessionCall.Snapshot ≡ Verdict.Go }
         ensures gone { IfOk result (IsGone self.old self.new lane op.Snapshot) }
         ensures uncut { IfOk result (λ moved. cuts moved.change ≡ false) }
