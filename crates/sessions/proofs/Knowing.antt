@@ -1,0 +1,314 @@
+-- Whom the session knows, and what it takes: from what is kept, as the definitions say.
+use Rattle.std.proofs.Common.{◌≡◌, ℕ, zero, suc, ◌+◌, ◌<◌, ◌≤◌, ◌==◌, List, [], ◌∷◌, ◌++◌, drop, length, refl, ap, sym, ◌∙◌, subst, arith, append_assoc, add-one, Bool, true, false, Option, Some, None, map, slice_get}
+use Rattle.std.specs.Prelude.{All, filter, nat_le, is_some, not, ◌&&◌, ◌||◌, if◌then◌else◌, Result, Ok, Err, OnOk, OnErr, IfErr}
+use Rattle.std.specs.List.{list_all, list_any, range_with_len}
+use Rattle.std.proofs.lemmas.Bool.Decides.{nat_tests}
+use Rattle.vss_names.specs.declared.vss_result.VssResult.TheVariants.{BadState, ObjectNotFound, ObjectAlreadyExists}
+use Rattle.block_data.specs.Digest.{sha256}
+use Rattle.write_history.specs.declared.mark.Mark.TheVariants.{Clean}
+use Rattle.writer_meta.specs.declared.metadata.Metadata.{Metadata}
+use Rattle.scenario.specs.declared.span.Span.{Span}
+use Rattle.component_doc.specs.declared.add_fault.AddFault.{AddFault}
+use Rattle.component_doc.specs.declared.add_fault.AddFault.TheVariants as fault
+use Rattle.component_doc.specs.Refusal.{Tells}
+use Rattle.component_doc.specs.Document.{document_text}
+use Rattle.vss_model.specs.declared.told.Told.{Told}
+use Rattle.vss_model.specs.Reply.{Reply, Fine, Coded, NotSelectable, DocumentOf}
+use Rattle.vss_model.specs.Outcome.{HasLists}
+use Rattle.vss_model.specs.Told.{Fits, mark_of}
+use Rattle.writer_state.specs.declared.writer_row.WriterRow.{WriterRow}
+use Rattle.writer_meta.specs.Metadata.{Meta, meta_of}
+use Rattle.writer_meta.specs.Allowed.{IsAllowed}
+use Rattle.set_agenda.specs.declared.kind.Kind.TheVariants as kind
+use Rattle.set_agenda.specs.Course.{prepared}
+use Rattle.requestor.specs.declared.mode.Mode.{Mode}
+use Rattle.requestor.specs.declared.mode.Mode.TheVariants.{Components, All as AllMode}
+use Rattle.requestor.specs.declared.session_call.SessionCall.TheVariants as call
+use Rattle.requestor.specs.declared.verdict.Verdict.TheVariants.{Go}
+use Rattle.requestor.specs.Session.{Session}
+use Rattle.requestor.specs.Check.{check_other}
+use Rattle.component_doc.specs.Held.{Held, all_have_few, pairs_of, is_named}
+use Rattle.component_doc.specs.Selection.{Naming, Names, naming, Pair, Selected, Named, AllOf, all_of, is_taker, takers, known_from as known_writers_from}
+use Rattle.component_doc.specs.Over.{AreAllowed, IsSelectedOver, meta_at, names_selectable, is_ascending, is_selectable_of}
+use Rattle.coordinator.specs.Beginning.{begun_as, enabled}
+use Rattle.coordinator.specs.Coordinator.{is_disabled as is_disabled_kept, writer_count}
+use Rattle.scenario.specs.declared.op.Op.TheVariants as op
+use Rattle.scenario.specs.Plan.{Plan, WriterPlan, token}
+use Rattle.scenario.specs.Bounds.{IsWriter}
+use Rattle.vss_model.specs.declared.told.Told.TheVariants as told
+use Rattle.vss_model.specs.State.{State, in_progress}
+use Rattle.vss_model.specs.Ending.{runs}
+use Rattle.vss_model.specs.Sessions.{line_in, component_in, named_as, is_disabled, has_failed_identify, is_identify_failure, is_known, meta_if, known_from, known_metas, selected, selected_in, has_no_volume, volumes_of}
+use Rattle.sessions.specs.declared.session_move.SessionMove.{SessionMove}
+use Rattle.sessions.specs.Keeps.{SessionsValue, Keeps, IsInOrder, IsOf, IsAt, metas_in}
+use Rattle.sessions.specs.Told.{told_alone, told_named}
+use Rattle.sessions.specs.Moves.{ComesTo, HasBegun, IsDocumentIn, is_all, takes_all_of}
+use Rattle.sessions.proofs.Lines.{alone, owners, line_of, refuses}
+use Rattle.sessions.proofs.Telling.{ends_none}
+use Rattle.sessions.proofs.AgendaLines.{pends, is_disabled_same, if_pending, if_refused}
+
+-- ## whom the session knows
+
+pub unknown_is : (s : Plan) (st : State) (w : ℕ) (b : Bool) → b ≡ is_disabled s st w → b ≡ true → false ≡ is_known s st w
+unknown_is s st w b e f = ap (λ (d : Bool). not d && not (has_failed_identify (slice_get st.course.rows w))) (sym f ∙ e)
+
+pub known_is : (s : Plan) (st : State) (w : ℕ) (b : Bool) (r : WriterRow) → b ≡ is_disabled s st w → b ≡ false → Some r ≡ slice_get st.course.rows w → not (is_identify_failure r.state) ≡ is_known s st w
+known_is s st w b r e f row =
+    ap (λ (o : Option WriterRow). not (has_failed_identify o)) row
+    ∙ ap (λ (d : Bool). not d && not (has_failed_identify (slice_get st.course.rows w))) (sym f ∙ e)
+
+record IsNext (ps : List WriterPlan) (w : ℕ) (m : Meta) : Type 0 where
+  writer : WriterPlan
+  is : drop w ps ≡ writer ∷ drop (suc w) ps
+  meta : writer.meta ≡ m
+
+next_at : (ps : List WriterPlan) (w : ℕ) (m : Meta) → slice_get (map (λ (p : WriterPlan). p.meta) ps) w ≡ Some m → IsNext ps w m
+next_at [] w m e = cc
+next_at (p ∷ ps) zero m e = record { writer = p; is = refl; meta = cc }
+next_at (p ∷ ps) (suc w) m e = let h = next_at ps w m e in record { writer = h.writer; is = h.is; meta = h.meta }
+
+pub known_step : (s : Plan) (st : State) (w : ℕ) (xs ys total : List (Option Meta)) (b : Bool) (m : Meta) → b ≡ is_known s st w → slice_get (metas_in s) w ≡ Some m
+    → xs ++ known_from s st w (drop w s.writers) ≡ total → ys ≡ xs ++ meta_if b m ∷ [] → ys ++ known_from s st (w + 1) (drop (w + 1) s.writers) ≡ total
+known_step s st w xs ys total b m knows at so_far is =
+    let h = next_at s.writers w m at in
+    let tail : known_from s st w (drop w s.writers) ≡ meta_if b m ∷ known_from s st (w + 1) (drop (w + 1) s.writers) =
+    ap (known_from s st w) h.is
+    ∙ ap (λ (x : Meta). meta_if (is_known s st w) x ∷ known_from s st (w + 1) (drop (suc w) s.writers)) h.meta
+    ∙ ap (λ (c : Bool). meta_if c m ∷ known_from s st (w + 1) (drop (suc w) s.writers)) (sym knows)
+    ∙ ap (λ (n : ℕ). meta_if b m ∷ known_from s st (w + 1) (drop n s.writers)) (sym (add-one w)) in
+    ap (λ (zs : List (Option Meta)). zs ++ known_from s st (w + 1) (drop (w + 1) s.writers)) is
+    ∙ append_assoc xs (meta_if b m ∷ []) (known_from s st (w + 1) (drop (w + 1) s.writers))
+    ∙ ap (λ (zs : List (Option Meta)). xs ++ zs) (sym tail) ∙ so_far
+
+-- ## who takes part is known, and so is not disabled
+
+known_some : (b : Bool) (m : Meta) → is_some (meta_if b m) ≡ true → b ≡ true
+known_some true m e = refl
+known_some false m e = cc
+
+record IsKnownAt (s : Plan) (st : State) (w n : ℕ) : Type 0 where
+  known : is_known s st w ≡ true
+  within : n < length s.writers
+
+known_at : (s : Plan) (st : State) (k : ℕ) (ps : List WriterPlan) (j w : ℕ) → w ≡ k + j → is_some (meta_at (slice_get (known_from s st k ps) j)) ≡ true → (is_known s st w ≡ true) × (j < length ps)
+known_at s st k [] j w e h = absurd cc
+known_at s st k (p ∷ ps) zero w e h = (let same : w ≡ k = omega (arith, e) in ap (is_known s st) same ∙ known_some (is_known s st k) p.meta h, omega arith)
+known_at s st k (p ∷ ps) (suc j) w e h = let rest = known_at s st (k + 1) ps j w (omega (arith, e)) h in (rest.0, let l = rest.1 in omega (arith, l))
+
+some_if_selectable : (i : ℕ) (m : Option Meta) → is_selectable_of i m ≡ true → is_some m ≡ true
+some_if_selectable i None e = cc
+some_if_selectable i (Some m) e = refl
+
+and_parts : (a b : Bool) → (a && b) ≡ true → (a ≡ true) × (b ≡ true)
+and_parts true b e = (refl, e)
+and_parts false b e = absurd cc
+
+is_number : (a b : ℕ) → (a == b) ≡ true → a ≡ b
+is_number a b e = grind (arith, nat_tests)
+
+named_taker : (ms : List (Option Meta)) (ps : List Pair) (w : ℕ) → list_all (names_selectable ms) ps ≡ true → list_any (λ (p : Pair). p.writer == w) ps ≡ true → is_some (meta_at (slice_get ms w)) ≡ true
+named_taker ms [] w e f = cc
+named_taker ms (p ∷ ps) w e f = by_test (named_taker ms ps w h.1) (p.writer == w) refl f
+  where
+    h : (names_selectable ms p ≡ true) × (list_all (names_selectable ms) ps ≡ true)
+    h = and_parts (names_selectable ms p) (list_all (names_selectable ms) ps) e
+
+    by_test : (list_any (λ (q : Pair). q.writer == w) ps ≡ true → is_some (meta_at (slice_get ms w)) ≡ true) → (b : Bool) → (p.writer == w) ≡ b → (b || list_any (λ (q : Pair). q.writer == w) ps) ≡ true → is_some (meta_at (slice_get ms w)) ≡ true
+    by_test rest true g f = ap (λ (n : ℕ). is_some (meta_at (slice_get ms n))) (sym (is_number p.writer w g)) ∙ some_if_selectable p.component (meta_at (slice_get ms p.writer)) h.0
+    by_test rest false g f = rest f
+
+all_taker : (ms : List (Option Meta)) (k j : ℕ) (w : ℕ) → list_any (λ x. x == w) (known_writers_from k ms) ≡ true → (i : ℕ) × (w ≡ k + i) × (is_some (meta_at (slice_get ms i)) ≡ true)
+all_taker [] k j w e = absurd cc
+all_taker (None ∷ ms) k j w e = let h = all_taker ms (k + 1) j w e in (suc h.0, let g = h.1 in omega (arith, g), h.2)
+all_taker (Some m ∷ ms) k j w e = by_test (all_taker ms (k + 1) j w) (k == w) refl e
+  where
+    by_test : (list_any (λ x. x == w) (known_writers_from (k + 1) ms) ≡ true → (i : ℕ) × (w ≡ (k + 1) + i) × (is_some (meta_at (slice_get ms i)) ≡ true))
+        → (b : Bool) → (k == w) ≡ b → (b || list_any (λ x. x == w) (known_writers_from (k + 1) ms)) ≡ true → (i : ℕ) × (w ≡ k + i) × (is_some (meta_at (slice_get (Some m ∷ ms) i)) ≡ true)
+    by_test rest true g f = (zero, let same = is_number k w g in omega (arith, same), refl)
+    by_test rest false g f = let h = rest f in (suc h.0, let l = h.1 in omega (arith, l), h.2)
+
+taker_known : (ms : List (Option Meta)) (sel : Selected) (w : ℕ) → IsSelectedOver ms sel → is_taker sel w ≡ true → is_some (meta_at (slice_get ms w)) ≡ true
+taker_known ms (Named ps) w over e = named_taker ms ps w (and_parts (list_all (names_selectable ms) ps) (is_ascending ps) over).0 e
+taker_known ms (AllOf ws) w over e =
+    let h = all_taker ms 0 0 w (ap (λ (xs : List ℕ). list_any (λ x. x == w) xs) (sym over) ∙ e) in
+    let same : w ≡ h.0 = let g = h.1 in omega (arith, g) in
+    ap (λ (n : ℕ). is_some (meta_at (slice_get ms n))) same ∙ h.2
+
+not_first : (a b : Bool) → (not a && b) ≡ true → a ≡ false
+not_first true b e = cc
+not_first false b e = refl
+
+filter_same : (p q : ℕ → Bool) (xs : List ℕ) → ((w : ℕ) → q w ≡ true → p w ≡ true) → filter p (filter q xs) ≡ filter q xs
+filter_same p q [] h = refl
+filter_same p q (x ∷ xs) h = by_test (filter_same p q xs h) (q x) refl
+  where
+    by_test : filter p (filter q xs) ≡ filter q xs → (b : Bool) → q x ≡ b → filter p (if b then x ∷ filter q xs else filter q xs) ≡ (if b then x ∷ filter q xs else filter q xs)
+    by_test rest true e = ap (λ (c : Bool). if c then x ∷ filter p (filter q xs) else filter p (filter q xs)) (h x e) ∙ ap (λ (ys : List ℕ). x ∷ ys) rest
+    by_test rest false e = rest
+
+pub enabled_takers : (x : SessionsValue) (s : Plan) (st : State) (sel : Selected) (n : ℕ) → Keeps x st → IsOf x s → IsSelectedOver (known_metas s st) sel → enabled x.coordinator.writers st.course.disabled (takers n sel) ≡ takers n sel
+enabled_takers x s st sel n kept of over = filter_same (λ w. not (is_disabled_kept x.coordinator.writers st.course.disabled w)) (is_taker sel) (range_with_len 0 n) (λ w e.
+    let known = known_at s st 0 s.writers w w (omega arith) (taker_known (known_metas s st) sel w over e) in
+    let within : w < writer_count x.coordinator = let l = known.1 in let c = of.count in omega (arith, l, c) in
+    ap not (is_disabled_same x s st w kept of within ∙ not_first (is_disabled s st w) (not (has_failed_identify (slice_get st.course.rows w))) known.0))
+
+-- ## prepare
+
+pub takes_named : (m : Mode) (s : Plan) (st : State) → is_all m ≡ false → selected_in m s st ≡ Named st.explicit
+takes_named Components s st e = refl
+takes_named AllMode s st e = cc
+
+pub takes_known : (m : Mode) (s : Plan) (st : State) → is_all m ≡ true → selected_in m s st ≡ all_of (known_metas s st)
+takes_known Components s st e = cc
+takes_known AllMode s st e = refl
+
+pub all_of_over : (s : Plan) (st : State) → IsSelectedOver (known_metas s st) (all_of (known_metas s st))
+all_of_over s st = refl
+
+pub mode_at : (x : SessionsValue) (st : State) (q : Session) (b c : Bool) → Keeps x st → st.session ≡ Some q → b ≡ takes_all_of x.requestor.session → b ≡ c → is_all q.mode ≡ c
+mode_at x st q b c kept is e f = ap takes_all_of (sym (kept.session ∙ is)) ∙ sym e ∙ f
+
+pub prepares : (s : Plan) (lane : ℕ) (old new : SessionsValue) (h : Held) (sel : Selected) (st : State) (m : SessionMove) → check_other st.session (runs st) lane call.Prepare ≡ Go → IsAt old s st
+    → has_no_volume (in_progress st) ≡ false → h.writers ≡ writer_count old.coordinator → h.selected ≡ sel → IsSelectedOver (known_metas s st) sel
+    → ((q : Session) → st.session ≡ Some q → selected s q st ≡ sel) → HasBegun kind.Prepare h old new m → ComesTo s lane op.Prepare st new m
+prepares s lane old new h sel st m goes at some writers is over takes has =
+    let owner = owners st.session (runs st) lane call.Prepare goes in
+    let same : prepared (takers (length s.writers) (selected s owner.session st)) st.clock st.course ≡ begun_as kind.Prepare old.coordinator.writers h (volumes_of (in_progress st)) st.clock st.course =
+    ap (λ (x : Selected). prepared (takers (length s.writers) x) st.clock st.course) (takes owner.session owner.is)
+    ∙ ap (λ (ts : List ℕ). prepared ts st.clock st.course) (sym (enabled_takers old s st sel (length s.writers) at.keeps at.of over))
+    ∙ ap (λ (n : ℕ). prepared (enabled old.coordinator.writers st.course.disabled (takers n sel)) st.clock st.course) (sym at.of.count ∙ sym writers)
+    ∙ ap (λ (x : Selected). prepared (enabled old.coordinator.writers st.course.disabled (takers h.writers x)) st.clock st.course) (sym is) in
+    pends s lane op.Prepare st new m _ (line_of s lane op.Prepare st owner.session owner.is ∙ if_pending (has_no_volume (in_progress st)) _ _ some) (has st _ at.order at.keeps same)
+
+pub prepares_not : (s : Plan) (lane : ℕ) (x : SessionsValue) (st : State) (m : SessionMove) → check_other st.session (runs st) lane call.Prepare ≡ Go → IsInOrder st → Keeps x st → has_no_volume (in_progress st) ≡ true
+    → m ≡ told_alone (told.Result BadState) → ComesTo s lane op.Prepare st x m
+prepares_not s lane x st m goes order kept none is =
+    let owner = owners st.session (runs st) lane call.Prepare goes in
+    refuses s lane op.Prepare st x m BadState is (line_of s lane op.Prepare st owner.session owner.is ∙ if_refused (has_no_volume (in_progress st)) _ _ none) order kept
+
+-- ## what is known is as its format allows
+
+allowed_if : (b : Bool) (m : Meta) (ms : List (Option Meta)) → IsAllowed m → AreAllowed ms → AreAllowed (meta_if b m ∷ ms)
+allowed_if true m ms h rest = (h, rest)
+allowed_if false m ms h rest = rest
+
+pub known_allowed : (s : Plan) (st : State) (k : ℕ) (ps : List WriterPlan) → All (IsWriter s) ps → AreAllowed (known_from s st k ps)
+known_allowed s st k [] h = tt
+known_allowed s st k (p ∷ ps) h = allowed_if (is_known s st k) p.meta (known_from s st (k + 1) ps) (h 0 p (omega arith)).allowed (known_allowed s st (k + 1) ps (λ i d l. h (suc i) d (omega (arith, l))))
+
+few_if : (b : Bool) (m : Meta) (ms : List (Option Meta)) → IsAllowed m → all_have_few ms ≡ true → all_have_few (meta_if b m ∷ ms) ≡ true
+few_if true m ms h rest = and_true (nat_le (length m.parts) 1024) (all_have_few ms) (most (length m.parts) h.few) rest
+  where
+    and_true : (a b : Bool) → a ≡ true → b ≡ true → (a && b) ≡ true
+    and_true true b e f = f
+    and_true false b e f = cc
+
+    most : (n : ℕ) → n ≤ 1024 → nat_le n 1024 ≡ true
+    most n l = grind (arith, nat_tests)
+few_if false m ms h rest = rest
+
+pub known_few : (s : Plan) (st : State) (k : ℕ) (ps : List WriterPlan) → All (IsWriter s) ps → all_have_few (known_from s st k ps) ≡ true
+known_few s st k [] h = refl
+known_few s st k (p ∷ ps) h = few_if (is_known s st k) p.meta (known_from s st (k + 1) ps) (h 0 p (omega arith)).allowed (known_few s st (k + 1) ps (λ i d l. h (suc i) d (omega (arith, l))))
+
+metadata_length : (ms : List Metadata) → length (map meta_of ms) ≡ length ms
+metadata_length [] = refl
+metadata_length (m ∷ ms) = ap (λ n. suc n) (metadata_length ms)
+
+writers_length : (ps : List WriterPlan) → length (map (λ (p : WriterPlan). p.meta) ps) ≡ length ps
+writers_length [] = refl
+writers_length (p ∷ ps) = ap (λ n. suc n) (writers_length ps)
+
+-- there are as many metadata as writers
+pub metadata_count : (ms : List Metadata) (s : Plan) (n : ℕ) → map meta_of ms ≡ metas_in s → n ≡ length s.writers → length ms ≡ n
+metadata_count ms s n e f = sym (metadata_length ms) ∙ ap length e ∙ writers_length s.writers ∙ sym f
+
+-- ## component
+
+all_refused : (m : Mode) (s : Plan) (w : ℕ) (name : List ℕ) (st : State) → is_all m ≡ true → component_in m s w name st ≡ (Coded BadState, st)
+all_refused Components s w name st e = cc
+all_refused AllMode s w name st e = refl
+
+named_in : (m : Mode) (s : Plan) (w : ℕ) (name : List ℕ) (st : State) → is_all m ≡ false → component_in m s w name st ≡ named_as (naming (known_metas s st) w name st.explicit) st
+named_in Components s w name st e = refl
+named_in AllMode s w name st e = cc
+
+pub names_not : (s : Plan) (lane w : ℕ) (full : Span) (st : State) (x : SessionsValue) (m : SessionMove) (b : Bool) → check_other st.session (runs st) lane call.Component ≡ Go → IsInOrder st → Keeps x st
+    → b ≡ takes_all_of x.requestor.session → b ≡ true → m ≡ told_alone (told.Result BadState) → ComesTo s lane (op.Component w full) st x m
+names_not s lane w full st x m b goes order kept takes all is =
+    let owner = owners st.session (runs st) lane call.Component goes in
+    refuses s lane (op.Component w full) st x m BadState is
+    (line_of s lane (op.Component w full) st owner.session owner.is ∙ all_refused owner.session.mode s w (token s full) st (mode_at x st owner.session b true kept owner.is takes all)) order kept
+
+named_pairs : (x : Selected) → is_named x ≡ true → x ≡ Named (pairs_of x)
+named_pairs (Named ps) e = refl
+named_pairs (AllOf ws) e = cc
+
+-- another selection, the rest stays
+abbrev pub with_selection : Held → SessionsValue → SessionsValue
+with_selection h x = record { requestor = x.requestor; coordinator = x.coordinator; sets = x.sets; clock = x.clock; selection = h }
+
+module _ (s : Plan) (lane w : ℕ) (full : Span) (st : State) (x : SessionsValue) (h : Held) (m : SessionMove) (t : Told) (q : Session) (at : IsAt x s st) (is : m ≡ told_alone t) (owner : st.session ≡ Some q) (components : is_all q.mode ≡ false) where
+  does : line_in s lane (op.Component w full) st.session st ≡ named_as (naming (known_metas s st) w (token s full) st.explicit) st
+  does = line_of s lane (op.Component w full) st q owner ∙ named_in q.mode s w (token s full) st components
+
+  -- the refusals leave all as it was
+  stays : (r : Reply) → h ≡ x.selection → named_as (naming (known_metas s st) w (token s full) st.explicit) st ≡ (r, st) → ((tells : List Bool) → Fits tells r t) → ((listed : List ℕ) (rows : List WriterRow) → HasLists r listed rows) → mark_of t ≡ Clean
+      → ComesTo s lane (op.Component w full) st (with_selection h x) m
+  stays r same e fits lists clean = subst (λ (z : Held). ComesTo s lane (op.Component w full) st (with_selection z x) m) (sym same)
+      (alone s lane (op.Component w full) st x m t r st is (does ∙ e) fits (λ listed rows g. lists listed rows) clean at.keeps (ends_none st.sets (in_progress st) at.order.numbered at.order.newest refl) refl)
+
+  names : naming (known_metas s st) w (token s full) st.explicit ≡ Names (pairs_of h.selected) → h.writers ≡ x.selection.writers → is_named h.selected ≡ true → t ≡ told.Ok → ComesTo s lane (op.Component w full) st (with_selection h x) m
+  names e writers named ok =
+      alone s lane (op.Component w full) st (with_selection h x) m t Fine (record st { explicit = pairs_of h.selected }) is (does ∙ ap (λ (n : Naming). named_as n st) e) (λ tells. ok) (λ listed rows g. tt) (ap mark_of ok)
+      (record {
+        session = at.keeps.session;
+        made = at.keeps.made;
+        course = at.keeps.course;
+        sets = at.keeps.sets;
+        clock = at.keeps.clock;
+        explicit = named_pairs h.selected named;
+        over = writers ∙ at.keeps.over;
+        on_time = at.keeps.on_time;
+        disabled = at.keeps.disabled;
+      })
+      (ends_none st.sets (in_progress st) at.order.numbered at.order.newest refl) refl
+
+  naming_same : (ms : List (Option Meta)) → ms ≡ known_metas s st → naming ms w (token s full) (pairs_of x.selection.selected) ≡ naming (known_metas s st) w (token s full) st.explicit
+  naming_same ms known = ap (λ (ys : List (Option Meta)). naming ys w (token s full) (pairs_of x.selection.selected)) known ∙ ap (λ (z : Selected). naming (known_metas s st) w (token s full) (pairs_of z)) at.keeps.explicit
+
+  comes : (added : Result (Unit {0}) AddFault) (ms : List (Option Meta)) → ms ≡ known_metas s st
+      → OnOk added (naming ms w (token s full) (pairs_of x.selection.selected) ≡ Names (pairs_of h.selected)) → IfErr added (λ fault. Tells fault (naming ms w (token s full) (pairs_of x.selection.selected)))
+      → OnErr added (h ≡ x.selection) → h.writers ≡ x.selection.writers → is_named h.selected ≡ true → told_named added ≡ Some t → ComesTo s lane (op.Component w full) st (with_selection h x) m
+  comes (Ok u) ms known ok refused unchanged writers named tells = names (sym (naming_same ms known) ∙ ok) writers named (let e : told.Ok ≡ t = cc in sym e)
+  comes (Err fault.NotFound) ms known ok refused unchanged writers named tells =
+      let e : told.Result ObjectNotFound ≡ t = cc in
+      stays (Coded ObjectNotFound) unchanged (ap (λ (n : Naming). named_as n st) (sym (naming_same ms known) ∙ refused)) (λ tells. sym e) (λ listed rows. tt) (ap mark_of (sym e))
+  comes (Err fault.NotSelectable) ms known ok refused unchanged writers named tells =
+      let e : told.NotSelectable ≡ t = cc in
+      stays NotSelectable unchanged (ap (λ (n : Naming). named_as n st) (sym (naming_same ms known) ∙ refused)) (λ tells. sym e) (λ listed rows. tt) (ap mark_of (sym e))
+  comes (Err fault.AlreadyExists) ms known ok refused unchanged writers named tells =
+      let e : told.Result ObjectAlreadyExists ≡ t = cc in
+      stays (Coded ObjectAlreadyExists) unchanged (ap (λ (n : Naming). named_as n st) (sym (naming_same ms known) ∙ refused)) (λ tells. sym e) (λ listed rows. tt) (ap mark_of (sym e))
+  comes (Err fault.OutOfMemory) ms known ok refused unchanged writers named tells = cc
+
+pub names_component : (s : Plan) (lane w : ℕ) (full : Span) (st : State) (x : SessionsValue) (h : Held) (m : SessionMove) (t : Told) (b : Bool) (added : Result (Unit {0}) AddFault) (ms : List (Option Meta)) (name : List ℕ)
+    → check_other st.session (runs st) lane call.Component ≡ Go → IsAt x s st → m ≡ told_alone t → b ≡ takes_all_of x.requestor.session → b ≡ false → ms ≡ known_metas s st → name ≡ token s full
+    → OnOk added (naming ms w name (pairs_of x.selection.selected) ≡ Names (pairs_of h.selected)) → IfErr added (λ fault. Tells fault (naming ms w name (pairs_of x.selection.selected)))
+    → OnErr added (h ≡ x.selection) → h.writers ≡ x.selection.writers → is_named h.selected ≡ true → told_named added ≡ Some t → ComesTo s lane (op.Component w full) st (with_selection h x) m
+names_component s lane w full st x h m t b added ms name goes at is takes not_all known token_is ok refused unchanged writers named tells =
+    let owner = owners st.session (runs st) lane call.Component goes in
+    comes s lane w full st x h m t owner.session at is owner.is (mode_at x st owner.session b false at.keeps owner.is takes not_all) added ms known
+    (subst (λ (n : List ℕ). OnOk added (naming ms w n (pairs_of x.selection.selected) ≡ Names (pairs_of h.selected))) token_is ok)
+    (subst (λ (n : List ℕ). IfErr added (λ fault. Tells fault (naming ms w n (pairs_of x.selection.selected)))) token_is refused)
+    unchanged writers named tells
+
+-- ## document
+
+pub documents : (s : Plan) (lane : ℕ) (st : State) (x : SessionsValue) (m : SessionMove) (t : Told) (bytes : List ℕ) → check_other st.session (runs st) lane call.Document ≡ Go → IsAt x s st → IsDocumentIn s x bytes
+    → t ≡ told.Document (length bytes) (sha256 bytes) → m ≡ told_alone t → ComesTo s lane op.Document st x m
+documents s lane st x m t bytes goes at written tells is =
+    let owner = owners st.session (runs st) lane call.Document goes in
+    let same = written st owner.session at owner.is in
+    alone s lane op.Document st x m t (DocumentOf (document_text (known_metas s st) (selected s owner.session st) owner.session.context)) st is (line_of s lane op.Document st owner.session owner.is)
+    (λ z. tells ∙ ap (λ (bs : List ℕ). told.Document (length bs) (sha256 bs)) same) (λ listed rows e. tt) (ap mark_of tells) at.keeps (ends_none st.sets (in_progress st) at.order.numbered at.order.newest refl) refl

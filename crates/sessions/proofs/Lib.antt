@@ -1,0 +1,12 @@
+pub mod Volumes
+pub mod Newest
+pub mod Concluding
+pub mod Telling
+pub mod Moving
+pub mod Disabled
+pub mod Failing
+pub mod CourseSteps
+pub mod Beginning
+pub mod Lines
+pub mod AgendaLines
+pub mod Knowing

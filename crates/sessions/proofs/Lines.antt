@@ -1,0 +1,434 @@
+-- The session lines that the checks let go: what each comes to.
+use Rattle.std.proofs.Common.{◌≡◌, ℕ, suc, ◌+◌, ◌<◌, ◌==◌, List, [], ◌∷◌, ◌++◌, length, refl, ap, sym, ◌∙◌, subst, arith, Bool, true, false, Option, Some, None, map}
+use Rattle.std.specs.Prelude.{All, find, is_some, not, ◌&&◌, option_map, option_and_then, unwrap_or, if◌then◌else◌}
+use Rattle.std.proofs.lemmas.List.Elements.{All-push}
+use Rattle.vss_names.specs.declared.context.Context.{Context}
+use Rattle.vss_names.specs.declared.context.Context.TheVariants.{Backup, AppRollback, NasRollback}
+use Rattle.vss_names.specs.declared.set_outcome.SetOutcome.{SetOutcome}
+use Rattle.vss_names.specs.declared.set_outcome.SetOutcome.TheVariants.{Running, Complete, Failed}
+use Rattle.vss_names.specs.declared.vss_result.VssResult.{VssResult}
+use Rattle.vss_names.specs.declared.vss_result.VssResult.TheVariants.{BadState, AsyncCancelled, UnsupportedContext}
+use Rattle.write_history.specs.declared.mark.Mark.TheVariants.{Clean}
+use Rattle.write_history.specs.History.{History, Image, dropped, without_set}
+use Rattle.writer_state.specs.declared.writer_row.WriterRow.{WriterRow}
+use Rattle.set_agenda.specs.Course.{Course, released}
+use Rattle.requestor.specs.declared.verdict.Verdict.{Verdict}
+use Rattle.requestor.specs.declared.verdict.Verdict.TheVariants.{Go}
+use Rattle.requestor.specs.declared.session_call.SessionCall.{SessionCall}
+use Rattle.requestor.specs.declared.session_call.SessionCall.TheVariants as call
+use Rattle.requestor.specs.Session.{Session, context_of, opened, started, makes_set, has_writers}
+use Rattle.requestor.specs.Requestor.{Sessions as Requestor, applied, ended as ended_session}
+use Rattle.requestor.specs.Check.{check_begin, check_other, check_owner, owner_only, verdict_of, is_start, is_await, goes_beside_agenda, allows, begin_verdict}
+use Rattle.component_doc.specs.Held.{Held}
+use Rattle.component_doc.specs.Selection.{Named}
+use Rattle.coordinator.specs.Coordinator.{CoordinatorState, Stands, IsOnTime, writer_count, named}
+use Rattle.scenario.specs.declared.op.Op.{Op}
+use Rattle.scenario.specs.declared.op.Op.TheVariants as op
+use Rattle.scenario.specs.Plan.{Plan}
+use Rattle.vss_model.specs.declared.told.Told.{Told}
+use Rattle.vss_model.specs.declared.told.Told.TheVariants as told
+use Rattle.vss_model.specs.Reply.{Reply, Fine, Coded, Numbered, StatusOf}
+use Rattle.vss_model.specs.State.{State, SetRow, in_progress, is_running, row_changed, history_of}
+use Rattle.vss_model.specs.Ending.{runs, failed}
+use Rattle.vss_model.specs.Effects.{ended_of}
+use Rattle.vss_model.specs.Facts.{IsOfSession, has_failed}
+use Rattle.vss_model.specs.Sessions.{line_in, session_line, begin_in, start_set, new_set, new_number, add, add_to, add_refusal, with_volume, change_set, images_released, closed, await_last}
+use Rattle.vss_model.specs.Outcome.{HasLists, EndsAs}
+use Rattle.vss_model.specs.Told.{Fits, mark_of}
+use Rattle.sessions.specs.declared.ended.Ended.{Ended}
+use Rattle.sessions.specs.declared.image_change.ImageChange.{ImageChange}
+use Rattle.sessions.specs.declared.session_move.SessionMove.{SessionMove}
+use Rattle.sessions.specs.Sets.{current_of, running_in, running_changed, refusal_of}
+use Rattle.sessions.specs.Keeps.{SessionsValue, Keeps, IsInOrder}
+use Rattle.sessions.specs.Concluded.{IsTold, ends_as, volumes_after}
+use Rattle.sessions.specs.Told.{told_alone, told_with, change_after, change_at_end, change_released, drop_or}
+use Rattle.sessions.specs.Moves.{CameTo, ComesTo, images_changed}
+use Rattle.sessions.proofs.Telling.{ends_none}
+use Rattle.sessions.proofs.CourseSteps.{came_to}
+use Rattle.sessions.proofs.Newest.{changed_by_number}
+
+-- ## who calls
+
+-- the call is the owner's, and the checks of its session let it go
+pub record IsOwners (q : Option Session) (running : Bool) (c : SessionCall) : Type 0 where
+  pub session : Session
+  pub is : q ≡ Some session
+  pub started : (is_start c && makes_set session.stage) ≡ false
+  pub quiet : (running && not (goes_beside_agenda c)) ≡ false
+  pub allowed : allows session.stage (has_writers session.context) c ≡ true
+  pub ready : (is_await c && running) ≡ false
+
+owned : (b : Bool) (v : Verdict) → owner_only b v ≡ Go → v ≡ Go
+owned true v e = e
+owned false v e = cc
+
+goes_by : (q : Session) (running : Bool) (c : SessionCall) (a b d e : Bool) → (is_start c && makes_set q.stage) ≡ a → (running && not (goes_beside_agenda c)) ≡ b → allows q.stage (has_writers q.context) c ≡ d → (is_await c && running) ≡ e
+    → verdict_of a b d e ≡ Go → IsOwners (Some q) running c
+goes_by q running c true b d e h1 h2 h3 h4 v = absurd cc
+goes_by q running c false true d e h1 h2 h3 h4 v = absurd cc
+goes_by q running c false false false e h1 h2 h3 h4 v = absurd cc
+goes_by q running c false false true true h1 h2 h3 h4 v = absurd cc
+goes_by q running c false false true false h1 h2 h3 h4 v = record { session = q; is = refl; started = h1; quiet = h2; allowed = h3; ready = h4 }
+
+pub owners : (q : Option Session) (running : Bool) (lane : ℕ) (c : SessionCall) → check_other q running lane c ≡ Go → IsOwners q running c
+owners None running lane c e = absurd cc
+owners (Some q) running lane c e = goes_by q running c _ _ _ _ refl refl refl refl (owned (q.owner == lane) (check_owner q running c) e)
+
+-- of an owner's call, the line is the session's
+pub line_of : (s : Plan) (lane : ℕ) (op : Op) (st : State) (q : Session) → st.session ≡ Some q → line_in s lane op st.session st ≡ session_line s lane op q st
+line_of s lane op st q e = ap (λ (o : Option Session). line_in s lane op o st) e
+
+-- ## a line that ends nothing
+
+pub alone : (s : Plan) (lane : ℕ) (op : Op) (st : State) (new : SessionsValue) (m : SessionMove) (t : Told) (reply : Reply) (after : State) → m ≡ told_alone t → line_in s lane op st.session st ≡ (reply, after)
+    → ((tells : List Bool) → Fits tells reply t) → ((listed : List ℕ) (rows : List WriterRow) → rows ≡ after.course.rows → HasLists reply listed rows) → mark_of t ≡ Clean
+    → Keeps new after → EndsAs (ended_of (in_progress st) after.sets) 0 Running → after.volumes ≡ st.volumes → ComesTo s lane op st new m
+alone s lane op st new m t reply after is does fits lists clean keeps ends volumes = subst (ComesTo s lane op st new) (sym is) (record {
+  reply = reply;
+  after = after;
+  does = does;
+  fits = fits;
+  lists = lists;
+  clean = clean;
+  loses = record { lost = refl; order = refl };
+  came = record { keeps = keeps; ends = ends; volumes = volumes };
+})
+
+-- a refusal of the call's own
+pub refuses : (s : Plan) (lane : ℕ) (op : Op) (st : State) (x : SessionsValue) (m : SessionMove) (why : VssResult) → m ≡ told_alone (told.Result why) → line_in s lane op st.session st ≡ (Coded why, st) → IsInOrder st → Keeps x st
+    → ComesTo s lane op st x m
+refuses s lane op st x m why is does order kept =
+    alone s lane op st x m (told.Result why) (Coded why) st is does (λ tells. refl) (λ listed rows e. tt) refl kept (ends_none st.sets (in_progress st) order.numbered order.newest refl) refl
+
+-- ## begin
+
+no_session : (q : Option Session) (lane : ℕ) → check_begin q lane ≡ Go → q ≡ None
+no_session None lane e = refl
+no_session (Some q) lane e = absurd (waits (q.owner == lane) e)
+  where
+    waits : (b : Bool) → begin_verdict b ≡ Go → ⊥
+    waits true e = cc
+    waits false e = cc
+
+pub begins_not : (s : Plan) (lane n : ℕ) (all : Bool) (st : State) (x : SessionsValue) (m : SessionMove) → check_begin st.session lane ≡ Go → context_of n all ≡ None → m ≡ told_alone (told.Result UnsupportedContext) → IsInOrder st → Keeps x st
+    → ComesTo s lane (op.Begin n all) st x m
+begins_not s lane n all st x m goes none is order kept =
+    refuses s lane (op.Begin n all) st x m UnsupportedContext is
+    (ap (λ (o : Option Session). line_in s lane (op.Begin n all) o st) (no_session st.session lane goes) ∙ ap (λ (o : Option Context). begin_in lane all o st) none) order kept
+
+pub begins : (s : Plan) (lane n : ℕ) (all : Bool) (c : Context) (st : State) (x y : SessionsValue) (m : SessionMove) → check_begin st.session lane ≡ Go → context_of n all ≡ Some c → m ≡ told_alone told.Ok → IsInOrder st → Keeps x st
+    → y ≡ record { requestor = applied lane (call.Begin n all) x.requestor; coordinator = x.coordinator; sets = x.sets; clock = x.clock; selection = record { writers = writer_count x.coordinator; selected = Named [] } }
+    → ComesTo s lane (op.Begin n all) st y m
+begins s lane n all c st x y m goes some is order kept new = subst (λ (z : SessionsValue). ComesTo s lane (op.Begin n all) st z m) (sym new)
+    (alone s lane (op.Begin n all) st _ m told.Ok Fine (record st { session = Some (opened lane c all); explicit = [] }) is
+    (ap (λ (o : Option Session). line_in s lane (op.Begin n all) o st) (no_session st.session lane goes) ∙ ap (λ (o : Option Context). begin_in lane all o st) some)
+    (λ tells. refl) (λ listed rows e. tt) refl
+    (record {
+      session = ap (option_map (λ (d : Context). opened lane d all)) some;
+      made = kept.made;
+      course = kept.course;
+      sets = kept.sets;
+      clock = kept.clock;
+      explicit = refl;
+      over = refl;
+      on_time = kept.on_time;
+      disabled = kept.disabled;
+    })
+    (ends_none st.sets (in_progress st) order.numbered order.newest refl) refl)
+
+-- ## start
+
+not_started : (q : Session) (o : SetOutcome) (found : Option SetRow) → makes_set q.stage ≡ false → IsOfSession (Some q) o found → found ≡ None
+not_started q o None e h = refl
+not_started q o (Some r) e h = absurd (let is = h.0 in cc)
+
+pub at_rest : (q : Option Session) (running : Bool) (lane : ℕ) (o : SetOutcome) (found : Option SetRow) → check_other q running lane call.Start ≡ Go → IsOfSession q o found → found ≡ None
+at_rest q running lane o found e h =
+    let owner = owners q running lane call.Start e in
+    not_started owner.session o found owner.started (subst (λ (x : Option Session). IsOfSession x o found) owner.is h)
+
+length_more : (rows : List SetRow) (r : SetRow) → length (rows ++ r ∷ []) ≡ length rows + 1
+length_more [] r = refl
+length_more (q ∷ rows) r = let h = length_more rows r in omega (arith, h)
+
+pub starts : (s : Plan) (lane : ℕ) (st : State) (x y : SessionsValue) (m : SessionMove) (number : ℕ) (context : Context) → check_other st.session (runs st) lane call.Start ≡ Go → IsInOrder st → Keeps x st
+    → number ≡ x.requestor.sets_made + 1 → Some context ≡ option_map (λ (q : Session). q.context) x.requestor.session → m ≡ told_alone (told.Set number)
+    → y ≡ record { requestor = applied lane call.Start x.requestor; coordinator = x.coordinator; sets = x.sets ++ new_set number context ∷ []; clock = x.clock; selection = x.selection }
+    → ComesTo s lane op.Start st y m
+starts s lane st x y m number context goes order kept made at is new =
+    let owner = owners st.session (runs st) lane call.Start goes in
+    let q = owner.session in
+    let counted : number ≡ new_number st = made ∙ ap (λ (n : ℕ). n + 1) kept.made in
+    let same : context ≡ q.context = let e : Some context ≡ Some q.context = at ∙ ap (option_map (λ (z : Session). z.context)) (kept.session ∙ owner.is) in cc in
+    let none : in_progress st ≡ None = at_rest st.session (runs st) lane st.course.outcome (in_progress st) goes order.session in
+    subst (λ (z : SessionsValue). ComesTo s lane op.Start st z m) (sym new)
+    (alone s lane op.Start st _ m (told.Set number) (Numbered (new_number st)) (start_set q st).1 is (line_of s lane op.Start st q owner.is) (λ tells. ap told.Set counted) (λ listed rows e. tt) refl
+    (record {
+      session = ap (option_map (started (x.requestor.sets_made + 1))) (kept.session ∙ owner.is) ∙ ap (λ (n : ℕ). Some (started n q)) (ap (λ (n : ℕ). n + 1) kept.made);
+      made = ap (λ (n : ℕ). n + 1) kept.made ∙ sym (length_more st.sets (new_set (new_number st) q.context));
+      course = kept.course;
+      sets = ap (λ (rows : List SetRow). rows ++ new_set number context ∷ []) kept.sets ∙ ap (λ (n : ℕ). st.sets ++ new_set n context ∷ []) counted ∙ ap (λ (c : Context). st.sets ++ new_set (new_number st) c ∷ []) same;
+      clock = kept.clock;
+      explicit = kept.explicit;
+      over = kept.over;
+      on_time = kept.on_time;
+      disabled = kept.disabled;
+    })
+    (subst (λ (o : Option SetRow). EndsAs (ended_of o (st.sets ++ new_set (new_number st) q.context ∷ [])) 0 Running) (sym none) refl) refl)
+
+-- ## add
+
+refusal_same : (v images : ℕ) (r : SetRow) (st : State) → length (history_of st v).images ≡ images → refusal_of v images (Some r) ≡ add_refusal v r st
+refusal_same v images r st e = ap (λ (n : ℕ). refusal_of v n (Some r)) (sym e)
+
+add_refused : (v images : ℕ) (o : Option SetRow) (st : State) (why : VssResult) → length (history_of st v).images ≡ images → refusal_of v images o ≡ Some why → add v o st ≡ (Coded why, st)
+add_refused v images None st why e h = let same : BadState ≡ why = cc in ap (λ (w : VssResult). (Coded w, st)) same
+add_refused v images (Some r) st why e h = ap (λ (x : Option VssResult). add_to v r x st) (sym (refusal_same v images r st e) ∙ h)
+
+add_made : (v images : ℕ) (r : SetRow) (st : State) → length (history_of st v).images ≡ images → refusal_of v images (Some r) ≡ None → add v (Some r) st ≡ (Fine, change_set r.number (with_volume v) st)
+add_made v images r st e h = ap (λ (x : Option VssResult). add_to v r x st) (sym (refusal_same v images r st e) ∙ h)
+
+pub adds_not : (s : Plan) (lane v images : ℕ) (st : State) (x : SessionsValue) (m : SessionMove) (why : VssResult) → check_other st.session (runs st) lane call.Add ≡ Go → IsInOrder st → Keeps x st → length (history_of st v).images ≡ images
+    → refusal_of v images (running_in x.sets) ≡ Some why → m ≡ told_alone (told.Result why) → ComesTo s lane (op.Add v) st x m
+adds_not s lane v images st x m why goes order kept stand refused is =
+    let owner = owners st.session (runs st) lane call.Add goes in
+    refuses s lane (op.Add v) st x m why is
+    (line_of s lane (op.Add v) st owner.session owner.is ∙ add_refused v images (in_progress st) st why stand (ap (λ (rows : List SetRow). refusal_of v images (running_in rows)) (sym kept.sets) ∙ refused)) order kept
+
+length_changed : (f : SetRow → SetRow) (rows : List SetRow) → length (map f rows) ≡ length rows
+length_changed f [] = refl
+length_changed f (r ∷ rows) = ap (λ n. suc n) (length_changed f rows)
+
+-- no set ends by a change that keeps numbers and results
+none_ends : (f : SetRow → SetRow) → ((r : SetRow) → (f r).number ≡ r.number) → ((r : SetRow) → (f r).result ≡ r.result) → (o : Option SetRow) (rows : List SetRow) → EndsAs (ended_of o rows) 0 Running → EndsAs (ended_of o (map f rows)) 0 Running
+none_ends f number result None rows h = h
+none_ends f number result (Some r) rows h = by_found (found rows) h
+  where
+    same_test : (q : SetRow) → (((f q).number == r.number) && not (is_running (f q).result)) ≡ ((q.number == r.number) && not (is_running q.result))
+    same_test q = ap (λ (n : ℕ). (n == r.number) && not (is_running (f q).result)) (number q) ∙ ap (λ (o : SetOutcome). (q.number == r.number) && not (is_running o)) (result q)
+
+    first : (b : Bool) (q : SetRow) (x : Option SetRow) → option_map f (if b then Some q else x) ≡ (if b then Some (f q) else option_map f x)
+    first true q x = refl
+    first false q x = refl
+
+    found : (rows : List SetRow) → find (λ (q : SetRow). (q.number == r.number) && not (is_running q.result)) (map f rows) ≡ option_map f (find (λ (q : SetRow). (q.number == r.number) && not (is_running q.result)) rows)
+    found [] = refl
+    found (q ∷ rows) =
+        ap (λ (b : Bool). if b then Some (f q) else find (λ (p : SetRow). (p.number == r.number) && not (is_running p.result)) (map f rows)) (same_test q)
+        ∙ ap (λ (x : Option SetRow). if (q.number == r.number) && not (is_running q.result) then Some (f q) else x) (found rows)
+        ∙ sym (first ((q.number == r.number) && not (is_running q.result)) q (find (λ (p : SetRow). (p.number == r.number) && not (is_running p.result)) rows))
+
+    ends_in : (x : Option SetRow) → EndsAs x 0 Running → EndsAs (option_map f x) 0 Running
+    ends_in None h = h
+    ends_in (Some q) h = absurd (let l : 0 < 0 = h.2 in omega (arith, l))
+
+    by_found : find (λ (q : SetRow). (q.number == r.number) && not (is_running q.result)) (map f rows) ≡ option_map f (find (λ (q : SetRow). (q.number == r.number) && not (is_running q.result)) rows)
+        → EndsAs (find (λ (q : SetRow). (q.number == r.number) && not (is_running q.result)) rows) 0 Running → EndsAs (find (λ (q : SetRow). (q.number == r.number) && not (is_running q.result)) (map f rows)) 0 Running
+    by_found e h = subst (λ (x : Option SetRow). EndsAs x 0 Running) (sym e) (ends_in (find (λ (q : SetRow). (q.number == r.number) && not (is_running q.result)) rows) h)
+
+changed_number : (b : Bool) (v : ℕ) (r : SetRow) → (if b then with_volume v r else r).number ≡ r.number
+changed_number true v r = refl
+changed_number false v r = refl
+
+changed_result : (b : Bool) (v : ℕ) (r : SetRow) → (if b then with_volume v r else r).result ≡ r.result
+changed_result true v r = refl
+changed_result false v r = refl
+
+pub adds : (s : Plan) (lane v images : ℕ) (st : State) (x y : SessionsValue) (m : SessionMove) (r : SetRow) → check_other st.session (runs st) lane call.Add ≡ Go → IsInOrder st → Keeps x st → length (history_of st v).images ≡ images
+    → running_in x.sets ≡ Some r → refusal_of v images (running_in x.sets) ≡ None → m ≡ told_alone told.Ok
+    → y ≡ record { requestor = x.requestor; coordinator = x.coordinator; sets = map (running_changed (with_volume v)) x.sets; clock = x.clock; selection = x.selection }
+    → ComesTo s lane (op.Add v) st y m
+adds s lane v images st x y m r goes order kept stand found free is new =
+    let owner = owners st.session (runs st) lane call.Add goes in
+    let here : in_progress st ≡ Some r = ap running_in (sym kept.sets) ∙ found in
+    let does = line_of s lane (op.Add v) st owner.session owner.is ∙ ap (λ (o : Option SetRow). add v o st) here ∙ add_made v images r st stand (ap (refusal_of v images) (sym found) ∙ free) in
+    subst (λ (z : SessionsValue). ComesTo s lane (op.Add v) st z m) (sym new)
+    (alone s lane (op.Add v) st _ m told.Ok Fine (change_set r.number (with_volume v) st) is does (λ tells. refl) (λ listed rows e. tt) refl
+    (record {
+      session = kept.session;
+      made = kept.made ∙ sym (length_changed (row_changed r.number (with_volume v)) st.sets);
+      course = kept.course;
+      sets = ap (map (running_changed (with_volume v))) kept.sets ∙ changed_by_number (with_volume v) 1 st.sets r order.numbered order.newest here;
+      clock = kept.clock;
+      explicit = kept.explicit;
+      over = kept.over;
+      on_time = kept.on_time;
+      disabled = kept.disabled;
+    })
+    (none_ends (row_changed r.number (with_volume v)) (λ q. changed_number (q.number == r.number) v q) (λ q. changed_result (q.number == r.number) v q) (in_progress st) st.sets (ends_none st.sets (in_progress st) order.numbered order.newest refl)) refl)
+
+-- ## await, status, disable
+
+last_told : (last : Option VssResult) (st : State) → await_last last st ≡ (Coded (unwrap_or last BadState), st)
+last_told None st = refl
+last_told (Some why) st = refl
+
+pub awaits : (s : Plan) (lane : ℕ) (st : State) (x : SessionsValue) (m : SessionMove) (last : Option VssResult) (why : VssResult) → check_other st.session (runs st) lane call.Await ≡ Go → IsInOrder st → Keeps x st
+    → last ≡ option_and_then (λ (q : Session). q.last) x.requestor.session → why ≡ unwrap_or last BadState → m ≡ told_alone (told.Result why) → ComesTo s lane op.Await st x m
+awaits s lane st x m last why goes order kept at whys is =
+    let owner = owners st.session (runs st) lane call.Await goes in
+    let same : last ≡ owner.session.last = at ∙ ap (option_and_then (λ (q : Session). q.last)) (kept.session ∙ owner.is) in
+    refuses s lane op.Await st x m why is (line_of s lane op.Await st owner.session owner.is ∙ ap (λ (o : Option VssResult). await_last o st) (sym same) ∙ last_told last st ∙ ap (λ (w : VssResult). (Coded w, st)) (sym whys)) order kept
+
+pub shows : (s : Plan) (lane : ℕ) (st : State) (x : SessionsValue) (m : SessionMove) → check_other st.session (runs st) lane call.Status ≡ Go → IsInOrder st → Keeps x st → m ≡ told_alone told.Status → ComesTo s lane op.Status st x m
+shows s lane st x m goes order kept is =
+    let owner = owners st.session (runs st) lane call.Status goes in
+    alone s lane op.Status st x m told.Status (StatusOf st.course.rows) st is (line_of s lane op.Status st owner.session owner.is) (λ tells. refl) (λ listed rows e. e) refl kept (ends_none st.sets (in_progress st) order.numbered order.newest refl) refl
+
+all_more : (n w : ℕ) (ds : List ℕ) → All (λ d. d < n) ds → w < n → All (λ d. d < n) (ds ++ w ∷ [])
+all_more n w ds h l = All-push (λ d. d < n) ds w h l
+
+pub disables : (s : Plan) (lane w : ℕ) (st : State) (x : SessionsValue) (k : CoordinatorState) (m : SessionMove) → check_other st.session (runs st) lane call.Disable ≡ Go → IsInOrder st → Keeps x st → w < writer_count x.coordinator
+    → Stands k (named w st.course) → writer_count k ≡ writer_count x.coordinator → IsOnTime x.clock k → m ≡ told_alone told.Ok
+    → ComesTo s lane (op.Disable w) st (record { requestor = x.requestor; coordinator = k; sets = x.sets; clock = x.clock; selection = x.selection }) m
+disables s lane w st x k m goes order kept known stands count times is =
+    let owner = owners st.session (runs st) lane call.Disable goes in
+    alone s lane (op.Disable w) st _ m told.Ok Fine (record st { course = named w st.course }) is (line_of s lane (op.Disable w) st owner.session owner.is) (λ tells. refl) (λ listed rows e. tt) refl
+    (record {
+      session = kept.session;
+      made = kept.made;
+      course = stands;
+      sets = kept.sets;
+      clock = kept.clock;
+      explicit = kept.explicit;
+      over = kept.over ∙ sym count;
+      on_time = times;
+      disabled = subst (λ (n : ℕ). All (λ d. d < n) (st.course.disabled ++ w ∷ [])) (sym count) (all_more (writer_count x.coordinator) w st.course.disabled kept.disabled known);
+    })
+    (ends_none st.sets (in_progress st) order.numbered order.newest refl) refl
+
+-- ## abort and end
+
+pub aborts : (s : Plan) (lane : ℕ) (st : State) (y : SessionsValue) (m : SessionMove) (e : Ended) → check_other st.session (runs st) lane call.Abort ≡ Go → Keeps y (failed AsyncCancelled st) → IsTold e st (failed AsyncCancelled st)
+    → m ≡ told_with told.Ok e (change_after e) → ComesTo s lane op.Abort st y m
+aborts s lane st y m e goes kept tells is =
+    let owner = owners st.session (runs st) lane call.Abort goes in
+    subst (ComesTo s lane op.Abort st y) (sym is) (record {
+      reply = Fine;
+      after = failed AsyncCancelled st;
+      does = line_of s lane op.Abort st owner.session owner.is;
+      fits = λ tells. refl;
+      lists = λ listed rows e. tt;
+      clean = refl;
+      loses = record { lost = refl; order = refl };
+      came = came_to y e st (failed AsyncCancelled st) told.Ok 0 None kept tells;
+    })
+
+-- an owner may end its session at any time
+pub may_end : (q p : Option Session) (running : Bool) (lane : ℕ) → check_other q running lane call.End ≡ Go → option_map (λ (z : Session). z.owner) p ≡ option_map (λ (z : Session). z.owner) q → check_other p false lane call.End ≡ Go
+may_end None p running lane e same = absurd cc
+may_end (Some q) None running lane e same = cc
+may_end (Some q) (Some p) running lane e same = let o : p.owner ≡ q.owner = cc in ap (λ (n : ℕ). owner_only (n == lane) Go) o ∙ by_owner (q.owner == lane) (check_owner q running call.End) e
+  where
+    by_owner : (b : Bool) (v : Verdict) → owner_only b v ≡ Go → owner_only b Go ≡ Go
+    by_owner true v e = refl
+    by_owner false v e = cc
+
+closed_is : (q : Session) (st : State) → closed q st ≡ record { session = None; explicit = []; sets = st.sets; course = released st.course; volumes = images_released q.context q.set st.volumes; clock = st.clock }
+unfolding closed
+closed_is q st = refl
+
+kept_if : (b : Bool) (n : ℕ) (i : Image) (images : List Image) → not (i.set == n) ≡ b → without_set n (without_set n images) ≡ without_set n images
+    → without_set n (if b then i ∷ without_set n images else without_set n images) ≡ (if b then i ∷ without_set n images else without_set n images)
+kept_if true n i images e h = ap (λ (b : Bool). if b then i ∷ without_set n (without_set n images) else without_set n (without_set n images)) e ∙ ap (λ (xs : List Image). i ∷ xs) h
+kept_if false n i images e h = h
+
+without_twice : (n : ℕ) (images : List Image) → without_set n (without_set n images) ≡ without_set n images
+without_twice n [] = refl
+without_twice n (i ∷ images) = kept_if (not (i.set == n)) n i images refl (without_twice n images)
+
+dropped_twice : (n : ℕ) (hs : List History) → map (dropped n) (map (dropped n) hs) ≡ map (dropped n) hs
+dropped_twice n [] = refl
+dropped_twice n (h ∷ hs) = ap (λ (is : List Image). (record { writes = h.writes; images = is }) ∷ map (dropped n) (map (dropped n) hs)) (without_twice n h.images) ∙ ap (λ (xs : List History). dropped n h ∷ xs) (dropped_twice n hs)
+
+released_twice : (c : Context) (n : ℕ) (hs : List History) → images_released c (Some n) (map (dropped n) hs) ≡ map (dropped n) hs
+released_twice Backup n hs = dropped_twice n hs
+released_twice AppRollback n hs = refl
+released_twice NasRollback n hs = refl
+
+released_is : (c : Context) (set : Option ℕ) (st : State) → images_released c set st.volumes ≡ images_changed (change_released c set) st
+released_is Backup None st = refl
+released_is Backup (Some n) st = refl
+released_is AppRollback set st = refl
+released_is NasRollback set st = refl
+
+-- the set that fails is the session's own
+end_volumes : (st : State) (q : Session) (o : SetOutcome) (found : Option SetRow) → IsOfSession (Some q) o found
+    → (e : Ended) → e ≡ ends_as (option_map (λ (r : SetRow). r.number) found) (Failed AsyncCancelled)
+    → images_released q.context q.set (volumes_after e st.volumes) ≡ images_changed (drop_or (has_failed e.result) e.set (change_released q.context q.set)) st
+end_volumes st q o None h e is = subst (λ (x : Ended). images_released q.context q.set (volumes_after x st.volumes) ≡ images_changed (drop_or (has_failed x.result) x.set (change_released q.context q.set)) st) (sym is) (released_is q.context q.set st)
+end_volumes st q o (Some r) h e is = subst (λ (x : Ended). images_released q.context q.set (volumes_after x st.volumes) ≡ images_changed (drop_or (has_failed x.result) x.set (change_released q.context q.set)) st) (sym is)
+    (ap (λ (set : Option ℕ). images_released q.context set (map (dropped r.number) st.volumes)) h.1 ∙ released_twice q.context r.number st.volumes)
+
+pub ends : (s : Plan) (lane : ℕ) (st : State) (old y : SessionsValue) (m : SessionMove) (e : Ended) (released_change : ImageChange) → check_other st.session (runs st) lane call.End ≡ Go → IsInOrder st → Keeps old st
+    → e ≡ ends_as (current_of old.sets) (Failed AsyncCancelled) → IsTold e st (failed AsyncCancelled st)
+    → released_change ≡ change_at_end (option_map (λ (q : Session). q.context) old.requestor.session) (option_and_then (λ (q : Session). q.set) old.requestor.session)
+    → ((hs : List History) → Keeps y (record { session = None; explicit = []; sets = (failed AsyncCancelled st).sets; course = released (failed AsyncCancelled st).course; volumes = hs; clock = (failed AsyncCancelled st).clock }))
+    → m ≡ told_with told.Ok e (drop_or (has_failed e.result) e.set released_change) → ComesTo s lane op.End st y m
+ends s lane st old y m e change goes order kept is tells released_is closes moved =
+    let owner = owners st.session (runs st) lane call.End goes in
+    let q = owner.session in
+    let same : old.requestor.session ≡ Some q = kept.session ∙ owner.is in
+    let change_is : change ≡ change_released q.context q.set = released_is ∙ ap (λ (o : Option Session). change_at_end (option_map (λ (z : Session). z.context) o) (option_and_then (λ (z : Session). z.set) o)) same in
+    let ended_is : e ≡ ends_as (option_map (λ (r : SetRow). r.number) (in_progress st)) (Failed AsyncCancelled) = is ∙ ap (λ (rows : List SetRow). ends_as (current_of rows) (Failed AsyncCancelled)) kept.sets in
+    let of_session : IsOfSession (Some q) st.course.outcome (in_progress st) = subst (λ (o : Option Session). IsOfSession o st.course.outcome (in_progress st)) owner.is order.session in
+    subst (ComesTo s lane op.End st y) (sym (moved ∙ ap (λ (c : ImageChange). told_with told.Ok e (drop_or (has_failed e.result) e.set c)) change_is)) (record {
+      reply = Fine;
+      after = closed q (failed AsyncCancelled st);
+      does = line_of s lane op.End st q owner.is;
+      fits = λ tells. refl;
+      lists = λ listed rows e. tt;
+      clean = refl;
+      loses = record { lost = refl; order = refl };
+      came = subst (λ (x : State). CameTo st x y (told_with told.Ok e (drop_or (has_failed e.result) e.set (change_released q.context q.set)))) (sym (closed_is q (failed AsyncCancelled st))) (record {
+        keeps = closes (images_released q.context q.set (failed AsyncCancelled st).volumes);
+        ends = tells.ends;
+        volumes = ap (images_released q.context q.set) tells.volumes ∙ end_volumes st q st.course.outcome (in_progress st) of_session e ended_is;
+      });
+    })
+
+pub owner_kept : (o : SetOutcome) (q : Option Session) → option_map (λ (z : Session). z.owner) (option_map (ended_session o) q) ≡ option_map (λ (z : Session). z.owner) q
+owner_kept o None = refl
+owner_kept Running (Some q) = refl
+owner_kept Complete (Some q) = refl
+owner_kept (Failed why) (Some q) = refl
+
+-- ## parts of a value
+
+pub same_parts : (x : SessionsValue) (r q : Requestor) (k : CoordinatorState) (rows more : List SetRow) (h i : Held) → r ≡ q → rows ≡ more → h ≡ i
+    → ◌≡◌ {A = SessionsValue} (record { requestor = r; coordinator = k; sets = rows; clock = x.clock; selection = h }) (record { requestor = q; coordinator = k; sets = more; clock = x.clock; selection = i })
+same_parts x r q k rows more h i e f g =
+    ap (λ (z : Requestor). record { requestor = z; coordinator = k; sets = rows; clock = x.clock; selection = h }) e
+    ∙ ap (λ (z : List SetRow). record { requestor = q; coordinator = k; sets = z; clock = x.clock; selection = h }) f
+    ∙ ap (λ (z : Held). record { requestor = q; coordinator = k; sets = more; clock = x.clock; selection = z }) g
+
+pub nothing_named_is : (h : Held) (n m : ℕ) → h ≡ record { writers = n; selected = Named [] } → n ≡ m → h ≡ record { writers = m; selected = Named [] }
+nothing_named_is h n m e f = e ∙ ap (λ (k : ℕ). record { writers = k; selected = Named [] }) f
+
+pub none_of : (o : Option Context) (b : Bool) → is_some o ≡ not b → b ≡ true → o ≡ None
+none_of None b e f = refl
+none_of (Some c) true e f = cc
+none_of (Some c) false e f = cc
+
+pub record IsThere (o : Option Context) : Type 0 where
+  pub context : Context
+  pub is : o ≡ Some context
+
+pub there_of : (o : Option Context) (b : Bool) → is_some o ≡ not b → b ≡ false → IsThere o
+there_of None true e f = absurd cc
+there_of None false e f = absurd cc
+there_of (Some c) b e f = record { context = c; is = refl }
+
+released_disabled : (c : Course) → (released c).disabled ≡ []
+unfolding released
+released_disabled c = refl
+
+nobody_disabled : (n : ℕ) → All (λ w. w < n) []
+nobody_disabled n k d l = absurd (omega (arith, l))
+
+pub none_disabled : (n : ℕ) (c : Course) → All (λ w. w < n) (released c).disabled
+none_disabled n c = subst (λ (ds : List ℕ). All (λ w. w < n) ds) (sym (released_disabled c)) (nobody_disabled n)
+
+pub start_has_session : (q : Option Session) (running : Bool) (lane : ℕ) → check_other q running lane call.Start ≡ Go → None ≡ option_map (λ (z : Session). z.context) q → ⊥
+start_has_session None running lane e f = cc
+start_has_session (Some q) running lane e f = cc

@@ -1,0 +1,191 @@
+-- From what an event comes to at a state, what is promised of it.
+use Rattle.std.proofs.Common.{◌≡◌, ◌⊎◌, inl, inr, ℕ, List, [], refl, ap, sym, ◌∙◌, subst, Bool, true, false, Option, Some, None}
+use Rattle.std.specs.Prelude.{not, is_some}
+use Rattle.write_history.specs.declared.mark.Mark.{Mark}
+use Rattle.write_history.specs.declared.mark.Mark.TheVariants.{Clean}
+use Rattle.writer_state.specs.declared.writer_row.WriterRow.{WriterRow}
+use Rattle.vss_names.specs.declared.vss_result.VssResult.{VssResult}
+use Rattle.set_agenda.specs.Agenda.{Agenda, is_working, order_now}
+use Rattle.set_agenda.specs.WriterSet.{writers, writers_of}
+use Rattle.requestor.specs.declared.verdict.Verdict.{Verdict}
+use Rattle.requestor.specs.declared.verdict.Verdict.TheVariants.{Go, Blocked, Refused}
+use Rattle.requestor.specs.declared.session_call.SessionCall.{SessionCall}
+use Rattle.requestor.specs.Check.{check}
+use Rattle.coordinator.specs.declared.running_agenda.RunningAgenda.{RunningAgenda}
+use Rattle.coordinator.specs.Coordinator.{CoordinatorState, Stands, runs as runs_kept, works}
+use Rattle.coordinator.specs.KeptCourse.{FitsRun}
+use Rattle.coordinator.proofs.Following.{left-is}
+use Rattle.scenario.specs.declared.op.Op.{Op}
+use Rattle.scenario.specs.declared.op.Op.TheVariants.{WriteFill, WriteStamp, Read, ImageDigest, ImageBlock, Query, Properties, Revert, DeleteSet, DeleteImage, Tick, Begin, Disable, Gather, Component, Document, Start, Add, Prepare, Snapshot, Await, Status, Complete, Abort, End}
+use Rattle.scenario.specs.Calls.{call_of, target_of}
+use Rattle.scenario.specs.Plan.{Plan}
+use Rattle.vss_model.specs.declared.event.Event.{Event}
+use Rattle.vss_model.specs.declared.event.Event.TheVariants.{Line}
+use Rattle.vss_model.specs.declared.told.Told.{Told}
+use Rattle.vss_model.specs.declared.told.Told.TheVariants as told
+use Rattle.vss_model.specs.Reply.{Reply, Coded}
+use Rattle.vss_model.specs.State.{State, in_progress, left_now}
+use Rattle.vss_model.specs.Ending.{runs}
+use Rattle.vss_model.specs.Images.{Replied}
+use Rattle.vss_model.specs.Sessions.{judged}
+use Rattle.vss_model.specs.Lines.{called, line}
+use Rattle.vss_model.specs.Acts.{Act, enabled, event_allows, happens, after, after_if, line_enabled, line_allows, may_call, is_blocked}
+use Rattle.vss_model.specs.Effects.{evicted, evicted_at, line_ticks, lost, lost_after, lost_order, lost_order_if, ended_of}
+use Rattle.vss_model.specs.Told.{Fits, mark_of}
+use Rattle.vss_model.specs.Outcome.{HasLists, EndsAs, told_act}
+use Rattle.sessions.specs.declared.session_move.SessionMove.{SessionMove}
+use Rattle.sessions.specs.Told.{told_alone}
+use Rattle.sessions.specs.Keeps.{SessionsValue, Keeps, IsInOrder}
+use Rattle.sessions.specs.Moves.{IsMove, CameTo, ComesTo, LosesNobody, after_move}
+use Rattle.sessions.proofs.Telling.{ends_none}
+
+-- ## an event
+
+-- what an enabled event comes to at a state
+pub record Happens (s : Plan) (st : State) (event : Event) (new : SessionsValue) (m : SessionMove) : Type 0 where
+  pub on : enabled s st event ≡ true
+  pub allowed : event_allows s st event (mark_of m.outcome.told) ≡ true
+  pub reply : Reply
+  pub after : State
+  pub does : happens s event (mark_of m.outcome.told) st ≡ (reply, after)
+  pub fits : (tells : List Bool) → Fits tells reply m.outcome.told
+  pub lists : (listed : List ℕ) (rows : List WriterRow) → rows ≡ after.course.rows → HasLists reply listed rows
+  pub evicts : [] ≡ evicted s st event
+  pub loses : writers_of m.outcome.lost ≡ lost st event
+  pub order : m.outcome.lost_order ≡ lost_order st event
+  pub came : CameTo st after new m
+
+after_enabled : (s : Plan) (st : State) (act : Act) → enabled s st act.event ≡ true → after s st act ≡ (happens s act.event act.mark st).1
+unfolding after
+after_enabled s st act e = ap (λ b. after_if b s st act) e
+
+after_is : (s : Plan) (st : State) (event : Event) (new : SessionsValue) (m : SessionMove) (h : Happens s st event new m) → after_move s st event m ≡ h.after
+after_is s st event new m h = after_enabled s st (told_act event m.outcome.told) h.on ∙ ap (λ (z : Replied). z.1) h.does
+
+pub happens_moves : (P : State → Type 0) (s : Plan) (new : SessionsValue) (event : Event) (m : SessionMove) → ((st : State) → P st → Happens s st event new m) → IsMove P s new event m
+happens_moves P s new event m all = record {
+  is_enabled = λ st p. (all st p).on;
+  is_allowed = λ st p. (all st p).allowed;
+  outcome = λ st tells listed rows p e.
+      let h = all st p in
+      let is = after_is s st event new m h in
+      let replied : (happens s event (mark_of m.outcome.told) st).0 ≡ h.reply = ap (λ (z : Replied). z.0) h.does in
+      record {
+        fits = subst (λ (r : Reply). Fits tells r m.outcome.told) (sym replied) (h.fits tells);
+        lists = subst (λ (r : Reply). HasLists r listed rows) (sym replied) (h.lists listed rows (e ∙ ap (λ (z : State). z.course.rows) is));
+        evicts = h.evicts;
+        loses = h.loses;
+        order = h.order;
+        ends = subst (λ (z : State). EndsAs (ended_of (in_progress st) z.sets) m.outcome.set m.outcome.result) (sym is) h.came.ends;
+      };
+  keeps = λ st p. subst (Keeps new) (sym (after_is s st event new m (all st p))) (all st p).came.keeps;
+  volumes = λ st p. ap (λ (z : State). z.volumes) (after_is s st event new m (all st p)) ∙ (all st p).came.volumes;
+}
+
+pub nobody : writers_of 0 ≡ []
+unfolding writers
+nobody = refl
+
+-- ## a coordinator that stands for a course
+
+runs_fit : (a : Option RunningAgenda) (b : Option Agenda) → FitsRun a b → is_some a ≡ is_some b
+runs_fit None None h = refl
+runs_fit None (Some b) h = absurd h
+runs_fit (Some a) None h = absurd h
+runs_fit (Some a) (Some b) h = refl
+
+pub runs_same : (x : CoordinatorState) (st : State) → Stands x st.course → runs_kept x ≡ runs st
+runs_same x st h = runs_fit x.kept.running st.course.agenda h.follows.agenda
+
+pub works_same : (x : CoordinatorState) (st : State) → Stands x st.course → works x ≡ is_working (left_now st)
+works_same x st h = ap is_working (left-is x.kept st.course h.follows)
+
+pub checked_same : (x : SessionsValue) (st : State) (lane : ℕ) (c : SessionCall) → Keeps x st → check x.requestor.session (runs_kept x.coordinator) lane c ≡ check st.session (runs st) lane c
+checked_same x st lane c h = ap (λ q. check q (runs_kept x.coordinator) lane c) h.session ∙ ap (λ b. check st.session b lane c) (runs_same x.coordinator st h.course)
+
+-- ## a line that is a session call
+
+-- it goes to the checks, its mark does not matter, it writes nothing and takes no time
+record IsCallLine (op : Op) (c : SessionCall) : Type 0 where
+  goes : (s : Plan) (st : State) (lane : ℕ) → line_enabled s st lane op ≡ may_call st lane (Some c)
+  does : (s : Plan) (st : State) (lane : ℕ) (mark : Mark) → line s lane op mark st ≡ called c s lane op st
+  target : target_of op ≡ None
+  ticks : line_ticks op ≡ None
+
+same_call : (op : Op) (c d : SessionCall) → Some c ≡ Some d → IsCallLine op c → IsCallLine op d
+same_call op c d e h = let f : c ≡ d = cc in subst (IsCallLine op) f h
+
+call_line : (op : Op) (c : SessionCall) → call_of op ≡ Some c → IsCallLine op c
+call_line (WriteFill v b x) c e = absurd cc
+call_line (WriteStamp v b n) c e = absurd cc
+call_line (Read v b) c e = absurd cc
+call_line (ImageDigest n v) c e = absurd cc
+call_line (ImageBlock n v b) c e = absurd cc
+call_line (Query v) c e = absurd cc
+call_line (Properties n v) c e = absurd cc
+call_line (Revert n v) c e = absurd cc
+call_line (DeleteSet n) c e = absurd cc
+call_line (DeleteImage n v) c e = absurd cc
+call_line (Tick n) c e = absurd cc
+call_line (Begin x all) c e = same_call _ _ c e (record { goes = λ s st lane. refl; does = λ s st lane mark. refl; target = refl; ticks = refl })
+call_line (Disable w) c e = same_call _ _ c e (record { goes = λ s st lane. refl; does = λ s st lane mark. refl; target = refl; ticks = refl })
+call_line Gather c e = same_call _ _ c e (record { goes = λ s st lane. refl; does = λ s st lane mark. refl; target = refl; ticks = refl })
+call_line (Component w full) c e = same_call _ _ c e (record { goes = λ s st lane. refl; does = λ s st lane mark. refl; target = refl; ticks = refl })
+call_line Document c e = same_call _ _ c e (record { goes = λ s st lane. refl; does = λ s st lane mark. refl; target = refl; ticks = refl })
+call_line Start c e = same_call _ _ c e (record { goes = λ s st lane. refl; does = λ s st lane mark. refl; target = refl; ticks = refl })
+call_line (Add v) c e = same_call _ _ c e (record { goes = λ s st lane. refl; does = λ s st lane mark. refl; target = refl; ticks = refl })
+call_line Prepare c e = same_call _ _ c e (record { goes = λ s st lane. refl; does = λ s st lane mark. refl; target = refl; ticks = refl })
+call_line Snapshot c e = same_call _ _ c e (record { goes = λ s st lane. refl; does = λ s st lane mark. refl; target = refl; ticks = refl })
+call_line Await c e = same_call _ _ c e (record { goes = λ s st lane. refl; does = λ s st lane mark. refl; target = refl; ticks = refl })
+call_line Status c e = same_call _ _ c e (record { goes = λ s st lane. refl; does = λ s st lane mark. refl; target = refl; ticks = refl })
+call_line Complete c e = same_call _ _ c e (record { goes = λ s st lane. refl; does = λ s st lane mark. refl; target = refl; ticks = refl })
+call_line Abort c e = same_call _ _ c e (record { goes = λ s st lane. refl; does = λ s st lane mark. refl; target = refl; ticks = refl })
+call_line End c e = same_call _ _ c e (record { goes = λ s st lane. refl; does = λ s st lane mark. refl; target = refl; ticks = refl })
+
+called_as : (c : SessionCall) (s : Plan) (lane : ℕ) (op : Op) (st : State) (v : Verdict) → check st.session (runs st) lane c ≡ v → called c s lane op st ≡ judged v s lane op st
+unfolding called
+called_as c s lane op st v e = ap (λ v. judged v s lane op st) e
+
+allows_clean : (s : Plan) (st : State) (op : Op) → line_allows s st op Clean ≡ true
+allows_clean s st op = refl
+
+module _ (s : Plan) (st : State) (lane : ℕ) (op : Op) (c : SessionCall) (is : call_of op ≡ Some c) (new : SessionsValue) (m : SessionMove) where
+  -- what it comes to, from the verdict of the checks
+  judged_happens : (v : Verdict) (reply : Reply) (after : State) → check st.session (runs st) lane c ≡ v → is_blocked v ≡ false → judged v s lane op st ≡ (reply, after)
+      → ((tells : List Bool) → Fits tells reply m.outcome.told) → ((listed : List ℕ) (rows : List WriterRow) → rows ≡ after.course.rows → HasLists reply listed rows)
+      → mark_of m.outcome.told ≡ Clean → LosesNobody m → CameTo st after new m → Happens s st (Line lane op) new m
+  judged_happens v reply after verdict free does fits lists clean loses came =
+      let h : IsCallLine op c = call_line op c is in
+      record {
+        on = h.goes s st lane ∙ ap (λ v. not (is_blocked v)) verdict ∙ ap not free;
+        allowed = ap (line_allows s st op) clean ∙ allows_clean s st op;
+        reply = reply;
+        after = after;
+        does = h.does s st lane (mark_of m.outcome.told) ∙ called_as c s lane op st v verdict ∙ does;
+        fits = fits;
+        lists = lists;
+        evicts = ap (evicted_at s st) (sym h.target);
+        loses = ap writers_of loses.lost ∙ nobody ∙ ap (λ k. lost_after k st) (sym h.ticks);
+        order = loses.order ∙ ap (λ k. lost_order_if (lost_after k st) (order_now (left_now st))) (sym h.ticks);
+        came = came;
+      }
+
+  pub line_happens : check st.session (runs st) lane c ≡ Go → ComesTo s lane op st new m → Happens s st (Line lane op) new m
+  line_happens verdict h = judged_happens Go h.reply h.after verdict refl h.does h.fits h.lists h.clean h.loses h.came
+
+  pub line_waits : check st.session (runs st) lane c ≡ Blocked → enabled s st (Line lane op) ≡ false
+  line_waits verdict = (call_line op c is).goes s st lane ∙ ap (λ v. not (is_blocked v)) verdict
+
+-- nothing changes, and nothing is dropped
+pub came_to_itself : (x : SessionsValue) (st : State) (t : Told) → IsInOrder st → Keeps x st → CameTo st st x (told_alone t)
+came_to_itself x st t order kept = record { keeps = kept; ends = ends_none st.sets (in_progress st) order.numbered order.newest refl; volumes = refl }
+
+pub refused_happens : (s : Plan) (st : State) (lane : ℕ) (op : Op) (c : SessionCall) (is : call_of op ≡ Some c) (x : SessionsValue) (why : VssResult)
+    → check st.session (runs st) lane c ≡ Refused why → IsInOrder st → Keeps x st → Happens s st (Line lane op) x (told_alone (told.Result why))
+refused_happens s st lane op c is x why verdict order kept =
+    judged_happens s st lane op c is x (told_alone (told.Result why)) (Refused why) (Coded why) st verdict refl refl (λ tells. refl) (λ listed rows e. tt) refl (record { lost = refl; order = refl })
+    (came_to_itself x st (told.Result why) order kept)
+
+pub not_blocked : (v : Verdict) → (v ≡ Go) ⊎ ((x : VssResult) × (v ≡ Refused x)) → not (is_blocked v) ≡ true
+not_blocked v (inl e) = ap (λ v. not (is_blocked v)) e
+not_blocked v (inr h) = ap (λ v. not (is_blocked v)) h.1

@@ -1,0 +1,94 @@
+-- What is kept of sessions, sets, writers and time, and for which states of the definitions it stands. (This project's
+-- own.)
+use Rattle.std.specs.Prelude.{ℕ, ◌≡◌, ◌<◌, ◌≤◌, ◌^◌, ◌-◌, ◌+◌, List, length, map, All}
+use Rattle.requestor.specs.Requestor.{Sessions as Requestor}
+use Rattle.writer_meta.specs.Metadata.{Meta}
+use Rattle.component_doc.specs.Held.{Held}
+use Rattle.component_doc.specs.Selection.{Named}
+use Rattle.component_doc.specs.Over.{IsSelectedOver}
+use Rattle.coordinator.specs.Coordinator.{CoordinatorState, Registered, Stands, IsOnTime, MayPost, writer_count}
+use Rattle.scenario.specs.Plan.{Plan, WriterPlan}
+use Rattle.vss_model.specs.State.{State, SetRow, in_progress}
+use Rattle.vss_model.specs.Facts.{IsOfSession, NumberedFrom, OverButNewest}
+use Rattle.vss_model.specs.Sessions.{known_metas}
+
+pub record SessionsValue : Type 0 where
+  pub requestor : Requestor
+  pub coordinator : CoordinatorState
+  pub sets : List SetRow
+  pub clock : ℕ
+  -- the components that the session has named
+  pub selection : Held
+
+-- This stands for all of a state but the volumes.
+pub record Keeps (x : SessionsValue) (st : State) : Type 0 where
+  pub session : x.requestor.session ≡ st.session
+  pub made : x.requestor.sets_made ≡ length st.sets
+  pub course : Stands x.coordinator st.course
+  pub sets : x.sets ≡ st.sets
+  pub clock : x.clock ≡ st.clock
+  pub explicit : x.selection.selected ≡ Named st.explicit
+  -- the selection is over all writers
+  pub over : x.selection.writers ≡ writer_count x.coordinator
+  -- nothing that limits run from is after the clock
+  pub on_time : IsOnTime x.clock x.coordinator
+  -- only writers that there are were named to be disabled
+  pub disabled : All (λ w. w < writer_count x.coordinator) st.course.disabled
+
+-- ## what is known of a state
+
+-- facts of a state that every list of acts leads to, and that a change of the volumes leaves as they are
+pub record IsInOrder (st : State) : Type 0 where
+  pub numbered : NumberedFrom 1 st.sets
+  pub newest : OverButNewest st.sets
+  pub session : IsOfSession st.session st.course.outcome (in_progress st)
+
+abbrev pub classes_registered : List Registered → List ℕ
+classes_registered ws = map (λ (r : Registered). r.class) ws
+
+abbrev pub classes_of : List WriterPlan → List ℕ
+classes_of ws = map (λ (w : WriterPlan). w.meta.class) ws
+
+-- the writers are those of the scenario
+pub record IsOf (x : SessionsValue) (s : Plan) : Type 0 where
+  pub classes : classes_registered x.coordinator.writers ≡ classes_of s.writers
+  pub count : writer_count x.coordinator ≡ length s.writers
+
+-- What is kept stands for this state of a run of the scenario, which is one that acts lead to.
+pub record IsAt (x : SessionsValue) (s : Plan) (st : State) : Type 0 where
+  pub keeps : Keeps x st
+  pub of : IsOf x s
+  pub order : IsInOrder st
+  pub named : IsSelectedOver (known_metas s st) (Named st.explicit)
+
+-- It stands for some such state, so early in a run that no count is near its end. Calls ask for this.
+pub record IsStanding (x : SessionsValue) : Type 0 where
+  pub plan : Plan
+  pub state : State
+  pub at : IsAt x plan state
+  pub posts : MayPost x.coordinator
+  pub sets : length state.sets < 2 ^ 32 - 1
+  pub early : x.clock < 2 ^ 62
+
+-- the same, for a state of this scenario
+pub record IsStandingIn (s : Plan) (x : SessionsValue) : Type 0 where
+  pub state : State
+  pub at : IsAt x s state
+  pub posts : MayPost x.coordinator
+  pub sets : length state.sets < 2 ^ 32 - 1
+  pub early : x.clock < 2 ^ 62
+
+-- ## what each call leaves
+
+-- the writers stay, orders are posted once more at most, and one set more is started at most
+pub record Leaves (old new : SessionsValue) : Type 0 where
+  pub writers : new.coordinator.writers ≡ old.coordinator.writers
+  pub count : writer_count new.coordinator ≡ writer_count old.coordinator
+  pub posts : new.coordinator.posts ≤ old.coordinator.posts + 1
+  pub sets : length new.sets ≤ length old.sets + 1
+
+-- ## metadata
+
+-- these are the metadata of the scenario's writers, in order
+abbrev pub metas_in : Plan → List Meta
+metas_in s = map (λ (w : WriterPlan). w.meta) s.writers

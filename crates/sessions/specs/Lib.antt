@@ -1,0 +1,5 @@
+pub mod Sets
+pub mod Keeps
+pub mod Concluded
+pub mod Moves
+pub mod Told

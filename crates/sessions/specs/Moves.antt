@@ -1,0 +1,213 @@
+-- What a call promises of an event: that it waits exactly as the definitions say, or that it is an enabled move, whose
+-- reply and effects are those of the definitions, and after which what is kept stands for the state after it. (This
+-- project's own.)
+use Rattle.std.specs.Prelude.{ℕ, ◌≡◌, Bool, true, false, List, [], map, length, Option, Some, None}
+use Rattle.vss_names.specs.declared.vss_result.VssResult.{VssResult}
+use Rattle.vss_names.specs.declared.vss_result.VssResult.TheVariants.{AsyncPending}
+use Rattle.write_history.specs.History.{History, dropped}
+use Rattle.write_history.specs.declared.mark.Mark.TheVariants.{Clean}
+use Rattle.writer_state.specs.declared.writer_row.WriterRow.{WriterRow}
+use Rattle.set_agenda.specs.declared.group.Group.{Group}
+use Rattle.set_agenda.specs.declared.group.Group.TheVariants.{Orders, PreCommit, Flush, Hold, Commit, Release, PostCommit}
+use Rattle.set_agenda.specs.declared.group.Group.TheVariants as group
+use Rattle.set_agenda.specs.declared.kind.Kind.{Kind}
+use Rattle.set_agenda.specs.Agenda.{open_group, order_now}
+use Rattle.set_agenda.specs.WriterSet.{writers_of}
+use Rattle.set_agenda.specs.Course.{Course, released}
+use Rattle.component_doc.specs.Held.{Held}
+use Rattle.coordinator.specs.Beginning.{begun_as}
+use Rattle.requestor.specs.declared.mode.Mode.{Mode}
+use Rattle.requestor.specs.declared.mode.Mode.TheVariants.{Components, All}
+use Rattle.requestor.specs.Session.{Session}
+use Rattle.component_doc.specs.Document.{document_text}
+use Rattle.scenario.specs.declared.op.Op.{Op}
+use Rattle.scenario.specs.declared.op.Op.TheVariants.{Add, Component, Document, Start, Gather, Prepare, Snapshot, Complete}
+use Rattle.scenario.specs.Plan.{Plan}
+use Rattle.vss_model.specs.declared.event.Event.{Event}
+use Rattle.vss_model.specs.declared.told.Told.{Told}
+use Rattle.vss_model.specs.declared.told.Told.TheVariants as told
+use Rattle.vss_model.specs.State.{State, in_progress, history_of, left_now}
+use Rattle.vss_model.specs.Reply.{Reply}
+use Rattle.vss_model.specs.Effects.{ended_of, lost_after, lost_order_if}
+use Rattle.vss_model.specs.Sessions.{known_metas, line_in, selected, volumes_of}
+use Rattle.vss_model.specs.Ending.{failed_in, followed}
+use Rattle.vss_model.specs.Steps.{cut_each, step_made, stepped_as, ticked}
+use Rattle.vss_model.specs.Acts.{after, enabled, event_allows}
+use Rattle.vss_model.specs.Told.{Fits, mark_of}
+use Rattle.vss_model.specs.Outcome.{EndsAs, HasLists, IsOutcome, told_act}
+use Rattle.sessions.specs.declared.called.Called.{Called}
+use Rattle.sessions.specs.declared.called.Called.TheVariants.{Waits, Moves}
+use Rattle.sessions.specs.declared.image_change.ImageChange.{ImageChange}
+use Rattle.sessions.specs.declared.image_change.ImageChange.TheVariants.{NoChange, Cut, Drop}
+use Rattle.sessions.specs.declared.session_move.SessionMove.{SessionMove}
+use Rattle.sessions.specs.Keeps.{SessionsValue, Keeps, IsInOrder, IsAt}
+
+-- what a move does to the images: those of a set are cut on its volumes, or all that stand of a set go
+abbrev pub images_changed : ImageChange → State → List History
+images_changed NoChange st = st.volumes
+images_changed (Cut n) st = cut_each n (volumes_of (in_progress st)) 0 st.volumes
+images_changed (Drop n) st = map (dropped n) st.volumes
+
+-- it cuts images; only a step of the provider does
+abbrev pub cuts : ImageChange → Bool
+cuts NoChange = false
+cuts (Cut n) = true
+cuts (Drop n) = false
+
+abbrev pub IsUncut : Called → Type 0
+IsUncut Waits = Unit {0}
+IsUncut (Moves m) = cuts m.change ≡ false
+
+abbrev pub after_move : Plan → State → Event → SessionMove → State
+after_move s st event m = after s st (told_act event m.outcome.told)
+
+-- At each state of P, what was kept before is at which, the event is enabled, and this is what it comes to. A program
+-- shows the rows as they are afterwards.
+pub record IsMove (P : State → Type 0) (s : Plan) (new : SessionsValue) (event : Event) (m : SessionMove) : Type 0 where
+  pub is_enabled : (st : State) → P st → enabled s st event ≡ true
+  pub is_allowed : (st : State) → P st → event_allows s st event (mark_of m.outcome.told) ≡ true
+  pub outcome : (st : State) (tells : List Bool) (listed : List ℕ) (rows : List WriterRow) → P st → rows ≡ (after_move s st event m).course.rows
+      → IsOutcome tells s st event m.outcome listed [] rows
+  pub keeps : (st : State) → P st → Keeps new (after_move s st event m)
+  pub volumes : (st : State) → P st → (after_move s st event m).volumes ≡ images_changed m.change st
+
+-- the event waits, and nothing changes
+pub record IsWait (P : State → Type 0) (s : Plan) (old new : SessionsValue) (event : Event) : Type 0 where
+  pub same : new ≡ old
+  pub not_enabled : (st : State) → P st → enabled s st event ≡ false
+
+abbrev pub IsCall : (State → Type 0) → Plan → SessionsValue → SessionsValue → Event → Called → Type 0
+IsCall P s old new event Waits = IsWait P s old new event
+IsCall P s old new event (Moves m) = IsMove P s new event m
+
+-- ## what follows, whatever the event
+
+-- The state went on from st to this one: what is kept stands for it, and the move tells which set ended and what
+-- becomes of the images.
+pub record CameTo (st after : State) (new : SessionsValue) (m : SessionMove) : Type 0 where
+  pub keeps : Keeps new after
+  pub ends : EndsAs (ended_of (in_progress st) after.sets) m.outcome.set m.outcome.result
+  pub volumes : after.volumes ≡ images_changed m.change st
+
+-- it tells no lost writer
+pub record LosesNobody (m : SessionMove) : Type 0 where
+  pub lost : m.outcome.lost ≡ 0
+  pub order : m.outcome.lost_order ≡ None
+
+-- ## the states of a call
+
+-- so many images stand on the volume of an `add`
+abbrev pub HasImages : ℕ → Op → State → Type 0
+HasImages images (Add v) st = length (history_of st v).images ≡ images
+HasImages images _ st = Unit {0}
+
+pub record IsAtWith (images : ℕ) (op : Op) (x : SessionsValue) (s : Plan) (st : State) : Type 0 where
+  pub at : IsAt x s st
+  pub counted : HasImages images op st
+
+-- ## a session line that the checks let go
+
+-- What the line comes to at a state, once the checks let it go: this reply, and the state afterwards.
+pub record ComesTo (s : Plan) (lane : ℕ) (op : Op) (st : State) (new : SessionsValue) (m : SessionMove) : Type 0 where
+  pub reply : Reply
+  pub after : State
+  pub does : line_in s lane op st.session st ≡ (reply, after)
+  pub fits : (tells : List Bool) → Fits tells reply m.outcome.told
+  pub lists : (listed : List ℕ) (rows : List WriterRow) → rows ≡ after.course.rows → HasLists reply listed rows
+  pub clean : mark_of m.outcome.told ≡ Clean
+  pub loses : LosesNobody m
+  pub came : CameTo st after new m
+
+-- at each state at which what was kept before is
+abbrev pub IsGone : SessionsValue → SessionsValue → ℕ → Op → SessionMove → Type 0
+IsGone old new lane op m = (s : Plan) (st : State) → IsAt old s st → ComesTo s lane op st new m
+
+-- the same, where so many images stand on the volume of an `add`
+abbrev pub IsGoneWith : ℕ → SessionsValue → SessionsValue → ℕ → Op → SessionMove → Type 0
+IsGoneWith images old new lane op m = (s : Plan) (st : State) → IsAt old s st → HasImages images op st → ComesTo s lane op st new m
+
+-- of this scenario alone
+abbrev pub IsGoneIn : Plan → SessionsValue → SessionsValue → ℕ → Op → SessionMove → Type 0
+IsGoneIn s old new lane op m = (st : State) → IsAt old s st → ComesTo s lane op st new m
+
+-- what every line promises, once the checks let it go
+abbrev pub IsGoneAs : Plan → ℕ → SessionsValue → SessionsValue → ℕ → Op → SessionMove → Type 0
+IsGoneAs s images old new lane op m = (st : State) → IsAtWith images op old s st → ComesTo s lane op st new m
+
+-- the session is over, whatever becomes of the images
+abbrev pub IsClosed : SessionsValue → SessionsValue → Type 0
+IsClosed old new = (st : State) (hs : List History) → Keeps old st
+    → Keeps new (record { session = None; explicit = []; sets = st.sets; course = released st.course; volumes = hs; clock = st.clock })
+
+-- An agenda of this kind began, over this selection and the volumes of the set in progress, with what follows.
+abbrev pub HasBegun : Kind → Held → SessionsValue → SessionsValue → SessionMove → Type 0
+HasBegun kind h old new m = (st : State) (c : Course) → IsInOrder st → Keeps old st
+    → c ≡ begun_as kind old.coordinator.writers h (volumes_of (in_progress st)) st.clock st.course
+    → (m.outcome.told ≡ told.Result AsyncPending) × LosesNobody m × CameTo st (followed true c st) new m
+
+-- ## a step of the provider
+
+abbrev pub is_cut : Group → Bool
+is_cut (Orders o) = false
+is_cut PreCommit = false
+is_cut Flush = false
+is_cut Hold = false
+is_cut group.Cut = true
+is_cut Commit = false
+is_cut Release = false
+is_cut PostCommit = false
+
+-- what a step of this group does beside its entry in the log was done
+pub record CameToStep (st : State) (g : Group) (new : SessionsValue) (change : ImageChange) : Type 0 where
+  pub keeps : Keeps new (step_made (Some g) st)
+  pub volumes : (step_made (Some g) st).volumes ≡ images_changed change st
+
+abbrev pub IsCut : Group → SessionsValue → SessionsValue → ImageChange → Type 0
+IsCut g old new change = (st : State) → IsInOrder st → Keeps old st → CameToStep st g new change
+
+-- the provider made its step, or a device failed it
+abbrev pub HasStepped : Bool → Group → Option ℕ → SessionsValue → SessionsValue → SessionMove → Type 0
+HasStepped fails g v old new m = (st : State) → IsInOrder st → Keeps old st → open_group (left_now st) ≡ Some g
+    → (m.outcome.told ≡ told.Step g v fails) × LosesNobody m × CameTo st (stepped_as fails (Some g) st) new m
+
+-- ## time
+
+-- so many ticks went by, with what follows, and this is told
+abbrev pub HasGoneOn : Told → ℕ → SessionsValue → SessionsValue → SessionMove → Type 0
+HasGoneOn t ticks old new m = (st : State) → IsInOrder st → Keeps old st
+    → (m.outcome.told ≡ t) × (writers_of m.outcome.lost ≡ lost_after (Some ticks) st)
+    × (m.outcome.lost_order ≡ lost_order_if (lost_after (Some ticks) st) (order_now (left_now st))) × CameTo st (ticked ticks st) new m
+
+-- ## what the session selects
+
+abbrev pub is_all : Mode → Bool
+is_all Components = false
+is_all All = true
+
+-- the session takes all components of the writers that it knows
+abbrev pub takes_all_of : Option Session → Bool
+takes_all_of None = false
+takes_all_of (Some q) = is_all q.mode
+
+-- these are the bytes of the component document, at each state
+abbrev pub IsDocumentIn : Plan → SessionsValue → List ℕ → Type 0
+IsDocumentIn s x bytes = (st : State) (q : Session) → IsAt x s st → st.session ≡ Some q → bytes ≡ document_text (known_metas s st) (selected s q st) q.context
+
+-- ## memory
+
+-- the session lines that may want memory
+abbrev pub takes_memory : Op → Bool
+takes_memory (Component w full) = true
+takes_memory Document = true
+takes_memory Start = true
+takes_memory Gather = true
+takes_memory Prepare = true
+takes_memory Snapshot = true
+takes_memory Complete = true
+takes_memory _ = false
+
+-- ## a failure from outside
+
+-- the set in progress failed, for this reason
+abbrev pub IsFailed : SessionsValue → SessionsValue → VssResult → Type 0
+IsFailed old new why = (st : State) → IsInOrder st → Keeps old st → Keeps new (failed_in (in_progress st) why st)

@@ -1,0 +1,64 @@
+ghost use Rattle.std.specs.Prelude.{◌≡◌, false, IfOk, OnErr};
+ghost use Rattle.coordinator.specs.Coordinator.{MayPost, runs, writer_count};
+ghost use Rattle.requestor.specs.Check.{check};
+ghost use Rattle.scenario.specs.declared.op.Op.TheVariants as op;
+ghost use Rattle.sessions.specs.Keeps.{Leaves};
+ghost use Rattle.sessions.specs.Moves.{IsGone, cuts};
+
+use crate::session_move::SessionMove;
+use crate::sessions::Sessions;
+use requestor::{SessionCall, Verdict};
+use set_agenda::Kind;
+use std::alloc::Global;
+use vss_model::Told;
+use vss_names::{OutOfMemory, VssResult};
+
+impl Sessions {
+    /// The writers are gathered.
+    pub(crate) fn gather(&mut self, alloc: Global, lane: u32) -> Result<SessionMove, OutOfMemory>
+        requires room { MayPost self.old.coordinator }
+        requires over { self.old.selection.writers ≡ writer_count self.old.coordinator }
+        requires goes { check self.old.requestor.session (runs self.old.coordinator) lane SessionCall.Gather ≡ Verdict.Go }
+        ensures gone { IfOk result (IsGone self.old self.new lane op.Gather) }
+        ensures uncut { IfOk result (λ moved. cuts moved.change ≡ false) }
+        ensures unchanged { OnErr result (self.new ≡ self.old) }
+        ensures leaves { Leaves self.old self.new }
+        ensures clock { self.new.clock ≡ self.old.clock }
+    {
+        let _lane = lane;
+        self.begin_agenda(alloc, Kind::Gather)
+    }
+
+    /// The writers that take part are told that the backup is complete.
+    pub(crate) fn complete(&mut self, alloc: Global, lane: u32) -> Result<SessionMove, OutOfMemory>
+        requires room { MayPost self.old.coordinator }
+        requires over { self.old.selection.writers ≡ writer_count self.old.coordinator }
+        requires goes { check self.old.requestor.session (runs self.old.coordinator) lane SessionCall.Complete ≡ Verdict.Go }
+        ensures gone { IfOk result (IsGone self.old self.new lane op.Complete) }
+        ensures uncut { IfOk result (λ moved. cuts moved.change ≡ false) }
+        ensures unchanged { OnErr result (self.new ≡ self.old) }
+        ensures leaves { Leaves self.old self.new }
+        ensures clock { self.new.clock ≡ self.old.clock }
+    {
+        let _lane = lane;
+        self.begin_agenda(alloc, Kind::Complete)
+    }
+
+    /// The snapshot of the set's volumes is made.
+    pub(crate) fn snapshot(&mut self, alloc: Global, lane: u32) -> Result<SessionMove, OutOfMemory>
+        requires room { MayPost self.old.coordinator }
+        requires over { self.old.selection.writers ≡ writer_count self.old.coordinator }
+        requires goes { check self.old.requestor.session (runs self.old.coordinator) lane SessionCall.Snapshot ≡ Verdict.Go }
+        ensures gone { IfOk result (IsGone self.old self.new lane op.Snapshot) }
+        ensures uncut { IfOk result (λ moved. cuts moved.change ≡ false) }
+        ensures unchanged { OnErr result (self.new ≡ self.old) }
+        ensures leaves { Leaves self.old self.new }
+        ensures clock { self.new.clock ≡ self.old.clock }
+    {
+        let _lane = lane;
+        if self.volumes().is_empty() {
+            return Ok(SessionMove::alone(Told::Result(VssResult::BadState)));
+        }
+        self.begin_agenda(alloc, Kind::Snapshot)
+    }
+}

@@ -1,0 +1,138 @@
+ghost use Rattle.std.specs.Prelude.{◌≡◌, ◌<◌, ◌≤◌, ◌+◌, ◌^◌, ℕ, false, IfOk, OnErr};
+ghost use Rattle.component_doc.specs.Held.{Held};
+ghost use Rattle.coordinator.specs.Coordinator.{MayPost, IsOnTime, runs, writer_count};
+ghost use Rattle.scenario.specs.Plan.{Plan};
+ghost use Rattle.scenario.specs.declared.op.Op.TheVariants.{Tick};
+ghost use Rattle.tick_limits.specs.Time.{answer_limit};
+ghost use Rattle.vss_model.specs.declared.event.Event.TheVariants.{Line, Idle};
+ghost use Rattle.sessions.specs.Keeps.{IsAt, IsStanding, Leaves};
+ghost use Rattle.sessions.specs.Moves.{HasBegun, HasGoneOn, IsCall, IsMove, IsUncut, cuts};
+
+use crate::called::Called;
+use crate::session_move::{SessionMove, change_after};
+use crate::sessions::Sessions;
+use component_doc::Selection;
+use set_agenda::Kind;
+use std::alloc::Global;
+use tick_limits::Clock;
+use vss_model::{Outcome, Told};
+use vss_names::{OutOfMemory, VssResult};
+
+impl Sessions {
+    /// An agenda begins, over what the session has named and the volumes of the set in progress.
+    pub(crate) fn begin_agenda(
+        &mut self,
+        alloc: Global,
+        kind: Kind,
+    ) -> Result<SessionMove, OutOfMemory>
+        requires idle { runs self.old.coordinator ≡ false }
+        requires room { MayPost self.old.coordinator }
+        requires over { self.old.selection.writers ≡ writer_count self.old.coordinator }
+        ensures begun { IfOk result (HasBegun kind self.old.selection self.old self.new) }
+        ensures uncut { IfOk result (λ moved. cuts moved.change ≡ false) }
+        ensures unchanged { OnErr result (self.new ≡ self.old) }
+        ensures leaves { Leaves self.old self.new }
+        ensures clock { self.new.clock ≡ self.old.clock }
+    {
+        let now = self.clock.now();
+        let effects = self
+            .coordinator
+            .begin_agenda(alloc, kind, 0, self.sets.volumes(), &self.selection, now)?;
+        let ended = self.conclude(effects.outcome, effects.agenda_ended);
+        let told = Told::Result(VssResult::AsyncPending);
+        Ok(SessionMove::with(told, ended, change_after(ended)))
+    }
+
+    /// The same, over a selection that the session does not keep.
+    pub(crate) fn begin_agenda_over(
+        &mut self,
+        alloc: Global,
+        kind: Kind,
+        selection: &Selection,
+    ) -> Result<SessionMove, OutOfMemory>
+        requires idle { runs self.old.coordinator ≡ false }
+        requires room { MayPost self.old.coordinator }
+        requires over { selection.now.writers ≡ writer_count self.old.coordinator }
+        ensures begun { IfOk result (HasBegun kind selection.now self.old self.new) }
+        ensures uncut { IfOk result (λ moved. cuts moved.change ≡ false) }
+        ensures unchanged { OnErr result (self.new ≡ self.old) }
+        ensures leaves { Leaves self.old self.new }
+        ensures clock { self.new.clock ≡ self.old.clock }
+    {
+        let now = self.clock.now();
+        let effects = self
+            .coordinator
+            .begin_agenda(alloc, kind, 0, self.sets.volumes(), selection, now)?;
+        let ended = self.conclude(effects.outcome, effects.agenda_ended);
+        let told = Told::Result(VssResult::AsyncPending);
+        Ok(SessionMove::with(told, ended, change_after(ended)))
+    }
+
+    /// So many ticks go by: the line `tick`. A limit that is spent is treated in the same move.
+    pub fn time(&mut self, ticks: u32) -> SessionMove
+        requires standing { IsStanding self.old }
+        ensures moves { (s : Plan) (lane : ℕ) → IsMove (IsAt self.old s) s self.new (Line lane (Tick ticks)) result }
+        ensures uncut { cuts result.change ≡ false }
+        ensures leaves { Leaves self.old self.new }
+        ensures clock { self.new.clock ≡ self.old.clock + ticks }
+    {
+        self.go_on(Told::Ok, ticks as u64)
+    }
+
+    /// Time goes by until a limit is spent; it waits where no writer is waited for.
+    pub fn idle(&mut self) -> Called
+        requires standing { IsStanding self.old }
+        ensures called { (s : Plan) → IsCall (IsAt self.old s) s self.old self.new Idle result }
+        ensures uncut { IsUncut result }
+        ensures leaves { Leaves self.old self.new }
+        ensures clock { self.new.clock ≤ self.old.clock + (answer_limit + 1) }
+    {
+        if !self.is_asking() {
+            return Called::Waits;
+        }
+        let now = self.clock.now();
+        match self.coordinator.until_limit(now) {
+            None => Called::Waits,
+            Some(ticks) => Called::Moves(self.go_on(Told::Ticks(ticks), ticks)),
+        }
+    }
+
+    /// So many ticks go by, and this is told.
+    fn go_on(&mut self, told: Told, ticks: u64) -> SessionMove
+        requires room { MayPost self.old.coordinator }
+        requires early { self.old.clock < 2 ^ 62 }
+        requires few { ticks < 2 ^ 32 }
+        requires on_time { IsOnTime self.old.clock self.old.coordinator }
+        ensures gone { HasGoneOn told ticks self.old self.new result }
+        ensures uncut { cuts result.change ≡ false }
+        ensures leaves { Leaves self.old self.new }
+        ensures clock { self.new.clock ≡ self.old.clock + ticks }
+    {
+        go_on_by(&mut self.clock, ticks);
+        let now = self.clock.now();
+        let effects = self.coordinator.time(now);
+        let ended = self.conclude(effects.outcome, effects.agenda_ended);
+        SessionMove {
+            outcome: Outcome {
+                told,
+                lost: effects.lost,
+                lost_order: effects.lost_order,
+                set: ended.set,
+                result: ended.result,
+            },
+            change: change_after(ended),
+        }
+    }
+}
+
+/// The clock goes on, far from its last tick.
+fn go_on_by(clock: &mut Clock, ticks: u64)
+    requires early { clock.old < 2 ^ 62 }
+    requires few { ticks < 2 ^ 32 }
+    ensures { clock.new ≡ clock.old + ticks }
+{
+    match clock.advance(ticks) {
+        Ok(()) => {}
+        Err(_) => unreachable!(),
+    }
+}

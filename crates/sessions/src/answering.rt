@@ -1,0 +1,161 @@
+ghost use Rattle.std.specs.Prelude.{◌≡◌, ◌<◌, ◌&&◌, Some, length, not, false, true};
+ghost use Rattle.coordinator.specs.Coordinator.{MayPost, works, writer_count};
+ghost use Rattle.scenario.specs.Plan.{Plan};
+ghost use Rattle.set_agenda.specs.Agenda.{open_group};
+ghost use Rattle.vss_model.specs.State.{State, left_now};
+ghost use Rattle.vss_model.specs.Steps.{is_flush};
+ghost use Rattle.vss_model.specs.Told.{mark_if, mark_of};
+ghost use Rattle.vss_model.specs.declared.event.Event.TheVariants.{Answer as AnswerEvent, Provider};
+ghost use Rattle.sessions.specs.Keeps.{IsAt, IsStanding, Keeps, Leaves};
+ghost use Rattle.sessions.specs.Moves.{HasStepped, IsCall, IsCut, IsMove, IsUncut, is_cut};
+
+use crate::called::Called;
+use crate::image_change::ImageChange;
+use crate::session_move::{SessionMove, change_after};
+use crate::sessions::Sessions;
+use set_agenda::Group;
+use vss_model::Told;
+use writer_calls::Answer;
+
+impl Sessions {
+    /// A writer answers its open order; it waits where it has none.
+    pub fn answer(&mut self, writer: u32, answer: Answer) -> Called
+        requires standing { IsStanding self.old }
+        requires known { writer < writer_count self.old.coordinator }
+        ensures called { (s : Plan) → IsCall (IsAt self.old s) s self.old self.new (AnswerEvent writer answer) result }
+        ensures uncut { IsUncut result }
+        ensures leaves { Leaves self.old self.new }
+        ensures clock { self.new.clock ≡ self.old.clock }
+    {
+        let Some(standing) = self.coordinator.poll(writer) else {
+            return Called::Waits;
+        };
+        let now = self.clock.now();
+        match self
+            .coordinator
+            .answered(writer, standing.number, answer, now)
+        {
+            Err(_) => Called::Waits,
+            Ok(effects) => {
+                let ended = self.conclude(effects.outcome, effects.agenda_ended);
+                let told = Told::Answered {
+                    order: standing.order,
+                    answer,
+                };
+                Called::Moves(SessionMove::with(told, ended, change_after(ended)))
+            }
+        }
+    }
+
+    /// The provider makes its next step; not `ok` where a device failed in it, which counts in a flush alone and fails
+    /// the set.
+    pub fn step(&mut self, ok: bool) -> SessionMove
+        requires standing { IsStanding self.old }
+        requires works { works self.old.coordinator ≡ true }
+        ensures moves { (s : Plan) → IsMove (IsAt self.old s) s self.new Provider result }
+        ensures mark { (st : State) → Keeps self.old st → mark_of result.outcome.told ≡ mark_if (not ok && is_flush (open_group (left_now st))) }
+        ensures leaves { Leaves self.old self.new }
+        ensures clock { self.new.clock ≡ self.old.clock }
+    {
+        let volume = self.coordinator.next_volume();
+        match self.coordinator.open_group() {
+            // a step is asked for only where the provider has one to make
+            None => SessionMove::alone(Told::Ok),
+            Some(group) => {
+                if fails_at(group, ok) {
+                    self.step_fails(group, volume)
+                } else {
+                    self.step_made(group, volume)
+                }
+            }
+        }
+    }
+
+    /// A device fails the step, and with it the set.
+    fn step_fails(&mut self, group: Group, volume: Option<u32>) -> SessionMove
+        requires room { MayPost self.old.coordinator }
+        requires works { works self.old.coordinator ≡ true }
+        ensures stepped { HasStepped true group volume self.old self.new result }
+        ensures leaves { Leaves self.old self.new }
+        ensures clock { self.new.clock ≡ self.old.clock }
+    {
+        let now = self.clock.now();
+        let effects = self.coordinator.stepped(false, now);
+        let ended = self.conclude(effects.outcome, effects.agenda_ended);
+        let told = Told::Step {
+            group,
+            volume,
+            fault: true,
+        };
+        SessionMove::with(told, ended, change_after(ended))
+    }
+
+    /// The step is made. At the Cut step the set in progress gets the time of its cut.
+    fn step_made(&mut self, group: Group, volume: Option<u32>) -> SessionMove
+        requires room { MayPost self.old.coordinator }
+        requires works { works self.old.coordinator ≡ true }
+        ensures stepped { HasStepped false group volume self.old self.new result }
+        ensures leaves { Leaves self.old self.new }
+        ensures clock { self.new.clock ≡ self.old.clock }
+    {
+        let now = self.clock.now();
+        let change = self.cut_at(group, now);
+        let effects = self.coordinator.stepped(true, now);
+        let ended = self.conclude(effects.outcome, effects.agenda_ended);
+        let told = Told::Step {
+            group,
+            volume,
+            fault: false,
+        };
+        SessionMove::with(told, ended, change)
+    }
+
+    /// At the Cut step the images of the set in progress are cut.
+    fn cut_at(&mut self, group: Group, now: u64) -> ImageChange
+        requires { now ≡ self.old.clock }
+        ensures cut { IsCut group self.old self.new result }
+        ensures coordinator { self.new.coordinator ≡ self.old.coordinator }
+        ensures sets { length self.new.sets ≡ length self.old.sets }
+        ensures clock { self.new.clock ≡ self.old.clock }
+    {
+        if !is_cut(group) {
+            return ImageChange::NoChange;
+        }
+        let Some(set) = self.sets.current() else {
+            return ImageChange::NoChange;
+        };
+        self.sets.cut(now);
+        ImageChange::Cut(set)
+    }
+}
+
+/// Whether a step of this group fails: a flush in which a device failed.
+fn fails_at(group: Group, ok: bool) -> bool
+    ensures { result ≡ (not ok && is_flush (Some group)) }
+{
+    match group {
+        Group::Flush => !ok,
+        Group::Orders(_)
+        | Group::PreCommit
+        | Group::Hold
+        | Group::Cut
+        | Group::Commit
+        | Group::Release
+        | Group::PostCommit => false,
+    }
+}
+
+fn is_cut(group: Group) -> bool
+    ensures { result ≡ is_cut group }
+{
+    match group {
+        Group::Cut => true,
+        Group::Orders(_)
+        | Group::PreCommit
+        | Group::Flush
+        | Group::Hold
+        | Group::Commit
+        | Group::Release
+        | Group::PostCommit => false,
+    }
+}

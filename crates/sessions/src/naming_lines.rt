@@ -1,0 +1,172 @@
+ghost use Rattle.std.specs.Prelude.{◌≡◌, ◌<◌, ◌^◌, false, map, length, Some, None, IfOk, OnErr};
+ghost use Rattle.coordinator.specs.Coordinator.{runs, writer_count};
+ghost use Rattle.requestor.specs.Check.{check};
+ghost use Rattle.scenario.specs.Bounds.{IsPlan, IsSpan};
+ghost use Rattle.scenario.specs.declared.op.Op.TheVariants as op;
+ghost use Rattle.writer_meta.specs.Metadata.{meta_of};
+ghost use Rattle.sessions.specs.Keeps.{IsStandingIn, Leaves, metas_in};
+ghost use Rattle.block_data.specs.Digest.{sha256};
+ghost use Rattle.sessions.specs.Moves.{IsDocumentIn, IsGoneIn, cuts, takes_all_of};
+ghost use Rattle.sessions.specs.Told.{told_named};
+
+use crate::session_move::SessionMove;
+use crate::sessions::Sessions;
+use block_data::digest;
+use component_doc::{AddFault, Selection};
+use requestor::{Mode, SessionCall, Verdict};
+use scenario::{Scenario, Span};
+use set_agenda::Kind;
+use std::alloc::Global;
+use vss_model::Told;
+use vss_names::{OutOfMemory, Text, VssResult};
+use writer_meta::Metadata;
+
+impl Sessions {
+    /// The participants are fixed, and asked to prepare.
+    pub(crate) fn prepare(
+        &mut self,
+        alloc: Global,
+        scenario: &Scenario,
+        metadata: &[Metadata],
+        lane: u32,
+    ) -> Result<SessionMove, OutOfMemory>
+        requires standing { IsStandingIn scenario.now self.old }
+        requires metadata { map meta_of metadata.now ≡ metas_in scenario.now }
+        requires goes { check self.old.requestor.session (runs self.old.coordinator) lane SessionCall.Prepare ≡ Verdict.Go }
+        ensures gone { IfOk result (IsGoneIn scenario.now self.old self.new lane op.Prepare) }
+        ensures uncut { IfOk result (λ moved. cuts moved.change ≡ false) }
+        ensures unchanged { OnErr result (self.new ≡ self.old) }
+        ensures leaves { Leaves self.old self.new }
+        ensures clock { self.new.clock ≡ self.old.clock }
+    {
+        let _facts = scenario.volumes();
+        let _lane = lane;
+        if self.volumes().is_empty() {
+            return Ok(SessionMove::alone(Told::Result(VssResult::BadState)));
+        }
+        if !self.takes_all() {
+            return self.begin_agenda(alloc, Kind::Prepare);
+        }
+        let metas = self.metas(alloc, metadata)?;
+        let selection = Selection::all(alloc, &metas)?;
+        self.begin_agenda_over(alloc, Kind::Prepare, &selection)
+    }
+
+    /// Whether the session takes all components of the writers that it knows.
+    fn takes_all(&self) -> bool
+        ensures { result ≡ takes_all_of self.now.requestor.session }
+    {
+        match self.requestor.mode() {
+            Some(Mode::All) => true,
+            Some(Mode::Components) | None => false,
+        }
+    }
+
+    /// A component is named by its writer and its full name.
+    pub(crate) fn component(
+        &mut self,
+        alloc: Global,
+        scenario: &Scenario,
+        metadata: &[Metadata],
+        lane: u32,
+        writer: u32,
+        full: Span,
+    ) -> Result<SessionMove, OutOfMemory>
+        requires standing { IsStandingIn scenario.now self.old }
+        requires metadata { map meta_of metadata.now ≡ metas_in scenario.now }
+        requires span { IsSpan scenario.now full }
+        requires goes { check self.old.requestor.session (runs self.old.coordinator) lane SessionCall.Component ≡ Verdict.Go }
+        ensures gone { IfOk result (IsGoneIn scenario.now self.old self.new lane (op.Component writer full)) }
+        ensures uncut { IfOk result (λ moved. cuts moved.change ≡ false) }
+        ensures unchanged { OnErr result (self.new ≡ self.old) }
+        ensures leaves { Leaves self.old self.new }
+        ensures clock { self.new.clock ≡ self.old.clock }
+    {
+        let _facts = scenario.volumes();
+        let _lane = lane;
+        if self.takes_all() {
+            return Ok(SessionMove::alone(Told::Result(VssResult::BadState)));
+        }
+        let metas = self.metas(alloc, metadata)?;
+        let name = scenario.token(full);
+        let added = self.selection.add(alloc, &metas, writer, name);
+        Ok(SessionMove::alone(told_of_naming(added)?))
+    }
+
+    /// The component document of what the session selects, by its length and digest.
+    pub(crate) fn document(
+        &mut self,
+        alloc: Global,
+        scenario: &Scenario,
+        metadata: &[Metadata],
+        lane: u32,
+    ) -> Result<SessionMove, OutOfMemory>
+        requires standing { IsStandingIn scenario.now self.old }
+        requires metadata { map meta_of metadata.now ≡ metas_in scenario.now }
+        requires goes { check self.old.requestor.session (runs self.old.coordinator) lane SessionCall.Document ≡ Verdict.Go }
+        ensures gone { IfOk result (IsGoneIn scenario.now self.old self.new lane op.Document) }
+        ensures uncut { IfOk result (λ moved. cuts moved.change ≡ false) }
+        ensures unchanged { OnErr result (self.new ≡ self.old) }
+        ensures leaves { Leaves self.old self.new }
+        ensures clock { self.new.clock ≡ self.old.clock }
+    {
+        let text = self.document_text(alloc, scenario, metadata, lane)?;
+        Ok(SessionMove::alone(told_of(&text)?))
+    }
+
+    /// The component document of what the session selects.
+    fn document_text(
+        &self,
+        alloc: Global,
+        scenario: &Scenario,
+        metadata: &[Metadata],
+        lane: u32,
+    ) -> Result<Text, OutOfMemory>
+        requires standing { IsStandingIn scenario.now self.now }
+        requires metadata { map meta_of metadata.now ≡ metas_in scenario.now }
+        requires goes { check self.now.requestor.session (runs self.now.coordinator) lane SessionCall.Document ≡ Verdict.Go }
+        ensures { IfOk result (λ text. IsDocumentIn scenario.now self.now text.bytes) }
+    {
+        let _facts = scenario.volumes();
+        let _lane = lane;
+        let Some(context) = self.requestor.context() else {
+            // the checks let no document be asked for without a session
+            return Err(OutOfMemory);
+        };
+        let metas = self.metas(alloc, metadata)?;
+        if self.takes_all() {
+            let selection = Selection::all(alloc, &metas)?;
+            return selection.to_json(alloc, &metas, context);
+        }
+        self.selection.to_json(alloc, &metas, context)
+    }
+}
+
+/// What is told of a component that was named, or was not.
+fn told_of_naming(added: Result<(), AddFault>) -> Result<Told, OutOfMemory>
+    ensures told { IfOk result (λ told. told_named added ≡ Some told) }
+    ensures memory { OnErr result (told_named added ≡ None) }
+{
+    match added {
+        Ok(()) => Ok(Told::Ok),
+        Err(AddFault::NotFound) => Ok(Told::Result(VssResult::ObjectNotFound)),
+        Err(AddFault::NotSelectable) => Ok(Told::NotSelectable),
+        Err(AddFault::AlreadyExists) => Ok(Told::Result(VssResult::ObjectAlreadyExists)),
+        Err(AddFault::OutOfMemory) => Err(OutOfMemory),
+    }
+}
+
+/// A document is told by its length and its digest. One of 4 GiB or more, which no scenario has, counts as one that
+/// there is no memory for.
+fn told_of(text: &Text) -> Result<Told, OutOfMemory>
+    ensures { IfOk result (λ told. told ≡ Told.Document (length text.now.bytes) (sha256 text.now.bytes)) }
+{
+    let bytes = text.bytes();
+    if bytes.len() > u32::MAX as usize {
+        return Err(OutOfMemory);
+    }
+    Ok(Told::Document {
+        length: bytes.len() as u32,
+        digest: digest(bytes),
+    })
+}

@@ -1,0 +1,177 @@
+ghost use Rattle.std.specs.Prelude.{◌≡◌, ◌<◌, ◌^◌, ◌-◌, ◌+◌, false, IfOk, OnErr, length};
+ghost use Rattle.coordinator.specs.Coordinator.{runs, writer_count};
+ghost use Rattle.requestor.specs.Check.{check};
+ghost use Rattle.scenario.specs.declared.op.Op.TheVariants as op;
+ghost use Rattle.sessions.specs.Keeps.{IsStanding, Leaves};
+ghost use Rattle.sessions.specs.Moves.{IsClosed, IsGone, IsGoneWith, cuts};
+ghost use Rattle.sessions.specs.Told.{change_at_end, drop_or};
+ghost use Rattle.vss_model.specs.Facts.{has_failed};
+
+use crate::ended::Ended;
+use crate::image_change::ImageChange;
+use crate::session_move::{SessionMove, change_after};
+use crate::sessions::{Sessions, nothing_named};
+use requestor::{SessionCall, Verdict, context_of};
+use std::alloc::Global;
+use vss_model::Told;
+use vss_names::{Context, OutOfMemory, SetOutcome, VssResult};
+
+impl Sessions {
+    /// A session begins, in which nothing is named. The list that is empty takes no memory.
+    pub(crate) fn begin(&mut self, alloc: Global, lane: u32, context: u32, all: bool) -> SessionMove
+        requires goes { check self.old.requestor.session (runs self.old.coordinator) lane (SessionCall.Begin context all) ≡ Verdict.Go }
+        ensures gone { IsGone self.old self.new lane (op.Begin context all) result }
+        ensures uncut { cuts result.change ≡ false }
+        ensures leaves { Leaves self.old self.new }
+        ensures clock { self.new.clock ≡ self.old.clock }
+    {
+        if context_of(context, all).is_none() {
+            return SessionMove::alone(Told::Result(VssResult::UnsupportedContext));
+        }
+        self.requestor
+            .apply(lane, SessionCall::Begin { context, all });
+        self.selection = nothing_named(alloc, self.coordinator.writers());
+        SessionMove::alone(Told::Ok)
+    }
+
+    /// The session's set is started.
+    pub(crate) fn start(&mut self, lane: u32) -> Result<SessionMove, OutOfMemory>
+        requires standing { IsStanding self.old }
+        requires goes { check self.old.requestor.session (runs self.old.coordinator) lane SessionCall.Start ≡ Verdict.Go }
+        requires at_rest { check self.old.requestor.session false lane SessionCall.Start ≡ Verdict.Go }
+        ensures gone { IfOk result (IsGone self.old self.new lane op.Start) }
+        ensures uncut { IfOk result (λ moved. cuts moved.change ≡ false) }
+        ensures unchanged { OnErr result (self.new ≡ self.old) }
+        ensures leaves { Leaves self.old self.new }
+        ensures clock { self.new.clock ≡ self.old.clock }
+    {
+        let number = self.requestor.sets_made() + 1;
+        let Some(context) = self.requestor.context() else {
+            // the checks let no set start without a session
+            return Ok(SessionMove::alone(Told::Result(VssResult::BadState)));
+        };
+        self.sets.start(number, context)?;
+        self.requestor.apply(lane, SessionCall::Start);
+        Ok(SessionMove::alone(Told::Set(number)))
+    }
+
+    /// A volume on which so many images stand joins the set.
+    pub(crate) fn add(&mut self, lane: u32, volume: u32, images: u32) -> SessionMove
+        requires goes { check self.old.requestor.session (runs self.old.coordinator) lane SessionCall.Add ≡ Verdict.Go }
+        ensures gone { IsGoneWith images self.old self.new lane (op.Add volume) result }
+        ensures uncut { cuts result.change ≡ false }
+        ensures leaves { Leaves self.old self.new }
+        ensures clock { self.new.clock ≡ self.old.clock }
+    {
+        let _lane = lane;
+        if let Some(why) = self.sets.refusal(volume, images) {
+            return SessionMove::alone(Told::Result(why));
+        }
+        self.sets.add(volume);
+        SessionMove::alone(Told::Ok)
+    }
+
+    /// What the last agenda, or the failure of the set, came to.
+    pub(crate) fn await_last(&mut self, lane: u32) -> SessionMove
+        requires goes { check self.old.requestor.session (runs self.old.coordinator) lane SessionCall.Await ≡ Verdict.Go }
+        ensures gone { IsGone self.old self.new lane op.Await result }
+        ensures uncut { cuts result.change ≡ false }
+        ensures leaves { Leaves self.old self.new }
+        ensures clock { self.new.clock ≡ self.old.clock }
+    {
+        let _lane = lane;
+        let why = self.requestor.last().unwrap_or(VssResult::BadState);
+        SessionMove::alone(Told::Result(why))
+    }
+
+    /// The writers' rows are shown; they are lent by `rows`.
+    pub(crate) fn status(&mut self, lane: u32) -> SessionMove
+        requires goes { check self.old.requestor.session (runs self.old.coordinator) lane SessionCall.Status ≡ Verdict.Go }
+        ensures gone { IsGone self.old self.new lane op.Status result }
+        ensures uncut { cuts result.change ≡ false }
+        ensures leaves { Leaves self.old self.new }
+        ensures clock { self.new.clock ≡ self.old.clock }
+    {
+        let _lane = lane;
+        SessionMove::alone(Told::Status)
+    }
+
+    /// The class of a writer is disabled until the session ends.
+    pub(crate) fn disable(&mut self, lane: u32, writer: u32) -> SessionMove
+        requires known { writer < writer_count self.old.coordinator }
+        requires goes { check self.old.requestor.session (runs self.old.coordinator) lane SessionCall.Disable ≡ Verdict.Go }
+        ensures gone { IsGone self.old self.new lane (op.Disable writer) result }
+        ensures uncut { cuts result.change ≡ false }
+        ensures leaves { Leaves self.old self.new }
+        ensures clock { self.new.clock ≡ self.old.clock }
+    {
+        let _lane = lane;
+        self.coordinator.disable(writer);
+        SessionMove::alone(Told::Ok)
+    }
+
+    /// The set in progress fails.
+    pub(crate) fn abort(&mut self, lane: u32) -> SessionMove
+        requires goes { check self.old.requestor.session (runs self.old.coordinator) lane SessionCall.Abort ≡ Verdict.Go }
+        ensures gone { IsGone self.old self.new lane op.Abort result }
+        ensures uncut { cuts result.change ≡ false }
+        ensures leaves { Leaves self.old self.new }
+        ensures clock { self.new.clock ≡ self.old.clock }
+    {
+        let _lane = lane;
+        let ended = self.fail_so(VssResult::AsyncCancelled);
+        SessionMove::with(Told::Ok, ended, change_after(ended))
+    }
+
+    /// The session ends. A set in progress fails; of a context whose images go with the session, those of its set go.
+    pub(crate) fn end(&mut self, alloc: Global, lane: u32) -> SessionMove
+        requires goes { check self.old.requestor.session (runs self.old.coordinator) lane SessionCall.End ≡ Verdict.Go }
+        ensures gone { IsGone self.old self.new lane op.End result }
+        ensures uncut { cuts result.change ≡ false }
+        ensures leaves { Leaves self.old self.new }
+        ensures clock { self.new.clock ≡ self.old.clock }
+    {
+        let released = change_at_end(self.requestor.context(), self.requestor.set());
+        let ended = self.fail_so(VssResult::AsyncCancelled);
+        self.close(alloc, lane);
+        SessionMove::with(Told::Ok, ended, drop_or(ended, released))
+    }
+
+    /// The session is over: no writer is disabled any more, and nothing is named.
+    fn close(&mut self, alloc: Global, lane: u32)
+        requires { check self.old.requestor.session false lane SessionCall.End ≡ Verdict.Go }
+        ensures closed { IsClosed self.old self.new }
+        ensures posts { self.new.coordinator.posts ≡ self.old.coordinator.posts }
+        ensures sets { self.new.sets ≡ self.old.sets }
+        ensures writers { self.new.coordinator.writers ≡ self.old.coordinator.writers }
+        ensures count { writer_count self.new.coordinator ≡ writer_count self.old.coordinator }
+        ensures clock { self.new.clock ≡ self.old.clock }
+    {
+        self.requestor.apply(lane, SessionCall::End);
+        self.coordinator.end_session();
+        self.selection = nothing_named(alloc, self.coordinator.writers());
+    }
+}
+
+/// The images that go as the session ends: those of its set, in the context whose images go with the session.
+fn change_at_end(context: Option<Context>, set: Option<u32>) -> ImageChange
+    ensures change { result ≡ change_at_end context set }
+    ensures uncut { cuts result ≡ false }
+{
+    match (context, set) {
+        (Some(Context::Backup), Some(set)) => ImageChange::Drop(set),
+        _ => ImageChange::NoChange,
+    }
+}
+
+/// The images of a set go where it failed, and else those that go as the session ends.
+fn drop_or(ended: Ended, released: ImageChange) -> ImageChange
+    requires { cuts released ≡ false }
+    ensures change { result ≡ drop_or (has_failed ended.result) ended.set released }
+    ensures uncut { cuts result ≡ false }
+{
+    match ended.result {
+        SetOutcome::Failed(_) => ImageChange::Drop(ended.set),
+        SetOutcome::Running | SetOutcome::Complete => released,
+    }
+}
