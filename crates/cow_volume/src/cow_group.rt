@@ -132,6 +132,16 @@ impl<D: Device> CowGroup<D> {
         self.copies.used()
     }
 
+    /// The greatest set whose images a write of the block would make go; 0 where none has to.
+    pub fn goes_up_to(&self, v: u32, block: u32) -> u32
+        requires volume { v < length self.now.area.volumes }
+        requires in_range { block < blocks_at self.now v }
+        ensures { (hs : List History) → StandsFor D.told self.now hs → IsEvicted self.now v block hs result }
+    {
+        let _valid = self.copies.slots();
+        self.copies.goes_up_to(v, block)
+    }
+
     /// An image is cut, the newest of the volume.
     pub fn cut(&mut self, v: u32, set: u32)
         requires volume { v < length self.old.area.volumes }

@@ -1,0 +1,14 @@
+pub mod InGroup
+pub mod Places
+pub mod Becoming
+pub mod Flat
+pub mod Kept
+pub mod Keeping
+pub mod Causes
+pub mod Counted
+pub mod Written
+pub mod GivenBack
+pub mod Shown
+pub mod Looked
+pub mod Dropped
+pub mod DroppedAll
