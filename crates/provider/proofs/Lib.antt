@@ -7,6 +7,11 @@ pub mod Keeping
 pub mod Causes
 pub mod Counted
 pub mod Written
+pub mod Imaged
+pub mod CutAll
+pub mod Refused
+pub mod Stepped
+pub mod Ended
 pub mod GivenBack
 pub mod Shown
 pub mod Looked

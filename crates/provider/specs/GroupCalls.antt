@@ -7,6 +7,9 @@ use Rattle.cow_volume.specs.StandsFor.{StandsFor}
 use Rattle.cow_volume.specs.Calls.{IsKept, IsNow, IsShown, IsUnfailed, IsQuiet, IsChanged, HasCauseAt, HasImageCause, VolumeRose, changed_at, is_among, sets_at}
 use Rattle.cow_volume.specs.Ending.{IsSync}
 use Rattle.cow_volume.specs.declared.image_fault.ImageFault.{ImageFault}
+use Rattle.cow_volume.specs.declared.image_fault.ImageFault.TheVariants.{NoSuchImage as NoImage, NoSuchBlock as NoBlock, Volume as VolumeFailed, Area as AreaFailed}
+use Rattle.provider.specs.declared.image_fault.ImageFault.{ImageFault as ProviderImageFault}
+use Rattle.provider.specs.declared.image_fault.ImageFault.TheVariants as image
 use Rattle.cow_volume.specs.declared.cause.Cause.{Cause}
 use Rattle.cow_volume.specs.declared.cause.Cause.TheVariants.{NoSuchBlock, Volume, Area}
 use Rattle.provider.specs.declared.device_fault.DeviceFault.{DeviceFault}
@@ -38,6 +41,7 @@ pub record IsGroupRead {D : Type 0} (told : D → Option (List (List ℕ))) (siz
 -- likewise as the image of a set shows it
 pub record IsGroupImageRead {D : Type 0} (told : D → Option (List (List ℕ))) (size count : D → ℕ) (lending : D → Bool) (old new : GroupValue D) (u set b : ℕ) (bytes : List ℕ) (result : Result Unit ImageFault) : Type 0 where
   pub shown : OnOk result (IsShown told old u set b bytes)
+  pub image : OnOk result (is_among set (sets_at old u) ≡ true)
   pub same : OnOk result (IsUnfailed count old new)
   pub cause : IfErr result (HasImageCause count u set b old new)
   pub quiet : IsQuiet told size count lending old new
@@ -74,3 +78,10 @@ pub record IsGroupFlush {D : Type 0} (told lasting : D → Option (List (List �
 pub record IsGroupSync {D : Type 0} (told lasting : D → Option (List (List ℕ))) (size count : D → ℕ) (lending : D → Bool) (old new : GroupValue D) (result : Result Unit Cause) : Type 0 where
   pub lasts : OnOk result (lasting new.area.device ≡ told new.area.device)
   pub sync : IsSync told size count lending old new result
+
+-- why an image was not read; a call on a block that the volume has never answers NoSuchBlock
+abbrev pub image_fault_of : ImageFault → ProviderImageFault
+image_fault_of NoImage = image.NoSuchImage
+image_fault_of NoBlock = image.NoSuchImage
+image_fault_of VolumeFailed = image.Device device.Volume
+image_fault_of AreaFailed = image.Device device.Area

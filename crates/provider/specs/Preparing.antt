@@ -4,7 +4,8 @@ use Rattle.std.specs.Prelude.{ℕ, ◌≡◌, ◌<◌, ◌≤◌, Bool, true, fa
 use Rattle.std.specs.declared.alloc.Global.{Global}
 use Rattle.vss_names.specs.declared.vss_result.VssResult.{VssResult}
 use Rattle.vss_names.specs.declared.vss_result.VssResult.TheVariants.{ObjectAlreadyExists, MaximumNumberOfVolumesReached, MaximumNumberOfSnapshotsReached}
-use Rattle.write_history.specs.History.{Image, History}
+use Rattle.write_history.specs.History.{Image, History, cut}
+use Rattle.set_agenda.specs.Course.{change_at}
 use Rattle.set_agenda.specs.declared.group.Group.{Group}
 use Rattle.set_agenda.specs.declared.group.Group.TheVariants.{Orders, PreCommit, Flush, Hold, Cut, Commit, Release, PostCommit}
 use Rattle.set_agenda.specs.Agenda.{is_among}
@@ -13,8 +14,7 @@ use Rattle.vss_model.specs.Steps.{cut_each}
 use Rattle.vss_model.specs.Sessions.{most_volumes, most_images}
 use Rattle.cow_volume.specs.GroupValue.{GroupValue}
 use Rattle.provider.specs.Groups.{AreGroups, IfStandFor, history_at}
-use Rattle.provider.specs.Devices.{devices_of, counts_of, volume_place, RoseAtPlace, AreKept, IsCallOn}
-use Rattle.provider.specs.Calls.{IsQuiet}
+use Rattle.provider.specs.Devices.{devices_of, counts_of, volume_place, RoseAtPlace, AreKept}
 use Rattle.provider.specs.declared.device_fault.DeviceFault.{DeviceFault}
 use Rattle.provider.specs.declared.device_fault.DeviceFault.TheVariants.{Volume, Area}
 
@@ -69,6 +69,26 @@ pub record CanCut {D : Type 0} (told : D → Option (List (List ℕ))) (s : Plan
   pub in_range : All (λ v. v < length s.volumes) volumes
   pub room : All (λ v. length (history_at histories v).images < 512) volumes
   pub newest : All (λ v. All (λ (i : Image). i.set < set) (history_at histories v).images) volumes
+
+-- likewise on one volume
+pub record CanCutOn {D : Type 0} (told : D → Option (List (List ℕ))) (s : Plan) (groups : List (GroupValue D)) (v set : ℕ) : Type 0 where
+  pub histories : List History
+  pub stand : AreGroups told s groups histories
+  pub above_zero : 0 < set
+  pub room : length (history_at histories v).images < 512
+  pub newest : All (λ (i : Image). i.set < set) (history_at histories v).images
+
+-- the image of a set was cut on volume v; the devices are as they were
+pub record IsCutOn {D : Type 0} (told : D → Option (List (List ℕ))) (size count : D → ℕ) (lending : D → Bool) (s : Plan) (old new : List (GroupValue D)) (v set : ℕ) : Type 0 where
+  pub kept : AreKept told size count lending old new
+  pub devices : devices_of new ≡ devices_of old
+  pub stands : IfStandFor told s old (λ hs. AreGroups told s new (change_at v (cut set) hs))
+
+-- the images of a set were cut on these volumes; the devices are as they were
+pub record AreCut {D : Type 0} (told : D → Option (List (List ℕ))) (size count : D → ℕ) (lending : D → Bool) (s : Plan) (old new : List (GroupValue D)) (volumes : List ℕ) (set : ℕ) : Type 0 where
+  pub kept : AreKept told size count lending old new
+  pub devices : devices_of new ≡ devices_of old
+  pub stands : IfStandFor told s old (λ hs. AreGroups told s new (cut_each set volumes 0 hs))
 
 -- ## steps
 

@@ -6,6 +6,7 @@
 //! of the diff area of its group. All memory is taken by `new`.
 #![tactic(auto)]
 
+mod cutting;
 mod device_fault;
 mod dropping;
 mod ending;
@@ -13,10 +14,13 @@ mod image_fault;
 mod looking;
 mod making;
 mod place;
+mod preparing;
 mod provider;
 mod put_result;
 mod reading;
 mod revert_fault;
+mod showing;
+mod stepping;
 mod writing;
 
 pub use device_fault::DeviceFault;

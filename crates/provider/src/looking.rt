@@ -42,11 +42,11 @@ pub(crate) fn images_in<'a, D: Device>(
     images_at(groups, place)
 }
 
-/// Whether a set is among these.
-fn is_among(sets: &[u32], set: u32) -> bool
-    ensures { result ≡ is_among set sets.now }
+/// Whether a number is among these.
+pub(crate) fn is_among(numbers: &[u32], number: u32) -> bool
+    ensures { result ≡ is_among number numbers.now }
 {
-    sets.iter().any(|other| *other == set)
+    numbers.iter().any(|other| *other == number)
 }
 
 /// Whether the image of a set stands on a volume.

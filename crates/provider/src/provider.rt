@@ -1,30 +1,38 @@
-ghost use Rattle.std.specs.Prelude.{◌≡◌, ◌<◌, ◌≤◌, [], length, slice_get, Some, is_some, IfOk, IfErr, IfSome, OnOk};
+ghost use Rattle.std.specs.Prelude.{◌≡◌, ◌<◌, ◌≤◌, [], true, false, length, slice_get, Some, is_some, IfOk, IfErr, IfSome, OnOk};
 ghost use Rattle.block_data.specs.PayloadBytes.{payload_bytes};
 ghost use Rattle.write_history.specs.History.{sets_of};
 ghost use Rattle.write_history.specs.Slots.{used, used_by, group_used};
+ghost use Rattle.set_agenda.specs.Agenda.{is_orders, is_over_volumes};
+ghost use Rattle.set_agenda.specs.declared.group.Group.TheVariants.{Cut, Flush};
 ghost use Rattle.scenario.specs.Bounds.{IsBlock};
-ghost use Rattle.scenario.specs.Plan.{blocks_of, group_of};
-ghost use Rattle.provider.specs.Groups.{AreWhole, HasGroups, IfStandFor, history_at};
-ghost use Rattle.provider.specs.Devices.{devices_of, volume_place, HasCause, fault_of};
-ghost use Rattle.provider.specs.Calls.{AreWithout, GoUpTo, HasImage, IsDropped, IsNow, IsPut, IsQuiet};
+ghost use Rattle.scenario.specs.Plan.{Plan, blocks_of, group_of};
+ghost use Rattle.provider.specs.Groups.{AreGroups, AreWhole, HasGroups, IfStandFor, history_at};
+ghost use Rattle.provider.specs.Devices.{AreKept, devices_of, volume_place, HasCause, fault_of};
+ghost use Rattle.provider.specs.Calls.{AreWithout, GoUpTo, HasImage, HasImageCause, IsDropped, IsNow, IsPut, IsQuiet, IsRevert, IsShown};
+ghost use Rattle.provider.specs.Preparing.{CanCut, HasJoined, HasStepCause, LastsAt, refusal, refused_as, step_taken};
+ghost use Rattle.provider.specs.Ending.{AreLasting, HasSyncCause, IsSynced};
 
 use crate::device_fault::DeviceFault;
 use crate::dropping::{drop_image_in, drop_set_in};
-use crate::ending::list_devices;
+use crate::ending::{list_devices, sync_in};
+use crate::image_fault::ImageFault;
 use crate::looking::{has_image_in, images_in, used_all_in, used_by_in, used_in};
 use crate::making::device_count;
+use crate::preparing::{MOST_VOLUMES, refusal};
 use crate::put_result::PutResult;
 use crate::reading::{lend_in, read_in};
+use crate::revert_fault::RevertFault;
+use crate::showing::{lend_image_in, read_image_in, revert_in};
+use crate::stepping::step_in;
 use crate::writing::{goes_up_to_in, write_in};
 use block_data::{BLOCK, BlockBuf, Payload};
 use cow_volume::CowGroup;
 use scenario::Scenario;
+use set_agenda::Group;
 use std::alloc::Global;
 use std::marker::Model;
 use volume_device::Device;
-
-/// A set has at most so many volumes.
-const MOST_VOLUMES: usize = 64;
+use vss_names::VssResult;
 
 /// Groups of volumes over devices, with the set that is being prepared.
 #[derive(Drop)]
@@ -134,6 +142,45 @@ impl<D: Device> Provider<D> {
         read_in(&mut self.groups, scenario, volume, block, out)
     }
 
+    /// Lends a block as the image of a set shows it, in place. None where the device that has it does not lend. The error is
+    /// NoSuchImage alone.
+    pub fn lend_image(
+        &self,
+        scenario: &Scenario,
+        set: u32,
+        volume: u32,
+        block: u32,
+    ) -> Result<Option<&[u8]>, ImageFault>
+        requires block { IsBlock scenario.now volume block }
+        requires has { HasGroups scenario.now self.now.groups }
+        ensures shown { IfOk result (λ lent. IfSome lent (λ bytes. IsShown D.told scenario.now self.now.groups volume set block bytes.now)) }
+        ensures whole { IfOk result (λ lent. IfSome lent (λ bytes. length bytes.now ≡ BLOCK)) }
+        ensures image { OnOk result (HasImage D.told scenario.now self.now.groups volume set true) }
+        ensures none { IfErr result (λ fault. (fault ≡ ImageFault.NoSuchImage) × HasImage D.told scenario.now self.now.groups volume set false) }
+    {
+        lend_image_in(&self.groups, scenario, set, volume, block)
+    }
+
+    /// Reads a block as the image of a set shows it into `out`, which after a failed read holds any bytes.
+    pub fn read_image_into(
+        &mut self,
+        scenario: &Scenario,
+        set: u32,
+        volume: u32,
+        block: u32,
+        out: &mut [u8],
+    ) -> Result<(), ImageFault>
+        requires block { IsBlock scenario.now volume block }
+        requires has { HasGroups scenario.now self.old.groups }
+        requires whole { length out.old ≡ BLOCK }
+        ensures shown { OnOk result (IsShown D.told scenario.now self.old.groups volume set block out.new) }
+        ensures quiet { IsQuiet D.told D.size D.count D.lending scenario.now self.old.groups self.new.groups volume }
+        ensures cause { HasImageCause D.told D.count scenario.now volume set result self.old.groups self.new.groups }
+        ensures set { self.new ≡ record self.old { groups = self.new.groups } }
+    {
+        read_image_in(&mut self.groups, scenario, set, volume, block, out)
+    }
+
     /// The sets of the images of a volume, the oldest first.
     pub fn images(&self, scenario: &Scenario, volume: u32) -> &[u32]
         requires volume { volume < length scenario.now.volumes }
@@ -198,12 +245,67 @@ impl<D: Device> Provider<D> {
         drop_set_in(&mut self.groups, set)
     }
 
+    /// Brings a volume back to the image of a set, which stays; the newer images of the volume go.
+    pub fn revert(&mut self, scenario: &Scenario, set: u32, volume: u32) -> Result<(), RevertFault>
+        requires volume { volume < length scenario.now.volumes }
+        requires has { HasGroups scenario.now self.old.groups }
+        ensures revert { IsRevert D.told D.size D.count D.lending scenario.now self.old.groups self.new.groups volume set result }
+        ensures set { self.new ≡ record self.old { groups = self.new.groups } }
+    {
+        revert_in(&mut self.groups, scenario, set, volume)
+    }
+
+    /// A volume joins the set. It is refused where it is in the set, where the set has 64 volumes, or where 512 images stand on the
+    /// volume: the first of these that holds.
+    pub fn begin_prepare(&mut self, scenario: &Scenario, volume: u32) -> Result<(), VssResult>
+        requires volume { volume < length scenario.now.volumes }
+        requires has { HasGroups scenario.now self.old.groups }
+        ensures joined { HasJoined self.old self.new volume result }
+        ensures refused { IfStandFor D.told scenario.now self.old.groups (λ hs. refused_as result ≡ refusal volume self.old.volumes (length (history_at hs volume).images)) }
+    {
+        let images = images_in(&self.groups, scenario, volume).len();
+        if let Some(why) = refusal(volume, &self.volumes, images) {
+            return Err(why);
+        }
+        self.volumes.push_reserved(volume);
+        Ok(())
+    }
+
     /// The set has all its volumes, and this number.
     pub fn end_prepare(&mut self, set: u32)
         requires { 0 < set }
         ensures { self.new ≡ record self.old { set = set } }
     {
         self.set = set;
+    }
+
+    /// Makes a step of the provider, of a volume where the group has one for each. In the Cut step the images of the set are cut on all
+    /// its volumes; in a Flush step the volume's device is flushed. Nothing else changes anything.
+    pub fn step(
+        &mut self,
+        scenario: &Scenario,
+        group: Group,
+        volume: Option<u32>,
+    ) -> Result<(), DeviceFault>
+        requires has { HasGroups scenario.now self.old.groups }
+        requires steps { is_orders group ≡ false }
+        requires of_volume { is_some volume ≡ is_over_volumes group }
+        requires in_range { IfSome volume (λ v. v < length scenario.now.volumes) }
+        requires cut { group ≡ Cut → CanCut D.told scenario.now self.old.groups self.old.volumes self.old.set }
+        ensures stands { IfStandFor D.told scenario.now self.old.groups (λ hs. AreGroups D.told scenario.now self.new.groups (step_taken group self.old.set self.old.volumes hs)) }
+        ensures kept { AreKept D.told D.size D.count D.lending self.old.groups self.new.groups }
+        ensures cause { HasStepCause D.count scenario.now group volume result self.old.groups self.new.groups }
+        ensures lasts { group ≡ Flush → OnOk result (IfSome volume (λ v. LastsAt D.told D.lasting (volume_place scenario.now v) (devices_of self.new.groups))) }
+        ensures set { self.new ≡ record self.old { groups = self.new.groups } }
+    {
+        step_in(
+            &mut self.groups,
+            scenario,
+            &self.volumes,
+            self.set,
+            group,
+            volume,
+        )
     }
 
     /// The set is over and leaves nothing: its images go from all volumes. No set is being prepared then. How many images stood.
@@ -229,6 +331,17 @@ impl<D: Device> Provider<D> {
         ensures { result ≡ length self.now.groups }
     {
         self.groups.len() as u32
+    }
+
+    /// Writes the records of a group's copies to its area's device, and brings all that was written to that to where it lasts.
+    pub fn sync(&mut self, group: u32) -> Result<(), DeviceFault>
+        requires { group < length self.old.groups }
+        ensures synced { IsSynced D.told D.size D.count D.lending self.old.groups self.new.groups group }
+        ensures lasting { OnOk result ((s : Plan) → AreLasting D.told D.lasting s self.old.groups self.new.groups group) }
+        ensures cause { (s : Plan) → HasGroups s self.old.groups → HasSyncCause D.count s group result self.old.groups self.new.groups }
+        ensures set { self.new ≡ record self.old { groups = self.new.groups } }
+    {
+        sync_in(&mut self.groups, group)
     }
 
     /// The groups, as they are.
