@@ -273,12 +273,24 @@ impl<D: Device> Copies<D> {
     {
         let _valid = self.volumes();
         let _records = self.slots();
+        let up_to = self.goes_up_to(v, block);
+        if up_to > 0 {
+            self.drop_up_to(up_to);
+        }
+        up_to
+    }
+
+    /// The set up to which images have to go for a write of the block, 0 where none has to.
+    pub(crate) fn goes_up_to(&self, v: u32, block: u32) -> u32
+        requires { v < length self.now.area.volumes }
+        ensures { IsRoomMade self.now.area.records self.now.images v block result }
+    {
+        let _valid = self.volumes();
+        let _records = self.slots();
         if !self.lacks_slot(v, block) {
             return 0;
         }
-        let up_to = self.first_to_free(v);
-        self.drop_up_to(up_to);
-        up_to
+        self.first_to_free(v)
     }
 
     /// The least set up to which images have to go, where all slots are used, before the volume has a slot for a copy or no

@@ -6,7 +6,7 @@ ghost use Rattle.write_history.specs.Slots.{used, used_by, group_used};
 ghost use Rattle.diff_area.specs.Records.{free};
 ghost use Rattle.cow_volume.specs.GroupValue.{placed};
 ghost use Rattle.cow_volume.specs.StandsFor.{StandsFor};
-ghost use Rattle.cow_volume.specs.Calls.{HasCauseAt, HasImageCause, IsNow, IsShown, IsQuiet, IsUnfailed, IsWrite, IsDropped, IsRevert, IsEvicted, VolumeRose, made_room, history_at, changed_at, sets_at, blocks_at};
+ghost use Rattle.cow_volume.specs.Calls.{HasCauseAt, HasImageCause, IsNow, IsShown, IsQuiet, IsUnfailed, IsWrite, IsDropped, IsRevert, IsEvicted, VolumeRose, made_room, history_at, changed_at, is_among, sets_at, blocks_at};
 ghost use Rattle.cow_volume.specs.Parts.{IsLentBy, IsUnseen};
 ghost use Rattle.cow_volume.specs.Ending.{IsSync};
 ghost use Rattle.cow_volume.specs.Room.{lacks_copy, lacks_slot, is_full, gone_group};
@@ -132,6 +132,16 @@ impl<D: Device> CowGroup<D> {
         self.copies.used()
     }
 
+    /// The greatest set whose images a write of the block would make go; 0 where none has to.
+    pub fn goes_up_to(&self, v: u32, block: u32) -> u32
+        requires volume { v < length self.now.area.volumes }
+        requires in_range { block < blocks_at self.now v }
+        ensures { (hs : List History) → StandsFor D.told self.now hs → IsEvicted self.now v block hs result }
+    {
+        let _valid = self.copies.slots();
+        self.copies.goes_up_to(v, block)
+    }
+
     /// An image is cut, the newest of the volume.
     pub fn cut(&mut self, v: u32, set: u32)
         requires volume { v < length self.old.area.volumes }
@@ -169,6 +179,7 @@ impl<D: Device> CowGroup<D> {
         requires volume { v < length self.old.area.volumes }
         requires whole { length out.old ≡ BLOCK }
         ensures shown { OnOk result (IsShown D.told self.old v set block out.new) }
+        ensures image { OnOk result (is_among set (sets_at self.old v) ≡ true) }
         ensures same { OnOk result (IsUnfailed D.count self.old self.new) }
         ensures cause { IfErr result (HasImageCause D.count v set block self.old self.new) }
         ensures quiet { IsQuiet D.told D.size D.count D.lending self.old self.new }
@@ -192,6 +203,7 @@ impl<D: Device> CowGroup<D> {
         requires { v < length self.now.area.volumes }
         ensures shown { IfOk result (λ lent. IfSome lent (λ bytes. IsShown D.told self.now v set block bytes.now)) }
         ensures whole { IfOk result (λ lent. IfSome lent (λ bytes. length bytes.now ≡ BLOCK)) }
+        ensures image { OnOk result (is_among set (sets_at self.now v) ≡ true) }
         ensures lends { IfOk result (λ lent. IsLentBy D.lending self.now v set block (is_some lent)) }
         ensures unseen { IfErr result (IsUnseen (sets_at self.now v) (blocks_at self.now v) set block) }
     {

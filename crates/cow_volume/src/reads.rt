@@ -85,6 +85,7 @@ pub(crate) fn read_shown<D: Device>(
     requires whole { length out.old ≡ BLOCK }
     ensures cause { IfErr result (HasImageCause D.count v set block (group_of devices.old.items copies.old) (group_of devices.new.items copies.new)) }
     ensures shown { OnOk result (IsShown D.told (group_of devices.old.items copies.old) v set block out.new) }
+    ensures image { OnOk result (is_among set (images_on copies.old v) ≡ true) }
     ensures same { OnOk result (IsUnfailed D.count (group_of devices.old.items copies.old) (group_of devices.new.items copies.new)) }
     ensures quiet { IsQuiet D.told D.size D.count D.lending (group_of devices.old.items copies.old) (group_of devices.new.items copies.new) }
 {
@@ -130,6 +131,7 @@ pub(crate) fn lend_shown<'a, D: Device>(
     requires devices { map D.size devices.now.items ≡ copies.now.area.volumes }
     ensures shown { IfOk result (λ lent. IfSome lent (λ bytes. IsShown D.told (group_of devices.now.items copies.now) v set block bytes.now)) }
     ensures whole { IfOk result (λ lent. IfSome lent (λ bytes. length bytes.now ≡ BLOCK)) }
+    ensures image { OnOk result (is_among set (images_on copies.now v) ≡ true) }
     ensures lends { IfOk result (λ lent. IsLentBy D.lending (group_of devices.now.items copies.now) v set block (is_some lent)) }
     ensures unseen { IfErr result (IsUnseen (images_on copies.now v) (blocks_on copies.now v) set block) }
 {

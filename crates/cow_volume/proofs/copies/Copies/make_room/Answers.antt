@@ -1,22 +1,9 @@
-use Rattle.std.proofs.Common.{◌≡◌, ◌∙◌, sym, true}
-use Rattle.cow_volume.specs.CopiesAfter.{images_on}
-use Rattle.cow_volume.specs.Room.{lacks_slot, lacks_copy, is_full}
-use Rattle.cow_volume.proofs.Merging.{and_left}
-use Rattle.cow_volume.proofs.Ties.{lacks_some}
-use Rattle.cow_volume.proofs.MakingRoom.{gone_nothing, room_there, room_made_by}
+use Rattle.std.proofs.Common.{◌≡◌, ℕ, arith, subst}
+use Rattle.cow_volume.specs.CopiesAfter.{after_gone}
+use Rattle.cow_volume.proofs.MakingRoom.{gone_nothing}
 use Rattle.cow_volume.proofs.copies.Copies.make_room.Goals as goal
 
-pub returns-then-not-lacks_slot-clause-gone : goal.returns-then-not-lacks_slot-clause-gone
-returns-then-not-lacks_slot-clause-gone g c = gone_nothing c.args.self.now c.slots-records.ensures.valid c.volumes-valid.ensures.of_images
-
-pub returns-then-not-lacks_slot-clause-room : goal.returns-then-not-lacks_slot-clause-room
-returns-then-not-lacks_slot-clause-room g c = room_there c.args.self.now c.args.v c.args.block c.slots-records.ensures.valid c.volumes-valid.ensures.of_images (sym c.lacks_slot.ensures ∙ c.if-not-lacks_slot.true)
-
-pub first_to_free-up_to-requires-clause-some : goal.first_to_free-up_to-requires-clause-some
-first_to_free-up_to-requires-clause-some g c =
-    let now = c.args.self.now in
-    let lacks : lacks_slot now.area.records c.args.v (images_on now c.args.v) c.args.block ≡ true = sym c.lacks_slot.ensures ∙ c.if-not-lacks_slot.false in
-    lacks_some now.area.records c.args.v (images_on now c.args.v) c.args.block (and_left (lacks_copy now.area.records c.args.v (images_on now c.args.v) c.args.block) (is_full now.area.records) lacks)
-
-pub returns-clause-room : goal.returns-clause-room
-returns-clause-room g c = room_made_by c.args.self.now c.args.v c.args.block c.first_to_free-up_to.result c.slots-records.ensures.valid c.volumes-valid.ensures.images c.volumes-valid.ensures.of_images c.requires (sym c.lacks_slot.ensures ∙ c.if-not-lacks_slot.false) c.first_to_free-up_to.ensures
+pub returns-else-up_to-gt0-clause-gone : goal.returns-else-up_to-gt0-clause-gone
+returns-else-up_to-gt0-clause-gone g c =
+    let none : 0 ≡ c.goes_up_to-up_to.result = omega arith in
+    subst (λ (n : ℕ). c.args.self.now ≡ after_gone c.args.self.now n) none (gone_nothing c.args.self.now c.slots-records.ensures.valid c.volumes-valid.ensures.of_images)

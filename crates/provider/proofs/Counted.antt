@@ -1,0 +1,61 @@
+-- Counting the devices of groups.
+use Rattle.std.proofs.Common.{◌≡◌, ℕ, zero, suc, ◌+◌, ◌<◌, ◌≤◌, ◌*◌, List, [], ◌∷◌, ◌++◌, length, take, refl, ap, sym, ◌∙◌, subst, arith, Option, Some, slice_get, ◌==◌, Bool, true, false}
+use Rattle.std.proofs.Math.Seq.{take-length}
+use Rattle.std.proofs.lemmas.Option.{slice_get_within}
+use Rattle.std.proofs.lemmas.Bool.Decides.{nat_tests}
+use Rattle.std.proofs.lemmas.List.{length-append}
+use Rattle.cow_volume.specs.GroupValue.{GroupValue}
+use Rattle.cow_volume.proofs.Reverting.{take_next}
+use Rattle.provider.specs.Groups.{AreWhole}
+use Rattle.provider.specs.Devices.{devices_of}
+use Rattle.provider.proofs.Places.{number_is}
+
+devices_more : {D : Type 0} (groups : List (GroupValue D)) (x : GroupValue D) → length (devices_of (groups ++ x ∷ [])) ≡ length (devices_of groups) + (length x.devices + 1)
+devices_more [] x = let e = length-append x.devices (x.area.device ∷ []) in omega (arith, e)
+devices_more (y ∷ groups) x =
+    let rest = devices_more groups x in
+    let long = length-append y.devices (y.area.device ∷ devices_of (groups ++ x ∷ [])) in
+    let before = length-append y.devices (y.area.device ∷ devices_of groups) in
+    omega (arith, rest, long, before)
+
+-- the groups so far have so many devices
+pub record AreCounted {D : Type 0} (groups : List (GroupValue D)) (i count : ℕ) : Type 0 where
+  pub count_is : count ≡ length (devices_of (take i groups))
+  pub most : count ≤ i * 4294967296
+  pub whole : (k : ℕ) (x : GroupValue D) → k < i → slice_get groups k ≡ Some x → length x.devices ≡ length x.area.volumes
+
+pub counted_none : {D : Type 0} (groups : List (GroupValue D)) → AreCounted groups 0 0
+counted_none groups = record { count_is = refl; most = omega arith; whole = λ k x low at. absurd (omega arith) }
+
+pub counted_more : {D : Type 0} (groups : List (GroupValue D)) (i count volumes : ℕ) (x : GroupValue D) → slice_get groups i ≡ Some x → volumes ≡ length x.area.volumes → length x.devices ≡ length x.area.volumes → volumes < 4294967296
+    → AreCounted groups i count → AreCounted groups (i + 1) (count + (volumes + 1))
+counted_more {D = D} groups i count volumes x at many whole few c =
+    let next = take_next groups i x at in
+    let more = devices_more (take i groups) x in
+    let so_far = c.count_is in
+    let most = c.most in
+    record {
+      count_is = omega (arith, so_far, many, whole, more) ∙ sym (ap (λ (xs : List (GroupValue D)). length (devices_of xs)) next);
+      most = omega arith;
+      whole = λ k y low there. by_test k y low there (k == i) refl;
+    }
+  where
+    by_test : (k : ℕ) (y : GroupValue D) → k < i + 1 → slice_get groups k ≡ Some y → (t : Bool) → (k == i) ≡ t → length y.devices ≡ length y.area.volumes
+    by_test k y low there true e =
+        let same = number_is k i e in
+        let one : Some x ≡ Some y = sym at ∙ ap (slice_get groups) (sym same) ∙ there in
+        let is : x ≡ y = cc in
+        subst (λ (z : GroupValue D). length z.devices ≡ length z.area.volumes) is whole
+    by_test k y low there false e =
+        let less : k < i = below k i low e in
+        c.whole k y less there
+      where
+        below : (k i : ℕ) → k < i + 1 → (k == i) ≡ false → k < i
+        below k i low e = grind (arith, nat_tests)
+
+-- all of them
+pub counted_all : {D : Type 0} (groups : List (GroupValue D)) (i count : ℕ) → i ≡ length groups → AreCounted groups i count → (count ≡ length (devices_of groups)) × AreWhole groups
+counted_all groups i count long c = (
+  c.count_is ∙ ap (λ (xs : List (GroupValue _)). length (devices_of xs)) (ap (λ (n : ℕ). take n groups) long ∙ take-length groups),
+  λ g x at. let within = slice_get_within groups g x at in c.whole g x (omega (arith, within, long)) at,
+)

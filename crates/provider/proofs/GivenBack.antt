@@ -1,0 +1,75 @@
+-- Devices go into a list one by one, and groups one by one.
+use Rattle.std.proofs.Common.{◌≡◌, ℕ, zero, suc, ◌+◌, ◌<◌, ◌≤◌, List, [], ◌∷◌, ◌++◌, length, refl, ap, sym, ◌∙◌, subst, arith, append_assoc}
+use Rattle.std.proofs.lemmas.List.{length-append}
+use Rattle.cow_volume.specs.GroupValue.{GroupValue}
+use Rattle.provider.specs.Devices.{devices_of}
+
+pub append_nil : {X : Type 0} (xs : List X) → xs ++ [] ≡ xs
+append_nil [] = refl
+append_nil (x ∷ xs) = ap (λ ys. x ∷ ys) (append_nil xs)
+
+-- what is listed and what is left are what there was, and there is room for all and for one more
+pub record IsMoving {X : Type 0} (first all list rest : List X) (before room : ℕ) : Type 0 where
+  pub kept : list ++ rest ≡ first ++ all
+  pub enough : length first + length all + 1 ≤ room
+  pub later : before ≤ room
+
+pub moving_first : {X : Type 0} (first all : List X) (room : ℕ) → length first + (length all + 1) ≤ room → IsMoving first all first all room room
+moving_first first all room enough = record { kept = refl; enough = omega arith; later = omega arith }
+
+pub moving_room : {X : Type 0} (first all list rest less : List X) (x : X) (before room : ℕ) → rest ≡ x ∷ less → IsMoving first all list rest before room → length list < room
+moving_room first all list rest less x before room next m =
+    let a = length-append list rest in
+    let b = length-append first all in
+    let c = ap length m.kept in
+    let d = ap length next in
+    let e = m.enough in
+    omega (arith, a, b, c, d, e)
+
+pub moving_one : {X : Type 0} (first all list rest less : List X) (x : X) (before room : ℕ) → rest ≡ x ∷ less → IsMoving first all list rest before room → IsMoving first all (list ++ x ∷ []) less before room
+moving_one first all list rest less x before room next m = record {
+  kept = append_assoc list (x ∷ []) less ∙ ap (λ xs. list ++ xs) (sym next) ∙ m.kept;
+  enough = m.enough;
+  later = m.later;
+}
+
+pub moving_all : {X : Type 0} (first all list rest : List X) (before room : ℕ) → rest ≡ [] → IsMoving first all list rest before room → list ≡ first ++ all
+moving_all first all list rest before room done m = sym (append_nil list) ∙ ap (λ xs. list ++ xs) (sym done) ∙ m.kept
+
+pub last_room : {X : Type 0} (first all list rest : List X) (before room : ℕ) → rest ≡ [] → IsMoving first all list rest before room → length list < room
+last_room first all list rest before room done m =
+    let a = ap length (moving_all first all list rest before room done m) in
+    let b = length-append first all in
+    let e = m.enough in
+    omega (arith, a, b, e)
+
+-- ## groups
+
+-- the devices that are listed and those of the groups that are left are all, and there is room for them
+pub record AreMoving {D : Type 0} (all rest : List (GroupValue D)) (list : List D) (room : ℕ) : Type 0 where
+  pub kept : list ++ devices_of rest ≡ devices_of all
+  pub enough : length (devices_of all) ≤ room
+
+devices_split : {D : Type 0} (x : GroupValue D) (rest : List (GroupValue D)) → devices_of (x ∷ []) ++ devices_of rest ≡ devices_of (x ∷ rest)
+devices_split x rest = append_assoc x.devices (x.area.device ∷ []) (devices_of rest)
+
+pub groups_room : {D : Type 0} (all rest less : List (GroupValue D)) (x : GroupValue D) (list : List D) (room : ℕ) → rest ≡ x ∷ less → AreMoving all rest list room → length list + length (devices_of (x ∷ [])) ≤ room
+groups_room all rest less x list room next m =
+    let a = length-append list (devices_of rest) in
+    let b = ap length m.kept in
+    let c = ap (λ (xs : List (GroupValue _)). length (devices_of xs)) next in
+    let d = ap length (devices_split x less) in
+    let e = length-append (devices_of (x ∷ [])) (devices_of less) in
+    let f = m.enough in
+    omega (arith, a, b, c, d, e, f)
+
+pub groups_one : {D : Type 0} (all rest less : List (GroupValue D)) (x : GroupValue D) (list new : List D) (room more : ℕ) → rest ≡ x ∷ less → AreMoving all rest list room → new ≡ list ++ devices_of (x ∷ []) → room ≤ more → AreMoving all less new more
+groups_one {D = D} all rest less x list new room more next m is up =
+    let f = m.enough in
+    record {
+      kept = ap (λ (xs : List D). xs ++ devices_of less) is ∙ append_assoc list (devices_of (x ∷ [])) (devices_of less) ∙ ap (λ (xs : List D). list ++ xs) (devices_split x less) ∙ ap (λ (xs : List (GroupValue D)). list ++ devices_of xs) (sym next) ∙ m.kept;
+      enough = omega (arith, f, up);
+    }
+
+pub groups_all : {D : Type 0} (all rest : List (GroupValue D)) (list : List D) (room : ℕ) → rest ≡ [] → AreMoving all rest list room → list ≡ devices_of all
+groups_all {D = D} all rest list room done m = sym (append_nil list) ∙ ap (λ (xs : List (GroupValue D)). list ++ devices_of xs) (sym done) ∙ m.kept

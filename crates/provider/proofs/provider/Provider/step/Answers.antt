@@ -1,0 +1,6 @@
+use Rattle.provider.proofs.Keeping.{provider_kept}
+use Rattle.provider.proofs.provider.Provider.step.Goals as goal
+
+pub invariant_of-self : goal.invariant_of-self
+invariant_of-self g c =
+    provider_kept g.D.Device.told g.D.Device.size g.D.Device.count g.D.Device.lending c.self.inside.groups.items c.step_in.new.groups.items c.self.inside.volumes c.self.inside.list c.step_in.ensures.kept c.self.invariant

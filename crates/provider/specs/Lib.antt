@@ -1,0 +1,6 @@
+pub mod Groups
+pub mod Devices
+pub mod Calls
+pub mod Preparing
+pub mod Ending
+pub mod GroupCalls

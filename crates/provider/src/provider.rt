@@ -1,0 +1,361 @@
+ghost use Rattle.std.specs.Prelude.{◌≡◌, ◌<◌, ◌≤◌, [], true, false, length, slice_get, Some, is_some, IfOk, IfErr, IfSome, OnOk};
+ghost use Rattle.block_data.specs.PayloadBytes.{payload_bytes};
+ghost use Rattle.write_history.specs.History.{sets_of};
+ghost use Rattle.write_history.specs.Slots.{used, used_by, group_used};
+ghost use Rattle.set_agenda.specs.Agenda.{is_orders, is_over_volumes};
+ghost use Rattle.set_agenda.specs.declared.group.Group.TheVariants.{Cut, Flush};
+ghost use Rattle.scenario.specs.Bounds.{IsBlock};
+ghost use Rattle.scenario.specs.Plan.{Plan, blocks_of, group_of};
+ghost use Rattle.provider.specs.Groups.{AreGroups, AreWhole, HasGroups, IfStandFor, history_at};
+ghost use Rattle.provider.specs.Devices.{AreKept, devices_of, volume_place, HasCause, fault_of};
+ghost use Rattle.provider.specs.Calls.{AreWithout, GoUpTo, HasImage, HasImageCause, IsDropped, IsNow, IsPut, IsQuiet, IsRevert, IsShown};
+ghost use Rattle.provider.specs.Preparing.{CanCut, HasJoined, HasStepCause, LastsAt, refusal, refused_as, step_taken};
+ghost use Rattle.provider.specs.Ending.{AreLasting, HasSyncCause, IsSynced};
+
+use crate::device_fault::DeviceFault;
+use crate::dropping::{drop_image_in, drop_set_in};
+use crate::ending::{list_devices, sync_in};
+use crate::image_fault::ImageFault;
+use crate::looking::{has_image_in, images_in, used_all_in, used_by_in, used_in};
+use crate::making::device_count;
+use crate::preparing::{MOST_VOLUMES, refusal};
+use crate::put_result::PutResult;
+use crate::reading::{lend_in, read_in};
+use crate::revert_fault::RevertFault;
+use crate::showing::{lend_image_in, read_image_in, revert_in};
+use crate::stepping::step_in;
+use crate::writing::{goes_up_to_in, write_in};
+use block_data::{BLOCK, BlockBuf, Payload};
+use cow_volume::CowGroup;
+use scenario::Scenario;
+use set_agenda::Group;
+use std::alloc::Global;
+use std::marker::Model;
+use volume_device::Device;
+use vss_names::VssResult;
+
+/// Groups of volumes over devices, with the set that is being prepared.
+#[derive(Drop)]
+pub struct Provider<D: Device> {
+    groups: Vec<CowGroup<D>>,
+    /// 0 until it is known.
+    set: u32,
+    /// In order of `add`.
+    volumes: Vec<u32>,
+    /// The list in which the devices go back; empty until then.
+    list: Vec<D>,
+    /// A block of a device that does not lend.
+    block: BlockBuf,
+}
+
+impl<D: Device> Model for Provider<D> {
+    ghost use Rattle.provider.specs.Preparing.{ProviderValue, IsProvider};
+
+    ghost Value = { ProviderValue D };
+
+    ghost view = { λ p. record { groups = p.groups.items; set = p.set; volumes = p.volumes.items } };
+
+    ghost invariant = { λ p. IsProvider p.groups.items p.volumes p.list };
+}
+
+impl<D: Device> Provider<D> {
+    /// A provider over groups, in their order. It takes all memory that is needed later. Where memory is refused the groups are
+    /// given back as they are.
+    pub fn new(alloc: Global, groups: Vec<CowGroup<D>>) -> Result<Provider<D>, Vec<CowGroup<D>>>
+        requires { length groups.items < 4294967296 }
+        ensures made { IfOk result (λ made. made ≡ record { groups = groups.items; set = 0; volumes = [] }) }
+        ensures whole { IfOk result (λ made. AreWhole made.groups) }
+        ensures refused { IfErr result (λ given. given.items ≡ groups.items) }
+    {
+        let count = device_count(&groups);
+        let Ok(volumes) = Vec::with_capacity(alloc, MOST_VOLUMES) else {
+            return Err(groups);
+        };
+        let Ok(list) = Vec::with_capacity(alloc, count) else {
+            return Err(groups);
+        };
+        let Ok(block) = BlockBuf::zeroed(alloc) else {
+            return Err(groups);
+        };
+        Ok(Provider {
+            groups,
+            set: 0,
+            volumes,
+            list,
+            block,
+        })
+    }
+    /// The greatest set whose images would go from the volume's group for a write of the block; 0 where none has to. Images are of
+    /// sets above 0, so nothing goes up to 0.
+    pub fn goes_up_to(&self, scenario: &Scenario, volume: u32, block: u32) -> u32
+        requires block { IsBlock scenario.now volume block }
+        requires has { HasGroups scenario.now self.now.groups }
+        ensures { IfStandFor D.told scenario.now self.now.groups (GoUpTo scenario.now volume block result) }
+    {
+        goes_up_to_in(&self.groups, scenario, volume, block)
+    }
+
+    /// Writes a block. Where its old bytes need a slot for a copy and none is free, images go first, those of the group's least set
+    /// together, until one is.
+    pub fn write(
+        &mut self,
+        scenario: &Scenario,
+        volume: u32,
+        block: u32,
+        payload: &Payload,
+    ) -> PutResult
+        requires block { IsBlock scenario.now volume block }
+        requires has { HasGroups scenario.now self.old.groups }
+        ensures put { IsPut D.told D.size D.count D.lending scenario.now self.old.groups self.new.groups volume (record { block = block; bytes = payload_bytes payload.now }) result }
+        ensures set { self.new ≡ record self.old { groups = self.new.groups } }
+    {
+        write_in(&mut self.groups, scenario, volume, block, payload)
+    }
+
+    /// Lends a block of a volume as it is, in place. None where the volume's device does not lend.
+    pub fn lend_block(&self, scenario: &Scenario, volume: u32, block: u32) -> Option<&[u8]>
+        requires block { IsBlock scenario.now volume block }
+        requires has { HasGroups scenario.now self.now.groups }
+        ensures now { IfSome result (λ bytes. IsNow D.told scenario.now self.now.groups volume block bytes.now) }
+        ensures whole { IfSome result (λ bytes. length bytes.now ≡ BLOCK) }
+        ensures lends { (d : D) → slice_get (devices_of self.now.groups) (volume_place scenario.now volume) ≡ Some d → is_some result ≡ D.lending d }
+    {
+        lend_in(&self.groups, scenario, volume, block)
+    }
+
+    /// Reads a block of a volume as it is into `out`, which after a failed read holds any bytes.
+    pub fn read_into(
+        &mut self,
+        scenario: &Scenario,
+        volume: u32,
+        block: u32,
+        out: &mut [u8],
+    ) -> Result<(), DeviceFault>
+        requires block { IsBlock scenario.now volume block }
+        requires has { HasGroups scenario.now self.old.groups }
+        requires whole { length out.old ≡ BLOCK }
+        ensures now { OnOk result (IsNow D.told scenario.now self.old.groups volume block out.new) }
+        ensures quiet { IsQuiet D.told D.size D.count D.lending scenario.now self.old.groups self.new.groups volume }
+        ensures cause { HasCause D.count scenario.now volume (fault_of result) self.old.groups self.new.groups }
+        ensures set { self.new ≡ record self.old { groups = self.new.groups } }
+    {
+        read_in(&mut self.groups, scenario, volume, block, out)
+    }
+
+    /// Lends a block as the image of a set shows it, in place. None where the device that has it does not lend. The error is
+    /// NoSuchImage alone.
+    pub fn lend_image(
+        &self,
+        scenario: &Scenario,
+        set: u32,
+        volume: u32,
+        block: u32,
+    ) -> Result<Option<&[u8]>, ImageFault>
+        requires block { IsBlock scenario.now volume block }
+        requires has { HasGroups scenario.now self.now.groups }
+        ensures shown { IfOk result (λ lent. IfSome lent (λ bytes. IsShown D.told scenario.now self.now.groups volume set block bytes.now)) }
+        ensures whole { IfOk result (λ lent. IfSome lent (λ bytes. length bytes.now ≡ BLOCK)) }
+        ensures image { OnOk result (HasImage D.told scenario.now self.now.groups volume set true) }
+        ensures none { IfErr result (λ fault. (fault ≡ ImageFault.NoSuchImage) × HasImage D.told scenario.now self.now.groups volume set false) }
+    {
+        lend_image_in(&self.groups, scenario, set, volume, block)
+    }
+
+    /// Reads a block as the image of a set shows it into `out`, which after a failed read holds any bytes.
+    pub fn read_image_into(
+        &mut self,
+        scenario: &Scenario,
+        set: u32,
+        volume: u32,
+        block: u32,
+        out: &mut [u8],
+    ) -> Result<(), ImageFault>
+        requires block { IsBlock scenario.now volume block }
+        requires has { HasGroups scenario.now self.old.groups }
+        requires whole { length out.old ≡ BLOCK }
+        ensures shown { OnOk result (IsShown D.told scenario.now self.old.groups volume set block out.new) }
+        ensures quiet { IsQuiet D.told D.size D.count D.lending scenario.now self.old.groups self.new.groups volume }
+        ensures cause { HasImageCause D.told D.count scenario.now volume set result self.old.groups self.new.groups }
+        ensures set { self.new ≡ record self.old { groups = self.new.groups } }
+    {
+        read_image_in(&mut self.groups, scenario, set, volume, block, out)
+    }
+
+    /// The sets of the images of a volume, the oldest first.
+    pub fn images(&self, scenario: &Scenario, volume: u32) -> &[u32]
+        requires volume { volume < length scenario.now.volumes }
+        requires has { HasGroups scenario.now self.now.groups }
+        ensures sets { IfStandFor D.told scenario.now self.now.groups (λ hs. result.now ≡ sets_of (history_at hs volume).images) }
+        ensures few { length result.now ≤ 512 }
+    {
+        images_in(&self.groups, scenario, volume)
+    }
+
+    /// Whether the image of a set stands on a volume.
+    pub fn has_image(&self, scenario: &Scenario, set: u32, volume: u32) -> bool
+        requires volume { volume < length scenario.now.volumes }
+        requires has { HasGroups scenario.now self.now.groups }
+        ensures { HasImage D.told scenario.now self.now.groups volume set result }
+    {
+        has_image_in(&self.groups, scenario, set, volume)
+    }
+
+    /// How many slots the images of a volume use.
+    pub fn used(&self, scenario: &Scenario, volume: u32) -> u32
+        requires volume { volume < length scenario.now.volumes }
+        requires has { HasGroups scenario.now self.now.groups }
+        ensures { IfStandFor D.told scenario.now self.now.groups (λ hs. result ≡ used (blocks_of scenario.now volume) (history_at hs volume).writes (history_at hs volume).images) }
+    {
+        used_in(&self.groups, scenario, volume)
+    }
+
+    /// How many slots the image of a set on a volume uses; None where no such image stands.
+    pub fn used_by(&self, scenario: &Scenario, set: u32, volume: u32) -> Option<u32>
+        requires volume { volume < length scenario.now.volumes }
+        requires has { HasGroups scenario.now self.now.groups }
+        ensures { IfStandFor D.told scenario.now self.now.groups (λ hs. result ≡ used_by (blocks_of scenario.now volume) (history_at hs volume).writes (history_at hs volume).images set) }
+    {
+        used_by_in(&self.groups, scenario, set, volume)
+    }
+
+    /// How many slots the images of a volume's whole group use.
+    pub fn used_all(&self, scenario: &Scenario, volume: u32) -> u32
+        requires volume { volume < length scenario.now.volumes }
+        requires has { HasGroups scenario.now self.now.groups }
+        ensures { IfStandFor D.told scenario.now self.now.groups (λ hs. result ≡ group_used (group_of scenario.now volume) hs) }
+    {
+        used_all_in(&self.groups, scenario, volume)
+    }
+
+    /// The image of a set goes from a volume; its copies go to the next older image, where that lacks them. Whether it stood.
+    pub fn drop_image(&mut self, scenario: &Scenario, set: u32, volume: u32) -> bool
+        requires volume { volume < length scenario.now.volumes }
+        requires has { HasGroups scenario.now self.old.groups }
+        ensures dropped { IsDropped D.told D.size D.count D.lending scenario.now self.old.groups self.new.groups volume set result }
+        ensures set { self.new ≡ record self.old { groups = self.new.groups } }
+    {
+        drop_image_in(&mut self.groups, scenario, set, volume)
+    }
+
+    /// The images of a set go from all volumes. How many stood.
+    pub fn drop_set(&mut self, set: u32) -> usize
+        ensures without { AreWithout D.told D.size D.count D.lending self.old.groups self.new.groups set result }
+        ensures set { self.new ≡ record self.old { groups = self.new.groups } }
+    {
+        drop_set_in(&mut self.groups, set)
+    }
+
+    /// Brings a volume back to the image of a set, which stays; the newer images of the volume go.
+    pub fn revert(&mut self, scenario: &Scenario, set: u32, volume: u32) -> Result<(), RevertFault>
+        requires volume { volume < length scenario.now.volumes }
+        requires has { HasGroups scenario.now self.old.groups }
+        ensures revert { IsRevert D.told D.size D.count D.lending scenario.now self.old.groups self.new.groups volume set result }
+        ensures set { self.new ≡ record self.old { groups = self.new.groups } }
+    {
+        revert_in(&mut self.groups, scenario, set, volume)
+    }
+
+    /// A volume joins the set. It is refused where it is in the set, where the set has 64 volumes, or where 512 images stand on the
+    /// volume: the first of these that holds.
+    pub fn begin_prepare(&mut self, scenario: &Scenario, volume: u32) -> Result<(), VssResult>
+        requires volume { volume < length scenario.now.volumes }
+        requires has { HasGroups scenario.now self.old.groups }
+        ensures joined { HasJoined self.old self.new volume result }
+        ensures refused { IfStandFor D.told scenario.now self.old.groups (λ hs. refused_as result ≡ refusal volume self.old.volumes (length (history_at hs volume).images)) }
+    {
+        let images = images_in(&self.groups, scenario, volume).len();
+        if let Some(why) = refusal(volume, &self.volumes, images) {
+            return Err(why);
+        }
+        self.volumes.push_reserved(volume);
+        Ok(())
+    }
+
+    /// The set has all its volumes, and this number.
+    pub fn end_prepare(&mut self, set: u32)
+        requires { 0 < set }
+        ensures { self.new ≡ record self.old { set = set } }
+    {
+        self.set = set;
+    }
+
+    /// Makes a step of the provider, of a volume where the group has one for each. In the Cut step the images of the set are cut on all
+    /// its volumes; in a Flush step the volume's device is flushed. Nothing else changes anything.
+    pub fn step(
+        &mut self,
+        scenario: &Scenario,
+        group: Group,
+        volume: Option<u32>,
+    ) -> Result<(), DeviceFault>
+        requires has { HasGroups scenario.now self.old.groups }
+        requires steps { is_orders group ≡ false }
+        requires of_volume { is_some volume ≡ is_over_volumes group }
+        requires in_range { IfSome volume (λ v. v < length scenario.now.volumes) }
+        requires cut { group ≡ Cut → CanCut D.told scenario.now self.old.groups self.old.volumes self.old.set }
+        ensures stands { IfStandFor D.told scenario.now self.old.groups (λ hs. AreGroups D.told scenario.now self.new.groups (step_taken group self.old.set self.old.volumes hs)) }
+        ensures kept { AreKept D.told D.size D.count D.lending self.old.groups self.new.groups }
+        ensures cause { HasStepCause D.count scenario.now group volume result self.old.groups self.new.groups }
+        ensures lasts { group ≡ Flush → OnOk result (IfSome volume (λ v. LastsAt D.told D.lasting (volume_place scenario.now v) (devices_of self.new.groups))) }
+        ensures set { self.new ≡ record self.old { groups = self.new.groups } }
+    {
+        step_in(
+            &mut self.groups,
+            scenario,
+            &self.volumes,
+            self.set,
+            group,
+            volume,
+        )
+    }
+
+    /// The set is over and leaves nothing: its images go from all volumes. No set is being prepared then. How many images stood.
+    pub fn abort(&mut self) -> usize
+        ensures without { AreWithout D.told D.size D.count D.lending self.old.groups self.new.groups self.old.set result }
+        ensures set { self.new ≡ record { groups = self.new.groups; set = 0; volumes = [] } }
+    {
+        let stood = self.drop_set(self.set);
+        self.finish();
+        stood
+    }
+
+    /// The set is over and its images stay. No set is being prepared then.
+    pub fn finish(&mut self)
+        ensures { self.new ≡ record { groups = self.old.groups; set = 0; volumes = [] } }
+    {
+        self.set = 0;
+        self.volumes.clear();
+    }
+
+    /// How many groups there are.
+    pub fn groups(&self) -> u32
+        ensures { result ≡ length self.now.groups }
+    {
+        self.groups.len() as u32
+    }
+
+    /// Writes the records of a group's copies to its area's device, and brings all that was written to that to where it lasts.
+    pub fn sync(&mut self, group: u32) -> Result<(), DeviceFault>
+        requires { group < length self.old.groups }
+        ensures synced { IsSynced D.told D.size D.count D.lending self.old.groups self.new.groups group }
+        ensures lasting { OnOk result ((s : Plan) → AreLasting D.told D.lasting s self.old.groups self.new.groups group) }
+        ensures cause { (s : Plan) → HasGroups s self.old.groups → HasSyncCause D.count s group result self.old.groups self.new.groups }
+        ensures set { self.new ≡ record self.old { groups = self.new.groups } }
+    {
+        sync_in(&mut self.groups, group)
+    }
+
+    /// The groups, as they are.
+    pub fn into_groups(self) -> Vec<CowGroup<D>>
+        ensures { result.items ≡ self.groups }
+    {
+        self.groups
+    }
+
+    /// All devices, as they are: for each group those of its volumes in order, and then its area's.
+    pub fn into_devices(self) -> Vec<D>
+        ensures { result.items ≡ devices_of self.groups }
+    {
+        let Provider { groups, list, .. } = self;
+        list_devices(groups, list)
+    }
+}
