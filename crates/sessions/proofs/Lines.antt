@@ -425,7 +425,3 @@ nobody_disabled n k d l = absurd (omega (arith, l))
 
 pub none_disabled : (n : ℕ) (c : Course) → All (λ w. w < n) (released c).disabled
 none_disabled n c = subst (λ (ds : List ℕ). All (λ w. w < n) ds) (sym (released_disabled c)) (nobody_disabled n)
-
-pub start_has_session : (q : Option Session) (running : Bool) (lane : ℕ) → check_other q running lane call.Start ≡ Go → None ≡ option_map (λ (z : Session). z.context) q → ⊥
-start_has_session None running lane e f = cc
-start_has_session (Some q) running lane e f = cc
