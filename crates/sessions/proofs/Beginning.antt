@@ -1,11 +1,10 @@
 -- An agenda begins, or time goes by: each is a step of the course, with what follows from it.
 use Rattle.std.proofs.Common.{◌≡◌, ℕ, ◌+◌, List, [], ◌∷◌, refl, ap, sym, ◌∙◌, subst, arith, Bool, true, false, Option, Some, None}
-use Rattle.std.specs.Prelude.{is_some}
 use Rattle.vss_names.specs.declared.order.Order.{Order}
 use Rattle.vss_names.specs.declared.vss_result.VssResult.TheVariants.{AsyncPending}
 use Rattle.set_agenda.specs.declared.kind.Kind.{Kind}
 use Rattle.set_agenda.specs.WriterSet.{writers_of}
-use Rattle.set_agenda.specs.Agenda.{Agenda, left, order_now, is_asking}
+use Rattle.set_agenda.specs.Agenda.{left, order_now, is_asking}
 use Rattle.set_agenda.specs.Course.{Course, lost_writers, timed as course_timed}
 use Rattle.component_doc.specs.Held.{Held}
 use Rattle.coordinator.specs.Beginning.{begun_as}
@@ -139,14 +138,3 @@ idle_happens s new st n m asks is h = record {
 pub ticks_are : (b : Bool) (n m : ℕ) → Some n ≡ ticks_if b m → n ≡ m
 ticks_are true n m e = cc
 ticks_are false n m e = cc
-
-pub none_runs : (b : Bool) (m : ℕ) → None ≡ ticks_if b m → b ≡ false
-none_runs true m e = cc
-none_runs false m e = refl
-
-pub none_asks : (st : State) → is_some st.course.agenda ≡ false → is_asking (left_now st) ≡ false
-none_asks st e = by_agenda st.course.agenda e
-  where
-    by_agenda : (a : Option Agenda) → is_some a ≡ false → is_asking (left a) ≡ false
-    by_agenda None e = refl
-    by_agenda (Some a) e = cc

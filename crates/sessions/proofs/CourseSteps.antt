@@ -38,7 +38,7 @@ use Rattle.vss_model.specs.Told.{mark_if, mark_of}
 use Rattle.vss_model.proofs.Orderly.{IsSameRow, numbered-map, newest-map, find-map}
 use Rattle.sessions.specs.declared.ended.Ended.{Ended}
 use Rattle.sessions.specs.declared.image_change.ImageChange.{ImageChange}
-use Rattle.sessions.specs.declared.image_change.ImageChange.TheVariants.{NoChange, Cut}
+use Rattle.sessions.specs.declared.image_change.ImageChange.TheVariants.{Cut}
 use Rattle.sessions.specs.declared.session_move.SessionMove.{SessionMove}
 use Rattle.sessions.specs.Sets.{current_of, running_changed}
 use Rattle.sessions.specs.Keeps.{SessionsValue, Keeps, IsInOrder}
@@ -46,7 +46,6 @@ use Rattle.sessions.specs.Concluded.{IsTold}
 use Rattle.sessions.specs.Told.{told_of, told_with, change_after, drop_if}
 use Rattle.sessions.specs.Moves.{CameTo, CameToStep, LosesNobody, images_changed, is_cut}
 use Rattle.sessions.proofs.Moving.{Happens, nobody}
-use Rattle.sessions.proofs.Failing.{no_row}
 use Rattle.sessions.proofs.Newest.{changed_by_number}
 
 -- ## what ends is told, and its images go where it failed
@@ -176,32 +175,6 @@ besides st group.Cut order = besides_cut st (in_progress st) refl order
 besides st Commit order = besides_itself st order
 besides st Release order = besides_itself st order
 besides st PostCommit order = besides_itself st order
-
-pub no_cut : (x : SessionsValue) (st : State) (g : Group) → is_cut g ≡ false → Keeps x st → CameToStep st g x NoChange
-no_cut x st (Orders o) e kept = record { keeps = kept; volumes = refl }
-no_cut x st PreCommit e kept = record { keeps = kept; volumes = refl }
-no_cut x st Flush e kept = record { keeps = kept; volumes = refl }
-no_cut x st Hold e kept = record { keeps = kept; volumes = refl }
-no_cut x st group.Cut e kept = cc
-no_cut x st Commit e kept = record { keeps = kept; volumes = refl }
-no_cut x st Release e kept = record { keeps = kept; volumes = refl }
-no_cut x st PostCommit e kept = record { keeps = kept; volumes = refl }
-
-none_cut : (x : SessionsValue) (st : State) (o : Option SetRow) → o ≡ None → Keeps x st → (Keeps x (cut_set o st)) × ((cut_set o st).volumes ≡ st.volumes)
-none_cut x st None e kept = (kept, refl)
-none_cut x st (Some r) e kept = absurd cc
-
-pub nothing_cut : (x : SessionsValue) (st : State) (g : Group) → is_cut g ≡ true → None ≡ current_of x.sets → Keeps x st → CameToStep st g x NoChange
-nothing_cut x st (Orders o) e none kept = cc
-nothing_cut x st PreCommit e none kept = cc
-nothing_cut x st Flush e none kept = cc
-nothing_cut x st Hold e none kept = cc
-nothing_cut x st group.Cut e none kept =
-    let h = none_cut x st (in_progress st) (no_row (in_progress st) (none ∙ ap current_of kept.sets)) kept in
-    record { keeps = h.0; volumes = h.1 }
-nothing_cut x st Commit e none kept = cc
-nothing_cut x st Release e none kept = cc
-nothing_cut x st PostCommit e none kept = cc
 
 length_map : (f : SetRow → SetRow) (rows : List SetRow) → length (map f rows) ≡ length rows
 length_map f [] = refl

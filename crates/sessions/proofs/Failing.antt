@@ -61,9 +61,6 @@ fails_in old k st why n order kept current stands count times =
     subst (λ (o : Option SetRow). Keeps (ended_so (Failed why) (with_coordinator k old)) (failed_in o why st)) (sym here.found)
     (failed_keeps (with_coordinator k old) st here.row why order (mid_keeps old k st (course_failed why st.course) kept fails count times (disabled_failed why st.course)))
 
-pub stays_in : (old : SessionsValue) (st : State) (why : VssResult) → Keeps old st → None ≡ current_of old.sets → Keeps old (failed_in (in_progress st) why st)
-stays_in old st why kept none = subst (λ (o : Option SetRow). Keeps old (failed_in o why st)) (sym (no_row (in_progress st) (none ∙ ap current_of kept.sets))) kept
-
 -- what is on time at a tick stays so, whichever name the tick has
 pub times_at : (a b : ℕ) (k l : CoordinatorState) → a ≡ b → (IsOnTime a k → IsOnTime a l) → IsOnTime b k → IsOnTime b l
 times_at a b k l e f h = subst (λ (n : ℕ). IsOnTime n l) e (f (subst (λ (n : ℕ). IsOnTime n k) (sym e) h))

@@ -86,10 +86,6 @@ known_some : (b : Bool) (m : Meta) → is_some (meta_if b m) ≡ true → b ≡ 
 known_some true m e = refl
 known_some false m e = cc
 
-record IsKnownAt (s : Plan) (st : State) (w n : ℕ) : Type 0 where
-  known : is_known s st w ≡ true
-  within : n < length s.writers
-
 known_at : (s : Plan) (st : State) (k : ℕ) (ps : List WriterPlan) (j w : ℕ) → w ≡ k + j → is_some (meta_at (slice_get (known_from s st k ps) j)) ≡ true → (is_known s st w ≡ true) × (j < length ps)
 known_at s st k [] j w e h = absurd cc
 known_at s st k (p ∷ ps) zero w e h = (let same : w ≡ k = omega (arith, e) in ap (is_known s st) same ∙ known_some (is_known s st k) p.meta h, omega arith)
@@ -161,9 +157,6 @@ takes_named AllMode s st e = cc
 pub takes_known : (m : Mode) (s : Plan) (st : State) → is_all m ≡ true → selected_in m s st ≡ all_of (known_metas s st)
 takes_known Components s st e = cc
 takes_known AllMode s st e = refl
-
-pub all_of_over : (s : Plan) (st : State) → IsSelectedOver (known_metas s st) (all_of (known_metas s st))
-all_of_over s st = refl
 
 pub mode_at : (x : SessionsValue) (st : State) (q : Session) (b c : Bool) → Keeps x st → st.session ≡ Some q → b ≡ takes_all_of x.requestor.session → b ≡ c → is_all q.mode ≡ c
 mode_at x st q b c kept is e f = ap takes_all_of (sym (kept.session ∙ is)) ∙ sym e ∙ f

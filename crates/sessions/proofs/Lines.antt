@@ -402,9 +402,6 @@ same_parts x r q k rows more h i e f g =
     ∙ ap (λ (z : List SetRow). record { requestor = q; coordinator = k; sets = z; clock = x.clock; selection = h }) f
     ∙ ap (λ (z : Held). record { requestor = q; coordinator = k; sets = more; clock = x.clock; selection = z }) g
 
-pub nothing_named_is : (h : Held) (n m : ℕ) → h ≡ record { writers = n; selected = Named [] } → n ≡ m → h ≡ record { writers = m; selected = Named [] }
-nothing_named_is h n m e f = e ∙ ap (λ (k : ℕ). record { writers = k; selected = Named [] }) f
-
 pub none_of : (o : Option Context) (b : Bool) → is_some o ≡ not b → b ≡ true → o ≡ None
 none_of None b e f = refl
 none_of (Some c) true e f = cc
@@ -428,7 +425,3 @@ nobody_disabled n k d l = absurd (omega (arith, l))
 
 pub none_disabled : (n : ℕ) (c : Course) → All (λ w. w < n) (released c).disabled
 none_disabled n c = subst (λ (ds : List ℕ). All (λ w. w < n) ds) (sym (released_disabled c)) (nobody_disabled n)
-
-pub start_has_session : (q : Option Session) (running : Bool) (lane : ℕ) → check_other q running lane call.Start ≡ Go → None ≡ option_map (λ (z : Session). z.context) q → ⊥
-start_has_session None running lane e f = cc
-start_has_session (Some q) running lane e f = cc

@@ -40,10 +40,6 @@ running_last (q ∷ p ∷ rows) (suc n) r h e long =
     let rest : length (p ∷ rows) ≡ suc n = cc in
     found_if (is_running q.result) q (running_in (p ∷ rows)) h.0 ∙ running_last (p ∷ rows) n r h.1 e rest
 
-pub none_before : (rows : List SetRow) → length rows ≡ 0 → rows ≡ []
-none_before [] e = refl
-none_before (r ∷ rows) e = absurd (omega (arith, e))
-
 -- ## a change by number
 
 pick : (b : Bool) (f : SetRow → SetRow) (r : SetRow) → (r.number == r.number) ≡ b → b ≡ true → row_changed r.number f r ≡ f r

@@ -1,6 +1,6 @@
 -- What is kept of sessions, sets, writers and time, and for which states of the definitions it stands. (This project's
 -- own.)
-use Rattle.std.specs.Prelude.{ℕ, ◌≡◌, ◌<◌, ◌≤◌, ◌^◌, ◌-◌, ◌+◌, List, length, map, All}
+use Rattle.std.specs.Prelude.{ℕ, ◌≡◌, ◌<◌, ◌≤◌, ◌^◌, ◌-◌, ◌+◌, List, length, map, All, []}
 use Rattle.requestor.specs.Requestor.{Sessions as Requestor}
 use Rattle.writer_meta.specs.Metadata.{Meta}
 use Rattle.component_doc.specs.Held.{Held}
@@ -19,6 +19,16 @@ pub record SessionsValue : Type 0 where
   pub clock : ℕ
   -- the components that the session has named
   pub selection : Held
+
+-- the same, but that nothing is named
+abbrev pub nothing_named_in : SessionsValue → SessionsValue
+nothing_named_in x = record {
+  requestor = x.requestor;
+  coordinator = x.coordinator;
+  sets = x.sets;
+  clock = x.clock;
+  selection = record { writers = writer_count x.coordinator; selected = Named [] };
+}
 
 -- This stands for all of a state but the volumes.
 pub record Keeps (x : SessionsValue) (st : State) : Type 0 where

@@ -2,7 +2,7 @@ ghost use Rattle.std.specs.Prelude.{◌≡◌, ℕ, map, true, false, is_some, I
 ghost use Rattle.coordinator.specs.Coordinator.{runs};
 ghost use Rattle.requestor.specs.Check.{check};
 ghost use Rattle.writer_meta.specs.Metadata.{meta_of};
-ghost use Rattle.scenario.specs.Bounds.{IsOp};
+ghost use Rattle.scenario.specs.Bounds.{IsOp, IsPlan};
 ghost use Rattle.scenario.specs.Calls.{call_of};
 ghost use Rattle.vss_model.specs.declared.event.Event.TheVariants.{Line};
 ghost use Rattle.sessions.specs.Keeps.{IsStandingIn, Leaves, metas_in};
@@ -42,6 +42,7 @@ impl Sessions {
         ensures leaves { Leaves self.old self.new }
         ensures clock { self.new.clock ≡ self.old.clock }
     {
+        let _facts = scenario.volumes();
         let Some(call) = op.session_call() else {
             return Ok(Called::Waits);
         };
@@ -68,6 +69,7 @@ impl Sessions {
         requires standing { IsStandingIn scenario.now self.old }
         requires is_call { is_some (call_of op) ≡ true }
         requires is_op { IsOp scenario.now op }
+        requires plan { IsPlan scenario.now }
         requires metadata { map meta_of metadata.now ≡ metas_in scenario.now }
         requires goes { IfSome (call_of op) (λ call. check self.old.requestor.session (runs self.old.coordinator) lane call ≡ Verdict.Go) }
         requires at_rest { IfSome (call_of op) (λ call. check self.old.requestor.session false lane call ≡ Verdict.Go) }

@@ -31,6 +31,7 @@ impl Sessions {
         lane: u32,
     ) -> Result<SessionMove, OutOfMemory>
         requires standing { IsStandingIn scenario.now self.old }
+        requires plan { IsPlan scenario.now }
         requires metadata { map meta_of metadata.now ≡ metas_in scenario.now }
         requires goes { check self.old.requestor.session (runs self.old.coordinator) lane SessionCall.Prepare ≡ Verdict.Go }
         ensures gone { IfOk result (IsGoneIn scenario.now self.old self.new lane op.Prepare) }
@@ -39,7 +40,7 @@ impl Sessions {
         ensures leaves { Leaves self.old self.new }
         ensures clock { self.new.clock ≡ self.old.clock }
     {
-        let _facts = scenario.volumes();
+        let _scenario = scenario;
         let _lane = lane;
         if self.volumes().is_empty() {
             return Ok(SessionMove::alone(Told::Result(VssResult::BadState)));
@@ -73,6 +74,7 @@ impl Sessions {
         full: Span,
     ) -> Result<SessionMove, OutOfMemory>
         requires standing { IsStandingIn scenario.now self.old }
+        requires plan { IsPlan scenario.now }
         requires metadata { map meta_of metadata.now ≡ metas_in scenario.now }
         requires span { IsSpan scenario.now full }
         requires goes { check self.old.requestor.session (runs self.old.coordinator) lane SessionCall.Component ≡ Verdict.Go }
@@ -82,7 +84,6 @@ impl Sessions {
         ensures leaves { Leaves self.old self.new }
         ensures clock { self.new.clock ≡ self.old.clock }
     {
-        let _facts = scenario.volumes();
         let _lane = lane;
         if self.takes_all() {
             return Ok(SessionMove::alone(Told::Result(VssResult::BadState)));
@@ -102,6 +103,7 @@ impl Sessions {
         lane: u32,
     ) -> Result<SessionMove, OutOfMemory>
         requires standing { IsStandingIn scenario.now self.old }
+        requires plan { IsPlan scenario.now }
         requires metadata { map meta_of metadata.now ≡ metas_in scenario.now }
         requires goes { check self.old.requestor.session (runs self.old.coordinator) lane SessionCall.Document ≡ Verdict.Go }
         ensures gone { IfOk result (IsGoneIn scenario.now self.old self.new lane op.Document) }
@@ -123,11 +125,12 @@ impl Sessions {
         lane: u32,
     ) -> Result<Text, OutOfMemory>
         requires standing { IsStandingIn scenario.now self.now }
+        requires plan { IsPlan scenario.now }
         requires metadata { map meta_of metadata.now ≡ metas_in scenario.now }
         requires goes { check self.now.requestor.session (runs self.now.coordinator) lane SessionCall.Document ≡ Verdict.Go }
         ensures { IfOk result (λ text. IsDocumentIn scenario.now self.now text.bytes) }
     {
-        let _facts = scenario.volumes();
+        let _scenario = scenario;
         let _lane = lane;
         let Some(context) = self.requestor.context() else {
             // the checks let no document be asked for without a session

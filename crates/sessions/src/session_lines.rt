@@ -2,7 +2,7 @@ ghost use Rattle.std.specs.Prelude.{◌≡◌, ◌<◌, ◌^◌, ◌-◌, ◌+�
 ghost use Rattle.coordinator.specs.Coordinator.{runs, writer_count};
 ghost use Rattle.requestor.specs.Check.{check};
 ghost use Rattle.scenario.specs.declared.op.Op.TheVariants as op;
-ghost use Rattle.sessions.specs.Keeps.{IsStanding, Leaves};
+ghost use Rattle.sessions.specs.Keeps.{IsStanding, Leaves, nothing_named_in};
 ghost use Rattle.sessions.specs.Moves.{IsClosed, IsGone, IsGoneWith, cuts};
 ghost use Rattle.sessions.specs.Told.{change_at_end, drop_or};
 ghost use Rattle.vss_model.specs.Facts.{has_failed};
@@ -17,7 +17,7 @@ use vss_model::Told;
 use vss_names::{Context, OutOfMemory, SetOutcome, VssResult};
 
 impl Sessions {
-    /// A session begins, in which nothing is named. The list that is empty takes no memory.
+    /// A session begins, in which nothing is named.
     pub(crate) fn begin(&mut self, alloc: Global, lane: u32, context: u32, all: bool) -> SessionMove
         requires goes { check self.old.requestor.session (runs self.old.coordinator) lane (SessionCall.Begin context all) ≡ Verdict.Go }
         ensures gone { IsGone self.old self.new lane (op.Begin context all) result }
@@ -30,8 +30,15 @@ impl Sessions {
         }
         self.requestor
             .apply(lane, SessionCall::Begin { context, all });
-        self.selection = nothing_named(alloc, self.coordinator.writers());
+        self.forget(alloc);
         SessionMove::alone(Told::Ok)
+    }
+
+    /// Nothing is named any more. The list that is empty takes no memory.
+    fn forget(&mut self, alloc: Global)
+        ensures { self.new ≡ nothing_named_in self.old }
+    {
+        self.selection = nothing_named(alloc, self.coordinator.writers());
     }
 
     /// The session's set is started.
@@ -149,7 +156,7 @@ impl Sessions {
     {
         self.requestor.apply(lane, SessionCall::End);
         self.coordinator.end_session();
-        self.selection = nothing_named(alloc, self.coordinator.writers());
+        self.forget(alloc);
     }
 }
 

@@ -2,7 +2,7 @@ use Rattle.std.proofs.Common.{sym, ◌∙◌, refl}
 use Rattle.requestor.specs.declared.session_call.SessionCall.TheVariants as call
 use Rattle.sessions.specs.Keeps.{Keeps}
 use Rattle.sessions.proofs.Moving.{checked_same}
-use Rattle.sessions.proofs.Lines.{begins, begins_not, none_of, there_of, same_parts, nothing_named_is}
+use Rattle.sessions.proofs.Lines.{begins, begins_not, none_of, there_of, same_parts}
 use Rattle.sessions.proofs.sessions.Sessions.begin.Goals as goal
 
 pub returns-then-is_none-clause-gone : goal.returns-then-is_none-clause-gone
@@ -14,4 +14,4 @@ returns-clause-gone c s st found =
     let kept : Keeps (record { requestor = c.self.inside.requestor; coordinator = c.self.inside.coordinator; sets = c.self.inside.sets; clock = c.self.inside.clock; selection = c.self.inside.selection }) st = rw (← c.self.view_is) at found.keeps in
     let there = there_of c.context_of.result c.is_none.result c.is_none.ensures c.if-is_none.false in
     begins s c.args.lane c.args.context c.args.all there.context st (record { requestor = c.self.inside.requestor; coordinator = c.self.inside.coordinator; sets = c.self.inside.sets; clock = c.self.inside.clock; selection = c.self.inside.selection }) _ c.alone-2.result (sym (checked_same c.args.self.now st c.args.lane (call.Begin c.args.context c.args.all) found.keeps) ∙ c.requires.goes) (sym c.context_of.ensures ∙ there.is) c.alone-2.ensures found.order kept
-    (same_parts (record { requestor = c.self.inside.requestor; coordinator = c.self.inside.coordinator; sets = c.self.inside.sets; clock = c.self.inside.clock; selection = c.self.inside.selection }) c.apply.new.self _ c.self.inside.coordinator c.self.inside.sets c.self.inside.sets c.nothing_named.result _ c.apply.ensures refl (nothing_named_is c.nothing_named.result _ _ c.nothing_named.ensures c.writers.ensures.count))
+    (c.forget.ensures ∙ same_parts (record { requestor = c.self.inside.requestor; coordinator = c.self.inside.coordinator; sets = c.self.inside.sets; clock = c.self.inside.clock; selection = c.self.inside.selection }) c.apply.new.self _ c.self.inside.coordinator c.self.inside.sets c.self.inside.sets _ _ c.apply.ensures refl refl)

@@ -1,11 +1,14 @@
-use Rattle.std.proofs.Common.{◌≡◌, sym, ◌∙◌}
+use Rattle.std.proofs.Common.{ap, ◌≡◌, sym, ◌∙◌}
 use Rattle.requestor.specs.declared.session_call.SessionCall.TheVariants as call
 use Rattle.sessions.proofs.Moving.{checked_same}
-use Rattle.component_doc.specs.Held.{metas_of}
+use Rattle.component_doc.specs.Held.{metas_of, all_have_few}
 use Rattle.sessions.specs.Keeps.{IsAt}
 use Rattle.sessions.specs.Moves.{takes_all_of}
-use Rattle.sessions.proofs.Knowing.{names_not, names_component}
+use Rattle.sessions.proofs.Knowing.{known_few, names_not, names_component}
 use Rattle.sessions.proofs.sessions.Sessions.component.Goals as goal
+
+pub add-added-requires-clause-few : goal.add-added-requires-clause-few
+add-added-requires-clause-few c = ap all_have_few (c.in_ok-metas.ensures.known c.args.scenario.now c.requires.standing.state c.requires.standing.at.keeps c.requires.standing.at.of c.requires.metadata) ∙ known_few c.args.scenario.now c.requires.standing.state 0 c.args.scenario.now.writers c.requires.plan.writers
 
 pub returns-then-takes_all-clause-gone : goal.returns-then-takes_all-clause-gone
 returns-then-takes_all-clause-gone c st at = names_not c.args.scenario.now c.args.lane c.args.writer c.args.full st c.args.self.now c.alone.result c.takes_all.result (sym (checked_same c.args.self.now st c.args.lane call.Component at.keeps) ∙ c.requires.goes) at.order at.keeps c.takes_all.ensures c.if-takes_all.true c.alone.ensures

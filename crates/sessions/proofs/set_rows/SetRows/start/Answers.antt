@@ -1,4 +1,4 @@
-use Rattle.std.proofs.Common.{◌∙◌, sym, ap, subst}
+use Rattle.std.proofs.Common.{◌∙◌, List, sym, ap, subst}
 use Rattle.vss_model.specs.State.{SetRow}
 use Rattle.sessions.specs.Sets.{AreSets}
 use Rattle.sessions.proofs.Newest.{sets_started}
@@ -9,4 +9,4 @@ invariant_of-self-2 c =
     let rows = c.self.inside.rows.items in
     let rest = rw (← c.self.view_is) at c.requires.rest in
     let number = rw (← c.self.view_is) at c.requires.number in
-    subst AreSets (sym c.in_ok-push.ensures.items) (sets_started rows c.new.result c.self.invariant rest (ap (λ (r : SetRow). r.number) c.new.ensures ∙ number))
+    subst AreSets (sym {A = List SetRow} c.in_ok-push.ensures.items) (sets_started rows c.new.result c.self.invariant rest (ap (λ (r : SetRow). r.number) c.new.ensures ∙ number))
