@@ -126,3 +126,6 @@ read_failed told size count lending s old new v g u b bytes cause fault place ha
     let kept = kept_one told size count lending old new g c.before c.after c.was c.is c.called.quiet.kept in
     subst (λ (f : DeviceFault). HasCause count s v (Some f) old new) (sym is)
     (rose_by count s old new v g u c.before c.after cause has (kept.has s has) place c.was (called_there old new g c.before c.after c.was c.is) (read_rose told size count lending s old new v g u b bytes cause place has low c))
+
+pub some_of : {X : Type 0} (P : X → Type 0) (o : Option X) (x : X) → o ≡ Some x → IfSome o P → P x
+some_of P o x e h = subst (λ (q : Option _). IfSome q P) e h

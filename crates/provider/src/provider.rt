@@ -1,4 +1,5 @@
 ghost use Rattle.std.specs.Prelude.{◌≡◌, ◌<◌, ◌≤◌, [], true, false, length, slice_get, Some, is_some, IfOk, IfErr, IfSome, OnOk};
+ghost use Rattle.hex.specs.Hex.{IsBytes};
 ghost use Rattle.block_data.specs.PayloadBytes.{payload_bytes};
 ghost use Rattle.write_history.specs.History.{sets_of};
 ghost use Rattle.write_history.specs.Slots.{used, used_by, group_used};
@@ -8,11 +9,12 @@ ghost use Rattle.scenario.specs.Bounds.{IsBlock};
 ghost use Rattle.scenario.specs.Plan.{Plan, blocks_of, group_of};
 ghost use Rattle.provider.specs.Groups.{AreGroups, AreWhole, HasGroups, IfStandFor, history_at};
 ghost use Rattle.provider.specs.Devices.{AreKept, devices_of, volume_place, HasCause, fault_of};
-ghost use Rattle.provider.specs.Calls.{AreWithout, GoUpTo, HasImage, HasImageCause, IsDropped, IsNow, IsPut, IsQuiet, IsRevert, IsShown};
+ghost use Rattle.provider.specs.Calls.{AreWithout, GoUpTo, HasImage, HasImageCause, IsDigestNow, IsDigestShown, IsDropped, IsNow, IsPut, IsQuiet, IsRevert, IsShown, outcome_of};
 ghost use Rattle.provider.specs.Preparing.{CanCut, HasJoined, HasStepCause, LastsAt, refusal, refused_as, step_taken};
 ghost use Rattle.provider.specs.Ending.{AreLasting, HasSyncCause, IsSynced};
 
 use crate::device_fault::DeviceFault;
+use crate::digesting::{digest_image_in, digest_in};
 use crate::dropping::{drop_image_in, drop_set_in};
 use crate::ending::{list_devices, sync_in};
 use crate::image_fault::ImageFault;
@@ -140,6 +142,37 @@ impl<D: Device> Provider<D> {
         ensures set { self.new ≡ record self.old { groups = self.new.groups } }
     {
         read_in(&mut self.groups, scenario, volume, block, out)
+    }
+
+    /// The SHA-256 of all blocks of a volume, in order. Lent blocks are hashed in place.
+    pub fn digest(&mut self, scenario: &Scenario, volume: u32) -> Result<[u8; 32], DeviceFault>
+        requires volume { volume < length scenario.now.volumes }
+        requires has { HasGroups scenario.now self.old.groups }
+        ensures digest { IfOk result (IsDigestNow D.told scenario.now self.old.groups volume) }
+        ensures wide { IfOk result (λ digest. (length digest ≡ 32) × IsBytes digest) }
+        ensures quiet { IsQuiet D.told D.size D.count D.lending scenario.now self.old.groups self.new.groups volume }
+        ensures cause { HasCause D.count scenario.now volume (fault_of result) self.old.groups self.new.groups }
+        ensures set { self.new ≡ record self.old { groups = self.new.groups } }
+    {
+        digest_in(&mut self.groups, &mut self.block, scenario, volume)
+    }
+
+    /// The SHA-256 of all blocks that the image of a set shows, in order. Lent blocks are hashed in place.
+    pub fn digest_image(
+        &mut self,
+        scenario: &Scenario,
+        set: u32,
+        volume: u32,
+    ) -> Result<[u8; 32], ImageFault>
+        requires volume { volume < length scenario.now.volumes }
+        requires has { HasGroups scenario.now self.old.groups }
+        ensures digest { IfOk result (IsDigestShown D.told scenario.now self.old.groups volume set) }
+        ensures wide { IfOk result (λ digest. (length digest ≡ 32) × IsBytes digest) }
+        ensures quiet { IsQuiet D.told D.size D.count D.lending scenario.now self.old.groups self.new.groups volume }
+        ensures cause { HasImageCause D.told D.count scenario.now volume set (outcome_of result) self.old.groups self.new.groups }
+        ensures set { self.new ≡ record self.old { groups = self.new.groups } }
+    {
+        digest_image_in(&mut self.groups, &mut self.block, scenario, set, volume)
     }
 
     /// Lends a block as the image of a set shows it, in place. None where the device that has it does not lend. The error is
