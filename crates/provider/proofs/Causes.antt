@@ -1,13 +1,13 @@
 -- Which device failed, and where it stands among all devices.
-use Rattle.std.proofs.Common.{◌≡◌, ℕ, ◌<◌, ◌≤◌, List, refl, ap, sym, ◌∙◌, subst, arith, Option, Some, None, slice_get, slice_set}
+use Rattle.std.proofs.Common.{◌≡◌, ℕ, ◌<◌, List, ap, sym, ◌∙◌, subst, arith, Some, None, slice_get, slice_set}
 use Rattle.std.specs.Prelude.{◌≢◌}
 use Rattle.scenario.specs.Plan.{Plan}
 use Rattle.cow_volume.specs.GroupValue.{GroupValue}
-use Rattle.cow_volume.specs.Calls.{IsUnfailed, AreaRose, HasCauseAt, DeviceRose, blocks_at}
+use Rattle.cow_volume.specs.Calls.{IsUnfailed, HasCauseAt, DeviceRose, blocks_at}
 use Rattle.cow_volume.specs.declared.cause.Cause.{Cause}
 use Rattle.cow_volume.specs.declared.cause.Cause.TheVariants.{NoSuchBlock, Volume, Area}
 use Rattle.provider.specs.Groups.{HasGroups, IsPlaceOf}
-use Rattle.provider.specs.Devices.{counts_of, volumes_area, RoseAtPlace, HasCause}
+use Rattle.provider.specs.Devices.{counts_of, RoseAtPlace, HasCause}
 use Rattle.provider.specs.GroupCalls.{device_of}
 use Rattle.provider.proofs.Flat.{rose_volume, rose_area, area_of_place, counts_same}
 

@@ -1,15 +1,15 @@
 -- Digests of one group, against the histories of all volumes.
-use Rattle.std.proofs.Common.{◌≡◌, ℕ, ◌<◌, List, length, refl, ap, sym, ◌∙◌, subst, Bool, true, false, Option, Some, None, slice_get, slice_set}
-use Rattle.std.specs.Prelude.{is_some, Result, Ok, Err, IfOk}
+use Rattle.std.proofs.Common.{◌≡◌, ℕ, List, length, refl, ap, sym, ◌∙◌, subst, Bool, true, false, Option, Some, slice_get}
+use Rattle.std.specs.Prelude.{Result, Ok, Err, IfOk}
 use Rattle.std.specs.List.{concat}
 use Rattle.block_data.specs.Digest.{sha256}
 use Rattle.write_history.specs.History.{History, contents, point_in}
 use Rattle.scenario.specs.Plan.{Plan, blocks_of}
 use Rattle.cow_volume.specs.GroupValue.{GroupValue}
-use Rattle.cow_volume.specs.Calls.{blocks_at, history_at as group_history_at}
-use Rattle.provider.specs.Groups.{of_group, AreGroups, HasGroups, IsPlaceOf, history_at}
-use Rattle.provider.specs.Devices.{HasCause, RoseAtPlace, area_place, counts_of, fault_of}
-use Rattle.provider.specs.Calls.{HasImage, HasImageCause, IsDigestNow, IsDigestShown, IsQuiet, outcome_of}
+use Rattle.cow_volume.specs.Calls.{history_at as group_history_at}
+use Rattle.provider.specs.Groups.{of_group, HasGroups, IsPlaceOf}
+use Rattle.provider.specs.Devices.{HasCause, RoseAtPlace, counts_of, fault_of}
+use Rattle.provider.specs.Calls.{HasImageCause, IsDigestNow, IsDigestShown, IsQuiet, outcome_of}
 use Rattle.provider.specs.declared.device_fault.DeviceFault.{DeviceFault}
 use Rattle.provider.specs.declared.device_fault.DeviceFault.TheVariants.{Volume, Area}
 use Rattle.provider.specs.declared.image_fault.ImageFault.{ImageFault}

@@ -1,17 +1,16 @@
 -- One group is flushed or brought to where it lasts, against the histories of all volumes.
-use Rattle.std.proofs.Common.{◌≡◌, ℕ, zero, suc, ◌+◌, ◌<◌, ◌==◌, arith, List, [], ◌∷◌, ◌++◌, length, refl, ap, sym, ◌∙◌, subst, Bool, true, false, Option, Some, None, map, slice_get, slice_set}
-use Rattle.std.specs.Prelude.{is_some, if◌then◌else◌, Result, Ok, Err}
+use Rattle.std.proofs.Common.{◌≡◌, ℕ, ◌+◌, ◌==◌, List, [], ◌∷◌, ◌++◌, refl, ap, sym, ◌∙◌, subst, Bool, true, false, Option, Some, None, map, slice_get, slice_set}
+use Rattle.std.specs.Prelude.{if◌then◌else◌, Result, Ok, Err}
 use Rattle.write_history.specs.History.{History}
-use Rattle.write_history.specs.Slots.{Placed, Copy, copies, copies_of, copies_from}
+use Rattle.write_history.specs.Slots.{Copy, copies, copies_of, copies_from}
 use Rattle.diff_area.specs.Copies.{AreStored}
 use Rattle.scenario.specs.declared.volume_row.VolumeRow.{VolumeRow}
 use Rattle.scenario.specs.Plan.{Plan, placed}
 use Rattle.cow_volume.specs.GroupValue.{GroupValue, placed as all_placed}
-use Rattle.cow_volume.specs.Calls.{IsUnfailed}
-use Rattle.cow_volume.specs.Ending.{IsSynced as IsGroupSynced, IsSync}
+use Rattle.cow_volume.specs.Ending.{IsSynced as IsGroupSynced}
 use Rattle.cow_volume.specs.declared.cause.Cause.{Cause}
-use Rattle.cow_volume.proofs.Group.{slice_get_inside, slice_get-set_other}
-use Rattle.provider.specs.Groups.{of_group, of_group_if, blocks_in_group, AreGroups, HasGroups, IsPlaceOf}
+use Rattle.cow_volume.proofs.Group.{slice_get-set_other}
+use Rattle.provider.specs.Groups.{of_group, of_group_if, blocks_in_group, HasGroups, IsPlaceOf}
 use Rattle.provider.specs.Devices.{devices_of, counts_of, volume_place, area_place, RoseAtPlace, HasCause}
 use Rattle.provider.specs.Calls.{IsQuiet}
 use Rattle.provider.specs.Preparing.{LastsAt}

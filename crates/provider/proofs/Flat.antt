@@ -1,13 +1,12 @@
 -- The devices of all groups in their order: at which place each stands, and what is known of all of them from what is known of
 -- each group.
-use Rattle.std.proofs.Common.{◌≡◌, ℕ, zero, suc, ◌+◌, ◌<◌, ◌≤◌, List, [], ◌∷◌, ◌++◌, length, refl, ap, sym, ◌∙◌, subst, arith, Bool, true, false, Option, Some, None, map, slice_get, slice_set}
+use Rattle.std.proofs.Common.{◌≡◌, ℕ, zero, suc, ◌+◌, List, [], ◌∷◌, ◌++◌, length, refl, ap, sym, ◌∙◌, subst, arith, Some, map, slice_get, slice_set}
 use Rattle.std.proofs.lemmas.List.{map-append, length-append}
-use Rattle.std.proofs.lemmas.Option.{slice_get_within}
 use Rattle.scenario.specs.declared.volume_row.VolumeRow.{VolumeRow}
 use Rattle.scenario.specs.Plan.{Plan}
 use Rattle.cow_volume.specs.GroupValue.{GroupValue}
 use Rattle.cow_volume.specs.Calls.{IsUnfailed, VolumeRose, AreaRose}
-use Rattle.cow_volume.proofs.Group.{slice_get_inside, slice_get_map}
+use Rattle.cow_volume.proofs.Group.{slice_get_map}
 use Rattle.provider.specs.Groups.{blocks_in_group, place_in, HasGroups, IsPlaceOf}
 use Rattle.provider.specs.Devices.{devices_of, counts_of, first_place, area_place, volume_place, volume_place_in, volumes_area, volumes_area_in, RoseAtPlace}
 

@@ -1,8 +1,7 @@
 -- The blocks of a volume, or of an image, are hashed one after another.
-use Rattle.std.proofs.Common.{◌≡◌, ℕ, zero, suc, ◌+◌, ◌<◌, ◌≤◌, List, [], ◌∷◌, ◌++◌, length, refl, ap, sym, ◌∙◌, subst, arith, Bool, true, false, Option, Some, None, map, slice_get}
+use Rattle.std.proofs.Common.{◌≡◌, ℕ, ◌+◌, ◌<◌, List, [], ◌∷◌, ◌++◌, length, refl, ap, sym, ◌∙◌, subst, arith, Bool, true, false, Option, Some, slice_get}
 use Rattle.std.specs.Prelude.{◌≢◌, is_some}
-use Rattle.std.specs.List.{concat, range_with_len}
-use Rattle.std.proofs.lemmas.List.{length-map}
+use Rattle.std.specs.List.{concat}
 use Rattle.std.proofs.lemmas.List.Folds.{concat-append}
 use Rattle.std.proofs.lemmas.List.FromFn.{map-range_with_len_more}
 use Rattle.std.proofs.lemmas.Option.{slice_get_within, same_Some}
@@ -10,20 +9,18 @@ use Rattle.vss_names.specs.Faults.{Rose}
 use Rattle.block_data.specs.Digest.{sha256}
 use Rattle.block_data.specs.Hashed.{HasTaken}
 use Rattle.block_data.specs.declared.hasher.Hasher.{Hasher}
-use Rattle.write_history.specs.History.{History, Write, content, contents, point_in}
+use Rattle.write_history.specs.History.{History, Write, content, contents}
 use Rattle.cow_volume.specs.GroupValue.{GroupValue}
-use Rattle.cow_volume.specs.StandsFor.{StandsFor}
 use Rattle.cow_volume.specs.declared.cause.Cause.{Cause}
 use Rattle.cow_volume.specs.declared.cause.Cause.TheVariants.{NoSuchBlock, Volume, Area}
 use Rattle.cow_volume.specs.declared.image_fault.ImageFault.{ImageFault}
 use Rattle.cow_volume.specs.declared.image_fault.ImageFault.TheVariants.{NoSuchImage as NoImage, NoSuchBlock as NoBlock, Volume as VolumeFailed, Area as AreaFailed}
-use Rattle.cow_volume.specs.Calls.{IsKept, IsQuiet, IsUnfailed, IsNow, IsShown, VolumeRose, AreaRose, HasCauseAt, HasImageCause, DeviceRose, blocks_at, blocks_in, history_at, is_among, sets_at, sets_in}
+use Rattle.cow_volume.specs.Calls.{IsQuiet, IsUnfailed, IsNow, HasImageCause, DeviceRose, blocks_at, blocks_in, history_at, is_among, sets_at, sets_in}
 use Rattle.cow_volume.proofs.Group.{quiet_stands, slice_get_inside, slice_get_map}
 use Rattle.provider.specs.declared.device_fault.DeviceFault.{DeviceFault}
 use Rattle.provider.specs.declared.device_fault.DeviceFault.TheVariants as device
 use Rattle.provider.specs.GroupCalls.{device_of, device_of_image}
-use Rattle.provider.specs.Hashing.{IsEnd, IsPoint, AtPoint, Adds, FaultRose, IsDigestAt}
-use Rattle.provider.proofs.Causes.{by_device}
+use Rattle.provider.specs.Hashing.{IsEnd, AtPoint, Adds, FaultRose, IsDigestAt}
 use Rattle.provider.proofs.Kept.{kept_itself, kept_then}
 
 -- ## one block

@@ -1,22 +1,22 @@
 -- Reads of an image of one group, and reverts to it, against the histories of all volumes.
-use Rattle.std.proofs.Common.{◌≡◌, ℕ, ◌<◌, ◌≤◌, arith, List, length, refl, ap, sym, ◌∙◌, subst, Bool, true, false, Option, Some, None, slice_get, slice_set}
-use Rattle.std.specs.Prelude.{◌≢◌, is_some, Result, Ok, Err}
+use Rattle.std.proofs.Common.{◌≡◌, ℕ, ◌<◌, arith, List, length, ap, sym, ◌∙◌, subst, Bool, true, false, Option, Some, slice_get, slice_set}
+use Rattle.std.specs.Prelude.{◌≢◌, Result, Ok, Err}
 use Rattle.write_history.specs.History.{History, point_in, reverted, reverted_in_part, to_restore}
 use Rattle.set_agenda.specs.Course.{change_at}
 use Rattle.scenario.specs.Plan.{Plan, blocks_of}
 use Rattle.cow_volume.specs.GroupValue.{GroupValue}
 use Rattle.cow_volume.specs.declared.cause.Cause.{Cause}
-use Rattle.cow_volume.specs.declared.cause.Cause.TheVariants.{NoSuchBlock, Volume, Area}
+use Rattle.cow_volume.specs.declared.cause.Cause.TheVariants.{Volume, Area}
 use Rattle.cow_volume.specs.declared.image_fault.ImageFault.{ImageFault}
 use Rattle.cow_volume.specs.declared.image_fault.ImageFault.TheVariants.{NoSuchImage as NoImage, NoSuchBlock as NoBlock, Volume as VolumeFailed, Area as AreaFailed}
-use Rattle.cow_volume.specs.Calls.{HasImageCause as HasGroupImageCause, DeviceRose, blocks_at, sets_at, is_among, history_at as group_history_at, IsReverted, IsRevertedInPart, IsRevert as IsGroupRevert, changed_at}
+use Rattle.cow_volume.specs.Calls.{HasImageCause as HasGroupImageCause, DeviceRose, blocks_at, sets_at, is_among, history_at as group_history_at, IsReverted, IsRevertedInPart, IsRevert as IsGroupRevert}
 use Rattle.cow_volume.specs.declared.revert_fault.RevertFault.{RevertFault as GroupRevertFault}
 use Rattle.cow_volume.specs.declared.revert_fault.RevertFault.TheVariants.{NoSuchImage as NoImageThere, Fault}
 use Rattle.cow_volume.specs.Parts.{IsUnseen}
-use Rattle.provider.specs.Groups.{of_group, AreGroups, HasGroups, IsPlaceOf, history_at}
-use Rattle.provider.specs.Devices.{AreKept, HasCause, counts_of}
+use Rattle.provider.specs.Groups.{of_group, AreGroups, HasGroups, IsPlaceOf}
+use Rattle.provider.specs.Devices.{AreKept, HasCause}
 use Rattle.provider.specs.declared.revert_fault.RevertFault.{RevertFault}
-use Rattle.provider.specs.Calls.{HasImage, HasImageCause, IsQuiet, IsRevert, IsShown}
+use Rattle.provider.specs.Calls.{HasImageCause, IsQuiet, IsRevert, IsShown}
 use Rattle.provider.specs.declared.device_fault.DeviceFault.{DeviceFault}
 use Rattle.provider.specs.declared.image_fault.ImageFault.{ImageFault as ProviderFault}
 use Rattle.provider.specs.declared.revert_fault.RevertFault.TheVariants.{NoSuchImage, Stopped}
@@ -24,7 +24,7 @@ use Rattle.provider.specs.GroupCalls.{IsGroupCall, IsGroupImageRead, device_of, 
 use Rattle.provider.proofs.Places.{blocks_are, history_of_place}
 use Rattle.provider.proofs.Becoming.{changes}
 use Rattle.provider.proofs.Kept.{call_on, kept_one, kept_same, called_there}
-use Rattle.provider.proofs.Causes.{unfailed, rose_by, is_device}
+use Rattle.provider.proofs.Causes.{unfailed, rose_by}
 use Rattle.provider.proofs.Looked.{image_of}
 use Rattle.provider.proofs.DroppedAll.{same_groups}
 use Rattle.provider.proofs.Shown.{quiet_of, shown_of}

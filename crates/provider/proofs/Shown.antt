@@ -2,14 +2,13 @@
 use Rattle.std.proofs.Common.{◌≡◌, ℕ, ◌<◌, arith, List, length, refl, ap, sym, ◌∙◌, subst, Bool, true, false, Option, Some, None, slice_get, slice_set}
 use Rattle.std.specs.Prelude.{◌&&◌, ◌≢◌, is_some, IfSome, Result, Ok, Err}
 use Rattle.write_history.specs.History.{History, content, point_in}
-use Rattle.scenario.specs.declared.volume_row.VolumeRow.{VolumeRow}
 use Rattle.scenario.specs.Plan.{Plan, blocks_of}
 use Rattle.cow_volume.specs.GroupValue.{GroupValue}
 use Rattle.cow_volume.specs.declared.cause.Cause.{Cause}
 use Rattle.cow_volume.specs.declared.cause.Cause.TheVariants.{NoSuchBlock}
-use Rattle.cow_volume.specs.Calls.{DeviceRose, history_at as group_history_at, IsNow as IsGroupNow, IsShown as IsGroupShown, IsQuiet as IsGroupQuiet}
+use Rattle.cow_volume.specs.Calls.{DeviceRose, IsNow as IsGroupNow, IsShown as IsGroupShown, IsQuiet as IsGroupQuiet}
 use Rattle.cow_volume.proofs.Group.{quiet_stands, slice_get_inside}
-use Rattle.provider.specs.Groups.{of_group, place_in, AreGroups, HasGroups, IsPlaceOf, history_at}
+use Rattle.provider.specs.Groups.{of_group, place_in, HasGroups, IsPlaceOf}
 use Rattle.provider.specs.Devices.{tells_in, tells_within, tells_row, tells_at, devices_of, volume_place, HasCause}
 use Rattle.provider.specs.declared.device_fault.DeviceFault.{DeviceFault}
 use Rattle.provider.specs.GroupCalls.{IsGroupCall, IsGroupRead, device_of}

@@ -1,9 +1,8 @@
 -- A write to a group, against the histories of all volumes.
-use Rattle.std.proofs.Common.{◌≡◌, ℕ, zero, suc, ◌+◌, ◌<◌, ◌≤◌, ◌==◌, List, [], ◌∷◌, length, refl, ap, sym, ◌∙◌, subst, arith, Bool, true, false, Option, Some, None, map, slice_get, slice_set}
-use Rattle.std.specs.Prelude.{Result, Ok, Err, is_some, ◌≢◌}
+use Rattle.std.proofs.Common.{◌≡◌, ℕ, zero, suc, ◌<◌, ◌==◌, List, [], ◌∷◌, length, refl, ap, sym, ◌∙◌, subst, Bool, true, false, Option, Some, None, map, slice_get, slice_set}
+use Rattle.std.specs.Prelude.{Ok, Err, ◌≢◌}
 use Rattle.write_history.specs.History.{Write, History, written}
 use Rattle.write_history.specs.Slots.{Placed, gone_up_to, evicted_up_to}
-use Rattle.set_agenda.specs.Course.{change_at}
 use Rattle.scenario.specs.declared.volume_row.VolumeRow.{VolumeRow}
 use Rattle.scenario.specs.Plan.{Plan, placed, placed_in, slots_of, slots_in, group_of, blocks_of}
 use Rattle.cow_volume.specs.GroupValue.{GroupValue, placed as all_placed}

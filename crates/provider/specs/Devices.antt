@@ -1,7 +1,7 @@
 -- The devices of all groups, in the order in which they are given back: for each group those of its volumes in order, and then its
 -- area's. Which volumes tell their blocks, what every call keeps, and whose count of faults rose where a call failed. (This
 -- project's own.)
-use Rattle.std.specs.Prelude.{ℕ, ◌≡◌, ◌≤◌, ◌+◌, ◌&&◌, Bool, true, false, zero, suc, List, [], ◌∷◌, ◌++◌, length, map, Option, Some, None, is_some, slice_get, Result, Ok, Err}
+use Rattle.std.specs.Prelude.{ℕ, ◌≡◌, ◌≤◌, ◌+◌, ◌&&◌, Bool, false, zero, suc, List, [], ◌∷◌, ◌++◌, length, map, Option, Some, None, is_some, slice_get, Result, Ok, Err}
 use Rattle.vss_names.specs.Faults.{Rose}
 use Rattle.scenario.specs.declared.volume_row.VolumeRow.{VolumeRow}
 use Rattle.scenario.specs.Plan.{Plan}

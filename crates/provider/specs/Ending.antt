@@ -1,5 +1,5 @@
 -- What is left of a group whose area was brought to where it lasts. (This project's own.)
-use Rattle.std.specs.Prelude.{ℕ, ◌≡◌, Bool, true, List, map, Option, Some, is_some, slice_get, Result, Ok, Err}
+use Rattle.std.specs.Prelude.{ℕ, ◌≡◌, Bool, List, map, Option, Some, slice_get, Result, Ok, Err}
 use Rattle.write_history.specs.Slots.{copies}
 use Rattle.diff_area.specs.Copies.{AreStored}
 use Rattle.scenario.specs.Plan.{Plan, placed}

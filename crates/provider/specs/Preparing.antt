@@ -1,6 +1,6 @@
 -- The set that is being prepared: its volumes in order of `add`, and its number once it is known. What each step of the provider
 -- does with them. (The calls are those of the SDK's IVssHardwareSnapshotProvider; which refusal comes first is this project's own.)
-use Rattle.std.specs.Prelude.{ℕ, ◌≡◌, ◌<◌, ◌≤◌, Bool, true, false, List, [], ◌∷◌, ◌++◌, length, All, nat_le, if◌then◌else◌, Option, Some, None, IfSome, slice_get, Result, Ok, Err, Vec, vec_capacity}
+use Rattle.std.specs.Prelude.{ℕ, ◌≡◌, ◌<◌, ◌≤◌, Bool, List, [], ◌∷◌, ◌++◌, length, All, nat_le, if◌then◌else◌, Option, Some, None, slice_get, Result, Ok, Err, Vec, vec_capacity}
 use Rattle.std.specs.declared.alloc.Global.{Global}
 use Rattle.vss_names.specs.declared.vss_result.VssResult.{VssResult}
 use Rattle.vss_names.specs.declared.vss_result.VssResult.TheVariants.{ObjectAlreadyExists, MaximumNumberOfVolumesReached, MaximumNumberOfSnapshotsReached}
@@ -16,7 +16,7 @@ use Rattle.cow_volume.specs.GroupValue.{GroupValue}
 use Rattle.provider.specs.Groups.{AreGroups, IfStandFor, history_at}
 use Rattle.provider.specs.Devices.{devices_of, counts_of, volume_place, RoseAtPlace, AreKept}
 use Rattle.provider.specs.declared.device_fault.DeviceFault.{DeviceFault}
-use Rattle.provider.specs.declared.device_fault.DeviceFault.TheVariants.{Volume, Area}
+use Rattle.provider.specs.declared.device_fault.DeviceFault.TheVariants.{Volume}
 
 -- what a contract sees of a provider
 pub record ProviderValue (D : Type 0) : Type 0 where

@@ -1,13 +1,15 @@
-ghost use Rattle.std.specs.Prelude.{◌≡◌, ◌<◌, ◌≤◌, [], true, false, length, slice_get, Some, is_some, IfOk, IfErr, IfSome, OnOk};
+ghost use Rattle.std.specs.Prelude.{◌≡◌, ◌<◌, ◌≤◌, ℕ, [], true, false, length, map, slice_get, Some, is_some, IfOk, IfErr, IfSome, OnOk};
 ghost use Rattle.hex.specs.Hex.{IsBytes};
 ghost use Rattle.block_data.specs.PayloadBytes.{payload_bytes};
-ghost use Rattle.write_history.specs.History.{sets_of};
+ghost use Rattle.write_history.specs.History.{fresh, sets_of};
 ghost use Rattle.write_history.specs.Slots.{used, used_by, group_used};
 ghost use Rattle.set_agenda.specs.Agenda.{is_orders, is_over_volumes};
 ghost use Rattle.set_agenda.specs.declared.group.Group.TheVariants.{Cut, Flush};
 ghost use Rattle.scenario.specs.Bounds.{IsBlock};
 ghost use Rattle.scenario.specs.Plan.{Plan, blocks_of, group_of};
-ghost use Rattle.provider.specs.Groups.{AreGroups, AreWhole, HasGroups, IfStandFor, history_at};
+ghost use Rattle.cow_volume.specs.GroupValue.{GroupValue};
+ghost use Rattle.cow_volume.specs.Parts.{IsLentBy};
+ghost use Rattle.provider.specs.Groups.{AreFresh, AreGroups, AreWhole, HasGroups, IfStandFor, IsPlaceOf, history_at};
 ghost use Rattle.provider.specs.Devices.{AreKept, devices_of, volume_place, HasCause, fault_of};
 ghost use Rattle.provider.specs.Calls.{AreWithout, GoUpTo, HasImage, HasImageCause, IsDigestNow, IsDigestShown, IsDropped, IsNow, IsPut, IsQuiet, IsRevert, IsShown, outcome_of};
 ghost use Rattle.provider.specs.Preparing.{CanCut, HasJoined, HasStepCause, LastsAt, refusal, refused_as, step_taken};
@@ -67,6 +69,7 @@ impl<D: Device> Provider<D> {
         requires { length groups.items < 4294967296 }
         ensures made { IfOk result (λ made. made ≡ record { groups = groups.items; set = 0; volumes = [] }) }
         ensures whole { IfOk result (λ made. AreWhole made.groups) }
+        ensures fresh { IfOk result (λ made. (s : Plan) → AreFresh D.told s groups.items → AreGroups D.told s made.groups (map (λ row. fresh) s.volumes)) }
         ensures refused { IfErr result (λ given. given.items ≡ groups.items) }
     {
         let count = device_count(&groups);
@@ -189,6 +192,7 @@ impl<D: Device> Provider<D> {
         ensures shown { IfOk result (λ lent. IfSome lent (λ bytes. IsShown D.told scenario.now self.now.groups volume set block bytes.now)) }
         ensures whole { IfOk result (λ lent. IfSome lent (λ bytes. length bytes.now ≡ BLOCK)) }
         ensures image { OnOk result (HasImage D.told scenario.now self.now.groups volume set true) }
+        ensures lends { (g u : ℕ) (x : GroupValue D) → IsPlaceOf scenario.now volume g u → slice_get self.now.groups g ≡ Some x → IfOk result (λ lent. IsLentBy D.lending x u set block (is_some lent)) }
         ensures none { IfErr result (λ fault. (fault ≡ ImageFault.NoSuchImage) × HasImage D.told scenario.now self.now.groups volume set false) }
     {
         lend_image_in(&self.groups, scenario, set, volume, block)
