@@ -35,3 +35,6 @@ pub mod GroupSteps
 pub mod GroupWrites
 pub mod GroupCounts
 pub mod CopiedOnce
+pub mod MixedRows
+pub mod TakingUp
+pub mod KeptParts

@@ -1,4 +1,4 @@
-ghost use Rattle.std.specs.Prelude.{◌≡◌, ◌<◌, [], true, List, Some, length, replicate, IfOk, slice_get, slice_set, slice_index, map, option_map, is_some, All, Contains, IfSome, IsNone, OnOk, OnErr, ◌↔◌};
+ghost use Rattle.std.specs.Prelude.{◌≡◌, ◌<◌, [], true, List, Some, length, replicate, IfOk, slice_get, slice_set, slice_index, map, option_map, is_some, All, Contains, IfSome, IfErr, IsNone, OnOk, OnErr, ◌↔◌};
 ghost use Rattle.vss_names.specs.Faults.{HasCause};
 ghost use Rattle.volume_device.specs.Blocks.{AreBlocks};
 ghost use Rattle.write_history.specs.Slots.{Copy};
@@ -12,10 +12,13 @@ ghost use Rattle.diff_area.specs.Written.{table_blocks};
 ghost use Rattle.cow_volume.specs.Changes.{IsFirstCopy, HasNoCopy};
 ghost use Rattle.cow_volume.specs.Counts.{count_on, count_of};
 ghost use Rattle.cow_volume.specs.Room.{lacks_copy, lacks_slot, is_full, IsFirstToFree, IsRoomMade};
+ghost use Rattle.cow_volume.specs.Resuming.{AllHaveImages, IsResumeFault};
 ghost use Rattle.cow_volume.specs.Tied.{AreOfImages, new_map};
 ghost use Rattle.cow_volume.specs.CopiesAfter.{images_on, after_cut, after_note, after_merge, after_clear, after_gone, after_gone_on};
 
 use crate::renewing::{free_records, merge_records};
+use crate::resume_fault::ResumeFault;
+use crate::resuming::{maps_of, note_copies, pool_of};
 use block_data::{BLOCK, BlockView};
 use diff_area::{Area, AreaFault, Record};
 use diff_map::{DiffMap, Going, next_older};
@@ -23,7 +26,7 @@ use slot_pool::SlotPool;
 use std::alloc::Global;
 use std::marker::Model;
 use volume_device::Device;
-use vss_names::OutOfMemory;
+use vss_names::{Numbers, OutOfMemory};
 
 /// The copies of a group: the area that holds them, a map for each volume that finds them, and the pool of free slots.
 /// Contracts see the area and the images of each volume: what the maps and the pool hold follows from the records.
@@ -52,6 +55,29 @@ impl<D: Device> Copies<D> {
     {
         let maps = new_maps(alloc, &area)?;
         let pool = SlotPool::new(alloc, area.slots())?;
+        Ok(Copies { area, maps, pool })
+    }
+
+    /// The copies that stand in an area, with the images of these sets on each volume.
+    pub(crate) fn resume(
+        alloc: Global,
+        area: Area<D>,
+        images: &[Numbers],
+    ) -> Result<Copies<D>, ResumeFault>
+        requires lists { length images.now ≡ length area.volumes }
+        requires rise { All AreImages images.now }
+        ensures value { IfOk result (λ copies. copies ≡ record { area = area; images = images.now }) }
+        ensures all { OnOk result (AllHaveImages area.records images.now) }
+        ensures fault { IfErr result (IsResumeFault area.records images.now) }
+    {
+        let Ok(maps) = maps_of(alloc, &area, images) else {
+            return Err(ResumeFault::OutOfMemory);
+        };
+        let Ok(pool) = pool_of(alloc, &area) else {
+            return Err(ResumeFault::OutOfMemory);
+        };
+        let mut maps = maps;
+        note_copies(&mut maps, &area, images)?;
         Ok(Copies { area, maps, pool })
     }
 

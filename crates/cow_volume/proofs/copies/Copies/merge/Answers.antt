@@ -1,4 +1,4 @@
-use Rattle.std.proofs.Common.{◌≡◌, ◌∙◌, sym, Some, ℕ, List, Option, ap, subst, Contains}
+use Rattle.std.proofs.Common.{◌∙◌, sym, ℕ, List, Option, ap, subst, Contains}
 use Rattle.cow_volume.specs.Calls.{sets_in}
 use Rattle.diff_map.specs.Index.{IsIndex}
 use Rattle.diff_map.specs.Rules.{next_older, merged as merged_rule}
