@@ -26,6 +26,8 @@ pub mod DeviceCalls
 pub mod Kept
 pub mod DroppingNewer
 pub mod RestoringSteps
+pub mod NewerMerged
+pub mod RestoringMerged
 pub mod Synced
 pub mod GoingUpTo
 pub mod MakingRoom

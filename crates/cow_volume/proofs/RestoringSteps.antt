@@ -22,7 +22,7 @@ use Rattle.cow_volume.specs.declared.cause.Cause.TheVariants.{NoSuchBlock, Volum
 use Rattle.cow_volume.specs.declared.revert_fault.RevertFault.{RevertFault}
 use Rattle.cow_volume.specs.declared.revert_fault.RevertFault.TheVariants.{NoSuchImage, Fault}
 use Rattle.cow_volume.specs.Parts.{group_of, IsPut}
-use Rattle.cow_volume.specs.Restoring.{with_up_to, AreNewerGone, AreRestored, HasNoRecord, IsPutBack, IsNotPutBack, IsOneRestored, IsStopped, IsRestoring}
+use Rattle.cow_volume.specs.Restoring.{with_up_to, AreNewerGone, AreRestored, IsPutBack, IsNotPutBack, IsOneRestored, IsStopped, IsRestoring}
 use Rattle.cow_volume.proofs.Members.{Has}
 use Rattle.cow_volume.proofs.Group.{same_number, slice_get_inside, slice_set-same, place_at, history_at_is, changed_at-same}
 use Rattle.cow_volume.proofs.Clearing.{length-cleared}
@@ -90,6 +90,10 @@ slot_of_set told g hs v set p b slot start newest above found =
     let most = most_of set found.image (sets_at g v) newest (subst (λ (ss : List ℕ). Has found.image ss) (sym start.stands.sets_are) has) in
     let same : found.image ≡ set = omega arith in
     found.is_noted ∙ ap (λ (s : ℕ). Some (record_of v s b)) same
+
+-- no record is that of a copy of block b for the image of a set
+abbrev HasNoRecord : List Record → ℕ → ℕ → ℕ → Type 0
+HasNoRecord records v set b = (slot : ℕ) → slice_get records slot ≡ Some (record_of v set b) → ⊥
 
 -- a block that has a copy for the set is named since its point, and one that has none is not
 named_at : {D : Type 0} (told : D → Option (List (List ℕ))) (g : GroupValue D) (hs : List History) (v set p b slot : ℕ) → IsAtStart told g hs v set p → point_in set (history_at hs v).images ≡ Some p → b < blocks_at g v → slice_get g.area.records slot ≡ Some (record_of v set b)
@@ -256,7 +260,7 @@ restoring_one told size count lending g now new v set m restored true more insid
 restoring_one {D = D} told size count lending g now new v set m restored false more inside newest l above e done one =
     let none : restored ≡ restored + more = omega arith in
     subst (λ (k : ℕ). AreRestored told size count lending g new v set (m + 1) k) none
-    (subst (λ (x : GroupValue D). AreRestored told size count lending g x v set (m + 1) restored) (sym one.0) (restoring_skips told size count lending g now v set m restored inside newest l done one.1))
+    (subst (λ (x : GroupValue D). AreRestored told size count lending g x v set (m + 1) restored) (sym one.0) (restoring_skips told size count lending g now v set m restored inside newest l done (λ slot at. one.1 slot set at (omega arith))))
 
 -- no device failed
 pub one_unfailed : {D : Type 0} (told : D → Option (List (List ℕ))) (size count : D → ℕ) (lending : D → Bool) (now new : GroupValue D) (v set m : ℕ) (put : Bool) → IsOneRestored told size count lending now new v set m (Ok put) → IsUnfailed count now new

@@ -130,7 +130,7 @@ impl<D: Device> Copies<D> {
         requires { v < length self.now.area.volumes }
         ensures { result ≡ count_on v self.now.area.records }
     {
-        let _slots = self.area.slots();
+        let _facts = self.area.slots();
         let entries = self.maps[v as usize].entries();
         entries.len() as u32
     }
@@ -141,7 +141,7 @@ impl<D: Device> Copies<D> {
         requires above_zero { 0 < set }
         ensures { result ≡ count_of v set self.now.area.records }
     {
-        let _slots = self.area.slots();
+        let _facts = self.area.slots();
         let entries = self.maps[v as usize].entries();
         let mut used = 0;
         for entry in entries {
@@ -201,7 +201,7 @@ impl<D: Device> Copies<D> {
     {
         let map = &mut self.maps[v as usize];
         map.add_image(set);
-        let _after = map.images();
+        let _facts = map.images();
     }
 
     /// Notes the lowest free slot for a block of the newest image of the volume, which lacks a copy of it.
@@ -216,7 +216,7 @@ impl<D: Device> Copies<D> {
         let map = &mut self.maps[v as usize];
         let set = newest(map.images());
         map.note(block, slot);
-        let _after = map.images();
+        let _facts = map.images();
         let row = Record {
             set,
             block,
@@ -297,8 +297,8 @@ impl<D: Device> Copies<D> {
         ensures gone { self.new ≡ after_gone self.old result }
         ensures room { IsRoomMade self.old.area.records self.old.images v block result }
     {
-        let _valid = self.volumes();
-        let _records = self.slots();
+        let _facts = self.volumes();
+        let _facts = self.slots();
         if !self.lacks_slot(v, block) {
             return 0;
         }
@@ -328,7 +328,7 @@ impl<D: Device> Copies<D> {
     fn drop_up_to(&mut self, set: u32)
         ensures { self.new ≡ after_gone self.old set }
     {
-        let _records = self.slots();
+        let _facts = self.slots();
         for v in 0..self.volumes() {
             self.drop_up_to_on(v, set);
         }
@@ -340,10 +340,10 @@ impl<D: Device> Copies<D> {
         ensures { self.new ≡ after_gone_on self.old v set }
     {
         let map = &mut self.maps[v as usize];
-        let _before = map.images();
+        let _facts = map.images();
         free_records(&mut self.area, map.entries(), v, Going::UpTo(set));
         map.drop_up_to(set, &mut self.pool);
-        let _after = map.images();
+        let _facts = map.images();
     }
 
     /// The image of a set goes from the volume. Its copies go to the next older image, where that lacks them.
@@ -356,7 +356,7 @@ impl<D: Device> Copies<D> {
         let older = next_older(map.images(), set);
         merge_records(&mut self.area, map.entries(), v, set, older);
         map.merge_down(set, &mut self.pool);
-        let _after = map.images();
+        let _facts = map.images();
     }
 
     /// The images of the volume that are newer than that of a set go, and all copies from that set on.
@@ -366,10 +366,10 @@ impl<D: Device> Copies<D> {
         ensures { self.new ≡ after_clear self.old v set }
     {
         let map = &mut self.maps[v as usize];
-        let _before = map.images();
+        let _facts = map.images();
         free_records(&mut self.area, map.entries(), v, Going::From(set));
         map.clear_from(set, &mut self.pool);
-        let _after = map.images();
+        let _facts = map.images();
     }
 }
 

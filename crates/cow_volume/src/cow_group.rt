@@ -144,7 +144,7 @@ impl<D: Device> CowGroup<D> {
         requires { v < length self.now.area.volumes }
         ensures { (hs : List History) → StandsFor D.told self.now hs → result ≡ used (blocks_at self.now v) (history_at hs v).writes (history_at hs v).images }
     {
-        let _valid = self.copies.slots();
+        let _facts = self.copies.slots();
         self.copies.used_on(v)
     }
 
@@ -154,7 +154,7 @@ impl<D: Device> CowGroup<D> {
         requires { v < length self.now.area.volumes }
         ensures { (hs : List History) → StandsFor D.told self.now hs → result ≡ used_by (blocks_at self.now v) (history_at hs v).writes (history_at hs v).images set }
     {
-        let _valid = self.copies.slots();
+        let _facts = self.copies.slots();
         if !has_image(&self.copies, v, set) {
             return None;
         }
@@ -165,7 +165,7 @@ impl<D: Device> CowGroup<D> {
     pub fn used_all(&self) -> u32
         ensures { (hs : List History) → StandsFor D.told self.now hs → result ≡ group_used (placed self.now.area.volumes) hs }
     {
-        let _valid = self.copies.slots();
+        let _facts = self.copies.slots();
         self.copies.used()
     }
 
@@ -329,8 +329,8 @@ impl<D: Device> CowGroup<D> {
         ensures evicted { (hs : List History) → StandsFor D.told self.old hs → IsEvicted self.old v block hs result }
         ensures stands { (hs : List History) → StandsFor D.told self.old hs → StandsFor D.told self.new (made_room self.old result hs) }
     {
-        let _valid = self.copies.slots();
-        let _images = self.copies.volumes();
+        let _facts = self.copies.slots();
+        let _facts = self.copies.volumes();
         self.copies.make_room(v, block)
     }
 
@@ -358,7 +358,7 @@ impl<D: Device> CowGroup<D> {
         ensures put { IsPutOr D.told D.size D.count D.lending self.old self.new v (record { block = block; bytes = payload_bytes payload.now }) result }
         ensures once { IsCopiedOnce D.told self.old self.new v block }
     {
-        let _fits = self.copies.slots();
+        let _facts = self.copies.slots();
         let Some(slot) = self.copies.free_slot() else {
             unreachable!();
         };

@@ -25,6 +25,6 @@ returns-in-Ok-flush-clause-sync g c = λ devices. (
   synced_further g.D.Device.told g.D.Device.size g.D.Device.count g.D.Device.lending devices c.args.copies.now c.sync.new.self c.flush.new.self
       (synced_all g.D.Device.told g.D.Device.size g.D.Device.count g.D.Device.lending devices c.args.copies.now c.sync.new.self c.in-Ok.ensures.table c.in-Ok.ensures.images c.in-Ok.ensures.cause.later c.in-Ok.ensures.written)
       (quiet_area g.D.Device.told g.D.Device.size g.D.Device.count g.D.Device.lending devices c.sync.new.self c.flush.new.self c.in-Ok-flush.ensures.table c.in-Ok-flush.ensures.images c.in-Ok-flush.ensures.told c.in-Ok-flush.ensures.cause.later),
-  stored_all g.D.Device.told devices c.args.copies.now c.sync.new.self c.flush.new.self c.slots-valid.ensures.valid c.in-Ok-flush.ensures.told c.in-Ok.ensures.stands,
+  stored_all g.D.Device.told devices c.args.copies.now c.sync.new.self c.flush.new.self c.slots-facts.ensures.valid c.in-Ok-flush.ensures.told c.in-Ok.ensures.stands,
   record { devices = refl; area = c.in-Ok-flush.ensures.cause.same ∙ c.in-Ok.ensures.cause.same },
 )

@@ -7,10 +7,10 @@ use Rattle.cow_volume.proofs.MakingRoom.{gone_nothing, room_there, room_made_by}
 use Rattle.cow_volume.proofs.copies.Copies.make_room.Goals as goal
 
 pub returns-then-not-lacks_slot-clause-gone : goal.returns-then-not-lacks_slot-clause-gone
-returns-then-not-lacks_slot-clause-gone g c = gone_nothing c.args.self.now c.slots-records.ensures.valid c.volumes-valid.ensures.of_images
+returns-then-not-lacks_slot-clause-gone g c = gone_nothing c.args.self.now c.slots-facts.ensures.valid c.volumes-facts.ensures.of_images
 
 pub returns-then-not-lacks_slot-clause-room : goal.returns-then-not-lacks_slot-clause-room
-returns-then-not-lacks_slot-clause-room g c = room_there c.args.self.now c.args.v c.args.block c.slots-records.ensures.valid c.volumes-valid.ensures.of_images (sym c.lacks_slot.ensures ∙ c.if-not-lacks_slot.true)
+returns-then-not-lacks_slot-clause-room g c = room_there c.args.self.now c.args.v c.args.block c.slots-facts.ensures.valid c.volumes-facts.ensures.of_images (sym c.lacks_slot.ensures ∙ c.if-not-lacks_slot.true)
 
 pub first_to_free-up_to-requires-clause-some : goal.first_to_free-up_to-requires-clause-some
 first_to_free-up_to-requires-clause-some g c =
@@ -19,4 +19,4 @@ first_to_free-up_to-requires-clause-some g c =
     lacks_some now.area.records c.args.v (images_on now c.args.v) c.args.block (and_left (lacks_copy now.area.records c.args.v (images_on now c.args.v) c.args.block) (is_full now.area.records) lacks)
 
 pub returns-clause-room : goal.returns-clause-room
-returns-clause-room g c = room_made_by c.args.self.now c.args.v c.args.block c.first_to_free-up_to.result c.slots-records.ensures.valid c.volumes-valid.ensures.images c.volumes-valid.ensures.of_images c.requires (sym c.lacks_slot.ensures ∙ c.if-not-lacks_slot.false) c.first_to_free-up_to.ensures
+returns-clause-room g c = room_made_by c.args.self.now c.args.v c.args.block c.first_to_free-up_to.result c.slots-facts.ensures.valid c.volumes-facts.ensures.images c.volumes-facts.ensures.of_images c.requires (sym c.lacks_slot.ensures ∙ c.if-not-lacks_slot.false) c.first_to_free-up_to.ensures
