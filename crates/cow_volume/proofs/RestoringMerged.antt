@@ -43,8 +43,8 @@ keeps_one told size count lending g now new v set b r had one = keeps_more told 
 
 rose_merged : {D : Type 0} (count : D → ℕ) (v : ℕ) (devices after : List D) (mid now new : CopiesValue D) (cause : Cause) → DeviceRose count v (group_of devices now) (group_of after new) cause → DeviceRose count v (group_of devices (merged_as mid now)) (group_of after (merged_as mid new)) cause
 rose_merged count v devices after mid now new NoSuchBlock rose = rose
-rose_merged count v devices after mid now new Volume rose = record { before = rose.before; now = rose.now; was = rose.was; is = rose.is; rose = rose.rose }
-rose_merged count v devices after mid now new Area rose = rose
+rose_merged count v devices after mid now new Volume rose = record { before = rose.before; now = rose.now; was = rose.was; is = rose.is; rose = rose.rose; devices = rose.devices; area = rose.area }
+rose_merged count v devices after mid now new Area rose = record { rose = rose.rose; devices = rose.devices }
 
 kept_merged : {D : Type 0} (told : D → Option (List (List ℕ))) (size count : D → ℕ) (lending : D → Bool) (devices after : List D) (mid now new : CopiesValue D) → IsKept told size count lending (group_of devices now) (group_of after new) → IsKept told size count lending (group_of devices (merged_as mid now)) (group_of after (merged_as mid new))
 kept_merged told size count lending devices after mid now new kept = record { volumes = kept.volumes; slots = refl; area = kept.area; devices = kept.devices; each = kept.each }

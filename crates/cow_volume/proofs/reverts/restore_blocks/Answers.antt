@@ -54,6 +54,7 @@ returns-in-Err-clause-restored g c = λ mid m.
     let here = in_range_of c.args.copies.now.area.volumes c.args.v c.loop-block.block c.blocks-block-end.result c.blocks-block-end.ensures (omega arith) in
     restoring_stops g.D.Device.told g.D.Device.size g.D.Device.count g.D.Device.lending (group_of c.args.devices.now.items (merged_as mid c.args.copies.now)) (group_of c.loop-block.devices.items (merged_as mid c.loop-block.copies)) (group_of c.restore_block.new.devices.items (merged_as mid c.restore_block.new.copies))
     c.args.v c.args.set c.loop-block.block c.loop-block.restored c.in-Err.cause c.requires.volume m.gone.most here c.requires.above_zero (c.loop-block.invariant.done mid m)
+    (record { devices = c.loop-block.invariant.unfailed.devices; area = c.loop-block.invariant.unfailed.area })
     (one_merged g.D.Device.told g.D.Device.size g.D.Device.count g.D.Device.lending c.loop-block.devices.items c.restore_block.new.devices.items c.args.copies.now mid c.loop-block.copies c.restore_block.new.copies c.args.v c.args.set c.loop-block.block (Err c.in-Err.cause) m c.loop-block.invariant.keeps.records c.in-Err.ensures)
 
 pub returns-in-Err-clause-keeps : goal.returns-in-Err-clause-keeps
