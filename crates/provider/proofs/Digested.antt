@@ -1,5 +1,5 @@
 -- Digests of one group, against the histories of all volumes.
-use Rattle.std.proofs.Common.{◌≡◌, ℕ, List, length, refl, ap, sym, ◌∙◌, subst, Bool, true, false, Option, Some, slice_get}
+use Rattle.std.proofs.Common.{slice_set, ◌≡◌, ℕ, List, length, refl, ap, sym, ◌∙◌, subst, Bool, true, false, Option, Some, slice_get}
 use Rattle.std.specs.Prelude.{Result, Ok, Err, IfOk}
 use Rattle.std.specs.List.{concat}
 use Rattle.block_data.specs.Digest.{sha256}
@@ -8,7 +8,7 @@ use Rattle.scenario.specs.Plan.{Plan, blocks_of}
 use Rattle.cow_volume.specs.GroupValue.{GroupValue}
 use Rattle.cow_volume.specs.Calls.{history_at as group_history_at}
 use Rattle.provider.specs.Groups.{of_group, HasGroups, IsPlaceOf}
-use Rattle.provider.specs.Devices.{HasCause, RoseAtPlace, counts_of, fault_of}
+use Rattle.provider.specs.Devices.{HasCause, RoseAlone, counts_of, fault_of}
 use Rattle.provider.specs.Calls.{HasImageCause, IsDigestNow, IsDigestShown, IsQuiet, outcome_of}
 use Rattle.provider.specs.declared.device_fault.DeviceFault.{DeviceFault}
 use Rattle.provider.specs.declared.device_fault.DeviceFault.TheVariants.{Volume, Area}
@@ -17,18 +17,18 @@ use Rattle.provider.specs.declared.image_fault.ImageFault.TheVariants.{NoSuchIma
 use Rattle.provider.specs.GroupCalls.{IsGroupCall}
 use Rattle.provider.specs.Hashing.{FaultRose, IsGroupDigest, IsGroupImageDigest}
 use Rattle.provider.proofs.Places.{blocks_are, history_of_place}
-use Rattle.provider.proofs.Kept.{kept_one, called_there}
+use Rattle.provider.proofs.Kept.{kept_one}
 use Rattle.provider.proofs.Causes.{unfailed}
 use Rattle.provider.proofs.Flat.{rose_volume, rose_area, area_of_place}
 use Rattle.provider.proofs.Looked.{image_of}
 use Rattle.provider.proofs.DroppedAll.{same_groups}
 use Rattle.provider.proofs.Shown.{quiet_of, telling}
 
-rose_of : {D : Type 0} (count : D → ℕ) (s : Plan) (old new : List (GroupValue D)) (v g u : ℕ) (x y : GroupValue D) (fault : DeviceFault) → HasGroups s old → HasGroups s new → IsPlaceOf s v g u
-    → slice_get old g ≡ Some x → slice_get new g ≡ Some y → FaultRose count u x y fault → HasCause count s v (Some fault) old new
-rose_of count s old new v g u x y Volume has has_now place was is rose = rose_volume count s old new v g u x y has has_now place was is rose
-rose_of count s old new v g u x y Area has has_now place was is rose =
-    subst (λ (n : ℕ). RoseAtPlace n (counts_of count old) (counts_of count new)) (sym (area_of_place s v g u place)) (rose_area count s old new g x y has has_now was is rose)
+rose_of : {D : Type 0} (count : D → ℕ) (s : Plan) (old new : List (GroupValue D)) (v g u : ℕ) (x y : GroupValue D) (fault : DeviceFault) → HasGroups s old → IsPlaceOf s v g u
+    → slice_get old g ≡ Some x → new ≡ slice_set old g y → FaultRose count u x y fault → HasCause count s v (Some fault) old new
+rose_of count s old new v g u x y Volume has place was is rose = rose_volume count s old new v g u x y has place was is rose
+rose_of count s old new v g u x y Area has place was is rose =
+    subst (λ (n : ℕ). RoseAlone n (counts_of count old) (counts_of count new)) (sym (area_of_place s v g u place)) (rose_area count s old new g x y has was is rose)
 
 module _ {D : Type 0} (told : D → Option (List (List ℕ))) (size count : D → ℕ) (lending : D → Bool) (s : Plan) (old new : List (GroupValue D)) (v g u : ℕ) (place : IsPlaceOf s v g u) (has : HasGroups s old) where
   pub digest_quiet : (result : Result (List ℕ) DeviceFault) → IsGroupCall old new g (λ x y. IsGroupDigest told size count lending x y u result) → IsQuiet told size count lending s old new v
@@ -47,8 +47,7 @@ module _ {D : Type 0} (told : D → Option (List (List ℕ))) (size count : D �
   pub digest_cause : (result : Result (List ℕ) DeviceFault) → IsGroupCall old new g (λ x y. IsGroupDigest told size count lending x y u result) → HasCause count s v (fault_of result) old new
   digest_cause (Ok digest) c = unfailed count s v old new g c.before c.after c.was c.is c.called.same
   digest_cause (Err fault) c =
-      let kept = kept_one told size count lending old new g c.before c.after c.was c.is c.called.quiet.kept in
-      rose_of count s old new v g u c.before c.after fault has (kept.has s has) place c.was (called_there old new g c.before c.after c.was c.is) c.called.rose
+      rose_of count s old new v g u c.before c.after fault has place c.was c.is c.called.rose
 
   pub image_digest_quiet : (set : ℕ) (result : Result (List ℕ) ImageFault) → IsGroupCall old new g (λ x y. IsGroupImageDigest told size count lending x y u set result) → IsQuiet told size count lending s old new v
   image_digest_quiet set result c = quiet_of told size count lending s old new v g u c.before c.after place c.was c.is c.called.quiet
@@ -68,5 +67,5 @@ module _ {D : Type 0} (told : D → Option (List (List ℕ))) (size count : D �
   image_digest_cause set (Err (Device fault)) c =
       let kept = kept_one told size count lending old new g c.before c.after c.was c.is c.called.quiet.kept in (
         image_of told s old v g u set c.before true place has c.was c.called.cause.0,
-        rose_of count s old new v g u c.before c.after fault has (kept.has s has) place c.was (called_there old new g c.before c.after c.was c.is) c.called.cause.1,
+        rose_of count s old new v g u c.before c.after fault has place c.was c.is c.called.cause.1,
       )

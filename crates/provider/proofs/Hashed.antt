@@ -1,5 +1,5 @@
 -- The blocks of a volume, or of an image, are hashed one after another.
-use Rattle.std.proofs.Common.{◌≡◌, ℕ, ◌+◌, ◌<◌, List, [], ◌∷◌, ◌++◌, length, refl, ap, sym, ◌∙◌, subst, arith, Bool, true, false, Option, Some, slice_get}
+use Rattle.std.proofs.Common.{slice_set, ◌≡◌, ℕ, ◌+◌, ◌<◌, List, [], ◌∷◌, ◌++◌, length, refl, ap, sym, ◌∙◌, subst, arith, Bool, true, false, Option, Some, slice_get}
 use Rattle.std.specs.Prelude.{◌≢◌, is_some}
 use Rattle.std.specs.List.{concat}
 use Rattle.std.proofs.lemmas.List.Folds.{concat-append}
@@ -133,5 +133,14 @@ rose_since {D = D} told size count lending first old new u device.Volume same lo
     let within = slice_get_within old.devices u rose.before rose.was in
     let d = slice_get_inside first.devices u (omega (arith, within, long)) in
     let one : Some (count rose.before) ≡ Some (count d.0) = sym (slice_get_map count old.devices u rose.before rose.was) ∙ ap (λ (ns : List ℕ). slice_get ns u) same.devices ∙ slice_get_map count first.devices u d.0 d.1 in
-    record { before = d.0; now = rose.now; was = d.1; is = rose.is; rose = subst (λ (n : ℕ). Rose n (count rose.now)) (same_Some (count rose.before) (count d.0) one) rose.rose }
-rose_since told size count lending first old new u device.Area same long rose = subst (λ (n : ℕ). Rose n (count new.area.device)) same.area rose
+    record {
+      before = d.0;
+      now = rose.now;
+      was = d.1;
+      is = rose.is;
+      rose = subst (λ (n : ℕ). Rose n (count rose.now)) (same_Some (count rose.before) (count d.0) one) rose.rose;
+      devices = rose.devices ∙ ap (λ (ns : List ℕ). slice_set ns u (count rose.now)) same.devices;
+      area = rose.area ∙ same.area;
+    }
+rose_since told size count lending first old new u device.Area same long rose =
+    record { rose = subst (λ (n : ℕ). Rose n (count new.area.device)) same.area rose.rose; devices = rose.devices ∙ same.devices }

@@ -18,7 +18,7 @@ use Rattle.provider.specs.GroupCalls.{IsGroupCall, device_of}
 use Rattle.provider.proofs.InGroup.{gone_in_group, gone_elsewhere, changed_in_group, changed_elsewhere, evicted_in_group}
 use Rattle.provider.proofs.Places.{blocks_are}
 use Rattle.provider.proofs.Becoming.{becomes, length_changed}
-use Rattle.provider.proofs.Kept.{kept_one, call_on, called_there}
+use Rattle.provider.proofs.Kept.{kept_one, call_on}
 use Rattle.provider.proofs.Causes.{unfailed, rose_by, by_device, is_device}
 
 -- ## members
@@ -140,5 +140,5 @@ put_failed told size count lending s old new v g u w fault place has low c =
       call = call_on told size count lending s old new v g u c.before c.after place c.was c.is c.called.kept;
       evicted = λ hs are. go_up_to told s old v g u w.block fault.evicted_up_to c.before hs place c.was are (c.called.evicted within);
       stands = λ hs are. put_stands told s old new v g u w (Some (device_of fault.cause)) fault.evicted_up_to c.before c.after hs place c.was c.is c.called.kept.volumes c.called.kept.slots are c.called.stands;
-      cause = rose_by count s old new v g u c.before c.after fault.cause has (kept.has s has) place c.was (called_there old new g c.before c.after c.was c.is) (by_device count u w.block c.before c.after fault.cause within c.called.cause);
+      cause = rose_by count s old new v g u c.before c.after fault.cause has place c.was c.is (by_device count u w.block c.before c.after fault.cause within c.called.cause);
     }
