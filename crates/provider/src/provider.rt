@@ -1,4 +1,4 @@
-ghost use Rattle.std.specs.Prelude.{◌≡◌, ◌<◌, ◌≤◌, ℕ, [], true, false, length, map, slice_get, Some, is_some, IfOk, IfErr, IfSome, OnOk};
+ghost use Rattle.std.specs.Prelude.{◌≡◌, ◌≢◌, ◌<◌, ◌≤◌, ℕ, [], true, false, length, map, slice_get, Some, is_some, IfOk, IfErr, IfSome, OnOk};
 ghost use Rattle.hex.specs.Hex.{IsBytes};
 ghost use Rattle.block_data.specs.PayloadBytes.{payload_bytes};
 ghost use Rattle.write_history.specs.History.{fresh, sets_of};
@@ -332,6 +332,7 @@ impl<D: Device> Provider<D> {
         ensures stands { IfStandFor D.told scenario.now self.old.groups (λ hs. AreGroups D.told scenario.now self.new.groups (step_taken group self.old.set self.old.volumes hs)) }
         ensures kept { AreKept D.told D.size D.count D.lending self.old.groups self.new.groups }
         ensures cause { HasStepCause D.count scenario.now group volume result self.old.groups self.new.groups }
+        ensures devices { (group ≢ Flush) → devices_of self.new.groups ≡ devices_of self.old.groups }
         ensures lasts { group ≡ Flush → OnOk result (IfSome volume (λ v. LastsAt D.told D.lasting (volume_place scenario.now v) (devices_of self.new.groups))) }
         ensures set { self.new ≡ record self.old { groups = self.new.groups } }
     {
