@@ -239,7 +239,7 @@ length-group first (n ∷ volumes) (h ∷ hs) =
     let rest = length-group (first + 1) volumes hs in
     length-append (copies_of first n h.writes h.images) (copies_from (first + 1) (placed volumes) hs) ∙ omega arith
 
-copy-volume : (v n : ℕ) (ws : List Write) (images : List Image) (c : Copy) → Has c (copies_of v n ws images) → v ≡ c.volume
+pub copy-volume : (v n : ℕ) (ws : List Write) (images : List Image) (c : Copy) → Has c (copies_of v n ws images) → v ≡ c.volume
 copy-volume v n ws images c m = ap (λ (x : Copy). x.volume) (is-copy v n ws images c m).is
 
 -- no two are of one block of one image of one volume

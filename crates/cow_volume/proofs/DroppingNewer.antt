@@ -13,7 +13,7 @@ use Rattle.cow_volume.specs.Parts.{group_of}
 use Rattle.cow_volume.specs.Restoring.{AreNewerGone}
 use Rattle.cow_volume.proofs.Members.{Has}
 use Rattle.cow_volume.proofs.Group.{same_number, number_is, slice_get-set_same}
-use Rattle.cow_volume.proofs.Merging.{image_dropped}
+use Rattle.cow_volume.proofs.Merging.{image_dropped, image_dropped_within, AreWithin}
 use Rattle.cow_volume.proofs.Kept.{kept_records}
 use Rattle.cow_volume.proofs.GroupReverts.{AreGoing, going_none, going_more, going_all}
 
@@ -106,6 +106,12 @@ merged_stands told devices old hs v set are at stands =
     let among = among_of set (images_on old v) at in
     image_dropped told (group_of devices old) (group_of devices (after_merge old v set)) hs v set (images_on old v) stands are (images_row old v set among) among refl refl refl refl refl
 
+pub merged_stands_within : {D : Type 0} (told : D → Option (List (List ℕ))) (devices : List D) (old : CopiesValue D) (hs : List History) (v set : ℕ) → ((n : ℕ) → slice_get old.area.volumes v ≡ Some n → AreWithin v n old.area.records) → Contains (images_on old v) set
+    → StandsFor told (group_of devices old) hs → StandsFor told (group_of devices (after_merge old v set)) (changed_at v (dropped set) hs)
+merged_stands_within told devices old hs v set within at stands =
+    let among = among_of set (images_on old v) at in
+    image_dropped_within told (group_of devices old) (group_of devices (after_merge old v set)) hs v set (images_on old v) stands within (images_row old v set among) among refl refl refl refl refl
+
 -- one image goes, and nothing else changes
 pub image_gone : {D : Type 0} (told : D → Option (List (List ℕ))) (size count : D → ℕ) (lending : D → Bool) (devices : List D) (old new : CopiesValue D) (v set : ℕ) → is_among set (images_on old v) ≡ true → new ≡ after_merge old v set
     → ((hs : List History) → StandsFor told (group_of devices old) hs → StandsFor told (group_of devices new) (changed_at v (dropped set) hs))
@@ -132,7 +138,7 @@ pub record IsDropping {D : Type 0} (told : D → Option (List (List ℕ))) (old 
 pub dropping_none : {D : Type 0} (told : D → Option (List (List ℕ))) (old : CopiesValue D) (v set : ℕ) → is_among set (images_on old v) ≡ true → IsDropping told old old v set
 dropping_none told old v set among = record { among = among; device = refl; volumes = refl; slots = refl; going = λ devices. going_none told (group_of devices old) v set }
 
-images_after : {D : Type 0} (c : CopiesValue D) (v set : ℕ) → is_among set (images_on c v) ≡ true → images_on (after_merge c v set) v ≡ filter (λ s. not (s == set)) (images_on c v)
+pub images_after : {D : Type 0} (c : CopiesValue D) (v set : ℕ) → is_among set (images_on c v) ≡ true → images_on (after_merge c v set) v ≡ filter (λ s. not (s == set)) (images_on c v)
 images_after c v set among = ap sets_in (slice_get-set_same c.images v (images_on c v) (filter (λ s. not (s == set)) (images_on c v)) (images_row c v set among))
 
 -- fewer are left

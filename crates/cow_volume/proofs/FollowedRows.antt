@@ -1,5 +1,5 @@
 -- The records that follow their map, slot by slot.
-use Rattle.std.proofs.Common.{ℕ, zero, suc, ◌≡◌, ◌<◌, Bool, true, false, ◌&&◌, List, [], ◌∷◌, length, Option, Some, slice_get, slice_set, refl, sym, ap, arith}
+use Rattle.std.proofs.Common.{ℕ, zero, suc, ◌≡◌, ◌<◌, Bool, false, ◌&&◌, List, [], ◌∷◌, length, Option, Some, slice_get, slice_set, refl, sym, ap, arith}
 use Rattle.std.specs.Prelude.{◌==◌, nat_lt, if◌then◌else◌}
 use Rattle.std.proofs.lemmas.Option.{none-some, same_Some}
 use Rattle.diff_area.specs.declared.table_record.Record.{Record}

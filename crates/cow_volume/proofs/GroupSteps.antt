@@ -45,8 +45,8 @@ module _ {D : Type 0} (told : D → Option (List (List ℕ))) (size count : D �
     mapped (x ∷ ds) zero h = ap (λ (y : D). Some (told y)) (same_Some x d h)
     mapped (x ∷ ds) (suc k) h = mapped ds k h
 
-  pub volume_rose : (devices : List D) (v : ℕ) (d e : D) (old new : CopiesValue D) → slice_get devices v ≡ Some d → Rose (count d) (count e) → VolumeRose count v (group_of devices old) (group_of (slice_set devices v e) new)
-  volume_rose devices v d e old new at rose = record { before = d; now = e; was = at; is = set_here devices v at; rose = rose } where
+  pub volume_rose : (devices : List D) (v : ℕ) (d e : D) (old new : CopiesValue D) → slice_get devices v ≡ Some d → Rose (count d) (count e) → count new.area.device ≡ count old.area.device → VolumeRose count v (group_of devices old) (group_of (slice_set devices v e) new)
+  volume_rose devices v d e old new at rose area = record { before = d; now = e; was = at; is = set_here devices v at; rose = rose; devices = map-set count devices v e; area = area } where
     set_here : (ds : List D) (k : ℕ) → slice_get ds k ≡ Some d → slice_get (slice_set ds k e) k ≡ Some e
     set_here [] k h = absurd (none-some d h)
     set_here (x ∷ ds) zero h = refl
@@ -79,7 +79,7 @@ slot_copied told size count lending device new_device old new block slot bytes (
 slot_copied told size count lending device new_device old new block slot bytes (Err cause) on same read h = record {
   device_on = on;
   area_on = h.area_on;
-  rose = subst (λ (c : Cause). RoseBy count device new_device old.area.device new.area.device c) (sym h.cause_is) h.rose;
+  rose = subst (λ (c : Cause). RoseBy count device new_device old.area.device new.area.device c) (sym h.cause_is) (h.rose, same);
 }
 
 -- ## a block that was lent to be written

@@ -45,7 +45,7 @@ module _ {D : Type 0} (told : D → Option (List (List ℕ))) (size count : D �
   put_again e (Err cause) has failed = record {
     kept = kept told size count lending devices v d e c c at (same_on told size count lending d e (told d) failed.0 refl) (same_itself told size count lending c.area.device) refl refl;
     stands = λ hs stood. quiet_stands told (group_of devices c) (group_of (slice_set devices v e) c) hs stood (told_set told size count lending devices v d e at failed.0.tells) refl refl refl refl;
-    rose = subst (λ (f : Cause). DeviceRose count v (group_of devices c) (group_of (slice_set devices v e) c) f) (sym failed.1) (volume_rose told size count lending devices v d e c c at failed.2);
+    rose = subst (λ (f : Cause). DeviceRose count v (group_of devices c) (group_of (slice_set devices v e) c) f) (sym failed.1) (volume_rose told size count lending devices v d e c c at failed.2 refl);
   }
 
   -- the copy failed
@@ -57,8 +57,8 @@ module _ {D : Type 0} (told : D → Option (List (List ℕ))) (size count : D �
   } where
     by_cause : (cause : Cause) → RoseBy count d e c.area.device new.area.device cause → DeviceRose count v (group_of devices c) (group_of (slice_set devices v e) new) cause
     by_cause NoSuchBlock rose = rose
-    by_cause Volume rose = volume_rose told size count lending devices v d e c new at rose
-    by_cause Area rose = rose
+    by_cause Volume rose = volume_rose told size count lending devices v d e c new at rose.0 rose.1
+    by_cause Area rose = record { rose = rose.0; devices = map_set_told count devices v d e at rose.1 }
 
   module _ (slot : ℕ) (free_at : IsLowestFree (map is_free c.area.records) slot) (fits : size c.area.device ≡ blocks_for (length c.area.records)) (whole : IfSome (told c.area.device) (AreBlocks (size c.area.device))) (e f : D) (new : CopiesValue D) (copied : IsCopiedIn told size count lending d e c new w.block slot) where
     is_there : slice_get c.area.records slot ≡ Some free
@@ -78,7 +78,7 @@ module _ {D : Type 0} (told : D → Option (List (List ℕ))) (size count : D �
       }) area_same copied.area_on.volumes (ap length copied.area_on.records);
       stands = λ hs stood. group_overwritten told (group_of devices c) (group_of (slice_set devices v f) new) hs slot copied.copy stood is_there (told_set told size count lending devices v d f at (on.tells ∙ copied.device_on.tells))
           copied.area_on.images copied.area_on.volumes copied.area_on.records copied.area_on.device.tells;
-      rose = subst (λ (x : Cause). DeviceRose count v (group_of devices c) (group_of (slice_set devices v f) new) x) (sym is) (volume_rose told size count lending devices v d f c new at (risen rose copied.device_on.later));
+      rose = subst (λ (x : Cause). DeviceRose count v (group_of devices c) (group_of (slice_set devices v f) new) x) (sym is) (volume_rose told size count lending devices v d f c new at (risen rose copied.device_on.later) copied.area_same);
     } where
       risen : Rose (count e) (count f) → count d ≤ count e → Rose (count d) (count f)
       risen (inl up) le = inl (omega arith)
@@ -117,8 +117,8 @@ kept_gone told size count lending m old new k = record { volumes = k.volumes; sl
 
 rose_gone : {D : Type 0} (count : D → ℕ) (v b m : ℕ) (old new : GroupValue D) (cause : Cause) → b < blocks_at old v → DeviceRose count v (gone_group m old) new cause → HasCauseAt count v b old new cause
 rose_gone count v b m old new NoSuchBlock low rose = absurd rose
-rose_gone count v b m old new Volume low rose = (low, record { before = rose.before; now = rose.now; was = rose.was; is = rose.is; rose = rose.rose })
-rose_gone count v b m old new Area low rose = (low, rose)
+rose_gone count v b m old new Volume low rose = (low, record { before = rose.before; now = rose.now; was = rose.was; is = rose.is; rose = rose.rose; devices = rose.devices; area = rose.area })
+rose_gone count v b m old new Area low rose = (low, record { rose = rose.rose; devices = rose.devices })
 
 module _ {D : Type 0} (told : D → Option (List (List ℕ))) (size count : D → ℕ) (lending : D → Bool) (old mid new : GroupValue D) (v : ℕ) (w : Write) (m : ℕ) (low : w.block < blocks_at old v) (gone : mid ≡ gone_group m old)
     (evicted : (hs : List History) → StandsFor told old hs → IsEvicted old v w.block hs m) (room : (hs : List History) → StandsFor told old hs → StandsFor told mid (made_room old m hs)) where

@@ -1,6 +1,7 @@
 -- What each call keeps of a group, and what it stands for where only counts of devices changed.
 use Rattle.std.proofs.Common.{◌≡◌, ◌≤◌, ℕ, zero, suc, Bool, true, false, List, [], ◌∷◌, length, map, refl, ap, sym, subst, ◌∙◌, arith, Option, Some, None}
 use Rattle.std.specs.Prelude.{is_some, slice_get, slice_set, option_map, ◌==◌}
+use Rattle.std.proofs.lemmas.List.{map-set}
 use Rattle.std.proofs.lemmas.Option.{same_Some, slice_get_within, slice_get-map}
 use Rattle.write_history.specs.History.{History}
 use Rattle.diff_area.specs.AreaValue.{KeepsTable}
@@ -48,17 +49,19 @@ pub all_told : {D : Type 0} (told : D → Option (List (List ℕ))) (size count 
 all_told told size count lending v old new failed call e = ap (map told) call.devices ∙ map_set_told told old v call.before call.after call.was e
 
 -- the count of the device of a volume rose where the call failed
-pub volume_rose_if : {D : Type 0} (told : D → Option (List (List ℕ))) (size count : D → ℕ) (lending : D → Bool) (v : ℕ) (old new : List D) (failed : Bool) (g h : CopiesValue D) → IsCalled told size count lending v old new failed → failed ≡ true → VolumeRose count v (group_of old g) (group_of new h)
-volume_rose_if {D = D} told size count lending v old new failed g h call e = record {
+pub volume_rose_if : {D : Type 0} (told : D → Option (List (List ℕ))) (size count : D → ℕ) (lending : D → Bool) (v : ℕ) (old new : List D) (failed : Bool) (g h : CopiesValue D) → IsCalled told size count lending v old new failed → failed ≡ true → count h.area.device ≡ count g.area.device → VolumeRose count v (group_of old g) (group_of new h)
+volume_rose_if {D = D} told size count lending v old new failed g h call e area = record {
   before = call.before;
   now = call.after;
   was = call.was;
   is = ap (λ (ds : List D). slice_get ds v) call.devices ∙ slice_get-set_same old v call.before call.after call.was;
   rose = call.rose e;
+  devices = ap (map count) call.devices ∙ map-set count old v call.after;
+  area = area;
 }
 
-pub volume_rose : {D : Type 0} (told : D → Option (List (List ℕ))) (size count : D → ℕ) (lending : D → Bool) (v : ℕ) (old new : List D) (g h : CopiesValue D) → IsCalled told size count lending v old new true → VolumeRose count v (group_of old g) (group_of new h)
-volume_rose told size count lending v old new g h call = volume_rose_if told size count lending v old new true g h call refl
+pub volume_rose : {D : Type 0} (told : D → Option (List (List ℕ))) (size count : D → ℕ) (lending : D → Bool) (v : ℕ) (old new : List D) (g h : CopiesValue D) → IsCalled told size count lending v old new true → count h.area.device ≡ count g.area.device → VolumeRose count v (group_of old g) (group_of new h)
+volume_rose told size count lending v old new g h call area = volume_rose_if told size count lending v old new true g h call refl area
 
 -- ## the group
 

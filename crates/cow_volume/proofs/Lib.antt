@@ -26,6 +26,8 @@ pub mod DeviceCalls
 pub mod Kept
 pub mod DroppingNewer
 pub mod RestoringSteps
+pub mod NewerMerged
+pub mod RestoringMerged
 pub mod Synced
 pub mod GoingUpTo
 pub mod MakingRoom
@@ -35,3 +37,6 @@ pub mod GroupSteps
 pub mod GroupWrites
 pub mod GroupCounts
 pub mod CopiedOnce
+pub mod MixedRows
+pub mod TakingUp
+pub mod KeptParts

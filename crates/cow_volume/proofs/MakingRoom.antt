@@ -1,16 +1,16 @@
 -- Images go up to a set so that a write has its slot.
-use Rattle.std.proofs.Common.{ℕ, zero, suc, ◌≡◌, ◌≢◌, ◌<◌, ◌≤◌, ◌+◌, ◌-◌, Bool, true, false, ◌&&◌, ◌||◌, get_or, List, [], ◌∷◌, length, map, filter, Option, Some, None, slice_get, refl, sym, ap, ◌∙◌, subst, arith, inl, inr, ◌⊎◌}
+use Rattle.std.proofs.Common.{ℕ, zero, suc, ◌≡◌, ◌<◌, ◌≤◌, ◌+◌, ◌-◌, Bool, true, false, ◌&&◌, ◌||◌, get_or, List, [], ◌∷◌, length, map, filter, Some, slice_get, refl, sym, ap, ◌∙◌, subst, arith, inl, inr, ◌⊎◌}
 use Rattle.std.specs.Prelude.{◌==◌, nat_lt, nat_le, if◌then◌else◌}
 use Rattle.std.proofs.lemmas.Bool.{false≢true, cases_lt, cases_eq, lt-ltb, le-ltb}
 use Rattle.std.proofs.lemmas.Bool.Decides.{nat_tests}
 use Rattle.std.proofs.lemmas.List.Elements.{All-contains}
-use Rattle.std.proofs.lemmas.Option.{none-some, same_Some, slice_get_within, slice_get-map, get_or_from_slice_get}
+use Rattle.std.proofs.lemmas.Option.{same_Some, slice_get_within, get_or_from_slice_get}
 use Rattle.diff_area.specs.Records.{free, is_free, AreRecords}
 use Rattle.diff_area.specs.declared.table_record.Record.{Record}
 use Rattle.diff_map.specs.MapValue.{newest, AreImages}
 use Rattle.cow_volume.specs.Changes.{gone_row, gone_to}
 use Rattle.cow_volume.specs.Calls.{sets_in, is_among}
-use Rattle.cow_volume.specs.Room.{after, all_after, lacks_copy, lacks_slot, lacks_after, is_full, IsFirstToFree, IsRoomMade}
+use Rattle.cow_volume.specs.Room.{after, all_after, lacks_copy, lacks_slot, is_full, IsFirstToFree, IsRoomMade}
 use Rattle.cow_volume.specs.Tied.{CopiesValue, AreOfImages}
 use Rattle.cow_volume.specs.CopiesAfter.{with_records, images_on, after_gone}
 use Rattle.cow_volume.proofs.Merging.{record_is}

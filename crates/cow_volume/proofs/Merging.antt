@@ -274,7 +274,7 @@ of_image v set r e = record_is r (record_of v set r.block) (same_number r.set se
 is_of-it : (v set b : ℕ) → is_of v set (record_of v set b) ≡ true
 is_of-it v set b = simp (number_is v, number_is set)
 
-is_of-other_set : (v s set b : ℕ) → s ≢ set → is_of v set (record_of v s b) ≡ false
+pub is_of-other_set : (v s set b : ℕ) → s ≢ set → is_of v set (record_of v s b) ≡ false
 is_of-other_set v s set b other = simp (number_is v, number_is_other s set other)
 
 is_of-other_volume : (u v s set b : ℕ) → u ≢ v → is_of v set (record_of u s b) ≡ false
@@ -306,7 +306,7 @@ has_found (r ∷ records) (suc slot) q at = ap (λ (t : Bool). is_same_record q 
 -- ## what a merge makes of a record
 
 -- it stays for another image, or its slot is free, or the next older image gets it, which lacked it
-data MergedRow (records : List Record) (v : ℕ) (older : Option ℕ) (set : ℕ) (r q : Record) : Type 0 where
+pub data MergedRow (records : List Record) (v : ℕ) (older : Option ℕ) (set : ℕ) (r q : Record) : Type 0 where
   stayed : is_of v set r ≡ false → q ≡ r → MergedRow records v older set r q
   freed : is_of v set r ≡ true → q ≡ free → MergedRow records v older set r q
   moved : (o : ℕ) → is_of v set r ≡ true → older ≡ Some o → has_record records (record_of v o r.block) ≡ false → q ≡ record_of v o r.block → MergedRow records v older set r q
@@ -321,15 +321,15 @@ merged_to records v older set r = by_test (is_of v set r) refl older where
     by_copy true f = freed e refl
     by_copy false f = moved o e refl f refl
 
-merged_from : (records : List Record) (v : ℕ) (older : Option ℕ) (set : ℕ) (r q : Record) → merged_row records v older set r ≡ q → MergedRow records v older set r q
+pub merged_from : (records : List Record) (v : ℕ) (older : Option ℕ) (set : ℕ) (r q : Record) → merged_row records v older set r ≡ q → MergedRow records v older set r q
 merged_from records v older set r q e = subst (λ (x : Record). MergedRow records v older set r x) e (merged_to records v older set r)
 
 -- a record of another image or another volume stays
-merged_stays : (records : List Record) (v : ℕ) (older : Option ℕ) (set slot : ℕ) (r : Record) → is_of v set r ≡ false → slice_get records slot ≡ Some r → slice_get (merged v older set records) slot ≡ Some r
+pub merged_stays : (records : List Record) (v : ℕ) (older : Option ℕ) (set slot : ℕ) (r : Record) → is_of v set r ≡ false → slice_get records slot ≡ Some r → slice_get (merged v older set records) slot ≡ Some r
 merged_stays records v older set slot r e at = slice_get_map (merged_row records v older set) records slot r at ∙ ap (λ (t : Bool). Some (if t then handed_down records v older r.block else r)) e
 
 -- a record of the image that goes is given to the next older one, which lacks it
-merged_moves : (records : List Record) (v o set slot b : ℕ) → has_record records (record_of v o b) ≡ false → slice_get records slot ≡ Some (record_of v set b) → slice_get (merged v (Some o) set records) slot ≡ Some (record_of v o b)
+pub merged_moves : (records : List Record) (v o set slot b : ℕ) → has_record records (record_of v o b) ≡ false → slice_get records slot ≡ Some (record_of v set b) → slice_get (merged v (Some o) set records) slot ≡ Some (record_of v o b)
 merged_moves records v o set slot b none at =
     slice_get_map (merged_row records v (Some o) set) records slot (record_of v set b) at
     ∙ ap (λ (t : Bool). Some (if t then handed_down records v (Some o) b else record_of v set b)) (is_of-it v set b)
@@ -506,17 +506,17 @@ without_oldest told slots records v n sets h set within among oldest volume =
 -- ## the group
 
 -- An image goes from one volume of a group.
-pub image_dropped : {D : Type 0} → (told : D → Option (List (List ℕ))) (g new : GroupValue D) (hs : List History) (v set : ℕ) (sets : List ℕ) → StandsFor told g hs → AreRecords g.area.volumes g.area.records
+pub image_dropped_within : {D : Type 0} → (told : D → Option (List (List ℕ))) (g new : GroupValue D) (hs : List History) (v set : ℕ) (sets : List ℕ) → StandsFor told g hs → ((n : ℕ) → slice_get g.area.volumes v ≡ Some n → AreWithin v n g.area.records)
     → slice_get g.images v ≡ Some sets → is_among set sets ≡ true → new.devices ≡ g.devices → new.area.device ≡ g.area.device → new.area.volumes ≡ g.area.volumes
     → new.area.records ≡ merged v (next_older sets set) set g.area.records → new.images ≡ slice_set g.images v (filter (λ s. not (s == set)) sets) → StandsFor told new (changed_at v (dropped set) hs)
-image_dropped told g new hs v set sets stands are at among devices device volumes records images =
+image_dropped_within told g new hs v set sets stands blocks at among devices device volumes records images =
     let inside = slice_get_within g.images v sets at in
     let long = stands.images in
     let place = place_at told g hs v stands (omega arith) in
     let same_sets : sets ≡ place.sets = same_Some sets place.sets (sym at ∙ place.sets_at) in
     let volume : IsVolume (told_in (told g.area.device) (told place.device)) (told g.area.device) g.area.records v place.blocks sets (history_at hs v)
     = subst (λ (xs : List ℕ). IsVolume (told_in (told g.area.device) (told place.device)) (told g.area.device) g.area.records v place.blocks xs (history_at hs v)) (sym same_sets) place.stands in
-    let within = within_blocks g.area.volumes g.area.records v place.blocks are place.blocks_at in
+    let within = blocks place.blocks place.blocks_at in
     let kept : OthersKept v g.area.records new.area.records = subst (λ (rs : List Record). OthersKept v g.area.records rs) (sym records) (others_merged v (next_older sets set) set g.area.records) in
     let after : IsVolume (told_in (told new.area.device) (told place.device)) (told new.area.device) new.area.records v place.blocks (filter (λ s. not (s == set)) sets) (dropped set (history_at hs v))
     = subst (λ (t : Option (List (List ℕ))). IsVolume (told_in t (told place.device)) t new.area.records v place.blocks (filter (λ s. not (s == set)) sets) (dropped set (history_at hs v))) (sym (ap told device))
@@ -524,3 +524,9 @@ image_dropped told g new hs v set sets stands are at among devices device volume
     (dropped_stands (told_in (told g.area.device) (told place.device)) (told g.area.device) g.area.records v place.blocks sets (history_at hs v) set within among volume)) in
     on_one told g new hs v place.blocks place.device place.device sets (filter (λ s. not (s == set)) sets) (history_at hs v) (dropped set) stands place.blocks_at place.device_at at place.history
     (devices ∙ sym (slice_set-same g.devices v place.device place.device_at)) images volumes kept (slots_same v g.area.records (told g.area.device) (told new.area.device) (ap told device)) after
+
+pub image_dropped : {D : Type 0} → (told : D → Option (List (List ℕ))) (g new : GroupValue D) (hs : List History) (v set : ℕ) (sets : List ℕ) → StandsFor told g hs → AreRecords g.area.volumes g.area.records
+    → slice_get g.images v ≡ Some sets → is_among set sets ≡ true → new.devices ≡ g.devices → new.area.device ≡ g.area.device → new.area.volumes ≡ g.area.volumes
+    → new.area.records ≡ merged v (next_older sets set) set g.area.records → new.images ≡ slice_set g.images v (filter (λ s. not (s == set)) sets) → StandsFor told new (changed_at v (dropped set) hs)
+image_dropped told g new hs v set sets stands are at among devices device volumes records images =
+    image_dropped_within told g new hs v set sets stands (λ n is. within_blocks g.area.volumes g.area.records v n are is) at among devices device volumes records images

@@ -18,7 +18,7 @@ use Rattle.diff_map.specs.declared.copied.Copied.{Copied}
 use Rattle.cow_volume.specs.Tied.{copied_for, IsMapOf, AreTied, images_of, new_map}
 use Rattle.cow_volume.proofs.Rows.{map-from}
 
-none_at : (k slot : ℕ) (c : Copied) → copied_at (replicate k None) slot ≡ Some c → ⊥
+pub none_at : (k slot : ℕ) (c : Copied) → copied_at (replicate k None) slot ≡ Some c → ⊥
 none_at zero slot c h = none-some c h
 none_at (suc k) zero c h = none-some c h
 none_at (suc k) (suc slot) c h = none_at k slot c h

@@ -1,20 +1,19 @@
 -- What the parts keep in step where the copies of a volume's images are renewed by a rule.
 use Rattle.std.proofs.Common.{ℕ, zero, suc, ◌≡◌, ◌≢◌, ◌<◌, Bool, true, false, ◌&&◌, List, [], ◌∷◌, length, map, Option, Some, None, slice_get, slice_set, refl, sym, ap, ◌∙◌, subst, arith, inl, inr, ◌⊎◌}
-use Rattle.std.specs.Prelude.{◌==◌, nat_lt, slice_index, is_some, IsSome, IsNone}
+use Rattle.std.specs.Prelude.{◌==◌, nat_lt, is_some, IsSome, IsNone}
 use Rattle.std.specs.Option.{option_and_then}
 use Rattle.std.proofs.lemmas.Bool.{false≢true}
 use Rattle.std.proofs.lemmas.List.{length-map, length-set, map-set}
-use Rattle.std.proofs.lemmas.List.Elements.{All-contains}
-use Rattle.std.proofs.lemmas.Option.{none-some, same_Some, slice_get_within, get_or_from_slice_get}
+use Rattle.std.proofs.lemmas.Option.{none-some, same_Some, slice_get_within}
 use Rattle.slot_pool.specs.Slots.{IsTaken}
 use Rattle.diff_area.proofs.Gets.{get-set}
-use Rattle.diff_area.specs.Records.{free, is_free, AreRecords}
+use Rattle.diff_area.specs.Records.{free, is_free}
 use Rattle.diff_area.specs.declared.table_record.Record.{Record}
 use Rattle.diff_map.specs.Copies.{copied_at, copy_of, AllTaken}
 use Rattle.diff_map.specs.MapValue.{MapValue, IsMap}
 use Rattle.diff_map.specs.Rules.{renewed, GivesBack}
 use Rattle.diff_map.specs.declared.copied.Copied.{Copied}
-use Rattle.diff_map.proofs.Kept.{copied_at-renewed, row_before}
+use Rattle.diff_map.proofs.Kept.{copied_at-renewed}
 use Rattle.cow_volume.specs.StandsFor.{record_of}
 use Rattle.cow_volume.specs.Tied.{copied_for, AreTied, images_of}
 use Rattle.cow_volume.specs.Followed.{record_for, followed_row, followed}

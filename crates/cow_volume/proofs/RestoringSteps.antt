@@ -22,7 +22,7 @@ use Rattle.cow_volume.specs.declared.cause.Cause.TheVariants.{NoSuchBlock, Volum
 use Rattle.cow_volume.specs.declared.revert_fault.RevertFault.{RevertFault}
 use Rattle.cow_volume.specs.declared.revert_fault.RevertFault.TheVariants.{NoSuchImage, Fault}
 use Rattle.cow_volume.specs.Parts.{group_of, IsPut}
-use Rattle.cow_volume.specs.Restoring.{with_up_to, AreNewerGone, AreRestored, HasNoRecord, IsPutBack, IsNotPutBack, IsOneRestored, IsStopped, IsRestoring}
+use Rattle.cow_volume.specs.Restoring.{with_up_to, AreNewerGone, AreRestored, IsPutBack, IsNotPutBack, IsOneRestored, IsStopped, IsRestoring}
 use Rattle.cow_volume.proofs.Members.{Has}
 use Rattle.cow_volume.proofs.Group.{same_number, slice_get_inside, slice_set-same, place_at, history_at_is, changed_at-same}
 use Rattle.cow_volume.proofs.Clearing.{length-cleared}
@@ -90,6 +90,10 @@ slot_of_set told g hs v set p b slot start newest above found =
     let most = most_of set found.image (sets_at g v) newest (subst (λ (ss : List ℕ). Has found.image ss) (sym start.stands.sets_are) has) in
     let same : found.image ≡ set = omega arith in
     found.is_noted ∙ ap (λ (s : ℕ). Some (record_of v s b)) same
+
+-- no record is that of a copy of block b for the image of a set
+abbrev HasNoRecord : List Record → ℕ → ℕ → ℕ → Type 0
+HasNoRecord records v set b = (slot : ℕ) → slice_get records slot ≡ Some (record_of v set b) → ⊥
 
 -- a block that has a copy for the set is named since its point, and one that has none is not
 named_at : {D : Type 0} (told : D → Option (List (List ℕ))) (g : GroupValue D) (hs : List History) (v set p b slot : ℕ) → IsAtStart told g hs v set p → point_in set (history_at hs v).images ≡ Some p → b < blocks_at g v → slice_get g.area.records slot ≡ Some (record_of v set b)
@@ -177,21 +181,30 @@ pub rose_further : (a b c : ℕ) → a ≤ b → Rose b c → Rose a c
 rose_further a b c l (inl m) = inl (omega arith)
 rose_further a b c l (inr e) = inr e
 
-volume_rose_further : {D : Type 0} (told : D → Option (List (List ℕ))) (size count : D → ℕ) (lending : D → Bool) (g now new : GroupValue D) (v : ℕ) → IsKept told size count lending g now → VolumeRose count v now new → VolumeRose count v g new
-volume_rose_further told size count lending g now new v kept rose =
+volume_rose_further : {D : Type 0} (told : D → Option (List (List ℕ))) (size count : D → ℕ) (lending : D → Bool) (g now new : GroupValue D) (v : ℕ) → IsKept told size count lending g now → IsUnfailed count g now → VolumeRose count v now new → VolumeRose count v g new
+volume_rose_further told size count lending g now new v kept same rose =
     let inside = slice_get_within now.devices v rose.before rose.was in
     let long = kept.devices in
     let d = slice_get_inside g.devices v (omega arith) in
-    record { before = d.0; now = rose.now; was = d.1; is = rose.is; rose = rose_further (count d.0) (count rose.before) (count rose.now) (kept.each v d.0 rose.before d.1 rose.was).later rose.rose }
+    record {
+      before = d.0;
+      now = rose.now;
+      was = d.1;
+      is = rose.is;
+      rose = rose_further (count d.0) (count rose.before) (count rose.now) (kept.each v d.0 rose.before d.1 rose.was).later rose.rose;
+      devices = rose.devices ∙ ap (λ (ns : List ℕ). slice_set ns v (count rose.now)) same.devices;
+      area = rose.area ∙ same.area;
+    }
 
-pub device_rose_further : {D : Type 0} (told : D → Option (List (List ℕ))) (size count : D → ℕ) (lending : D → Bool) (g now new : GroupValue D) (v : ℕ) (cause : Cause) → IsKept told size count lending g now → DeviceRose count v now new cause → DeviceRose count v g new cause
-device_rose_further told size count lending g now new v NoSuchBlock kept rose = rose
-device_rose_further told size count lending g now new v Volume kept rose = volume_rose_further told size count lending g now new v kept rose
-device_rose_further told size count lending g now new v Area kept rose = rose_further (count g.area.device) (count now.area.device) (count new.area.device) kept.area.later rose
+pub device_rose_further : {D : Type 0} (told : D → Option (List (List ℕ))) (size count : D → ℕ) (lending : D → Bool) (g now new : GroupValue D) (v : ℕ) (cause : Cause) → IsKept told size count lending g now → IsUnfailed count g now → DeviceRose count v now new cause → DeviceRose count v g new cause
+device_rose_further told size count lending g now new v NoSuchBlock kept same rose = rose
+device_rose_further told size count lending g now new v Volume kept same rose = volume_rose_further told size count lending g now new v kept same rose
+device_rose_further told size count lending g now new v Area kept same rose =
+    record { rose = rose_further (count g.area.device) (count now.area.device) (count new.area.device) kept.area.later rose.rose; devices = rose.devices ∙ same.devices }
 
 pub restoring_stops : {D : Type 0} (told : D → Option (List (List ℕ))) (size count : D → ℕ) (lending : D → Bool) (g now new : GroupValue D) (v set m restored : ℕ) (cause : Cause) → v < length g.area.volumes → All (λ s. s ≤ set) (sets_at g v) → m < blocks_at g v → 0 < set
-    → AreRestored told size count lending g now v set m restored → IsNotPutBack told size count lending now new v set m cause → IsStopped told size count lending g new v set restored cause
-restoring_stops told size count lending g now new v set m restored cause inside newest l above done failed = record {
+    → AreRestored told size count lending g now v set m restored → IsUnfailed count g now → IsNotPutBack told size count lending now new v set m cause → IsStopped told size count lending g new v set restored cause
+restoring_stops told size count lending g now new v set m restored cause inside newest l above done same failed = record {
   block = m;
   done = record {
     kept = kept_further told size count lending g now new done.kept failed.quiet.kept;
@@ -208,7 +221,7 @@ restoring_stops told size count lending g now new v set m restored cause inside 
       let number = done.number hs p stands point in
       let within = slice_get_within (to_restore (blocks_at g v) (history_at hs v).writes p) (length (to_restore m (history_at hs v).writes p)) m (next_restored m (blocks_at g v) (history_at hs v).writes p l named) in
       omega arith;
-  rose = device_rose_further told size count lending g now new v cause done.kept failed.rose;
+  rose = device_rose_further told size count lending g now new v cause done.kept same failed.rose;
 }
 
 -- ## one block
@@ -236,12 +249,12 @@ put_back told size count lending devices after old new v set b slot bytes failed
 
 -- the volume's device failed
 pub not_put_back : {D : Type 0} (told : D → Option (List (List ℕ))) (size count : D → ℕ) (lending : D → Bool) (devices after : List D) (old new : CopiesValue D) (v set b slot : ℕ) (bytes : List ℕ) (failed : Bool) → IsFirstCopy old.area.records v set b slot → KeepsTable size lending old.area new.area → new.images ≡ old.images
-    → told new.area.device ≡ told old.area.device → count old.area.device ≤ count new.area.device → IsPut told size count lending v b bytes devices after failed → failed ≡ true → IsNotPutBack told size count lending (group_of devices old) (group_of after new) v set b Volume
-not_put_back told size count lending devices after old new v set b slot bytes failed found table images same later put e = record {
+    → told new.area.device ≡ told old.area.device → count old.area.device ≤ count new.area.device → count new.area.device ≡ count old.area.device → IsPut told size count lending v b bytes devices after failed → failed ≡ true → IsNotPutBack told size count lending (group_of devices old) (group_of after new) v set b Volume
+not_put_back told size count lending devices after old new v set b slot bytes failed found table images same later unfailed put e = record {
   slot = slot;
   found = found;
   quiet = quiet_further told size count lending (group_of devices old) (group_of devices new) (group_of after new) (quiet_area told size count lending devices old new table images same later) (quiet_called told size count lending v devices after failed new put.call (put.kept e));
-  rose = volume_rose_if told size count lending v devices after failed old new put.call e;
+  rose = volume_rose_if told size count lending v devices after failed old new put.call e unfailed;
 }
 
 pub at_most_one : (put : Bool) → from_bool put ≤ 1
@@ -256,7 +269,7 @@ restoring_one told size count lending g now new v set m restored true more insid
 restoring_one {D = D} told size count lending g now new v set m restored false more inside newest l above e done one =
     let none : restored ≡ restored + more = omega arith in
     subst (λ (k : ℕ). AreRestored told size count lending g new v set (m + 1) k) none
-    (subst (λ (x : GroupValue D). AreRestored told size count lending g x v set (m + 1) restored) (sym one.0) (restoring_skips told size count lending g now v set m restored inside newest l done one.1))
+    (subst (λ (x : GroupValue D). AreRestored told size count lending g x v set (m + 1) restored) (sym one.0) (restoring_skips told size count lending g now v set m restored inside newest l done (λ slot at. one.1 slot set at (omega arith))))
 
 -- no device failed
 pub one_unfailed : {D : Type 0} (told : D → Option (List (List ℕ))) (size count : D → ℕ) (lending : D → Bool) (now new : GroupValue D) (v set m : ℕ) (put : Bool) → IsOneRestored told size count lending now new v set m (Ok put) → IsUnfailed count now new
@@ -354,7 +367,7 @@ reverted_some {D = D} told size count lending devices after old mid now v set re
             (λ h at. reverted_in_part_from (blocks_at (group_of devices mid) v) set p restored h))
             (done.stands (changed_at v (with_up_to set) hs) p newer.stands newer.point));
       },
-      device_rose_further told size count lending (group_of devices old) (group_of devices mid) (group_of after now) v cause kept stopped.rose,
+      device_rose_further told size count lending (group_of devices old) (group_of devices mid) (group_of after now) v cause kept (record { devices = refl; area = ap count gone.device }) stopped.rose,
     )
 
 pub revert_done : {D : Type 0} (told : D → Option (List (List ℕ))) (size count : D → ℕ) (lending : D → Bool) (devices after : List D) (old mid now new : CopiesValue D) (v set : ℕ) (x : Unit) → v < length old.area.volumes → is_among set (images_on old v) ≡ true → AreNewerGone told old mid v set

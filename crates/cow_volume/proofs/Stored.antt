@@ -17,17 +17,17 @@ use Rattle.cow_volume.proofs.Counting.{within, copy_there, record_there, one_of,
 -- ## the copies of records
 
 -- the copy of a record, with these bytes
-abbrev held : Record → List ℕ → Copy
+abbrev pub held : Record → List ℕ → Copy
 held r bytes = record { volume = r.volume; set = r.set; block = r.block; bytes = bytes }
 
-record IsHeld (slot : ℕ) (records : List Record) (bytes : ℕ → List ℕ) (c : Copy) : Type 0 where
-  at : ℕ
-  row : Record
-  row_is : slice_get records at ≡ Some row
-  used : is_free row ≡ false
-  is : held row (bytes (slot + at)) ≡ c
+pub record IsHeld (slot : ℕ) (records : List Record) (bytes : ℕ → List ℕ) (c : Copy) : Type 0 where
+  pub at : ℕ
+  pub row : Record
+  pub row_is : slice_get records at ≡ Some row
+  pub used : is_free row ≡ false
+  pub is : held row (bytes (slot + at)) ≡ c
 
-is-held : (slot : ℕ) (records : List Record) (bytes : ℕ → List ℕ) (c : Copy) → Has c (copies_from slot records bytes) → IsHeld slot records bytes c
+pub is-held : (slot : ℕ) (records : List Record) (bytes : ℕ → List ℕ) (c : Copy) → Has c (copies_from slot records bytes) → IsHeld slot records bytes c
 is-held slot [] bytes c m = absurd m
 is-held slot (r ∷ rs) bytes c m = by_test (is_free r) refl m (is-held (slot + 1) rs bytes c) where
   later : IsHeld (slot + 1) rs bytes c → IsHeld slot (r ∷ rs) bytes c
@@ -42,7 +42,7 @@ is-held slot (r ∷ rs) bytes c m = by_test (is_free r) refl m (is-held (slot + 
       record { at = 0; row = r; row_is = refl; used = e; is = ap (λ k. held r (bytes k)) zero_more ∙ same }
   by_test false e (inr m) rest = later (rest m)
 
-has-held : (slot : ℕ) (records : List Record) (bytes : ℕ → List ℕ) (at : ℕ) (r : Record) → slice_get records at ≡ Some r → is_free r ≡ false → Has (held r (bytes (slot + at))) (copies_from slot records bytes)
+pub has-held : (slot : ℕ) (records : List Record) (bytes : ℕ → List ℕ) (at : ℕ) (r : Record) → slice_get records at ≡ Some r → is_free r ≡ false → Has (held r (bytes (slot + at))) (copies_from slot records bytes)
 has-held slot [] bytes at r e f = absurd cc
 has-held slot (q ∷ rs) bytes zero r e f = by_test (is_free q) refl where
   by_test : (t : Bool) → is_free q ≡ t → Has (held r (bytes (slot + 0))) (if t then copies_from (slot + 1) rs bytes else held q (bytes slot) ∷ copies_from (slot + 1) rs bytes)

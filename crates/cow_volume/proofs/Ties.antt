@@ -115,7 +115,7 @@ free_at [] slot h = absurd (none-some true h)
 free_at (r ∷ rs) zero h = (r, refl, same_Some (is_free r) true h)
 free_at (r ∷ rs) (suc slot) h = free_at rs slot h
 
-free_is : (r : Record) → is_free r ≡ true → r ≡ free
+pub free_is : (r : Record) → is_free r ≡ true → r ≡ free
 free_is r h =
     let set_is : r.set ≡ 0 = grind (arith, nat_tests) in
     let block_is : r.block ≡ 0 = grind (arith, nat_tests) in

@@ -12,3 +12,5 @@ pub mod Restoring
 pub mod Ending
 pub mod Steps
 pub mod Counts
+pub mod Resuming
+pub mod TakingUp

@@ -1,14 +1,13 @@
--- How a volume is brought back to an image: the newer images go, then block after block is restored. What each step leaves of the
--- group. (This project's own.)
-use Rattle.std.specs.Prelude.{ℕ, ◌≡◌, ◌<◌, ◌≤◌, Bool, true, false, List, length, All, Option, Some, IfSome, slice_get, slice_set, option_map, Result, Ok, Err}
+-- How a volume is brought back to an image: block after block is restored from the copies of that image and the newer ones, and then
+-- these go at once; where a device fails, the newer images are merged down. What each step leaves of the group. (This project's own.)
+use Rattle.std.specs.Prelude.{ℕ, ◌≡◌, ◌<◌, ◌≤◌, Bool, true, false, List, length, filter, nat_le, All, Option, Some, IfSome, slice_get, slice_set, option_map, Result, Ok, Err}
 use Rattle.write_history.specs.History.{History, point_in, up_to_set, to_restore, reverted_in_part}
 use Rattle.diff_area.specs.Places.{place_of_slot}
-use Rattle.diff_area.specs.declared.table_record.Record.{Record}
 use Rattle.cow_volume.specs.GroupValue.{GroupValue}
-use Rattle.cow_volume.specs.StandsFor.{record_of, StandsFor}
+use Rattle.cow_volume.specs.StandsFor.{StandsFor}
 use Rattle.cow_volume.specs.Tied.{CopiesValue}
-use Rattle.cow_volume.specs.Changes.{IsFirstCopy}
-use Rattle.cow_volume.specs.CopiesAfter.{images_on}
+use Rattle.cow_volume.specs.Changes.{IsFirstCopy, HasNoCopy, cleared}
+use Rattle.cow_volume.specs.CopiesAfter.{images_on, with_records}
 use Rattle.cow_volume.specs.Parts.{group_of}
 use Rattle.cow_volume.specs.Calls.{history_at, changed_at, blocks_at, is_among, IsKept, IsUnfailed, IsQuiet, DeviceRose}
 use Rattle.cow_volume.specs.declared.cause.Cause.{Cause}
@@ -30,7 +29,28 @@ pub record AreNewerGone {D : Type 0} (told : D → Option (List (List ℕ))) (ol
   pub slots : length new.area.records ≡ length old.area.records
   pub stands : (devices : List D) (hs : List History) → StandsFor told (group_of devices old) hs → StandsFor told (group_of devices new) (changed_at v (with_up_to set) hs)
 
+-- and they were merged down: what the image of the set shows is found where it was, and without the copies from that set on there
+-- is no difference
+pub record IsMergedTo {D : Type 0} (told : D → Option (List (List ℕ))) (old new : CopiesValue D) (v set : ℕ) : Type 0 where
+  pub gone : AreNewerGone told old new v set
+  pub found : (b slot : ℕ) → IsFirstCopy old.area.records v set b slot → IsFirstCopy new.area.records v set b slot
+  pub none : (b : ℕ) → HasNoCopy old.area.records v set b → HasNoCopy new.area.records v set b
+  pub records : cleared v set new.area.records ≡ cleared v set old.area.records
+  pub sets : filter (λ s. nat_le s set) (images_on new v) ≡ filter (λ s. nat_le s set) (images_on old v)
+  pub others : (xs : List ℕ) → slice_set new.images v xs ≡ slice_set old.images v xs
+
+-- the copies with the records and the images of others, to which they are merged down
+abbrev pub merged_as : {D : Type 0} → CopiesValue D → CopiesValue D → CopiesValue D
+merged_as mid now = record { area = with_records mid.area.records now.area; images = mid.images }
+
 -- ## block after block
+
+-- the records, the images and what the area's device tells are as they were
+pub record KeepsCopies {D : Type 0} (told : D → Option (List (List ℕ))) (size count : D → ℕ) (lending : D → Bool) (old new : GroupValue D) : Type 0 where
+  pub kept : IsKept told size count lending old new
+  pub records : new.area.records ≡ old.area.records
+  pub images : new.images ≡ old.images
+  pub slots : told new.area.device ≡ told old.area.device
 
 -- of the first m blocks of volume v, those that are to be restored to the image of a set, its newest, are; so many are they
 pub record AreRestored {D : Type 0} (told : D → Option (List (List ℕ))) (size count : D → ℕ) (lending : D → Bool) (old new : GroupValue D) (v set m restored : ℕ) : Type 0 where
@@ -41,10 +61,6 @@ pub record AreRestored {D : Type 0} (told : D → Option (List (List ℕ))) (siz
   pub number : (hs : List History) (p : ℕ) → StandsFor told old hs → point_in set (history_at hs v).images ≡ Some p → restored ≡ length (to_restore m (history_at hs v).writes p)
   pub stands : (hs : List History) (p : ℕ) → StandsFor told old hs → point_in set (history_at hs v).images ≡ Some p
       → StandsFor told new (changed_at v (reverted_in_part (blocks_at old v) set p restored) hs)
-
--- no record is that of a copy of block b for the image of a set
-abbrev pub HasNoRecord : List Record → ℕ → ℕ → ℕ → Type 0
-HasNoRecord records v set b = (slot : ℕ) → slice_get records slot ≡ Some (record_of v set b) → ⊥
 
 -- block b of volume v got the bytes of the slot that was found for it
 pub record IsPutBack {D : Type 0} (told : D → Option (List (List ℕ))) (size count : D → ℕ) (lending : D → Bool) (old new : GroupValue D) (v set b : ℕ) : Type 0 where
@@ -70,9 +86,9 @@ pub record IsNotPutBack {D : Type 0} (told : D → Option (List (List ℕ))) (si
   pub quiet : IsQuiet told size count lending old new
   pub rose : DeviceRose count v old new cause
 
--- what became of block b: it has no copy for the set; or it was restored; or a device failed
+-- what became of block b: no image from the set on has a copy of it; or it was restored; or a device failed
 abbrev pub IsOneRestored : {D : Type 0} → (D → Option (List (List ℕ))) → (D → ℕ) → (D → ℕ) → (D → Bool) → GroupValue D → GroupValue D → ℕ → ℕ → ℕ → Result Bool Cause → Type 0
-IsOneRestored told size count lending old new v set b (Ok false) = (new ≡ old) × HasNoRecord old.area.records v set b
+IsOneRestored told size count lending old new v set b (Ok false) = (new ≡ old) × HasNoCopy old.area.records v set b
 IsOneRestored told size count lending old new v set b (Ok true) = IsPutBack told size count lending old new v set b
 IsOneRestored told size count lending old new v set b (Err cause) = IsNotPutBack told size count lending old new v set b cause
 

@@ -28,11 +28,11 @@ pub record IsAreaOn {D : Type 0} (told : D → Option (List (List ℕ))) (size c
 abbrev pub put : ℕ → List ℕ → Option (List (List ℕ)) → Option (List (List ℕ))
 put at bytes told = option_map (λ blocks. slice_set blocks at bytes) told
 
--- which count rose
+-- which count rose; the other is as it was
 abbrev pub RoseBy : {D : Type 0} → (D → ℕ) → D → D → D → D → Cause → Type 0
 RoseBy count device new_device area new_area NoSuchBlock = ⊥
-RoseBy count device new_device area new_area Volume = Rose (count device) (count new_device)
-RoseBy count device new_device area new_area Area = Rose (count area) (count new_area)
+RoseBy count device new_device area new_area Volume = Rose (count device) (count new_device) × (count new_area ≡ count area)
+RoseBy count device new_device area new_area Area = Rose (count area) (count new_area) × (count new_device ≡ count device)
 
 -- a block of a volume's device was copied into a slot
 pub record IsCopiedIn {D : Type 0} (told : D → Option (List (List ℕ))) (size count : D → ℕ) (lending : D → Bool) (device new_device : D) (old new : CopiesValue D) (block slot : ℕ) : Type 0 where

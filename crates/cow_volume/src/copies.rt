@@ -1,4 +1,4 @@
-ghost use Rattle.std.specs.Prelude.{◌≡◌, ◌<◌, [], true, List, Some, length, replicate, IfOk, slice_get, slice_set, slice_index, map, option_map, is_some, All, Contains, IfSome, IsNone, OnOk, OnErr, ◌↔◌};
+ghost use Rattle.std.specs.Prelude.{◌≡◌, ◌<◌, [], true, List, Some, length, replicate, IfOk, slice_get, slice_set, slice_index, map, option_map, is_some, All, Contains, IfSome, IfErr, IsNone, OnOk, OnErr, ◌↔◌};
 ghost use Rattle.vss_names.specs.Faults.{HasCause};
 ghost use Rattle.volume_device.specs.Blocks.{AreBlocks};
 ghost use Rattle.write_history.specs.Slots.{Copy};
@@ -12,10 +12,13 @@ ghost use Rattle.diff_area.specs.Written.{table_blocks};
 ghost use Rattle.cow_volume.specs.Changes.{IsFirstCopy, HasNoCopy};
 ghost use Rattle.cow_volume.specs.Counts.{count_on, count_of};
 ghost use Rattle.cow_volume.specs.Room.{lacks_copy, lacks_slot, is_full, IsFirstToFree, IsRoomMade};
+ghost use Rattle.cow_volume.specs.Resuming.{AllHaveImages, IsResumeFault};
 ghost use Rattle.cow_volume.specs.Tied.{AreOfImages, new_map};
 ghost use Rattle.cow_volume.specs.CopiesAfter.{images_on, after_cut, after_note, after_merge, after_clear, after_gone, after_gone_on};
 
 use crate::renewing::{free_records, merge_records};
+use crate::resume_fault::ResumeFault;
+use crate::resuming::{maps_of, note_copies, pool_of};
 use block_data::{BLOCK, BlockView};
 use diff_area::{Area, AreaFault, Record};
 use diff_map::{DiffMap, Going, next_older};
@@ -23,7 +26,7 @@ use slot_pool::SlotPool;
 use std::alloc::Global;
 use std::marker::Model;
 use volume_device::Device;
-use vss_names::OutOfMemory;
+use vss_names::{Numbers, OutOfMemory};
 
 /// The copies of a group: the area that holds them, a map for each volume that finds them, and the pool of free slots.
 /// Contracts see the area and the images of each volume: what the maps and the pool hold follows from the records.
@@ -52,6 +55,29 @@ impl<D: Device> Copies<D> {
     {
         let maps = new_maps(alloc, &area)?;
         let pool = SlotPool::new(alloc, area.slots())?;
+        Ok(Copies { area, maps, pool })
+    }
+
+    /// The copies that stand in an area, with the images of these sets on each volume.
+    pub(crate) fn resume(
+        alloc: Global,
+        area: Area<D>,
+        images: &[Numbers],
+    ) -> Result<Copies<D>, ResumeFault>
+        requires lists { length images.now ≡ length area.volumes }
+        requires rise { All AreImages images.now }
+        ensures value { IfOk result (λ copies. copies ≡ record { area = area; images = images.now }) }
+        ensures all { OnOk result (AllHaveImages area.records images.now) }
+        ensures fault { IfErr result (IsResumeFault area.records images.now) }
+    {
+        let Ok(maps) = maps_of(alloc, &area, images) else {
+            return Err(ResumeFault::OutOfMemory);
+        };
+        let Ok(pool) = pool_of(alloc, &area) else {
+            return Err(ResumeFault::OutOfMemory);
+        };
+        let mut maps = maps;
+        note_copies(&mut maps, &area, images)?;
         Ok(Copies { area, maps, pool })
     }
 
@@ -104,7 +130,7 @@ impl<D: Device> Copies<D> {
         requires { v < length self.now.area.volumes }
         ensures { result ≡ count_on v self.now.area.records }
     {
-        let _slots = self.area.slots();
+        let _facts = self.area.slots();
         let entries = self.maps[v as usize].entries();
         entries.len() as u32
     }
@@ -115,7 +141,7 @@ impl<D: Device> Copies<D> {
         requires above_zero { 0 < set }
         ensures { result ≡ count_of v set self.now.area.records }
     {
-        let _slots = self.area.slots();
+        let _facts = self.area.slots();
         let entries = self.maps[v as usize].entries();
         let mut used = 0;
         for entry in entries {
@@ -175,7 +201,7 @@ impl<D: Device> Copies<D> {
     {
         let map = &mut self.maps[v as usize];
         map.add_image(set);
-        let _after = map.images();
+        let _facts = map.images();
     }
 
     /// Notes the lowest free slot for a block of the newest image of the volume, which lacks a copy of it.
@@ -190,7 +216,7 @@ impl<D: Device> Copies<D> {
         let map = &mut self.maps[v as usize];
         let set = newest(map.images());
         map.note(block, slot);
-        let _after = map.images();
+        let _facts = map.images();
         let row = Record {
             set,
             block,
@@ -271,8 +297,8 @@ impl<D: Device> Copies<D> {
         ensures gone { self.new ≡ after_gone self.old result }
         ensures room { IsRoomMade self.old.area.records self.old.images v block result }
     {
-        let _valid = self.volumes();
-        let _records = self.slots();
+        let _facts = self.volumes();
+        let _facts = self.slots();
         let up_to = self.goes_up_to(v, block);
         if up_to > 0 {
             self.drop_up_to(up_to);
@@ -285,8 +311,8 @@ impl<D: Device> Copies<D> {
         requires { v < length self.now.area.volumes }
         ensures { IsRoomMade self.now.area.records self.now.images v block result }
     {
-        let _valid = self.volumes();
-        let _records = self.slots();
+        let _facts = self.volumes();
+        let _facts = self.slots();
         if !self.lacks_slot(v, block) {
             return 0;
         }
@@ -314,7 +340,7 @@ impl<D: Device> Copies<D> {
     fn drop_up_to(&mut self, set: u32)
         ensures { self.new ≡ after_gone self.old set }
     {
-        let _records = self.slots();
+        let _facts = self.slots();
         for v in 0..self.volumes() {
             self.drop_up_to_on(v, set);
         }
@@ -326,10 +352,10 @@ impl<D: Device> Copies<D> {
         ensures { self.new ≡ after_gone_on self.old v set }
     {
         let map = &mut self.maps[v as usize];
-        let _before = map.images();
+        let _facts = map.images();
         free_records(&mut self.area, map.entries(), v, Going::UpTo(set));
         map.drop_up_to(set, &mut self.pool);
-        let _after = map.images();
+        let _facts = map.images();
     }
 
     /// The image of a set goes from the volume. Its copies go to the next older image, where that lacks them.
@@ -342,7 +368,7 @@ impl<D: Device> Copies<D> {
         let older = next_older(map.images(), set);
         merge_records(&mut self.area, map.entries(), v, set, older);
         map.merge_down(set, &mut self.pool);
-        let _after = map.images();
+        let _facts = map.images();
     }
 
     /// The images of the volume that are newer than that of a set go, and all copies from that set on.
@@ -352,10 +378,10 @@ impl<D: Device> Copies<D> {
         ensures { self.new ≡ after_clear self.old v set }
     {
         let map = &mut self.maps[v as usize];
-        let _before = map.images();
+        let _facts = map.images();
         free_records(&mut self.area, map.entries(), v, Going::From(set));
         map.clear_from(set, &mut self.pool);
-        let _after = map.images();
+        let _facts = map.images();
     }
 }
 

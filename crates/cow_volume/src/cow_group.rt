@@ -1,14 +1,16 @@
-ghost use Rattle.std.specs.Prelude.{◌≡◌, ◌<◌, ◌≤◌, ◌++◌, ◌∷◌, List, [], true, false, Some, length, replicate, map, slice_get, slice_set, is_some, All, IfOk, IfErr, IfSome, OnOk};
+ghost use Rattle.std.specs.Prelude.{ℕ, ◌≡◌, ◌<◌, ◌≤◌, ◌++◌, ◌∷◌, List, [], true, false, Some, length, replicate, map, slice_get, slice_set, is_some, All, IfOk, IfErr, IfSome, OnOk};
 ghost use Rattle.block_data.specs.Runs.{zeros};
 ghost use Rattle.block_data.specs.PayloadBytes.{payload_bytes};
 ghost use Rattle.write_history.specs.History.{History, fresh, cut};
 ghost use Rattle.write_history.specs.Slots.{used, used_by, group_used};
-ghost use Rattle.diff_area.specs.Records.{free};
+ghost use Rattle.diff_area.specs.Records.{free, AreVolumes};
+ghost use Rattle.diff_map.specs.MapValue.{AreImages};
 ghost use Rattle.cow_volume.specs.GroupValue.{placed};
 ghost use Rattle.cow_volume.specs.StandsFor.{StandsFor};
 ghost use Rattle.cow_volume.specs.Calls.{HasCauseAt, HasImageCause, IsNow, IsShown, IsQuiet, IsUnfailed, IsWrite, IsDropped, IsRevert, IsEvicted, VolumeRose, made_room, history_at, changed_at, is_among, sets_at, blocks_at};
 ghost use Rattle.cow_volume.specs.Parts.{IsLentBy, IsUnseen};
 ghost use Rattle.cow_volume.specs.Ending.{IsSync};
+ghost use Rattle.cow_volume.specs.Resuming.{AllHaveImages, IsResumeFault, AreKept};
 ghost use Rattle.cow_volume.specs.Room.{lacks_copy, lacks_slot, is_full, gone_group};
 ghost use Rattle.cow_volume.specs.Steps.{IsPutOr};
 ghost use Rattle.cow_volume.specs.CopiedOnce.{IsCopiedOnce};
@@ -19,6 +21,7 @@ use crate::copying::{copy_block, put_block};
 use crate::ending::{flush_one, sync_all};
 use crate::image_fault::ImageFault;
 use crate::reads::{has_image, lend_now, lend_shown, read_now, read_shown};
+use crate::resume_fault::ResumeFault;
 use crate::revert_fault::RevertFault;
 use crate::reverts::{merge_image, revert};
 use crate::write_fault::WriteFault;
@@ -28,7 +31,7 @@ use diff_area::Area;
 use std::alloc::Global;
 use std::marker::Model;
 use volume_device::Device;
-use vss_names::OutOfMemory;
+use vss_names::{Numbers, OutOfMemory};
 
 /// A group of volumes over one diff area, with the images that stand of them. Contracts see its devices, its area, and
 /// for each volume the sets of its images.
@@ -69,12 +72,45 @@ impl<D: Device> CowGroup<D> {
         })
     }
 
-    /// How many volumes the group has.
+    /// Takes a group up again: its devices, its area, and for each volume the sets of its images, the oldest first. The first slot
+    /// whose copy is of no such image refuses that. No device is read. It takes all memory that the group ever needs.
+    pub fn resume(
+        alloc: Global,
+        devices: Vec<D>,
+        area: Area<D>,
+        images: &[Numbers],
+    ) -> Result<CowGroup<D>, ResumeFault>
+        requires fits { map D.size devices.items ≡ area.volumes }
+        requires lists { length images.now ≡ length area.volumes }
+        requires rise { All AreImages images.now }
+        ensures value { IfOk result (λ group. group ≡ record { devices = devices.items; area = area; images = images.now }) }
+        ensures stands { IfOk result (λ group. (hs : List History) → AreKept D.told devices.items area images.now hs → StandsFor D.told group hs) }
+        ensures have_images { OnOk result (AllHaveImages area.records images.now) }
+        ensures refused { IfErr result (IsResumeFault area.records images.now) }
+    {
+        let _facts = area.slots();
+        let copies = Copies::resume(alloc, area, images)?;
+        let Ok(scratch) = BlockBuf::zeroed(alloc) else {
+            return Err(ResumeFault::OutOfMemory);
+        };
+        Ok(CowGroup {
+            devices,
+            copies,
+            scratch,
+        })
+    }
+
+    /// How many volumes the group has. Their numbers of blocks and the sets of their images are within the limits of a group.
     pub fn volumes(&self) -> u32
         ensures volumes { result ≡ length self.now.area.volumes }
         ensures devices { length self.now.devices ≡ length self.now.area.volumes }
         ensures images { length self.now.images ≡ length self.now.area.volumes }
+        ensures allowed { AreVolumes self.now.area.volumes }
+        ensures rise { (v : ℕ) (sets : List ℕ) → slice_get self.now.images v ≡ Some sets → AreImages sets }
+        ensures have_images { AllHaveImages self.now.area.records self.now.images }
+        ensures fits { map D.size self.now.devices ≡ self.now.area.volumes }
     {
+        let _facts = self.copies.slots();
         self.copies.volumes()
     }
 
@@ -98,6 +134,7 @@ impl<D: Device> CowGroup<D> {
         requires { v < length self.now.area.volumes }
         ensures images { result.now ≡ sets_at self.now v }
         ensures few { length result.now ≤ 512 }
+        ensures rise { AreImages result.now }
     {
         self.copies.images(v)
     }
@@ -107,7 +144,7 @@ impl<D: Device> CowGroup<D> {
         requires { v < length self.now.area.volumes }
         ensures { (hs : List History) → StandsFor D.told self.now hs → result ≡ used (blocks_at self.now v) (history_at hs v).writes (history_at hs v).images }
     {
-        let _valid = self.copies.slots();
+        let _facts = self.copies.slots();
         self.copies.used_on(v)
     }
 
@@ -117,7 +154,7 @@ impl<D: Device> CowGroup<D> {
         requires { v < length self.now.area.volumes }
         ensures { (hs : List History) → StandsFor D.told self.now hs → result ≡ used_by (blocks_at self.now v) (history_at hs v).writes (history_at hs v).images set }
     {
-        let _valid = self.copies.slots();
+        let _facts = self.copies.slots();
         if !has_image(&self.copies, v, set) {
             return None;
         }
@@ -128,7 +165,7 @@ impl<D: Device> CowGroup<D> {
     pub fn used_all(&self) -> u32
         ensures { (hs : List History) → StandsFor D.told self.now hs → result ≡ group_used (placed self.now.area.volumes) hs }
     {
-        let _valid = self.copies.slots();
+        let _facts = self.copies.slots();
         self.copies.used()
     }
 
@@ -138,7 +175,7 @@ impl<D: Device> CowGroup<D> {
         requires in_range { block < blocks_at self.now v }
         ensures { (hs : List History) → StandsFor D.told self.now hs → IsEvicted self.now v block hs result }
     {
-        let _valid = self.copies.slots();
+        let _facts = self.copies.slots();
         self.copies.goes_up_to(v, block)
     }
 
@@ -304,8 +341,8 @@ impl<D: Device> CowGroup<D> {
         ensures evicted { (hs : List History) → StandsFor D.told self.old hs → IsEvicted self.old v block hs result }
         ensures stands { (hs : List History) → StandsFor D.told self.old hs → StandsFor D.told self.new (made_room self.old result hs) }
     {
-        let _valid = self.copies.slots();
-        let _images = self.copies.volumes();
+        let _facts = self.copies.slots();
+        let _facts = self.copies.volumes();
         self.copies.make_room(v, block)
     }
 
@@ -333,7 +370,7 @@ impl<D: Device> CowGroup<D> {
         ensures put { IsPutOr D.told D.size D.count D.lending self.old self.new v (record { block = block; bytes = payload_bytes payload.now }) result }
         ensures once { IsCopiedOnce D.told self.old self.new v block }
     {
-        let _fits = self.copies.slots();
+        let _facts = self.copies.slots();
         let Some(slot) = self.copies.free_slot() else {
             unreachable!();
         };

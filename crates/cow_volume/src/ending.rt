@@ -17,7 +17,7 @@ pub(crate) fn sync_all<D: Device>(copies: &mut Copies<D>) -> Result<(), Cause>
     ensures lasts { OnOk result (D.lasting copies.new.area.device ≡ D.told copies.new.area.device) }
     ensures sync { (devices : List D) → IsSync D.told D.size D.count D.lending (group_of devices copies.old) (group_of devices copies.new) result }
 {
-    let _valid = copies.slots();
+    let _facts = copies.slots();
     match copies.sync() {
         Err(_) => Err(Cause::Area),
         Ok(()) => match copies.flush() {

@@ -3,7 +3,7 @@
 //! A block's old bytes are copied into a slot of the area before its first overwrite since the newest cut. Contracts see a
 //! `CowGroup` as its devices, its area, and for each volume the sets of its images; `specs/StandsFor.antt` says for which
 //! histories of effective writes and images a group stands, and each call for which it stands afterwards. All memory is taken
-//! by `new`.
+//! by `new` or `resume`.
 #![tactic(auto)]
 
 mod calling;
@@ -13,8 +13,11 @@ mod copying;
 mod cow_group;
 mod ending;
 mod image_fault;
+mod laws;
 mod reads;
 mod renewing;
+mod resume_fault;
+mod resuming;
 mod revert_fault;
 mod reverts;
 mod write_fault;
@@ -23,6 +26,8 @@ mod written;
 pub use cause::Cause;
 pub use cow_group::CowGroup;
 pub use image_fault::ImageFault;
+pub use laws::{what_is_synced_is_kept, what_is_taken_apart_is_taken_up};
+pub use resume_fault::ResumeFault;
 pub use revert_fault::RevertFault;
 pub use write_fault::WriteFault;
 pub use written::Written;

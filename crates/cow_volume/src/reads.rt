@@ -115,7 +115,7 @@ pub(crate) fn lend_now<'a, D: Device>(
     ensures whole { IfSome result (λ bytes. length bytes.now ≡ BLOCK) }
     ensures lends { (d : D) → slice_get devices.now.items v ≡ Some d → is_some result ≡ D.lending d }
 {
-    let _blocks = copies.blocks(v);
+    let _facts = copies.blocks(v);
     lend_device(devices, v, block)
 }
 

@@ -6,7 +6,8 @@ ghost use Rattle.cow_volume.specs.StandsFor.{StandsFor};
 ghost use Rattle.cow_volume.specs.Calls.{IsRevert, blocks_at, is_among, changed_at};
 ghost use Rattle.cow_volume.specs.CopiesAfter.{images_on, after_merge};
 ghost use Rattle.cow_volume.specs.Parts.{group_of, blocks_on};
-ghost use Rattle.cow_volume.specs.Restoring.{AreNewerGone, IsOneRestored, IsRestoring};
+ghost use Rattle.cow_volume.specs.Tied.{CopiesValue};
+ghost use Rattle.cow_volume.specs.Restoring.{IsMergedTo, IsOneRestored, IsRestoring, KeepsCopies, merged_as};
 
 use crate::calling::write_device;
 use crate::cause::Cause;
@@ -36,23 +37,25 @@ pub(crate) fn merge_image<D: Device>(copies: &mut Copies<D>, v: u32, set: u32)
     ensures merged { copies.new ≡ after_merge copies.old v set }
     ensures stands { (devices : List D) (hs : List History) → StandsFor D.told (group_of devices copies.old) hs → StandsFor D.told (group_of devices copies.new) (changed_at v (dropped set) hs) }
 {
-    let _valid = copies.slots();
+    let _facts = copies.slots();
     copies.merge(v, set);
 }
 
-/// The images of a volume that are newer than that of a set go, the newest first.
+/// The images of a volume that are newer than that of a set go, the newest first, and their copies are handed down.
 fn drop_newer<D: Device>(copies: &mut Copies<D>, v: u32, set: u32)
     requires volume { v < length copies.old.area.volumes }
+    requires above_zero { 0 < set }
     requires image { is_among set (images_on copies.old v) ≡ true }
-    ensures { AreNewerGone D.told copies.old copies.new v set }
+    ensures { IsMergedTo D.told copies.old copies.new v set }
 {
+    let _facts = copies.volumes();
+    let _facts = copies.slots();
     while let Some(newest) = newer_than(copies, v, set) {
         merge_image(copies, v, newest);
     }
 }
 
-/// Restores a block from its copy for a set, the newest image of the volume, and says whether it has one. `buffer` takes
-/// the bytes.
+/// Restores a block from the copy that the image of a set shows, and says whether there is one. `buffer` takes the bytes.
 fn restore_block<D: Device>(
     devices: &mut Vec<D>,
     copies: &mut Copies<D>,
@@ -79,7 +82,8 @@ fn restore_block<D: Device>(
     Ok(true)
 }
 
-/// Restores the blocks that have a copy for a set, the newest image of the volume, in ascending order.
+/// Restores the blocks of which the image of a set shows a copy, in ascending order. The newer images still stand; what is left is
+/// told as if they had been merged down before.
 fn restore_blocks<D: Device>(
     devices: &mut Vec<D>,
     copies: &mut Copies<D>,
@@ -90,8 +94,8 @@ fn restore_blocks<D: Device>(
     requires volume { v < length copies.old.area.volumes }
     requires devices { map D.size devices.old.items ≡ copies.old.area.volumes }
     requires above_zero { 0 < set }
-    requires newest { All (λ s. s ≤ set) (images_on copies.old v) }
-    ensures { IsRestoring D.told D.size D.count D.lending (group_of devices.old.items copies.old) (group_of devices.new.items copies.new) v set result }
+    ensures restored { (mid : CopiesValue D) → IsMergedTo D.told copies.old mid v set → IsRestoring D.told D.size D.count D.lending (group_of devices.old.items (merged_as mid copies.old)) (group_of devices.new.items (merged_as mid copies.new)) v set result }
+    ensures keeps { KeepsCopies D.told D.size D.count D.lending (group_of devices.old.items copies.old) (group_of devices.new.items copies.new) }
 {
     let mut restored = 0;
     for block in 0..copies.blocks(v) {
@@ -104,8 +108,8 @@ fn restore_blocks<D: Device>(
     Ok(())
 }
 
-/// Brings a volume back to the image of a set, which stays; the newer images go. `buffer` takes the bytes of each block
-/// that is restored.
+/// Brings a volume back to the image of a set, which stays. The newer images go at once when all blocks are restored; where a
+/// device fails they are merged down. `buffer` takes the bytes of each block that is restored.
 pub(crate) fn revert<D: Device>(
     devices: &mut Vec<D>,
     copies: &mut Copies<D>,
@@ -120,8 +124,16 @@ pub(crate) fn revert<D: Device>(
     if !has_image(copies, v, set) {
         return Err(RevertFault::NoSuchImage);
     }
-    drop_newer(copies, v, set);
-    restore_blocks(devices, copies, buffer, v, set)?;
-    copies.clear_from(v, set);
-    Ok(())
+    let _facts = copies.volumes();
+    let _facts = copies.slots();
+    match restore_blocks(devices, copies, buffer, v, set) {
+        Ok(()) => {
+            copies.clear_from(v, set);
+            Ok(())
+        }
+        Err(fault) => {
+            drop_newer(copies, v, set);
+            Err(fault)
+        }
+    }
 }

@@ -1,5 +1,5 @@
 ghost use Rattle.std.specs.Prelude.{◌≡◌, ◌≢◌, ◌<◌, ◌≤◌, ◌++◌, ◌∷◌, [], List, Option, Some, None, length, replicate, slice_get, slice_set, slice_index, filter, not, ◌==◌, nat_le, nat_lt, map, drop, All, Contains, IsTrue, IfOk, IfSome, IsNone, ◌↔◌};
-ghost use Rattle.diff_map.specs.MapValue.{IsMap, newest};
+ghost use Rattle.diff_map.specs.MapValue.{AreImages, IsMap, newest};
 ghost use Rattle.diff_map.specs.Copies.{HasCopy, AllTaken, copied_at, copy_of};
 ghost use Rattle.diff_map.specs.Chains.{IsFound, IsAbsent, KeepsFinds};
 ghost use Rattle.diff_map.specs.Index.{IsIndex};
@@ -50,6 +50,22 @@ impl DiffMap {
             entries: Vec::with_capacity(alloc, slots as usize)?,
             copies: vec![in alloc; None; slots as usize]?,
         })
+    }
+
+    /// A map with the images of these sets, the oldest first, and without copies. It takes all memory that the map ever
+    /// needs.
+    pub fn with_images(
+        alloc: Global,
+        blocks: u32,
+        slots: u32,
+        images: &[u32],
+    ) -> Result<DiffMap, OutOfMemory>
+        requires { AreImages images.now }
+        ensures { IfOk result (λ m. m ≡ record { blocks = blocks; images = images.now; copies = replicate slots None }) }
+    {
+        let mut map = DiffMap::new(alloc, blocks, slots)?;
+        map.images.extend_from_slice(images)?;
+        Ok(map)
     }
 
     /// How many blocks the volume has.
@@ -136,6 +152,17 @@ impl DiffMap {
         ensures { self.new ≡ record self.old { copies = slice_set self.old.copies slot (Some (copy_of (newest self.old.images) block)) } }
     {
         let set = self.images[self.images.len() - 1];
+        self.note_for(set, block, slot);
+    }
+
+    /// Notes the slot for this block of the image of `set`.
+    pub fn note_for(&mut self, set: u32, block: u32, slot: u32)
+        requires image { Contains self.old.images set }
+        requires in_range { block < self.old.blocks }
+        requires lacks { HasCopy self.old.copies set block → ⊥ }
+        requires unnoted { slice_get self.old.copies slot ≡ Some None }
+        ensures { self.new ≡ record self.old { copies = slice_set self.old.copies slot (Some (copy_of set block)) } }
+    {
         let at = first_from(&self.entries, block, set);
         let _ = self.entries.insert(at, Entry { block, set, slot });
         self.copies[slot as usize] = Some(Copied { set, block });

@@ -1,8 +1,7 @@
 -- The images of a set are cut on its volumes, one after another.
-use Rattle.std.proofs.Common.{◌≡◌, ℕ, zero, suc, ◌+◌, ◌<◌, ◌≤◌, ◌==◌, List, [], ◌∷◌, ◌++◌, length, take, refl, ap, sym, ◌∙◌, subst, arith, Bool, true, false, Option, Some, None, map, slice_get, slice_set}
+use Rattle.std.proofs.Common.{◌≡◌, ℕ, zero, suc, ◌+◌, ◌<◌, ◌==◌, List, [], ◌∷◌, ◌++◌, length, take, refl, ap, sym, ◌∙◌, subst, arith, Bool, true, false, Option, Some, slice_get}
 use Rattle.std.specs.Prelude.{◌||◌, All}
-use Rattle.std.proofs.lemmas.Option.{slice_get_within, slice_get-get_or, get_or_from_slice_get}
-use Rattle.std.proofs.lemmas.Bool.Decides.{nat_tests}
+use Rattle.std.proofs.lemmas.Option.{slice_get_within, get_or_from_slice_get}
 use Rattle.std.proofs.lemmas.List.{length-map}
 use Rattle.write_history.specs.History.{Image, History, cut, sets_of}
 use Rattle.set_agenda.specs.Agenda.{is_among}
@@ -14,7 +13,7 @@ use Rattle.cow_volume.specs.GroupValue.{GroupValue}
 use Rattle.cow_volume.specs.Calls.{sets_at, IsKept, IsSameDevice}
 use Rattle.cow_volume.proofs.Reverting.{take_next}
 use Rattle.provider.specs.Groups.{of_group, AreGroups, HasGroups, IsPlaceOf, history_at}
-use Rattle.provider.specs.Devices.{devices_of, AreKept}
+use Rattle.provider.specs.Devices.{devices_of}
 use Rattle.provider.specs.Preparing.{AreApart, CanCut, CanCutOn, IsCutOn, AreCut}
 use Rattle.provider.specs.GroupCalls.{IsGroupCall, IsGroupCut}
 use Rattle.provider.proofs.Places.{within_there, number_is, other_number, same_number}

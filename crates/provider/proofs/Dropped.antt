@@ -1,13 +1,12 @@
 -- The images of a set go from all volumes of a group.
-use Rattle.std.proofs.Common.{◌≡◌, ℕ, zero, suc, ◌+◌, ◌<◌, ◌≤◌, ◌==◌, List, [], ◌∷◌, length, refl, ap, sym, ◌∙◌, subst, arith, Bool, true, false, Option, Some, None, map, take, slice_get, slice_set}
-use Rattle.std.specs.Prelude.{is_some, not, filter, ◌||◌, ◌++◌, if◌then◌else◌}
-use Rattle.std.specs.List.{list_any}
-use Rattle.write_history.specs.History.{Image, History, dropped, without_set, sets_of, point_in}
+use Rattle.std.proofs.Common.{◌≡◌, ℕ, zero, suc, ◌+◌, ◌<◌, ◌≤◌, ◌==◌, List, [], ◌∷◌, length, refl, ap, sym, ◌∙◌, subst, arith, Bool, true, false, Option, map, take}
+use Rattle.std.specs.Prelude.{not, ◌||◌, ◌++◌, if◌then◌else◌}
+use Rattle.write_history.specs.History.{Image, History, dropped, without_set, sets_of}
 use Rattle.vss_model.specs.State.{has_image}
 use Rattle.vss_model.specs.Images.{count_images}
 use Rattle.cow_volume.specs.GroupValue.{GroupValue}
 use Rattle.cow_volume.specs.StandsFor.{StandsFor}
-use Rattle.cow_volume.specs.Calls.{IsKept, IsChanged, changed_at, history_at, history_in, is_among, sets_at, sets_in}
+use Rattle.cow_volume.specs.Calls.{IsKept, changed_at, history_at, history_in, is_among, sets_at, sets_in}
 use Rattle.cow_volume.proofs.Group.{place_at, slice_get_inside}
 use Rattle.cow_volume.proofs.Reverting.{take_next}
 use Rattle.provider.specs.GroupCalls.{IsGroupDrop, IsWithout}

@@ -1,19 +1,17 @@
 -- The images of a set go from one volume, or from the volumes of all groups.
-use Rattle.std.proofs.Common.{◌≡◌, ℕ, zero, suc, ◌+◌, ◌<◌, ◌≤◌, ◌==◌, ◌*◌, List, [], ◌∷◌, ◌++◌, length, refl, ap, sym, ◌∙◌, subst, arith, Bool, true, false, Option, Some, None, map, slice_get, slice_set}
+use Rattle.std.proofs.Common.{◌≡◌, ℕ, zero, suc, ◌+◌, ◌<◌, ◌≤◌, ◌==◌, ◌*◌, List, [], ◌∷◌, ◌++◌, length, refl, ap, sym, ◌∙◌, subst, arith, Bool, true, false, Option, Some, map, slice_get, slice_set}
 use Rattle.std.specs.Prelude.{if◌then◌else◌}
 use Rattle.std.proofs.lemmas.Option.{slice_get_within}
 use Rattle.std.proofs.lemmas.Bool.Decides.{nat_tests}
 use Rattle.write_history.specs.History.{History, dropped}
-use Rattle.set_agenda.specs.Course.{change_at}
 use Rattle.scenario.specs.declared.volume_row.VolumeRow.{VolumeRow}
 use Rattle.scenario.specs.Plan.{Plan}
 use Rattle.vss_model.specs.State.{has_image}
 use Rattle.vss_model.specs.Images.{count_images}
 use Rattle.cow_volume.specs.GroupValue.{GroupValue}
 use Rattle.cow_volume.specs.StandsFor.{StandsFor}
-use Rattle.cow_volume.specs.Calls.{IsKept}
 use Rattle.cow_volume.proofs.Group.{slice_set-same, slice_get-set_same, slice_get-set_other, slice_get_inside}
-use Rattle.provider.specs.Groups.{of_group, of_group_if, AreGroups, HasGroups, IsPlaceOf, IfStandFor}
+use Rattle.provider.specs.Groups.{of_group, of_group_if, AreGroups, HasGroups, IsPlaceOf}
 use Rattle.provider.specs.Devices.{devices_of, AreKept}
 use Rattle.provider.specs.Calls.{IsDropped, AreWithout}
 use Rattle.provider.specs.GroupCalls.{IsGroupCall, IsGroupDrop, IsWithout}

@@ -1,18 +1,17 @@
 -- One group is flushed or brought to where it lasts, against the histories of all volumes.
-use Rattle.std.proofs.Common.{◌≡◌, ℕ, zero, suc, ◌+◌, ◌<◌, ◌==◌, arith, List, [], ◌∷◌, ◌++◌, length, refl, ap, sym, ◌∙◌, subst, Bool, true, false, Option, Some, None, map, slice_get, slice_set}
-use Rattle.std.specs.Prelude.{is_some, if◌then◌else◌, Result, Ok, Err}
+use Rattle.std.proofs.Common.{◌≡◌, ℕ, ◌+◌, ◌==◌, List, [], ◌∷◌, ◌++◌, refl, ap, sym, ◌∙◌, subst, Bool, true, false, Option, Some, None, map, slice_get, slice_set}
+use Rattle.std.specs.Prelude.{if◌then◌else◌, Result, Ok, Err}
 use Rattle.write_history.specs.History.{History}
-use Rattle.write_history.specs.Slots.{Placed, Copy, copies, copies_of, copies_from}
+use Rattle.write_history.specs.Slots.{Copy, copies, copies_of, copies_from}
 use Rattle.diff_area.specs.Copies.{AreStored}
 use Rattle.scenario.specs.declared.volume_row.VolumeRow.{VolumeRow}
 use Rattle.scenario.specs.Plan.{Plan, placed}
 use Rattle.cow_volume.specs.GroupValue.{GroupValue, placed as all_placed}
-use Rattle.cow_volume.specs.Calls.{IsUnfailed}
-use Rattle.cow_volume.specs.Ending.{IsSynced as IsGroupSynced, IsSync}
+use Rattle.cow_volume.specs.Ending.{IsSynced as IsGroupSynced}
 use Rattle.cow_volume.specs.declared.cause.Cause.{Cause}
-use Rattle.cow_volume.proofs.Group.{slice_get_inside, slice_get-set_other}
-use Rattle.provider.specs.Groups.{of_group, of_group_if, blocks_in_group, AreGroups, HasGroups, IsPlaceOf}
-use Rattle.provider.specs.Devices.{devices_of, counts_of, volume_place, area_place, RoseAtPlace, HasCause}
+use Rattle.cow_volume.proofs.Group.{slice_get-set_other}
+use Rattle.provider.specs.Groups.{of_group, of_group_if, blocks_in_group, HasGroups, IsPlaceOf}
+use Rattle.provider.specs.Devices.{devices_of, counts_of, volume_place, area_place, RoseAlone, HasCause}
 use Rattle.provider.specs.Calls.{IsQuiet}
 use Rattle.provider.specs.Preparing.{LastsAt}
 use Rattle.provider.specs.Ending.{AreLasting, IsSynced}
@@ -43,8 +42,7 @@ module _ {D : Type 0} (told lasting : D → Option (List (List ℕ))) (size coun
 
   pub flush_failed : HasGroups s old → (cause : Cause) → IsGroupCall old new g (λ x y. IsGroupFlush told lasting size count lending x y u (Err cause)) → HasCause count s v (Some Volume) old new
   flush_failed has cause c =
-      let kept = kept_one told size count lending old new g c.before c.after c.was c.is c.called.quiet.kept in
-      rose_volume count s old new v g u c.before c.after has (kept.has s has) place c.was (called_there old new g c.before c.after c.was c.is) c.called.rose
+      rose_volume count s old new v g u c.before c.after has place c.was c.is c.called.rose
 
 -- ## copies of a group
 
@@ -103,7 +101,6 @@ module _ {D : Type 0} (told lasting : D → Option (List (List ℕ))) (size coun
   pub sync_unfailed : (done : Unit) → IsGroupCall old new g (λ x y. IsGroupSync told lasting size count lending x y (Ok done)) → counts_of count new ≡ counts_of count old
   sync_unfailed done c = ap (counts_of count) c.is ∙ counts_same count old g c.before c.after c.was c.called.sync.2
 
-  pub sync_failed : (s : Plan) → HasGroups s old → (cause : Cause) → IsGroupCall old new g (λ x y. IsGroupSync told lasting size count lending x y (Err cause)) → RoseAtPlace (area_place g s.volumes) (counts_of count old) (counts_of count new)
+  pub sync_failed : (s : Plan) → HasGroups s old → (cause : Cause) → IsGroupCall old new g (λ x y. IsGroupSync told lasting size count lending x y (Err cause)) → RoseAlone (area_place g s.volumes) (counts_of count old) (counts_of count new)
   sync_failed s has cause c =
-      let kept = kept_one told size count lending old new g c.before c.after c.was c.is c.called.sync.0.kept in
-      rose_area count s old new g c.before c.after has (kept.has s has) c.was (called_there old new g c.before c.after c.was c.is) c.called.sync.2
+      rose_area count s old new g c.before c.after has c.was c.is c.called.sync.2

@@ -1,15 +1,16 @@
 -- The devices of all groups in their order: at which place each stands, and what is known of all of them from what is known of
 -- each group.
-use Rattle.std.proofs.Common.{◌≡◌, ℕ, zero, suc, ◌+◌, ◌<◌, ◌≤◌, List, [], ◌∷◌, ◌++◌, length, refl, ap, sym, ◌∙◌, subst, arith, Bool, true, false, Option, Some, None, map, slice_get, slice_set}
-use Rattle.std.proofs.lemmas.List.{map-append, length-append}
+use Rattle.std.proofs.Common.{◌≡◌, ◌<◌, ℕ, zero, suc, ◌+◌, List, [], ◌∷◌, ◌++◌, length, refl, ap, sym, ◌∙◌, subst, arith, Some, map, slice_get, slice_set}
+use Rattle.std.proofs.lemmas.List.{map-append, length-append, length-map}
 use Rattle.std.proofs.lemmas.Option.{slice_get_within}
+use Rattle.vss_names.specs.Faults.{Rose}
 use Rattle.scenario.specs.declared.volume_row.VolumeRow.{VolumeRow}
 use Rattle.scenario.specs.Plan.{Plan}
 use Rattle.cow_volume.specs.GroupValue.{GroupValue}
 use Rattle.cow_volume.specs.Calls.{IsUnfailed, VolumeRose, AreaRose}
-use Rattle.cow_volume.proofs.Group.{slice_get_inside, slice_get_map}
+use Rattle.cow_volume.proofs.Group.{slice_get_map}
 use Rattle.provider.specs.Groups.{blocks_in_group, place_in, HasGroups, IsPlaceOf}
-use Rattle.provider.specs.Devices.{devices_of, counts_of, first_place, area_place, volume_place, volume_place_in, volumes_area, volumes_area_in, RoseAtPlace}
+use Rattle.provider.specs.Devices.{devices_of, counts_of, first_place, area_place, volume_place, volume_place_in, volumes_area, volumes_area_in, RoseAlone}
 
 -- ## joined lists
 
@@ -77,14 +78,17 @@ at_gap (z ∷ groups) lens (suc g) i x long at d e =
 lens_are : {D : Type 0} (s : Plan) (groups : List (GroupValue D)) → HasGroups s groups → (k : ℕ) (z : GroupValue D) → slice_get groups k ≡ Some z → length z.devices ≡ length (blocks_in_group k s.volumes)
 lens_are s groups has k z at = has.devices k z at ∙ ap length (has.volumes k z at)
 
-pub volume_device_at : {D : Type 0} (s : Plan) (groups : List (GroupValue D)) (v g u : ℕ) (x : GroupValue D) (d : D) → HasGroups s groups → IsPlaceOf s v g u → slice_get groups g ≡ Some x → slice_get x.devices u ≡ Some d
-    → slice_get (devices_of groups) (volume_place s v) ≡ Some d
-volume_device_at s groups v g u x d has place at e =
-    let is : volume_place s v ≡ gap (λ k. length (blocks_in_group k s.volumes)) g + u =
+volume_place_is : (s : Plan) (v g u : ℕ) → IsPlaceOf s v g u → volume_place s v ≡ gap (λ k. length (blocks_in_group k s.volumes)) g + u
+volume_place_is s v g u place =
     ap (volume_place_in s.volumes v) place.is_row
     ∙ ap (λ (n : ℕ). n + place_in place.row.group s.volumes v) (first_is_gap place.row.group s.volumes)
     ∙ ap (λ (n : ℕ). gap (λ k. length (blocks_in_group k s.volumes)) n + place_in place.row.group s.volumes v) (sym place.group_is)
-    ∙ ap (λ (n : ℕ). gap (λ k. length (blocks_in_group k s.volumes)) g + n) (sym place.within_is) in
+    ∙ ap (λ (n : ℕ). gap (λ k. length (blocks_in_group k s.volumes)) g + n) (sym place.within_is)
+
+pub volume_device_at : {D : Type 0} (s : Plan) (groups : List (GroupValue D)) (v g u : ℕ) (x : GroupValue D) (d : D) → HasGroups s groups → IsPlaceOf s v g u → slice_get groups g ≡ Some x → slice_get x.devices u ≡ Some d
+    → slice_get (devices_of groups) (volume_place s v) ≡ Some d
+volume_device_at s groups v g u x d has place at e =
+    let is = volume_place_is s v g u place in
     ap (slice_get (devices_of groups)) is
     ∙ at_gap groups (λ k. length (blocks_in_group k s.volumes)) g u x (lens_are s groups has) at d (get-front x.devices (x.area.device ∷ []) u d e)
 
@@ -98,25 +102,107 @@ area_device_at s groups g x has at =
 
 -- ## counts
 
-pub rose_volume : {D : Type 0} (count : D → ℕ) (s : Plan) (old new : List (GroupValue D)) (v g u : ℕ) (x y : GroupValue D) → HasGroups s old → HasGroups s new → IsPlaceOf s v g u
-    → slice_get old g ≡ Some x → slice_get new g ≡ Some y → VolumeRose count u x y → RoseAtPlace (volume_place s v) (counts_of count old) (counts_of count new)
-rose_volume count s old new v g u x y has has_now place was is rose = record {
-  before = count rose.before;
-  now = count rose.now;
-  was = slice_get_map count (devices_of old) (volume_place s v) rose.before (volume_device_at s old v g u x rose.before has place was rose.was);
-  is = slice_get_map count (devices_of new) (volume_place s v) rose.now (volume_device_at s new v g u y rose.now has_now place is rose.is);
-  rose = rose.rose;
-}
+-- one member of a joined list is set
+set-front : {X : Type 0} (xs ys : List X) (i : ℕ) (y : X) → i < length xs → slice_set (xs ++ ys) i y ≡ slice_set xs i y ++ ys
+set-front [] ys i y l = absurd (omega arith)
+set-front (z ∷ xs) ys zero y l = refl
+set-front (z ∷ xs) ys (suc i) y l = let less : i < length xs = omega arith in ap (λ zs. z ∷ zs) (set-front xs ys i y less)
 
-pub rose_area : {D : Type 0} (count : D → ℕ) (s : Plan) (old new : List (GroupValue D)) (g : ℕ) (x y : GroupValue D) → HasGroups s old → HasGroups s new
-    → slice_get old g ≡ Some x → slice_get new g ≡ Some y → AreaRose count x y → RoseAtPlace (area_place g s.volumes) (counts_of count old) (counts_of count new)
-rose_area count s old new g x y has has_now was is rose = record {
-  before = count x.area.device;
-  now = count y.area.device;
-  was = slice_get_map count (devices_of old) (area_place g s.volumes) x.area.device (area_device_at s old g x has was);
-  is = slice_get_map count (devices_of new) (area_place g s.volumes) y.area.device (area_device_at s new g y has_now is);
-  rose = rose;
-}
+set-back : {X : Type 0} (xs ys : List X) (n i : ℕ) (y : X) → n ≡ length xs → slice_set (xs ++ ys) (n + i) y ≡ xs ++ slice_set ys i y
+set-back [] ys zero i y e = let z : 0 + i ≡ i = omega arith in ap (λ k. slice_set ys k y) z
+set-back [] ys (suc n) i y e = absurd (omega arith)
+set-back (z ∷ xs) ys zero i y e = absurd (omega arith)
+set-back (z ∷ xs) ys (suc n) i y e =
+    let more : suc n + i ≡ suc (n + i) = omega arith in
+    let rest : n ≡ length xs = omega arith in
+    ap (λ k. slice_set (z ∷ xs ++ ys) k y) more ∙ ap (λ zs. z ∷ zs) (set-back xs ys n i y rest)
+
+-- one count of a list rose, and no other
+rose_alone : (i : ℕ) (xs ys : List ℕ) (a b : ℕ) → slice_get xs i ≡ Some a → ys ≡ slice_set xs i b → Rose a b → RoseAlone i xs ys
+rose_alone i [] ys a b at is rose = cc
+rose_alone zero (x ∷ xs) ys a b at is rose =
+    let same : x ≡ a = cc in
+    subst (λ (zs : List ℕ). RoseAlone zero (x ∷ xs) zs) (sym is) (subst (λ (n : ℕ). Rose n b) (sym same) rose, refl)
+rose_alone (suc i) (x ∷ xs) ys a b at is rose =
+    subst (λ (zs : List ℕ). RoseAlone (suc i) (x ∷ xs) zs) (sym is) (refl, rose_alone i xs (slice_set xs i b) a b at refl rose)
+
+-- the devices of one group, the area's behind the volumes'
+abbrev group_devices : {D : Type 0} → GroupValue D → List D
+group_devices x = x.devices ++ x.area.device ∷ []
+
+joined_devices : {D : Type 0} (count : D → ℕ) (z : GroupValue D) (groups : List (GroupValue D)) → counts_of count (z ∷ groups) ≡ map count (group_devices z) ++ counts_of count groups
+joined_devices count z groups = sym (ap (map count) (joined z.devices z.area.device (devices_of groups))) ∙ map-append count (group_devices z) (devices_of groups) where
+  joined : {X : Type 0} (xs : List X) (y : X) (ys : List X) → (xs ++ y ∷ []) ++ ys ≡ xs ++ y ∷ ys
+  joined [] y ys = refl
+  joined (q ∷ xs) y ys = ap (λ zs. q ∷ zs) (joined xs y ys)
+
+-- one count of one group is another, and so is that count of all
+counts_set : {D : Type 0} (count : D → ℕ) (groups : List (GroupValue D)) (lens : ℕ → ℕ) (g i : ℕ) (x y : GroupValue D) (n : ℕ) → ((k : ℕ) (z : GroupValue D) → slice_get groups k ≡ Some z → length z.devices ≡ lens k)
+    → slice_get groups g ≡ Some x → i < length (map count (group_devices x)) → map count (group_devices y) ≡ slice_set (map count (group_devices x)) i n
+    → counts_of count (slice_set groups g y) ≡ slice_set (counts_of count groups) (gap lens g + i) n
+counts_set count [] lens g i x y n long at inside set = cc
+counts_set {D = D} count (z ∷ groups) lens zero i x y n long at inside set =
+    let same : z ≡ x = cc in
+    let none : i ≡ 0 + i = omega arith in
+    joined_devices count y groups
+    ∙ ap (λ (xs : List ℕ). xs ++ counts_of count groups) set
+    ∙ sym (set-front (map count (group_devices x)) (counts_of count groups) i n inside)
+    ∙ ap (λ (xs : List ℕ). slice_set xs i n) (sym (joined_devices count x groups) ∙ ap (λ (q : GroupValue D). counts_of count (q ∷ groups)) (sym same))
+    ∙ ap (λ k. slice_set (counts_of count (z ∷ groups)) k n) none
+counts_set count (z ∷ groups) lens (suc g) i x y n long at inside set =
+    let shift = gap_shift lens g in
+    let first : lens 0 ≡ length z.devices = sym (long 0 z refl) in
+    let many : length z.devices + 1 ≡ length (map count (group_devices z)) = sym (length-map (group_devices z) count ∙ length-append z.devices (z.area.device ∷ [])) in
+    let is : (length z.devices + 1) + (gap (λ k. lens (suc k)) g + i) ≡ gap lens (suc g) + i = omega (arith, shift, first) in
+    joined_devices count z (slice_set groups g y)
+    ∙ ap (λ (xs : List ℕ). map count (group_devices z) ++ xs) (counts_set count groups (λ k. lens (suc k)) g i x y n (λ k q there. long (suc k) q there) at inside set)
+    ∙ sym (set-back (map count (group_devices z)) (counts_of count groups) (length z.devices + 1) (gap (λ k. lens (suc k)) g + i) n many)
+    ∙ ap (λ (xs : List ℕ). slice_set xs ((length z.devices + 1) + (gap (λ k. lens (suc k)) g + i)) n) (sym (joined_devices count z groups))
+    ∙ ap (λ k. slice_set (counts_of count (z ∷ groups)) k n) is
+
+pub rose_volume : {D : Type 0} (count : D → ℕ) (s : Plan) (old new : List (GroupValue D)) (v g u : ℕ) (x y : GroupValue D) → HasGroups s old → IsPlaceOf s v g u
+    → slice_get old g ≡ Some x → new ≡ slice_set old g y → VolumeRose count u x y → RoseAlone (volume_place s v) (counts_of count old) (counts_of count new)
+rose_volume {D = D} count s old new v g u x y has place was is rose =
+    let inside = slice_get_within x.devices u rose.before rose.was in
+    let long = length-map x.devices count in
+    let more = length-append (map count x.devices) (count y.area.device ∷ []) in
+    let low : u < length (map count x.devices) = omega (arith, inside, long) in
+    let all = ap length (map-append count x.devices (x.area.device ∷ [])) ∙ length-append (map count x.devices) (count x.area.device ∷ []) in
+    let own : u < length (map count (group_devices x)) = omega (arith, low, all) in
+    let set : map count (group_devices y) ≡ slice_set (map count (group_devices x)) u (count rose.now) =
+    map-append count y.devices (y.area.device ∷ [])
+    ∙ ap (λ (xs : List ℕ). xs ++ count y.area.device ∷ []) rose.devices
+    ∙ ap (λ (n : ℕ). slice_set (map count x.devices) u (count rose.now) ++ n ∷ []) rose.area
+    ∙ sym (set-front (map count x.devices) (count x.area.device ∷ []) u (count rose.now) low)
+    ∙ ap (λ (xs : List ℕ). slice_set xs u (count rose.now)) (sym (map-append count x.devices (x.area.device ∷ []))) in
+    rose_alone (volume_place s v) (counts_of count old) (counts_of count new) (count rose.before) (count rose.now)
+    (slice_get_map count (devices_of old) (volume_place s v) rose.before (volume_device_at s old v g u x rose.before has place was rose.was))
+    (ap (counts_of count) is
+    ∙ counts_set count old (λ k. length (blocks_in_group k s.volumes)) g u x y (count rose.now) (lens_are s old has) was own set
+    ∙ ap (λ (k : ℕ). slice_set (counts_of count old) k (count rose.now)) (sym (volume_place_is s v g u place)))
+    rose.rose
+
+pub rose_area : {D : Type 0} (count : D → ℕ) (s : Plan) (old new : List (GroupValue D)) (g : ℕ) (x y : GroupValue D) → HasGroups s old
+    → slice_get old g ≡ Some x → new ≡ slice_set old g y → AreaRose count x y → RoseAlone (area_place g s.volumes) (counts_of count old) (counts_of count new)
+rose_area {D = D} count s old new g x y has was is rose =
+    let many = lens_are s old has g x was in
+    let long = length-map x.devices count in
+    let all = ap length (map-append count x.devices (x.area.device ∷ [])) ∙ length-append (map count x.devices) (count x.area.device ∷ []) in
+    let at_end : length (blocks_in_group g s.volumes) + 0 ≡ length (blocks_in_group g s.volumes) = omega arith in
+    let size : length (blocks_in_group g s.volumes) ≡ length (map count x.devices) = omega (arith, many, long) in
+    let own : length (blocks_in_group g s.volumes) < length (map count (group_devices x)) = omega (arith, size, all) in
+    let set : map count (group_devices y) ≡ slice_set (map count (group_devices x)) (length (blocks_in_group g s.volumes)) (count y.area.device) =
+    map-append count y.devices (y.area.device ∷ [])
+    ∙ ap (λ (xs : List ℕ). xs ++ count y.area.device ∷ []) rose.devices
+    ∙ sym (set-back (map count x.devices) (count x.area.device ∷ []) (length (blocks_in_group g s.volumes)) 0 (count y.area.device) size)
+    ∙ ap (λ (k : ℕ). slice_set (map count x.devices ++ count x.area.device ∷ []) k (count y.area.device)) at_end
+    ∙ ap (λ (xs : List ℕ). slice_set xs (length (blocks_in_group g s.volumes)) (count y.area.device)) (sym (map-append count x.devices (x.area.device ∷ []))) in
+    rose_alone (area_place g s.volumes) (counts_of count old) (counts_of count new) (count x.area.device) (count y.area.device)
+    (slice_get_map count (devices_of old) (area_place g s.volumes) x.area.device (area_device_at s old g x has was))
+    (ap (counts_of count) is
+    ∙ counts_set count old (λ k. length (blocks_in_group k s.volumes)) g (length (blocks_in_group g s.volumes)) x y (count y.area.device) (lens_are s old has) was own set
+    ∙ ap (λ (n : ℕ). slice_set (counts_of count old) (n + length (blocks_in_group g s.volumes)) (count y.area.device)) (sym (first_is_gap g s.volumes)))
+    rose.rose
 
 pub area_of_place : (s : Plan) (v g u : ℕ) → IsPlaceOf s v g u → volumes_area s v ≡ area_place g s.volumes
 area_of_place s v g u place = ap (volumes_area_in s.volumes) place.is_row ∙ ap (λ (n : ℕ). area_place n s.volumes) (sym place.group_is)

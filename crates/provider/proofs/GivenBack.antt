@@ -1,5 +1,5 @@
 -- Devices go into a list one by one, and groups one by one.
-use Rattle.std.proofs.Common.{◌≡◌, ℕ, zero, suc, ◌+◌, ◌<◌, ◌≤◌, List, [], ◌∷◌, ◌++◌, length, refl, ap, sym, ◌∙◌, subst, arith, append_assoc}
+use Rattle.std.proofs.Common.{◌≡◌, ℕ, ◌+◌, ◌<◌, ◌≤◌, List, [], ◌∷◌, ◌++◌, length, refl, ap, sym, ◌∙◌, arith, append_assoc}
 use Rattle.std.proofs.lemmas.List.{length-append}
 use Rattle.cow_volume.specs.GroupValue.{GroupValue}
 use Rattle.provider.specs.Devices.{devices_of}
@@ -8,14 +8,11 @@ pub append_nil : {X : Type 0} (xs : List X) → xs ++ [] ≡ xs
 append_nil [] = refl
 append_nil (x ∷ xs) = ap (λ ys. x ∷ ys) (append_nil xs)
 
--- what is listed and what is left are what there was, and there is room for all and for one more
+-- what is listed and what is left are what there was, and there is room for all, as before
 pub record IsMoving {X : Type 0} (first all list rest : List X) (before room : ℕ) : Type 0 where
   pub kept : list ++ rest ≡ first ++ all
-  pub enough : length first + length all + 1 ≤ room
-  pub later : before ≤ room
-
-pub moving_first : {X : Type 0} (first all : List X) (room : ℕ) → length first + (length all + 1) ≤ room → IsMoving first all first all room room
-moving_first first all room enough = record { kept = refl; enough = omega arith; later = omega arith }
+  pub enough : length first + length all ≤ room
+  pub same : room ≡ before
 
 pub moving_room : {X : Type 0} (first all list rest less : List X) (x : X) (before room : ℕ) → rest ≡ x ∷ less → IsMoving first all list rest before room → length list < room
 moving_room first all list rest less x before room next m =
@@ -30,18 +27,15 @@ pub moving_one : {X : Type 0} (first all list rest less : List X) (x : X) (befor
 moving_one first all list rest less x before room next m = record {
   kept = append_assoc list (x ∷ []) less ∙ ap (λ xs. list ++ xs) (sym next) ∙ m.kept;
   enough = m.enough;
-  later = m.later;
+  same = m.same;
 }
 
 pub moving_all : {X : Type 0} (first all list rest : List X) (before room : ℕ) → rest ≡ [] → IsMoving first all list rest before room → list ≡ first ++ all
 moving_all first all list rest before room done m = sym (append_nil list) ∙ ap (λ xs. list ++ xs) (sym done) ∙ m.kept
 
-pub last_room : {X : Type 0} (first all list rest : List X) (before room : ℕ) → rest ≡ [] → IsMoving first all list rest before room → length list < room
-last_room first all list rest before room done m =
-    let a = ap length (moving_all first all list rest before room done m) in
-    let b = length-append first all in
-    let e = m.enough in
-    omega (arith, a, b, e)
+-- the list so far, and one more
+pub joined : {X : Type 0} (first all list : List X) (x : X) → list ≡ first ++ all → list ++ x ∷ [] ≡ first ++ (all ++ x ∷ [])
+joined first all list x is = ap (λ xs. xs ++ x ∷ []) is ∙ append_assoc first all (x ∷ [])
 
 -- ## groups
 
@@ -63,7 +57,7 @@ groups_room all rest less x list room next m =
     let f = m.enough in
     omega (arith, a, b, c, d, e, f)
 
-pub groups_one : {D : Type 0} (all rest less : List (GroupValue D)) (x : GroupValue D) (list new : List D) (room more : ℕ) → rest ≡ x ∷ less → AreMoving all rest list room → new ≡ list ++ devices_of (x ∷ []) → room ≤ more → AreMoving all less new more
+pub groups_one : {D : Type 0} (all rest less : List (GroupValue D)) (x : GroupValue D) (list new : List D) (room more : ℕ) → rest ≡ x ∷ less → AreMoving all rest list room → new ≡ list ++ devices_of (x ∷ []) → more ≡ room → AreMoving all less new more
 groups_one {D = D} all rest less x list new room more next m is up =
     let f = m.enough in
     record {

@@ -1,30 +1,30 @@
 -- Reads of an image of one group, and reverts to it, against the histories of all volumes.
-use Rattle.std.proofs.Common.{◌≡◌, ℕ, ◌<◌, ◌≤◌, arith, List, length, refl, ap, sym, ◌∙◌, subst, Bool, true, false, Option, Some, None, slice_get, slice_set}
-use Rattle.std.specs.Prelude.{◌≢◌, is_some, Result, Ok, Err}
+use Rattle.std.proofs.Common.{◌≡◌, ℕ, ◌<◌, arith, List, length, ap, sym, ◌∙◌, subst, Bool, true, false, Option, Some, slice_get, slice_set}
+use Rattle.std.specs.Prelude.{◌≢◌, Result, Ok, Err}
 use Rattle.write_history.specs.History.{History, point_in, reverted, reverted_in_part, to_restore}
 use Rattle.set_agenda.specs.Course.{change_at}
 use Rattle.scenario.specs.Plan.{Plan, blocks_of}
 use Rattle.cow_volume.specs.GroupValue.{GroupValue}
 use Rattle.cow_volume.specs.declared.cause.Cause.{Cause}
-use Rattle.cow_volume.specs.declared.cause.Cause.TheVariants.{NoSuchBlock, Volume, Area}
+use Rattle.cow_volume.specs.declared.cause.Cause.TheVariants.{Volume, Area}
 use Rattle.cow_volume.specs.declared.image_fault.ImageFault.{ImageFault}
 use Rattle.cow_volume.specs.declared.image_fault.ImageFault.TheVariants.{NoSuchImage as NoImage, NoSuchBlock as NoBlock, Volume as VolumeFailed, Area as AreaFailed}
-use Rattle.cow_volume.specs.Calls.{HasImageCause as HasGroupImageCause, DeviceRose, blocks_at, sets_at, is_among, history_at as group_history_at, IsReverted, IsRevertedInPart, IsRevert as IsGroupRevert, changed_at}
+use Rattle.cow_volume.specs.Calls.{HasImageCause as HasGroupImageCause, DeviceRose, blocks_at, sets_at, is_among, history_at as group_history_at, IsReverted, IsRevertedInPart, IsRevert as IsGroupRevert}
 use Rattle.cow_volume.specs.declared.revert_fault.RevertFault.{RevertFault as GroupRevertFault}
 use Rattle.cow_volume.specs.declared.revert_fault.RevertFault.TheVariants.{NoSuchImage as NoImageThere, Fault}
 use Rattle.cow_volume.specs.Parts.{IsUnseen}
-use Rattle.provider.specs.Groups.{of_group, AreGroups, HasGroups, IsPlaceOf, history_at}
-use Rattle.provider.specs.Devices.{AreKept, HasCause, counts_of}
+use Rattle.provider.specs.Groups.{of_group, AreGroups, HasGroups, IsPlaceOf}
+use Rattle.provider.specs.Devices.{AreKept, HasCause}
 use Rattle.provider.specs.declared.revert_fault.RevertFault.{RevertFault}
-use Rattle.provider.specs.Calls.{HasImage, HasImageCause, IsQuiet, IsRevert, IsShown}
+use Rattle.provider.specs.Calls.{HasImageCause, IsQuiet, IsRevert, IsShown}
 use Rattle.provider.specs.declared.device_fault.DeviceFault.{DeviceFault}
 use Rattle.provider.specs.declared.image_fault.ImageFault.{ImageFault as ProviderFault}
 use Rattle.provider.specs.declared.revert_fault.RevertFault.TheVariants.{NoSuchImage, Stopped}
 use Rattle.provider.specs.GroupCalls.{IsGroupCall, IsGroupImageRead, device_of, image_fault_of}
 use Rattle.provider.proofs.Places.{blocks_are, history_of_place}
 use Rattle.provider.proofs.Becoming.{changes}
-use Rattle.provider.proofs.Kept.{call_on, kept_one, kept_same, called_there}
-use Rattle.provider.proofs.Causes.{unfailed, rose_by, is_device}
+use Rattle.provider.proofs.Kept.{call_on, kept_one, kept_same}
+use Rattle.provider.proofs.Causes.{unfailed, rose_by}
 use Rattle.provider.proofs.Looked.{image_of}
 use Rattle.provider.proofs.DroppedAll.{same_groups}
 use Rattle.provider.proofs.Shown.{quiet_of, shown_of}
@@ -61,8 +61,8 @@ module _ {D : Type 0} (told : D → Option (List (List ℕ))) (size count : D �
   by_fault : HasGroups s old → b < blocks_of s v → (x y : GroupValue D) → slice_get old g ≡ Some x → new ≡ slice_set old g y → HasGroups s new → (fault : ImageFault) → HasGroupImageCause count u set b x y fault → HasImageCause told count s v set (Err (image_fault_of fault)) old new
   by_fault has low x y was is has_now NoImage h = (image_of told s old v g u set x false place has was h.0, same_groups old new g x y was is h.1)
   by_fault has low x y was is has_now NoBlock h = let high = h.1 in let same = blocks_are s old v g u x place has was in absurd (omega (arith, high, same, low))
-  by_fault has low x y was is has_now VolumeFailed h = (image_of told s old v g u set x true place has was h.0, rose_by count s old new v g u x y Volume has has_now place was (called_there old new g x y was is) h.2)
-  by_fault has low x y was is has_now AreaFailed h = (image_of told s old v g u set x true place has was h.0, rose_by count s old new v g u x y Area has has_now place was (called_there old new g x y was is) h.2)
+  by_fault has low x y was is has_now VolumeFailed h = (image_of told s old v g u set x true place has was h.0, rose_by count s old new v g u x y Volume has place was is h.2)
+  by_fault has low x y was is has_now AreaFailed h = (image_of told s old v g u set x true place has was h.0, rose_by count s old new v g u x y Area has place was is h.2)
 
   pub image_failed : HasGroups s old → b < blocks_of s v → (fault : ImageFault) (told_as : ProviderFault) → IsGroupCall old new g (λ x y. IsGroupImageRead told size count lending x y u set b bytes (Err fault)) → told_as ≡ image_fault_of fault → HasImageCause told count s v set (Err told_as) old new
   image_failed has low fault told_as c is =
@@ -94,7 +94,7 @@ module _ {D : Type 0} (told : D → Option (List (List ℕ))) (size count : D �
       let blocks = blocks_are s old v g u x place has was in (
         image_of told s old v g u set x true place has was r.image,
         call_on told size count lending s old new v g u x y place was is r.kept,
-        subst (λ (f : DeviceFault). HasCause count s v (Some f) old new) (sym told_as) (rose_by count s old new v g u x y cause has (kept.has s has) place was (called_there old new g x y was is) h.1),
+        subst (λ (f : DeviceFault). HasCause count s v (Some f) old new) (sym told_as) (rose_by count s old new v g u x y cause has place was is h.1),
         λ hs are p point.
             let same = history_of_place s hs v g u place are.histories in
             let here = ap (λ (h : History). point_in set h.images) same ∙ point in

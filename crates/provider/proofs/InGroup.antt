@@ -1,10 +1,10 @@
 -- What is said of all volumes with a mark for a group is what is said of the group's volumes alone.
-use Rattle.std.proofs.Common.{◌≡◌, ℕ, zero, suc, ◌+◌, ◌<◌, ◌==◌, List, [], ◌∷◌, length, refl, ap, sym, ◌∙◌, subst, arith, Bool, true, false, Option, Some, None, map, slice_get}
+use Rattle.std.proofs.Common.{◌≡◌, ℕ, zero, suc, ◌+◌, ◌==◌, List, [], ◌∷◌, length, refl, ap, sym, ◌∙◌, arith, Bool, true, false, Option, Some, None, map, slice_get}
 use Rattle.std.specs.Prelude.{◌&&◌, not, find, unwrap_or, if◌then◌else◌}
 use Rattle.std.specs.List.{range_with_len}
 use Rattle.std.proofs.lemmas.Bool.Decides.{nat_tests}
-use Rattle.write_history.specs.History.{Write, Image, History, after_set}
-use Rattle.write_history.specs.Slots.{Placed, used, needs_slot, needs_slot_in, group_used, gone_up_to, lacks_slot, evicted_up_to}
+use Rattle.write_history.specs.History.{History, after_set}
+use Rattle.write_history.specs.Slots.{Placed, used, needs_slot_in, group_used, gone_up_to, lacks_slot, evicted_up_to}
 use Rattle.set_agenda.specs.Course.{change_at}
 use Rattle.scenario.specs.declared.volume_row.VolumeRow.{VolumeRow}
 use Rattle.scenario.specs.Plan.{placed}

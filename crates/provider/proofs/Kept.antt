@@ -8,8 +8,8 @@ use Rattle.scenario.specs.Plan.{Plan}
 use Rattle.cow_volume.specs.GroupValue.{GroupValue}
 use Rattle.cow_volume.specs.Calls.{IsKept, IsSameDevice}
 use Rattle.cow_volume.proofs.Group.{slice_get_inside, slice_get-set_same, slice_get-set_other}
-use Rattle.provider.specs.Groups.{place_in, HasGroups, IsPlaceOf}
-use Rattle.provider.specs.Devices.{devices_of, counts_of, tells_in, tells_within, tells_row, tells_at, tells_from, tells_of, AreLater, AreKept, OthersStay, IsCallOn}
+use Rattle.provider.specs.Groups.{place_in, IsPlaceOf}
+use Rattle.provider.specs.Devices.{devices_of, counts_of, tells_in, tells_within, tells_row, tells_at, tells_from, tells_of, AreLater, AreKept, IsCallOn}
 use Rattle.provider.proofs.Places.{number_is, same_number}
 
 -- ## lists of one length

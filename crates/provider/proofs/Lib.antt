@@ -11,6 +11,9 @@ pub mod Imaged
 pub mod CutAll
 pub mod Refused
 pub mod Stepped
+pub mod Hashed
+pub mod Digested
+pub mod Fresh
 pub mod Ended
 pub mod GivenBack
 pub mod Shown

@@ -1,5 +1,5 @@
 -- What one group says of a volume, against the histories of all volumes.
-use Rattle.std.proofs.Common.{◌≡◌, ℕ, ◌<◌, ◌==◌, List, [], ◌∷◌, length, refl, ap, sym, ◌∙◌, subst, Bool, true, false, Option, Some, None, map, slice_get}
+use Rattle.std.proofs.Common.{◌≡◌, ℕ, ◌<◌, ◌==◌, List, [], ◌∷◌, length, refl, ap, sym, ◌∙◌, Bool, true, false, Option, Some, map, slice_get}
 use Rattle.std.specs.Prelude.{◌||◌, is_some, if◌then◌else◌}
 use Rattle.write_history.specs.History.{History, Image, point_in, sets_of}
 use Rattle.write_history.specs.Slots.{Placed, used, used_by, group_used}
@@ -8,7 +8,7 @@ use Rattle.cow_volume.specs.GroupValue.{GroupValue, placed as all_placed}
 use Rattle.cow_volume.specs.StandsFor.{StandsFor}
 use Rattle.cow_volume.specs.Calls.{sets_at, sets_in, is_among, blocks_at, history_at as group_history_at}
 use Rattle.cow_volume.proofs.Group.{place_at}
-use Rattle.provider.specs.Groups.{of_group, blocks_in_group, AreGroups, HasGroups, IsPlaceOf, IfStandFor, history_at}
+use Rattle.provider.specs.Groups.{of_group, AreGroups, HasGroups, IsPlaceOf, IfStandFor, history_at}
 use Rattle.provider.specs.Calls.{HasImage}
 use Rattle.provider.proofs.InGroup.{used_in_group}
 use Rattle.provider.proofs.Places.{history_of_place, within_there, group_there, blocks_are}

@@ -9,7 +9,7 @@ use Rattle.vss_model.specs.State.{history_in}
 use Rattle.cow_volume.specs.GroupValue.{GroupValue}
 use Rattle.cow_volume.specs.Calls.{blocks_at, blocks_in as group_blocks_in, history_at as group_history_at, history_in as group_history_in}
 use Rattle.cow_volume.proofs.Group.{slice_get_inside}
-use Rattle.provider.specs.Groups.{of_group, of_group_if, count_if, place_in, blocks_in_group, IsGroup, AreGroups, HasGroups, IsPlaceOf, history_at}
+use Rattle.provider.specs.Groups.{of_group, count_if, place_in, blocks_in_group, HasGroups, IsPlaceOf, history_at}
 use Rattle.provider.proofs.InGroup.{at_place}
 
 pub number_is : (a b : ℕ) → (a == b) ≡ true → a ≡ b
@@ -118,3 +118,12 @@ history_of_place s hs v g u place long =
     ∙ ap (λ (n : ℕ). group_history_at (of_group place.row.group s.volumes hs) n) place.within_is
     ∙ ap group_history_in (at_place place.row.group s.volumes hs v place.row place.is_row refl long)
     ∙ same_history (slice_get hs v)
+
+-- a volume has one place
+pub one_place : (s : Plan) (v g u k w : ℕ) → IsPlaceOf s v g u → IsPlaceOf s v k w → (k ≡ g) × (w ≡ u)
+one_place s v g u k w a b =
+    let rows : Some b.row ≡ Some a.row = sym b.is_row ∙ a.is_row in
+    let same : b.row ≡ a.row = cc in (
+      b.group_is ∙ ap (λ (r : VolumeRow). r.group) same ∙ sym a.group_is,
+      b.within_is ∙ ap (λ (r : VolumeRow). place_in r.group s.volumes v) same ∙ sym a.within_is,
+    )

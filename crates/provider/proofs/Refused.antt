@@ -1,17 +1,15 @@
 -- Why a volume does not join a set; and what a set with one volume more keeps.
-use Rattle.std.proofs.Common.{◌≡◌, ◌⊎◌, inl, inr, ℕ, zero, suc, ◌+◌, ◌<◌, ◌≤◌, List, [], ◌∷◌, ◌++◌, length, refl, ap, sym, ◌∙◌, subst, arith, Bool, true, false, Option, Some, None, slice_get}
+use Rattle.std.proofs.Common.{◌≡◌, ◌⊎◌, inl, inr, ℕ, zero, suc, ◌<◌, ◌≤◌, List, [], ◌∷◌, ◌++◌, length, refl, ap, sym, ◌∙◌, subst, arith, Bool, true, false, Option, Some, None, slice_get}
 use Rattle.std.specs.Prelude.{nat_le, if◌then◌else◌, Vec, vec_capacity}
 use Rattle.std.specs.declared.alloc.Global.{Global}
 use Rattle.std.proofs.lemmas.Bool.{le-leb, leb-false}
 use Rattle.std.proofs.lemmas.Bool.Decides.{nat_tests}
 use Rattle.std.proofs.lemmas.List.{length-append}
-use Rattle.std.proofs.lemmas.Option.{slice_get_within}
 use Rattle.vss_names.specs.declared.vss_result.VssResult.{VssResult}
 use Rattle.vss_names.specs.declared.vss_result.VssResult.TheVariants.{ObjectAlreadyExists, MaximumNumberOfVolumesReached, MaximumNumberOfSnapshotsReached}
 use Rattle.set_agenda.specs.Agenda.{is_among}
 use Rattle.cow_volume.specs.GroupValue.{GroupValue}
 use Rattle.provider.specs.Preparing.{AreApart, IsProvider, refusal}
-use Rattle.provider.proofs.Places.{same_number}
 use Rattle.provider.proofs.CutAll.{among_there}
 
 not_le : (a b : ℕ) → b < a → nat_le a b ≡ false

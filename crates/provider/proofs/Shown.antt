@@ -2,21 +2,20 @@
 use Rattle.std.proofs.Common.{◌≡◌, ℕ, ◌<◌, arith, List, length, refl, ap, sym, ◌∙◌, subst, Bool, true, false, Option, Some, None, slice_get, slice_set}
 use Rattle.std.specs.Prelude.{◌&&◌, ◌≢◌, is_some, IfSome, Result, Ok, Err}
 use Rattle.write_history.specs.History.{History, content, point_in}
-use Rattle.scenario.specs.declared.volume_row.VolumeRow.{VolumeRow}
 use Rattle.scenario.specs.Plan.{Plan, blocks_of}
 use Rattle.cow_volume.specs.GroupValue.{GroupValue}
 use Rattle.cow_volume.specs.declared.cause.Cause.{Cause}
 use Rattle.cow_volume.specs.declared.cause.Cause.TheVariants.{NoSuchBlock}
-use Rattle.cow_volume.specs.Calls.{DeviceRose, history_at as group_history_at, IsNow as IsGroupNow, IsShown as IsGroupShown, IsQuiet as IsGroupQuiet}
+use Rattle.cow_volume.specs.Calls.{DeviceRose, IsNow as IsGroupNow, IsShown as IsGroupShown, IsQuiet as IsGroupQuiet}
 use Rattle.cow_volume.proofs.Group.{quiet_stands, slice_get_inside}
-use Rattle.provider.specs.Groups.{of_group, place_in, AreGroups, HasGroups, IsPlaceOf, history_at}
+use Rattle.provider.specs.Groups.{of_group, place_in, HasGroups, IsPlaceOf}
 use Rattle.provider.specs.Devices.{tells_in, tells_within, tells_row, tells_at, devices_of, volume_place, HasCause}
 use Rattle.provider.specs.declared.device_fault.DeviceFault.{DeviceFault}
 use Rattle.provider.specs.GroupCalls.{IsGroupCall, IsGroupRead, device_of}
 use Rattle.provider.specs.Calls.{IsQuiet, IsNow, IsShown}
 use Rattle.provider.proofs.Places.{history_of_place, group_there, within_there, blocks_are}
 use Rattle.provider.proofs.Becoming.{stays}
-use Rattle.provider.proofs.Kept.{call_on, kept_one, called_there}
+use Rattle.provider.proofs.Kept.{call_on, kept_one}
 use Rattle.provider.proofs.Causes.{unfailed, rose_by, by_device, is_device}
 use Rattle.provider.proofs.Flat.{volume_device_at}
 
@@ -125,4 +124,7 @@ pub read_failed : {D : Type 0} (told : D → Option (List (List ℕ))) (size cou
 read_failed told size count lending s old new v g u b bytes cause fault place has low c is =
     let kept = kept_one told size count lending old new g c.before c.after c.was c.is c.called.quiet.kept in
     subst (λ (f : DeviceFault). HasCause count s v (Some f) old new) (sym is)
-    (rose_by count s old new v g u c.before c.after cause has (kept.has s has) place c.was (called_there old new g c.before c.after c.was c.is) (read_rose told size count lending s old new v g u b bytes cause place has low c))
+    (rose_by count s old new v g u c.before c.after cause has place c.was c.is (read_rose told size count lending s old new v g u b bytes cause place has low c))
+
+pub some_of : {X : Type 0} (P : X → Type 0) (o : Option X) (x : X) → o ≡ Some x → IfSome o P → P x
+some_of P o x e h = subst (λ (q : Option _). IfSome q P) e h

@@ -1,9 +1,8 @@
 -- A write to a group, against the histories of all volumes.
-use Rattle.std.proofs.Common.{◌≡◌, ℕ, zero, suc, ◌+◌, ◌<◌, ◌≤◌, ◌==◌, List, [], ◌∷◌, length, refl, ap, sym, ◌∙◌, subst, arith, Bool, true, false, Option, Some, None, map, slice_get, slice_set}
-use Rattle.std.specs.Prelude.{Result, Ok, Err, is_some, ◌≢◌}
+use Rattle.std.proofs.Common.{◌≡◌, ℕ, zero, suc, ◌<◌, ◌==◌, List, [], ◌∷◌, length, refl, ap, sym, ◌∙◌, subst, Bool, true, false, Option, Some, None, map, slice_get, slice_set}
+use Rattle.std.specs.Prelude.{Ok, Err, ◌≢◌}
 use Rattle.write_history.specs.History.{Write, History, written}
 use Rattle.write_history.specs.Slots.{Placed, gone_up_to, evicted_up_to}
-use Rattle.set_agenda.specs.Course.{change_at}
 use Rattle.scenario.specs.declared.volume_row.VolumeRow.{VolumeRow}
 use Rattle.scenario.specs.Plan.{Plan, placed, placed_in, slots_of, slots_in, group_of, blocks_of}
 use Rattle.cow_volume.specs.GroupValue.{GroupValue, placed as all_placed}
@@ -19,7 +18,7 @@ use Rattle.provider.specs.GroupCalls.{IsGroupCall, device_of}
 use Rattle.provider.proofs.InGroup.{gone_in_group, gone_elsewhere, changed_in_group, changed_elsewhere, evicted_in_group}
 use Rattle.provider.proofs.Places.{blocks_are}
 use Rattle.provider.proofs.Becoming.{becomes, length_changed}
-use Rattle.provider.proofs.Kept.{kept_one, call_on, called_there}
+use Rattle.provider.proofs.Kept.{kept_one, call_on}
 use Rattle.provider.proofs.Causes.{unfailed, rose_by, by_device, is_device}
 
 -- ## members
@@ -141,5 +140,5 @@ put_failed told size count lending s old new v g u w fault place has low c =
       call = call_on told size count lending s old new v g u c.before c.after place c.was c.is c.called.kept;
       evicted = λ hs are. go_up_to told s old v g u w.block fault.evicted_up_to c.before hs place c.was are (c.called.evicted within);
       stands = λ hs are. put_stands told s old new v g u w (Some (device_of fault.cause)) fault.evicted_up_to c.before c.after hs place c.was c.is c.called.kept.volumes c.called.kept.slots are c.called.stands;
-      cause = rose_by count s old new v g u c.before c.after fault.cause has (kept.has s has) place c.was (called_there old new g c.before c.after c.was c.is) (by_device count u w.block c.before c.after fault.cause within c.called.cause);
+      cause = rose_by count s old new v g u c.before c.after fault.cause has place c.was c.is (by_device count u w.block c.before c.after fault.cause within c.called.cause);
     }

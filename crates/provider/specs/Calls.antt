@@ -1,16 +1,15 @@
 -- What a call on a volume comes to, against the histories of all volumes that the groups stand for. (This project's own.)
-use Rattle.std.specs.Prelude.{ℕ, ◌≡◌, ◌<◌, ◌≤◌, Bool, true, false, List, [], ◌∷◌, ◌++◌, length, map, Option, Some, None, is_some, slice_get, Result, Ok, Err}
+use Rattle.std.specs.Prelude.{ℕ, ◌≡◌, ◌<◌, ◌≤◌, Bool, true, false, List, length, map, Option, Some, None, is_some, slice_get, Result, Ok, Err}
 use Rattle.std.specs.List.{concat}
 use Rattle.block_data.specs.Digest.{sha256}
-use Rattle.hex.specs.Hex.{IsBytes}
-use Rattle.write_history.specs.History.{Write, History, content, contents, point_in, sets_of, written, dropped, reverted, reverted_in_part, to_restore}
+use Rattle.write_history.specs.History.{Write, History, content, contents, point_in, written, dropped, reverted, reverted_in_part, to_restore}
 use Rattle.write_history.specs.Slots.{gone_up_to, evicted_up_to}
 use Rattle.set_agenda.specs.Course.{change_at}
 use Rattle.scenario.specs.Plan.{Plan, slots_of, group_of, blocks_of}
 use Rattle.vss_model.specs.Images.{count_images}
 use Rattle.cow_volume.specs.GroupValue.{GroupValue}
-use Rattle.provider.specs.Groups.{HasGroups, AreGroups, IfStandFor, history_at, same_group}
-use Rattle.provider.specs.Devices.{devices_of, counts_of, tells_at, AreKept, IsCallOn, HasCause, fault_of}
+use Rattle.provider.specs.Groups.{HasGroups, AreGroups, IfStandFor, history_at}
+use Rattle.provider.specs.Devices.{devices_of, tells_at, AreKept, IsCallOn, HasCause}
 use Rattle.provider.specs.declared.device_fault.DeviceFault.{DeviceFault}
 use Rattle.provider.specs.declared.image_fault.ImageFault.{ImageFault}
 use Rattle.provider.specs.declared.image_fault.ImageFault.TheVariants.{NoSuchImage, Device}
@@ -81,12 +80,6 @@ HasImageCause told count s v set (Err (Device fault)) old new = HasImage told s 
 abbrev pub outcome_of : {T E : Type 0} → Result T E → Result Unit E
 outcome_of (Ok done) = Ok tt
 outcome_of (Err fault) = Err fault
-
--- n is the least set above `after` of which an image stands on a volume of the group of volume v, where there is one
-abbrev pub IsNextSet : Plan → ℕ → ℕ → Option ℕ → List History → Type 0
-IsNextSet s v after None hs = (u n : ℕ) → same_group s v u ≡ true → after < n → is_some (point_in n (history_at hs u).images) ≡ false
-IsNextSet s v after (Some n) hs = (after < n) × ((u : ℕ) × (same_group s v u ≡ true) × (is_some (point_in n (history_at hs u).images) ≡ true))
-    × ((u m : ℕ) → same_group s v u ≡ true → after < m → m < n → is_some (point_in m (history_at hs u).images) ≡ false)
 
 -- the image of a set went from volume v, or did not stand and nothing changed
 abbrev pub IsDropped : {D : Type 0} → (D → Option (List (List ℕ))) → (D → ℕ) → (D → ℕ) → (D → Bool) → Plan → List (GroupValue D) → List (GroupValue D) → ℕ → ℕ → Bool → Type 0

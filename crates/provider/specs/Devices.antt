@@ -1,7 +1,7 @@
 -- The devices of all groups, in the order in which they are given back: for each group those of its volumes in order, and then its
 -- area's. Which volumes tell their blocks, what every call keeps, and whose count of faults rose where a call failed. (This
 -- project's own.)
-use Rattle.std.specs.Prelude.{ℕ, ◌≡◌, ◌≤◌, ◌+◌, ◌&&◌, Bool, true, false, zero, suc, List, [], ◌∷◌, ◌++◌, length, map, Option, Some, None, is_some, slice_get, Result, Ok, Err}
+use Rattle.std.specs.Prelude.{ℕ, ◌≡◌, ◌≤◌, ◌+◌, ◌&&◌, Bool, false, zero, suc, List, [], ◌∷◌, ◌++◌, length, map, Option, Some, None, is_some, slice_get, Result, Ok, Err}
 use Rattle.vss_names.specs.Faults.{Rose}
 use Rattle.scenario.specs.declared.volume_row.VolumeRow.{VolumeRow}
 use Rattle.scenario.specs.Plan.{Plan}
@@ -100,23 +100,21 @@ pub record IsCallOn {D : Type 0} (told : D → Option (List (List ℕ))) (size c
 
 -- ## faults
 
--- the count at a place rose
-pub record RoseAtPlace (place : ℕ) (old new : List ℕ) : Type 0 where
-  pub before : ℕ
-  pub now : ℕ
-  pub was : slice_get old place ≡ Some before
-  pub is : slice_get new place ≡ Some now
-  pub rose : Rose before now
+-- the count at this place rose, and every other count is as it was
+abbrev pub RoseAlone : ℕ → List ℕ → List ℕ → Type 0
+RoseAlone zero (a ∷ xs) (b ∷ ys) = Rose a b × (ys ≡ xs)
+RoseAlone (suc place) (a ∷ xs) (b ∷ ys) = (b ≡ a) × RoseAlone place xs ys
+RoseAlone _ _ _ = ⊥
 
 -- the place of the device that failed in a call on volume v
 abbrev pub failed_place : Plan → ℕ → DeviceFault → ℕ
 failed_place s v Volume = volume_place s v
 failed_place s v Area = volumes_area s v
 
--- where no device failed, each count is as it was; else the count of the device that is told rose
+-- where no device failed, each count is as it was; else the count of the device that is told rose, and each other is as it was
 abbrev pub HasCause : {D : Type 0} → (D → ℕ) → Plan → ℕ → Option DeviceFault → List (GroupValue D) → List (GroupValue D) → Type 0
 HasCause count s v None old new = counts_of count new ≡ counts_of count old
-HasCause count s v (Some fault) old new = RoseAtPlace (failed_place s v fault) (counts_of count old) (counts_of count new)
+HasCause count s v (Some fault) old new = RoseAlone (failed_place s v fault) (counts_of count old) (counts_of count new)
 
 -- the fault of a call that answers nothing else
 abbrev pub fault_of : {T : Type 0} → Result T DeviceFault → Option DeviceFault

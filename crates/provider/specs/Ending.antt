@@ -1,12 +1,12 @@
 -- What is left of a group whose area was brought to where it lasts. (This project's own.)
-use Rattle.std.specs.Prelude.{ℕ, ◌≡◌, Bool, true, List, map, Option, Some, is_some, slice_get, Result, Ok, Err}
+use Rattle.std.specs.Prelude.{ℕ, ◌≡◌, Bool, List, map, Option, Some, slice_get, Result, Ok, Err}
 use Rattle.write_history.specs.Slots.{copies}
 use Rattle.diff_area.specs.Copies.{AreStored}
 use Rattle.scenario.specs.Plan.{Plan, placed}
 use Rattle.cow_volume.specs.GroupValue.{GroupValue}
 use Rattle.cow_volume.specs.Ending.{AllTell}
 use Rattle.provider.specs.Groups.{AreGroups, IfStandFor}
-use Rattle.provider.specs.Devices.{counts_of, area_place, RoseAtPlace, AreKept}
+use Rattle.provider.specs.Devices.{counts_of, area_place, RoseAlone, AreKept}
 use Rattle.provider.specs.declared.device_fault.DeviceFault.{DeviceFault}
 use Rattle.provider.specs.declared.device_fault.DeviceFault.TheVariants.{Area}
 
@@ -26,4 +26,4 @@ AreLasting {D = D} told lasting s old new g = (x y : GroupValue D) → slice_get
 -- each count is as it was; or that of the area's device of group g rose
 abbrev pub HasSyncCause : {D : Type 0} → (D → ℕ) → Plan → ℕ → Result Unit DeviceFault → List (GroupValue D) → List (GroupValue D) → Type 0
 HasSyncCause count s g (Ok done) old new = counts_of count new ≡ counts_of count old
-HasSyncCause count s g (Err fault) old new = (fault ≡ Area) × RoseAtPlace (area_place g s.volumes) (counts_of count old) (counts_of count new)
+HasSyncCause count s g (Err fault) old new = (fault ≡ Area) × RoseAlone (area_place g s.volumes) (counts_of count old) (counts_of count new)

@@ -85,3 +85,10 @@ image_fault_of NoImage = image.NoSuchImage
 image_fault_of NoBlock = image.NoSuchImage
 image_fault_of VolumeFailed = image.Device device.Volume
 image_fault_of AreaFailed = image.Device device.Area
+
+-- the device that failed in a read of an image that stands
+abbrev pub device_of_image : ImageFault → DeviceFault
+device_of_image NoImage = device.Volume
+device_of_image NoBlock = device.Volume
+device_of_image VolumeFailed = device.Volume
+device_of_image AreaFailed = device.Area

@@ -1,8 +1,8 @@
 -- The volumes of a scenario in their groups: which members of a list, one for each volume, are of a group; where a volume is; and
 -- for which histories, one for each volume of the scenario, the groups of copy-on-write volumes stand together. (This project's
 -- own.)
-use Rattle.std.specs.Prelude.{ℕ, ◌≡◌, ◌+◌, ◌<◌, ◌==◌, Bool, true, false, zero, suc, List, [], ◌∷◌, length, map, Option, Some, None, slice_get}
-use Rattle.write_history.specs.History.{History}
+use Rattle.std.specs.Prelude.{ℕ, ◌≡◌, ◌<◌, ◌==◌, Bool, true, false, zero, suc, List, [], ◌∷◌, length, map, Option, Some, slice_get}
+use Rattle.write_history.specs.History.{History, fresh}
 use Rattle.scenario.specs.declared.volume_row.VolumeRow.{VolumeRow}
 use Rattle.scenario.specs.Plan.{Plan}
 use Rattle.vss_model.specs.State.{history_in}
@@ -44,15 +44,6 @@ pub record IsPlaceOf (s : Plan) (v group within : ℕ) : Type 0 where
   pub group_is : group ≡ row.group
   pub within_is : within ≡ place_in row.group s.volumes v
 
-abbrev pub same_group_in : Option VolumeRow → Option VolumeRow → Bool
-same_group_in None q = false
-same_group_in (Some r) None = false
-same_group_in (Some r) (Some q) = r.group == q.group
-
--- volumes v and u are of one group
-abbrev pub same_group : Plan → ℕ → ℕ → Bool
-same_group s v u = same_group_in (slice_get s.volumes v) (slice_get s.volumes u)
-
 -- each group has a device for each of its volumes
 abbrev pub AreWhole : {D : Type 0} → List (GroupValue D) → Type 0
 AreWhole {D = D} groups = (g : ℕ) (x : GroupValue D) → slice_get groups g ≡ Some x → length x.devices ≡ length x.area.volumes
@@ -79,6 +70,12 @@ pub record IsGroup {D : Type 0} (told : D → Option (List (List ℕ))) (s : Pla
 pub record AreGroups {D : Type 0} (told : D → Option (List (List ℕ))) (s : Plan) (groups : List (GroupValue D)) (hs : List History) : Type 0 where
   pub histories : length hs ≡ length s.volumes
   pub each : (g : ℕ) (x : GroupValue D) → slice_get groups g ≡ Some x → IsGroup told s g x hs
+
+-- the groups of new volumes, with the scenario's blocks and slots: each stands for histories of zeros, without images
+pub record AreFresh {D : Type 0} (told : D → Option (List (List ℕ))) (s : Plan) (groups : List (GroupValue D)) : Type 0 where
+  pub volumes : (g : ℕ) (x : GroupValue D) → slice_get groups g ≡ Some x → x.area.volumes ≡ blocks_in_group g s.volumes
+  pub slots : (g : ℕ) (x : GroupValue D) (v : ℕ) (r : VolumeRow) → slice_get groups g ≡ Some x → slice_get s.volumes v ≡ Some r → r.group ≡ g → length x.area.records ≡ r.slots
+  pub stands : (g : ℕ) (x : GroupValue D) → slice_get groups g ≡ Some x → StandsFor told x (map (λ (n : ℕ). fresh) x.area.volumes)
 
 -- whatever histories they stand for, this holds of them
 abbrev pub IfStandFor : {D : Type 0} → (D → Option (List (List ℕ))) → Plan → List (GroupValue D) → (List History → Type 0) → Type 0

@@ -4,3 +4,4 @@ pub mod Calls
 pub mod Preparing
 pub mod Ending
 pub mod GroupCalls
+pub mod Hashing

@@ -1,6 +1,6 @@
 -- The set that is being prepared: its volumes in order of `add`, and its number once it is known. What each step of the provider
 -- does with them. (The calls are those of the SDK's IVssHardwareSnapshotProvider; which refusal comes first is this project's own.)
-use Rattle.std.specs.Prelude.{ℕ, ◌≡◌, ◌<◌, ◌≤◌, Bool, true, false, List, [], ◌∷◌, ◌++◌, length, All, nat_le, if◌then◌else◌, Option, Some, None, IfSome, slice_get, Result, Ok, Err, Vec, vec_capacity}
+use Rattle.std.specs.Prelude.{ℕ, ◌≡◌, ◌<◌, ◌≤◌, Bool, List, [], ◌∷◌, ◌++◌, length, All, nat_le, if◌then◌else◌, Option, Some, None, slice_get, Result, Ok, Err, Vec, vec_capacity}
 use Rattle.std.specs.declared.alloc.Global.{Global}
 use Rattle.vss_names.specs.declared.vss_result.VssResult.{VssResult}
 use Rattle.vss_names.specs.declared.vss_result.VssResult.TheVariants.{ObjectAlreadyExists, MaximumNumberOfVolumesReached, MaximumNumberOfSnapshotsReached}
@@ -14,9 +14,9 @@ use Rattle.vss_model.specs.Steps.{cut_each}
 use Rattle.vss_model.specs.Sessions.{most_volumes, most_images}
 use Rattle.cow_volume.specs.GroupValue.{GroupValue}
 use Rattle.provider.specs.Groups.{AreGroups, IfStandFor, history_at}
-use Rattle.provider.specs.Devices.{devices_of, counts_of, volume_place, RoseAtPlace, AreKept}
+use Rattle.provider.specs.Devices.{devices_of, counts_of, volume_place, RoseAlone, AreKept}
 use Rattle.provider.specs.declared.device_fault.DeviceFault.{DeviceFault}
-use Rattle.provider.specs.declared.device_fault.DeviceFault.TheVariants.{Volume, Area}
+use Rattle.provider.specs.declared.device_fault.DeviceFault.TheVariants.{Volume}
 
 -- what a contract sees of a provider
 pub record ProviderValue (D : Type 0) : Type 0 where
@@ -106,7 +106,7 @@ step_taken PostCommit set volumes hs = hs
 -- each count is as it was; or the device of the step's volume failed, in a flush
 abbrev pub HasStepCause : {D : Type 0} → (D → ℕ) → Plan → Group → Option ℕ → Result Unit DeviceFault → List (GroupValue D) → List (GroupValue D) → Type 0
 HasStepCause count s group volume (Ok done) old new = counts_of count new ≡ counts_of count old
-HasStepCause count s group volume (Err fault) old new = (group ≡ Flush) × (fault ≡ Volume) × (v : ℕ) × (volume ≡ Some v) × RoseAtPlace (volume_place s v) (counts_of count old) (counts_of count new)
+HasStepCause count s group volume (Err fault) old new = (group ≡ Flush) × (fault ≡ Volume) × (v : ℕ) × (volume ≡ Some v) × RoseAlone (volume_place s v) (counts_of count old) (counts_of count new)
 
 -- what the device at a place tells lasts
 abbrev pub LastsAt : {D : Type 0} → (D → Option (List (List ℕ))) → (D → Option (List (List ℕ))) → ℕ → List D → Type 0

@@ -16,16 +16,25 @@ use cow_volume::{Cause, CowGroup};
 use scenario::Scenario;
 use volume_device::Device;
 
-/// Adds the devices of a group to a list that has room for them: those of its volumes in order, and then its area's.
-fn add_devices<D: Device>(group: CowGroup<D>, list: &mut Vec<D>)
-    requires { length list.old.items + length (devices_of (group ∷ [])) ≤ vec_capacity list.old }
-    ensures items { list.new.items ≡ list.old.items ++ devices_of (group ∷ []) }
-    ensures room { vec_capacity list.old ≤ vec_capacity list.new }
+/// Adds devices to a list that has room for them, in order.
+fn add_all<D: Device>(devices: Vec<D>, list: &mut Vec<D>)
+    requires { length list.old.items + length devices.items ≤ vec_capacity list.old }
+    ensures items { list.new.items ≡ list.old.items ++ devices.items }
+    ensures room { vec_capacity list.new ≡ vec_capacity list.old }
 {
-    let (devices, area) = group.into_parts();
     for device in devices {
         list.push_reserved(device);
     }
+}
+
+/// Adds the devices of a group to a list that has room for them: those of its volumes in order, and then its area's.
+fn add_group<D: Device>(group: CowGroup<D>, list: &mut Vec<D>)
+    requires { length list.old.items + length (devices_of (group ∷ [])) ≤ vec_capacity list.old }
+    ensures items { list.new.items ≡ list.old.items ++ devices_of (group ∷ []) }
+    ensures room { vec_capacity list.new ≡ vec_capacity list.old }
+{
+    let (devices, area) = group.into_parts();
+    add_all(devices, list);
     list.push_reserved(area.into_device());
 }
 
@@ -37,7 +46,7 @@ pub(crate) fn list_devices<D: Device>(groups: Vec<CowGroup<D>>, list: Vec<D>) ->
 {
     let mut list = list;
     for group in groups {
-        add_devices(group, &mut list);
+        add_group(group, &mut list);
     }
     list
 }

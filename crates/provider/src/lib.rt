@@ -8,8 +8,10 @@
 
 mod cutting;
 mod device_fault;
+mod digesting;
 mod dropping;
 mod ending;
+mod hashing;
 mod image_fault;
 mod looking;
 mod making;

@@ -1,18 +1,22 @@
-ghost use Rattle.std.specs.Prelude.{◌≡◌, ◌<◌, ◌≤◌, [], true, false, length, slice_get, Some, is_some, IfOk, IfErr, IfSome, OnOk};
+ghost use Rattle.std.specs.Prelude.{◌≡◌, ◌≢◌, ◌<◌, ◌≤◌, ℕ, [], true, false, length, map, slice_get, Some, is_some, IfOk, IfErr, IfSome, OnOk};
+ghost use Rattle.hex.specs.Hex.{IsBytes};
 ghost use Rattle.block_data.specs.PayloadBytes.{payload_bytes};
-ghost use Rattle.write_history.specs.History.{sets_of};
+ghost use Rattle.write_history.specs.History.{fresh, sets_of};
 ghost use Rattle.write_history.specs.Slots.{used, used_by, group_used};
 ghost use Rattle.set_agenda.specs.Agenda.{is_orders, is_over_volumes};
 ghost use Rattle.set_agenda.specs.declared.group.Group.TheVariants.{Cut, Flush};
 ghost use Rattle.scenario.specs.Bounds.{IsBlock};
 ghost use Rattle.scenario.specs.Plan.{Plan, blocks_of, group_of};
-ghost use Rattle.provider.specs.Groups.{AreGroups, AreWhole, HasGroups, IfStandFor, history_at};
+ghost use Rattle.cow_volume.specs.GroupValue.{GroupValue};
+ghost use Rattle.cow_volume.specs.Parts.{IsLentBy};
+ghost use Rattle.provider.specs.Groups.{AreFresh, AreGroups, AreWhole, HasGroups, IfStandFor, IsPlaceOf, history_at};
 ghost use Rattle.provider.specs.Devices.{AreKept, devices_of, volume_place, HasCause, fault_of};
-ghost use Rattle.provider.specs.Calls.{AreWithout, GoUpTo, HasImage, HasImageCause, IsDropped, IsNow, IsPut, IsQuiet, IsRevert, IsShown};
+ghost use Rattle.provider.specs.Calls.{AreWithout, GoUpTo, HasImage, HasImageCause, IsDigestNow, IsDigestShown, IsDropped, IsNow, IsPut, IsQuiet, IsRevert, IsShown, outcome_of};
 ghost use Rattle.provider.specs.Preparing.{CanCut, HasJoined, HasStepCause, LastsAt, refusal, refused_as, step_taken};
 ghost use Rattle.provider.specs.Ending.{AreLasting, HasSyncCause, IsSynced};
 
 use crate::device_fault::DeviceFault;
+use crate::digesting::{digest_image_in, digest_in};
 use crate::dropping::{drop_image_in, drop_set_in};
 use crate::ending::{list_devices, sync_in};
 use crate::image_fault::ImageFault;
@@ -65,6 +69,7 @@ impl<D: Device> Provider<D> {
         requires { length groups.items < 4294967296 }
         ensures made { IfOk result (λ made. made ≡ record { groups = groups.items; set = 0; volumes = [] }) }
         ensures whole { IfOk result (λ made. AreWhole made.groups) }
+        ensures fresh { IfOk result (λ made. (s : Plan) → AreFresh D.told s groups.items → AreGroups D.told s made.groups (map (λ row. fresh) s.volumes)) }
         ensures refused { IfErr result (λ given. given.items ≡ groups.items) }
     {
         let count = device_count(&groups);
@@ -142,6 +147,37 @@ impl<D: Device> Provider<D> {
         read_in(&mut self.groups, scenario, volume, block, out)
     }
 
+    /// The SHA-256 of all blocks of a volume, in order. Lent blocks are hashed in place.
+    pub fn digest(&mut self, scenario: &Scenario, volume: u32) -> Result<[u8; 32], DeviceFault>
+        requires volume { volume < length scenario.now.volumes }
+        requires has { HasGroups scenario.now self.old.groups }
+        ensures digest { IfOk result (IsDigestNow D.told scenario.now self.old.groups volume) }
+        ensures wide { IfOk result (λ digest. (length digest ≡ 32) × IsBytes digest) }
+        ensures quiet { IsQuiet D.told D.size D.count D.lending scenario.now self.old.groups self.new.groups volume }
+        ensures cause { HasCause D.count scenario.now volume (fault_of result) self.old.groups self.new.groups }
+        ensures set { self.new ≡ record self.old { groups = self.new.groups } }
+    {
+        digest_in(&mut self.groups, &mut self.block, scenario, volume)
+    }
+
+    /// The SHA-256 of all blocks that the image of a set shows, in order. Lent blocks are hashed in place.
+    pub fn digest_image(
+        &mut self,
+        scenario: &Scenario,
+        set: u32,
+        volume: u32,
+    ) -> Result<[u8; 32], ImageFault>
+        requires volume { volume < length scenario.now.volumes }
+        requires has { HasGroups scenario.now self.old.groups }
+        ensures digest { IfOk result (IsDigestShown D.told scenario.now self.old.groups volume set) }
+        ensures wide { IfOk result (λ digest. (length digest ≡ 32) × IsBytes digest) }
+        ensures quiet { IsQuiet D.told D.size D.count D.lending scenario.now self.old.groups self.new.groups volume }
+        ensures cause { HasImageCause D.told D.count scenario.now volume set (outcome_of result) self.old.groups self.new.groups }
+        ensures set { self.new ≡ record self.old { groups = self.new.groups } }
+    {
+        digest_image_in(&mut self.groups, &mut self.block, scenario, set, volume)
+    }
+
     /// Lends a block as the image of a set shows it, in place. None where the device that has it does not lend. The error is
     /// NoSuchImage alone.
     pub fn lend_image(
@@ -156,6 +192,7 @@ impl<D: Device> Provider<D> {
         ensures shown { IfOk result (λ lent. IfSome lent (λ bytes. IsShown D.told scenario.now self.now.groups volume set block bytes.now)) }
         ensures whole { IfOk result (λ lent. IfSome lent (λ bytes. length bytes.now ≡ BLOCK)) }
         ensures image { OnOk result (HasImage D.told scenario.now self.now.groups volume set true) }
+        ensures lends { (g u : ℕ) (x : GroupValue D) → IsPlaceOf scenario.now volume g u → slice_get self.now.groups g ≡ Some x → IfOk result (λ lent. IsLentBy D.lending x u set block (is_some lent)) }
         ensures none { IfErr result (λ fault. (fault ≡ ImageFault.NoSuchImage) × HasImage D.told scenario.now self.now.groups volume set false) }
     {
         lend_image_in(&self.groups, scenario, set, volume, block)
@@ -295,6 +332,7 @@ impl<D: Device> Provider<D> {
         ensures stands { IfStandFor D.told scenario.now self.old.groups (λ hs. AreGroups D.told scenario.now self.new.groups (step_taken group self.old.set self.old.volumes hs)) }
         ensures kept { AreKept D.told D.size D.count D.lending self.old.groups self.new.groups }
         ensures cause { HasStepCause D.count scenario.now group volume result self.old.groups self.new.groups }
+        ensures devices { (group ≢ Flush) → devices_of self.new.groups ≡ devices_of self.old.groups }
         ensures lasts { group ≡ Flush → OnOk result (IfSome volume (λ v. LastsAt D.told D.lasting (volume_place scenario.now v) (devices_of self.new.groups))) }
         ensures set { self.new ≡ record self.old { groups = self.new.groups } }
     {

@@ -1,12 +1,12 @@
 //! Reads of an image, and reverts to it.
 
-ghost use Rattle.std.specs.Prelude.{◌≡◌, ◌<◌, true, false, Some, length, slice_get, IfErr, IfOk, IfSome, OnOk};
+ghost use Rattle.std.specs.Prelude.{◌≡◌, ◌<◌, ℕ, true, false, Some, is_some, length, slice_get, IfErr, IfOk, IfSome, OnOk};
 ghost use Rattle.scenario.specs.Bounds.{IsBlock};
 ghost use Rattle.cow_volume.specs.GroupValue.{GroupValue};
 ghost use Rattle.cow_volume.specs.Calls.{blocks_at, is_among, sets_at};
 ghost use Rattle.cow_volume.specs.Calls as group;
-ghost use Rattle.cow_volume.specs.Parts.{IsUnseen};
-ghost use Rattle.provider.specs.Groups.{HasGroups};
+ghost use Rattle.cow_volume.specs.Parts.{IsLentBy, IsUnseen};
+ghost use Rattle.provider.specs.Groups.{HasGroups, IsPlaceOf};
 ghost use Rattle.provider.specs.Calls.{HasImage, HasImageCause, IsQuiet, IsRevert, IsShown};
 ghost use Rattle.provider.specs.GroupCalls.{IsGroupCall, IsGroupImageRead};
 
@@ -31,6 +31,7 @@ fn lend_image_at<D: Device>(
     ensures shown { (x : GroupValue D) → slice_get groups.now.items place.group ≡ Some x → IfOk result (λ lent. IfSome lent (λ bytes. group.IsShown D.told x place.volume set block bytes.now)) }
     ensures whole { IfOk result (λ lent. IfSome lent (λ bytes. length bytes.now ≡ BLOCK)) }
     ensures image { (x : GroupValue D) → slice_get groups.now.items place.group ≡ Some x → OnOk result (is_among set (sets_at x place.volume) ≡ true) }
+    ensures lends { (x : GroupValue D) → slice_get groups.now.items place.group ≡ Some x → IfOk result (λ lent. IsLentBy D.lending x place.volume set block (is_some lent)) }
     ensures unseen { (x : GroupValue D) → slice_get groups.now.items place.group ≡ Some x → IfErr result (IsUnseen (sets_at x place.volume) (blocks_at x place.volume) set block) }
 {
     groups[place.group as usize].lend_image(place.volume, set, block)
@@ -49,6 +50,7 @@ pub(crate) fn lend_image_in<'a, D: Device>(
     ensures shown { IfOk result (λ lent. IfSome lent (λ bytes. IsShown D.told scenario.now groups.now.items volume set block bytes.now)) }
     ensures whole { IfOk result (λ lent. IfSome lent (λ bytes. length bytes.now ≡ BLOCK)) }
     ensures image { OnOk result (HasImage D.told scenario.now groups.now.items volume set true) }
+    ensures lends { (g u : ℕ) (x : GroupValue D) → IsPlaceOf scenario.now volume g u → slice_get groups.now.items g ≡ Some x → IfOk result (λ lent. IsLentBy D.lending x u set block (is_some lent)) }
     ensures none { IfErr result (λ fault. (fault ≡ ImageFault.NoSuchImage) × HasImage D.told scenario.now groups.now.items volume set false) }
 {
     let place = place_of(scenario, volume);

@@ -1,6 +1,6 @@
 //! The steps of the provider.
 
-ghost use Rattle.std.specs.Prelude.{◌≡◌, ◌<◌, true, false, length, is_some, IfSome, OnOk};
+ghost use Rattle.std.specs.Prelude.{◌≡◌, ◌≢◌, ◌<◌, true, false, length, is_some, IfSome, OnOk};
 ghost use Rattle.set_agenda.specs.Agenda.{is_orders, is_over_volumes};
 ghost use Rattle.set_agenda.specs.declared.group.Group.TheVariants.{Cut, Flush};
 ghost use Rattle.provider.specs.Groups.{AreGroups, HasGroups, IfStandFor};
@@ -33,6 +33,7 @@ pub(crate) fn step_in<D: Device>(
     ensures stands { IfStandFor D.told scenario.now groups.old.items (λ hs. AreGroups D.told scenario.now groups.new.items (step_taken group set volumes.now hs)) }
     ensures kept { AreKept D.told D.size D.count D.lending groups.old.items groups.new.items }
     ensures cause { HasStepCause D.count scenario.now group volume result groups.old.items groups.new.items }
+    ensures devices { (group ≢ Flush) → devices_of groups.new.items ≡ devices_of groups.old.items }
     ensures lasts { group ≡ Flush → OnOk result (IfSome volume (λ v. LastsAt D.told D.lasting (volume_place scenario.now v) (devices_of groups.new.items))) }
 {
     match group {

@@ -1,5 +1,6 @@
 ghost use Rattle.std.specs.Prelude.{◌≡◌, ◌<◌, ◌≤◌, ◌==◌, ◌&&◌, length, slice_get, Some, Ok, IfOk, IfErr, IsTrue, List};
 ghost use Rattle.diff_area.specs.Records.{AreVolumes};
+ghost use Rattle.vss_catalog.specs.Allowed.{IsCatalog};
 ghost use Rattle.vss_catalog.specs.Entries.{EntryValue};
 ghost use Rattle.vss_catalog.specs.Group.{are_names_for, entries_of};
 ghost use Rattle.vss_catalog.specs.Reading.{catalog_in, Tells};
@@ -50,7 +51,8 @@ impl Catalog {
         group: &CowGroup<D>,
     ) -> Result<Catalog, OutOfMemory>
         requires { IsTrue (are_names_for group.now names.now) }
-        ensures { IfOk result (λ catalog. catalog ≡ entries_of group.now names.now) }
+        ensures entries { IfOk result (λ catalog. catalog ≡ entries_of group.now names.now) }
+        ensures allowed { IfOk result (λ catalog. IsCatalog catalog) }
     {
         let mut entries = Vec::new(alloc);
         for v in 0..group.volumes() {

@@ -1,10 +1,15 @@
 //! What holds of every catalog: functions that do nothing, whose contracts are the laws.
 
-ghost use Rattle.std.specs.Prelude.{◌≡◌, ℕ, List, Ok};
+ghost use Rattle.std.specs.Prelude.{◌≡◌, ℕ, List, Ok, IsTrue};
 ghost use Rattle.vss_catalog.specs.Allowed.{IsCatalog, AreBytes};
 ghost use Rattle.vss_catalog.specs.Entries.{EntryValue};
+ghost use Rattle.vss_catalog.specs.Group.{are_names_for, entries_of};
 ghost use Rattle.vss_catalog.specs.Reading.{catalog_in};
 ghost use Rattle.vss_catalog.specs.Written.{bytes_of};
+
+use cow_volume::CowGroup;
+use volume_device::Device;
+use vss_names::Text;
 
 /// The bytes of a catalog say that catalog.
 pub fn what_is_written_is_read_back()
@@ -16,3 +21,11 @@ pub fn what_is_read_is_written_again()
     ensures bytes { (bytes : List ℕ) (entries : List EntryValue) → AreBytes bytes → catalog_in bytes ≡ Ok entries → bytes_of entries ≡ bytes }
     ensures allowed { (bytes : List ℕ) (entries : List EntryValue) → AreBytes bytes → catalog_in bytes ≡ Ok entries → IsCatalog entries }
 {}
+
+/// The bytes of a group's catalog say that catalog.
+pub fn the_catalog_of_a_group_is_read_back<D: Device>(names: &[Text], group: &CowGroup<D>)
+    requires { IsTrue (are_names_for group.now names.now) }
+    ensures { catalog_in (bytes_of (entries_of group.now names.now)) ≡ Ok (entries_of group.now names.now) }
+{
+    let _facts = group.volumes();
+}

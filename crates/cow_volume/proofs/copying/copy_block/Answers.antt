@@ -18,5 +18,5 @@ pub returns-in-Err : goal.returns-in-Err
 returns-in-Err g c = record {
   device_on = record { tells = c.in-Err.ensures.told; size_is = c.in-Err.ensures.size; lends = c.in-Err.ensures.lending; later = c.in-Err.ensures.cause.later };
   area_on = area_itself g.D.Device.told g.D.Device.size g.D.Device.count g.D.Device.lending c.args.copies.now;
-  rose = c.in-Err.ensures.cause.rose refl;
+  rose = (c.in-Err.ensures.cause.rose refl, refl);
 }

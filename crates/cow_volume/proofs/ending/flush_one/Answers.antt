@@ -12,7 +12,7 @@ returns-in-Err-clause-quiet g c = λ copies.
 
 pub returns-in-Err-clause-rose : goal.returns-in-Err-clause-rose
 returns-in-Err-clause-rose g c = λ copies.
-    volume_rose g.D.Device.told g.D.Device.size g.D.Device.count g.D.Device.lending c.args.v c.args.devices.now.items c.flush_device.new.devices.items copies copies c.in-Err.ensures.call
+    volume_rose g.D.Device.told g.D.Device.size g.D.Device.count g.D.Device.lending c.args.v c.args.devices.now.items c.flush_device.new.devices.items copies copies c.in-Err.ensures.call refl
 
 pub returns-in-Ok-clause-same : goal.returns-in-Ok-clause-same
 returns-in-Ok-clause-same g c = λ copies.

@@ -15,7 +15,7 @@ returns-in-Ok-clause-quiet g c =
 pub returns-in-Err-clause-cause : goal.returns-in-Err-clause-cause
 returns-in-Err-clause-cause g c = (
   in_range_of c.args.copies.now.area.volumes c.args.v c.args.block c.blocks-2.result c.blocks-2.ensures c.if-block-blocks.false,
-  volume_rose g.D.Device.told g.D.Device.size g.D.Device.count g.D.Device.lending c.args.v c.args.devices.now.items c.read_device.new.devices.items c.args.copies.now c.args.copies.now c.in-Err.ensures.call,
+  volume_rose g.D.Device.told g.D.Device.size g.D.Device.count g.D.Device.lending c.args.v c.args.devices.now.items c.read_device.new.devices.items c.args.copies.now c.args.copies.now c.in-Err.ensures.call refl,
 )
 
 pub returns-in-Err-clause-quiet : goal.returns-in-Err-clause-quiet

@@ -23,7 +23,7 @@ pub returns-in-Err-read_device-clause-cause : goal.returns-in-Err-read_device-cl
 returns-in-Err-read_device-clause-cause g c = (
   c.in_ok-slot.ensures.image,
   c.in_ok-slot.ensures.in_range,
-  volume_rose g.D.Device.told g.D.Device.size g.D.Device.count g.D.Device.lending c.args.v c.args.devices.now.items c.read_device.new.devices.items c.args.copies.now c.args.copies.now c.in-Err-read_device.ensures.call,
+  volume_rose g.D.Device.told g.D.Device.size g.D.Device.count g.D.Device.lending c.args.v c.args.devices.now.items c.read_device.new.devices.items c.args.copies.now c.args.copies.now c.in-Err-read_device.ensures.call refl,
 )
 
 pub returns-in-Err-read_device-clause-quiet : goal.returns-in-Err-read_device-clause-quiet

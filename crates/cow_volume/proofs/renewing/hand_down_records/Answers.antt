@@ -1,6 +1,5 @@
-use Rattle.std.proofs.Common.{◌≡◌, ◌∙◌, sym, ap, get_or, map, Some, false, List, Option, subst, inl, inr, All}
+use Rattle.std.proofs.Common.{◌≡◌, ◌∙◌, sym, ap, get_or, map, Some, false, inl, inr}
 use Rattle.std.proofs.lemmas.Bool.{false≢true}
-use Rattle.diff_area.specs.declared.table_record.Record.{Record}
 use Rattle.diff_map.specs.declared.entry.Entry.{Entry}
 use Rattle.diff_map.specs.Copies.{copy_of, has_copy}
 use Rattle.diff_map.specs.Rules.{merged}

@@ -1,28 +1,31 @@
 use Rattle.std.proofs.Common.{◌<◌, ℕ, List, length, sym, subst, arith}
-use Rattle.std.specs.Prelude.{slice_get}
+use Rattle.std.specs.Prelude.{slice_get, Ok, Err}
 use Rattle.cow_volume.specs.Calls.{blocks_in}
 use Rattle.cow_volume.specs.Parts.{group_of}
+use Rattle.cow_volume.specs.Restoring.{merged_as}
 use Rattle.cow_volume.proofs.Kept.{sizes_kept, unfailed_itself, unfailed_further}
 use Rattle.cow_volume.proofs.DeviceCalls.{in_range_of}
+use Rattle.cow_volume.proofs.RestoringMerged.{keeps_itself, keeps_one, one_merged}
 use Rattle.cow_volume.proofs.RestoringSteps.{restoring_start, at_most_one, restoring_one, restoring_stops, one_unfailed}
 use Rattle.cow_volume.proofs.reverts.restore_blocks.Goals as goal
 
 pub restore_block-requires-clause-volume : goal.restore_block-requires-clause-volume
-restore_block-requires-clause-volume g c = subst (λ (ns : List ℕ). c.args.v < length ns) (sym c.loop-block.invariant.done.kept.volumes) c.requires.volume
+restore_block-requires-clause-volume g c = subst (λ (ns : List ℕ). c.args.v < length ns) (sym c.loop-block.invariant.keeps.kept.volumes) c.requires.volume
 
 pub restore_block-requires-clause-devices : goal.restore_block-requires-clause-devices
 restore_block-requires-clause-devices g c =
-    sizes_kept g.D.Device.told g.D.Device.size g.D.Device.count g.D.Device.lending (group_of c.args.devices.now.items c.args.copies.now) (group_of c.loop-block.devices.items c.loop-block.copies) c.loop-block.invariant.done.kept c.requires.devices
+    sizes_kept g.D.Device.told g.D.Device.size g.D.Device.count g.D.Device.lending (group_of c.args.devices.now.items c.args.copies.now) (group_of c.loop-block.devices.items c.loop-block.copies) c.loop-block.invariant.keeps.kept c.requires.devices
 
 pub restore_block-requires-clause-in_range : goal.restore_block-requires-clause-in_range
 restore_block-requires-clause-in_range g c =
     let l = c.loop-block-test.true in
     let here = in_range_of c.args.copies.now.area.volumes c.args.v c.loop-block.block c.blocks-block-end.result c.blocks-block-end.ensures (omega arith) in
-    subst (λ (ns : List ℕ). c.loop-block.block < blocks_in (slice_get ns c.args.v)) (sym c.loop-block.invariant.done.kept.volumes) here
+    subst (λ (ns : List ℕ). c.loop-block.block < blocks_in (slice_get ns c.args.v)) (sym c.loop-block.invariant.keeps.kept.volumes) here
 
 pub loop-block-init : goal.loop-block-init
 loop-block-init g c = record {
-  done = restoring_start g.D.Device.told g.D.Device.size g.D.Device.count g.D.Device.lending (group_of c.args.devices.now.items c.args.copies.now) c.args.v c.args.set c.requires.volume c.requires.newest;
+  done = λ mid m. restoring_start g.D.Device.told g.D.Device.size g.D.Device.count g.D.Device.lending (group_of c.args.devices.now.items (merged_as mid c.args.copies.now)) c.args.v c.args.set c.requires.volume m.gone.most;
+  keeps = keeps_itself g.D.Device.told g.D.Device.size g.D.Device.count g.D.Device.lending (group_of c.args.devices.now.items c.args.copies.now);
   unfailed = unfailed_itself g.D.Device.count (group_of c.args.devices.now.items c.args.copies.now);
   few = omega arith;
 }
@@ -35,16 +38,26 @@ loop-block-preserved g c =
     let more = c.from-restored.ensures in
     let few = c.loop-block.invariant.few in
     record {
-      done = restoring_one g.D.Device.told g.D.Device.size g.D.Device.count g.D.Device.lending (group_of c.args.devices.now.items c.args.copies.now) (group_of c.loop-block.devices.items c.loop-block.copies) (group_of c.restore_block.new.devices.items c.restore_block.new.copies)
-          c.args.v c.args.set c.loop-block.block c.loop-block.restored c.in-Ok.has_copy c.from-restored.result c.requires.volume c.requires.newest here c.requires.above_zero c.from-restored.ensures c.loop-block.invariant.done c.in-Ok.ensures;
+      done = λ mid m. restoring_one g.D.Device.told g.D.Device.size g.D.Device.count g.D.Device.lending (group_of c.args.devices.now.items (merged_as mid c.args.copies.now)) (group_of c.loop-block.devices.items (merged_as mid c.loop-block.copies)) (group_of c.restore_block.new.devices.items (merged_as mid c.restore_block.new.copies))
+          c.args.v c.args.set c.loop-block.block c.loop-block.restored c.in-Ok.has_copy c.from-restored.result c.requires.volume m.gone.most here c.requires.above_zero c.from-restored.ensures (c.loop-block.invariant.done mid m)
+          (one_merged g.D.Device.told g.D.Device.size g.D.Device.count g.D.Device.lending c.loop-block.devices.items c.restore_block.new.devices.items c.args.copies.now mid c.loop-block.copies c.restore_block.new.copies c.args.v c.args.set c.loop-block.block (Ok c.in-Ok.has_copy) m c.loop-block.invariant.keeps.records c.in-Ok.ensures);
+      keeps = keeps_one g.D.Device.told g.D.Device.size g.D.Device.count g.D.Device.lending (group_of c.args.devices.now.items c.args.copies.now) (group_of c.loop-block.devices.items c.loop-block.copies) (group_of c.restore_block.new.devices.items c.restore_block.new.copies)
+          c.args.v c.args.set c.loop-block.block (Ok c.in-Ok.has_copy) c.loop-block.invariant.keeps c.in-Ok.ensures;
       unfailed = unfailed_further g.D.Device.count (group_of c.args.devices.now.items c.args.copies.now) (group_of c.loop-block.devices.items c.loop-block.copies) (group_of c.restore_block.new.devices.items c.restore_block.new.copies) c.loop-block.invariant.unfailed
           (one_unfailed g.D.Device.told g.D.Device.size g.D.Device.count g.D.Device.lending (group_of c.loop-block.devices.items c.loop-block.copies) (group_of c.restore_block.new.devices.items c.restore_block.new.copies) c.args.v c.args.set c.loop-block.block c.in-Ok.has_copy c.in-Ok.ensures);
       few = omega arith;
     }
 
-pub returns-in-Err : goal.returns-in-Err
-returns-in-Err g c =
+pub returns-in-Err-clause-restored : goal.returns-in-Err-clause-restored
+returns-in-Err-clause-restored g c = λ mid m.
     let l = c.loop-block-test.true in
     let here = in_range_of c.args.copies.now.area.volumes c.args.v c.loop-block.block c.blocks-block-end.result c.blocks-block-end.ensures (omega arith) in
-    restoring_stops g.D.Device.told g.D.Device.size g.D.Device.count g.D.Device.lending (group_of c.args.devices.now.items c.args.copies.now) (group_of c.loop-block.devices.items c.loop-block.copies) (group_of c.restore_block.new.devices.items c.restore_block.new.copies)
-    c.args.v c.args.set c.loop-block.block c.loop-block.restored c.in-Err.cause c.requires.volume c.requires.newest here c.requires.above_zero c.loop-block.invariant.done c.in-Err.ensures
+    restoring_stops g.D.Device.told g.D.Device.size g.D.Device.count g.D.Device.lending (group_of c.args.devices.now.items (merged_as mid c.args.copies.now)) (group_of c.loop-block.devices.items (merged_as mid c.loop-block.copies)) (group_of c.restore_block.new.devices.items (merged_as mid c.restore_block.new.copies))
+    c.args.v c.args.set c.loop-block.block c.loop-block.restored c.in-Err.cause c.requires.volume m.gone.most here c.requires.above_zero (c.loop-block.invariant.done mid m)
+    (record { devices = c.loop-block.invariant.unfailed.devices; area = c.loop-block.invariant.unfailed.area })
+    (one_merged g.D.Device.told g.D.Device.size g.D.Device.count g.D.Device.lending c.loop-block.devices.items c.restore_block.new.devices.items c.args.copies.now mid c.loop-block.copies c.restore_block.new.copies c.args.v c.args.set c.loop-block.block (Err c.in-Err.cause) m c.loop-block.invariant.keeps.records c.in-Err.ensures)
+
+pub returns-in-Err-clause-keeps : goal.returns-in-Err-clause-keeps
+returns-in-Err-clause-keeps g c =
+    keeps_one g.D.Device.told g.D.Device.size g.D.Device.count g.D.Device.lending (group_of c.args.devices.now.items c.args.copies.now) (group_of c.loop-block.devices.items c.loop-block.copies) (group_of c.restore_block.new.devices.items c.restore_block.new.copies)
+    c.args.v c.args.set c.loop-block.block (Err c.in-Err.cause) c.loop-block.invariant.keeps c.in-Err.ensures

@@ -1,20 +1,36 @@
-use Rattle.std.proofs.Common.{sym, ◌∙◌}
-use Rattle.std.proofs.lemmas.Result.{err_from_is_err_and}
-use Rattle.cow_volume.proofs.RestoringSteps.{revert_done, revert_failed, image_left}
+use Rattle.std.proofs.Common.{◌<◌, ℕ, List, length, sym, ◌∙◌, subst, ap}
+use Rattle.cow_volume.specs.Calls.{is_among, sets_in}
+use Rattle.cow_volume.specs.CopiesAfter.{images_on}
+use Rattle.std.specs.Prelude.{slice_get}
+use Rattle.cow_volume.proofs.DroppingNewer.{contains_of}
+use Rattle.cow_volume.proofs.RestoringMerged.{mergeable, restored_then_cleared, stopped_then_merged}
 use Rattle.cow_volume.proofs.reverts.revert.Goals as goal
 
-pub returns-in_err-restore_blocks : goal.returns-in_err-restore_blocks
-returns-in_err-restore_blocks g c =
-    let p = err_from_is_err_and c.from_residual.result c.from_residual.ensures.1 in
-    rw (p.1, p.2) (revert_failed g.D.Device.told g.D.Device.size g.D.Device.count g.D.Device.lending c.args.devices.now.items c.restore_blocks.new.devices.items c.args.copies.now c.drop_newer.new.copies c.restore_blocks.new.copies c.args.v c.args.set _
-    c.requires.volume (sym c.has_image.ensures.among ∙ c.if-not-has_image.false) c.drop_newer.ensures c.in_err-restore_blocks.ensures)
+pub clear_from-requires-clause-volume : goal.clear_from-requires-clause-volume
+clear_from-requires-clause-volume g c = subst (λ (ns : List ℕ). c.args.v < length ns) (sym c.restore_blocks.ensures.keeps.kept.volumes) c.requires.volume
 
 pub clear_from-requires-clause-image : goal.clear_from-requires-clause-image
 clear_from-requires-clause-image g c =
-    image_left g.D.Device.told g.D.Device.size g.D.Device.count g.D.Device.lending c.args.devices.now.items c.restore_blocks.new.devices.items c.args.copies.now c.drop_newer.new.copies c.restore_blocks.new.copies c.args.v c.args.set _ _
-    c.drop_newer.ensures c.in_ok-restore_blocks.ensures.1
+    let image = sym c.has_image.ensures.among ∙ c.if-not-has_image.false in
+    contains_of c.args.set (images_on c.restore_blocks.new.copies c.args.v) (ap (λ (ss : List (List ℕ)). is_among c.args.set (sets_in (slice_get ss c.args.v))) c.restore_blocks.ensures.keeps.images ∙ image)
 
-pub returns : goal.returns
-returns g c =
-    revert_done g.D.Device.told g.D.Device.size g.D.Device.count g.D.Device.lending c.args.devices.now.items c.restore_blocks.new.devices.items c.args.copies.now c.drop_newer.new.copies c.restore_blocks.new.copies c.clear_from.new.self c.args.v c.args.set tt
-    c.requires.volume (sym c.has_image.ensures.among ∙ c.if-not-has_image.false) c.drop_newer.ensures c.in_ok-restore_blocks.ensures c.clear_from.ensures
+pub drop_newer-requires-clause-volume : goal.drop_newer-requires-clause-volume
+drop_newer-requires-clause-volume g c = subst (λ (ns : List ℕ). c.args.v < length ns) (sym c.restore_blocks.ensures.keeps.kept.volumes) c.requires.volume
+
+pub drop_newer-requires-clause-image : goal.drop_newer-requires-clause-image
+drop_newer-requires-clause-image g c =
+    let image = sym c.has_image.ensures.among ∙ c.if-not-has_image.false in
+    ap (λ (ss : List (List ℕ)). is_among c.args.set (sets_in (slice_get ss c.args.v))) c.restore_blocks.ensures.keeps.images ∙ image
+
+pub returns-in-Ok : goal.returns-in-Ok
+returns-in-Ok g c =
+    let image = sym c.has_image.ensures.among ∙ c.if-not-has_image.false in
+    let mid = mergeable g.D.Device.told c.args.copies.now c.args.v c.args.set c.requires.volume image (c.has_image.ensures.above c.if-not-has_image.false) c.volumes-facts.ensures.of_images c.slots-facts.ensures.valid in
+    restored_then_cleared g.D.Device.told g.D.Device.size g.D.Device.count g.D.Device.lending c.args.devices.now.items c.restore_blocks.new.devices.items c.args.copies.now mid.mid c.restore_blocks.new.copies c.clear_from.new.self c.args.v c.args.set tt
+    c.requires.volume image mid.merged_to (c.in-Ok.ensures.restored mid.mid mid.merged_to) c.in-Ok.ensures.keeps c.clear_from.ensures
+
+pub returns-in-Err : goal.returns-in-Err
+returns-in-Err g c =
+    let image = sym c.has_image.ensures.among ∙ c.if-not-has_image.false in
+    stopped_then_merged g.D.Device.told g.D.Device.size g.D.Device.count g.D.Device.lending c.args.devices.now.items c.restore_blocks.new.devices.items c.args.copies.now c.restore_blocks.new.copies c.drop_newer.new.copies c.args.v c.args.set c.in-Err.fault
+    c.requires.volume image c.in-Err.ensures.restored c.in-Err.ensures.keeps c.drop_newer.ensures

@@ -1,4 +1,3 @@
-use Rattle.std.proofs.Common.{◌≡◌, ℕ, get_or, Some, slice_get}
 use Rattle.std.proofs.lemmas.Option.{slice_get-get_or}
 use Rattle.provider.proofs.CutAll.{cut_none, can_next, volume_below, cut_next}
 use Rattle.provider.proofs.cutting.cut_all.Goals as goal

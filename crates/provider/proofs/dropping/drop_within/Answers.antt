@@ -1,4 +1,4 @@
-use Rattle.std.proofs.Common.{◌≡◌, ◌<◌, ◌≤◌, ◌+◌, ℕ, Bool, length, ap, sym, subst, arith}
+use Rattle.std.proofs.Common.{◌<◌, ◌+◌, ℕ, Bool, length, ap, sym, subst, arith}
 use Rattle.provider.specs.GroupCalls.{IsGroupDrop}
 use Rattle.provider.proofs.Dropped.{IsDroppedTo, dropped_more, dropped_same, dropped_all}
 use Rattle.provider.proofs.dropping.drop_within.Goals.{then-drop_on, else-drop_on}

@@ -1,5 +1,4 @@
-use Rattle.std.proofs.Common.{◌≡◌, ◌<◌, ◌≤◌, ◌∙◌, length, sym, arith, false}
-use Rattle.set_agenda.specs.Agenda.{is_among}
+use Rattle.std.proofs.Common.{◌∙◌, sym, arith}
 use Rattle.provider.proofs.Refused.{full, covered, joins}
 use Rattle.provider.proofs.preparing.refusal.Goals as goal
 

@@ -1,6 +1,8 @@
-use Rattle.std.proofs.Common.{◌<◌, ℕ, refl, sym, subst, true, false}
+use Rattle.std.proofs.Common.{◌<◌, ◌∙◌, ℕ, ap, refl, slice_get, sym, subst, true, false}
+use Rattle.std.specs.Prelude.{is_some}
+use Rattle.cow_volume.specs.Parts.{IsLentBy}
 use Rattle.cow_volume.specs.Calls.{sets_at, blocks_at}
-use Rattle.provider.proofs.Places.{within_there, group_there, blocks_are}
+use Rattle.provider.proofs.Places.{within_there, group_there, blocks_are, one_place}
 use Rattle.provider.proofs.Looked.{image_of}
 use Rattle.provider.proofs.Shown.{shown_of, some_map}
 use Rattle.provider.proofs.Imaged.{unseen_image}
@@ -29,3 +31,9 @@ returns-in-Err-clause-none g c =
       image_of g.D.Device.told c.args.scenario.now c.args.groups.now.items c.args.volume c.place_of-place.result.group c.place_of-place.result.volume c.args.set t.0 false c.place_of-place.ensures c.requires.has t.1
           (unseen_image (sets_at t.0 c.place_of-place.result.volume) (blocks_at t.0 c.place_of-place.result.volume) c.args.set c.args.block _ low (c.in-Err.ensures.unseen t.0 t.1)),
     )
+
+pub returns-in-Ok-clause-lends : goal.returns-in-Ok-clause-lends
+returns-in-Ok-clause-lends g c = λ k w x place at.
+    let one = one_place c.args.scenario.now c.args.volume c.place_of-place.result.group c.place_of-place.result.volume k w c.place_of-place.ensures place in
+    subst (λ (n : ℕ). IsLentBy g.D.Device.lending x n c.args.set c.args.block (is_some c.in-Ok.lent)) (sym one.1)
+    (c.in-Ok.ensures.lends x (ap (slice_get c.args.groups.now.items) (sym one.0) ∙ at))

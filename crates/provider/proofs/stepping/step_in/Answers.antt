@@ -12,5 +12,6 @@ returns-in-Orders g c =
       stands = λ hs are. subst (λ (ks : List History). AreGroups g.D.Device.told c.args.scenario.now c.args.groups.now.items ks) (sym (still_stands c.args.group c.args.set c.args.volumes.now hs still)) are;
       kept = kept_same g.D.Device.told g.D.Device.size g.D.Device.count g.D.Device.lending c.args.groups.now.items;
       cause = refl;
+      devices = λ e. refl;
       lasts = λ e. absurd (not_flush c.args.group still e);
     }

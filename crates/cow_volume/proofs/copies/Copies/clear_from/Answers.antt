@@ -30,13 +30,13 @@ invariant_of-self g c =
     let m = c.index_mut-map.result.now in
     let at = map_at _ _ _ _ _ _ c.self.invariant within c.index_mut-map.ensures.value in
     let copies = (c.self.invariant.each c.args.v m at).copies in
-    let are = c.images-before.ensures.valid.images in
+    let are = c.images-facts.ensures.valid.images in
     let there = rw (← c.self.view_is) at c.requires.image in
     let has : Contains m.images c.args.set = subst (λ (s : List ℕ). Contains s c.args.set) (ap sets_in (images_at c.self.inside.maps.items c.args.v m at)) there in
     let n_is = c.clear_from.ensures.map in
     let rules = clear_rules c.self.inside.area.records c.args.v c.args.set m.images are has in
     let tied = tied_after c.self.inside.area.volumes c.self.inside.area.records c.self.inside.maps.items c.self.inside.pool c.clear_from.new.pool c.args.v m c.clear_from.new.self (cleared_rule c.args.set) (cleared_row c.args.v c.args.set)
-    c.self.invariant at (ap (λ x. x.copies) n_is) (ap (λ x. x.blocks) n_is) c.images-after.ensures.valid c.clear_from.ensures.slots rules in
+    c.self.invariant at (ap (λ x. x.copies) n_is) (ap (λ x. x.blocks) n_is) c.images-facts-2.ensures.valid c.clear_from.ensures.slots rules in
     rw (follows_map c.self.inside.area c.free_records.new.area c.args.v m c.clear_from.new.self (cleared_rule c.args.set) copies (ap (λ x. x.copies) n_is) c.free_records.ensures) tied
 
 pub returns : goal.returns
@@ -45,7 +45,7 @@ returns g c =
     let m = c.index_mut-map.result.now in
     let at = map_at _ _ _ _ _ _ c.self.invariant within c.index_mut-map.ensures.value in
     let copies = (c.self.invariant.each c.args.v m at).copies in
-    let are = c.images-before.ensures.valid.images in
+    let are = c.images-facts.ensures.valid.images in
     let there = rw (← c.self.view_is) at c.requires.image in
     let has : Contains m.images c.args.set = subst (λ (s : List ℕ). Contains s c.args.set) (ap sets_in (images_at c.self.inside.maps.items c.args.v m at)) there in
     let n_is = c.clear_from.ensures.map in

@@ -21,4 +21,4 @@ returns g c =
     let test = c.loop-v-test.false in
     let upper = c.loop-v.auto.v-end in
     let end = c.volumes-v-end.ensures.volumes in
-    c.loop-v.invariant ∙ part_all c.args.self.now c.args.set c.loop-v.v c.slots-records.ensures.valid c.volumes-v-end.ensures.images (omega arith)
+    c.loop-v.invariant ∙ part_all c.args.self.now c.args.set c.loop-v.v c.slots-facts.ensures.valid c.volumes-v-end.ensures.images (omega arith)

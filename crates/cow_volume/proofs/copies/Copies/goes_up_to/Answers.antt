@@ -7,7 +7,7 @@ use Rattle.cow_volume.proofs.MakingRoom.{room_there, room_made_by}
 use Rattle.cow_volume.proofs.copies.Copies.goes_up_to.Goals as goal
 
 pub returns-then-not-lacks_slot : goal.returns-then-not-lacks_slot
-returns-then-not-lacks_slot g c = room_there c.args.self.now c.args.v c.args.block c.slots-records.ensures.valid c.volumes-valid.ensures.of_images (sym c.lacks_slot.ensures ∙ c.if-not-lacks_slot.true)
+returns-then-not-lacks_slot g c = room_there c.args.self.now c.args.v c.args.block c.slots-facts.ensures.valid c.volumes-facts.ensures.of_images (sym c.lacks_slot.ensures ∙ c.if-not-lacks_slot.true)
 
 pub first_to_free-requires-clause-some : goal.first_to_free-requires-clause-some
 first_to_free-requires-clause-some g c =
@@ -16,4 +16,4 @@ first_to_free-requires-clause-some g c =
     lacks_some now.area.records c.args.v (images_on now c.args.v) c.args.block (and_left (lacks_copy now.area.records c.args.v (images_on now c.args.v) c.args.block) (is_full now.area.records) lacks)
 
 pub returns : goal.returns
-returns g c = room_made_by c.args.self.now c.args.v c.args.block c.first_to_free.result c.slots-records.ensures.valid c.volumes-valid.ensures.images c.volumes-valid.ensures.of_images c.requires (sym c.lacks_slot.ensures ∙ c.if-not-lacks_slot.false) c.first_to_free.ensures
+returns g c = room_made_by c.args.self.now c.args.v c.args.block c.first_to_free.result c.slots-facts.ensures.valid c.volumes-facts.ensures.images c.volumes-facts.ensures.of_images c.requires (sym c.lacks_slot.ensures ∙ c.if-not-lacks_slot.false) c.first_to_free.ensures

@@ -6,4 +6,4 @@ use Rattle.cow_volume.proofs.copies.Copies.make_room.Goals as goal
 pub returns-else-up_to-gt0-clause-gone : goal.returns-else-up_to-gt0-clause-gone
 returns-else-up_to-gt0-clause-gone g c =
     let none : 0 ≡ c.goes_up_to-up_to.result = omega arith in
-    subst (λ (n : ℕ). c.args.self.now ≡ after_gone c.args.self.now n) none (gone_nothing c.args.self.now c.slots-records.ensures.valid c.volumes-valid.ensures.of_images)
+    subst (λ (n : ℕ). c.args.self.now ≡ after_gone c.args.self.now n) none (gone_nothing c.args.self.now c.slots-facts.ensures.valid c.volumes-facts.ensures.of_images)

@@ -1,4 +1,4 @@
-use Rattle.std.proofs.Common.{◌≡◌, ◌∙◌, sym, Some, ℕ, List, Option, ap, subst, Contains}
+use Rattle.std.proofs.Common.{◌∙◌, sym, ℕ, List, Option, ap, subst, Contains}
 use Rattle.cow_volume.specs.Calls.{sets_in}
 use Rattle.diff_map.specs.Index.{IsIndex}
 use Rattle.diff_map.specs.Rules.{next_older, merged as merged_rule}
@@ -49,7 +49,7 @@ invariant_of-self g c =
     let n_is = c.merge_down.ensures.map in
     let rules = merge_rules c.self.inside.area.records c.args.v c.args.set m copies are has in
     let tied = tied_after c.self.inside.area.volumes c.self.inside.area.records c.self.inside.maps.items c.self.inside.pool c.merge_down.new.pool c.args.v m c.merge_down.new.self (merged_rule m.copies (next_older m.images c.args.set) c.args.set) (merged_row c.self.inside.area.records c.args.v (next_older m.images c.args.set) c.args.set)
-    c.self.invariant at (ap (λ x. x.copies) n_is) (ap (λ x. x.blocks) n_is) c.images-after.ensures.valid c.merge_down.ensures.slots rules in
+    c.self.invariant at (ap (λ x. x.copies) n_is) (ap (λ x. x.blocks) n_is) c.images-facts.ensures.valid c.merge_down.ensures.slots rules in
     rw (merge_follows c.self.inside.area c.merge_records.new.area c.args.v c.args.set m c.merge_down.new.self c.next_older-older.result copies (c.next_older-older.ensures ∙ ap (λ (s : List ℕ). next_older s c.args.set) c.images.ensures.images) (ap (λ x. x.copies) n_is) c.merge_records.ensures) tied
 
 pub returns : goal.returns

@@ -85,7 +85,7 @@ invariant_of-self g c =
     let pooled = rw (← c.self.invariant.pool_is) at low in
     let taken = taken_lowest c.take-taken.result c.self.inside.pool c.take-taken.new.self c.args.slot pooled c.take-taken.ensures.lowest c.take-taken.ensures.taken c.take-taken.ensures.none in
     let tied = tied_noted c.self.inside.area.volumes c.self.inside.area.records c.self.inside.maps.items c.self.inside.pool c.take-taken.new.self c.args.v c.args.slot (newest m.images) c.args.block m c.note.new.self
-    c.self.invariant at (free_slot_is c.self.inside.area.records c.args.slot low) (newest_above m.images c.images.ensures.valid.images some) (ap (λ x. x.blocks) c.note.ensures) (ap (λ x. x.copies) c.note.ensures) c.images-after.ensures.valid taken in
+    c.self.invariant at (free_slot_is c.self.inside.area.records c.args.slot low) (newest_above m.images c.images.ensures.valid.images some) (ap (λ x. x.blocks) c.note.ensures) (ap (λ x. x.copies) c.note.ensures) c.images-facts.ensures.valid taken in
     rw (c.set_record.ensures, set_is) tied
 
 pub returns : goal.returns

@@ -11,5 +11,5 @@ returns g c =
     let now = group_of c.self.inside.devices.items c.self.inside.copies in
     let low = rw (← c.self.view_is) at c.requires.in_range in
     let evicted : (hs : List History) → StandsFor g.D.Device.told now hs → IsEvicted now c.args.v c.args.block hs c.goes_up_to.result =
-    λ hs stood. room_lift g.D.Device.told now hs c.args.v c.args.block c.goes_up_to.result stood c.slots-valid.ensures.valid low c.goes_up_to.ensures in
+    λ hs stood. room_lift g.D.Device.told now hs c.args.v c.args.block c.goes_up_to.result stood c.slots-facts.ensures.valid low c.goes_up_to.ensures in
     rw (← c.self.view_is) evicted

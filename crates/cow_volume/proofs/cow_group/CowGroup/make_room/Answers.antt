@@ -26,7 +26,7 @@ returns-clause-evicted g c =
     let old = group_of c.self.inside.devices.items c.self.inside.copies in
     let low = rw (← c.self.view_is) at c.requires.in_range in
     let evicted : (hs : List History) → StandsFor g.D.Device.told old hs → IsEvicted old c.args.v c.args.block hs c.make_room.result =
-    λ hs stood. room_lift g.D.Device.told old hs c.args.v c.args.block c.make_room.result stood c.slots-valid.ensures.valid low c.make_room.ensures.room in
+    λ hs stood. room_lift g.D.Device.told old hs c.args.v c.args.block c.make_room.result stood c.slots-facts.ensures.valid low c.make_room.ensures.room in
     rw (← c.self.view_is) evicted
 
 pub returns-clause-stands : goal.returns-clause-stands
@@ -40,5 +40,5 @@ returns-clause-stands g c =
 pub returns-clause-lacked : goal.returns-clause-lacked
 returns-clause-lacked g c =
     let before : lacks_copy c.make_room.new.self.area.records c.args.v (images_on c.make_room.new.self c.args.v) c.args.block ≡ true → lacks_copy c.self.inside.copies.area.records c.args.v (images_on c.self.inside.copies c.args.v) c.args.block ≡ true =
-    lacked c.self.inside.copies c.make_room.new.self c.args.v c.args.block c.make_room.result c.slots-valid.ensures.valid c.volumes-images.ensures.of_images c.make_room.ensures.room c.make_room.ensures.gone in
+    lacked c.self.inside.copies c.make_room.new.self c.args.v c.args.block c.make_room.result c.slots-facts.ensures.valid c.volumes-facts.ensures.of_images c.make_room.ensures.room c.make_room.ensures.gone in
     rw (← c.self.view_is) before

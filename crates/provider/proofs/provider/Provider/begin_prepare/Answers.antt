@@ -1,5 +1,4 @@
-use Rattle.std.proofs.Common.{◌≡◌, ◌∙◌, ℕ, List, length, ap, sym, Option, Some, None}
-use Rattle.vss_names.specs.declared.vss_result.VssResult.{VssResult}
+use Rattle.std.proofs.Common.{◌≡◌, ◌∙◌, ℕ, List, length, ap, sym, None}
 use Rattle.provider.specs.Preparing.{refusal}
 use Rattle.provider.proofs.Refused.{provider_joined}
 use Rattle.provider.proofs.provider.Provider.begin_prepare.Goals as goal

@@ -1,0 +1,151 @@
+-- The blocks are restored while the newer images still stand. What that leaves of a group, seen as if these images had been merged
+-- down before.
+use Rattle.std.proofs.Common.{◌≡◌, ◌<◌, ℕ, Bool, true, false, List, length, refl, ap, sym, subst, ◌∙◌, arith, Option, Some}
+use Rattle.std.specs.Prelude.{slice_get, slice_set, filter, nat_le, IfSome, Result, Ok, Err}
+use Rattle.diff_area.specs.Places.{place_of_slot}
+use Rattle.diff_area.specs.Records.{AreRecords}
+use Rattle.diff_area.specs.declared.table_record.Record.{Record}
+use Rattle.cow_volume.specs.GroupValue.{GroupValue}
+use Rattle.cow_volume.specs.StandsFor.{record_of}
+use Rattle.cow_volume.specs.Tied.{CopiesValue, AreOfImages}
+use Rattle.cow_volume.specs.Changes.{IsFirstCopy, HasNoCopy, cleared}
+use Rattle.cow_volume.specs.CopiesAfter.{images_on, after_clear, with_records}
+use Rattle.cow_volume.specs.Calls.{is_among, IsKept, DeviceRose, IsReverted, IsRevert}
+use Rattle.cow_volume.specs.Parts.{group_of}
+use Rattle.cow_volume.specs.Restoring.{AreNewerGone, IsMergedTo, merged_as, KeepsCopies, IsOneRestored, IsRestoring}
+use Rattle.cow_volume.specs.declared.cause.Cause.{Cause}
+use Rattle.cow_volume.specs.declared.cause.Cause.TheVariants.{NoSuchBlock, Volume, Area}
+use Rattle.cow_volume.specs.declared.revert_fault.RevertFault.{RevertFault}
+use Rattle.cow_volume.proofs.Group.{quiet_stands}
+use Rattle.cow_volume.proofs.Kept.{kept_itself, kept_further}
+use Rattle.cow_volume.proofs.Merging.{within_blocks}
+use Rattle.cow_volume.proofs.DroppingNewer.{images_row}
+use Rattle.cow_volume.proofs.NewerMerged.{IsMerging, merging_none, AreMergeable, merge_all}
+use Rattle.cow_volume.proofs.RestoringSteps.{revert_done, revert_failed}
+
+-- ## what stays while blocks are restored
+
+pub keeps_itself : {D : Type 0} (told : D → Option (List (List ℕ))) (size count : D → ℕ) (lending : D → Bool) (g : GroupValue D) → KeepsCopies told size count lending g g
+keeps_itself told size count lending g = record { kept = kept_itself told size count lending g; records = refl; images = refl; slots = refl }
+
+keeps_more : {D : Type 0} (told : D → Option (List (List ℕ))) (size count : D → ℕ) (lending : D → Bool) (g now new : GroupValue D) → KeepsCopies told size count lending g now → KeepsCopies told size count lending now new → KeepsCopies told size count lending g new
+keeps_more told size count lending g now new a b = record { kept = kept_further told size count lending g now new a.kept b.kept; records = b.records ∙ a.records; images = b.images ∙ a.images; slots = b.slots ∙ a.slots }
+
+one_keeps : {D : Type 0} (told : D → Option (List (List ℕ))) (size count : D → ℕ) (lending : D → Bool) (now new : GroupValue D) (v set b : ℕ) (r : Result Bool Cause) → IsOneRestored told size count lending now new v set b r → KeepsCopies told size count lending now new
+one_keeps {D = D} told size count lending now new v set b (Ok false) one = subst (λ (x : GroupValue D). KeepsCopies told size count lending now x) (sym one.0) (keeps_itself told size count lending now)
+one_keeps told size count lending now new v set b (Ok true) one = record { kept = one.kept; records = one.records; images = one.images; slots = one.slots }
+one_keeps told size count lending now new v set b (Err cause) one = record { kept = one.quiet.kept; records = one.quiet.records; images = one.quiet.images; slots = one.quiet.slots }
+
+pub keeps_one : {D : Type 0} (told : D → Option (List (List ℕ))) (size count : D → ℕ) (lending : D → Bool) (g now new : GroupValue D) (v set b : ℕ) (r : Result Bool Cause) → KeepsCopies told size count lending g now → IsOneRestored told size count lending now new v set b r → KeepsCopies told size count lending g new
+keeps_one told size count lending g now new v set b r had one = keeps_more told size count lending g now new had (one_keeps told size count lending now new v set b r one)
+
+-- ## one block, seen so
+
+rose_merged : {D : Type 0} (count : D → ℕ) (v : ℕ) (devices after : List D) (mid now new : CopiesValue D) (cause : Cause) → DeviceRose count v (group_of devices now) (group_of after new) cause → DeviceRose count v (group_of devices (merged_as mid now)) (group_of after (merged_as mid new)) cause
+rose_merged count v devices after mid now new NoSuchBlock rose = rose
+rose_merged count v devices after mid now new Volume rose = record { before = rose.before; now = rose.now; was = rose.was; is = rose.is; rose = rose.rose; devices = rose.devices; area = rose.area }
+rose_merged count v devices after mid now new Area rose = record { rose = rose.rose; devices = rose.devices }
+
+kept_merged : {D : Type 0} (told : D → Option (List (List ℕ))) (size count : D → ℕ) (lending : D → Bool) (devices after : List D) (mid now new : CopiesValue D) → IsKept told size count lending (group_of devices now) (group_of after new) → IsKept told size count lending (group_of devices (merged_as mid now)) (group_of after (merged_as mid new))
+kept_merged told size count lending devices after mid now new kept = record { volumes = kept.volumes; slots = refl; area = kept.area; devices = kept.devices; each = kept.each }
+
+pub one_merged : {D : Type 0} (told : D → Option (List (List ℕ))) (size count : D → ℕ) (lending : D → Bool) (devices after : List D) (old mid now new : CopiesValue D) (v set b : ℕ) (r : Result Bool Cause) → IsMergedTo told old mid v set → now.area.records ≡ old.area.records
+    → IsOneRestored told size count lending (group_of devices now) (group_of after new) v set b r → IsOneRestored told size count lending (group_of devices (merged_as mid now)) (group_of after (merged_as mid new)) v set b r
+one_merged {D = D} told size count lending devices after old mid now new v set b (Ok false) m same one = (
+  ap (λ (g : GroupValue D). let x : GroupValue D = record { devices = g.devices; area = with_records mid.area.records g.area; images = mid.images } in x) one.0,
+  m.none b (subst (λ (rs : List Record). HasNoCopy rs v set b) same one.1),
+)
+one_merged told size count lending devices after old mid now new v set b (Ok true) m same one = record {
+  slot = one.slot;
+  bytes = one.bytes;
+  before = one.before;
+  after = one.after;
+  found = m.found b one.slot (subst (λ (rs : List Record). IsFirstCopy rs v set b one.slot) same one.found);
+  held = subst (λ (k : ℕ). IfSome (told now.area.device) (λ blocks. slice_get blocks (place_of_slot k one.slot) ≡ Some one.bytes)) (ap length same ∙ sym m.gone.slots) one.held;
+  was = one.was;
+  devices = one.devices;
+  written = one.written;
+  unfailed = record { devices = one.unfailed.devices; area = one.unfailed.area };
+  kept = kept_merged told size count lending devices after mid now new one.kept;
+  records = refl;
+  images = refl;
+  slots = one.slots;
+}
+one_merged told size count lending devices after old mid now new v set b (Err cause) m same one = record {
+  slot = one.slot;
+  found = m.found b one.slot (subst (λ (rs : List Record). IsFirstCopy rs v set b one.slot) same one.found);
+  quiet = record { kept = kept_merged told size count lending devices after mid now new one.quiet.kept; records = refl; images = refl; blocks = one.quiet.blocks; slots = one.quiet.slots };
+  rose = rose_merged count v devices after mid now new cause one.rose;
+}
+
+-- ## where the newer images are merged down
+
+same_copies : {D : Type 0} (c d : CopiesValue D) → d.area.device ≡ c.area.device → d.area.volumes ≡ c.area.volumes → merged_as d c ≡ d
+same_copies {D = D} c d device volumes =
+    let from : D → List ℕ → CopiesValue D = λ x ns. record { area = record { device = x; volumes = ns; records = d.area.records }; images = d.images } in
+    ap (λ x. from x c.area.volumes) (sym device) ∙ ap (from d.area.device) (sym volumes)
+
+-- of those copies the newer images are gone
+pub gone_as : {D : Type 0} (told : D → Option (List (List ℕ))) (old mid : CopiesValue D) (v set : ℕ) → IsMergedTo told old mid v set → AreNewerGone told old (merged_as mid old) v set
+gone_as {D = D} told old mid v set m = subst (λ (c : CopiesValue D). AreNewerGone told old c v set) (sym (same_copies old mid m.gone.device m.gone.volumes)) m.gone
+
+-- what all copies keep
+pub merging_start : {D : Type 0} (told : D → Option (List (List ℕ))) (old : CopiesValue D) (v set : ℕ) → is_among set (images_on old v) ≡ true → 0 < set → AreOfImages old.area.records old.images → AreRecords old.area.volumes old.area.records → IsMerging told old old v set
+merging_start told old v set among above of are =
+    let row = images_row old v set among in
+    merging_none told old v set among above (of.sets v (images_on old v) row) (λ slot s b some at. of.each slot (record_of v s b) at some (images_on old v) row) (λ n at. within_blocks old.area.volumes old.area.records v n are at)
+
+-- they can be merged down
+pub mergeable : {D : Type 0} (told : D → Option (List (List ℕ))) (old : CopiesValue D) (v set : ℕ) → v < length old.area.volumes → is_among set (images_on old v) ≡ true → 0 < set → AreOfImages old.area.records old.images → AreRecords old.area.volumes old.area.records → AreMergeable told old v set
+mergeable told old v set inside among above of are = merge_all told old old v set (length (images_on old v)) (omega arith) (merging_start told old v set among above of are) inside
+
+-- ## the end
+
+clear_merged : {D : Type 0} (told : D → Option (List (List ℕ))) (old mid now : CopiesValue D) (v set : ℕ) → IsMergedTo told old mid v set → now.area.records ≡ old.area.records → now.images ≡ old.images → after_clear now v set ≡ after_clear (merged_as mid now) v set
+clear_merged {D = D} told old mid now v set m records images =
+    let from : List Record → List (List ℕ) → CopiesValue D = λ rs ss. record { area = with_records rs now.area; images = ss } in
+    ap (λ rs. from (cleared v set rs) (after_clear now v set).images) records ∙ ap (λ rs. from rs (after_clear now v set).images) (sym m.records)
+    ∙ ap (from (cleared v set mid.area.records)) (ap (λ (ss : List (List ℕ)). slice_set ss v (filter (λ s. nat_le s set) (images_in ss))) images ∙ sym (m.others (filter (λ s. nat_le s set) (images_on old v))) ∙ ap (slice_set mid.images v) (sym m.sets))
+  where
+    images_in : List (List ℕ) → List ℕ
+    images_in ss = images_on (let c : CopiesValue D = record { area = now.area; images = ss } in c) v
+
+pub restored_then_cleared : {D : Type 0} (told : D → Option (List (List ℕ))) (size count : D → ℕ) (lending : D → Bool) (devices after : List D) (old mid now new : CopiesValue D) (v set : ℕ) (x : Unit) → v < length old.area.volumes → is_among set (images_on old v) ≡ true → IsMergedTo told old mid v set
+    → IsRestoring told size count lending (group_of devices (merged_as mid old)) (group_of after (merged_as mid now)) v set (Ok x) → KeepsCopies told size count lending (group_of devices old) (group_of after now) → new ≡ after_clear now v set → IsReverted told size count lending (group_of devices old) (group_of after new) v set
+restored_then_cleared told size count lending devices after old mid now new v set x inside image m done keeps is =
+    revert_done told size count lending devices after old (merged_as mid old) (merged_as mid now) new v set x inside image (gone_as told old mid v set m) done (is ∙ clear_merged told old mid now v set m keeps.records keeps.images)
+
+-- a device failed, and then the newer images were merged down
+merged_before : {D : Type 0} (told : D → Option (List (List ℕ))) (size count : D → ℕ) (lending : D → Bool) (devices after : List D) (old now new : CopiesValue D) (v set : ℕ) → IsMergedTo told now new v set → KeepsCopies told size count lending (group_of devices old) (group_of after now) → IsMergedTo told old (merged_as new old) v set
+merged_before {D = D} told size count lending devices after old now new v set m keeps =
+    let records = keeps.records in
+    let images = keeps.images in
+    record {
+      gone = record {
+        among = m.gone.among;
+        most = m.gone.most;
+        device = refl;
+        volumes = refl;
+        slots = m.gone.slots ∙ ap length records;
+        stands = λ ds hs stands.
+            let at_now = quiet_stands told (group_of ds old) (group_of ds now) hs stands refl images keeps.kept.volumes records keeps.slots in
+            let gone = m.gone.stands ds hs at_now in
+            quiet_stands told (group_of ds new) (group_of ds (merged_as new old)) _ gone refl refl (sym (m.gone.volumes ∙ keeps.kept.volumes)) refl (sym (ap told m.gone.device ∙ keeps.slots));
+      };
+      found = λ b slot f. m.found b slot (subst (λ (rs : List Record). IsFirstCopy rs v set b slot) (sym records) f);
+      none = λ b n. m.none b (subst (λ (rs : List Record). HasNoCopy rs v set b) (sym records) n);
+      records = m.records ∙ ap (cleared v set) records;
+      sets = m.sets ∙ ap (λ (ss : List (List ℕ)). filter (λ s. nat_le s set) (images_in ss)) images;
+      others = λ xs. m.others xs ∙ ap (λ (ss : List (List ℕ)). slice_set ss v xs) images;
+    }
+  where
+    images_in : List (List ℕ) → List ℕ
+    images_in ss = images_on (let c : CopiesValue D = record { area = now.area; images = ss } in c) v
+
+pub stopped_then_merged : {D : Type 0} (told : D → Option (List (List ℕ))) (size count : D → ℕ) (lending : D → Bool) (devices after : List D) (old now new : CopiesValue D) (v set : ℕ) (fault : RevertFault) → v < length old.area.volumes → is_among set (images_on old v) ≡ true
+    → ((mid : CopiesValue D) → IsMergedTo told old mid v set → IsRestoring told size count lending (group_of devices (merged_as mid old)) (group_of after (merged_as mid now)) v set (Err fault))
+    → KeepsCopies told size count lending (group_of devices old) (group_of after now) → IsMergedTo told now new v set → IsRevert told size count lending (group_of devices old) (group_of after new) v set (Err fault)
+stopped_then_merged {D = D} told size count lending devices after old now new v set fault inside image stopped keeps m =
+    let before = merged_before told size count lending devices after old now new v set m keeps in
+    let end = revert_failed told size count lending devices after old (merged_as new old) (merged_as new now) v set fault inside image before.gone (stopped (merged_as new old) before) in
+    subst (λ (c : CopiesValue D). IsRevert told size count lending (group_of devices old) (group_of after c) v set (Err fault)) (same_copies now new m.gone.device m.gone.volumes) end

@@ -1,0 +1,204 @@
+-- The maps and the pool of a group that is taken up again, slot after slot.
+use Rattle.std.proofs.Common.{ℕ, zero, suc, ◌≡◌, ◌<◌, ◌≤◌, ◌⊎◌, ◌+◌, Bool, true, false, List, [], ◌∷◌, ◌++◌, length, map, replicate, Option, Some, None, slice_get, slice_set, refl, sym, ap, ◌∙◌, subst, arith, inl, inr, Contains}
+use Rattle.std.specs.Prelude.{IfSome, IsNone, ◌↔◌}
+use Rattle.std.proofs.lemmas.Bool.{cases_eq}
+use Rattle.std.proofs.lemmas.List.{length-set, length-append, length-map}
+use Rattle.std.proofs.lemmas.Option.{none-some, same_Some, slice_get_within}
+use Rattle.slot_pool.specs.Slots.{IsLowestFree, free_count}
+use Rattle.diff_area.proofs.Gets.{get-set}
+use Rattle.diff_area.specs.Records.{free, is_free, AreRecords}
+use Rattle.diff_area.specs.declared.table_record.Record.{Record}
+use Rattle.diff_map.specs.Copies.{copied_at, copy_of, HasCopy}
+use Rattle.diff_map.specs.MapValue.{MapValue, IsMap}
+use Rattle.diff_map.specs.declared.copied.Copied.{Copied}
+use Rattle.cow_volume.specs.Calls.{sets_in, is_among}
+use Rattle.cow_volume.specs.Tied.{copied_for, AreTied, AreOfImages, images_of}
+use Rattle.cow_volume.specs.Resuming.{HasImage, AllHaveImages}
+use Rattle.cow_volume.specs.TakingUp.{mixed, unnoted, unused, used, IsTakenUp, AreTakenUp}
+use Rattle.cow_volume.proofs.Counting.{used_record, within}
+use Rattle.cow_volume.proofs.DroppingNewer.{among_of, contains_of}
+use Rattle.cow_volume.proofs.MixedRows.{mixed-all, mixed-set, mixed-same, mixed-before, mixed-from}
+use Rattle.cow_volume.proofs.Rows.{get_inside, map-from, copied_for-is, copied_for-other, copied_for-free, record-from}
+use Rattle.cow_volume.proofs.Ties.{free_is, taken_lowest}
+
+-- ## maps without copies
+
+rows_without : (records : List Record) → replicate (length records) None ≡ map unnoted records
+rows_without [] = refl
+rows_without (r ∷ rs) = ap (λ xs. None ∷ xs) (rows_without rs)
+
+pub map_begun : (volumes : List ℕ) (records : List Record) (images : List (List ℕ)) (v n slots : ℕ) (sets : List ℕ) (m : MapValue) → m ≡ record { blocks = n; images = sets; copies = replicate slots None } → slots ≡ length records
+    → slice_get volumes v ≡ Some n → slice_get images v ≡ Some sets → IsMap m → IsTakenUp volumes records images 0 v m
+map_begun volumes records images v n slots sets m is long blocks row valid = record {
+  blocks = blocks ∙ ap (λ (x : MapValue). Some x.blocks) (sym is);
+  sets = row ∙ ap (λ (x : MapValue). Some x.images) (sym is);
+  copies = ap (λ (x : MapValue). x.copies) is ∙ ap (λ k. replicate k None) long ∙ rows_without records;
+  valid = valid;
+}
+
+pushed_at : {X : Type 0} (xs : List X) (x : X) (v : ℕ) (y : X) → slice_get (xs ++ x ∷ []) v ≡ Some y → ((v ≡ length xs) × (x ≡ y)) ⊎ (slice_get xs v ≡ Some y)
+pushed_at [] x zero y h = inl (refl, same_Some x y h)
+pushed_at [] x (suc v) y h = absurd (none-some y h)
+pushed_at (z ∷ zs) x zero y h = inr h
+pushed_at (z ∷ zs) x (suc v) y h = elim (pushed_at zs x v y h) [
+  | inl here ↦ inl (ap suc here.0, here.1)
+  | inr old ↦ inr old
+]
+
+pub maps_more : (volumes : List ℕ) (records : List Record) (images : List (List ℕ)) (v : ℕ) (maps new : List MapValue) (m : MapValue) → AreTakenUp volumes records images 0 v maps → IsTakenUp volumes records images 0 v m → new ≡ maps ++ m ∷ [] → AreTakenUp volumes records images 0 (v + 1) new
+maps_more volumes records images v maps new m up one is = record {
+  number = (let long = ap length is in let more = length-append maps (m ∷ []) in let had = up.number in omega arith);
+  each = λ u w h. elim (pushed_at maps m u w (ap (λ (ms : List MapValue). slice_get ms u) (sym is) ∙ h)) [
+    | inl here ↦ (
+        let number = up.number in
+        let same : v ≡ u = sym number ∙ sym here.0 in
+        subst (λ (k : ℕ). IsTakenUp volumes records images 0 k w) same (subst (λ (x : MapValue). IsTakenUp volumes records images 0 v x) here.1 one))
+    | inr old ↦ up.each u w old
+  ];
+}
+
+pub maps_none : (volumes : List ℕ) (records : List Record) (images : List (List ℕ)) → AreTakenUp volumes records images 0 0 []
+maps_none volumes records images = record { number = refl; each = λ v m h. absurd (none-some m h) }
+
+-- ## one record more
+
+-- the row of the next record, where it is of no copy of the volume
+pub map_same : (volumes : List ℕ) (records : List Record) (images : List (List ℕ)) (k v : ℕ) (m : MapValue) (r : Record) → slice_get records k ≡ Some r → copied_for v r ≡ None → IsTakenUp volumes records images k v m → IsTakenUp volumes records images (k + 1) v m
+map_same volumes records images k v m r at none up = record {
+  blocks = up.blocks;
+  sets = up.sets;
+  copies = up.copies ∙ sym (mixed-same (copied_for v) unnoted k records r at none);
+  valid = up.valid;
+}
+
+pub maps_same : (volumes : List ℕ) (records : List Record) (images : List (List ℕ)) (k count : ℕ) (maps : List MapValue) (r : Record) → slice_get records k ≡ Some r → is_free r ≡ true → AreTakenUp volumes records images k count maps → AreTakenUp volumes records images (k + 1) count maps
+maps_same volumes records images k count maps r at free up = record {
+  number = up.number;
+  each = λ v m h. map_same volumes records images k v m r at (ap (copied_for v) (free_is r free) ∙ copied_for-free v) (up.each v m h);
+}
+
+-- what the map of a record's volume needs so that it notes the slot
+pub some_set : (volumes : List ℕ) (records : List Record) (k : ℕ) (r : Record) → AreRecords volumes records → slice_get records k ≡ Some r → is_free r ≡ false → 0 < r.set
+some_set volumes records k r are at is_used = (are.each k r at (used_record r is_used)).set
+
+pub map_unnoted : (volumes : List ℕ) (records : List Record) (images : List (List ℕ)) (k v : ℕ) (m : MapValue) (r : Record) → slice_get records k ≡ Some r → IsTakenUp volumes records images k v m → slice_get m.copies k ≡ Some None
+map_unnoted volumes records images k v m r at up = ap (λ (cs : List (Option Copied)). slice_get cs k) up.copies ∙ mixed-from (copied_for v) unnoted k records k r (omega arith) at
+
+-- an entry of the rows so far is of a record before
+noted_before : (v : ℕ) (records : List Record) (k slot : ℕ) (c : Copied) → copied_at (mixed (copied_for v) unnoted k records) slot ≡ Some c → (r : Record) × (slot < k) × (slice_get records slot ≡ Some r) × (copied_for v r ≡ Some c)
+noted_before v records zero slot c h = absurd (none_from records slot h) where
+  none_from : (rs : List Record) (s : ℕ) → copied_at (map unnoted rs) s ≡ Some c → ⊥
+  none_from [] s e = none-some c e
+  none_from (q ∷ rs) zero e = none-some c e
+  none_from (q ∷ rs) (suc s) e = none_from rs s e
+noted_before v [] (suc k) slot c h = absurd (none-some c h)
+noted_before v (q ∷ rs) (suc k) zero c h = (q, omega arith, refl, h)
+noted_before v (q ∷ rs) (suc k) (suc slot) c h = let from = noted_before v rs k slot c h in (from.0, (let l = from.1 in omega arith), from.2, from.3)
+
+pub map_lacks : (volumes : List ℕ) (records : List Record) (images : List (List ℕ)) (k : ℕ) (m : MapValue) (r : Record) → AreRecords volumes records → slice_get records k ≡ Some r → is_free r ≡ false → IsTakenUp volumes records images k r.volume m → HasCopy m.copies r.set r.block → ⊥
+map_lacks volumes records images k m r are at is_used up has =
+    let before = noted_before r.volume records k has.0 (copy_of r.set r.block) (ap (λ (cs : List (Option Copied)). copied_at cs has.0) (sym up.copies) ∙ has.1) in
+    let same = record-from r.volume before.0 (copy_of r.set r.block) before.3 in
+    let once = are.once has.0 k r (before.2 ∙ ap (λ (x : Record). Some x) same.1) at (used_record r is_used) in
+    let low = before.1 in
+    absurd (omega arith)
+
+pub map_has_image : (volumes : List ℕ) (records : List Record) (images : List (List ℕ)) (k : ℕ) (m : MapValue) (r : Record) → HasImage images r → is_free r ≡ false → IsTakenUp volumes records images k r.volume m → Contains m.images r.set
+map_has_image volumes records images k m r has is_used up = contains_of r.set m.images (ap (λ (o : Option (List ℕ)). is_among r.set (sets_in o)) (sym up.sets) ∙ has is_used)
+
+pub map_in_range : (volumes : List ℕ) (records : List Record) (images : List (List ℕ)) (k : ℕ) (m : MapValue) (r : Record) → AreRecords volumes records → slice_get records k ≡ Some r → is_free r ≡ false → IsTakenUp volumes records images k r.volume m → r.block < m.blocks
+map_in_range volumes records images k m r are at is_used up = within volumes records k m.blocks r.volume r are up.blocks at refl (some_set volumes records k r are at is_used)
+
+-- the slot was noted there
+pub maps_noted : (volumes : List ℕ) (records : List Record) (images : List (List ℕ)) (k count : ℕ) (maps new : List MapValue) (m n : MapValue) (r : Record) → AreRecords volumes records → slice_get records k ≡ Some r → is_free r ≡ false → AreTakenUp volumes records images k count maps
+    → slice_get maps r.volume ≡ Some m → n ≡ record m { copies = slice_set m.copies k (Some (copy_of r.set r.block)) } → IsMap n → new ≡ slice_set maps r.volume n → AreTakenUp volumes records images (k + 1) count new
+maps_noted volumes records images k count maps new m n r are at is_used up here is valid set = record {
+  number = ap length set ∙ length-set maps r.volume n ∙ up.number;
+  each = λ u w h. elim (get-set maps r.volume u n w (ap (λ (ms : List MapValue). slice_get ms u) (sym set) ∙ h)) [
+    | inl own ↦ (
+        let its = up.each r.volume m here in
+        let P : ℕ → MapValue → Type 0 = λ x y. IsTakenUp volumes records images (k + 1) x y in
+        let one : P r.volume n = record {
+          blocks = its.blocks ∙ ap (λ (x : MapValue). Some x.blocks) (sym is);
+          sets = its.sets ∙ ap (λ (x : MapValue). Some x.images) (sym is);
+          copies = ap (λ (x : MapValue). x.copies) is ∙ ap (λ (cs : List (Option Copied)). slice_set cs k (Some (copy_of r.set r.block))) its.copies
+              ∙ ap (λ (o : Option Copied). slice_set (mixed (copied_for r.volume) unnoted k records) k o) (sym (copied_for-is r.volume r (some_set volumes records k r are at is_used) refl))
+              ∙ sym (mixed-set (copied_for r.volume) unnoted k records r at);
+          valid = valid;
+        } in
+        subst (λ (x : ℕ). P x w) (sym own.0) (subst (P r.volume) (sym own.1) one))
+    | inr other ↦ map_same volumes records images k u w r at (copied_for-other u r (λ same. other.0 (sym same))) (up.each u w other.1)
+  ];
+}
+
+-- ## which records have their image
+
+pub all_more : (records : List Record) (images : List (List ℕ)) (k : ℕ) (r : Record) → ((slot : ℕ) (q : Record) → slot < k → slice_get records slot ≡ Some q → HasImage images q) → slice_get records k ≡ Some r → HasImage images r → (slot : ℕ) (q : Record) → slot < k + 1 → slice_get records slot ≡ Some q → HasImage images q
+all_more records images k r before at has slot q low h = elim (cases_eq slot k) [
+  | inl same ↦ (
+      let is : r ≡ q = same_Some r q (sym at ∙ ap (slice_get records) (sym same) ∙ h) in
+      subst (λ (x : Record). HasImage images x) is has)
+  | inr other ↦ before slot q (omega arith) h
+]
+
+-- where each record is of an image that its volume has, each has its image
+pub all_have : (volumes : List ℕ) (records : List Record) (images : List (List ℕ)) → AreRecords volumes records → AreOfImages records images → length images ≡ length volumes → AllHaveImages records images
+all_have volumes records images are of many = λ slot r at is_used.
+    let its = are.each slot r at (used_record r is_used) in
+    let low = its.volume in
+    let sets = get_inside images r.volume (omega arith) in
+    ap (λ (o : Option (List ℕ)). is_among r.set (sets_in o)) sets.1 ∙ among_of r.set sets.0 (of.each slot r at its.set sets.0 sets.1)
+
+-- ## all records
+
+same_lists : {X : Type 0} (xs ys : List X) → length xs ≡ length ys → ((v : ℕ) (x : X) → slice_get xs v ≡ Some x → slice_get ys v ≡ Some x) → xs ≡ ys
+same_lists [] [] l each = refl
+same_lists [] (y ∷ ys) l each = absurd (omega arith)
+same_lists (x ∷ xs) [] l each = absurd (omega arith)
+same_lists (x ∷ xs) (y ∷ ys) l each = ap (λ z. z ∷ xs) (sym (same_Some y x (each 0 x refl))) ∙ ap (λ zs. y ∷ zs) (same_lists xs ys (omega arith) (λ v z h. each (suc v) z h))
+
+pub images_all : (volumes : List ℕ) (records : List Record) (images : List (List ℕ)) (k : ℕ) (maps : List MapValue) → AreTakenUp volumes records images k (length volumes) maps → length images ≡ length volumes → images_of maps ≡ images
+images_all volumes records images k maps up many =
+    same_lists (images_of maps) images (length-map maps (λ (m : MapValue). m.images) ∙ up.number ∙ sym many)
+    (λ v sets h.
+    let from = map-from (λ (m : MapValue). m.images) maps v sets h in
+    (up.each v from.0 from.1).sets ∙ ap (λ (s : List ℕ). Some s) from.2)
+
+pub tied_all : (volumes : List ℕ) (records : List Record) (images : List (List ℕ)) (maps : List MapValue) (pool : List Bool) → AreTakenUp volumes records images (length records) (length volumes) maps → pool ≡ map is_free records → AreTied volumes records maps pool
+tied_all volumes records images maps pool up is = record {
+  number = up.number;
+  each = λ v m h.
+      let its = up.each v m h in
+      record { blocks = its.blocks; copies = its.copies ∙ mixed-all (copied_for v) unnoted (length records) records (omega arith); valid = its.valid };
+  pool_is = is;
+}
+
+-- ## the pool
+
+pub slot_taken : (records : List Record) (k : ℕ) (r : Record) (o : Option ℕ) (old new : List Bool) → slice_get records k ≡ Some r → old ≡ mixed used unused k records → IfSome o (IsLowestFree old) → IfSome o (λ s. new ≡ slice_set old s false) → (IsNone o ↔ (free_count old ≡ 0)) → new ≡ mixed used unused (k + 1) records
+slot_taken records k r o old new at is low took none =
+    let lowest : IsLowestFree (mixed used unused k records) k = record {
+      free = mixed-from used unused k records k r (omega arith) at;
+      lowest = λ other l. (let inside = slice_get_within records k r at in let x = get_inside records other (omega arith) in mixed-before used unused k records other x.0 l x.1);
+    } in
+    taken_lowest o old new k (subst (λ (p : List Bool). IsLowestFree p k) (sym is) lowest) low took none
+    ∙ ap (λ (p : List Bool). slice_set p k false) is
+    ∙ sym (mixed-set used unused k records r at)
+
+pub slot_given : (records : List Record) (k : ℕ) (r : Record) (old new : List Bool) → slice_get records k ≡ Some r → is_free r ≡ true → old ≡ mixed is_free used k records → new ≡ slice_set old k true → new ≡ mixed is_free used (k + 1) records
+slot_given records k r old new at free is set = set ∙ ap (λ (p : List Bool). slice_set p k true) is ∙ ap (λ (b : Bool). slice_set (mixed is_free used k records) k b) (sym free) ∙ sym (mixed-set is_free used k records r at)
+
+pub slot_kept : (records : List Record) (k : ℕ) (r : Record) (old : List Bool) → slice_get records k ≡ Some r → is_free r ≡ false → old ≡ mixed is_free used k records → old ≡ mixed is_free used (k + 1) records
+slot_kept records k r old at is_used is = is ∙ sym (mixed-same is_free used k records r at is_used)
+
+pub pool_all : (f g : Record → Bool) (k : ℕ) (records : List Record) (pool : List Bool) → length records ≤ k → pool ≡ mixed f g k records → pool ≡ map f records
+pool_all f g k records pool l is = is ∙ mixed-all f g k records l
+
+pub pool_begun : (records : List Record) (pool : List Bool) (n : ℕ) → n ≡ length records → pool ≡ replicate n true → pool ≡ map unused records
+pool_begun records pool n long is = is ∙ ap (λ k. replicate k true) long ∙ all_unused records where
+  all_unused : (rs : List Record) → replicate (length rs) true ≡ map unused rs
+  all_unused [] = refl
+  all_unused (r ∷ rs) = ap (λ xs. true ∷ xs) (all_unused rs)
+
+pub is_taken : (records : List Record) (k : ℕ) (r : Record) (pool : List Bool) → slice_get records k ≡ Some r → pool ≡ mixed is_free used k records → slice_get pool k ≡ Some false
+is_taken records k r pool at is = ap (λ (p : List Bool). slice_get p k) is ∙ mixed-from is_free used k records k r (omega arith) at

@@ -1,0 +1,8 @@
+use Rattle.std.proofs.Common.{◌≡◌}
+use Rattle.diff_area.specs.Records.{is_free}
+use Rattle.cow_volume.specs.TakingUp.{mixed, used}
+use Rattle.cow_volume.proofs.resuming.give_free_slots.Given as goal
+
+-- the slots so far are as their records say
+abbrev pub invariant-loop-slot : goal.invariant-loop-slot
+invariant-loop-slot g l = l.pool ≡ mixed is_free used l.slot l.area.records

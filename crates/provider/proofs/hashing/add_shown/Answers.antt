@@ -1,0 +1,21 @@
+use Rattle.std.proofs.Common.{◌≡◌, ◌∙◌, ℕ, List, ap, length, sym, subst}
+use Rattle.cow_volume.specs.Calls.{IsShown}
+use Rattle.cow_volume.proofs.GroupSteps.{whole_written}
+use Rattle.provider.proofs.Shown.{some_of}
+use Rattle.provider.proofs.hashing.add_shown.Goals as goal
+
+pub returns-in-Ok-Some-clause-adds : goal.returns-in-Ok-Some-clause-adds
+returns-in-Ok-Some-clause-adds g c = record {
+  bytes = c.in-Ok-Some.bytes.now;
+  is = some_of _ c.in-Ok-Some.field-0 c.in-Ok-Some.bytes c.in-Ok-Some.field-0-is c.in-Ok-Some.ensures.shown;
+  taken = c.add.ensures;
+}
+
+pub returns-in-Ok-clause-adds : goal.returns-in-Ok-clause-adds
+returns-in-Ok-clause-adds g c =
+    let same : c.bytes.result.now ≡ c.read_image_into.new.out = c.bytes.ensures.bytes ∙ whole_written c.args.buffer.now c.read_image_into.new.out (c.read_image_into.auto.out ∙ ap length c.bytes_mut.ensures.bytes) in
+    record {
+      bytes = c.bytes.result.now;
+      is = subst (λ (bytes : List ℕ). IsShown g.D.Device.told c.args.group.now c.args.volume c.args.set c.args.block bytes) (sym same) c.in-Ok.ensures.shown;
+      taken = c.add-in-Ok.ensures;
+    }

@@ -1,0 +1,6 @@
+use Rattle.provider.specs.Hashing.{IsEnd}
+use Rattle.provider.proofs.Hashed.{HasHashed}
+use Rattle.provider.proofs.hashing.digest_of.Given as goal
+
+abbrev pub invariant-loop-block : goal.invariant-loop-block
+invariant-loop-block g l = HasHashed g.D.Device.told g.D.Device.size g.D.Device.count g.D.Device.lending l.initial.group l.group l.volume (IsEnd l.volume) l.block l.hasher
