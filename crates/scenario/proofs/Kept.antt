@@ -1,212 +1,325 @@
--- What is read keeps to the limits, line by line; so the scenario of a whole text does, and is of the kind that is run.
-use Rattle.std.proofs.Common.{◌≡◌, ℕ, ◌+◌, ◌<◌, ◌≤◌, Bool, true, false, cond, List, [], ◌∷◌, ◌++◌, length, map, sum, All, Option, Some, None, IfSome, IsSome, refl, arith, length-append}
-use Rattle.std.specs.List.{list_all, count_by}
-use Rattle.std.proofs.lemmas.List.Sums.{sum_by-append}
-use Rattle.std.proofs.lemmas.List.Elements.{All-nil, All-cons, All-head, All-tail, All-push, All-weaker}
-use Rattle.scenario.specs.declared.op.Op.{Op}
-use Rattle.scenario.specs.declared.op.Op.TheVariants.{WriteFill, WriteStamp, Read, ImageDigest, ImageBlock, Query, Properties, Revert, DeleteSet, DeleteImage, Tick, Begin, Disable, Gather, Component, Document, Start, Add, Prepare, Snapshot, Await, Status, Complete, Abort, End}
+-- What one line says keeps what is read within the limits of the language.
+use Rattle.std.proofs.Common.{◌≡◌, ℕ, ◌+◌, ◌<◌, ◌≤◌, Bool, true, false, List, [], ◌∷◌, ◌++◌, length, map, set, All, Option, Some, None, refl, ap, sym, subst, ◌∙◌, arith, length-append}
+use Rattle.std.specs.Prelude.{slice_get, option_map, if◌then◌else◌}
+use Rattle.std.proofs.lemmas.List.{length-set, map_push, map-set}
+use Rattle.std.proofs.lemmas.List.Elements.{All-nil, All-push, All-same, All-set}
+use Rattle.std.proofs.lemmas.Option.{slice_get_within, slice_get-map, get_or_from_slice_get}
+use Rattle.writer_meta.specs.Metadata.{meta_of}
 use Rattle.scenario.specs.declared.span.Span.{Span}
+use Rattle.scenario.specs.declared.area_row.AreaRow.{AreaRow}
 use Rattle.scenario.specs.declared.volume_row.VolumeRow.{VolumeRow}
+use Rattle.scenario.specs.declared.op.Op.{Op}
 use Rattle.scenario.specs.declared.entry.Entry.{Entry}
 use Rattle.scenario.specs.declared.entry.Entry.TheVariants as entry
-use Rattle.scenario.specs.Plan.{Plan, LaneLine, LanePlan}
-use Rattle.scenario.specs.Bounds.{IsOp, IsName, IsVolume, IsGroup, IsWriter, IsLane, IsInGroup, groups_from, IsPlan, begins_agenda, agenda_lines, ends_sessions}
-use Rattle.scenario.specs.Built.{is_run, begins_once, IsBuilt, IsBuiltLane}
-use Rattle.scenario.specs.Drafts.{DraftValue, with_entry, lanes_of, so_far, IsShortPart, IsRow, IsRanged, IsRunOp, IsDraft, IsEntry}
-use Rattle.scenario.specs.SoFar.{plan_in, own_group, closed, closed_lane, implied_end}
-use Rattle.scenario.proofs.Sessions.{closed_keeps, ends_closed, begins_more}
+use Rattle.scenario.specs.Plan.{GroupPlan, WriterPlan, LaneLine, LanePlan}
+use Rattle.scenario.specs.Bounds.{IsInGroup, begins_agenda}
+use Rattle.scenario.specs.Built.{has_begin}
+use Rattle.scenario.specs.Fields.{bytes_of}
+use Rattle.scenario.specs.Names.{area_names}
+use Rattle.scenario.specs.SoFar.{SoFar, Saying, after, new_area, own_group, area_group, with_answer, with_line, line_count, agenda_count, answer_count}
+use Rattle.scenario.specs.SoFar as saying
+use Rattle.scenario.specs.Drafts.{DraftValue, with_entry, saying_in, names_after, counts_after, agendas_with, IsGroupRow, IsRow, IsAreaRow, IsNth, IsWriterRow, IsRanged, IsLaneRow, IsWithin, AreNames, AreCounts, IsDraft, IsEntry}
+use Rattle.scenario.proofs.Changes.{lines_more, agendas_more, begun_more, lane_names_stay, lane_count_stays, lanes_more, lines_in_new, agendas_in_new, last_is_new, answers_more, writer_names_stay, writer_count_stays, writers_more, answers_in_new}
+use Rattle.scenario.proofs.Groups.{get_last, set_same, numbered_new, numbered_old, all_in_more_groups, in_new_group, in_old_group, areas_with_more_groups}
 
--- ## one line more
+-- ## the limits
 
-no_lane_no_lines : (lane : Option Span) (lines : List LaneLine) → IsSome lane → lane ≡ None → lines ≡ []
-no_lane_no_lines None lines is none = cc is
-no_lane_no_lines (Some name) lines is none = cc none
+no_lanes : (P : LanePlan → Type 0) (lanes : List LanePlan) → lanes ≡ [] → All P lanes
+no_lanes P lanes e = All-same P lanes [] e (All-nil P)
 
-agendas_more : (lines : List LaneLine) (line : LaneLine) → agenda_lines lines ≤ 2000 → (begins_agenda line.op ≡ true → agenda_lines lines < 2000) → agenda_lines (lines ++ line ∷ []) ≤ 2000
-agendas_more lines line few less =
-    let p : LaneLine → Bool = λ (l : LaneLine). begins_agenda l.op in
-    let both : count_by p (lines ++ line ∷ []) ≡ count_by p lines + count_by p (line ∷ []) = sum_by-append (λ (l : LaneLine). cond (p l) 1 0) lines (line ∷ []) in
-    let on : (t : Bool) → begins_agenda line.op ≡ t → agenda_lines (lines ++ line ∷ []) ≤ 2000 =
-    λ t. elim t as (λ v. begins_agenda line.op ≡ v → agenda_lines (lines ++ line ∷ []) ≤ 2000) [
-      | true ↦ λ e. let one : count_by p (line ∷ []) ≡ 1 = rw e refl in let below : agenda_lines lines < 2000 = less e in omega arith
-      | false ↦ λ e. let none : count_by p (line ∷ []) ≡ 0 = rw e refl in omega arith
-    ] in
-    on (begins_agenda line.op) refl
+few_agendas_more : (n : ℕ) (op : Op) → n ≤ 2000 → (begins_agenda op ≡ true → n < 2000) → agendas_with n op ≤ 2000
+few_agendas_more n op few less =
+    let on : (t : Bool) → (t ≡ true → n < 2000) → (if t then n + 1 else n) ≤ 2000 =
+    λ t. elim t as (λ v. (v ≡ true → n < 2000) → (if v then n + 1 else n) ≤ 2000) [ true ↦ λ f. (let below : n < 2000 = f refl in omega arith) | false ↦ λ f. few ] in
+    on (begins_agenda op) less
 
-pub kept : (n : ℕ) (d : DraftValue) (e : Entry) → IsDraft n d → IsEntry n d e → IsDraft n (with_entry d e)
-kept n d entry.Skipped h g = h
-kept n d entry.Opening h g =
-    record { volumes = h.volumes; one_volume = h.one_volume; lane = h.lane; lines = h.lines; few_lines = h.few_lines; few_agendas = h.few_agendas; once = h.once; in_lane = h.in_lane }
-kept n d (entry.Volume row) h g =
-    let none : d.volumes ≡ [] = g.1 in
-    let no_lines : d.lines ≡ [] = h.in_lane g.2 in
+one_volume_more : (rows : List VolumeRow) (row : VolumeRow) → length rows < 128 → length (rows ++ row ∷ []) ≤ 128
+one_volume_more rows row few = omega (arith, length-append rows (row ∷ []))
+
+-- a volume in the group that comes next, whose areas are these
+new_group : (n : ℕ) (d : SoFar) (row : VolumeRow) (g : GroupPlan) (areas : List AreaRow) (size : ℕ) → IsWithin n d → IsRow n row → IsGroupRow n g → length d.volumes < 128 → row.group ≡ length d.groups → row.slots ≡ g.slots
+    → d.size + size ≤ 131072 → d.lanes ≡ [] → All (IsAreaRow n (d.groups ++ g ∷ [])) areas → length areas ≡ length d.areas
+    → IsWithin n (record d { areas = areas; volumes = d.volumes ++ row ∷ []; groups = d.groups ++ g ∷ []; size = d.size + size })
+new_group n d row g areas size h limits group few number slots small none stand same =
     record {
-      volumes = All-push (IsRow n) d.volumes row h.volumes g.0;
-      one_volume = rw none (omega arith);
-      lane = h.lane;
-      lines = rw no_lines (All-nil (λ (l : LaneLine). IsRunOp (d.volumes ++ row ∷ []) l.op));
+      areas = stand;
+      few_areas = let old : length d.areas ≤ 128 = h.few_areas in omega arith;
+      volumes = All-push (IsRow n) d.volumes row h.volumes limits;
+      few_volumes = one_volume_more d.volumes row few;
+      groups = All-push (IsGroupRow n) d.groups g h.groups group;
+      few_groups = let old : length d.groups ≤ length d.volumes = h.few_groups in omega (arith, length-append d.volumes (row ∷ []), length-append d.groups (g ∷ []));
+      in_groups = All-push (IsInGroup (d.groups ++ g ∷ [])) d.volumes row (all_in_more_groups d.groups g d.volumes h.in_groups) (in_new_group d.groups g row number slots);
+      numbered = numbered_new 0 (length d.groups) d.volumes row h.numbered number ∙ ap (λ k. Some k) (omega (arith, length-append d.groups (g ∷ [])));
+      small = small;
+      writers = h.writers;
+      few_writers = h.few_writers;
+      few_answers = h.few_answers;
+      lanes = no_lanes (IsLaneRow n (d.volumes ++ row ∷ []) (length d.writers)) d.lanes none;
+      few_lanes = h.few_lanes;
       few_lines = h.few_lines;
       few_agendas = h.few_agendas;
-      once = h.once;
-      in_lane = h.in_lane;
     }
-kept n d (entry.Lane name) h g =
-    record { volumes = h.volumes; one_volume = h.one_volume; lane = g.0; lines = h.lines; few_lines = h.few_lines; few_agendas = h.few_agendas; once = h.once; in_lane = λ e. cc e }
-kept n d (entry.Line line) h g =
+
+-- a volume in a group that is there
+old_group : (n : ℕ) (d : SoFar) (row : VolumeRow) (g : GroupPlan) (areas : List AreaRow) (size : ℕ) → IsWithin n d → IsRow n row → length d.volumes < 128 → slice_get d.groups row.group ≡ Some g → row.slots ≡ g.slots
+    → d.size + size ≤ 131072 → d.lanes ≡ [] → All (IsAreaRow n d.groups) areas → length areas ≡ length d.areas → IsWithin n (record d { areas = areas; volumes = d.volumes ++ row ∷ []; size = d.size + size })
+old_group n d row g areas size h limits few found slots small none stand same =
+    let within : row.group < length d.groups = slice_get_within d.groups row.group g found in
     record {
+      areas = stand;
+      few_areas = let old : length d.areas ≤ 128 = h.few_areas in omega arith;
+      volumes = All-push (IsRow n) d.volumes row h.volumes limits;
+      few_volumes = one_volume_more d.volumes row few;
+      groups = h.groups;
+      few_groups = let old : length d.groups ≤ length d.volumes = h.few_groups in omega (arith, length-append d.volumes (row ∷ []));
+      in_groups = All-push (IsInGroup d.groups) d.volumes row h.in_groups (in_old_group d.groups g row within found slots);
+      numbered = numbered_old 0 (length d.groups) d.volumes row h.numbered within;
+      small = small;
+      writers = h.writers;
+      few_writers = h.few_writers;
+      few_answers = h.few_answers;
+      lanes = no_lanes (IsLaneRow n (d.volumes ++ row ∷ []) (length d.writers)) d.lanes none;
+      few_lanes = h.few_lanes;
+      few_lines = h.few_lines;
+      few_agendas = h.few_agendas;
+    }
+
+at_all : {X : Type 0} (P : X → Type 0) (xs : List X) (i : ℕ) (x : X) → slice_get xs i ≡ Some x → All P xs → P x
+at_all P xs i x e h = subst P (get_or_from_slice_get xs i x x e) (h i x (slice_get_within xs i x e))
+
+abbrev area_row : Span → ℕ → Option ℕ → AreaRow
+area_row name slots o = record { name = name; slots = slots; group = o }
+
+shared : (n : ℕ) (d : SoFar) (row : VolumeRow) (a : ℕ) (name : Span) (slots : ℕ) (o : Option ℕ) → IsWithin n d → IsRow n row → length d.volumes < 128 → d.size + row.blocks ≤ 131072 → d.lanes ≡ []
+    → slice_get d.areas a ≡ Some (area_row name slots o) → row.group ≡ saying.group_for d.groups (area_row name slots o) → row.slots ≡ slots
+    → IsWithin n (after d (saying.SharedVolume row a (area_row name slots o)))
+shared n d row a name slots None h limits few small none found number same =
+    let g : GroupPlan = record { name = name; slots = slots } in
+    let old : IsAreaRow n d.groups (area_row name slots None) = at_all (IsAreaRow n d.groups) d.areas a (area_row name slots None) found h.areas in
+    let stands : slice_get (d.groups ++ g ∷ []) row.group ≡ Some g = rw number (get_last d.groups g) in
+    new_group n d row g (set d.areas a (area_row name slots (Some row.group))) row.blocks h limits old.declared few number same small none
+    (All-set (IsAreaRow n (d.groups ++ g ∷ [])) d.areas a (area_row name slots (Some row.group)) (record { declared = old.declared; group = stands }) (areas_with_more_groups n d.groups g d.areas h.areas))
+    (length-set d.areas a (area_row name slots (Some row.group)))
+shared n d row a name slots (Some i) h limits few small none found number same =
+    let g : GroupPlan = record { name = name; slots = slots } in
+    let old : IsAreaRow n d.groups (area_row name slots (Some i)) = at_all (IsAreaRow n d.groups) d.areas a (area_row name slots (Some i)) found h.areas in
+    let stands : slice_get d.groups row.group ≡ Some g = rw number old.group in
+    old_group n d row g (set d.areas a (area_row name slots (Some row.group))) row.blocks h limits few stands same small none
+    (All-set (IsAreaRow n d.groups) d.areas a (area_row name slots (Some row.group)) (record { declared = old.declared; group = stands }) h.areas)
+    (length-set d.areas a (area_row name slots (Some row.group)))
+
+pub within_after : (text : List ℕ) (d : DraftValue) (e : Entry) → IsWithin (length text) d.said → IsEntry text d e → IsWithin (length text) (after d.said (saying_in e))
+within_after text d entry.Skipped h g = h
+within_after text d entry.Opening h g =
+    record {
+      areas = h.areas;
+      few_areas = h.few_areas;
       volumes = h.volumes;
-      one_volume = h.one_volume;
-      lane = h.lane;
-      lines = All-push (λ (l : LaneLine). IsRunOp d.volumes l.op) d.lines line h.lines g.0;
-      few_lines = omega (arith, length-append d.lines (line ∷ []), g.1);
-      few_agendas = agendas_more d.lines line h.few_agendas g.3;
-      once = begins_more false d.lines line h.once g.2;
-      in_lane = no_lane_no_lines d.lane (d.lines ++ line ∷ []) g.4;
+      few_volumes = h.few_volumes;
+      groups = h.groups;
+      few_groups = h.few_groups;
+      in_groups = h.in_groups;
+      numbered = h.numbered;
+      small = h.small;
+      writers = h.writers;
+      few_writers = h.few_writers;
+      few_answers = h.few_answers;
+      lanes = h.lanes;
+      few_lanes = h.few_lanes;
+      few_lines = h.few_lines;
+      few_agendas = h.few_agendas;
     }
-
--- ## the whole
-
-op_is : (s : Plan) (op : Op) → IsRanged s.volumes op → IsOp s op
-op_is s (WriteFill v b x) h = h
-op_is s (WriteStamp v b n) h = h
-op_is s (Read v b) h = h
-op_is s (ImageDigest n v) h = h
-op_is s (ImageBlock n v b) h = h
-op_is s (Query v) h = h
-op_is s (Properties n v) h = h
-op_is s (Revert n v) h = h
-op_is s (DeleteSet n) h = tt
-op_is s (DeleteImage n v) h = h
-op_is s (Tick n) h = h
-op_is s (Begin c all) h = tt
-op_is s (Disable w) h = absurd h
-op_is s Gather h = tt
-op_is s (Component w full) h = absurd h
-op_is s Document h = tt
-op_is s Start h = tt
-op_is s (Add v) h = h
-op_is s Prepare h = tt
-op_is s Snapshot h = tt
-op_is s Await h = tt
-op_is s Status h = tt
-op_is s Complete h = tt
-op_is s Abort h = tt
-op_is s End h = tt
-
-all_run : (rows : List VolumeRow) (lines : List LaneLine) → All (λ (l : LaneLine). IsRunOp rows l.op) lines → list_all (λ (x : LaneLine). is_run x.op) lines ≡ true
-all_run rows [] h = refl
-all_run rows (line ∷ lines) h =
-    let first : is_run line.op ≡ true = (All-head (λ (l : LaneLine). IsRunOp rows l.op) line lines h).1 in
-    let later : list_all (λ (x : LaneLine). is_run x.op) lines ≡ true = all_run rows lines (All-tail (λ (l : LaneLine). IsRunOp rows l.op) line lines h) in
-    rw (first, later) refl
-
-closed_run : (rows : List VolumeRow) (lines : List LaneLine) → All (λ (l : LaneLine). IsRunOp rows l.op) lines → All (λ (l : LaneLine). IsRunOp rows l.op) (closed lines)
-closed_run rows lines h =
-    let P : LaneLine → Type 0 = λ (l : LaneLine). IsRunOp rows l.op in
-    closed_keeps (λ ls. All P ls) lines (λ _. h) (All-push P lines implied_end h (tt, refl))
-
-closed_few : (lines : List LaneLine) → length lines ≤ 100000 → length (closed lines) ≤ 100001
-closed_few lines few =
-    closed_keeps (λ ls. length ls ≤ 100001) lines (λ _. omega arith) (omega (arith, length-append lines (implied_end ∷ [])))
-
-closed_agendas : (lines : List LaneLine) → agenda_lines lines ≤ 2000 → agenda_lines (closed lines) ≤ 2000
-closed_agendas lines few =
-    closed_keeps (λ ls. agenda_lines ls ≤ 2000) lines (λ _. few) (agendas_more lines implied_end few (λ e. cc e))
-
-closed_once : (lines : List LaneLine) → begins_once false lines ≡ true → begins_once false (closed lines) ≡ true
-closed_once lines once =
-    closed_keeps (λ ls. begins_once false ls ≡ true) lines (λ _. once) (begins_more false lines implied_end once (λ e. cc e))
-
-closed_ends : (lines : List LaneLine) → ends_sessions (closed lines) ≡ true
-closed_ends lines = closed_keeps (λ ls. ends_sessions ls ≡ true) lines (λ e. e) (ends_closed lines)
-
-name_is : (s : Plan) (name : Span) → IsShortPart (length s.source) name → IsName s name
-name_is s name h = record { is_span = record { ordered = h.part.ordered; within = h.part.within }; short = h.short }
-
-group_is : (s : Plan) (row : VolumeRow) → IsRow (length s.source) row → IsGroup s (own_group row)
-group_is s row h = record { name = name_is s row.name h.name; few_slots = h.few_slots }
-
-groups_are : (s : Plan) (rows : List VolumeRow) → All (IsRow (length s.source)) rows → All (IsGroup s) (map own_group rows)
-groups_are s [] h = All-nil (IsGroup s)
-groups_are s (row ∷ rows) h =
-    All-cons (IsGroup s) (own_group row) (map own_group rows) (group_is s row (All-head (IsRow (length s.source)) row rows h)) (groups_are s rows (All-tail (IsRow (length s.source)) row rows h))
-
--- one volume, in group 0
-in_groups : (n : ℕ) (rows : List VolumeRow) → All (IsRow n) rows → length rows ≤ 1 → All (IsInGroup (map own_group rows)) rows
-in_groups n [] h one = All-nil (IsInGroup [])
-in_groups n (row ∷ []) h one =
-    let alone : row.group ≡ 0 = (All-head (IsRow n) row [] h).alone in
-    All-cons (IsInGroup (own_group row ∷ [])) row [] (record { in_range = rw alone (omega arith); slots = rw alone refl }) (All-nil (IsInGroup (own_group row ∷ [])))
-in_groups n (row ∷ next ∷ rows) h one = absurd (omega arith)
-
-numbered : (n : ℕ) (rows : List VolumeRow) → All (IsRow n) rows → length rows ≤ 1 → groups_from 0 rows ≡ Some (length (map own_group rows))
-numbered n [] h one = refl
-numbered n (row ∷ []) h one =
-    let alone : row.group ≡ 0 = (All-head (IsRow n) row [] h).alone in
-    rw alone refl
-numbered n (row ∷ next ∷ rows) h one = absurd (omega arith)
-
-volume_is : (s : Plan) (row : VolumeRow) → IsRow (length s.source) row → IsVolume s row
-volume_is s row h = record { name = name_is s row.name h.name; some = h.some; most = h.most; few_slots = h.few_slots }
-
-lane_is : (s : Plan) (name : Span) (lines : List LaneLine) → IsShortPart (length s.source) name → All (λ (l : LaneLine). IsRunOp s.volumes l.op) lines →
-    IsLane s (record { name = name; acts_as = None; lines = closed lines })
-lane_is s name lines short run =
+within_after text d (entry.Area area) h g =
     record {
-      name = name_is s name short;
-      whom = tt;
-      ops = All-weaker (λ (l : LaneLine). IsRunOp s.volumes l.op) (λ (l : LaneLine). IsOp s l.op) (λ (l : LaneLine) h. op_is s l.op h.0) (closed lines) (closed_run s.volumes lines run);
-      ends = closed_ends lines;
+      areas = All-push (IsAreaRow (length text) d.said.groups) d.said.areas (new_area area) h.areas (record { declared = g.limits; group = tt });
+      few_areas = let few : length d.said.areas < 128 = g.few in omega (arith, length-append d.said.areas (new_area area ∷ []));
+      volumes = h.volumes;
+      few_volumes = h.few_volumes;
+      groups = h.groups;
+      few_groups = h.few_groups;
+      in_groups = h.in_groups;
+      numbered = h.numbered;
+      small = g.small;
+      writers = h.writers;
+      few_writers = h.few_writers;
+      few_answers = h.few_answers;
+      lanes = h.lanes;
+      few_lanes = h.few_lanes;
+      few_lines = h.few_lines;
+      few_agendas = h.few_agendas;
     }
-
-lanes_are : (s : Plan) (lane : Option Span) (lines : List LaneLine) → IfSome lane (IsShortPart (length s.source)) → All (λ (l : LaneLine). IsRunOp s.volumes l.op) lines →
-    All (IsLane s) (map closed_lane (lanes_of lane lines))
-lanes_are s None lines short run = All-nil (IsLane s)
-lanes_are s (Some name) lines short run = All-cons (IsLane s) (record { name = name; acts_as = None; lines = closed lines }) [] (lane_is s name lines short run) (All-nil (IsLane s))
-
-few_lanes : (lane : Option Span) (lines : List LaneLine) → length (map closed_lane (lanes_of lane lines)) ≤ 1
-few_lanes None lines = omega arith
-few_lanes (Some name) lines = omega arith
-
-few_lines : (lane : Option Span) (lines : List LaneLine) → length lines ≤ 100000 → sum (map (λ (l : LanePlan). length l.lines) (map closed_lane (lanes_of lane lines))) ≤ 100064
-few_lines None lines few = omega arith
-few_lines (Some name) lines few = let closes : length (closed lines) ≤ 100001 = closed_few lines few in omega arith
-
-few_agendas : (lane : Option Span) (lines : List LaneLine) → agenda_lines lines ≤ 2000 → sum (map (λ (l : LanePlan). agenda_lines l.lines) (map closed_lane (lanes_of lane lines))) ≤ 2000
-few_agendas None lines few = omega arith
-few_agendas (Some name) lines few = let closes : agenda_lines (closed lines) ≤ 2000 = closed_agendas lines few in omega arith
-
-built_lanes : (rows : List VolumeRow) (lane : Option Span) (lines : List LaneLine) → All (λ (l : LaneLine). IsRunOp rows l.op) lines → begins_once false lines ≡ true → All IsBuiltLane (map closed_lane (lanes_of lane lines))
-built_lanes rows None lines run once = All-nil IsBuiltLane
-built_lanes rows (Some name) lines run once =
-    All-cons IsBuiltLane (record { name = name; acts_as = None; lines = closed lines }) []
-    (record { alone = refl; run = all_run rows (closed lines) (closed_run rows lines run); once = closed_once lines once })
-    (All-nil IsBuiltLane)
-
-pub plan_is : (text : List ℕ) (d : DraftValue) → length text < 4294967295 → IsDraft (length text) d → IsPlan (plan_in text (so_far d))
-plan_is text d short h =
+within_after text d (entry.OwnVolume row) h g =
+    let v = g.0 in
+    new_group (length text) d.said row (own_group row) d.said.areas (row.blocks + row.slots) h v.limits (record { name = v.limits.name; few_slots = v.limits.few_slots }) v.few g.1 refl v.small v.before_lanes
+    (areas_with_more_groups (length text) d.said.groups (own_group row) d.said.areas h.areas) refl
+within_after text d (entry.SharedVolume row a area) h g =
+    let v = g.0 in
+    shared (length text) d.said row a area.name area.slots area.group h v.limits v.few v.small v.before_lanes g.1.found g.1.group g.1.slots
+within_after text d (entry.Writer name metadata) h g =
+    let writer : WriterPlan = record { name = name; meta = meta_of metadata; script = [] } in
     record {
-      short = short;
-      volumes = All-weaker (IsRow (length text)) (IsVolume (plan_in text (so_far d))) (volume_is (plan_in text (so_far d))) d.volumes h.volumes;
-      few_volumes = omega (arith, h.one_volume);
-      groups = groups_are (plan_in text (so_far d)) d.volumes h.volumes;
-      grouped = record { rows = in_groups (length text) d.volumes h.volumes h.one_volume; numbered = numbered (length text) d.volumes h.volumes h.one_volume };
-      writers = All-nil (IsWriter (plan_in text (so_far d)));
-      few_answers = omega arith;
-      lanes = lanes_are (plan_in text (so_far d)) d.lane d.lines h.lane h.lines;
-      few_lanes = omega (arith, few_lanes d.lane d.lines);
-      few_writers = omega arith;
-      few_lines = few_lines d.lane d.lines h.few_lines;
-      few_agendas = few_agendas d.lane d.lines h.few_agendas;
+      areas = h.areas;
+      few_areas = h.few_areas;
+      volumes = h.volumes;
+      few_volumes = h.few_volumes;
+      groups = h.groups;
+      few_groups = h.few_groups;
+      in_groups = h.in_groups;
+      numbered = h.numbered;
+      small = h.small;
+      writers = All-push (IsWriterRow (length text)) d.said.writers writer h.writers (record { name = g.0.short; allowed = g.1; nths = All-nil IsNth });
+      few_writers = let few : length d.said.writers < 64 = g.2 in omega (arith, length-append d.said.writers (writer ∷ []));
+      few_answers = let old : answer_count d.said.writers ≤ 10000 = h.few_answers in omega (arith, answers_in_new d.said.writers writer refl);
+      lanes = no_lanes (IsLaneRow (length text) d.said.volumes (length (d.said.writers ++ writer ∷ []))) d.said.lanes g.3;
+      few_lanes = h.few_lanes;
+      few_lines = h.few_lines;
+      few_agendas = h.few_agendas;
+    }
+within_after text d (entry.Answer w row) h g =
+    record {
+      areas = h.areas;
+      few_areas = h.few_areas;
+      volumes = h.volumes;
+      few_volumes = h.few_volumes;
+      groups = h.groups;
+      few_groups = h.few_groups;
+      in_groups = h.in_groups;
+      numbered = h.numbered;
+      small = h.small;
+      writers = writers_more (IsWriterRow (length text)) w row d.said.writers (λ x k. record { name = k.name; allowed = k.allowed; nths = All-push IsNth x.script row k.nths g.nth }) h.writers;
+      few_writers = let old : length d.said.writers ≤ 64 = h.few_writers in omega (arith, writer_count_stays w row d.said.writers);
+      few_answers = let few : answer_count d.said.writers < 10000 = g.few in omega (arith, answers_more w row d.said.writers g.known);
+      lanes = no_lanes (IsLaneRow (length text) d.said.volumes (length (with_answer w row d.said.writers))) d.said.lanes g.before_lanes;
+      few_lanes = h.few_lanes;
+      few_lines = h.few_lines;
+      few_agendas = h.few_agendas;
+    }
+within_after text d (entry.Lane name whom) h g =
+    let lane : LanePlan = record { name = name; acts_as = whom; lines = [] } in
+    record {
+      areas = h.areas;
+      few_areas = h.few_areas;
+      volumes = h.volumes;
+      few_volumes = h.few_volumes;
+      groups = h.groups;
+      few_groups = h.few_groups;
+      in_groups = h.in_groups;
+      numbered = h.numbered;
+      small = h.small;
+      writers = h.writers;
+      few_writers = h.few_writers;
+      few_answers = h.few_answers;
+      lanes = All-push (IsLaneRow (length text) d.said.volumes (length d.said.writers)) d.said.lanes lane h.lanes
+          (record { name = g.0.short; whom = g.1; ops = All-nil (λ (l : LaneLine). IsRanged (length text) d.said.volumes (length d.said.writers) l.op) });
+      few_lanes = let few : length d.said.lanes < 64 = g.2 in omega (arith, length-append d.said.lanes (lane ∷ []));
+      few_lines = let old : line_count d.said.lanes ≤ 100000 = h.few_lines in omega (arith, lines_in_new d.said.lanes lane refl);
+      few_agendas = let old : agenda_count d.said.lanes ≤ 2000 = h.few_agendas in omega (arith, agendas_in_new d.said.lanes lane refl);
+    }
+within_after text d (entry.Line line) h g =
+    record {
+      areas = h.areas;
+      few_areas = h.few_areas;
+      volumes = h.volumes;
+      few_volumes = h.few_volumes;
+      groups = h.groups;
+      few_groups = h.few_groups;
+      in_groups = h.in_groups;
+      numbered = h.numbered;
+      small = h.small;
+      writers = h.writers;
+      few_writers = h.few_writers;
+      few_answers = h.few_answers;
+      lanes = lanes_more (IsLaneRow (length text) d.said.volumes (length d.said.writers)) line d.said.lanes
+          (λ l k. record { name = k.name; whom = k.whom; ops = All-push (λ (x : LaneLine). IsRanged (length text) d.said.volumes (length d.said.writers) x.op) l.lines line k.ops g.ranged }) h.lanes;
+      few_lanes = let old : length d.said.lanes ≤ 64 = h.few_lanes in omega (arith, lane_count_stays line d.said.lanes);
+      few_lines = let few : line_count d.said.lanes < 100000 = g.few in omega (arith, lines_more line d.said.lanes g.in_lane);
+      few_agendas = rw (agendas_more line d.said.lanes g.in_lane) (few_agendas_more (agenda_count d.said.lanes) line.op h.few_agendas g.few_agendas);
     }
 
-pub built_is : (text : List ℕ) (d : DraftValue) → IsDraft (length text) d → IsBuilt (plan_in text (so_far d))
-built_is text d h =
+-- ## the names
+
+area_names_stay : (text : List ℕ) (areas : List AreaRow) (a : ℕ) (area : AreaRow) (g : ℕ) → slice_get areas a ≡ Some area → area_names text (set areas a (record area { group = Some g })) ≡ area_names text areas
+area_names_stay text areas a area g found =
+    let name : AreaRow → List ℕ = λ (x : AreaRow). bytes_of text x.name in
+    map-set name areas a (record area { group = Some g }) ∙ set_same (map name areas) a (bytes_of text area.name) (slice_get-map name areas a ∙ ap (λ (o : Option AreaRow). option_map name o) found)
+
+pub names_stay : (text : List ℕ) (d : DraftValue) (e : Entry) → AreNames text d.said d.names → IsEntry text d e → AreNames text (after d.said (saying_in e)) (names_after text d.names (saying_in e))
+names_stay text d entry.Skipped h g = h
+names_stay text d entry.Opening h g = record { areas = h.areas; volumes = h.volumes; writers = h.writers; lanes = h.lanes }
+names_stay text d (entry.Area area) h g =
     record {
-      one_volume = h.one_volume;
-      slots = All-weaker (IsRow (length text)) (λ (r : VolumeRow). r.blocks ≤ r.slots) (λ r g. g.enough_slots) d.volumes h.volumes;
-      own_group = All-weaker (IsRow (length text)) (λ (r : VolumeRow). r.group ≡ 0) (λ r g. g.alone) d.volumes h.volumes;
-      one_lane = few_lanes d.lane d.lines;
-      lanes = built_lanes d.volumes d.lane d.lines h.lines h.once;
-      no_writers = refl;
+      areas = ap (λ xs. xs ++ bytes_of text area.name ∷ []) h.areas ∙ sym (map_push (λ (a : AreaRow). bytes_of text a.name) d.said.areas (new_area area));
+      volumes = h.volumes;
+      writers = h.writers;
+      lanes = h.lanes;
     }
+names_stay text d (entry.OwnVolume row) h g =
+    record {
+      areas = h.areas;
+      volumes = ap (λ xs. xs ++ bytes_of text row.name ∷ []) h.volumes ∙ sym (map_push (λ (r : VolumeRow). bytes_of text r.name) d.said.volumes row);
+      writers = h.writers;
+      lanes = h.lanes;
+    }
+names_stay text d (entry.SharedVolume row a area) h g =
+    record {
+      areas = h.areas ∙ sym (area_names_stay text d.said.areas a area row.group g.1.found);
+      volumes = ap (λ xs. xs ++ bytes_of text row.name ∷ []) h.volumes ∙ sym (map_push (λ (r : VolumeRow). bytes_of text r.name) d.said.volumes row);
+      writers = h.writers;
+      lanes = h.lanes;
+    }
+names_stay text d (entry.Writer name metadata) h g =
+    record {
+      areas = h.areas;
+      volumes = h.volumes;
+      writers = ap (λ xs. xs ++ bytes_of text name ∷ []) h.writers ∙ sym (map_push (λ (w : WriterPlan). bytes_of text w.name) d.said.writers (record { name = name; meta = meta_of metadata; script = [] }));
+      lanes = h.lanes;
+    }
+names_stay text d (entry.Answer w row) h g =
+    record { areas = h.areas; volumes = h.volumes; writers = h.writers ∙ sym (writer_names_stay text w row d.said.writers); lanes = h.lanes }
+names_stay text d (entry.Lane name whom) h g =
+    record {
+      areas = h.areas;
+      volumes = h.volumes;
+      writers = h.writers;
+      lanes = ap (λ xs. xs ++ bytes_of text name ∷ []) h.lanes ∙ sym (map_push (λ (l : LanePlan). bytes_of text l.name) d.said.lanes (record { name = name; acts_as = whom; lines = [] }));
+    }
+names_stay text d (entry.Line line) h g =
+    record { areas = h.areas; volumes = h.volumes; writers = h.writers; lanes = h.lanes ∙ sym (lane_names_stay text line d.said.lanes) }
+
+-- ## the counts
+
+pub counts_stay : (text : List ℕ) (d : DraftValue) (e : Entry) → AreCounts d.said d.counts → IsEntry text d e → AreCounts (after d.said (saying_in e)) (counts_after d.counts (saying_in e))
+counts_stay text d entry.Skipped h g = h
+counts_stay text d entry.Opening h g = record { lines = h.lines; agenda_lines = h.agenda_lines; answers = h.answers; begun = h.begun }
+counts_stay text d (entry.Area area) h g = record { lines = h.lines; agenda_lines = h.agenda_lines; answers = h.answers; begun = h.begun }
+counts_stay text d (entry.OwnVolume row) h g = record { lines = h.lines; agenda_lines = h.agenda_lines; answers = h.answers; begun = h.begun }
+counts_stay text d (entry.SharedVolume row a area) h g = record { lines = h.lines; agenda_lines = h.agenda_lines; answers = h.answers; begun = h.begun }
+counts_stay text d (entry.Writer name metadata) h g =
+    record {
+      lines = h.lines;
+      agenda_lines = h.agenda_lines;
+      answers = h.answers ∙ sym (answers_in_new d.said.writers (record { name = name; meta = meta_of metadata; script = [] }) refl);
+      begun = h.begun;
+    }
+counts_stay text d (entry.Answer w row) h g =
+    record { lines = h.lines; agenda_lines = h.agenda_lines; answers = ap (λ n. n + 1) h.answers ∙ sym (answers_more w row d.said.writers g.known); begun = h.begun }
+counts_stay text d (entry.Lane name whom) h g =
+    let lane : LanePlan = record { name = name; acts_as = whom; lines = [] } in
+    record {
+      lines = h.lines ∙ sym (lines_in_new d.said.lanes lane refl);
+      agenda_lines = h.agenda_lines ∙ sym (agendas_in_new d.said.lanes lane refl);
+      answers = h.answers;
+      begun = sym (ap (λ (ls : List LaneLine). has_begin ls) (last_is_new d.said.lanes lane));
+    }
+counts_stay text d (entry.Line line) h g =
+    record {
+      lines = ap (λ n. n + 1) h.lines ∙ sym (lines_more line d.said.lanes g.in_lane);
+      agenda_lines = ap (λ n. agendas_with n line.op) h.agenda_lines ∙ sym (agendas_more line d.said.lanes g.in_lane);
+      answers = h.answers;
+      begun = rw h.begun (sym (begun_more line d.said.lanes g.in_lane));
+    }
+
+-- ## all of it
+
+pub kept : (text : List ℕ) (d : DraftValue) (e : Entry) → IsDraft text d → IsEntry text d e → IsDraft text (with_entry text d e)
+kept text d e h g = record { within = within_after text d e h.within g; names = names_stay text d e h.names g; counts = counts_stay text d e h.counts g }

@@ -8,7 +8,7 @@ use Rattle.scenario.specs.SoFar.{SoFar, Saying, nothing, after}
 use Rattle.scenario.specs.Entries.{saying_of}
 use Rattle.scenario.specs.Lines.{lines_in}
 use Rattle.scenario.specs.Built.{is_next_built}
-use Rattle.scenario.specs.Grammar.{Reading, IsScenario, IsBad, goes_on, run_only, read_from, reading_of, language_of}
+use Rattle.scenario.specs.Grammar.{Reading, IsBad, goes_on, run_only, read_from, reading_of, language_of}
 
 abbrev pub every : SoFar → Saying → Bool
 every d saying = true

@@ -1,6 +1,13 @@
 pub mod Ranges
 pub mod Values
 pub mod Sessions
+pub mod Taken
+pub mod Tables
+pub mod Changes
+pub mod Groups
 pub mod Kept
+pub mod StillBuilt
+pub mod Whole
+pub mod Stored
 pub mod Language
 pub mod Named

@@ -112,6 +112,8 @@ pub record IsLane (s : Plan) (l : LanePlan) : Type 0 where
   pub whom : IfSome l.acts_as (λ w. w < length s.writers)
   pub ops : All (λ (x : LaneLine). IsOp s x.op) l.lines
   pub ends : ends_sessions l.lines ≡ true
+  -- with the `end` that it may have beside the lines that are counted
+  pub few_lines : length l.lines ≤ 100001
 
 -- ## groups
 
@@ -140,6 +142,7 @@ pub record IsPlan (s : Plan) : Type 0 where
   pub volumes : All (IsVolume s) s.volumes
   pub few_volumes : length s.volumes ≤ 128
   pub groups : All (IsGroup s) s.groups
+  pub few_groups : length s.groups ≤ 128
   pub grouped : AreGrouped s
   pub writers : All (IsWriter s) s.writers
   pub few_answers : sum (map (λ (w : WriterPlan). length w.script) s.writers) ≤ 10000

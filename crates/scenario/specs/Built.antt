@@ -71,8 +71,17 @@ is_next_built d Skipped = true
 is_next_built d Opening = true
 is_next_built d (Area area) = false
 is_next_built d (OwnVolume row) = (length d.volumes == 0) && nat_le row.blocks row.slots
-is_next_built d (SharedVolume row area) = false
+is_next_built d (SharedVolume row a area) = false
 is_next_built d (Writer writer) = false
 is_next_built d (Answer w row) = false
 is_next_built d (Lane name whom) = (length d.lanes == 0) && not (is_some whom)
 is_next_built d (Line line) = is_run line.op && not (is_begin line.op && has_begin (last_lines d.lanes))
+
+-- so what was read so far is of the kind that is run
+pub record IsBuiltSoFar (d : SoFar) : Type 0 where
+  pub one_volume : length d.volumes ≤ 1
+  pub slots : All (λ (r : VolumeRow). r.blocks ≤ r.slots) d.volumes
+  pub own_group : All (λ (r : VolumeRow). r.group ≡ 0) d.volumes
+  pub one_lane : length d.lanes ≤ 1
+  pub lanes : All IsBuiltLane d.lanes
+  pub no_writers : d.writers ≡ []

@@ -15,10 +15,12 @@ use Rattle.writer_calls.specs.Script.{is_row_for}
 use Rattle.scenario.specs.declared.reason.Reason.{Reason}
 use Rattle.scenario.specs.declared.reason.Reason.TheVariants.{UnknownWord, BadCount, BadName, DoubleName, UnknownName, BadDocument, TooMany}
 use Rattle.scenario.specs.declared.span.Span.{Span}
+use Rattle.scenario.specs.declared.area_row.AreaRow.{AreaRow}
 use Rattle.scenario.specs.declared.volume_row.VolumeRow.{VolumeRow}
+use Rattle.scenario.specs.declared.asked.Asked.{Asked}
 use Rattle.scenario.specs.declared.fields.Fields.{Fields}
 use Rattle.scenario.specs.declared.fields.Fields.TheVariants.{One, Two, Three, Four, Five}
-use Rattle.scenario.specs.Plan.{GroupPlan, WriterPlan, script_in}
+use Rattle.scenario.specs.Plan.{WriterPlan, script_in}
 use Rattle.scenario.specs.Fields.{bytes_of}
 use Rattle.scenario.specs.Names.{is_name, area_named, volume_named, writer_named, lane_named}
 use Rattle.scenario.specs.Ops.{◌>>=◌, number_field, writer_field, is_word}
@@ -41,7 +43,7 @@ abbrev pub has_space : SoFar → ℕ → Bool
 has_space d size = nat_le (d.size + size) 131072
 
 -- `area name slots`
-abbrev pub area_of : List ℕ → SoFar → Fields → Result Saying Reason
+unfoldable pub area_of : List ℕ → SoFar → Fields → Result Saying Reason
 area_of text d (Two name slots) = do
   n ← name_field text (is_some (area_named text d.areas (bytes_of text name))) name
   s ← number_field text 0 65536 slots
@@ -70,28 +72,26 @@ own_volume_of text d name blocks slots = do
   s ← number_field text 0 65536 slots
   if has_volume_room d (b + s) then Ok (saying.OwnVolume (own_row d n b s)) else Err TooMany
 
-abbrev pub shared_row : SoFar → Span → ℕ → GroupPlan → VolumeRow
+abbrev pub shared_row : SoFar → Span → ℕ → AreaRow → VolumeRow
 shared_row d name blocks area = record { name = name; blocks = blocks; slots = area.slots; group = group_for d.groups area }
 
--- a declared area with the place that its name was found at
-abbrev pub area_at : Option GroupPlan → Result GroupPlan Reason
-area_at found = ok_or found UnknownName
+abbrev pub area_at : ℕ → Option AreaRow → Result (ℕ × AreaRow) Reason
+area_at a None = Err UnknownName
+area_at a (Some area) = Ok (a, area)
 
-abbrev pub area_in : List GroupPlan → Option ℕ → Option GroupPlan
-area_in areas None = None
-area_in areas (Some a) = slice_get areas a
+-- a declared area, with its number
+unfoldable pub area_field : List ℕ → List AreaRow → Span → Result (ℕ × AreaRow) Reason
+area_field text areas span = ok_or (area_named text areas (bytes_of text span)) UnknownName >>= (λ a. area_at a (slice_get areas a))
 
-abbrev pub area_field : List ℕ → List GroupPlan → Span → Result GroupPlan Reason
-area_field text areas span = area_at (area_in areas (area_named text areas (bytes_of text span)))
+abbrev pub shared_if : SoFar → Span → ℕ → ℕ → AreaRow → Result Saying Reason
+shared_if d name blocks a area = if has_volume_room d blocks then Ok (saying.SharedVolume (shared_row d name blocks area) a area) else Err TooMany
 
 -- `volume name blocks in area`
 unfoldable pub shared_volume_of : List ℕ → SoFar → Span → Span → Span → Span → Result Saying Reason
 shared_volume_of text d name blocks kind area = do
   n ← new_volume text d name
   b ← blocks_field text blocks
-  if is_word text kind (codes "in")
-      then (area_field text d.areas area >>= (λ a. if has_volume_room d b then Ok (saying.SharedVolume (shared_row d n b a) a) else Err TooMany))
-      else Err UnknownWord
+  if is_word text kind (codes "in") then (area_field text d.areas area >>= (λ p. shared_if d n b p.0 p.1)) else Err UnknownWord
 
 abbrev pub volume_of : List ℕ → SoFar → Fields → Result Saying Reason
 volume_of text d (Three name blocks slots) = own_volume_of text d name blocks slots
@@ -107,12 +107,16 @@ described (Err refusal) = Err BadDocument
 abbrev pub document_field : List ℕ → Span → Result Meta Reason
 document_field text span = described (metadata_in (bytes_of text span))
 
--- `writer name rest`, the rest a metadata document; at most 64 writers
-abbrev pub writer_of : List ℕ → SoFar → Fields → Result Saying Reason
-writer_of text d (Two name document) = do
-  n ← name_field text (is_some (writer_named text d.writers (bytes_of text name))) name
-  meta ← document_field text document
-  if nat_lt (length d.writers) 64 then Ok (saying.Writer (record { name = n; meta = meta; script = [] })) else Err TooMany
+abbrev pub new_writer : List ℕ → SoFar → Span → Result Span Reason
+new_writer text d name = name_field text (is_some (writer_named text d.writers (bytes_of text name))) name
+
+-- at most 64 writers
+abbrev pub writer_if : SoFar → Span → Meta → Result Saying Reason
+writer_if d name meta = if nat_lt (length d.writers) 64 then Ok (saying.Writer (record { name = name; meta = meta; script = [] })) else Err TooMany
+
+-- `writer name rest`, the rest a metadata document
+unfoldable pub writer_of : List ℕ → SoFar → Fields → Result Saying Reason
+writer_of text d (Two name document) = new_writer text d name >>= (λ n. document_field text document >>= writer_if d n)
 writer_of text d _ = Err BadCount
 
 abbrev pub order_field : List ℕ → Span → Result Order Reason
@@ -121,30 +125,42 @@ order_field text span = ok_or (order_of_name (bytes_of text span)) UnknownWord
 abbrev pub code_field : List ℕ → Span → Result WriterError Reason
 code_field text span = ok_or (error_of_name (bytes_of text span)) UnknownWord
 
--- which order of a writer an `answer` line speaks of: no line before it does
+-- whether a line before speaks of this order of a writer
+abbrev pub is_answered : List WriterPlan → ℕ → Order → ℕ → Bool
+is_answered writers w order nth = is_some (find (is_row_for order nth) (script_in (slice_get writers w)))
+
+abbrev pub new_nth : List WriterPlan → ℕ → Order → ℕ → Result ℕ Reason
+new_nth writers w order nth = if is_answered writers w order nth then Err DoubleName else Ok nth
+
 abbrev pub nth_field : List ℕ → List WriterPlan → ℕ → Order → Span → Result ℕ Reason
-nth_field text writers w order span =
-    number_field text 1 2000 span >>= (λ n. if is_some (find (is_row_for order n) (script_in (slice_get writers w))) then Err DoubleName else Ok n)
+nth_field text writers w order span = number_field text 1 2000 span >>= new_nth writers w order
+
+-- which order of which writer an `answer` line speaks of
+unfoldable pub asked_of : List ℕ → List WriterPlan → Span → Span → Span → Result Asked Reason
+asked_of text writers writer order nth = do
+  w ← writer_field text writers writer
+  o ← order_field text order
+  n ← nth_field text writers w o nth
+  Ok (record { writer = w; order = o; nth = n })
+
+abbrev pub row_for : Asked → Option Answer → Scripted
+row_for asked answer = record { order = asked.order; nth = asked.nth; answer = answer }
 
 -- at most 10,000 `answer` lines
-abbrev pub answer_if : SoFar → ℕ → Scripted → Result Saying Reason
-answer_if d w row = if nat_lt (answer_count d.writers) 10000 then Ok (saying.Answer w row) else Err TooMany
+abbrev pub answer_if : SoFar → Asked → Option Answer → Result Saying Reason
+answer_if d asked answer = if nat_lt (answer_count d.writers) 10000 then Ok (saying.Answer asked.writer (row_for asked answer)) else Err TooMany
 
-abbrev pub row_for : Order → ℕ → Option Answer → Scripted
-row_for order nth answer = record { order = order; nth = nth; answer = answer }
+abbrev pub lost_if : List ℕ → SoFar → Span → Asked → Result Saying Reason
+lost_if text d kind asked = if is_word text kind (codes "lost") then answer_if d asked None else Err UnknownWord
+
+abbrev pub veto_if : List ℕ → SoFar → Span → Span → Asked → Result Saying Reason
+veto_if text d kind code asked =
+    if is_word text kind (codes "veto") then (code_field text code >>= (λ error. answer_if d asked (Some (Veto error)))) else Err UnknownWord
 
 -- `answer writer order nth lost`, `answer writer order nth veto code`
-abbrev pub answer_of : List ℕ → SoFar → Fields → Result Saying Reason
-answer_of text d (Four writer order nth kind) = do
-  w ← writer_field text d.writers writer
-  o ← order_field text order
-  n ← nth_field text d.writers w o nth
-  if is_word text kind (codes "lost") then answer_if d w (row_for o n None) else Err UnknownWord
-answer_of text d (Five writer order nth kind code) = do
-  w ← writer_field text d.writers writer
-  o ← order_field text order
-  n ← nth_field text d.writers w o nth
-  if is_word text kind (codes "veto") then (code_field text code >>= (λ error. answer_if d w (row_for o n (Some (Veto error))))) else Err UnknownWord
+unfoldable pub answer_of : List ℕ → SoFar → Fields → Result Saying Reason
+answer_of text d (Four writer order nth kind) = asked_of text d.writers writer order nth >>= lost_if text d kind
+answer_of text d (Five writer order nth kind code) = asked_of text d.writers writer order nth >>= veto_if text d kind code
 answer_of text d _ = Err BadCount
 
 -- ## lanes

@@ -1,7 +1,7 @@
 -- What one line says after the lines before it, or why it is refused. Within a line the checks come in this order: its
 -- bytes, its newline, its first word, its place, the number of its fields, the fields from left to right, the limits. A
 -- line that is skipped is checked for its bytes and its newline alone. (This project's own format and limits.)
-use Rattle.std.specs.Prelude.{ℕ, ◌+◌, ◌==◌, ◌&&◌, ◌||◌, Bool, not, List, [], ◌∷◌, length, slice_index, nat_le, nat_lt, if◌then◌else◌, Option, Some, None, Result, Ok, Err}
+use Rattle.std.specs.Prelude.{ℕ, ◌==◌, ◌&&◌, ◌||◌, Bool, not, List, [], ◌∷◌, length, slice_index, nat_le, nat_lt, if◌then◌else◌, Option, Some, None, Result, Ok, Err}
 use Rattle.std.specs.List.{list_all}
 use Rattle.scenario.specs.declared.op.Op.{Op}
 use Rattle.scenario.specs.declared.reason.Reason.{Reason}

@@ -2,6 +2,8 @@ pub mod Plan
 pub mod Calls
 pub mod Bounds
 pub mod Built
+pub mod Keys
+pub mod Rows
 pub mod Views
 pub mod Grammar
 pub mod Lines

@@ -35,7 +35,7 @@ unfoldable pub volume_field : List ℕ → List VolumeRow → Span → Result �
 volume_field text rows span = ok_or (volume_named text rows (bytes_of text span)) UnknownName
 
 -- the name of a writer
-abbrev pub writer_field : List ℕ → List WriterPlan → Span → Result ℕ Reason
+unfoldable pub writer_field : List ℕ → List WriterPlan → Span → Result ℕ Reason
 writer_field text writers span = ok_or (writer_named text writers (bytes_of text span)) UnknownName
 
 -- a block of the volume
@@ -87,26 +87,43 @@ image_of text rows (Three set volume block) = do
   Ok (op.ImageBlock s v b)
 image_of text rows _ = Err BadCount
 
+-- a volume alone
+unfoldable pub volume_alone : List ℕ → List VolumeRow → Fields → Result ℕ Reason
+volume_alone text rows (One volume) = volume_field text rows volume
+volume_alone text rows _ = Err BadCount
+
+-- a writer alone
+unfoldable pub writer_alone : List ℕ → List WriterPlan → Fields → Result ℕ Reason
+writer_alone text writers (One writer) = writer_field text writers writer
+writer_alone text writers _ = Err BadCount
+
+-- a set and a volume
+unfoldable pub set_and_volume : List ℕ → List VolumeRow → Fields → Result (ℕ × ℕ) Reason
+set_and_volume text rows (Two set volume) = do
+  s ← set_field text set
+  v ← volume_field text rows volume
+  Ok (s, v)
+set_and_volume text rows _ = Err BadCount
+
 -- `query volume`
-unfoldable pub query_of : List ℕ → List VolumeRow → Fields → Result Op Reason
-query_of text rows (One volume) = volume_field text rows volume >>= (λ v. Ok (op.Query v))
-query_of text rows _ = Err BadCount
+abbrev pub query_of : List ℕ → List VolumeRow → Fields → Result Op Reason
+query_of text rows fields = volume_alone text rows fields >>= (λ v. Ok (op.Query v))
+
+-- `add volume`
+abbrev pub add_of : List ℕ → List VolumeRow → Fields → Result Op Reason
+add_of text rows fields = volume_alone text rows fields >>= (λ v. Ok (op.Add v))
 
 -- `properties set volume`
-unfoldable pub properties_of : List ℕ → List VolumeRow → Fields → Result Op Reason
-properties_of text rows (Two set volume) = do
-  s ← set_field text set
-  v ← volume_field text rows volume
-  Ok (op.Properties s v)
-properties_of text rows _ = Err BadCount
+abbrev pub properties_of : List ℕ → List VolumeRow → Fields → Result Op Reason
+properties_of text rows fields = set_and_volume text rows fields >>= (λ p. Ok (op.Properties p.0 p.1))
 
 -- `revert set volume`
-unfoldable pub revert_of : List ℕ → List VolumeRow → Fields → Result Op Reason
-revert_of text rows (Two set volume) = do
-  s ← set_field text set
-  v ← volume_field text rows volume
-  Ok (op.Revert s v)
-revert_of text rows _ = Err BadCount
+abbrev pub revert_of : List ℕ → List VolumeRow → Fields → Result Op Reason
+revert_of text rows fields = set_and_volume text rows fields >>= (λ p. Ok (op.Revert p.0 p.1))
+
+-- `disable writer`
+abbrev pub disable_of : List ℕ → List WriterPlan → Fields → Result Op Reason
+disable_of text writers fields = writer_alone text writers fields >>= (λ w. Ok (op.Disable w))
 
 -- `delete set`, `delete set volume`
 unfoldable pub delete_of : List ℕ → List VolumeRow → Fields → Result Op Reason
@@ -130,20 +147,10 @@ begin_of text (Two context all) = do
   if is_word text all (codes "all") then Ok (op.Begin n true) else Err UnknownWord
 begin_of text _ = Err BadCount
 
--- `disable writer`
-abbrev pub disable_of : List ℕ → List WriterPlan → Fields → Result Op Reason
-disable_of text writers (One writer) = writer_field text writers writer >>= (λ w. Ok (op.Disable w))
-disable_of text writers _ = Err BadCount
-
 -- `component writer rest`, the rest a full name
-abbrev pub component_of : List ℕ → List WriterPlan → Fields → Result Op Reason
+unfoldable pub component_of : List ℕ → List WriterPlan → Fields → Result Op Reason
 component_of text writers (Two writer full) = writer_field text writers writer >>= (λ w. Ok (op.Component w full))
 component_of text writers _ = Err BadCount
-
--- `add volume`
-unfoldable pub add_of : List ℕ → List VolumeRow → Fields → Result Op Reason
-add_of text rows (One volume) = volume_field text rows volume >>= (λ v. Ok (op.Add v))
-add_of text rows _ = Err BadCount
 
 -- a word alone
 abbrev pub alone : Op → Fields → Result Op Reason

@@ -4,14 +4,14 @@ use Rattle.std.specs.Prelude.{ℕ, List, [], map, ◌==◌, Option, Some, None, 
 use Rattle.write_history.specs.Slots.{Placed}
 use Rattle.writer_meta.specs.Metadata.{Meta}
 use Rattle.writer_calls.specs.declared.scripted.Scripted.{Scripted}
+use Rattle.scenario.specs.declared.group_row.GroupRow.{GroupRow as DeclaredGroup}
 use Rattle.scenario.specs.declared.lane_line.LaneLine.{LaneLine as DeclaredLine}
 use Rattle.scenario.specs.declared.span.Span.{Span}
 use Rattle.scenario.specs.declared.volume_row.VolumeRow.{VolumeRow}
 
 -- the volumes that share one diff area: those of a declared area, or a volume alone
-pub record GroupPlan : Type 0 where
-  pub name : Span
-  pub slots : ℕ
+abbrev pub GroupPlan : Type 0
+GroupPlan = DeclaredGroup
 
 pub record WriterPlan : Type 0 where
   pub name : Span

@@ -1,18 +1,18 @@
 -- What the lines of a text say that were read so far, and what one more line adds. (This project's own format.)
-use Rattle.std.specs.Prelude.{ℕ, ◌+◌, ◌-◌, ◌++◌, ◌==◌, Bool, true, false, List, [], ◌∷◌, length, map, sum, Option, Some, None, if◌then◌else◌}
-use Rattle.std.specs.List.{position_or_len}
+use Rattle.std.specs.Prelude.{ℕ, zero, suc, ◌+◌, ◌++◌, Bool, true, false, List, [], ◌∷◌, length, map, sum, slice_set, unwrap_or, is_some, Option, Some, None, if◌then◌else◌}
 use Rattle.writer_calls.specs.declared.scripted.Scripted.{Scripted}
 use Rattle.scenario.specs.declared.op.Op.TheVariants.{End}
 use Rattle.scenario.specs.declared.span.Span.{Span}
 use Rattle.scenario.specs.declared.volume_row.VolumeRow.{VolumeRow}
+use Rattle.scenario.specs.declared.area_row.AreaRow.{AreaRow}
 use Rattle.scenario.specs.Plan.{Plan, GroupPlan, WriterPlan, LaneLine, LanePlan}
 use Rattle.scenario.specs.Bounds.{ends_sessions, agenda_lines}
 
 pub record SoFar : Type 0 where
   -- the `scenario` line was read
   pub opened : Bool
-  -- those that `area` lines declare
-  pub areas : List GroupPlan
+  -- those that `area` lines declare, each with the number of its group once a volume is in it
+  pub areas : List AreaRow
   pub volumes : List VolumeRow
   -- the areas that volumes use, by the first volume of each
   pub groups : List GroupPlan
@@ -34,8 +34,8 @@ pub data Saying : Type 0 where
   Area : GroupPlan → Saying
   -- a volume with an area of its own
   OwnVolume : VolumeRow → Saying
-  -- a volume in a declared area
-  SharedVolume : VolumeRow → GroupPlan → Saying
+  -- a volume in a declared area, which has this number and stood so
+  SharedVolume : VolumeRow → ℕ → AreaRow → Saying
   Writer : WriterPlan → Saying
   -- a row of a writer's script
   Answer : ℕ → Scripted → Saying
@@ -50,20 +50,31 @@ pub data Saying : Type 0 where
 abbrev pub own_group : VolumeRow → GroupPlan
 own_group r = record { name = r.name; slots = r.slots }
 
--- the number of a declared area's group: that of its first volume, or the next number. A name stands in one place of the
--- text, which tells declared areas apart.
-abbrev pub group_for : List GroupPlan → GroupPlan → ℕ
-group_for groups area = position_or_len (λ (g : GroupPlan). g.name.start == area.name.start) groups
+-- a declared area that no volume is in
+abbrev pub new_area : GroupPlan → AreaRow
+new_area area = record { name = area.name; slots = area.slots; group = None }
 
--- the groups with that of a volume in a declared area, whose group has this number
-abbrev pub with_group : ℕ → GroupPlan → List GroupPlan → List GroupPlan
-with_group g area groups = if g == length groups then groups ++ area ∷ [] else groups
+-- the group of a declared area
+abbrev pub area_group : AreaRow → GroupPlan
+area_group area = record { name = area.name; slots = area.slots }
+
+-- the number of a declared area's group: the one that it has, or the next number
+abbrev pub group_for : List GroupPlan → AreaRow → ℕ
+group_for groups area = unwrap_or area.group (length groups)
+
+-- the groups with that of a declared area
+abbrev pub with_group : AreaRow → List GroupPlan → List GroupPlan
+with_group area groups = if is_some area.group then groups else groups ++ area_group area ∷ []
+
+-- the areas, where the one of number a has this group
+abbrev pub with_area_group : ℕ → AreaRow → ℕ → List AreaRow → List AreaRow
+with_area_group a area g areas = slice_set areas a (record area { group = Some g })
 
 -- a row more in the script of writer w
 abbrev pub with_answer : ℕ → Scripted → List WriterPlan → List WriterPlan
 with_answer w row [] = []
-with_answer w row (writer ∷ writers) =
-    if w == 0 then record writer { script = writer.script ++ row ∷ [] } ∷ writers else writer ∷ with_answer (w - 1) row writers
+with_answer zero row (writer ∷ writers) = record writer { script = writer.script ++ row ∷ [] } ∷ writers
+with_answer (suc w) row (writer ∷ writers) = writer ∷ with_answer w row writers
 
 -- a line more in the last lane
 abbrev pub with_line : LaneLine → List LanePlan → List LanePlan
@@ -76,9 +87,10 @@ with_line line (lane ∷ next ∷ lanes) = lane ∷ with_line line (next ∷ lan
 abbrev pub after : SoFar → Saying → SoFar
 after d Skipped = d
 after d Opening = record d { opened = true }
-after d (Area area) = record d { areas = d.areas ++ area ∷ []; size = d.size + area.slots }
+after d (Area area) = record d { areas = d.areas ++ new_area area ∷ []; size = d.size + area.slots }
 after d (OwnVolume row) = record d { volumes = d.volumes ++ row ∷ []; groups = d.groups ++ own_group row ∷ []; size = d.size + (row.blocks + row.slots) }
-after d (SharedVolume row area) = record d { volumes = d.volumes ++ row ∷ []; groups = with_group row.group area d.groups; size = d.size + row.blocks }
+after d (SharedVolume row a area) =
+    record d { areas = with_area_group a area row.group d.areas; volumes = d.volumes ++ row ∷ []; groups = with_group area d.groups; size = d.size + row.blocks }
 after d (Writer writer) = record d { writers = d.writers ++ writer ∷ [] }
 after d (Answer w row) = record d { writers = with_answer w row d.writers }
 after d (Lane name whom) = record d { lanes = d.lanes ++ record { name = name; acts_as = whom; lines = [] } ∷ [] }

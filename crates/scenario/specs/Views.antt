@@ -1,22 +1,20 @@
 -- What a contract sees of a scenario that was read: its plan.
-use Rattle.std.specs.Prelude.{ℕ, List, [], map, None}
+use Rattle.std.specs.Prelude.{ℕ, List, map}
 use Rattle.scenario.specs.declared.volume_row.VolumeRow.{VolumeRow}
+use Rattle.scenario.specs.declared.writer.Writer.{Writer}
 use Rattle.scenario.specs.declared.lane.Lane.{Lane}
 use Rattle.scenario.specs.declared.scenario.Scenario.TheInside.{Inside}
-use Rattle.scenario.specs.Plan.{Plan, LanePlan}
-use Rattle.scenario.specs.SoFar.{own_group}
+use Rattle.scenario.specs.Plan.{Plan, GroupPlan}
+use Rattle.scenario.specs.Rows.{writer_plan, lane_plan}
 
-abbrev pub lane_plan : Lane → LanePlan
-lane_plan l = record { name = l.name; acts_as = None; lines = l.lines.items }
-
-abbrev pub plan_from : List ℕ → List VolumeRow → List Lane → Plan
-plan_from source volumes lanes = record {
+abbrev pub plan_from : List ℕ → List VolumeRow → List GroupPlan → List Writer → List Lane → Plan
+plan_from source volumes groups writers lanes = record {
   source = source;
   volumes = volumes;
-  groups = map own_group volumes;
-  writers = [];
+  groups = groups;
+  writers = map writer_plan writers;
   lanes = map lane_plan lanes;
 }
 
 abbrev pub plan_of : Inside → Plan
-plan_of a = plan_from a.source.bytes a.volumes.items a.lanes.items
+plan_of a = plan_from a.source.bytes a.volumes.items a.groups.items a.writers.items a.lanes.items

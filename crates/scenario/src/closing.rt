@@ -1,10 +1,13 @@
 //! The end of a lane.
-ghost use Rattle.std.specs.Prelude.{◌≡◌, IfOk};
+ghost use Rattle.std.specs.Prelude.{◌≡◌, map, IfOk};
 ghost use Rattle.scenario.specs.Bounds.{is_begin, is_end, ends_sessions};
-ghost use Rattle.scenario.specs.SoFar.{closed};
+ghost use Rattle.scenario.specs.Rows.{lane_plan};
+ghost use Rattle.scenario.specs.SoFar.{closed, closed_lane};
 
+use crate::lane::Lane;
 use crate::lane_line::LaneLine;
 use crate::op::Op;
+use std::alloc::Global;
 use vss_names::OutOfMemory;
 
 pub(crate) fn is_begin(op: Op) -> bool
@@ -41,7 +44,7 @@ fn ends_sessions(lines: &[LaneLine]) -> bool
 }
 
 /// The lines of a lane with the `end` that it has not written.
-pub(crate) fn closed(lines: Vec<LaneLine>) -> Result<Vec<LaneLine>, OutOfMemory>
+fn closed(lines: Vec<LaneLine>) -> Result<Vec<LaneLine>, OutOfMemory>
     ensures { IfOk result (λ all. all.items ≡ closed lines.items) }
 {
     let mut lines = lines;
@@ -53,4 +56,32 @@ pub(crate) fn closed(lines: Vec<LaneLine>) -> Result<Vec<LaneLine>, OutOfMemory>
         op: Op::End,
     })?;
     Ok(lines)
+}
+
+/// A lane with the `end` that it has not written.
+fn closed_lane(lane: Lane) -> Result<Lane, OutOfMemory>
+    ensures { IfOk result (λ all. lane_plan all ≡ closed_lane (lane_plan lane)) }
+{
+    let Lane {
+        name,
+        acts_as,
+        lines,
+    } = lane;
+    let lines = closed(lines)?;
+    Ok(Lane {
+        name,
+        acts_as,
+        lines,
+    })
+}
+
+/// All lanes with the `end` lines that they have not written.
+pub(crate) fn closed_lanes(alloc: Global, lanes: Vec<Lane>) -> Result<Vec<Lane>, OutOfMemory>
+    ensures { IfOk result (λ all. map lane_plan all.items ≡ map closed_lane (map lane_plan lanes.items)) }
+{
+    let mut all = Vec::new(alloc);
+    for lane in lanes {
+        all.push(closed_lane(lane)?)?;
+    }
+    Ok(all)
 }

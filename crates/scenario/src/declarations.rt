@@ -1,22 +1,24 @@
-//! The lines before the lanes, and the line that begins a lane. What is not run so far is refused once all its checks are
-//! passed: so no area and no writer is known, and no name is one of theirs.
-ghost use Rattle.std.specs.Prelude.{◌≡◌, ◌<◌, ◌≤◌, ◌+◌, ◌^◌, ◌&&◌, Err, None, nat_le, nat_lt, length, All, IfOk, IsTrue};
-ghost use Rattle.scenario.specs.Fields.{IsPart, AreParts};
-ghost use Rattle.scenario.specs.SoFar.{SoFar};
-ghost use Rattle.scenario.specs.Drafts.{DraftValue, IsDraft, IsEntry, IsRow, IsShortPart, size_of, so_far, told, run_of, IsUnread};
-ghost use Rattle.scenario.specs.Declarations.{name_field, opening_of, area_of, new_volume, own_volume_of, shared_volume_of, volume_of, writer_of, answer_of, new_lane, free_lane_of, acting_lane_of, lane_of};
+//! The lines before the lanes, but for writers and answers, and the line that begins a lane.
+ghost use Rattle.std.specs.Prelude.{◌≡◌, ◌<◌, ◌≤◌, ◌+◌, ◌^◌, ◌&&◌, false, [], None, Some, nat_le, nat_lt, length, slice_get, is_some, IfOk, IfSome, IsTrue};
+ghost use Rattle.scenario.specs.declared.entry.Entry.TheVariants as entry;
+ghost use Rattle.scenario.specs.Fields.{bytes_of, IsPart, AreParts};
+ghost use Rattle.scenario.specs.Names.{place_of, area_named};
+ghost use Rattle.scenario.specs.SoFar.{group_for};
+ghost use Rattle.scenario.specs.Drafts.{DraftValue, IsDraft, IsEntry, IsShortPart, told};
+ghost use Rattle.scenario.specs.Declarations.{name_field, opening_of, has_space, has_volume_room, area_of, area_field, new_volume, own_volume_of, shared_volume_of, volume_of, new_lane, lane_if, free_lane_of, acting_lane_of, lane_of};
 
+use crate::area_row::AreaRow;
 use crate::draft::Draft;
 use crate::entry::Entry;
+use crate::field_values::{is_word, number_field, writer_field};
 use crate::fields::{Fields, bytes_of};
-use crate::names::{is_name, volume_named};
-use crate::ops::{is_word, number_field};
+use crate::group_row::GroupRow;
+use crate::names::is_name;
 use crate::reason::Reason;
 use crate::span::Span;
-use crate::unread::Unread;
 use crate::volume_row::VolumeRow;
-use std::alloc::Global;
-use writer_meta::{MetaFault, Metadata};
+
+const MOST_AREAS: usize = 128;
 
 const MOST_VOLUMES: usize = 128;
 /// Of a volume.
@@ -26,12 +28,16 @@ const MOST_SLOTS: u32 = 65_536;
 /// Of the blocks of all volumes and the slots of all areas together.
 const MOST_SIZE: u64 = 131_072;
 
+const MOST_LANES: usize = 64;
+
 /// A new name, where `taken` says whether one of its kind has it.
 #[tactic(auto, unfolding(crate::specs::Declarations::name_field))]
-fn name_field(text: &[u8], taken: bool, span: Span) -> Result<Span, Reason>
+pub(crate) fn name_field(text: &[u8], taken: bool, span: Span) -> Result<Span, Reason>
     requires { IsPart (length text.now) span }
     ensures value { result ≡ name_field text.now taken span }
     ensures short { IfOk result (IsShortPart (length text.now)) }
+    ensures same { IfOk result (λ name. name ≡ span) }
+    ensures new { IfOk result (λ name. taken ≡ false) }
 {
     if !is_name(bytes_of(text, span)) {
         return Err(Reason::BadName);
@@ -46,8 +52,8 @@ fn name_field(text: &[u8], taken: bool, span: Span) -> Result<Span, Reason>
 #[tactic(auto, unfolding(crate::specs::Declarations::opening_of))]
 pub(crate) fn opening_of(text: &[u8], fields: Fields) -> Result<Entry, Reason>
     requires { AreParts (length text.now) fields }
-    ensures value { (d : DraftValue) → told result ≡ run_of d (opening_of text.now fields) }
-    ensures kept { (d : DraftValue) → IfOk result (IsEntry (length text.now) d) }
+    ensures value { told result ≡ opening_of text.now fields }
+    ensures kept { (d : DraftValue) → IfOk result (IsEntry text.now d) }
 {
     let Fields::One(version) = fields else {
         return Err(Reason::BadCount);
@@ -56,65 +62,68 @@ pub(crate) fn opening_of(text: &[u8], fields: Fields) -> Result<Entry, Reason>
     Ok(Entry::Opening)
 }
 
-/// `area name slots`, which is not run. The volume that may stand before it leaves room for 127 more and for an area,
-/// unless there are too many slots.
+/// Whether so many blocks and slots more have their place.
+fn has_space(draft: &Draft, size: u32) -> bool
+    requires { draft.now.said.size ≤ 131072 }
+    ensures { result ≡ has_space draft.now.said size }
+{
+    draft.size() + u64::from(size) <= MOST_SIZE
+}
+
+/// The name of an area that is new.
+#[tactic(auto, unfolding(crate::specs::Names::area_named))]
+fn new_area(text: &[u8], draft: &Draft, name: Span) -> Result<Span, Reason>
+    requires part { IsPart (length text.now) name }
+    requires draft { IsDraft text.now draft.now }
+    ensures value { result ≡ name_field text.now (is_some (area_named text.now draft.now.said.areas (bytes_of text.now name))) name }
+    ensures short { IfOk result (IsShortPart (length text.now)) }
+    ensures new { IfOk result (λ n. place_of (bytes_of text.now n) draft.now.names.areas ≡ None) }
+{
+    let taken = draft.area_named(bytes_of(text, name)).is_some();
+    name_field(text, taken, name)
+}
+
+/// `area name slots`.
+#[tactic(auto, unfolding(crate::specs::Declarations::area_of))]
 pub(crate) fn area_of(text: &[u8], draft: &Draft, fields: Fields) -> Result<Entry, Reason>
     requires parts { AreParts (length text.now) fields }
-    requires draft { IsDraft (length text.now) draft.now }
-    ensures value { told result ≡ run_of draft.now (area_of text.now (so_far draft.now) fields) }
-    ensures kept { IfOk result (IsEntry (length text.now) draft.now) }
+    requires draft { IsDraft text.now draft.now }
+    ensures value { told result ≡ area_of text.now draft.now.said fields }
+    ensures kept { IfOk result (IsEntry text.now draft.now) }
 {
     let Fields::Two(name, slots) = fields else {
         return Err(Reason::BadCount);
     };
-    name_field(text, false, name)?;
+    let name = new_area(text, draft, name)?;
     let slots = number_field(text, 0, MOST_SLOTS, slots)?;
-    if size_of(draft.volumes()) + u64::from(slots) > MOST_SIZE {
+    if draft.areas().len() >= MOST_AREAS || !has_space(draft, slots) {
         return Err(Reason::TooMany);
     }
-    Err(Reason::NotBuilt)
-}
-
-/// The blocks and slots of a volume.
-fn row_size(row: VolumeRow) -> u64
-    ensures value { result ≡ row.blocks + row.slots }
-    ensures most { result < 2 ^ 33 }
-{
-    u64::from(row.blocks) + u64::from(row.slots)
-}
-
-/// The blocks and slots of the volumes, of which at most one is run.
-fn size_of(rows: &[VolumeRow]) -> u64
-    requires { length rows.now ≤ 1 }
-    ensures value { result ≡ size_of rows.now }
-    ensures most { result < 2 ^ 33 }
-{
-    match rows.first() {
-        None => 0,
-        Some(row) => row_size(*row),
-    }
+    Ok(Entry::Area(GroupRow { name, slots }))
 }
 
 /// The name of a volume that is new.
+#[tactic(auto, unfolding(crate::specs::Names::volume_named))]
 fn new_volume(text: &[u8], draft: &Draft, name: Span) -> Result<Span, Reason>
     requires part { IsPart (length text.now) name }
-    requires draft { IsDraft (length text.now) draft.now }
-    ensures value { result ≡ new_volume text.now (so_far draft.now) name }
+    requires draft { IsDraft text.now draft.now }
+    ensures value { result ≡ new_volume text.now draft.now.said name }
     ensures short { IfOk result (IsShortPart (length text.now)) }
+    ensures new { IfOk result (λ n. place_of (bytes_of text.now n) draft.now.names.volumes ≡ None) }
 {
-    let taken = volume_named(text, draft.volumes(), bytes_of(text, name)).is_some();
+    let taken = draft.volume_named(bytes_of(text, name)).is_some();
     name_field(text, taken, name)
 }
 
-/// Whether one more volume with so many blocks and slots has its place.
-fn has_room(rows: &[VolumeRow], size: u32) -> bool
-    requires { length rows.now ≤ 1 }
-    ensures { result ≡ (nat_lt (length rows.now) 128 && nat_le (size_of rows.now + size) 131072) }
+/// Whether one more volume, of so many blocks and slots, has its place.
+fn has_volume_room(draft: &Draft, size: u32) -> bool
+    requires { draft.now.said.size ≤ 131072 }
+    ensures { result ≡ has_volume_room draft.now.said size }
 {
-    rows.len() < MOST_VOLUMES && size_of(rows) + u64::from(size) <= MOST_SIZE
+    draft.volumes().len() < MOST_VOLUMES && has_space(draft, size)
 }
 
-/// `volume name blocks slots`. One volume is run, with a slot for each block.
+/// `volume name blocks slots`.
 #[tactic(auto, unfolding(crate::specs::Declarations::own_volume_of))]
 fn own_volume_of(
     text: &[u8],
@@ -126,33 +135,52 @@ fn own_volume_of(
     requires name { IsPart (length text.now) name }
     requires blocks { IsPart (length text.now) blocks }
     requires slots { IsPart (length text.now) slots }
-    requires draft { IsDraft (length text.now) draft.now }
-    requires no_lane { draft.now.lane ≡ None }
-    ensures value { told result ≡ run_of draft.now (own_volume_of text.now (so_far draft.now) name blocks slots) }
-    ensures kept { IfOk result (IsEntry (length text.now) draft.now) }
+    requires draft { IsDraft text.now draft.now }
+    requires no_lane { draft.now.said.lanes ≡ [] }
+    ensures value { told result ≡ own_volume_of text.now draft.now.said name blocks slots }
+    ensures kept { IfOk result (IsEntry text.now draft.now) }
 {
     let name = new_volume(text, draft, name)?;
     let blocks = number_field(text, 1, MOST_BLOCKS, blocks)?;
     let slots = number_field(text, 0, MOST_SLOTS, slots)?;
-    let rows = draft.volumes();
-    if !has_room(rows, blocks + slots) {
+    if !has_volume_room(draft, blocks + slots) {
         return Err(Reason::TooMany);
     }
-    if !rows.is_empty() {
-        return Err(Reason::NotBuilt);
-    }
-    if slots < blocks {
-        return Err(Reason::NotBuilt);
-    }
-    Ok(Entry::Volume(VolumeRow {
+    Ok(Entry::OwnVolume(VolumeRow {
         name,
         blocks,
         slots,
-        group: 0,
+        group: draft.groups() as u32,
     }))
 }
 
-/// Why `volume name blocks in area` is refused.
+/// A declared area, with its number.
+#[tactic(auto, unfolding(crate::specs::Declarations::area_field, crate::specs::Names::area_named), using(crate::proofs::Taken::count_areas))]
+fn area_field(text: &[u8], draft: &Draft, span: Span) -> Result<(u32, AreaRow), Reason>
+    requires part { IsPart (length text.now) span }
+    requires draft { IsDraft text.now draft.now }
+    ensures value { result ≡ area_field text.now draft.now.said.areas span }
+    ensures found { IfOk result (λ p. slice_get draft.now.said.areas p.0 ≡ Some p.1) }
+    ensures few_slots { IfOk result (λ p. p.1.slots ≤ 65536) }
+{
+    match draft.area_named(bytes_of(text, span)) {
+        Some(a) => Ok((a as u32, draft.areas()[a])),
+        None => Err(Reason::UnknownName),
+    }
+}
+
+/// The number of a declared area's group: the one that it has, or the next number.
+fn group_for(draft: &Draft, area: AreaRow) -> u32
+    requires { length draft.now.said.groups ≤ 128 }
+    ensures { result ≡ group_for draft.now.said.groups area }
+{
+    match area.group {
+        Some(group) => group,
+        None => draft.groups() as u32,
+    }
+}
+
+/// `volume name blocks in area`.
 #[tactic(auto, unfolding(crate::specs::Declarations::shared_volume_of))]
 fn shared_volume_of(
     text: &[u8],
@@ -165,25 +193,37 @@ fn shared_volume_of(
     requires name { IsPart (length text.now) name }
     requires blocks { IsPart (length text.now) blocks }
     requires kind { IsPart (length text.now) kind }
-    requires draft { IsDraft (length text.now) draft.now }
-    ensures value { told result ≡ run_of draft.now (shared_volume_of text.now (so_far draft.now) name blocks kind area) }
-    ensures kept { IfOk result (IsEntry (length text.now) draft.now) }
+    requires area { IsPart (length text.now) area }
+    requires draft { IsDraft text.now draft.now }
+    requires no_lane { draft.now.said.lanes ≡ [] }
+    ensures value { told result ≡ shared_volume_of text.now draft.now.said name blocks kind area }
+    ensures kept { IfOk result (IsEntry text.now draft.now) }
 {
-    new_volume(text, draft, name)?;
-    number_field(text, 1, MOST_BLOCKS, blocks)?;
+    let name = new_volume(text, draft, name)?;
+    let blocks = number_field(text, 1, MOST_BLOCKS, blocks)?;
     if !is_word(text, kind, b"in") {
         return Err(Reason::UnknownWord);
     }
-    Err(Reason::UnknownName)
+    let (a, area) = area_field(text, draft, area)?;
+    if !has_volume_room(draft, blocks) {
+        return Err(Reason::TooMany);
+    }
+    let row = VolumeRow {
+        name,
+        blocks,
+        slots: area.slots,
+        group: group_for(draft, area),
+    };
+    Ok(Entry::SharedVolume(row, a, area))
 }
 
 /// `volume name blocks slots`, `volume name blocks in area`.
 pub(crate) fn volume_of(text: &[u8], draft: &Draft, fields: Fields) -> Result<Entry, Reason>
     requires parts { AreParts (length text.now) fields }
-    requires draft { IsDraft (length text.now) draft.now }
-    requires no_lane { draft.now.lane ≡ None }
-    ensures value { told result ≡ run_of draft.now (volume_of text.now (so_far draft.now) fields) }
-    ensures kept { IfOk result (IsEntry (length text.now) draft.now) }
+    requires draft { IsDraft text.now draft.now }
+    requires no_lane { draft.now.said.lanes ≡ [] }
+    ensures value { told result ≡ volume_of text.now draft.now.said fields }
+    ensures kept { IfOk result (IsEntry text.now draft.now) }
 {
     match fields {
         Fields::Three(name, blocks, slots) => own_volume_of(text, draft, name, blocks, slots),
@@ -194,64 +234,44 @@ pub(crate) fn volume_of(text: &[u8], draft: &Draft, fields: Fields) -> Result<En
     }
 }
 
-/// Why `writer name rest` is refused.
-pub(crate) fn writer_refusal(alloc: Global, text: &[u8], draft: &Draft, fields: Fields) -> Unread
-    requires parts { AreParts (length text.now) fields }
-    ensures { IsUnread (run_of draft.now (writer_of text.now (so_far draft.now) fields)) result }
-{
-    let Fields::Two(name, document) = fields else {
-        return Unread::Bad(Reason::BadCount);
-    };
-    if let Err(reason) = name_field(text, false, name) {
-        return Unread::Bad(reason);
-    }
-    match Metadata::from_json(alloc, bytes_of(text, document)) {
-        Ok(_) => Unread::Bad(Reason::NotBuilt),
-        Err(MetaFault::OutOfMemory) => Unread::OutOfMemory,
-        Err(_) => Unread::Bad(Reason::BadDocument),
-    }
-}
-
-/// Why an `answer` line is refused.
-pub(crate) fn answer_refusal(text: &[u8], draft: &Draft, fields: Fields) -> Reason
-    ensures { run_of draft.now (answer_of text.now (so_far draft.now) fields) ≡ Err result }
-{
-    match fields {
-        Fields::Four(..) | Fields::Five(..) => Reason::UnknownName,
-        _ => Reason::BadCount,
-    }
-}
-
 /// The name of a lane that is new.
+#[tactic(auto, unfolding(crate::specs::Names::lane_named))]
 fn new_lane(text: &[u8], draft: &Draft, name: Span) -> Result<Span, Reason>
     requires part { IsPart (length text.now) name }
-    requires draft { IsDraft (length text.now) draft.now }
-    ensures value { result ≡ new_lane text.now (so_far draft.now) name }
+    requires draft { IsDraft text.now draft.now }
+    ensures value { result ≡ new_lane text.now draft.now.said name }
     ensures short { IfOk result (IsShortPart (length text.now)) }
+    ensures new { IfOk result (λ n. place_of (bytes_of text.now n) draft.now.names.lanes ≡ None) }
 {
-    let taken = match draft.lane() {
-        None => false,
-        Some(other) => bytes_of(text, other) == bytes_of(text, name),
-    };
+    let taken = draft.lane_named(bytes_of(text, name)).is_some();
     name_field(text, taken, name)
 }
 
-/// `lane name`. One lane is run.
+/// One lane more.
+fn lane_if(draft: &Draft, name: Span, whom: Option<u32>) -> Result<Entry, Reason>
+    ensures value { told result ≡ lane_if draft.now.said name whom }
+    ensures same { IfOk result (λ e. e ≡ entry.Lane name whom) }
+    ensures few { IfOk result (λ e. length draft.now.said.lanes < 64) }
+{
+    if draft.lanes() >= MOST_LANES {
+        return Err(Reason::TooMany);
+    }
+    Ok(Entry::Lane(name, whom))
+}
+
+/// `lane name`.
 #[tactic(auto, unfolding(crate::specs::Declarations::free_lane_of))]
 fn free_lane_of(text: &[u8], draft: &Draft, name: Span) -> Result<Entry, Reason>
     requires part { IsPart (length text.now) name }
-    requires draft { IsDraft (length text.now) draft.now }
-    ensures value { told result ≡ run_of draft.now (free_lane_of text.now (so_far draft.now) name) }
-    ensures kept { IfOk result (IsEntry (length text.now) draft.now) }
+    requires draft { IsDraft text.now draft.now }
+    ensures value { told result ≡ free_lane_of text.now draft.now.said name }
+    ensures kept { IfOk result (IsEntry text.now draft.now) }
 {
     let name = new_lane(text, draft, name)?;
-    match draft.lane() {
-        None => Ok(Entry::Lane(name)),
-        Some(_) => Err(Reason::NotBuilt),
-    }
+    lane_if(draft, name, None)
 }
 
-/// Why `lane name as writer` is refused.
+/// `lane name as writer`.
 #[tactic(auto, unfolding(crate::specs::Declarations::acting_lane_of))]
 fn acting_lane_of(
     text: &[u8],
@@ -262,23 +282,25 @@ fn acting_lane_of(
 ) -> Result<Entry, Reason>
     requires name { IsPart (length text.now) name }
     requires kind { IsPart (length text.now) kind }
-    requires draft { IsDraft (length text.now) draft.now }
-    ensures value { told result ≡ run_of draft.now (acting_lane_of text.now (so_far draft.now) name kind writer) }
-    ensures kept { IfOk result (IsEntry (length text.now) draft.now) }
+    requires writer { IsPart (length text.now) writer }
+    requires draft { IsDraft text.now draft.now }
+    ensures value { told result ≡ acting_lane_of text.now draft.now.said name kind writer }
+    ensures kept { IfOk result (IsEntry text.now draft.now) }
 {
-    new_lane(text, draft, name)?;
+    let name = new_lane(text, draft, name)?;
     if !is_word(text, kind, b"as") {
         return Err(Reason::UnknownWord);
     }
-    Err(Reason::UnknownName)
+    let writer = writer_field(text, draft, writer)?;
+    lane_if(draft, name, Some(writer))
 }
 
 /// `lane name`, `lane name as writer`.
 pub(crate) fn lane_of(text: &[u8], draft: &Draft, fields: Fields) -> Result<Entry, Reason>
     requires parts { AreParts (length text.now) fields }
-    requires draft { IsDraft (length text.now) draft.now }
-    ensures value { told result ≡ run_of draft.now (lane_of text.now (so_far draft.now) fields) }
-    ensures kept { IfOk result (IsEntry (length text.now) draft.now) }
+    requires draft { IsDraft text.now draft.now }
+    ensures value { told result ≡ lane_of text.now draft.now.said fields }
+    ensures kept { IfOk result (IsEntry text.now draft.now) }
 {
     match fields {
         Fields::One(name) => free_lane_of(text, draft, name),

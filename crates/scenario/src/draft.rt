@@ -1,168 +1,367 @@
-ghost use Rattle.std.specs.Prelude.{◌≡◌, IfOk, OnOk, OnErr, is_some, length, map};
+ghost use Rattle.std.specs.Prelude.{◌≡◌, ◌<◌, true, length, map, IfOk, IfSome, OnOk};
 ghost use Rattle.scenario.specs.Bounds.{begins_agenda};
+ghost use Rattle.scenario.specs.Declarations.{is_answered};
+ghost use Rattle.scenario.specs.Rows.{writer_plan, lane_plan};
 
-use crate::closing::{closed, is_begin};
+use crate::area_row::AreaRow;
+use crate::closing::closed_lanes;
+use crate::counts::Counts;
 use crate::entry::Entry;
+use crate::fields::bytes_of;
+use crate::group_row::GroupRow;
+use crate::kept_rows::{add_answer, add_group, add_line, set_group};
 use crate::lane::Lane;
 use crate::lane_line::LaneLine;
-use crate::op::Op;
+use crate::name_table::NameTable;
 use crate::parts::Parts;
+use crate::script::Script;
 use crate::span::Span;
 use crate::volume_row::VolumeRow;
+use crate::writer::Writer;
 use std::alloc::Global;
 use std::marker::Model;
-use vss_names::OutOfMemory;
+use vss_names::{Order, OutOfMemory};
+use writer_calls::Scripted;
+use writer_meta::Metadata;
 
-/// What the lines say that were read so far.
+/// What the lines say that were read so far, with the names that are taken and the counts of what is limited.
 #[derive(Drop)]
 pub(crate) struct Draft {
     opened: bool,
+    areas: Vec<AreaRow>,
     volumes: Vec<VolumeRow>,
-    lane: Option<Span>,
-    lines: Vec<LaneLine>,
-    /// How many of the lines may begin an agenda.
-    agenda_lines: usize,
-    /// Whether one of the lines is a `begin`.
-    begun: bool,
+    groups: Vec<GroupRow>,
+    /// The blocks of all volumes and the slots of all areas together.
+    size: u64,
+    writers: Vec<Writer>,
+    lanes: Vec<Lane>,
+    area_names: NameTable,
+    volume_names: NameTable,
+    writer_names: NameTable,
+    lane_names: NameTable,
+    counts: Counts,
 }
 
 impl Model for Draft {
-    ghost use Rattle.std.specs.Prelude.{◌≡◌};
-    ghost use Rattle.scenario.specs.Bounds.{agenda_lines as count};
-    ghost use Rattle.scenario.specs.Built.{has_begin};
+    ghost use Rattle.std.specs.Prelude.{map};
+    ghost use Rattle.scenario.specs.Rows.{writer_plan, lane_plan};
     ghost use Rattle.scenario.specs.Drafts.{DraftValue};
 
     ghost Value = { DraftValue };
 
-    ghost view = { λ d. record { opened = d.opened; volumes = d.volumes.items; lane = d.lane; lines = d.lines.items } };
-
-    ghost invariant = { λ d. (d.agenda_lines ≡ count d.lines.items) × (d.begun ≡ has_begin d.lines.items) };
-}
-
-pub(crate) fn begins_agenda(op: Op) -> bool
-    ensures { result ≡ begins_agenda op }
-{
-    match op {
-        Op::Gather | Op::Prepare | Op::Snapshot | Op::Complete => true,
-        _ => false,
-    }
+    ghost view = { λ d. record {
+      said = record {
+        opened = d.opened;
+        areas = d.areas.items;
+        volumes = d.volumes.items;
+        groups = d.groups.items;
+        size = d.size;
+        writers = map writer_plan d.writers.items;
+        lanes = map lane_plan d.lanes.items;
+      };
+      names = record { areas = d.area_names; volumes = d.volume_names; writers = d.writer_names; lanes = d.lane_names };
+      counts = d.counts;
+    } };
 }
 
 impl Draft {
-    ghost use Rattle.scenario.specs.declared.entry.Entry.TheVariants.{Line};
-    ghost use Rattle.scenario.specs.Bounds.{agenda_lines};
-    ghost use Rattle.scenario.specs.Built.{has_begin};
-    ghost use Rattle.scenario.specs.Views.{lane_plan};
-    ghost use Rattle.scenario.specs.SoFar.{closed_lane};
-    ghost use Rattle.scenario.specs.Drafts.{empty_draft, with_entry, lanes_of};
+    ghost use Rattle.scenario.specs.declared.entry.Entry.TheVariants as entry;
+    ghost use Rattle.scenario.specs.SoFar.{after, closed_lane};
+    ghost use Rattle.scenario.specs.SoFar as saying;
+    ghost use Rattle.scenario.specs.Names.{place_of};
+    ghost use Rattle.scenario.specs.Drafts.{empty_draft, counts_after, with_entry, IsDraft, IsEntry, IsNewAnswer};
 
     pub(crate) fn new(alloc: Global) -> Draft
         ensures { result ≡ empty_draft }
     {
         Draft {
             opened: false,
+            areas: Vec::new(alloc),
             volumes: Vec::new(alloc),
-            lane: None,
-            lines: Vec::new(alloc),
-            agenda_lines: 0,
-            begun: false,
+            groups: Vec::new(alloc),
+            size: 0,
+            writers: Vec::new(alloc),
+            lanes: Vec::new(alloc),
+            area_names: NameTable::new(alloc),
+            volume_names: NameTable::new(alloc),
+            writer_names: NameTable::new(alloc),
+            lane_names: NameTable::new(alloc),
+            counts: Counts {
+                lines: 0,
+                agenda_lines: 0,
+                answers: 0,
+                begun: false,
+            },
         }
     }
 
     /// Whether the `scenario` line was read.
     pub(crate) fn is_opened(&self) -> bool
-        ensures { result ≡ self.now.opened }
+        ensures { result ≡ self.now.said.opened }
     {
         self.opened
     }
 
+    /// The declared areas.
+    pub(crate) fn areas(&self) -> &[AreaRow]
+        ensures { result.now ≡ self.now.said.areas }
+    {
+        &self.areas
+    }
+
+    /// The place of the area with this name.
+    pub(crate) fn area_named(&self, name: &[u8]) -> Option<usize>
+        ensures place { result ≡ place_of name.now self.now.names.areas }
+        ensures within { IfSome result (λ i. i < length self.now.names.areas) }
+    {
+        self.area_names.place_of(name)
+    }
+
     pub(crate) fn volumes(&self) -> &[VolumeRow]
-        ensures { result.now ≡ self.now.volumes }
+        ensures { result.now ≡ self.now.said.volumes }
     {
         &self.volumes
     }
 
-    /// Whether a lane has begun.
-    pub(crate) fn has_lane(&self) -> bool
-        ensures { result ≡ is_some self.now.lane }
+    /// The place of the volume with this name.
+    pub(crate) fn volume_named(&self, name: &[u8]) -> Option<usize>
+        ensures place { result ≡ place_of name.now self.now.names.volumes }
+        ensures within { IfSome result (λ i. i < length self.now.names.volumes) }
     {
-        self.lane.is_some()
+        self.volume_names.place_of(name)
     }
 
-    /// The name of the lane, if it has begun.
-    pub(crate) fn lane(&self) -> Option<Span>
-        ensures { result ≡ self.now.lane }
+    /// How many groups there are.
+    pub(crate) fn groups(&self) -> usize
+        ensures { result ≡ length self.now.said.groups }
     {
-        self.lane
+        self.groups.len()
     }
 
-    /// The volumes, and the lanes with all their lines.
-    pub(crate) fn into_parts(self, alloc: Global) -> Result<Parts, OutOfMemory>
-        ensures volumes { IfOk result (λ parts. parts.volumes.items ≡ self.volumes) }
-        ensures lanes { IfOk result (λ parts. map lane_plan parts.lanes.items ≡ map closed_lane (lanes_of self.lane self.lines)) }
+    /// The blocks of all volumes and the slots of all areas together.
+    pub(crate) fn size(&self) -> u64
+        ensures { result ≡ self.now.said.size }
     {
-        let Draft {
-            volumes,
-            lane,
-            lines,
-            ..
-        } = self;
-        let mut lanes = Vec::new(alloc);
-        let Some(name) = lane else {
-            return Ok(Parts { volumes, lanes });
-        };
-        let lines = closed(lines)?;
-        lanes.push(Lane { name, lines })?;
-        Ok(Parts { volumes, lanes })
+        self.size
     }
 
-    /// How many lines the lane has.
-    pub(crate) fn len(&self) -> usize
-        ensures { result ≡ length self.now.lines }
+    /// How many writers there are.
+    pub(crate) fn writers(&self) -> usize
+        ensures { result ≡ length self.now.said.writers }
     {
-        self.lines.len()
+        self.writers.len()
     }
 
-    /// How many lines of the lane may begin an agenda.
-    pub(crate) fn agenda_lines(&self) -> usize
-        ensures { result ≡ agenda_lines self.now.lines }
+    /// The place of the writer with this name.
+    pub(crate) fn writer_named(&self, name: &[u8]) -> Option<usize>
+        ensures place { result ≡ place_of name.now self.now.names.writers }
+        ensures within { IfSome result (λ i. i < length self.now.names.writers) }
     {
-        self.agenda_lines
+        self.writer_names.place_of(name)
     }
 
-    /// Whether the lane has begun a session.
-    pub(crate) fn has_begin(&self) -> bool
-        ensures { result ≡ has_begin self.now.lines }
+    /// Whether a row of the writer's script speaks of this order.
+    pub(crate) fn is_answered(&self, w: u32, order: Order, nth: u32) -> bool
+        requires { w < length self.now.said.writers }
+        ensures { result ≡ is_answered self.now.said.writers w order nth }
     {
-        self.begun
+        self.writers[w as usize]
+            .script
+            .row_for(order, nth)
+            .is_some()
+    }
+
+    /// How many lanes there are.
+    pub(crate) fn lanes(&self) -> usize
+        ensures { result ≡ length self.now.said.lanes }
+    {
+        self.lanes.len()
+    }
+
+    /// The place of the lane with this name.
+    pub(crate) fn lane_named(&self, name: &[u8]) -> Option<usize>
+        ensures place { result ≡ place_of name.now self.now.names.lanes }
+        ensures within { IfSome result (λ i. i < length self.now.names.lanes) }
+    {
+        self.lane_names.place_of(name)
+    }
+
+    pub(crate) fn counts(&self) -> Counts
+        ensures { result ≡ self.now.counts }
+    {
+        self.counts
     }
 
     /// Takes in what one more line says.
-    pub(crate) fn add(&mut self, entry: Entry) -> Result<(), OutOfMemory>
-        ensures ok { OnOk result (self.new ≡ with_entry self.old entry) }
-        ensures err { OnErr result (self.new ≡ self.old) }
+    pub(crate) fn add(
+        &mut self,
+        alloc: Global,
+        text: &[u8],
+        entry: Entry,
+    ) -> Result<(), OutOfMemory>
+        requires draft { IsDraft text.now self.old }
+        requires entry { IsEntry text.now self.old entry }
+        ensures { OnOk result (self.new ≡ with_entry text.now self.old entry) }
     {
         match entry {
-            Entry::Skipped => {}
-            Entry::Opening => self.opened = true,
-            Entry::Volume(row) => self.volumes.push(row)?,
-            Entry::Lane(name) => self.lane = Some(name),
-            Entry::Line(line) => self.add_line(line)?,
+            Entry::Skipped => Ok(()),
+            Entry::Opening => {
+                self.opened = true;
+                Ok(())
+            }
+            Entry::Area(area) => self.add_area(alloc, text, area),
+            Entry::OwnVolume(row) => self.add_own_volume(alloc, text, row),
+            Entry::SharedVolume(row, a, area) => self.add_shared_volume(alloc, text, row, a, area),
+            Entry::Writer(name, metadata) => self.add_writer(alloc, text, name, metadata),
+            Entry::Answer(w, row) => self.add_answer(w, row),
+            Entry::Lane(name, whom) => self.add_lane(alloc, text, name, whom),
+            Entry::Line(line) => self.add_line(line),
         }
+    }
+
+    fn add_area(&mut self, alloc: Global, text: &[u8], area: GroupRow) -> Result<(), OutOfMemory>
+        requires draft { IsDraft text.now self.old }
+        requires entry { IsEntry text.now self.old (entry.Area area) }
+        ensures { OnOk result (self.new ≡ with_entry text.now self.old (entry.Area area)) }
+    {
+        self.area_names.add(alloc, bytes_of(text, area.name))?;
+        self.areas.push(AreaRow {
+            name: area.name,
+            slots: area.slots,
+            group: None,
+        })?;
+        self.size += u64::from(area.slots);
+        Ok(())
+    }
+
+    fn add_own_volume(
+        &mut self,
+        alloc: Global,
+        text: &[u8],
+        row: VolumeRow,
+    ) -> Result<(), OutOfMemory>
+        requires draft { IsDraft text.now self.old }
+        requires entry { IsEntry text.now self.old (entry.OwnVolume row) }
+        ensures { OnOk result (self.new ≡ with_entry text.now self.old (entry.OwnVolume row)) }
+    {
+        self.volume_names.add(alloc, bytes_of(text, row.name))?;
+        self.volumes.push(row)?;
+        self.groups.push(GroupRow {
+            name: row.name,
+            slots: row.slots,
+        })?;
+        self.size += u64::from(row.blocks) + u64::from(row.slots);
+        Ok(())
+    }
+
+    fn add_shared_volume(
+        &mut self,
+        alloc: Global,
+        text: &[u8],
+        row: VolumeRow,
+        a: u32,
+        area: AreaRow,
+    ) -> Result<(), OutOfMemory>
+        requires draft { IsDraft text.now self.old }
+        requires entry { IsEntry text.now self.old (entry.SharedVolume row a area) }
+        ensures { OnOk result (self.new ≡ with_entry text.now self.old (entry.SharedVolume row a area)) }
+    {
+        self.volume_names.add(alloc, bytes_of(text, row.name))?;
+        self.volumes.push(row)?;
+        add_group(&mut self.groups, area)?;
+        set_group(&mut self.areas, a, area, row.group);
+        self.size += u64::from(row.blocks);
+        Ok(())
+    }
+
+    fn add_writer(
+        &mut self,
+        alloc: Global,
+        text: &[u8],
+        name: Span,
+        metadata: Metadata,
+    ) -> Result<(), OutOfMemory>
+        requires draft { IsDraft text.now self.old }
+        requires entry { IsEntry text.now self.old (entry.Writer name metadata) }
+        ensures { OnOk result (self.new ≡ with_entry text.now self.old (entry.Writer name metadata)) }
+    {
+        self.writer_names.add(alloc, bytes_of(text, name))?;
+        self.writers.push(Writer {
+            name,
+            metadata,
+            script: Script::new(alloc),
+        })?;
+        Ok(())
+    }
+
+    fn add_answer(&mut self, w: u32, row: Scripted) -> Result<(), OutOfMemory>
+        requires answer { IsNewAnswer self.old.said w row }
+        requires few { self.old.counts.answers < 10000 }
+        ensures { OnOk result (self.new ≡ record self.old {
+          said = after self.old.said (saying.Answer w row);
+          counts = counts_after self.old.counts (saying.Answer w row);
+        }) }
+    {
+        add_answer(&mut self.writers, w, row)?;
+        self.counts.answers += 1;
+        Ok(())
+    }
+
+    fn add_lane(
+        &mut self,
+        alloc: Global,
+        text: &[u8],
+        name: Span,
+        whom: Option<u32>,
+    ) -> Result<(), OutOfMemory>
+        requires draft { IsDraft text.now self.old }
+        requires entry { IsEntry text.now self.old (entry.Lane name whom) }
+        ensures { OnOk result (self.new ≡ with_entry text.now self.old (entry.Lane name whom)) }
+    {
+        self.lane_names.add(alloc, bytes_of(text, name))?;
+        self.lanes.push(Lane {
+            name,
+            acts_as: whom,
+            lines: Vec::new(alloc),
+        })?;
+        self.counts.begun = false;
         Ok(())
     }
 
     fn add_line(&mut self, line: LaneLine) -> Result<(), OutOfMemory>
-        ensures ok { OnOk result (self.new ≡ with_entry self.old (Line line)) }
-        ensures err { OnErr result (self.new ≡ self.old) }
+        requires in_lane { 0 < length self.old.said.lanes }
+        requires few { self.old.counts.lines < 100000 }
+        requires few_agendas { begins_agenda line.op ≡ true → self.old.counts.agenda_lines < 2000 }
+        ensures { OnOk result (self.new ≡ record self.old {
+          said = after self.old.said (saying.Line line);
+          counts = counts_after self.old.counts (saying.Line line);
+        }) }
     {
-        self.lines.push(line)?;
-        if begins_agenda(line.op) {
-            self.agenda_lines += 1;
-        }
-        if is_begin(line.op) {
-            self.begun = true;
-        }
+        add_line(&mut self.lanes, line)?;
+        self.counts = self.counts.with_line(line.op);
         Ok(())
+    }
+
+    /// What a scenario is made of: the lanes with the `end` lines that they have not written.
+    pub(crate) fn into_parts(self, alloc: Global) -> Result<Parts, OutOfMemory>
+        ensures volumes { IfOk result (λ parts. parts.volumes.items ≡ self.said.volumes) }
+        ensures groups { IfOk result (λ parts. parts.groups.items ≡ self.said.groups) }
+        ensures writers { IfOk result (λ parts. map writer_plan parts.writers.items ≡ self.said.writers) }
+        ensures lanes { IfOk result (λ parts. map lane_plan parts.lanes.items ≡ map closed_lane self.said.lanes) }
+    {
+        let Draft {
+            volumes,
+            groups,
+            writers,
+            lanes,
+            ..
+        } = self;
+        let lanes = closed_lanes(alloc, lanes)?;
+        Ok(Parts {
+            volumes,
+            groups,
+            writers,
+            lanes,
+        })
     }
 }

@@ -1,18 +1,14 @@
 //! What one line says after the lines before it.
-ghost use Rattle.std.specs.Prelude.{◌≡◌, ◌<◌, ◌≤◌, ◌&&◌, not, false, Ok, length, All, IfOk, IfErr, None, IsSome, IsTrue, is_some};
+ghost use Rattle.std.specs.Prelude.{◌≡◌, ◌<◌, ◌≤◌, false, Ok, length, IfOk, IfErr, IsTrue};
 ghost use Rattle.std.specs.List.{list_all};
 ghost use Rattle.scenario.specs.Fields.{IsPart, AreParts, words_at};
-ghost use Rattle.scenario.specs.Bounds.{is_begin, agenda_lines};
-ghost use Rattle.scenario.specs.Built.{is_run, has_begin};
-ghost use Rattle.scenario.specs.Drafts.{DraftValue, IsDraft, IsEntry, saying_in, so_far, told, run_of, IsUnread};
+ghost use Rattle.scenario.specs.Drafts.{IsDraft, IsEntry, saying_in, told, IsUnread};
 ghost use Rattle.scenario.specs.Words.{takes_document};
-ghost use Rattle.scenario.specs.Entries.{is_printable, is_skipped, may_stand, has_line_room, line_of, row_of, said_of, saying_of};
+ghost use Rattle.scenario.specs.Entries.{is_printable, is_skipped, has_lane, may_stand, has_line_room, line_of, row_of, said_of, saying_of};
 
-use crate::closing::is_begin;
-use crate::declarations::{
-    answer_refusal, area_of, lane_of, opening_of, volume_of, writer_refusal,
-};
-use crate::draft::{Draft, begins_agenda};
+use crate::counts::{Counts, begins_agenda};
+use crate::declarations::{area_of, lane_of, opening_of, volume_of};
+use crate::draft::Draft;
 use crate::entry::Entry;
 use crate::fields::{Fields, bytes_of, fields_for, word_at};
 use crate::lane_line::LaneLine;
@@ -23,6 +19,7 @@ use crate::span::Span;
 use crate::text_line::TextLine;
 use crate::unread::Unread;
 use crate::word::Word;
+use crate::writer_lines::{answer_of, writer_of};
 use std::alloc::Global;
 
 const MOST_LINES: usize = 100_000;
@@ -43,50 +40,32 @@ fn is_skipped(bytes: &[u8]) -> bool
     bytes.is_empty() || bytes[0] == b'#'
 }
 
+/// Whether a lane has begun.
+fn has_lane(draft: &Draft) -> bool
+    ensures { result ≡ has_lane draft.now.said.lanes }
+{
+    0 < draft.lanes()
+}
+
 /// Whether a line that begins with this word may stand after those before it.
 fn may_stand(draft: &Draft, word: Word) -> bool
-    ensures { result ≡ may_stand draft.now.opened (is_some draft.now.lane) word }
+    ensures { result ≡ may_stand draft.now.said.opened (has_lane draft.now.said.lanes) word }
 {
     match word {
         Word::Scenario => !draft.is_opened(),
         Word::Area | Word::Volume | Word::Writer | Word::Answer => {
-            draft.is_opened() && !draft.has_lane()
+            draft.is_opened() && !has_lane(draft)
         }
         Word::Lane => draft.is_opened(),
-        _ => draft.is_opened() && draft.has_lane(),
+        _ => draft.is_opened() && has_lane(draft),
     }
 }
 
-/// Whether the lane at hand may have one more such line.
-fn has_line_room(draft: &Draft, op: Op) -> bool
-    ensures { result ≡ has_line_room (length draft.now.lines) (agenda_lines draft.now.lines) op }
+/// Whether there may be one more such line.
+fn has_line_room(counts: Counts, op: Op) -> bool
+    ensures { result ≡ has_line_room counts.lines counts.agenda_lines op }
 {
-    draft.len() < MOST_LINES && (!begins_agenda(op) || draft.agenda_lines() < MOST_AGENDA_LINES)
-}
-
-/// Whether a line is run: some are not yet, and one session alone.
-fn is_built(draft: &Draft, op: Op) -> bool
-    ensures { result ≡ (is_run op && not (is_begin op && has_begin draft.now.lines)) }
-{
-    is_run(op) && !(is_begin(op) && draft.has_begin())
-}
-
-/// Whether lines of this kind are run.
-fn is_run(op: Op) -> bool
-    ensures { result ≡ is_run op }
-{
-    match op {
-        Op::Begin { context, all } => context == 25 && !all,
-        Op::WriteFill { .. }
-        | Op::Read { .. }
-        | Op::ImageBlock { .. }
-        | Op::Start
-        | Op::Add { .. }
-        | Op::Snapshot
-        | Op::Await
-        | Op::End => true,
-        _ => false,
-    }
+    counts.lines < MOST_LINES && (!begins_agenda(op) || counts.agenda_lines < MOST_AGENDA_LINES)
 }
 
 /// A line of the lane at hand.
@@ -99,17 +78,14 @@ fn line_of(
     fields: Fields,
 ) -> Result<Entry, Reason>
     requires parts { AreParts (length text.now) fields }
-    requires draft { IsDraft (length text.now) draft.now }
-    requires in_lane { IsSome draft.now.lane }
-    ensures value { told result ≡ run_of draft.now (line_of text.now (so_far draft.now) number word fields) }
-    ensures kept { IfOk result (IsEntry (length text.now) draft.now) }
+    requires draft { IsDraft text.now draft.now }
+    requires in_lane { 0 < length draft.now.said.lanes }
+    ensures value { told result ≡ line_of text.now draft.now.said number word fields }
+    ensures kept { IfOk result (IsEntry text.now draft.now) }
 {
-    let op = op_of(text, draft.volumes(), word, fields)?;
-    if !has_line_room(draft, op) {
+    let op = op_of(text, draft, word, fields)?;
+    if !has_line_room(draft.counts(), op) {
         return Err(Reason::TooMany);
-    }
-    if !is_built(draft, op) {
-        return Err(Reason::NotBuilt);
     }
     Ok(Entry::Line(LaneLine { number, op }))
 }
@@ -124,17 +100,17 @@ fn row_of(
     fields: Fields,
 ) -> Result<Entry, Reason>
     requires parts { AreParts (length text.now) fields }
-    requires draft { IsDraft (length text.now) draft.now }
-    requires placed { IsTrue (may_stand draft.now.opened (is_some draft.now.lane) word) }
+    requires draft { IsDraft text.now draft.now }
+    requires placed { IsTrue (may_stand draft.now.said.opened (has_lane draft.now.said.lanes) word) }
     requires plain { takes_document word ≡ false }
-    ensures value { told result ≡ run_of draft.now (row_of text.now (so_far draft.now) number word fields) }
-    ensures kept { IfOk result (IsEntry (length text.now) draft.now) }
+    ensures value { told result ≡ row_of text.now draft.now.said number word fields }
+    ensures kept { IfOk result (IsEntry text.now draft.now) }
 {
     match word {
         Word::Scenario => opening_of(text, fields),
         Word::Area => area_of(text, draft, fields),
         Word::Volume => volume_of(text, draft, fields),
-        Word::Answer => Err(answer_refusal(text, draft, fields)),
+        Word::Answer => answer_of(text, draft, fields),
         Word::Lane => lane_of(text, draft, fields),
         _ => line_of(text, draft, number, word, fields),
     }
@@ -151,14 +127,14 @@ fn placed_row_of(
     fields: Fields,
 ) -> Result<Entry, Unread>
     requires parts { AreParts (length text.now) fields }
-    requires draft { IsDraft (length text.now) draft.now }
-    requires placed { IsTrue (may_stand draft.now.opened (is_some draft.now.lane) word) }
-    ensures read { IfOk result (λ entry. run_of draft.now (row_of text.now (so_far draft.now) number word fields) ≡ Ok (saying_in entry)) }
-    ensures kept { IfOk result (IsEntry (length text.now) draft.now) }
-    ensures refused { IfErr result (IsUnread (run_of draft.now (row_of text.now (so_far draft.now) number word fields))) }
+    requires draft { IsDraft text.now draft.now }
+    requires placed { IsTrue (may_stand draft.now.said.opened (has_lane draft.now.said.lanes) word) }
+    ensures read { IfOk result (λ entry. row_of text.now draft.now.said number word fields ≡ Ok (saying_in entry)) }
+    ensures kept { IfOk result (IsEntry text.now draft.now) }
+    ensures refused { IfErr result (IsUnread ((row_of text.now draft.now.said number word fields))) }
 {
     if let Word::Writer = word {
-        return Err(writer_refusal(alloc, text, draft, fields));
+        return writer_of(alloc, text, draft, fields);
     }
     match row_of(text, draft, number, word, fields) {
         Ok(entry) => Ok(entry),
@@ -176,10 +152,10 @@ fn said_of(
 ) -> Result<Entry, Unread>
     requires short { length text.now < 4294967295 }
     requires part { IsPart (length text.now) span }
-    requires draft { IsDraft (length text.now) draft.now }
-    ensures read { IfOk result (λ entry. run_of draft.now (said_of text.now (so_far draft.now) number span.end (words_at text.now span.start span.end)) ≡ Ok (saying_in entry)) }
-    ensures kept { IfOk result (IsEntry (length text.now) draft.now) }
-    ensures refused { IfErr result (IsUnread (run_of draft.now (said_of text.now (so_far draft.now) number span.end (words_at text.now span.start span.end)))) }
+    requires draft { IsDraft text.now draft.now }
+    ensures read { IfOk result (λ entry. said_of text.now draft.now.said number span.end (words_at text.now span.start span.end) ≡ Ok (saying_in entry)) }
+    ensures kept { IfOk result (IsEntry text.now draft.now) }
+    ensures refused { IfErr result (IsUnread ((said_of text.now draft.now.said number span.end (words_at text.now span.start span.end)))) }
 {
     let first = word_at(text, span.start, span.end);
     let Some(word) = Word::of(bytes_of(text, first)) else {
@@ -203,10 +179,10 @@ pub(crate) fn entry_of(
 ) -> Result<Entry, Unread>
     requires short { length text.now < 4294967295 }
     requires part { IsPart (length text.now) line.span }
-    requires draft { IsDraft (length text.now) draft.now }
-    ensures read { IfOk result (λ entry. run_of draft.now (saying_of text.now (so_far draft.now) number line) ≡ Ok (saying_in entry)) }
-    ensures kept { IfOk result (IsEntry (length text.now) draft.now) }
-    ensures refused { IfErr result (IsUnread (run_of draft.now (saying_of text.now (so_far draft.now) number line))) }
+    requires draft { IsDraft text.now draft.now }
+    ensures read { IfOk result (λ entry. saying_of text.now draft.now.said number line ≡ Ok (saying_in entry)) }
+    ensures kept { IfOk result (IsEntry text.now draft.now) }
+    ensures refused { IfErr result (IsUnread ((saying_of text.now draft.now.said number line))) }
 {
     let bytes = bytes_of(text, line.span);
     if !are_printable(bytes) {

@@ -5,7 +5,7 @@ use crate::span::Span;
 use crate::word::Word;
 
 /// The fields of a line, as many as a line may have.
-#[derive(Clone, Copy, Debug, PartialEq, Eq)]
+#[derive(Clone, Copy)]
 pub(crate) enum Fields {
     Zero,
     One(Span),

@@ -7,19 +7,31 @@
 //! `reading_of` adds one last check of each line, that it is run so far (`specs/Built.antt`), and `parse` is proved to
 //! answer exactly that, unless memory runs out. Contracts see a `Scenario` as its plan, which keeps to the limits of
 //! `specs/Bounds.antt` and, for now, to what is run.
+//!
+//! The reader holds what every line says, whatever is run (`specs/Drafts.antt`); names are found in tables, and so are the
+//! rows of a writer's script. To run more, `is_next_built` and `IsBuilt` change, with `src/built.rt` and
+//! `proofs/StillBuilt.antt`, and nothing else here.
 #![tactic(auto)]
 
+mod area_row;
+mod asked;
+mod built;
 mod closing;
+mod counts;
 mod declarations;
 mod draft;
 mod entries;
 mod entry;
+mod field_values;
 mod fields;
+mod group_row;
+mod kept_rows;
 mod lane;
 mod lane_line;
 pub mod laws;
+mod name_table;
 mod names;
-mod numbers;
+pub mod numbers;
 mod op;
 mod ops;
 mod parsing;
@@ -27,12 +39,16 @@ mod parts;
 mod reason;
 mod refused;
 mod scenario;
+mod script;
 mod span;
 mod text_line;
 mod unread;
 mod volume_row;
 mod word;
+mod writer;
+mod writer_lines;
 
+pub use group_row::GroupRow;
 pub use lane_line::LaneLine;
 pub use op::Op;
 pub use parsing::parse;

@@ -1,3 +1,4 @@
+//! Numbers as scenarios and reports write them.
 ghost use Rattle.std.specs.Prelude.{◌≡◌, ◌<◌, ◌≤◌, ◌+◌, length, IfOk};
 ghost use Rattle.scenario.specs.Numbers.{is_digit, begins_number, value_from, in_range, number_in, capped};
 
@@ -49,7 +50,7 @@ fn value_of(digits: &[u8], low: u64, high: u64) -> Result<u64, Reason>
 
 /// The number that these bytes are, from `low` to `high`.
 #[tactic(auto, unfolding(crate::specs::Numbers::number_in))]
-pub(crate) fn number_in(digits: &[u8], low: u64, high: u64) -> Result<u64, Reason>
+pub fn number_in(digits: &[u8], low: u64, high: u64) -> Result<u64, Reason>
     ensures value { result ≡ number_in low high digits.now }
     ensures least { IfOk result (λ n. low ≤ n) }
     ensures most { IfOk result (λ n. n ≤ high) }

@@ -1,87 +1,36 @@
 //! The lines of a lane.
-ghost use Rattle.std.specs.Prelude.{◌≡◌, ◌<◌, ◌≤◌, [], List, ℕ, length, All, Err, IfOk, slice_get};
+ghost use Rattle.std.specs.Prelude.{◌≡◌, List, ℕ, length, IfOk};
 ghost use Rattle.scenario.specs.declared.volume_row.VolumeRow.{VolumeRow as Row};
-ghost use Rattle.scenario.specs.Plan.{blocks_in};
-ghost use Rattle.scenario.specs.Fields.{IsPart, AreParts};
-ghost use Rattle.scenario.specs.Drafts.{IsRow, IsRanged};
-ghost use Rattle.scenario.specs.Ops.{number_field, volume_field, block_field, is_word, write_of, read_of, image_of, query_of, properties_of, revert_of, delete_of, tick_of, begin_of, disable_of, component_of, add_of, alone, op_of};
+ghost use Rattle.scenario.specs.Fields.{AreParts};
+ghost use Rattle.scenario.specs.Drafts.{IsDraft, IsRanged};
+ghost use Rattle.scenario.specs.Ops.{write_of, read_of, image_of, query_of, add_of, properties_of, revert_of, disable_of, delete_of, tick_of, begin_of, component_of, alone, op_of};
 
+use crate::draft::Draft;
+use crate::field_values::{
+    block_field, is_word, number_field, set_and_volume, set_field, volume_alone, volume_field,
+    writer_alone, writer_field,
+};
 use crate::fields::{Fields, bytes_of};
-use crate::names::volume_named;
 use crate::numbers::number_in;
 use crate::op::Op;
 use crate::reason::Reason;
-use crate::span::Span;
-use crate::volume_row::VolumeRow;
 use crate::word::Word;
 
 const MOST_TICKS: u32 = 1_000_000_000;
 
-/// A number from `low` to `high`.
-#[tactic(auto, unfolding(crate::specs::Ops::number_field))]
-pub(crate) fn number_field(text: &[u8], low: u32, high: u32, span: Span) -> Result<u32, Reason>
-    requires { IsPart (length text.now) span }
-    ensures value { result ≡ number_field text.now low high span }
-    ensures least { IfOk result (λ n. low ≤ n) }
-    ensures most { IfOk result (λ n. n ≤ high) }
-{
-    let number = number_in(bytes_of(text, span), u64::from(low), u64::from(high))?;
-    Ok(number as u32)
-}
-
-/// The number of a declared volume.
-#[tactic(auto, unfolding(crate::specs::Ops::volume_field))]
-fn volume_field(text: &[u8], rows: &[VolumeRow], span: Span) -> Result<u32, Reason>
-    requires part { IsPart (length text.now) span }
-    requires rows { All (IsRow (length text.now)) rows.now }
-    requires few { length rows.now ≤ 128 }
-    ensures value { result ≡ volume_field text.now rows.now span }
-    ensures in_range { IfOk result (λ v. v < length rows.now) }
-{
-    volume_named(text, rows, bytes_of(text, span)).ok_or(Reason::UnknownName)
-}
-
-/// A block of a volume.
-#[tactic(auto, unfolding(crate::specs::Ops::block_field))]
-fn block_field(text: &[u8], rows: &[VolumeRow], volume: u32, span: Span) -> Result<u32, Reason>
-    requires part { IsPart (length text.now) span }
-    requires rows { All (IsRow (length text.now)) rows.now }
-    requires volume { volume < length rows.now }
-    ensures value { result ≡ block_field text.now rows.now volume span }
-    ensures in_range { IfOk result (λ b. b < blocks_in (slice_get rows.now volume)) }
-{
-    number_field(text, 0, rows[volume as usize].blocks - 1, span)
-}
-
-/// The number of a set, from 1.
-fn set_field(text: &[u8], span: Span) -> Result<u32, Reason>
-    requires { IsPart (length text.now) span }
-    ensures { result ≡ number_field text.now 1 4294967295 span }
-{
-    number_field(text, 1, u32::MAX, span)
-}
-
-pub(crate) fn is_word(text: &[u8], span: Span, name: &[u8]) -> bool
-    requires { IsPart (length text.now) span }
-    ensures { result ≡ is_word text.now span name.now }
-{
-    bytes_of(text, span) == name
-}
-
 /// `write volume block fill x`, `write volume block stamp n`.
 #[tactic(auto, unfolding(crate::specs::Ops::write_of, crate::specs::Ops::number_field))]
-fn write_of(text: &[u8], rows: &[VolumeRow], fields: Fields) -> Result<Op, Reason>
+fn write_of(text: &[u8], draft: &Draft, fields: Fields) -> Result<Op, Reason>
     requires parts { AreParts (length text.now) fields }
-    requires rows { All (IsRow (length text.now)) rows.now }
-    requires few { length rows.now ≤ 128 }
-    ensures value { result ≡ write_of text.now rows.now fields }
-    ensures ranged { IfOk result (IsRanged rows.now) }
+    requires draft { IsDraft text.now draft.now }
+    ensures value { result ≡ write_of text.now draft.now.said.volumes fields }
+    ensures ranged { IfOk result (IsRanged (length text.now) draft.now.said.volumes (length draft.now.said.writers)) }
 {
     let Fields::Four(volume, block, kind, number) = fields else {
         return Err(Reason::BadCount);
     };
-    let volume = volume_field(text, rows, volume)?;
-    let block = block_field(text, rows, volume, block)?;
+    let volume = volume_field(text, draft, volume)?;
+    let block = block_field(text, draft, volume, block)?;
     if is_word(text, kind, b"fill") {
         let byte = number_field(text, 0, 255, number)? as u8;
         return Ok(Op::WriteFill {
@@ -103,40 +52,38 @@ fn write_of(text: &[u8], rows: &[VolumeRow], fields: Fields) -> Result<Op, Reaso
 
 /// `read volume block`.
 #[tactic(auto, unfolding(crate::specs::Ops::read_of))]
-fn read_of(text: &[u8], rows: &[VolumeRow], fields: Fields) -> Result<Op, Reason>
+fn read_of(text: &[u8], draft: &Draft, fields: Fields) -> Result<Op, Reason>
     requires parts { AreParts (length text.now) fields }
-    requires rows { All (IsRow (length text.now)) rows.now }
-    requires few { length rows.now ≤ 128 }
-    ensures value { result ≡ read_of text.now rows.now fields }
-    ensures ranged { IfOk result (IsRanged rows.now) }
+    requires draft { IsDraft text.now draft.now }
+    ensures value { result ≡ read_of text.now draft.now.said.volumes fields }
+    ensures ranged { IfOk result (IsRanged (length text.now) draft.now.said.volumes (length draft.now.said.writers)) }
 {
     let Fields::Two(volume, block) = fields else {
         return Err(Reason::BadCount);
     };
-    let volume = volume_field(text, rows, volume)?;
-    let block = block_field(text, rows, volume, block)?;
+    let volume = volume_field(text, draft, volume)?;
+    let block = block_field(text, draft, volume, block)?;
     Ok(Op::Read { volume, block })
 }
 
 /// `image set volume`, `image set volume block`.
 #[tactic(auto, unfolding(crate::specs::Ops::image_of))]
-fn image_of(text: &[u8], rows: &[VolumeRow], fields: Fields) -> Result<Op, Reason>
+fn image_of(text: &[u8], draft: &Draft, fields: Fields) -> Result<Op, Reason>
     requires parts { AreParts (length text.now) fields }
-    requires rows { All (IsRow (length text.now)) rows.now }
-    requires few { length rows.now ≤ 128 }
-    ensures value { result ≡ image_of text.now rows.now fields }
-    ensures ranged { IfOk result (IsRanged rows.now) }
+    requires draft { IsDraft text.now draft.now }
+    ensures value { result ≡ image_of text.now draft.now.said.volumes fields }
+    ensures ranged { IfOk result (IsRanged (length text.now) draft.now.said.volumes (length draft.now.said.writers)) }
 {
     match fields {
         Fields::Two(set, volume) => {
             let set = set_field(text, set)?;
-            let volume = volume_field(text, rows, volume)?;
+            let volume = volume_field(text, draft, volume)?;
             Ok(Op::ImageDigest { set, volume })
         }
         Fields::Three(set, volume, block) => {
             let set = set_field(text, set)?;
-            let volume = volume_field(text, rows, volume)?;
-            let block = block_field(text, rows, volume, block)?;
+            let volume = volume_field(text, draft, volume)?;
+            let block = block_field(text, draft, volume, block)?;
             Ok(Op::ImageBlock { set, volume, block })
         }
         _ => Err(Reason::BadCount),
@@ -144,63 +91,67 @@ fn image_of(text: &[u8], rows: &[VolumeRow], fields: Fields) -> Result<Op, Reaso
 }
 
 /// `query volume`.
-#[tactic(auto, unfolding(crate::specs::Ops::query_of))]
-fn query_of(text: &[u8], rows: &[VolumeRow], fields: Fields) -> Result<Op, Reason>
+fn query_of(text: &[u8], draft: &Draft, fields: Fields) -> Result<Op, Reason>
     requires parts { AreParts (length text.now) fields }
-    requires rows { All (IsRow (length text.now)) rows.now }
-    requires few { length rows.now ≤ 128 }
-    ensures value { result ≡ query_of text.now rows.now fields }
-    ensures ranged { IfOk result (IsRanged rows.now) }
+    requires draft { IsDraft text.now draft.now }
+    ensures value { result ≡ query_of text.now draft.now.said.volumes fields }
+    ensures ranged { IfOk result (IsRanged (length text.now) draft.now.said.volumes (length draft.now.said.writers)) }
 {
-    let Fields::One(volume) = fields else {
-        return Err(Reason::BadCount);
-    };
-    let volume = volume_field(text, rows, volume)?;
+    let volume = volume_alone(text, draft, fields)?;
     Ok(Op::Query { volume })
 }
 
-/// `properties set volume`.
-#[tactic(auto, unfolding(crate::specs::Ops::properties_of))]
-fn properties_of(text: &[u8], rows: &[VolumeRow], fields: Fields) -> Result<Op, Reason>
+/// `add volume`.
+fn add_of(text: &[u8], draft: &Draft, fields: Fields) -> Result<Op, Reason>
     requires parts { AreParts (length text.now) fields }
-    requires rows { All (IsRow (length text.now)) rows.now }
-    requires few { length rows.now ≤ 128 }
-    ensures value { result ≡ properties_of text.now rows.now fields }
-    ensures ranged { IfOk result (IsRanged rows.now) }
+    requires draft { IsDraft text.now draft.now }
+    ensures value { result ≡ add_of text.now draft.now.said.volumes fields }
+    ensures ranged { IfOk result (IsRanged (length text.now) draft.now.said.volumes (length draft.now.said.writers)) }
 {
-    let Fields::Two(set, volume) = fields else {
-        return Err(Reason::BadCount);
-    };
-    let set = set_field(text, set)?;
-    let volume = volume_field(text, rows, volume)?;
+    let volume = volume_alone(text, draft, fields)?;
+    Ok(Op::Add { volume })
+}
+
+/// `properties set volume`.
+fn properties_of(text: &[u8], draft: &Draft, fields: Fields) -> Result<Op, Reason>
+    requires parts { AreParts (length text.now) fields }
+    requires draft { IsDraft text.now draft.now }
+    ensures value { result ≡ properties_of text.now draft.now.said.volumes fields }
+    ensures ranged { IfOk result (IsRanged (length text.now) draft.now.said.volumes (length draft.now.said.writers)) }
+{
+    let (set, volume) = set_and_volume(text, draft, fields)?;
     Ok(Op::Properties { set, volume })
 }
 
 /// `revert set volume`.
-#[tactic(auto, unfolding(crate::specs::Ops::revert_of))]
-fn revert_of(text: &[u8], rows: &[VolumeRow], fields: Fields) -> Result<Op, Reason>
+fn revert_of(text: &[u8], draft: &Draft, fields: Fields) -> Result<Op, Reason>
     requires parts { AreParts (length text.now) fields }
-    requires rows { All (IsRow (length text.now)) rows.now }
-    requires few { length rows.now ≤ 128 }
-    ensures value { result ≡ revert_of text.now rows.now fields }
-    ensures ranged { IfOk result (IsRanged rows.now) }
+    requires draft { IsDraft text.now draft.now }
+    ensures value { result ≡ revert_of text.now draft.now.said.volumes fields }
+    ensures ranged { IfOk result (IsRanged (length text.now) draft.now.said.volumes (length draft.now.said.writers)) }
 {
-    let Fields::Two(set, volume) = fields else {
-        return Err(Reason::BadCount);
-    };
-    let set = set_field(text, set)?;
-    let volume = volume_field(text, rows, volume)?;
+    let (set, volume) = set_and_volume(text, draft, fields)?;
     Ok(Op::Revert { set, volume })
+}
+
+/// `disable writer`.
+fn disable_of(text: &[u8], draft: &Draft, fields: Fields) -> Result<Op, Reason>
+    requires parts { AreParts (length text.now) fields }
+    requires draft { IsDraft text.now draft.now }
+    ensures value { result ≡ disable_of text.now draft.now.said.writers fields }
+    ensures ranged { IfOk result (IsRanged (length text.now) draft.now.said.volumes (length draft.now.said.writers)) }
+{
+    let writer = writer_alone(text, draft, fields)?;
+    Ok(Op::Disable { writer })
 }
 
 /// `delete set`, `delete set volume`.
 #[tactic(auto, unfolding(crate::specs::Ops::delete_of))]
-fn delete_of(text: &[u8], rows: &[VolumeRow], fields: Fields) -> Result<Op, Reason>
+fn delete_of(text: &[u8], draft: &Draft, fields: Fields) -> Result<Op, Reason>
     requires parts { AreParts (length text.now) fields }
-    requires rows { All (IsRow (length text.now)) rows.now }
-    requires few { length rows.now ≤ 128 }
-    ensures value { result ≡ delete_of text.now rows.now fields }
-    ensures ranged { IfOk result (IsRanged rows.now) }
+    requires draft { IsDraft text.now draft.now }
+    ensures value { result ≡ delete_of text.now draft.now.said.volumes fields }
+    ensures ranged { IfOk result (IsRanged (length text.now) draft.now.said.volumes (length draft.now.said.writers)) }
 {
     match fields {
         Fields::One(set) => {
@@ -209,7 +160,7 @@ fn delete_of(text: &[u8], rows: &[VolumeRow], fields: Fields) -> Result<Op, Reas
         }
         Fields::Two(set, volume) => {
             let set = set_field(text, set)?;
-            let volume = volume_field(text, rows, volume)?;
+            let volume = volume_field(text, draft, volume)?;
             Ok(Op::DeleteImage { set, volume })
         }
         _ => Err(Reason::BadCount),
@@ -221,7 +172,7 @@ fn delete_of(text: &[u8], rows: &[VolumeRow], fields: Fields) -> Result<Op, Reas
 fn tick_of(text: &[u8], fields: Fields) -> Result<Op, Reason>
     requires { AreParts (length text.now) fields }
     ensures value { result ≡ tick_of text.now fields }
-    ensures ranged { (rows : List Row) → IfOk result (IsRanged rows) }
+    ensures ranged { (n writers : ℕ) (rows : List Row) → IfOk result (IsRanged n rows writers) }
 {
     let Fields::One(ticks) = fields else {
         return Err(Reason::BadCount);
@@ -235,7 +186,7 @@ fn tick_of(text: &[u8], fields: Fields) -> Result<Op, Reason>
 fn begin_of(text: &[u8], fields: Fields) -> Result<Op, Reason>
     requires { AreParts (length text.now) fields }
     ensures value { result ≡ begin_of text.now fields }
-    ensures ranged { (rows : List Row) → IfOk result (IsRanged rows) }
+    ensures ranged { (n writers : ℕ) (rows : List Row) → IfOk result (IsRanged n rows writers) }
 {
     match fields {
         Fields::One(context) => {
@@ -256,40 +207,19 @@ fn begin_of(text: &[u8], fields: Fields) -> Result<Op, Reason>
     }
 }
 
-/// Why `disable writer` is refused: no `writer` line is run so far, so no name is a writer's.
-fn disable_refusal(fields: Fields) -> Reason
-    ensures { (text : List ℕ) → disable_of text [] fields ≡ Err result }
-{
-    match fields {
-        Fields::One(_) => Reason::UnknownName,
-        _ => Reason::BadCount,
-    }
-}
-
-/// Why `component writer rest` is refused, likewise.
-fn component_refusal(fields: Fields) -> Reason
-    ensures { (text : List ℕ) → component_of text [] fields ≡ Err result }
-{
-    match fields {
-        Fields::Two(_, _) => Reason::UnknownName,
-        _ => Reason::BadCount,
-    }
-}
-
-/// `add volume`.
-#[tactic(auto, unfolding(crate::specs::Ops::add_of))]
-fn add_of(text: &[u8], rows: &[VolumeRow], fields: Fields) -> Result<Op, Reason>
+/// `component writer rest`.
+#[tactic(auto, unfolding(crate::specs::Ops::component_of))]
+fn component_of(text: &[u8], draft: &Draft, fields: Fields) -> Result<Op, Reason>
     requires parts { AreParts (length text.now) fields }
-    requires rows { All (IsRow (length text.now)) rows.now }
-    requires few { length rows.now ≤ 128 }
-    ensures value { result ≡ add_of text.now rows.now fields }
-    ensures ranged { IfOk result (IsRanged rows.now) }
+    requires draft { IsDraft text.now draft.now }
+    ensures value { result ≡ component_of text.now draft.now.said.writers fields }
+    ensures ranged { IfOk result (IsRanged (length text.now) draft.now.said.volumes (length draft.now.said.writers)) }
 {
-    let Fields::One(volume) = fields else {
+    let Fields::Two(writer, full) = fields else {
         return Err(Reason::BadCount);
     };
-    let volume = volume_field(text, rows, volume)?;
-    Ok(Op::Add { volume })
+    let writer = writer_field(text, draft, writer)?;
+    Ok(Op::Component { writer, full })
 }
 
 /// A word alone.
@@ -306,34 +236,28 @@ fn alone(op: Op, fields: Fields) -> Result<Op, Reason>
 
 /// What a line of a lane says, by its first word.
 #[tactic(auto, unfolding(crate::specs::Ops::op_of))]
-pub(crate) fn op_of(
-    text: &[u8],
-    rows: &[VolumeRow],
-    word: Word,
-    fields: Fields,
-) -> Result<Op, Reason>
+pub(crate) fn op_of(text: &[u8], draft: &Draft, word: Word, fields: Fields) -> Result<Op, Reason>
     requires parts { AreParts (length text.now) fields }
-    requires rows { All (IsRow (length text.now)) rows.now }
-    requires few { length rows.now ≤ 128 }
-    ensures value { result ≡ op_of text.now rows.now [] word fields }
-    ensures ranged { IfOk result (IsRanged rows.now) }
+    requires draft { IsDraft text.now draft.now }
+    ensures value { result ≡ op_of text.now draft.now.said.volumes draft.now.said.writers word fields }
+    ensures ranged { IfOk result (IsRanged (length text.now) draft.now.said.volumes (length draft.now.said.writers)) }
 {
     match word {
-        Word::Write => write_of(text, rows, fields),
-        Word::Read => read_of(text, rows, fields),
-        Word::Image => image_of(text, rows, fields),
-        Word::Query => query_of(text, rows, fields),
-        Word::Properties => properties_of(text, rows, fields),
-        Word::Revert => revert_of(text, rows, fields),
-        Word::Delete => delete_of(text, rows, fields),
+        Word::Write => write_of(text, draft, fields),
+        Word::Read => read_of(text, draft, fields),
+        Word::Image => image_of(text, draft, fields),
+        Word::Query => query_of(text, draft, fields),
+        Word::Properties => properties_of(text, draft, fields),
+        Word::Revert => revert_of(text, draft, fields),
+        Word::Delete => delete_of(text, draft, fields),
         Word::Tick => tick_of(text, fields),
         Word::Begin => begin_of(text, fields),
-        Word::Disable => Err(disable_refusal(fields)),
+        Word::Disable => disable_of(text, draft, fields),
         Word::Gather => alone(Op::Gather, fields),
-        Word::Component => Err(component_refusal(fields)),
+        Word::Component => component_of(text, draft, fields),
         Word::Document => alone(Op::Document, fields),
         Word::Start => alone(Op::Start, fields),
-        Word::Add => add_of(text, rows, fields),
+        Word::Add => add_of(text, draft, fields),
         Word::Prepare => alone(Op::Prepare, fields),
         Word::Snapshot => alone(Op::Snapshot, fields),
         Word::Await => alone(Op::Await, fields),

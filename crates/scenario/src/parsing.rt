@@ -2,10 +2,11 @@ ghost use Rattle.std.specs.Prelude.{◌≡◌, ◌<◌, ◌+◌, ◌∷◌, List
 ghost use Rattle.scenario.specs.declared.text_line.TextLine.{TextLine as Line};
 ghost use Rattle.scenario.specs.Fields.{IsPart};
 ghost use Rattle.scenario.specs.SoFar.{plan_in};
-ghost use Rattle.scenario.specs.Built.{is_next_built};
-ghost use Rattle.scenario.specs.Drafts.{IsDraft, so_far};
+ghost use Rattle.scenario.specs.Built.{is_next_built, IsBuiltSoFar};
+ghost use Rattle.scenario.specs.Drafts.{IsDraft};
 ghost use Rattle.scenario.specs.Grammar.{reading_of, read_from, IsScenario, IsRefusal, IsRefused};
 
+use crate::built::is_next_built;
 use crate::draft::Draft;
 use crate::entries::entry_of;
 use crate::reason::Reason;
@@ -26,13 +27,15 @@ fn take_in(
 ) -> Result<(), Refused>
     requires short { length text.now < 4294967295 }
     requires part { IsPart (length text.now) line.span }
-    requires draft { IsDraft (length text.now) draft.old }
+    requires draft { IsDraft text.now draft.old }
+    requires built { IsBuiltSoFar draft.old.said }
     ensures on { OnOk result ((rest : List Line) →
-        read_from is_next_built text.now number (so_far draft.old) (line ∷ rest)
-        ≡ read_from is_next_built text.now (number + 1) (so_far draft.new) rest) }
-    ensures kept { OnOk result (IsDraft (length text.now) draft.new) }
+        read_from is_next_built text.now number draft.old.said (line ∷ rest)
+        ≡ read_from is_next_built text.now (number + 1) draft.new.said rest) }
+    ensures kept { OnOk result (IsDraft text.now draft.new) }
+    ensures built { OnOk result (IsBuiltSoFar draft.new.said) }
     ensures refused { IfErr result (λ refused. (rest : List Line) →
-        IsRefused (read_from is_next_built text.now number (so_far draft.old) (line ∷ rest)) refused) }
+        IsRefused (read_from is_next_built text.now number draft.old.said (line ∷ rest)) refused) }
 {
     let entry = match entry_of(alloc, text, draft, number, line) {
         Ok(entry) => entry,
@@ -44,7 +47,13 @@ fn take_in(
         }
         Err(Unread::OutOfMemory) => return Err(Refused::OutOfMemory),
     };
-    match draft.add(entry) {
+    if !is_next_built(draft, &entry) {
+        return Err(Refused::Line {
+            line: number,
+            reason: Reason::NotBuilt,
+        });
+    }
+    match draft.add(alloc, text, entry) {
         Ok(()) => Ok(()),
         Err(_) => Err(Refused::OutOfMemory),
     }
@@ -54,8 +63,9 @@ fn take_in(
 #[tactic(auto, unfolding(crate::specs::Grammar::reading_of))]
 fn read(alloc: Global, text: &[u8]) -> Result<Draft, Refused>
     requires { length text.now < 4294967295 }
-    ensures read { IfOk result (λ draft. reading_of text.now ≡ IsScenario (plan_in text.now (so_far draft))) }
-    ensures kept { IfOk result (IsDraft (length text.now)) }
+    ensures read { IfOk result (λ draft. reading_of text.now ≡ IsScenario (plan_in text.now draft.said)) }
+    ensures kept { IfOk result (IsDraft text.now) }
+    ensures built { IfOk result (λ draft. IsBuiltSoFar draft.said) }
     ensures refused { IfErr result (IsRefusal text.now) }
 {
     let mut draft = Draft::new(alloc);
@@ -82,8 +92,9 @@ fn read(alloc: Global, text: &[u8]) -> Result<Draft, Refused>
 /// The scenario of a text and of what its lines say.
 fn finish(alloc: Global, text: &[u8], draft: Draft) -> Result<Scenario, OutOfMemory>
     requires short { length text.now < 4294967295 }
-    requires draft { IsDraft (length text.now) draft }
-    ensures { IfOk result (λ scenario. scenario ≡ plan_in text.now (so_far draft)) }
+    requires draft { IsDraft text.now draft }
+    requires built { IsBuiltSoFar draft.said }
+    ensures { IfOk result (λ scenario. scenario ≡ plan_in text.now draft.said) }
 {
     let source = Text::copy(alloc, text)?;
     let parts = draft.into_parts(alloc)?;
@@ -92,7 +103,8 @@ fn finish(alloc: Global, text: &[u8], draft: Draft) -> Result<Scenario, OutOfMem
 
 /// Reads a scenario from its text, forward and once. A text is refused at its first bad line, with the first check that
 /// this does not pass. The last check of a line is that its kind, form and values are run: `Reason::NotBuilt`. Memory is
-/// taken for a copy of the text, for the volumes, for the lines of the lanes, and for each metadata document that is read.
+/// taken for a copy of the text, for all that it declares, the names among it, for each metadata document that is read,
+/// and for the lines of the lanes.
 pub fn parse(alloc: Global, text: &[u8]) -> Result<Scenario, Refused>
     requires { length text.now < 4294967295 }
     ensures read { IfOk result (λ scenario. reading_of text.now ≡ IsScenario scenario) }

@@ -1,22 +1,30 @@
 ghost use Rattle.std.specs.Prelude.{◌≡◌, ◌<◌, length, slice_get, Some, option_map};
-ghost use Rattle.scenario.specs.Plan.{token, lines_of, acts_as};
+ghost use Rattle.writer_meta.specs.Metadata.{meta_of};
+ghost use Rattle.writer_calls.specs.Script.{scripted_answer};
+ghost use Rattle.scenario.specs.Plan.{token, lines_of, acts_as, script_of};
 ghost use Rattle.scenario.specs.Bounds.{IsPlan, IsSpan};
 ghost use Rattle.scenario.specs.Built.{IsBuilt};
 
+use crate::group_row::GroupRow;
 use crate::lane::Lane;
 use crate::lane_line::LaneLine;
 use crate::op::Op;
 use crate::parts::Parts;
 use crate::span::Span;
 use crate::volume_row::VolumeRow;
+use crate::writer::Writer;
 use std::marker::Model;
-use vss_names::Text;
+use vss_names::{Order, Text};
+use writer_calls::Answer;
+use writer_meta::Metadata;
 
 /// A scenario that was read. Contracts see it as its plan, which keeps to the limits.
 #[derive(Drop)]
 pub struct Scenario {
     source: Text,
     volumes: Vec<VolumeRow>,
+    groups: Vec<GroupRow>,
+    writers: Vec<Writer>,
     lanes: Vec<Lane>,
 }
 
@@ -38,13 +46,15 @@ impl Scenario {
 
     /// The scenario of a text, without taking memory.
     pub(crate) fn of(source: Text, parts: Parts) -> Scenario
-        requires plan { IsPlan (plan_from source.bytes parts.volumes.items parts.lanes.items) }
-        requires built { IsBuilt (plan_from source.bytes parts.volumes.items parts.lanes.items) }
-        ensures { result ≡ plan_from source.bytes parts.volumes.items parts.lanes.items }
+        requires plan { IsPlan (plan_from source.bytes parts.volumes.items parts.groups.items parts.writers.items parts.lanes.items) }
+        requires built { IsBuilt (plan_from source.bytes parts.volumes.items parts.groups.items parts.writers.items parts.lanes.items) }
+        ensures { result ≡ plan_from source.bytes parts.volumes.items parts.groups.items parts.writers.items parts.lanes.items }
     {
         Scenario {
             source,
             volumes: parts.volumes,
+            groups: parts.groups,
+            writers: parts.writers,
             lanes: parts.lanes,
         }
     }
@@ -66,11 +76,11 @@ impl Scenario {
         self.volumes[v as usize]
     }
 
-    /// How many groups of volumes there are. They are numbered by their first volumes, and each volume that is run is one.
+    /// How many groups of volumes there are. They are numbered by their first volumes.
     pub fn groups(&self) -> u32
         ensures { result ≡ length self.now.groups }
     {
-        self.volumes.len() as u32
+        self.groups.len() as u32
     }
 
     /// The name of a declared area; of a volume with an area of its own, the volume's name.
@@ -78,7 +88,7 @@ impl Scenario {
         requires { g < length self.now.groups }
         ensures { option_map (λ group. group.name) (slice_get self.now.groups g) ≡ Some result }
     {
-        self.volumes[g as usize].name
+        self.groups[g as usize].name
     }
 
     /// The slots of a group's diff area.
@@ -86,7 +96,40 @@ impl Scenario {
         requires { g < length self.now.groups }
         ensures { option_map (λ group. group.slots) (slice_get self.now.groups g) ≡ Some result }
     {
-        self.volumes[g as usize].slots
+        self.groups[g as usize].slots
+    }
+
+    /// How many writers are declared.
+    pub fn writers(&self) -> u32
+        ensures count { result ≡ length self.now.writers }
+        ensures plan { IsPlan self.now }
+    {
+        self.writers.len() as u32
+    }
+
+    /// The name of a writer.
+    pub fn writer_name(&self, w: u32) -> Span
+        requires { w < length self.now.writers }
+        ensures { option_map (λ writer. writer.name) (slice_get self.now.writers w) ≡ Some result }
+    {
+        self.writers[w as usize].name
+    }
+
+    /// What a writer tells of itself.
+    pub fn metadata(&self, w: u32) -> &Metadata
+        requires { w < length self.now.writers }
+        ensures { option_map (λ writer. writer.meta) (slice_get self.now.writers w) ≡ Some (meta_of result.now) }
+    {
+        &self.writers[w as usize].metadata
+    }
+
+    /// What a writer answers to its `nth` order of a kind, counted from 1; none is a lost answer. A writer answers ok
+    /// where its script does not speak of the order.
+    pub fn script(&self, w: u32, order: Order, nth: u32) -> Option<Answer>
+        requires { w < length self.now.writers }
+        ensures { result ≡ scripted_answer (script_of self.now w) order nth }
+    {
+        self.writers[w as usize].script.answer(order, nth)
     }
 
     /// How many writers are declared. No scenario that is read has any so far.
@@ -123,6 +166,14 @@ impl Scenario {
         ensures { option_map (λ l. l.name) (slice_get self.now.lanes lane) ≡ Some result }
     {
         self.lanes[lane as usize].name
+    }
+
+    /// The number of the writer as which a lane acts; none of a lane without `as`.
+    pub fn acts_as(&self, lane: u32) -> Option<u32>
+        requires { lane < length self.now.lanes }
+        ensures { result ≡ acts_as self.now lane }
+    {
+        self.lanes[lane as usize].acts_as
     }
 
     /// How many lines a lane has, with the `end` that it gets without writing it.

@@ -4,7 +4,7 @@ ghost use Rattle.scenario.specs.Lines.{lines_at};
 use crate::span::Span;
 
 /// A line of a text, without its newline.
-#[derive(Clone, Copy, Debug, PartialEq, Eq)]
+#[derive(Clone, Copy)]
 pub(crate) struct TextLine {
     pub span: Span,
     /// Whether a newline ends it. Only the last line may have none.

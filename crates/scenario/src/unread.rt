@@ -1,7 +1,7 @@
 use crate::reason::Reason;
 
 /// Why a line is not taken.
-#[derive(Clone, Copy, Debug, PartialEq, Eq)]
+#[derive(Clone, Copy)]
 pub(crate) enum Unread {
     /// The first check that it does not pass.
     Bad(Reason),

@@ -1,7 +1,23 @@
-use Rattle.std.proofs.Common.{◌+◌}
+use Rattle.std.proofs.Common.{◌≡◌, ℕ, ◌+◌, ◌≤◌, ◌==◌, true, List, [], length, refl, ap, sym, ◌∙◌, arith}
+use Rattle.std.proofs.lemmas.Bool.Decides.{nat_tests}
+use Rattle.std.proofs.lemmas.List.{drop_all}
+use Rattle.scenario.specs.declared.text_line.TextLine.{TextLine}
 use Rattle.scenario.specs.Lines.{lines_at}
+use Rattle.scenario.specs.Built.{is_next_built}
+use Rattle.scenario.specs.Grammar.{read_from}
 use Rattle.scenario.proofs.parsing.read.Goals as goal
 
 pub returns-in-Err-clause-refused : goal.returns-in-Err-clause-refused
 returns-in-Err-clause-refused c =
     rw (c.lines.invariant.0, c.line_at-line.ensures.next) (c.in-Err.ensures.refused (lines_at c.args.text.now (c.line_at-line.result.span.end + 1)))
+
+no_lines : (text : List ℕ) (at : ℕ) → length text ≤ at → lines_at text at ≡ []
+no_lines text at past =
+    let same : (at == at) ≡ true = grind (arith, nat_tests) in
+    rw (drop_all at text past, same) refl
+
+pub returns-then-not-is_opened-clause-refused : goal.returns-then-not-is_opened-clause-refused
+returns-then-not-is_opened-clause-refused c =
+    c.lines.invariant.0
+    ∙ ap (λ (ls : List TextLine). read_from is_next_built c.args.text.now c.lines.number c.lines.draft.said ls) (no_lines c.args.text.now c.lines.at c.lines-test.false)
+    ∙ rw (sym c.is_opened.ensures, c.if-not-is_opened.true) refl

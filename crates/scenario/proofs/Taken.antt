@@ -1,0 +1,60 @@
+-- The names that are taken: as many as there are of their kind, and a new one is none of them.
+use Rattle.std.proofs.Common.{◌≡◌, ℕ, ◌+◌, Bool, true, false, cond, List, [], ◌∷◌, ◌++◌, length, map, Vec, Global, Some, None, refl, ap, sym, ◌∙◌}
+use Rattle.std.specs.Prelude.{position, if◌then◌else◌}
+use Rattle.std.specs.List.{position_from, list_any}
+use Rattle.std.specs.Str.{bytes_eq}
+use Rattle.std.proofs.lemmas.List.{length-map, map-append}
+use Rattle.std.proofs.lemmas.Iterator.Adapters.{position_from-zero}
+use Rattle.indexmap.specs.IndexSet.{insert_key}
+use Rattle.scenario.specs.declared.area_row.AreaRow.{AreaRow}
+use Rattle.scenario.specs.declared.volume_row.VolumeRow.{VolumeRow}
+use Rattle.scenario.specs.Plan.{WriterPlan}
+use Rattle.scenario.specs.Fields.{bytes_of}
+use Rattle.scenario.specs.Names.{place_of}
+use Rattle.scenario.specs.SoFar.{SoFar}
+use Rattle.scenario.specs.Drafts.{Names, AreNames}
+
+pub count_areas : (text : List ℕ) (d : SoFar) (names : Names) → AreNames text d names → length names.areas ≡ length d.areas
+count_areas text d names h = rw h.areas (length-map d.areas (λ (a : AreaRow). bytes_of text a.name))
+
+pub count_volumes : (text : List ℕ) (d : SoFar) (names : Names) → AreNames text d names → length names.volumes ≡ length d.volumes
+count_volumes text d names h = rw h.volumes (length-map d.volumes (λ (r : VolumeRow). bytes_of text r.name))
+
+pub count_writers : (text : List ℕ) (d : SoFar) (names : Names) → AreNames text d names → length names.writers ≡ length d.writers
+count_writers text d names h = rw h.writers (length-map d.writers (λ (w : WriterPlan). bytes_of text w.name))
+
+-- ## a table of names
+
+abbrev Key : Type 0
+Key = Vec ℕ Global
+
+abbrev pub items_of : Key → List ℕ
+items_of k = k.items
+
+place-from : (name : List ℕ) (i : ℕ) (ks : List Key) → position_from (λ (k : Key). bytes_eq name k.items) i ks ≡ position_from (λ other. bytes_eq name other) i (map items_of ks)
+place-from name i [] = refl
+place-from name i (k ∷ ks) = ap (cond (bytes_eq name k.items) (Some i)) (place-from name (i + 1) ks)
+
+pub place_is : (name : List ℕ) (ks : List Key) → position (λ (k : Key). bytes_eq name k.items) ks ≡ place_of name (map items_of ks)
+place_is name ks =
+    position_from-zero (λ (k : Key). bytes_eq name k.items) ks ∙ place-from name 0 ks ∙ sym (position_from-zero (λ other. bytes_eq name other) (map items_of ks))
+
+absent-at : (eq : Key → Key → Bool) (k e : Key) (i : ℕ) (ks : List Key) (b : Bool) → eq k e ≡ b → cond b (Some i) (position_from (λ other. bytes_eq k.items other) (i + 1) (map items_of ks)) ≡ None
+    → (position_from (λ other. bytes_eq k.items other) (i + 1) (map items_of ks) ≡ None → list_any (eq k) ks ≡ false) → list_any (eq k) (e ∷ ks) ≡ false
+absent-at eq k e i ks true h n f = cc
+absent-at eq k e i ks false h n f = rw (h, f n) refl
+
+absent-from : (eq : Key → Key → Bool) (k : Key) (i : ℕ) (ks : List Key) → ((x : Key) → eq k x ≡ bytes_eq k.items x.items) → position_from (λ other. bytes_eq k.items other) i (map items_of ks) ≡ None
+    → list_any (eq k) ks ≡ false
+absent-from eq k i [] same n = refl
+absent-from eq k i (e ∷ ks) same n =
+    absent-at eq k e i ks (eq k e) refl (ap (λ b. cond b (Some i) (position_from (λ other. bytes_eq k.items other) (i + 1) (map items_of ks))) (same e) ∙ n) (absent-from eq k (i + 1) ks same)
+
+-- a new name goes last
+pub insert_new : (eq : Key → Key → Bool) (k : Key) (name : List ℕ) (ks : List Key) (names : List (List ℕ)) → ((x : Key) → eq k x ≡ bytes_eq k.items x.items) → k.items ≡ name → map items_of ks ≡ names → place_of name names ≡ None
+    → map items_of (insert_key eq ks k) ≡ names ++ name ∷ []
+insert_new eq k name ks names same e m n =
+    let absent : position_from (λ other. bytes_eq k.items other) 0 (map items_of ks) ≡ None =
+    sym (position_from-zero (λ other. bytes_eq k.items other) (map items_of ks)) ∙ ap (λ x. place_of x (map items_of ks)) e ∙ ap (place_of name) m ∙ n in
+    let none : list_any (eq k) ks ≡ false = absent-from eq k 0 ks same absent in
+    ap (λ b. map items_of (if b then ks else ks ++ k ∷ [])) none ∙ map-append items_of ks (k ∷ []) ∙ ap (λ x. map items_of ks ++ x ∷ []) e ∙ ap (λ xs. xs ++ name ∷ []) m

@@ -1,0 +1,223 @@
+//! The lines that declare a writer and its answers.
+ghost use Rattle.std.specs.Prelude.{◌≡◌, ◌<◌, ◌≤◌, [], false, Ok, None, length, is_some, IfOk, IfErr};
+ghost use Rattle.scenario.specs.declared.entry.Entry.TheVariants as entry;
+ghost use Rattle.scenario.specs.Fields.{bytes_of, IsPart, AreParts};
+ghost use Rattle.scenario.specs.Names.{place_of};
+ghost use Rattle.scenario.specs.SoFar.{answer_count};
+ghost use Rattle.scenario.specs.Drafts.{AreCounts, IsDraft, IsEntry, IsShortPart, saying_in, told, IsUnread};
+ghost use Rattle.scenario.specs.Declarations.{order_field, code_field, is_answered, nth_field, asked_of, row_for, answer_if, lost_if, veto_if, answer_of, new_writer, writer_of};
+
+use crate::asked::Asked;
+use crate::declarations::name_field;
+use crate::draft::Draft;
+use crate::entry::Entry;
+use crate::field_values::{is_word, number_field, writer_field};
+use crate::fields::{Fields, bytes_of};
+use crate::reason::Reason;
+use crate::span::Span;
+use crate::unread::Unread;
+use std::alloc::Global;
+use vss_names::{Order, WriterError};
+use writer_calls::{Answer, Scripted};
+use writer_meta::{MetaFault, Metadata};
+
+const MOST_WRITERS: usize = 64;
+/// Of the orders of a kind that a script speaks of.
+const MOST_NTH: u32 = 2_000;
+/// Of the `answer` lines.
+const MOST_ANSWERS: usize = 10_000;
+
+/// The name of a writer that is new.
+#[tactic(auto, unfolding(crate::specs::Names::writer_named))]
+fn new_writer(text: &[u8], draft: &Draft, name: Span) -> Result<Span, Reason>
+    requires part { IsPart (length text.now) name }
+    requires draft { IsDraft text.now draft.now }
+    ensures value { result ≡ new_writer text.now draft.now.said name }
+    ensures short { IfOk result (IsShortPart (length text.now)) }
+    ensures new { IfOk result (λ n. place_of (bytes_of text.now n) draft.now.names.writers ≡ None) }
+{
+    let taken = draft.writer_named(bytes_of(text, name)).is_some();
+    name_field(text, taken, name)
+}
+
+/// `writer name rest`, the rest a metadata document.
+#[tactic(auto, unfolding(crate::specs::Declarations::writer_of))]
+pub(crate) fn writer_of(
+    alloc: Global,
+    text: &[u8],
+    draft: &Draft,
+    fields: Fields,
+) -> Result<Entry, Unread>
+    requires parts { AreParts (length text.now) fields }
+    requires draft { IsDraft text.now draft.now }
+    requires no_lane { draft.now.said.lanes ≡ [] }
+    ensures read { IfOk result (λ entry. writer_of text.now draft.now.said fields ≡ Ok (saying_in entry)) }
+    ensures kept { IfOk result (IsEntry text.now draft.now) }
+    ensures refused { IfErr result (IsUnread (writer_of text.now draft.now.said fields)) }
+{
+    let Fields::Two(name, document) = fields else {
+        return Err(Unread::Bad(Reason::BadCount));
+    };
+    let name = match new_writer(text, draft, name) {
+        Ok(name) => name,
+        Err(reason) => return Err(Unread::Bad(reason)),
+    };
+    let metadata = match Metadata::from_json(alloc, bytes_of(text, document)) {
+        Ok(metadata) => metadata,
+        Err(MetaFault::OutOfMemory) => return Err(Unread::OutOfMemory),
+        Err(_) => return Err(Unread::Bad(Reason::BadDocument)),
+    };
+    if draft.writers() >= MOST_WRITERS {
+        return Err(Unread::Bad(Reason::TooMany));
+    }
+    Ok(Entry::Writer(name, metadata))
+}
+
+/// An order by its name.
+fn order_field(text: &[u8], span: Span) -> Result<Order, Reason>
+    requires { IsPart (length text.now) span }
+    ensures { result ≡ order_field text.now span }
+{
+    Order::of_name(bytes_of(text, span)).ok_or(Reason::UnknownWord)
+}
+
+/// The code of a veto by its name.
+fn code_field(text: &[u8], span: Span) -> Result<WriterError, Reason>
+    requires { IsPart (length text.now) span }
+    ensures { result ≡ code_field text.now span }
+{
+    WriterError::of_name(bytes_of(text, span)).ok_or(Reason::UnknownWord)
+}
+
+/// Which order of its kind a line speaks of, where no line before it does.
+fn nth_field(
+    text: &[u8],
+    draft: &Draft,
+    writer: u32,
+    order: Order,
+    span: Span,
+) -> Result<u32, Reason>
+    requires part { IsPart (length text.now) span }
+    requires writer { writer < length draft.now.said.writers }
+    ensures value { result ≡ nth_field text.now draft.now.said.writers writer order span }
+    ensures least { IfOk result (λ n. 0 < n) }
+    ensures most { IfOk result (λ n. n ≤ 2000) }
+    ensures new { IfOk result (λ n. is_answered draft.now.said.writers writer order n ≡ false) }
+{
+    let nth = number_field(text, 1, MOST_NTH, span)?;
+    if draft.is_answered(writer, order, nth) {
+        return Err(Reason::DoubleName);
+    }
+    Ok(nth)
+}
+
+/// Which order of which writer an `answer` line speaks of.
+#[tactic(auto, unfolding(crate::specs::Declarations::asked_of))]
+fn asked_of(
+    text: &[u8],
+    draft: &Draft,
+    writer: Span,
+    order: Span,
+    nth: Span,
+) -> Result<Asked, Reason>
+    requires writer { IsPart (length text.now) writer }
+    requires order { IsPart (length text.now) order }
+    requires nth { IsPart (length text.now) nth }
+    requires draft { IsDraft text.now draft.now }
+    ensures value { result ≡ asked_of text.now draft.now.said.writers writer order nth }
+    ensures known { IfOk result (λ a. a.writer < length draft.now.said.writers) }
+    ensures least { IfOk result (λ a. 0 < a.nth) }
+    ensures most { IfOk result (λ a. a.nth ≤ 2000) }
+    ensures new { IfOk result (λ a. is_answered draft.now.said.writers a.writer a.order a.nth ≡ false) }
+{
+    let writer = writer_field(text, draft, writer)?;
+    let order = order_field(text, order)?;
+    let nth = nth_field(text, draft, writer, order, nth)?;
+    Ok(Asked { writer, order, nth })
+}
+
+/// One row more.
+fn answer_if(draft: &Draft, asked: Asked, answer: Option<Answer>) -> Result<Entry, Reason>
+    requires { AreCounts draft.now.said draft.now.counts }
+    ensures value { told result ≡ answer_if draft.now.said asked answer }
+    ensures same { IfOk result (λ e. e ≡ entry.Answer asked.writer (row_for asked answer)) }
+    ensures few { IfOk result (λ e. answer_count draft.now.said.writers < 10000) }
+{
+    if draft.counts().answers >= MOST_ANSWERS {
+        return Err(Reason::TooMany);
+    }
+    Ok(Entry::Answer(
+        asked.writer,
+        Scripted {
+            order: asked.order,
+            nth: asked.nth,
+            answer,
+        },
+    ))
+}
+
+/// A lost answer.
+fn lost_if(text: &[u8], draft: &Draft, kind: Span, asked: Asked) -> Result<Entry, Reason>
+    requires part { IsPart (length text.now) kind }
+    requires draft { IsDraft text.now draft.now }
+    requires known { asked.writer < length draft.now.said.writers }
+    requires least { 0 < asked.nth }
+    requires most { asked.nth ≤ 2000 }
+    requires new { is_answered draft.now.said.writers asked.writer asked.order asked.nth ≡ false }
+    requires no_lane { draft.now.said.lanes ≡ [] }
+    ensures value { told result ≡ lost_if text.now draft.now.said kind asked }
+    ensures kept { IfOk result (IsEntry text.now draft.now) }
+{
+    if !is_word(text, kind, b"lost") {
+        return Err(Reason::UnknownWord);
+    }
+    answer_if(draft, asked, None)
+}
+
+/// A veto.
+fn veto_if(
+    text: &[u8],
+    draft: &Draft,
+    kind: Span,
+    code: Span,
+    asked: Asked,
+) -> Result<Entry, Reason>
+    requires kind { IsPart (length text.now) kind }
+    requires code { IsPart (length text.now) code }
+    requires draft { IsDraft text.now draft.now }
+    requires known { asked.writer < length draft.now.said.writers }
+    requires least { 0 < asked.nth }
+    requires most { asked.nth ≤ 2000 }
+    requires new { is_answered draft.now.said.writers asked.writer asked.order asked.nth ≡ false }
+    requires no_lane { draft.now.said.lanes ≡ [] }
+    ensures value { told result ≡ veto_if text.now draft.now.said kind code asked }
+    ensures kept { IfOk result (IsEntry text.now draft.now) }
+{
+    if !is_word(text, kind, b"veto") {
+        return Err(Reason::UnknownWord);
+    }
+    let error = code_field(text, code)?;
+    answer_if(draft, asked, Some(Answer::Veto(error)))
+}
+
+/// `answer writer order nth lost`, `answer writer order nth veto code`.
+#[tactic(auto, unfolding(crate::specs::Declarations::answer_of))]
+pub(crate) fn answer_of(text: &[u8], draft: &Draft, fields: Fields) -> Result<Entry, Reason>
+    requires parts { AreParts (length text.now) fields }
+    requires draft { IsDraft text.now draft.now }
+    requires no_lane { draft.now.said.lanes ≡ [] }
+    ensures value { told result ≡ answer_of text.now draft.now.said fields }
+    ensures kept { IfOk result (IsEntry text.now draft.now) }
+{
+    match fields {
+        Fields::Four(writer, order, nth, kind) => {
+            let asked = asked_of(text, draft, writer, order, nth)?;
+            lost_if(text, draft, kind, asked)
+        }
+        Fields::Five(writer, order, nth, kind, code) => {
+            let asked = asked_of(text, draft, writer, order, nth)?;
+            veto_if(text, draft, kind, code, asked)
+        }
+        _ => Err(Reason::BadCount),
+    }
+}
