@@ -1,10 +1,14 @@
 -- Each scenario that is read has names by the grammar, those of writers and of lanes apart, and its lines are numbered by the lines of
 -- its text.
-use Rattle.std.proofs.Common.{◌≡◌, ◌∙◌, ℕ, zero, suc, ◌+◌, ◌-◌, ◌^◌, ◌<◌, ◌≤◌, Bool, true, false, List, [], ◌∷◌, ◌++◌, length, map, Option, Some, None, Result, Ok, Err, refl, ap, sym, subst, arith}
+use Rattle.std.proofs.Common.{◌≡◌, ◌∙◌, ℕ, zero, suc, ◌+◌, ◌-◌, ◌^◌, ◌<◌, ◌≤◌, Bool, true, false, List, [], ◌∷◌, ◌++◌, length, map, Option, Some, None, Result, Ok, Err, refl, ap, sym, subst, arith, cond}
 use Rattle.std.specs.Prelude.{◌==◌, ◌&&◌, not, nat_lt, nat_le, is_some, if◌then◌else◌, slice_get, codes}
-use Rattle.std.specs.List.{list_all}
+use Rattle.std.specs.List.{list_all, position_from}
 use Rattle.std.specs.Str.{bytes_eq}
+use Rattle.std.proofs.lemmas.Iterator.Adapters.{position_from-zero}
+use Rattle.std.proofs.lemmas.Slice.Eq.{bytes_eq-Decides}
+use Rattle.writer_calls.specs.declared.answer.Answer.{Answer as Answered}
 use Rattle.writer_calls.specs.declared.answer.Answer.TheVariants.{Veto}
+use Rattle.scenario.specs.declared.asked.Asked.{Asked}
 use Rattle.writer_calls.specs.declared.scripted.Scripted.{Scripted}
 use Rattle.scenario.specs.declared.reason.Reason.{Reason}
 use Rattle.scenario.specs.declared.reason.Reason.TheVariants.{Empty, BadName, DoubleName, TooMany, UnknownWord, BadByte, NoNewline, Misplaced}
@@ -17,13 +21,13 @@ use Rattle.scenario.specs.declared.word.Word.{Word}
 use Rattle.scenario.specs.declared.word.Word.TheVariants as word
 use Rattle.scenario.specs.Plan.{Plan, GroupPlan, WriterPlan, LanePlan, LaneLine}
 use Rattle.scenario.specs.Bounds.{ends_sessions}
-use Rattle.scenario.specs.Names.{is_name, place_from, volume_named, writer_named, lane_named}
+use Rattle.scenario.specs.Names.{is_name, writer_names, lane_names, volume_named, writer_named, lane_named}
 use Rattle.scenario.specs.Lines.{span_from, lines_from, lines_in}
 use Rattle.scenario.specs.Fields.{bytes_of, words_at, fields_for}
 use Rattle.scenario.specs.Words.{word_of}
 use Rattle.scenario.specs.Ops.{◌>>=◌, op_of, number_field, writer_field, is_word}
 use Rattle.scenario.specs.SoFar.{SoFar, Saying, Skipped, Opening, Area, OwnVolume, SharedVolume, Writer, Answer, Lane, Line, nothing, after, with_answer, with_line, implied_end, closed, closed_lane, plan_in, line_count, agenda_count, answer_count}
-use Rattle.scenario.specs.Declarations.{name_field, opening_of, area_of, has_space, has_volume_room, new_volume, blocks_field, own_row, own_volume_of, area_field, shared_row, shared_volume_of, volume_of, document_field, writer_of, order_field, code_field, nth_field, answer_if, row_for, answer_of, new_lane, lane_if, free_lane_of, acting_lane_of, lane_of}
+use Rattle.scenario.specs.Declarations.{name_field, opening_of, area_of, has_space, has_volume_room, new_volume, blocks_field, own_row, own_volume_of, area_field, shared_row, shared_volume_of, volume_of, document_field, new_writer, writer_of, code_field, asked_of, answer_if, row_for, answer_of, new_lane, lane_if, free_lane_of, acting_lane_of, lane_of}
 use Rattle.scenario.specs.Entries.{is_printable, is_skipped, has_lane, may_stand, has_line_room, line_of, row_of, placed_row_of, said_of, saying_of}
 use Rattle.scenario.specs.Grammar.{Reading, IsScenario, IsBad, whole, goes_on, run_only, read_from, language_of}
 use Rattle.scenario.specs.Named.{AllNamed, Differ, Distinct, volume_spans, writer_spans, lane_spans, Numbered, AllNumbered, HasNames}
@@ -35,7 +39,7 @@ IsSaid text d number Skipped = Unit {0}
 IsSaid text d number Opening = Unit {0}
 IsSaid text d number (Area area) = Unit {0}
 IsSaid text d number (OwnVolume row) = is_name (bytes_of text row.name) ≡ true
-IsSaid text d number (SharedVolume row area) = is_name (bytes_of text row.name) ≡ true
+IsSaid text d number (SharedVolume row a area) = is_name (bytes_of text row.name) ≡ true
 IsSaid text d number (Writer w) = (is_name (bytes_of text w.name) ≡ true) × (is_some (writer_named text d.writers (bytes_of text w.name)) ≡ false)
 IsSaid text d number (Answer w row) = Unit {0}
 IsSaid text d number (Lane name whom) = (is_name (bytes_of text name) ≡ true) × (is_some (lane_named text d.lanes (bytes_of text name)) ≡ false)
@@ -75,6 +79,7 @@ opening_said text d number (One version) = on_bind (IsSaid text d number) (numbe
 opening_said text d number _ = tt
 
 area_said : (text : List ℕ) (d : SoFar) (number : ℕ) (fields : Fields) → IsGood (IsSaid text d number) (area_of text d fields)
+unfolding area_of
 area_said text d number (Two name slots) =
     on_bind (IsSaid text d number) (name_field text _ name) _ (λ n e. on_bind (IsSaid text d number) (number_field text 0 65536 slots) _ (λ s f. on_either (IsSaid text d number) (nat_lt (length d.areas) 128 && has_space d s) (Ok (Area (record { name = n; slots = s }))) (Err TooMany) tt tt))
 area_said text d number _ = tt
@@ -89,7 +94,7 @@ shared_said : (text : List ℕ) (d : SoFar) (number : ℕ) (name blocks kind are
 unfolding shared_volume_of
 shared_said text d number name blocks kind area =
     on_bind (IsSaid text d number) (new_volume text d name) _ (λ n e. on_bind (IsSaid text d number) (blocks_field text blocks) _ (λ b f. on_either (IsSaid text d number) (is_word text kind (codes "in")) _ (Err UnknownWord)
-    (on_bind (IsSaid text d number) (area_field text d.areas area) _ (λ a g. on_either (IsSaid text d number) (has_volume_room d b) (Ok (SharedVolume (shared_row d n b a) a)) (Err TooMany) (new_name text _ name n e).name tt)) tt))
+    (on_bind (IsSaid text d number) (area_field text d.areas area) _ (λ p g. on_either (IsSaid text d number) (has_volume_room d b) (Ok (SharedVolume (shared_row d n b p.1) p.0 p.1)) (Err TooMany) (new_name text _ name n e).name tt)) tt))
 
 volume_said : (text : List ℕ) (d : SoFar) (number : ℕ) (fields : Fields) → IsGood (IsSaid text d number) (volume_of text d fields)
 volume_said text d number (Three name blocks slots) = own_said text d number name blocks slots
@@ -105,21 +110,23 @@ lane_new : (text : List ℕ) (d : SoFar) (name n : Span) → IsNewName text (is_
 lane_new text d name n h = (h.name, subst (λ x. is_some (lane_named text d.lanes (bytes_of text x)) ≡ false) (sym h.same) h.free)
 
 writer_said : (text : List ℕ) (d : SoFar) (number : ℕ) (fields : Fields) → IsGood (IsSaid text d number) (writer_of text d fields)
+unfolding writer_of
 writer_said text d number (Two name document) =
-    on_bind (IsSaid text d number) (name_field text (is_some (writer_named text d.writers (bytes_of text name))) name) _ (λ n e. on_bind (IsSaid text d number) (document_field text document) _
+    on_bind (IsSaid text d number) (new_writer text d name) _ (λ n e. on_bind (IsSaid text d number) (document_field text document) _
     (λ meta f. on_either (IsSaid text d number) (nat_lt (length d.writers) 64) (Ok (Writer (record { name = n; meta = meta; script = [] }))) (Err TooMany) (writer_new text d name n (new_name text _ name n e)) tt))
 writer_said text d number _ = tt
 
-row_said : (text : List ℕ) (d : SoFar) (number w : ℕ) (row : Scripted) → IsGood (IsSaid text d number) (answer_if d w row)
-row_said text d number w row = on_either (IsSaid text d number) (nat_lt (answer_count d.writers) 10000) (Ok (Answer w row)) (Err TooMany) tt tt
+row_said : (text : List ℕ) (d : SoFar) (number : ℕ) (asked : Asked) (answer : Option Answered) → IsGood (IsSaid text d number) (answer_if d asked answer)
+row_said text d number asked answer = on_either (IsSaid text d number) (nat_lt (answer_count d.writers) 10000) (Ok (Answer asked.writer (row_for asked answer))) (Err TooMany) tt tt
 
 answer_said : (text : List ℕ) (d : SoFar) (number : ℕ) (fields : Fields) → IsGood (IsSaid text d number) (answer_of text d fields)
+unfolding answer_of
 answer_said text d number (Four writer order nth kind) =
-    on_bind (IsSaid text d number) (writer_field text d.writers writer) _ (λ w e. on_bind (IsSaid text d number) (order_field text order) _ (λ o f. on_bind (IsSaid text d number) (nth_field text d.writers w o nth) _
-    (λ n g. on_either (IsSaid text d number) (is_word text kind (codes "lost")) _ (Err UnknownWord) (row_said text d number w (row_for o n None)) tt)))
+    on_bind (IsSaid text d number) (asked_of text d.writers writer order nth) _
+    (λ asked e. on_either (IsSaid text d number) (is_word text kind (codes "lost")) (answer_if d asked None) (Err UnknownWord) (row_said text d number asked None) tt)
 answer_said text d number (Five writer order nth kind code) =
-    on_bind (IsSaid text d number) (writer_field text d.writers writer) _ (λ w e. on_bind (IsSaid text d number) (order_field text order) _ (λ o f. on_bind (IsSaid text d number) (nth_field text d.writers w o nth) _
-    (λ n g. on_either (IsSaid text d number) (is_word text kind (codes "veto")) _ (Err UnknownWord) (on_bind (IsSaid text d number) (code_field text code) _ (λ error h. row_said text d number w (row_for o n (Some (Veto error))))) tt)))
+    on_bind (IsSaid text d number) (asked_of text d.writers writer order nth) _
+    (λ asked e. on_either (IsSaid text d number) (is_word text kind (codes "veto")) _ (Err UnknownWord) (on_bind (IsSaid text d number) (code_field text code) _ (λ error h. row_said text d number asked (Some (Veto error)))) tt)
 answer_said text d number _ = tt
 
 free_said : (text : List ℕ) (d : SoFar) (number : ℕ) (name : Span) → IsGood (IsSaid text d number) (free_lane_of text d name)
@@ -187,14 +194,34 @@ distinct_more : (text : List ℕ) (spans : List Span) (span : Span) → Distinct
 distinct_more text [] span h absent = (tt, tt)
 distinct_more text (x ∷ spans) span h absent = (differ_more text x spans span h.0 absent.0, distinct_more text spans span h.1 absent.1)
 
-absent_from : (text name : List ℕ) (n : ℕ) (spans : List Span) → is_some (place_from text name n spans) ≡ false → Absent text name spans
-absent_from text name n [] e = tt
-absent_from text name n (span ∷ spans) e = by_first (bytes_eq (bytes_of text span) name) refl e (absent_from text name (n + 1) spans)
+swapped : (a b : List ℕ) → bytes_eq a b ≡ false → bytes_eq b a ≡ false
+swapped a b e = by_answer (bytes_eq b a) refl
   where
-    by_first : (b : Bool) → bytes_eq (bytes_of text span) name ≡ b → is_some (if b then Some n else place_from text name (n + 1) spans) ≡ false
-        → (is_some (place_from text name (n + 1) spans) ≡ false → Absent text name spans) → (bytes_eq (bytes_of text span) name ≡ false) × Absent text name spans
-    by_first true f g later = absurd cc
-    by_first false f g later = (f, later g)
+    both_ways : (t : Bool) → t ≡ true → t ≡ false → ⊥
+    both_ways t f g = cc
+
+    by_answer : (t : Bool) → bytes_eq b a ≡ t → t ≡ false
+    by_answer true f = absurd (both_ways (bytes_eq a b) ((bytes_eq-Decides a b).1 (sym ((bytes_eq-Decides b a).0 f))) e)
+    by_answer false f = refl
+
+absent_from : {X : Type 0} (text name : List ℕ) (f : X → Span) (n : ℕ) (xs : List X) → is_some (position_from (λ other. bytes_eq name other) n (map (λ x. bytes_of text (f x)) xs)) ≡ false → Absent text name (map f xs)
+absent_from text name f n [] e = tt
+absent_from text name f n (x ∷ xs) e = by_first (bytes_eq name (bytes_of text (f x))) refl e (absent_from text name f (n + 1) xs)
+  where
+    by_first : (b : Bool) → bytes_eq name (bytes_of text (f x)) ≡ b → is_some (cond b (Some n) (position_from (λ other. bytes_eq name other) (n + 1) (map (λ y. bytes_of text (f y)) xs))) ≡ false
+        → (is_some (position_from (λ other. bytes_eq name other) (n + 1) (map (λ y. bytes_of text (f y)) xs)) ≡ false → Absent text name (map f xs)) → (bytes_eq (bytes_of text (f x)) name ≡ false) × Absent text name (map f xs)
+    by_first true g h later = absurd cc
+    by_first false g h later = (swapped name (bytes_of text (f x)) g, later h)
+
+absent_writer : (text name : List ℕ) (ws : List WriterPlan) → is_some (writer_named text ws name) ≡ false → Absent text name (writer_spans ws)
+unfolding writer_named
+absent_writer text name ws e =
+    absent_from text name (λ (w : WriterPlan). w.name) 0 ws (ap is_some (sym (position_from-zero (λ other. bytes_eq name other) (writer_names text ws))) ∙ e)
+
+absent_lane : (text name : List ℕ) (lanes : List LanePlan) → is_some (lane_named text lanes name) ≡ false → Absent text name (lane_spans lanes)
+unfolding lane_named
+absent_lane text name lanes e =
+    absent_from text name (λ (l : LanePlan). l.name) 0 lanes (ap is_some (sym (position_from-zero (λ other. bytes_eq name other) (lane_names text lanes))) ∙ e)
 
 -- ## what the lines so far say
 
@@ -230,11 +257,8 @@ spans_line l (x ∷ y ∷ lanes) = ap (λ s. x.name ∷ s) (spans_line l (y ∷ 
 
 spans_answer : (w : ℕ) (row : Scripted) (ws : List WriterPlan) → writer_spans (with_answer w row ws) ≡ writer_spans ws
 spans_answer w row [] = refl
-spans_answer w row (x ∷ ws) = by_place (w == 0) (spans_answer (w - 1) row ws)
-  where
-    by_place : (b : Bool) → writer_spans (with_answer (w - 1) row ws) ≡ writer_spans ws → writer_spans (if b then record x { script = x.script ++ row ∷ [] } ∷ ws else x ∷ with_answer (w - 1) row ws) ≡ x.name ∷ writer_spans ws
-    by_place true e = refl
-    by_place false e = ap (λ s. x.name ∷ s) e
+spans_answer zero row (x ∷ ws) = refl
+spans_answer (suc w) row (x ∷ ws) = ap (λ s. x.name ∷ s) (spans_answer w row ws)
 
 spans_closed : (lanes : List LanePlan) → lane_spans (map closed_lane lanes) ≡ lane_spans lanes
 spans_closed [] = refl
@@ -260,7 +284,7 @@ named_after text k d (OwnVolume row) said h = record {
   lanes_apart = h.lanes_apart;
   lines = all_numbered_on k d.lanes h.lines;
 }
-named_after text k d (SharedVolume row area) said h = record {
+named_after text k d (SharedVolume row a area) said h = record {
   volumes = subst (AllNamed text) (sym (spans_more (λ (r : VolumeRow). r.name) d.volumes row)) (named_more text (volume_spans d.volumes) row.name h.volumes said);
   writers = h.writers;
   lanes = h.lanes;
@@ -274,7 +298,7 @@ named_after text k d (Writer w) said h =
       volumes = h.volumes;
       writers = subst (AllNamed text) (sym more) (named_more text (writer_spans d.writers) w.name h.writers said.0);
       lanes = h.lanes;
-      writers_apart = subst (Distinct text) (sym more) (distinct_more text (writer_spans d.writers) w.name h.writers_apart (absent_from text (bytes_of text w.name) 0 (writer_spans d.writers) said.1));
+      writers_apart = subst (Distinct text) (sym more) (distinct_more text (writer_spans d.writers) w.name h.writers_apart (absent_writer text (bytes_of text w.name) d.writers said.1));
       lanes_apart = h.lanes_apart;
       lines = all_numbered_on k d.lanes h.lines;
     }
@@ -296,7 +320,7 @@ named_after text k d (Lane name whom) said h =
       writers = h.writers;
       lanes = subst (AllNamed text) (sym more) (named_more text (lane_spans d.lanes) name h.lanes said.0);
       writers_apart = h.writers_apart;
-      lanes_apart = subst (Distinct text) (sym more) (distinct_more text (lane_spans d.lanes) name h.lanes_apart (absent_from text (bytes_of text name) 0 (lane_spans d.lanes) said.1));
+      lanes_apart = subst (Distinct text) (sym more) (distinct_more text (lane_spans d.lanes) name h.lanes_apart (absent_lane text (bytes_of text name) d.lanes said.1));
       lines = all_numbered_lane (k + 1) d.lanes lane (all_numbered_on k d.lanes h.lines) refl;
     }
 named_after text k d (Line l) said h =

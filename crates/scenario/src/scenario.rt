@@ -132,25 +132,6 @@ impl Scenario {
         self.writers[w as usize].script.answer(order, nth)
     }
 
-    /// How many writers are declared. No scenario that is read has any so far.
-    pub fn writers(&self) -> u32
-        ensures count { result ≡ length self.now.writers }
-        ensures plan { IsPlan self.now }
-        ensures built { IsBuilt self.now }
-    {
-        let _ = &self.source;
-        0
-    }
-
-    /// The name of a writer.
-    pub fn writer_name(&self, w: u32) -> Span
-        requires { w < length self.now.writers }
-        ensures { option_map (λ writer. writer.name) (slice_get self.now.writers w) ≡ Some result }
-    {
-        let _ = &self.source;
-        Span { start: w, end: w }
-    }
-
     /// How many lanes there are.
     pub fn lanes(&self) -> u32
         ensures count { result ≡ length self.now.lanes }

@@ -17,3 +17,4 @@ pub mod LaneReplies
 pub mod ToldLegible
 pub mod RowCodes
 pub mod ScenarioNames
+pub mod StateWords
