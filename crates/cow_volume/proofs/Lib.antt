@@ -35,3 +35,4 @@ pub mod GroupSteps
 pub mod GroupWrites
 pub mod GroupCounts
 pub mod CopiedOnce
+pub mod OneVolume

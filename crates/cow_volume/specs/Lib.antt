@@ -12,3 +12,4 @@ pub mod Restoring
 pub mod Ending
 pub mod Steps
 pub mod Counts
+pub mod OneVolume

@@ -3,7 +3,7 @@
 //! A block's old bytes are copied into a slot of the area before its first overwrite since the newest cut. Contracts see a
 //! `CowGroup` as its devices, its area, and for each volume the sets of its images; `specs/StandsFor.antt` says for which
 //! histories of effective writes and images a group stands, and each call for which it stands afterwards. All memory is taken
-//! by `new`.
+//! by `new`. A `CowVolume` is one volume by itself, with an area of its own; its calls speak of the one history that it stands for.
 #![tactic(auto)]
 
 mod calling;
@@ -11,6 +11,7 @@ mod cause;
 mod copies;
 mod copying;
 mod cow_group;
+mod cow_volume;
 mod ending;
 mod image_fault;
 mod reads;
@@ -22,6 +23,7 @@ mod written;
 
 pub use cause::Cause;
 pub use cow_group::CowGroup;
+pub use cow_volume::CowVolume;
 pub use image_fault::ImageFault;
 pub use revert_fault::RevertFault;
 pub use write_fault::WriteFault;
