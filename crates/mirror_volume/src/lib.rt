@@ -6,6 +6,7 @@
 //! `replies` answers a list of commands, and is proved once for both.
 #![tactic(auto)]
 
+mod allowing;
 mod command;
 mod cow_images;
 mod image_volume;
@@ -22,6 +23,7 @@ mod stale_blocks;
 mod sync_fault;
 mod synced;
 
+pub use allowing::may_be_given;
 pub use command::Command;
 pub use image_volume::ImageVolume;
 pub use laws::{
