@@ -40,3 +40,4 @@ pub mod CopiedOnce
 pub mod MixedRows
 pub mod TakingUp
 pub mod KeptParts
+pub mod OneVolume

@@ -14,3 +14,4 @@ pub mod Steps
 pub mod Counts
 pub mod Resuming
 pub mod TakingUp
+pub mod OneVolume

@@ -3,7 +3,8 @@
 //! A block's old bytes are copied into a slot of the area before its first overwrite since the newest cut. Contracts see a
 //! `CowGroup` as its devices, its area, and for each volume the sets of its images; `specs/StandsFor.antt` says for which
 //! histories of effective writes and images a group stands, and each call for which it stands afterwards. All memory is taken
-//! by `new` or `resume`.
+//! by `new` or `resume`. A `CowVolume` is one volume by itself, with an area of its own; its calls speak of the one history that it
+//! stands for.
 #![tactic(auto)]
 
 mod calling;
@@ -11,6 +12,7 @@ mod cause;
 mod copies;
 mod copying;
 mod cow_group;
+mod cow_volume;
 mod ending;
 mod image_fault;
 mod laws;
@@ -25,6 +27,7 @@ mod written;
 
 pub use cause::Cause;
 pub use cow_group::CowGroup;
+pub use cow_volume::CowVolume;
 pub use image_fault::ImageFault;
 pub use laws::{what_is_synced_is_kept, what_is_taken_apart_is_taken_up};
 pub use resume_fault::ResumeFault;

@@ -1,0 +1,208 @@
+-- What the calls on a group leave where it is of one volume.
+use Rattle.std.proofs.Common.{◌≡◌, ℕ, zero, suc, ◌≤◌, List, [], ◌∷◌, length, refl, ap, sym, arith, Bool, true, false, Option, Some, None, subst}
+use Rattle.std.proofs.lemmas.List.{append-nil}
+use Rattle.std.specs.Prelude.{slice_get, is_some, Result, Ok, Err, ◌&&◌, OnOk, IfOk, IfSome}
+use Rattle.std.specs.List.{list_all}
+use Rattle.write_history.specs.History.{History, Write, point_in, written}
+use Rattle.write_history.specs.Slots.{gone_up_to, copies, copies_of}
+use Rattle.diff_area.specs.Copies.{AreStored}
+use Rattle.cow_volume.specs.GroupValue.{GroupValue, placed}
+use Rattle.cow_volume.specs.StandsFor.{StandsFor}
+use Rattle.cow_volume.specs.Calls.{HasImageCause, changed_at, blocks_in, IsQuiet, IsNow, IsShown, IsEvicted, IsWrite, IsDropped, IsRevert}
+use Rattle.cow_volume.specs.Ending.{AllTell, IsSync}
+use Rattle.cow_volume.specs.Parts.{IsUnseen}
+use Rattle.cow_volume.specs.OneVolume.{StandsForOne, image_sets, tells, without_up_to, blocks_of, IsEvictedOne, IsOneWrite, IsOneNow, IsOneShown, IsOneDropped, IsOneRevert, IsOneSync, copies_in}
+use Rattle.cow_volume.specs.declared.cause.Cause.{Cause}
+use Rattle.cow_volume.specs.declared.written.Written.{Written}
+use Rattle.cow_volume.specs.declared.write_fault.WriteFault.{WriteFault}
+use Rattle.cow_volume.specs.declared.image_fault.ImageFault.{ImageFault}
+use Rattle.cow_volume.specs.declared.image_fault.ImageFault.TheVariants.{NoSuchImage as NoImage, NoSuchBlock as NoBlock, Volume as VolumeFailed, Area as AreaFailed}
+use Rattle.cow_volume.specs.declared.revert_fault.RevertFault.{RevertFault}
+use Rattle.cow_volume.specs.declared.revert_fault.RevertFault.TheVariants.{NoSuchImage, Fault}
+use Rattle.cow_volume.proofs.Group.{quiet_stands}
+
+-- ## a list of one
+
+-- images that go from the one volume
+one_gone : (volumes : List ℕ) (m : ℕ) (h : History) → length volumes ≡ 1 → gone_up_to m (placed volumes) (h ∷ []) ≡ without_up_to m h ∷ []
+one_gone [] m h one = absurd (omega arith)
+one_gone (n ∷ []) m h one = refl
+one_gone (n ∷ k ∷ volumes) m h one = absurd (omega arith)
+
+-- the greatest set of the one history
+one_within : (h : History) (sets : ℕ) → ((n : ℕ) → is_some (point_in n h.images) ≡ true → n ≤ sets)
+    → (u n : ℕ) (k : History) → slice_get (h ∷ []) u ≡ Some k → is_some (point_in n k.images) ≡ true → n ≤ sets
+one_within h sets most zero n k at is = let same : h ≡ k = cc in most n (subst (λ (x : History). is_some (point_in n x.images) ≡ true) (sym same) is)
+one_within h sets most (suc u) n k at is = cc
+
+one_evicted : {D : Type 0} → (volume : GroupValue D) (b : ℕ) (h : History) (up_to : ℕ) → IsEvicted volume 0 b (h ∷ []) up_to → IsEvictedOne volume b h up_to
+one_evicted volume b h up_to is = λ sets most. is sets (one_within h sets most)
+
+-- ## devices that tell
+
+and_first : (s t : Bool) → (s && t) ≡ true → s ≡ true
+and_first true t e = refl
+and_first false t e = e
+
+and_second : (s t : Bool) → (s && t) ≡ true → t ≡ true
+and_second true t e = e
+and_second false t e = cc
+
+all_tell : {D : Type 0} → (told : D → Option (List (List ℕ))) (devices : List D) → list_all (λ d. is_some (told d)) devices ≡ true → AllTell told devices
+all_tell told [] all v d at = cc
+all_tell told (x ∷ devices) all zero d at = let same : x ≡ d = cc in subst (λ y. is_some (told y) ≡ true) same (and_first (is_some (told x)) (list_all (λ d. is_some (told d)) devices) all)
+all_tell told (x ∷ devices) all (suc v) d at = all_tell told devices (and_second (is_some (told x)) (list_all (λ d. is_some (told d)) devices) all) v d at
+
+device_tells : {D : Type 0} → (told : D → Option (List (List ℕ))) (volume : GroupValue D) → tells told volume ≡ true → AllTell told volume.devices
+device_tells told volume all = all_tell told volume.devices (and_first (list_all (λ d. is_some (told d)) volume.devices) (is_some (told volume.area.device)) all)
+
+area_tells : {D : Type 0} → (told : D → Option (List (List ℕ))) (volume : GroupValue D) → tells told volume ≡ true → is_some (told volume.area.device) ≡ true
+area_tells told volume all = and_second (list_all (λ d. is_some (told d)) volume.devices) (is_some (told volume.area.device)) all
+
+first_of_one : {D : Type 0} → (devices : List D) → length devices ≡ 1 → (d : D) × (slice_get devices 0 ≡ Some d)
+first_of_one [] one = absurd (omega arith)
+first_of_one (d ∷ devices) one = (d, refl)
+
+-- ## what a volume stands for
+
+pub one_quiet : {D : Type 0} → (told : D → Option (List (List ℕ))) (size count : D → ℕ) (lending : D → Bool) (old new : GroupValue D)
+    → IsQuiet told size count lending old new → (h : History) → StandsForOne told old h → StandsForOne told new h
+one_quiet told size count lending old new quiet h stood = quiet_stands told old new (h ∷ []) stood quiet.blocks quiet.images quiet.kept.volumes quiet.records quiet.slots
+
+pub one_cut : {D : Type 0} → (told : D → Option (List (List ℕ))) (old new : GroupValue D) (f : History → History)
+    → ((hs : List History) → StandsFor told old hs → StandsFor told new (changed_at 0 f hs)) → (h : History) → StandsForOne told old h → StandsForOne told new (f h)
+one_cut told old new f stands h stood = stands (h ∷ []) stood
+
+-- ## reads
+
+pub one_now : {D : Type 0} → (told : D → Option (List (List ℕ))) (volume : GroupValue D) (b : ℕ) (bytes : List ℕ)
+    → length volume.devices ≡ 1 → IsNow told volume 0 b bytes → IsOneNow told volume b bytes
+one_now told volume b bytes one is = λ h stood all.
+    let device = first_of_one volume.devices one in
+    is (h ∷ []) device.0 stood device.1 (device_tells told volume all 0 device.0 device.1) (area_tells told volume all)
+
+pub one_shown : {D : Type 0} → (told : D → Option (List (List ℕ))) (volume : GroupValue D) (set b : ℕ) (bytes : List ℕ)
+    → length volume.devices ≡ 1 → IsShown told volume 0 set b bytes → IsOneShown told volume set b bytes
+one_shown told volume set b bytes one is = λ h p stood all point.
+    let device = first_of_one volume.devices one in
+    is (h ∷ []) device.0 p stood device.1 (device_tells told volume all 0 device.0 device.1) (area_tells told volume all) point
+
+pub one_now_if : {D E : Type 0} → (told : D → Option (List (List ℕ))) (volume : GroupValue D) (b : ℕ) (bytes : List ℕ) (result : Result Unit E)
+    → length volume.devices ≡ 1 → OnOk result (IsNow told volume 0 b bytes) → OnOk result (IsOneNow told volume b bytes)
+one_now_if told volume b bytes (Ok done) one is = one_now told volume b bytes one is
+one_now_if told volume b bytes (Err e) one is = tt
+
+pub one_shown_if : {D E : Type 0} → (told : D → Option (List (List ℕ))) (volume : GroupValue D) (set b : ℕ) (bytes : List ℕ) (result : Result Unit E)
+    → length volume.devices ≡ 1 → OnOk result (IsShown told volume 0 set b bytes) → OnOk result (IsOneShown told volume set b bytes)
+one_shown_if told volume set b bytes (Ok done) one is = one_shown told volume set b bytes one is
+one_shown_if told volume set b bytes (Err e) one is = tt
+
+-- what is lent, of a block now and of an image
+pub one_now_lent : {D B : Type 0} → (told : D → Option (List (List ℕ))) (volume : GroupValue D) (b : ℕ) (lent : Option B) (bytes_of : B → List ℕ)
+    → length volume.devices ≡ 1 → IfSome lent (λ x. IsNow told volume 0 b (bytes_of x)) → IfSome lent (λ x. IsOneNow told volume b (bytes_of x))
+one_now_lent told volume b None bytes_of one is = tt
+one_now_lent told volume b (Some x) bytes_of one is = one_now told volume b (bytes_of x) one is
+
+pub one_lent : {D B E : Type 0} → (told : D → Option (List (List ℕ))) (volume : GroupValue D) (set b : ℕ) (result : Result (Option B) E) (bytes_of : B → List ℕ)
+    → length volume.devices ≡ 1 → IfOk result (λ lent. IfSome lent (λ x. IsShown told volume 0 set b (bytes_of x))) → IfOk result (λ lent. IfSome lent (λ x. IsOneShown told volume set b (bytes_of x)))
+one_lent told volume set b (Ok None) bytes_of one is = tt
+one_lent told volume set b (Ok (Some x)) bytes_of one is = one_shown told volume set b (bytes_of x) one is
+one_lent told volume set b (Err e) bytes_of one is = tt
+
+-- why no block of an image is shown, where nothing was called
+pub one_unseen : {D : Type 0} → (count : D → ℕ) (volume : GroupValue D) (set b : ℕ) (fault : ImageFault) → IsUnseen (image_sets volume) (blocks_of volume) set b fault → HasImageCause count 0 set b volume volume fault
+one_unseen count volume set b NoImage is = (is, refl)
+one_unseen count volume set b NoBlock is = (is.0, is.1, refl)
+one_unseen count volume set b VolumeFailed is = absurd is
+one_unseen count volume set b AreaFailed is = absurd is
+
+-- ## writes
+
+pub one_write : {D : Type 0} → (told : D → Option (List (List ℕ))) (size count : D → ℕ) (lending : D → Bool) (old new : GroupValue D) (w : Write) (result : Result Written WriteFault)
+    → length old.area.volumes ≡ 1 → IsWrite told size count lending old new 0 w result → IsOneWrite told size count lending old new w result
+one_write told size count lending old new w (Ok done) one is = record {
+  in_range = is.in_range;
+  kept = is.kept;
+  evicted = λ h stood. one_evicted old w.block h done.evicted_up_to (is.evicted (h ∷ []) stood);
+  stands = λ h stood. subst (λ (hs : List History). StandsFor told new hs) (ap (changed_at 0 (written w)) (one_gone old.area.volumes done.evicted_up_to h one)) (is.stands (h ∷ []) stood);
+  unfailed = is.unfailed;
+}
+one_write told size count lending old new w (Err fault) one is = record {
+  cause = is.cause;
+  kept = is.kept;
+  evicted = λ low h stood. one_evicted old w.block h fault.evicted_up_to (is.evicted low (h ∷ []) stood);
+  none = is.none;
+  stands = λ h stood. subst (λ (hs : List History). StandsFor told new hs) (one_gone old.area.volumes fault.evicted_up_to h one) (is.stands (h ∷ []) stood);
+}
+
+pub write_volumes : {D : Type 0} → (told : D → Option (List (List ℕ))) (size count : D → ℕ) (lending : D → Bool) (old new : GroupValue D) (w : Write) (result : Result Written WriteFault)
+    → IsWrite told size count lending old new 0 w result → new.area.volumes ≡ old.area.volumes
+write_volumes told size count lending old new w (Ok done) is = is.kept.volumes
+write_volumes told size count lending old new w (Err fault) is = is.kept.volumes
+
+-- ## images
+
+pub one_dropped : {D : Type 0} → (told : D → Option (List (List ℕ))) (size count : D → ℕ) (lending : D → Bool) (old new : GroupValue D) (set : ℕ) (result : Result Unit ImageFault)
+    → IsDropped told size count lending old new 0 set result → IsOneDropped told size count lending old new set result
+one_dropped told size count lending old new set (Ok done) is = (
+  is.0,
+  record {
+    kept = is.1.kept;
+    devices = is.1.devices;
+    area = is.1.area;
+    stands = λ h stood. is.1.stands (h ∷ []) stood;
+  },
+)
+one_dropped told size count lending old new set (Err fault) is = is
+
+pub dropped_volumes : {D : Type 0} → (told : D → Option (List (List ℕ))) (size count : D → ℕ) (lending : D → Bool) (old new : GroupValue D) (set : ℕ) (result : Result Unit ImageFault)
+    → IsDropped told size count lending old new 0 set result → new.area.volumes ≡ old.area.volumes
+dropped_volumes told size count lending old new set (Ok done) is = is.1.kept.volumes
+dropped_volumes told size count lending old new set (Err fault) is = ap (λ (g : GroupValue _). g.area.volumes) is.2
+
+pub one_revert : {D : Type 0} → (told : D → Option (List (List ℕ))) (size count : D → ℕ) (lending : D → Bool) (old new : GroupValue D) (set : ℕ) (result : Result Unit RevertFault)
+    → IsRevert told size count lending old new 0 set result → IsOneRevert told size count lending old new set result
+one_revert told size count lending old new set (Ok done) is = record {
+  image = is.image;
+  kept = is.kept;
+  stands = λ h p stood point. is.stands (h ∷ []) p stood point;
+  unfailed = is.unfailed;
+}
+one_revert told size count lending old new set (Err NoSuchImage) is = is
+one_revert told size count lending old new set (Err (Fault restored cause)) is = (
+  record {
+    image = is.0.image;
+    kept = is.0.kept;
+    fewer = λ h p stood point. is.0.fewer (h ∷ []) p stood point;
+    stands = λ h p stood point. is.0.stands (h ∷ []) p stood point;
+  },
+  is.1,
+)
+
+pub revert_volumes : {D : Type 0} → (told : D → Option (List (List ℕ))) (size count : D → ℕ) (lending : D → Bool) (old new : GroupValue D) (set : ℕ) (result : Result Unit RevertFault)
+    → IsRevert told size count lending old new 0 set result → new.area.volumes ≡ old.area.volumes
+revert_volumes told size count lending old new set (Ok done) is = is.kept.volumes
+revert_volumes told size count lending old new set (Err NoSuchImage) is = ap (λ (g : GroupValue _). g.area.volumes) is.1
+revert_volumes told size count lending old new set (Err (Fault restored cause)) is = is.0.kept.volumes
+
+-- ## what lasts
+
+one_copies : (volumes : List ℕ) (h : History) → length volumes ≡ 1 → copies (placed volumes) (h ∷ []) ≡ copies_in (blocks_in (slice_get volumes 0)) h
+one_copies [] h one = absurd (omega arith)
+one_copies (n ∷ []) h one = append-nil (copies_of 0 n h.writes h.images)
+one_copies (n ∷ m ∷ volumes) h one = absurd (omega arith)
+
+pub one_sync : {D : Type 0} → (told : D → Option (List (List ℕ))) (size count : D → ℕ) (lending : D → Bool) (old new : GroupValue D) (result : Result Unit Cause)
+    → length old.area.volumes ≡ 1 → IsSync told size count lending old new result → IsOneSync told size count lending old new result
+one_sync told size count lending old new (Ok done) one is = (
+  is.0,
+  (λ h stood all.
+      subst (λ cs. AreStored (told new.area.device) cs) (one_copies old.area.volumes h one) (is.1 (h ∷ []) stood (device_tells told old all))),
+  is.2,
+)
+one_sync told size count lending old new (Err cause) one is = is
+
+pub sync_volumes : {D : Type 0} → (told : D → Option (List (List ℕ))) (size count : D → ℕ) (lending : D → Bool) (old new : GroupValue D) (result : Result Unit Cause)
+    → IsSync told size count lending old new result → new.area.volumes ≡ old.area.volumes
+sync_volumes told size count lending old new (Ok done) is = is.0.kept.volumes
+sync_volumes told size count lending old new (Err cause) is = is.0.kept.volumes

@@ -1,0 +1,206 @@
+-- How many blocks are stale, as blocks are marked and unmarked.
+use Rattle.std.proofs.Common.{◌≡◌, ℕ, zero, suc, ◌+◌, ◌-◌, ◌^◌, ◌<◌, ◌≤◌, List, [], ◌∷◌, length, replicate, refl, ap, sym, ◌∙◌, arith, Bool, true, false, Option, Some, None, get_or}
+use Rattle.std.specs.Prelude.{slice_get, slice_set, count_by, ◌==◌, nat_lt, if◌then◌else◌, IsTrue, IsNone, IfSome, ◌↔◌}
+use Rattle.std.proofs.lemmas.Bool.Decides.{nat_tests}
+use Rattle.slot_pool.specs.Slots.{IsTaken, IsLowestFree, free_count}
+use Rattle.std.proofs.lemmas.List.Sums.{count_by-le-length, sum_by-cons}
+use Rattle.std.proofs.lemmas.List.{length-replicate}
+use Rattle.std.proofs.lemmas.Option.{slice_get_within}
+use Rattle.cow_volume.proofs.Group.{slice_get_inside, slice_get-set_same, slice_get-set_other, length-slice_set, same_number, other_number}
+use Rattle.mirror_volume.specs.Stale.{IsInStep, stale_count, IsLowestStale, HoldsStale, KeepsStale}
+
+pub count-cons : {X : Type 0} → (p : X → Bool) (x : X) (xs : List X) → count_by p (x ∷ xs) ≡ (if p x then 1 else 0) + count_by p xs
+count-cons p x xs = sum_by-cons (λ y. if p y then 1 else 0) x xs
+
+pub stale-true : (xs : List Bool) → stale_count (true ∷ xs) ≡ stale_count xs + 1
+stale-true xs = let first : stale_count (true ∷ xs) ≡ 1 + stale_count xs = count-cons (λ x. x) true xs in omega arith
+
+pub stale-false : (xs : List Bool) → stale_count (false ∷ xs) ≡ stale_count xs
+stale-false xs = let first : stale_count (false ∷ xs) ≡ 0 + stale_count xs = count-cons (λ x. x) false xs in omega arith
+
+-- a block more
+pub count-marked : (xs : List Bool) (i : ℕ) → slice_get xs i ≡ Some false → stale_count (slice_set xs i true) ≡ stale_count xs + 1
+count-marked [] i h = cc
+count-marked (true ∷ xs) zero h = cc
+count-marked (false ∷ xs) zero h = stale-true xs ∙ ap (λ n. n + 1) (sym (stale-false xs))
+count-marked (true ∷ xs) (suc i) h = stale-true (slice_set xs i true) ∙ ap (λ n. n + 1) (count-marked xs i h ∙ sym (stale-true xs))
+count-marked (false ∷ xs) (suc i) h = stale-false (slice_set xs i true) ∙ count-marked xs i h ∙ ap (λ n. n + 1) (sym (stale-false xs))
+
+-- a block fewer
+pub count-unmarked : (xs : List Bool) (i : ℕ) → slice_get xs i ≡ Some true → stale_count xs ≡ stale_count (slice_set xs i false) + 1
+count-unmarked [] i h = cc
+count-unmarked (false ∷ xs) zero h = cc
+count-unmarked (true ∷ xs) zero h = stale-true xs ∙ ap (λ n. n + 1) (sym (stale-false xs))
+count-unmarked (true ∷ xs) (suc i) h = stale-true xs ∙ ap (λ n. n + 1) (count-unmarked xs i h ∙ sym (stale-true (slice_set xs i false)))
+count-unmarked (false ∷ xs) (suc i) h = stale-false xs ∙ count-unmarked xs i h ∙ ap (λ n. n + 1) (sym (stale-false (slice_set xs i false)))
+
+-- a block that is not stale is none fewer
+pub fewer_stale : (xs : List Bool) (i : ℕ) → stale_count (slice_set xs i false) ≤ stale_count xs
+fewer_stale [] i = omega arith
+fewer_stale (true ∷ xs) zero = let a = stale-true xs in let b = stale-false xs in omega arith
+fewer_stale (false ∷ xs) zero = omega arith
+fewer_stale (true ∷ xs) (suc i) = let a = stale-true xs in let b = stale-true (slice_set xs i false) in let rest = fewer_stale xs i in omega arith
+fewer_stale (false ∷ xs) (suc i) = let a = stale-false xs in let b = stale-false (slice_set xs i false) in let rest = fewer_stale xs i in omega arith
+
+pub count_most : (xs : List Bool) → stale_count xs ≤ length xs
+count_most xs = count_by-le-length (λ x. x) xs
+
+pub count-none : (n : ℕ) → stale_count (replicate n false) ≡ 0
+count-none zero = refl
+count-none (suc n) = stale-false (replicate n false) ∙ count-none n
+
+-- a stale block is counted
+pub count_some : (xs : List Bool) (i : ℕ) → slice_get xs i ≡ Some true → 0 < stale_count xs
+count_some xs i h = let one = count-unmarked xs i h in omega arith
+
+-- where none is stale, none is counted
+pub count_zero : (xs : List Bool) → ((i : ℕ) → slice_get xs i ≡ Some true → ⊥) → stale_count xs ≡ 0
+count_zero [] none = refl
+count_zero (true ∷ xs) none = absurd (none 0 refl)
+count_zero (false ∷ xs) none = stale-false xs ∙ count_zero xs (λ i. none (suc i))
+
+-- where none is counted, each block is in step
+pub in_step_all : (xs : List Bool) (i : ℕ) → stale_count xs ≡ 0 → i < length xs → IsInStep xs i
+in_step_all xs i none within =
+    let found = slice_get_inside xs i within in
+    by_bool found.0 found.1 where
+      by_bool : (x : Bool) → slice_get xs i ≡ Some x → IsInStep xs i
+      by_bool true at = let some = count_some xs i at in absurd (omega arith)
+      by_bool false at = at
+
+pub none_of_replicate : (n i : ℕ) → slice_get (replicate n false) i ≡ Some true → ⊥
+none_of_replicate zero i h = cc
+none_of_replicate (suc n) zero h = cc
+none_of_replicate (suc n) (suc i) h = none_of_replicate n i h
+
+-- a block that is not stale leaves room for one more
+pub count_few : (xs : List Bool) (i : ℕ) → slice_get xs i ≡ Some false → stale_count xs < length xs
+count_few xs i at =
+    let more = count-marked xs i at in
+    let most = count_most (slice_set xs i true) in
+    let long = length-slice_set xs i true in
+    omega arith
+
+-- ## what is kept
+
+-- a new mirror's blocks are all in the queue
+pub keeps_new : (n : ℕ) → n < 2 ^ 32 → KeepsStale (replicate n false) (replicate n true) 0
+keeps_new n low = record {
+  holds = record {
+    long = length-replicate n true ∙ sym (length-replicate n false);
+    queued = λ b at. absurd (none_of_replicate n b at);
+  };
+  is_count = sym (count-none n);
+  narrow = let long = length-replicate n false in omega arith;
+}
+
+-- a block that stands in the queue already is marked
+pub keeps_marked : (stale queue : List Bool) (count b : ℕ) → KeepsStale stale queue count → slice_get stale b ≡ Some false → slice_get queue b ≡ Some true → KeepsStale (slice_set stale b true) queue (count + 1)
+keeps_marked stale queue count b keeps at queued = record {
+  holds = record {
+    long = keeps.holds.long ∙ sym (length-slice_set stale b true);
+    queued = λ c is. by_number c (c == b) refl is;
+  };
+  is_count = ap (λ n. n + 1) keeps.is_count ∙ sym (count-marked stale b at);
+  narrow = let low = keeps.narrow in let long = length-slice_set stale b true in omega arith;
+} where
+  by_number : (c : ℕ) (t : Bool) → (c == b) ≡ t → slice_get (slice_set stale b true) c ≡ Some true → slice_get queue c ≡ Some true
+  by_number c true same is = ap (slice_get queue) (same_number c b same) ∙ queued
+  by_number c false other is = keeps.holds.queued c (sym (slice_get-set_other stale b c true (λ e. other_number c b other (sym e))) ∙ is)
+
+-- or it is put there
+pub keeps_queued : (stale queue : List Bool) (count b : ℕ) → KeepsStale stale queue count → slice_get stale b ≡ Some false → slice_get queue b ≡ Some false → KeepsStale (slice_set stale b true) (slice_set queue b true) (count + 1)
+keeps_queued stale queue count b keeps at free = record {
+  holds = record {
+    long = length-slice_set queue b true ∙ keeps.holds.long ∙ sym (length-slice_set stale b true);
+    queued = λ c is. by_number c (c == b) refl is;
+  };
+  is_count = ap (λ n. n + 1) keeps.is_count ∙ sym (count-marked stale b at);
+  narrow = let low = keeps.narrow in let long = length-slice_set stale b true in omega arith;
+} where
+  by_number : (c : ℕ) (t : Bool) → (c == b) ≡ t → slice_get (slice_set stale b true) c ≡ Some true → slice_get (slice_set queue b true) c ≡ Some true
+  by_number c true same is = ap (slice_get (slice_set queue b true)) (same_number c b same) ∙ slice_get-set_same queue b false true free
+  by_number c false other is =
+      slice_get-set_other queue b c true (λ e. other_number c b other (sym e)) ∙ keeps.holds.queued c (sym (slice_get-set_other stale b c true (λ e. other_number c b other (sym e))) ∙ is)
+
+-- a block is unmarked, and may stand in the queue still
+pub keeps_unmarked : (stale queue : List Bool) (count b : ℕ) → KeepsStale stale queue count → slice_get stale b ≡ Some true → KeepsStale (slice_set stale b false) queue (count - 1)
+keeps_unmarked stale queue count b keeps at = record {
+  holds = record {
+    long = keeps.holds.long ∙ sym (length-slice_set stale b false);
+    queued = λ c is. by_number c (c == b) refl is;
+  };
+  is_count = (let fewer = count-unmarked stale b at in let is = keeps.is_count in omega arith);
+  narrow = let low = keeps.narrow in let long = length-slice_set stale b false in omega arith;
+} where
+  by_number : (c : ℕ) (t : Bool) → (c == b) ≡ t → slice_get (slice_set stale b false) c ≡ Some true → slice_get queue c ≡ Some true
+  by_number c true same is =
+      let now = ap (slice_get (slice_set stale b false)) (sym (same_number c b same)) ∙ is in
+      let was = slice_get-set_same stale b true false at in
+      cc
+  by_number c false other is = keeps.holds.queued c (sym (slice_get-set_other stale b c false (λ e. other_number c b other (sym e))) ∙ is)
+
+-- the lowest of the queue, which is not stale, is taken out
+pub taken_out : (stale queue : List Bool) (b : ℕ) → HoldsStale stale queue → slice_get stale b ≡ Some false → HoldsStale stale (slice_set queue b false)
+taken_out stale queue b holds at = record {
+  long = length-slice_set queue b false ∙ holds.long;
+  queued = λ c is. by_number c (c == b) refl is;
+} where
+  by_number : (c : ℕ) (t : Bool) → (c == b) ≡ t → slice_get stale c ≡ Some true → slice_get (slice_set queue b false) c ≡ Some true
+  by_number c true same is = let now = ap (slice_get stale) (sym (same_number c b same)) ∙ is in cc
+  by_number c false other is = slice_get-set_other queue b c false (λ e. other_number c b other (sym e)) ∙ holds.queued c is
+
+-- the lowest of the queue, which is stale, is the lowest stale block
+pub lowest_is : (stale queue : List Bool) (b : ℕ) → HoldsStale stale queue → slice_get stale b ≡ Some true → ((other : ℕ) → other < b → slice_get queue other ≡ Some false) → IsLowestStale stale b
+lowest_is stale queue b holds at lower = record {
+  is_stale = at;
+  lowest = λ other l.
+      let within = slice_get_within stale b true at in
+      let found = slice_get_inside stale other (omega arith) in
+      by_bool other l found.0 found.1;
+} where
+  by_bool : (other : ℕ) → other < b → (x : Bool) → slice_get stale other ≡ Some x → IsInStep stale other
+  by_bool other l true is = let queued = holds.queued other is in let free = lower other l in cc
+  by_bool other l false is = is
+
+-- where the queue is empty, no block is stale
+pub none_left : (stale queue : List Bool) → HoldsStale stale queue → stale_count queue ≡ 0 → stale_count stale ≡ 0
+none_left stale queue holds none = count_zero stale (λ i at. let some = count_some queue i (holds.queued i at) in absurd (omega arith))
+
+-- ## places
+
+pub bool_at : (xs : List Bool) (i : ℕ) (d x : Bool) → i < length xs → get_or xs i d ≡ x → slice_get xs i ≡ Some x
+bool_at [] i d x l is = absurd (omega arith)
+bool_at (y ∷ xs) zero d x l is = ap Some is
+bool_at (y ∷ xs) (suc i) d x l is = bool_at xs i d x (omega arith) is
+
+pub is_taken_of : (result : Bool) (queue : List Bool) (b : ℕ) → (IsTrue result ↔ IsTaken queue b) → result ≡ true → slice_get queue b ≡ Some false
+is_taken_of result queue b iff e = iff.0 e
+
+pub is_free_of : (result : Bool) (queue : List Bool) (b : ℕ) → (IsTrue result ↔ IsTaken queue b) → b < length queue → result ≡ false → slice_get queue b ≡ Some true
+is_free_of result queue b iff within e = let found = slice_get_inside queue b within in by_bool found.0 found.1 where
+  true_false : (r : Bool) → r ≡ true → r ≡ false → ⊥
+  true_false r f g = cc
+
+  by_bool : (x : Bool) → slice_get queue b ≡ Some x → slice_get queue b ≡ Some true
+  by_bool true at = at
+  by_bool false at = absurd (true_false result (iff.1 at) e)
+
+-- what is taken out of the queue is its lowest
+pub taken_lowest : (queue new : List Bool) (block : ℕ) (result : Option ℕ) → IsLowestFree queue block → IfSome result (IsLowestFree queue) → IfSome result (λ slot. new ≡ slice_set queue slot false) → (IsNone result ↔ (free_count queue ≡ 0))
+    → new ≡ slice_set queue block false
+taken_lowest queue new block None lowest also is iff = let some = count_some queue block lowest.free in let none : stale_count queue ≡ 0 = iff.0 refl in absurd (omega arith)
+taken_lowest queue new block (Some slot) lowest also is iff = is ∙ ap (λ (k : ℕ). slice_set queue k false) (by_order (nat_lt slot block) (nat_lt block slot) refl refl) where
+  not_both : (b : ℕ) → slice_get queue b ≡ Some true → slice_get queue b ≡ Some false → ⊥
+  not_both b f g = cc
+
+  below : (m n : ℕ) → nat_lt m n ≡ true → m < n
+  below m n e = grind (arith, nat_tests)
+
+  equal : (m n : ℕ) → nat_lt m n ≡ false → nat_lt n m ≡ false → m ≡ n
+  equal m n e f = grind (arith, nat_tests)
+
+  by_order : (s t : Bool) → nat_lt slot block ≡ s → nat_lt block slot ≡ t → slot ≡ block
+  by_order true t e f = absurd (not_both slot also.free (lowest.lowest slot (below slot block e)))
+  by_order false true e f = absurd (not_both block lowest.free (also.lowest block (below block slot f)))
+  by_order false false e f = equal slot block e f

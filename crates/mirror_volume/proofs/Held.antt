@@ -1,0 +1,166 @@
+-- The images that mirrors hold, as one is split off or joins again; and what is always so of mirrors, as one changes.
+use Rattle.std.proofs.Common.{◌≡◌, ◌≢◌, ℕ, zero, suc, ◌<◌, ◌≤◌, List, [], ◌∷◌, ◌++◌, length, refl, ap, sym, ◌∙◌, arith, Bool, true, false, Option, Some, None, subst, inl, inr}
+use Rattle.std.specs.Prelude.{◌⊎◌, slice_get, slice_set, ◌==◌, not, filter, map, All}
+use Rattle.std.proofs.lemmas.Option.{same_Some, slice_get_within}
+use Rattle.std.proofs.lemmas.List.{length-map, length-replicate}
+use Rattle.cow_volume.specs.Calls.{is_among}
+use Rattle.cow_volume.proofs.Group.{slice_get-set_same, slice_get-set_other, length-slice_set, slice_get_inside, same_number, other_number}
+use Rattle.cow_volume.proofs.Merging.{was_row}
+use Rattle.mirror_volume.specs.declared.mirror.Mirror.{Mirror}
+use Rattle.mirror_volume.specs.Mirrors.{AreMirrors, AreHeld, holds_of, new_mirror}
+use Rattle.mirror_volume.specs.MirrorCalls.{IsFollowed, IsLeft, IsMirrored, IsMissed, AreFollowed}
+use Rattle.mirror_volume.proofs.Among.{among_more, among_last, among_of_more, among_without, among_was}
+use Rattle.mirror_volume.proofs.Standing.{All-at}
+
+pub map-slice_set : {X Y : Type 0} → (f : X → Y) (xs : List X) (i : ℕ) (y : X) → map f (slice_set xs i y) ≡ slice_set (map f xs) i (f y)
+map-slice_set f [] i y = refl
+map-slice_set f (x ∷ xs) zero y = refl
+map-slice_set f (x ∷ xs) (suc i) y = ap (λ ys. f x ∷ ys) (map-slice_set f xs i y)
+
+-- ## the images that mirrors hold
+
+pub held_cut : (holds : List (Option ℕ)) (images : List ℕ) (k set : ℕ) → AreHeld holds images → slice_get holds k ≡ Some None → is_among set images ≡ false → AreHeld (slice_set holds k (Some set)) (images ++ set ∷ [])
+held_cut holds images k set are free new = record {
+  each = λ j s at. each j s (j == k) refl at;
+  held = λ s is. found s (among_of_more s set images is);
+  one = λ j i s at also. one j i s (j == k) (i == k) refl refl at also;
+} where
+  here : slice_get (slice_set holds k (Some set)) k ≡ Some (Some set)
+  here = slice_get-set_same holds k None (Some set) free
+
+  at_other : (j s : ℕ) → (j == k) ≡ false → slice_get (slice_set holds k (Some set)) j ≡ Some (Some s) → slice_get holds j ≡ Some (Some s)
+  at_other j s is at = sym (slice_get-set_other holds k j (Some set) (λ e. other_number j k is (sym e))) ∙ at
+
+  is_set : (j s : ℕ) → (j == k) ≡ true → slice_get (slice_set holds k (Some set)) j ≡ Some (Some s) → set ≡ s
+  is_set j s is at = same_Some set s (same_Some (Some set) (Some s) (sym here ∙ ap (slice_get (slice_set holds k (Some set))) (sym (same_number j k is)) ∙ at))
+
+  each : (j s : ℕ) (t : Bool) → (j == k) ≡ t → slice_get (slice_set holds k (Some set)) j ≡ Some (Some s) → is_among s (images ++ set ∷ []) ≡ true
+  each j s true is at = subst (λ (x : ℕ). is_among x (images ++ set ∷ []) ≡ true) (is_set j s is at) (among_last set images)
+  each j s false is at = among_more s set images (are.each j s (at_other j s is at))
+
+  found : (s : ℕ) → (s ≡ set) ⊎ (is_among s images ≡ true) → (j : ℕ) × (slice_get (slice_set holds k (Some set)) j ≡ Some (Some s))
+  found s (inl same) = (k, here ∙ ap (λ (x : ℕ). Some (Some x)) (sym same))
+  found s (inr is) = let was = are.held s is in (was.0, elsewhere s was.0 was.1 (was.0 == k) refl) where
+    elsewhere : (s j : ℕ) → slice_get holds j ≡ Some (Some s) → (t : Bool) → (j == k) ≡ t → slice_get (slice_set holds k (Some set)) j ≡ Some (Some s)
+    elsewhere s j at true is = let none = sym free ∙ ap (slice_get holds) (sym (same_number j k is)) ∙ at in cc
+    elsewhere s j at false is = slice_get-set_other holds k j (Some set) (λ e. other_number j k is (sym e)) ∙ at
+
+  one : (j i s : ℕ) (t u : Bool) → (j == k) ≡ t → (i == k) ≡ u → slice_get (slice_set holds k (Some set)) j ≡ Some (Some s) → slice_get (slice_set holds k (Some set)) i ≡ Some (Some s) → j ≡ i
+  one j i s true true is also at too = same_number j k is ∙ sym (same_number i k also)
+  one j i s true false is also at too =
+      let old = are.each i s (at_other i s also too) in
+      let none = ap (λ (x : ℕ). is_among x images) (is_set j s is at) in
+      absurd (no (sym new ∙ none ∙ old)) where
+        no : false ≡ true → ⊥
+        no e = cc
+  one j i s false true is also at too =
+      let old = are.each j s (at_other j s is at) in
+      let none = ap (λ (x : ℕ). is_among x images) (is_set i s also too) in
+      absurd (no (sym new ∙ none ∙ old)) where
+        no : false ≡ true → ⊥
+        no e = cc
+  one j i s false false is also at too = are.one j i s (at_other j s is at) (at_other i s also too)
+
+pub held_drop : (holds : List (Option ℕ)) (images : List ℕ) (k set : ℕ) → AreHeld holds images → slice_get holds k ≡ Some (Some set) → AreHeld (slice_set holds k None) (filter (λ s. not (s == set)) images)
+held_drop holds images k set are was = record {
+  each = λ j s at. each j s (j == k) refl at;
+  held = λ s is. let old = among_was s set images is in let found = are.held s old.1 in (found.0, elsewhere s found.0 old.0 found.1 (found.0 == k) refl);
+  one = λ j i s at also. are.one j i s (was_there j s (j == k) refl at) (was_there i s (i == k) refl also);
+} where
+  here : slice_get (slice_set holds k None) k ≡ Some None
+  here = slice_get-set_same holds k (Some set) None was
+
+  was_there : (j s : ℕ) (t : Bool) → (j == k) ≡ t → slice_get (slice_set holds k None) j ≡ Some (Some s) → slice_get holds j ≡ Some (Some s)
+  was_there j s true is at = let none = sym here ∙ ap (slice_get (slice_set holds k None)) (sym (same_number j k is)) ∙ at in cc
+  was_there j s false is at = sym (slice_get-set_other holds k j None (λ e. other_number j k is (sym e))) ∙ at
+
+  each : (j s : ℕ) (t : Bool) → (j == k) ≡ t → slice_get (slice_set holds k None) j ≡ Some (Some s) → is_among s (filter (λ x. not (x == set)) images) ≡ true
+  each j s true is at = let none = sym here ∙ ap (slice_get (slice_set holds k None)) (sym (same_number j k is)) ∙ at in cc
+  each j s false is at =
+      let there = was_there j s false is at in
+      among_without s set images (λ same. other_number j k is (are.one j k set (there ∙ ap (λ (x : ℕ). Some (Some x)) same) was)) (are.each j s there)
+
+  elsewhere : (s j : ℕ) → s ≢ set → slice_get holds j ≡ Some (Some s) → (t : Bool) → (j == k) ≡ t → slice_get (slice_set holds k None) j ≡ Some (Some s)
+  elsewhere s j other at true is =
+      let same = same_Some s set (same_Some (Some s) (Some set) (sym at ∙ ap (slice_get holds) (same_number j k is) ∙ was)) in absurd (other same)
+  elsewhere s j other at false is = slice_get-set_other holds k j None (λ e. other_number j k is (sym e)) ∙ at
+
+-- ## the mirrors
+
+pub mirrors_one : {D : Type 0} → (size : D → ℕ) (n k : ℕ) (mirrors : List (Mirror D)) (m next : Mirror D) → AreMirrors size n mirrors → slice_get mirrors k ≡ Some m → size next.device ≡ n → length next.stale ≡ n → AreMirrors size n (slice_set mirrors k next)
+mirrors_one {D = D} size n k mirrors m next are was sized long = let kept = length-slice_set mirrors k next in record {
+  some = let some = are.some in omega arith;
+  few = let few = are.few in omega arith;
+  sizes = λ j x at. size_at j x (j == k) refl at;
+  stale = λ j x at. stale_at j x (j == k) refl at;
+} where
+  is_next : (j : ℕ) (x : Mirror D) → (j == k) ≡ true → slice_get (slice_set mirrors k next) j ≡ Some x → next ≡ x
+  is_next j x is at = same_Some next x (sym (slice_get-set_same mirrors k m next was) ∙ ap (slice_get (slice_set mirrors k next)) (sym (same_number j k is)) ∙ at)
+
+  was_at : (j : ℕ) (x : Mirror D) → (j == k) ≡ false → slice_get (slice_set mirrors k next) j ≡ Some x → slice_get mirrors j ≡ Some x
+  was_at j x is at = sym (slice_get-set_other mirrors k j next (λ e. other_number j k is (sym e))) ∙ at
+
+  size_at : (j : ℕ) (x : Mirror D) (t : Bool) → (j == k) ≡ t → slice_get (slice_set mirrors k next) j ≡ Some x → size x.device ≡ n
+  size_at j x true is at = ap (λ (y : Mirror D). size y.device) (sym (is_next j x is at)) ∙ sized
+  size_at j x false is at = are.sizes j x (was_at j x is at)
+
+  stale_at : (j : ℕ) (x : Mirror D) (t : Bool) → (j == k) ≡ t → slice_get (slice_set mirrors k next) j ≡ Some x → length x.stale ≡ n
+  stale_at j x true is at = ap (λ (y : Mirror D). length y.stale) (sym (is_next j x is at)) ∙ long
+  stale_at j x false is at = are.stale j x (was_at j x is at)
+
+followed_size : {D : Type 0} → (told : D → Option (List (List ℕ))) (size count : D → ℕ) (b : ℕ) (bytes : List ℕ) (m next : Mirror D) → IsFollowed told size count b bytes m next → (size next.device ≡ size m.device) × (length next.stale ≡ length m.stale)
+followed_size {D = D} told size count b bytes m next is = by_outcome is.outcome where
+  by_outcome : IsLeft b m next ⊎ IsMirrored told size count b bytes m next ⊎ IsMissed told size count b m next → (size next.device ≡ size m.device) × (length next.stale ≡ length m.stale)
+  by_outcome (inl left) = (ap size left.device, ap length left.stale ∙ length-slice_set m.stale b true)
+  by_outcome (inr (inl got)) = (got.size_is, ap length got.stale ∙ length-slice_set m.stale b false)
+  by_outcome (inr (inr missed)) = (missed.device.size_is, ap length missed.stale ∙ length-slice_set m.stale b true)
+
+pub mirrors_followed : {D : Type 0} → (told : D → Option (List (List ℕ))) (size count : D → ℕ) (n b : ℕ) (bytes : List ℕ) (old new : List (Mirror D)) → AreFollowed told size count b bytes old new → AreMirrors size n old → AreMirrors size n new
+mirrors_followed {D = D} told size count n b bytes old new are was = let long = are.long in record {
+  some = let some = was.some in omega arith;
+  few = let few = was.few in omega arith;
+  sizes = λ k m at. let before = at_old k m at in (followed_size told size count b bytes before.0 m (are.each k before.0 m before.1 at)).0 ∙ was.sizes k before.0 before.1;
+  stale = λ k m at. let before = at_old k m at in (followed_size told size count b bytes before.0 m (are.each k before.0 m before.1 at)).1 ∙ was.stale k before.0 before.1;
+} where
+  at_old : (k : ℕ) (m : Mirror D) → slice_get new k ≡ Some m → (x : Mirror D) × (slice_get old k ≡ Some x)
+  at_old k m at = let within = slice_get_within new k m at in let long = are.long in slice_get_inside old k (omega arith)
+
+pub followed_rest : {D : Type 0} → (told : D → Option (List (List ℕ))) (size count : D → ℕ) (b : ℕ) (bytes : List ℕ) (m n : Mirror D) (old new : List (Mirror D)) → AreFollowed told size count b bytes (m ∷ old) (n ∷ new) → AreFollowed told size count b bytes old new
+followed_rest told size count b bytes m n old new are = record {
+  long = let long = are.long in omega arith;
+  each = λ k x y at also. are.each (suc k) x y at also;
+}
+
+-- what followed holds what it held
+pub holds_followed : {D : Type 0} → (told : D → Option (List (List ℕ))) (size count : D → ℕ) (b : ℕ) (bytes : List ℕ) (old new : List (Mirror D)) → AreFollowed told size count b bytes old new → holds_of new ≡ holds_of old
+holds_followed told size count b bytes [] [] are = refl
+holds_followed told size count b bytes [] (n ∷ new) are = absurd (let long = are.long in omega arith)
+holds_followed told size count b bytes (m ∷ old) [] are = absurd (let long = are.long in omega arith)
+holds_followed {D = D} told size count b bytes (m ∷ old) (n ∷ new) are =
+    ap (λ (o : Option ℕ). o ∷ holds_of new) (are.each 0 m n refl refl).holds ∙ ap (λ os. m.holds ∷ os) (holds_followed told size count b bytes old new (followed_rest told size count b bytes m n old new are))
+
+-- new mirrors
+pub mirrors_new : {D : Type 0} → (size : D → ℕ) (n : ℕ) (devices : List D) → 0 < length devices → length devices ≤ 8 → All (λ d. size d ≡ n) devices → AreMirrors size n (map (new_mirror n) devices)
+mirrors_new {D = D} size n devices some few sized = let long = length-map devices (new_mirror n) in record {
+  some = omega arith;
+  few = omega arith;
+  sizes = λ k m at. let was = was_row (new_mirror n) devices k m at in ap (λ (x : Mirror D). size x.device) (sym was.2) ∙ All-at (λ (d : D). size d ≡ n) devices k was.0 sized was.1;
+  stale = λ k m at. let was = was_row (new_mirror n) devices k m at in ap (λ (x : Mirror D). length x.stale) (sym was.2) ∙ length-replicate n false;
+}
+
+holds_new : {D : Type 0} → (n : ℕ) (devices : List D) (k : ℕ) (o : Option ℕ) → slice_get (holds_of (map (new_mirror n) devices)) k ≡ Some o → o ≡ None
+holds_new n [] k o at = cc
+holds_new n (d ∷ devices) zero o at = sym (same_Some None o at)
+holds_new n (d ∷ devices) (suc k) o at = holds_new n devices k o at
+
+pub held_new : {D : Type 0} → (n : ℕ) (devices : List D) → AreHeld (holds_of (map (new_mirror n) devices)) []
+held_new n devices = record {
+  each = λ k set at. absurd (no set (holds_new n devices k (Some set) at));
+  held = λ set is. absurd (never is);
+  one = λ k j set at also. absurd (no set (holds_new n devices k (Some set) at));
+} where
+  no : (set : ℕ) → Some set ≡ None → ⊥
+  no set e = cc
+
+  never : false ≡ true → ⊥
+  never e = cc

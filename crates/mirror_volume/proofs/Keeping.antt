@@ -1,0 +1,263 @@
+-- What a volume with mirrors keeps through its calls, and what its calls come to.
+use Rattle.std.proofs.Common.{◌≡◌, ℕ, ◌<◌, ◌≤◌, List, [], ◌∷◌, ◌++◌, length, take, drop, refl, ap, sym, ◌∙◌, arith, Bool, true, false, Option, Some, None, subst, inr, get_or, Vec, vec_capacity}
+use Rattle.std.specs.Prelude.{slice_get, slice_set, filter, not, ◌==◌, map, All, IfSome, OnOk, OnErr, option_map, if◌then◌else◌, Result, Ok, Err, is_err}
+use Rattle.std.specs.declared.alloc.Global.{Global}
+use Rattle.cow_volume.specs.Calls.{is_among}
+use Rattle.std.proofs.lemmas.Option.{slice_get_within, same_Some}
+use Rattle.cow_volume.proofs.Group.{slice_get_map, slice_set-same, length-slice_set}
+use Rattle.cow_volume.proofs.Merging.{was_row}
+use Rattle.mirror_volume.specs.declared.mirror.Mirror.{Mirror}
+use Rattle.mirror_volume.specs.Mirrors.{MirrorValue, KeepsMirrors, AreMirrors, AreHeld, StandsFor, holds_of, new_mirror, is_ready}
+use Rattle.mirror_volume.specs.MirrorCalls.{AreFollowed, IsFirstReady, IsHolder, HaveBlock, IsQuiet, IsQuietDevice, IsCalled, IsMirrorRead, IsCalledFor, IsImageRead}
+use Rattle.cow_volume.specs.declared.image_fault.ImageFault.{ImageFault}
+use Rattle.cow_volume.specs.declared.image_fault.ImageFault.TheVariants.{Volume as VolumeFailed}
+use Rattle.write_history.specs.History.{History}
+use Rattle.mirror_volume.proofs.Following.{at_place}
+use Rattle.mirror_volume.specs.Resync.{IsCopyOr, IsStep}
+use Rattle.mirror_volume.specs.declared.synced.Synced.{Synced}
+use Rattle.mirror_volume.specs.declared.synced.Synced.TheVariants.{Copied, InStep}
+use Rattle.mirror_volume.specs.declared.sync_fault.SyncFault.{SyncFault}
+use Rattle.mirror_volume.specs.declared.sync_fault.SyncFault.TheVariants.{HoldsImage, Volume as DeviceFailed}
+use Rattle.vss_names.specs.Faults as Faults
+use Rattle.volume_device.specs.Blocks.{AreBlocks}
+use Rattle.mirror_volume.proofs.Standing.{ready_holds, quiet_on_stands}
+use Rattle.mirror_volume.proofs.Held.{map-slice_set, held_cut, held_drop, mirrors_one, mirrors_followed, holds_followed, mirrors_new, held_new}
+use Rattle.mirror_volume.proofs.Among.{new_set}
+
+pub keeps_new : {D : Type 0} → (size : D → ℕ) (primary : D) (devices : List D) (mirrors : List (Mirror D)) (images : Vec ℕ Global) → 0 < length devices → length devices ≤ 8 → All (λ d. size d ≡ size primary) devices
+    → mirrors ≡ map (new_mirror (size primary)) devices → images.items ≡ [] → 512 ≤ vec_capacity images → KeepsMirrors size primary mirrors images
+keeps_new {D = D} size primary devices mirrors images some few sized are none room = record {
+  are_mirrors = subst (λ (ms : List (Mirror D)). AreMirrors size (size primary) ms) (sym are) (mirrors_new size (size primary) devices some few sized);
+  are_held = subst (λ (is : List ℕ). AreHeld (holds_of mirrors) is) (sym none) (subst (λ (ms : List (Mirror D)). AreHeld (holds_of ms) []) (sym are) (held_new (size primary) devices));
+  room = room;
+}
+
+-- the primary is another state of the same device
+pub keeps_primary : {D : Type 0} → (size : D → ℕ) (primary now : D) (mirrors : List (Mirror D)) (images : Vec ℕ Global) → size now ≡ size primary → KeepsMirrors size primary mirrors images → KeepsMirrors size now mirrors images
+keeps_primary size primary now mirrors images same keeps = record {
+  are_mirrors = subst (λ (n : ℕ). AreMirrors size n mirrors) (sym same) keeps.are_mirrors;
+  are_held = keeps.are_held;
+  room = keeps.room;
+}
+
+pub keeps_written : {D : Type 0} → (told : D → Option (List (List ℕ))) (size count : D → ℕ) (b : ℕ) (bytes : List ℕ) (primary now : D) (old new : List (Mirror D)) (images : Vec ℕ Global) → size now ≡ size primary → AreFollowed told size count b bytes old new
+    → KeepsMirrors size primary old images → KeepsMirrors size now new images
+keeps_written {D = D} told size count b bytes primary now old new images same are keeps = record {
+  are_mirrors = subst (λ (n : ℕ). AreMirrors size n new) (sym same) (mirrors_followed told size count (size primary) b bytes old new are keeps.are_mirrors);
+  are_held = subst (λ (holds : List (Option ℕ)). AreHeld holds images.items) (sym (holds_followed told size count b bytes old new are)) keeps.are_held;
+  room = keeps.room;
+}
+
+-- one mirror changes, and holds what it held
+pub keeps_one : {D : Type 0} → (size : D → ℕ) (primary now : D) (mirrors : List (Mirror D)) (images : Vec ℕ Global) (k : ℕ) (m next : Mirror D) → size now ≡ size primary → slice_get mirrors k ≡ Some m → size next.device ≡ size m.device → length next.stale ≡ length m.stale → next.holds ≡ m.holds
+    → KeepsMirrors size primary mirrors images → KeepsMirrors size now (slice_set mirrors k next) images
+keeps_one {D = D} size primary now mirrors images k m next same at sized long holds keeps = record {
+  are_mirrors = subst (λ (n : ℕ). AreMirrors size n (slice_set mirrors k next)) (sym same)
+      (mirrors_one size (size primary) k mirrors m next keeps.are_mirrors at (sized ∙ keeps.are_mirrors.sizes k m at) (long ∙ keeps.are_mirrors.stale k m at));
+  are_held = subst (λ (hs : List (Option ℕ)). AreHeld hs images.items) (sym (map-slice_set (λ (x : Mirror D). x.holds) mirrors k next ∙ same_set (holds_of mirrors) k m.holds next.holds (slice_get_map (λ (x : Mirror D). x.holds) mirrors k m at) holds)) keeps.are_held;
+  room = keeps.room;
+} where
+  same_set : {X : Type 0} (xs : List X) (i : ℕ) (x y : X) → slice_get xs i ≡ Some x → y ≡ x → slice_set xs i y ≡ xs
+  same_set xs i x y at same = ap (slice_set xs i) same ∙ slice_set-same xs i x at
+
+-- an image is cut
+pub keeps_cut : {D : Type 0} → (size : D → ℕ) (primary : D) (mirrors : List (Mirror D)) (images now : Vec ℕ Global) (k set : ℕ) (is : IsFirstReady mirrors k) → All (λ s. s < set) images.items → now.items ≡ images.items ++ set ∷ [] → vec_capacity images ≤ vec_capacity now
+    → KeepsMirrors size primary mirrors images → KeepsMirrors size primary (slice_set mirrors k (record { device = is.mirror.device; holds = Some set; stale = is.mirror.stale })) now
+keeps_cut {D = D} size primary mirrors images now k set is below items room keeps =
+    let next : Mirror D = record { device = is.mirror.device; holds = Some set; stale = is.mirror.stale } in record {
+      are_mirrors = mirrors_one size (size primary) k mirrors is.mirror next keeps.are_mirrors is.was (keeps.are_mirrors.sizes k is.mirror is.was) (keeps.are_mirrors.stale k is.mirror is.was);
+      are_held = subst (λ (ss : List ℕ). AreHeld (holds_of (slice_set mirrors k next)) ss) (sym items)
+          (subst (λ (hs : List (Option ℕ)). AreHeld hs (images.items ++ set ∷ [])) (sym (map-slice_set (λ (x : Mirror D). x.holds) mirrors k next))
+          (held_cut (holds_of mirrors) images.items k set keeps.are_held (slice_get_map (λ (x : Mirror D). x.holds) mirrors k is.mirror is.was ∙ ap Some (ready_holds is.mirror is.ready)) (new_set set images.items below)));
+      room = let before = keeps.room in omega arith;
+    }
+
+-- an image goes
+pub keeps_drop : {D : Type 0} → (size : D → ℕ) (primary : D) (mirrors : List (Mirror D)) (images now : Vec ℕ Global) (k set : ℕ) (is : IsHolder mirrors set k) → now.items ≡ filter (λ s. not (s == set)) images.items → vec_capacity images ≤ vec_capacity now
+    → KeepsMirrors size primary mirrors images → KeepsMirrors size primary (slice_set mirrors k (record { device = is.mirror.device; holds = None; stale = is.mirror.stale })) now
+keeps_drop {D = D} size primary mirrors images now k set is items room keeps =
+    let next : Mirror D = record { device = is.mirror.device; holds = None; stale = is.mirror.stale } in record {
+      are_mirrors = mirrors_one size (size primary) k mirrors is.mirror next keeps.are_mirrors is.was (keeps.are_mirrors.sizes k is.mirror is.was) (keeps.are_mirrors.stale k is.mirror is.was);
+      are_held = subst (λ (ss : List ℕ). AreHeld (holds_of (slice_set mirrors k next)) ss) (sym items)
+          (subst (λ (hs : List (Option ℕ)). AreHeld hs (filter (λ s. not (s == set)) images.items)) (sym (map-slice_set (λ (x : Mirror D). x.holds) mirrors k next))
+          (held_drop (holds_of mirrors) images.items k set keeps.are_held (slice_get_map (λ (x : Mirror D). x.holds) mirrors k is.mirror is.was ∙ ap Some is.held)));
+      room = let before = keeps.room in omega arith;
+    }
+
+-- each mirror has the primary's blocks
+pub have_block : {D : Type 0} → (size : D → ℕ) (n b : ℕ) (mirrors : List (Mirror D)) → AreMirrors size n mirrors → b < n → HaveBlock size b mirrors
+have_block size n b mirrors are low = λ k m at. ((let same = are.sizes k m at in omega arith), (let same = are.stale k m at in omega arith))
+
+-- the image of a set stands where a mirror holds it, and nowhere else
+pub among_held : {D : Type 0} → (mirrors : List (Mirror D)) (images : List ℕ) (k set : ℕ) → AreHeld (holds_of mirrors) images → IsHolder mirrors set k → is_among set images ≡ true
+among_held {D = D} mirrors images k set are is = are.each k set (slice_get_map (λ (x : Mirror D). x.holds) mirrors k is.mirror is.was ∙ ap Some is.held)
+
+pub not_among : {D : Type 0} → (mirrors : List (Mirror D)) (images : List ℕ) (set : ℕ) → AreHeld (holds_of mirrors) images → ((k : ℕ) (m : Mirror D) → k < length mirrors → slice_get mirrors k ≡ Some m → m.holds ≡ Some set → ⊥) → is_among set images ≡ false
+not_among {D = D} mirrors images set are none = by_bool (is_among set images) refl where
+  by_bool : (t : Bool) → is_among set images ≡ t → is_among set images ≡ false
+  by_bool true is =
+      let found = are.held set is in
+      let was = was_row (λ (x : Mirror D). x.holds) mirrors found.0 (Some set) found.1 in
+      absurd (none found.0 was.0 (slice_get_within mirrors found.0 was.0 was.1) was.1 was.2)
+  by_bool false is = is
+
+-- ## the value in its parts
+
+abbrev pub value_of : {D : Type 0} → D → List (Mirror D) → List ℕ → MirrorValue D
+value_of primary mirrors images = record { primary = primary; mirrors = mirrors; images = images }
+
+pub quiet_parts : {D : Type 0} → (told : D → Option (List (List ℕ))) (size count : D → ℕ) (p q : D) (mirrors : List (Mirror D)) (images : List ℕ) → told q ≡ told p → size q ≡ size p → count p ≤ count q → IsQuiet told size count (value_of p mirrors images) (value_of q mirrors images)
+quiet_parts told size count p q mirrors images tells sized later = record { primary = record { told_is = tells; size_is = sized; later = later }; mirrors = refl; images = refl }
+
+-- a block was copied to a device, or the device failed
+pub copy_or : {D E : Type 0} → (told : D → Option (List (List ℕ))) (size count : D → ℕ) (from now to next : D) (b : ℕ) (bytes : List ℕ) (result : Result Unit E) → IsQuietDevice told size count from now → count now ≡ count from
+    → IfSome (told from) (λ blocks. slice_get blocks b ≡ Some bytes) → IfSome (told to) (AreBlocks (size to)) → OnOk result (told next ≡ option_map (λ blocks. slice_set blocks b bytes) (told to)) → OnErr result (told next ≡ told to) → size next ≡ size to
+    → Faults.HasCause (count to) (count next) result → IsCopyOr told size count from now to next b result
+copy_or told size count from now to next b bytes (Ok done) quiet unfailed read whole written kept sized cause = record {
+  bytes = bytes;
+  source = quiet;
+  read = read;
+  whole = whole;
+  told_is = written;
+  size_is = sized;
+  unfailed_source = unfailed;
+  unfailed = cause.same;
+}
+copy_or told size count from now to next b bytes (Err e) quiet unfailed read whole written kept sized cause = record {
+  source = quiet;
+  target = record { told_is = kept; size_is = sized; later = cause.later };
+  rose = inr (cause.rose refl);
+}
+
+pub quiet_device : {D : Type 0} → (told : D → Option (List (List ℕ))) (size count : D → ℕ) (d : D) → IsQuietDevice told size count d d
+quiet_device told size count d = record { told_is = refl; size_is = refl; later = (let same : count d ≤ count d = omega arith in same) }
+
+pub set_same : {X : Type 0} → (xs : List X) (i : ℕ) (x y : X) → slice_get xs i ≡ Some x → y ≡ x → slice_set xs i y ≡ xs
+set_same xs i x y at same = ap (slice_set xs i) same ∙ slice_set-same xs i x at
+
+-- ## the mirror of a place
+
+pub record FirstAt {D : Type 0} (mirrors : List (Mirror D)) (k : ℕ) (x : Mirror D) : Type 0 where
+  pub was : slice_get mirrors k ≡ Some x
+  pub ready : is_ready x ≡ true
+  pub first : (j : ℕ) (m : Mirror D) → j < k → slice_get mirrors j ≡ Some m → is_ready m ≡ false
+
+pub first_at : {D : Type 0} → (rows mirrors : List (Mirror D)) → rows ≡ mirrors → (k : ℕ) → IsFirstReady rows k → (x : Mirror D) → x ≡ get_or mirrors k x → FirstAt mirrors k x
+first_at {D = D} rows mirrors same k is x at =
+    let there : slice_get mirrors k ≡ Some is.mirror = ap (λ (ms : List (Mirror D)). slice_get ms k) (sym same) ∙ is.was in
+    let here = at_place mirrors k x (slice_get_within mirrors k is.mirror there) at in
+    record {
+      was = here;
+      ready = ap is_ready (same_Some x is.mirror (sym here ∙ there)) ∙ is.ready;
+      first = λ j m l got. is.first j m l (ap (λ (ms : List (Mirror D)). slice_get ms j) same ∙ got);
+    }
+
+abbrev pub first_of : {D : Type 0} → (mirrors : List (Mirror D)) (k : ℕ) (x : Mirror D) → FirstAt mirrors k x → IsFirstReady mirrors k
+first_of mirrors k x at = record { mirror = x; was = at.was; ready = at.ready; first = at.first }
+
+pub record HolderAt {D : Type 0} (mirrors : List (Mirror D)) (set k : ℕ) (x : Mirror D) : Type 0 where
+  pub was : slice_get mirrors k ≡ Some x
+  pub held : x.holds ≡ Some set
+
+pub holder_at : {D : Type 0} → (rows mirrors : List (Mirror D)) → rows ≡ mirrors → (set k : ℕ) → IsHolder rows set k → (x : Mirror D) → x ≡ get_or mirrors k x → HolderAt mirrors set k x
+holder_at {D = D} rows mirrors same set k is x at =
+    let there : slice_get mirrors k ≡ Some is.mirror = ap (λ (ms : List (Mirror D)). slice_get ms k) (sym same) ∙ is.was in
+    let here = at_place mirrors k x (slice_get_within mirrors k is.mirror there) at in
+    record { was = here; held = ap (λ (m : Mirror D). m.holds) (same_Some x is.mirror (sym here ∙ there)) ∙ is.held }
+
+abbrev pub holder_of : {D : Type 0} → (mirrors : List (Mirror D)) (set k : ℕ) (x : Mirror D) → HolderAt mirrors set k x → IsHolder mirrors set k
+holder_of mirrors set k x at = record { mirror = x; was = at.was; held = at.held }
+
+pub within_first : {D : Type 0} → (rows mirrors : List (Mirror D)) → rows ≡ mirrors → (k : ℕ) → IsFirstReady rows k → k < length mirrors
+within_first {D = D} rows mirrors same k is = slice_get_within mirrors k is.mirror (ap (λ (ms : List (Mirror D)). slice_get ms k) (sym same) ∙ is.was)
+
+pub within_holder : {D : Type 0} → (rows mirrors : List (Mirror D)) → rows ≡ mirrors → (set k : ℕ) → IsHolder rows set k → k < length mirrors
+within_holder {D = D} rows mirrors same set k is = slice_get_within mirrors k is.mirror (ap (λ (ms : List (Mirror D)). slice_get ms k) (sym same) ∙ is.was)
+
+-- what was pushed where there was room
+pub pushed : {X : Type 0} → (r : Bool) (new more same : List X) → r ≡ true → new ≡ (if r then more else same) → new ≡ more
+pushed true new more same e is = is
+pushed false new more same e is = cc
+
+mirror_is : {D : Type 0} → (m next : Mirror D) → next.holds ≡ m.holds → next.stale ≡ m.stale → next ≡ (let x : Mirror D = record { device = next.device; holds = m.holds; stale = m.stale } in x)
+mirror_is {D = D} m next holds stale =
+    ap (λ (o : Option ℕ). let x : Mirror D = record { device = next.device; holds = o; stale = next.stale } in x) holds
+    ∙ ap (λ (s : List Bool). let x : Mirror D = record { device = next.device; holds = m.holds; stale = s } in x) stale
+
+-- the image of a set was read from the mirror that holds it
+pub image_read : {D : Type 0} → (told : D → Option (List (List ℕ))) (size count : D → ℕ) (p : D) (mirrors : List (Mirror D)) (images : List ℕ) (set k b : ℕ) (x next : Mirror D) (bytes : List ℕ) (result : Result Unit ImageFault)
+    → AreHeld (holds_of mirrors) images → HolderAt mirrors set k x → b < size p → IsMirrorRead told size count x next b bytes result
+    → IsImageRead told size count (value_of p mirrors images) (value_of p (slice_set mirrors k next) images) set b bytes result
+image_read {D = D} told size count p mirrors images set k b x next bytes result are at low is = by_result result is where
+  called : IsCalled told size count x next → IsCalledFor told size count (value_of p mirrors images) (value_of p (slice_set mirrors k next) images) set b
+  called call = record {
+    place = k;
+    mirror = x;
+    held = at.held;
+    among = among_held mirrors images k set are (holder_of mirrors set k x at);
+    in_range = low;
+    quiet = record {
+      was = at.was;
+      after = next.device;
+      device = call.device;
+      mirrors = ap (slice_set mirrors k) (mirror_is x next call.holds call.stale);
+      primary = refl;
+      images = refl;
+    };
+  }
+
+  by_result : (r : Result Unit ImageFault) → IsMirrorRead told size count x next b bytes r → IsImageRead told size count (value_of p mirrors images) (value_of p (slice_set mirrors k next) images) set b bytes r
+  by_result (Ok done) got = (called got.0, got.1, got.2)
+  by_result (Err fault) got =
+      let failed : IsImageRead told size count (value_of p mirrors images) (value_of p (slice_set mirrors k next) images) set b bytes (Err VolumeFailed) = (called got.0, got.2) in
+      subst (λ (f : ImageFault). IsImageRead told size count (value_of p mirrors images) (value_of p (slice_set mirrors k next) images) set b bytes (Err f)) (sym got.1) failed
+
+pub image_read_stands : {D : Type 0} → (told : D → Option (List (List ℕ))) (size count : D → ℕ) (p : D) (mirrors : List (Mirror D)) (images : List ℕ) (k b : ℕ) (x next : Mirror D) (bytes : List ℕ) (result : Result Unit ImageFault)
+    → slice_get mirrors k ≡ Some x → IsMirrorRead told size count x next b bytes result → (h : History) → StandsFor told size (value_of p mirrors images) h → StandsFor told size (value_of p (slice_set mirrors k next) images) h
+image_read_stands {D = D} told size count p mirrors images k b x next bytes result at is h stood =
+    quiet_on_stands told size count (value_of p mirrors images) (value_of p (slice_set mirrors k next) images) k x h
+    (record { was = at; after = next.device; device = (call result is).device; mirrors = ap (slice_set mirrors k) (mirror_is x next (call result is).holds (call result is).stale); primary = refl; images = refl }) stood where
+      call : (r : Result Unit ImageFault) → IsMirrorRead told size count x next b bytes r → IsCalled told size count x next
+      call (Ok done) got = got.0
+      call (Err fault) got = got.0
+
+pub keeps_read : {D : Type 0} → (told : D → Option (List (List ℕ))) (size count : D → ℕ) (p : D) (mirrors : List (Mirror D)) (images : Vec ℕ Global) (k b : ℕ) (x next : Mirror D) (bytes : List ℕ) (result : Result Unit ImageFault)
+    → slice_get mirrors k ≡ Some x → IsMirrorRead told size count x next b bytes result → KeepsMirrors size p mirrors images → KeepsMirrors size p (slice_set mirrors k next) images
+keeps_read {D = D} told size count p mirrors images k b x next bytes result at is keeps =
+    keeps_one size p p mirrors images k x next refl at (call result is).device.size_is (ap length (call result is).stale) (call result is).holds keeps where
+      call : (r : Result Unit ImageFault) → IsMirrorRead told size count x next b bytes r → IsCalled told size count x next
+      call (Ok done) got = got.0
+      call (Err fault) got = got.0
+
+-- ## steps of a mirror
+
+step_sizes : {D : Type 0} → (told : D → Option (List (List ℕ))) (size count : D → ℕ) (p q : D) (m n : Mirror D) (result : Result Synced SyncFault) → IsStep told size count p q m n result
+    → (size q ≡ size p) × (size n.device ≡ size m.device) × (length n.stale ≡ length m.stale) × (n.holds ≡ m.holds)
+step_sizes told size count p q m n (Ok (Copied b)) is = (is.copied.source.size_is, is.copied.size_is, ap length is.stale ∙ length-slice_set m.stale b false, is.holds)
+step_sizes told size count p q m n (Ok InStep) is = (ap size is.primary_is, ap (λ (x : Mirror _). size x.device) is.mirror_is, ap (λ (x : Mirror _). length x.stale) is.mirror_is, ap (λ (x : Mirror _). x.holds) is.mirror_is)
+step_sizes told size count p q m n (Err (HoldsImage set)) is = (ap size is.primary_is, ap (λ (x : Mirror _). size x.device) is.mirror_is, ap (λ (x : Mirror _). length x.stale) is.mirror_is, ap (λ (x : Mirror _). x.holds) is.mirror_is)
+step_sizes told size count p q m n (Err DeviceFailed) is = (is.uncopied.source.size_is, is.uncopied.target.size_is, ap length is.stale, is.holds)
+
+pub keeps_synced : {D : Type 0} → (told : D → Option (List (List ℕ))) (size count : D → ℕ) (p q : D) (mirrors : List (Mirror D)) (images : Vec ℕ Global) (k : ℕ) (m n : Mirror D) (result : Result Synced SyncFault) → slice_get mirrors k ≡ Some m → IsStep told size count p q m n result
+    → KeepsMirrors size p mirrors images → KeepsMirrors size q (slice_set mirrors k n) images
+keeps_synced told size count p q mirrors images k m n result at is keeps =
+    let sizes = step_sizes told size count p q m n result is in
+    keeps_one size p q mirrors images k m n sizes.0 at sizes.1 sizes.2 sizes.3 keeps
+
+-- ## writes
+
+pub on_ok : {T E : Type 0} → (r : Result T E) (P : Type 0) → is_err r ≡ false → OnOk r P → P
+on_ok (Ok x) P e is = is
+on_ok (Err x) P e is = cc
+
+pub on_err : {T E : Type 0} → (r : Result T E) (P : Type 0) → is_err r ≡ true → OnErr r P → P
+on_err (Ok x) P e is = cc
+on_err (Err x) P e is = is
+
+front_all : {X : Type 0} → (xs ys : List X) → take (length xs) (xs ++ ys) ≡ xs
+front_all [] ys = refl
+front_all (x ∷ xs) ys = ap (λ zs. x ∷ zs) (front_all xs ys)
+
+-- what is written over all of a list
+pub all_over : {X : Type 0} → (len : ℕ) (new old : List X) → len ≡ length new → take len (new ++ drop (length new) old) ≡ new
+all_over len new old same = ap (λ (n : ℕ). take n (new ++ drop (length new) old)) same ∙ front_all new (drop (length new) old)

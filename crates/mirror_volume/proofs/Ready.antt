@@ -1,0 +1,241 @@
+-- How many mirrors are ready, and how the counts of the devices add up, as mirrors follow and one changes.
+use Rattle.std.proofs.Common.{◌≡◌, ℕ, zero, suc, ◌+◌, ◌<◌, ◌≤◌, List, [], ◌∷◌, refl, ap, sym, ◌∙◌, arith, Bool, true, false, Option, Some, None, subst, inl, inr}
+use Rattle.std.specs.Prelude.{◌⊎◌, slice_get, slice_set, ◌==◌, ◌&&◌, if◌then◌else◌, map, count_by, is_some, is_none, nat_le}
+use Rattle.std.specs.List.{list_all}
+use Rattle.std.proofs.lemmas.Bool.Decides.{nat_tests}
+use Rattle.std.proofs.lemmas.Option.{same_Some}
+use Rattle.vss_names.specs.Faults.{counted, all_counted, Rose, most}
+use Rattle.cow_volume.proofs.Group.{same_number}
+use Rattle.cow_volume.proofs.Merging.{and_left, and_right}
+use Rattle.cow_volume.proofs.Writing.{put_tells}
+use Rattle.mirror_volume.specs.declared.mirror.Mirror.{Mirror}
+use Rattle.mirror_volume.specs.Stale.{stale_count}
+use Rattle.mirror_volume.specs.Mirrors.{is_ready}
+use Rattle.mirror_volume.specs.MirrorCalls.{IsFollowed, IsLeft, IsMirrored, IsMissed, AreFollowed}
+use Rattle.mirror_volume.proofs.Held.{followed_rest}
+use Rattle.mirror_volume.proofs.Counts.{count-cons, fewer_stale}
+
+-- ## counts that are added up
+
+counted-cases : (a b : ℕ) (t : Bool) → nat_le (a + b) 18446744073709551615 ≡ t → (counted a b ≡ a + b) ⊎ (counted a b ≡ most)
+counted-cases a b true e = let l : a + b ≤ 18446744073709551615 = grind (arith, nat_tests) in inl (omega arith)
+counted-cases a b false e = let l : 18446744073709551615 < a + b = grind (arith, nat_tests) in inr (omega arith)
+
+counted-more : (a b : ℕ) → (counted a b ≡ a + b) ⊎ (counted a b ≡ most)
+counted-more a b = counted-cases a b (nat_le (a + b) 18446744073709551615) refl
+
+counted_low : (a b : ℕ) → counted a b ≤ a + b
+counted_low a b = omega arith
+
+counted_most : (a b : ℕ) → counted a b ≤ most
+counted_most a b = omega arith
+
+pub counted_later : (a b c d : ℕ) → a ≤ b → c ≤ d → counted a c ≤ counted b d
+counted_later a b c d l m = elim (counted-more b d) [
+  | inl e ↦ (let low = counted_low a c in omega arith)
+  | inr e ↦ (let low = counted_most a c in omega arith)
+]
+
+-- the sum rose where one of the two did
+counted_rose : (a b c d : ℕ) → a ≤ b → c ≤ d → Rose a b ⊎ Rose c d → Rose (counted a c) (counted b d)
+counted_rose a b c d l m rose = by_sum rose (counted-more b d) where
+  by_sum : Rose a b ⊎ Rose c d → (counted b d ≡ b + d) ⊎ (counted b d ≡ most) → Rose (counted a c) (counted b d)
+  by_sum rose (inr e) = inr e
+  by_sum (inl (inl less)) (inl e) = inl (let low = counted_low a c in omega arith)
+  by_sum (inl (inr top)) (inl e) = inr (let at_most = counted_most b d in omega arith)
+  by_sum (inr (inl less)) (inl e) = inl (let low = counted_low a c in omega arith)
+  by_sum (inr (inr top)) (inl e) = inr (let at_most = counted_most b d in omega arith)
+
+-- counts, one by one: none fell
+abbrev pub AllLater : List ℕ → List ℕ → Type 0
+AllLater [] [] = Unit {0}
+AllLater [] (d ∷ ds) = ⊥
+AllLater (c ∷ cs) [] = ⊥
+AllLater (c ∷ cs) (d ∷ ds) = (c ≤ d) × AllLater cs ds
+
+-- one rose
+abbrev pub AnyRose : List ℕ → List ℕ → Type 0
+AnyRose [] ds = ⊥
+AnyRose (c ∷ cs) [] = ⊥
+AnyRose (c ∷ cs) (d ∷ ds) = Rose c d ⊎ AnyRose cs ds
+
+pub all_later : (a b : ℕ) (cs ds : List ℕ) → a ≤ b → AllLater cs ds → all_counted a cs ≤ all_counted b ds
+all_later a b [] [] l are = l
+all_later a b [] (d ∷ ds) l are = absurd are
+all_later a b (c ∷ cs) [] l are = absurd are
+all_later a b (c ∷ cs) (d ∷ ds) l are = all_later (counted a c) (counted b d) cs ds (counted_later a b c d l are.0) are.1
+
+pub all_rose : (a b : ℕ) (cs ds : List ℕ) → a ≤ b → AllLater cs ds → Rose a b ⊎ AnyRose cs ds → Rose (all_counted a cs) (all_counted b ds)
+all_rose a b [] [] l are (inl rose) = rose
+all_rose a b [] [] l are (inr rose) = absurd rose
+all_rose a b [] (d ∷ ds) l are rose = absurd are
+all_rose a b (c ∷ cs) [] l are rose = absurd are
+all_rose a b (c ∷ cs) (d ∷ ds) l are (inl rose) = all_rose (counted a c) (counted b d) cs ds (counted_later a b c d l are.0) are.1 (inl (counted_rose a b c d l are.0 (inl rose)))
+all_rose a b (c ∷ cs) (d ∷ ds) l are (inr (inl rose)) = all_rose (counted a c) (counted b d) cs ds (counted_later a b c d l are.0) are.1 (inl (counted_rose a b c d l are.0 (inr rose)))
+all_rose a b (c ∷ cs) (d ∷ ds) l are (inr (inr rose)) = all_rose (counted a c) (counted b d) cs ds (counted_later a b c d l are.0) are.1 (inr rose)
+
+pub later_itself : (cs : List ℕ) → AllLater cs cs
+later_itself [] = tt
+later_itself (c ∷ cs) = ((let same : c ≤ c = omega arith in same), later_itself cs)
+
+pub later_set : (cs : List ℕ) (k c d : ℕ) → slice_get cs k ≡ Some c → c ≤ d → AllLater cs (slice_set cs k d)
+later_set [] k c d at l = cc
+later_set (x ∷ cs) zero c d at l = ((let same = same_Some x c at in omega arith), later_itself cs)
+later_set (x ∷ cs) (suc k) c d at l = ((let same : x ≤ x = omega arith in same), later_set cs k c d at l)
+
+pub rose_set : (cs : List ℕ) (k c d : ℕ) → slice_get cs k ≡ Some c → Rose c d → AnyRose cs (slice_set cs k d)
+rose_set [] k c d at rose = cc
+rose_set (x ∷ cs) zero c d at rose = inl (subst (λ (y : ℕ). Rose y d) (sym (same_Some x c at)) rose)
+rose_set (x ∷ cs) (suc k) c d at rose = inr (rose_set cs k c d at rose)
+
+-- ## mirrors that follow
+
+later_followed : {D : Type 0} → (told : D → Option (List (List ℕ))) (size count : D → ℕ) (b : ℕ) (bytes : List ℕ) (m next : Mirror D) → IsFollowed told size count b bytes m next → count m.device ≤ count next.device
+later_followed {D = D} told size count b bytes m next is = by_outcome is.outcome where
+  by_outcome : IsLeft b m next ⊎ IsMirrored told size count b bytes m next ⊎ IsMissed told size count b m next → count m.device ≤ count next.device
+  by_outcome (inl left) = let same = ap count left.device in omega arith
+  by_outcome (inr (inl got)) = let same = got.unfailed in omega arith
+  by_outcome (inr (inr missed)) = missed.device.later
+
+pub all_later_followed : {D : Type 0} → (told : D → Option (List (List ℕ))) (size count : D → ℕ) (b : ℕ) (bytes : List ℕ) (old new : List (Mirror D)) → AreFollowed told size count b bytes old new → AllLater (map (λ m. count m.device) old) (map (λ m. count m.device) new)
+all_later_followed told size count b bytes [] [] are = tt
+all_later_followed told size count b bytes [] (n ∷ new) are = absurd (let long = are.long in omega arith)
+all_later_followed told size count b bytes (m ∷ old) [] are = absurd (let long = are.long in omega arith)
+all_later_followed told size count b bytes (m ∷ old) (n ∷ new) are =
+    (later_followed told size count b bytes m n (are.each 0 m n refl refl), all_later_followed told size count b bytes old new (followed_rest told size count b bytes m n old new are))
+
+tells_one : {D : Type 0} → (told : D → Option (List (List ℕ))) (size count : D → ℕ) (b : ℕ) (bytes : List ℕ) (m next : Mirror D) → IsFollowed told size count b bytes m next → is_some (told next.device) ≡ is_some (told m.device)
+tells_one {D = D} told size count b bytes m next is = by_outcome is.outcome where
+  by_outcome : IsLeft b m next ⊎ IsMirrored told size count b bytes m next ⊎ IsMissed told size count b m next → is_some (told next.device) ≡ is_some (told m.device)
+  by_outcome (inl left) = ap (λ (d : D). is_some (told d)) left.device
+  by_outcome (inr (inl got)) = ap (λ (t : Option (List (List ℕ))). is_some t) got.told_is ∙ put_tells (told m.device) b bytes
+  by_outcome (inr (inr missed)) = ap (λ (t : Option (List (List ℕ))). is_some t) missed.device.told_is
+
+pub tells_followed : {D : Type 0} → (told : D → Option (List (List ℕ))) (size count : D → ℕ) (b : ℕ) (bytes : List ℕ) (old new : List (Mirror D)) → AreFollowed told size count b bytes old new → list_all (λ m. is_some (told m.device)) new ≡ list_all (λ m. is_some (told m.device)) old
+tells_followed told size count b bytes [] [] are = refl
+tells_followed told size count b bytes [] (n ∷ new) are = absurd (let long = are.long in omega arith)
+tells_followed told size count b bytes (m ∷ old) [] are = absurd (let long = are.long in omega arith)
+tells_followed told size count b bytes (m ∷ old) (n ∷ new) are =
+    ap (λ (t : Bool). t && list_all (λ x. is_some (told x.device)) new) (tells_one told size count b bytes m n (are.each 0 m n refl refl))
+    ∙ ap (λ (t : Bool). is_some (told m.device) && t) (tells_followed told size count b bytes old new (followed_rest told size count b bytes m n old new are))
+
+pub tells_set : {X : Type 0} → (test : X → Bool) (xs : List X) (k : ℕ) (x next : X) → slice_get xs k ≡ Some x → test next ≡ test x → list_all test (slice_set xs k next) ≡ list_all test xs
+tells_set test [] k x next at same = refl
+tells_set test (y ∷ xs) zero x next at same = ap (λ (t : Bool). t && list_all test xs) (same ∙ ap test (sym (same_Some y x at)))
+tells_set test (y ∷ xs) (suc k) x next at same = ap (λ (t : Bool). test y && t) (tells_set test xs k x next at same)
+
+-- ## mirrors that are ready
+
+not_none : (o : Option ℕ) → is_some o ≡ true → is_none o ≡ true → ⊥
+not_none None e f = cc
+not_none (Some x) e f = cc
+
+zero_is : (n : ℕ) → n ≤ 0 → (n == 0) ≡ true
+zero_is n l = grind (arith, nat_tests)
+
+-- a mirror that was ready is so still, or its device failed
+still_ready : {D : Type 0} → (told : D → Option (List (List ℕ))) (size count : D → ℕ) (b : ℕ) (bytes : List ℕ) (m next : Mirror D) → IsFollowed told size count b bytes m next → is_ready m ≡ true → (is_ready next ≡ true) ⊎ Rose (count m.device) (count next.device)
+still_ready {D = D} told size count b bytes m next is ready = by_outcome is.outcome where
+  none : is_none m.holds ≡ true
+  none = and_left (is_none m.holds) (stale_count m.stale == 0) ready
+
+  count_is : stale_count m.stale ≡ 0
+  count_is = same_number (stale_count m.stale) 0 (and_right (is_none m.holds) (stale_count m.stale == 0) ready)
+
+  by_outcome : IsLeft b m next ⊎ IsMirrored told size count b bytes m next ⊎ IsMissed told size count b m next → (is_ready next ≡ true) ⊎ Rose (count m.device) (count next.device)
+  by_outcome (inl left) = absurd (not_none m.holds left.holds_image none)
+  by_outcome (inr (inl got)) =
+      let few = fewer_stale m.stale b in
+      let is_few = ap stale_count got.stale in let zero_count = count_is in
+      let low : stale_count next.stale ≤ 0 = omega arith in
+      inl (ap (λ (t : Bool). t && (stale_count next.stale == 0)) (ap is_none is.holds ∙ none) ∙ zero_is (stale_count next.stale) low)
+  by_outcome (inr (inr missed)) = inr missed.rose
+
+same_le : (n : ℕ) → n ≤ n
+same_le n = omega arith
+
+count_two : (s t : Bool) (m n : ℕ) → (s ≡ true → t ≡ true) → m ≤ n → (if s then 1 else 0) + m ≤ (if t then 1 else 0) + n
+count_two true true m n more l = omega arith
+count_two true false m n more l = let never = more refl in absurd (false_not_true never) where
+  false_not_true : false ≡ true → ⊥
+  false_not_true e = cc
+count_two false true m n more l = omega arith
+count_two false false m n more l = omega arith
+
+pub ready_followed : {D : Type 0} → (told : D → Option (List (List ℕ))) (size count : D → ℕ) (b : ℕ) (bytes : List ℕ) (old new : List (Mirror D)) → AreFollowed told size count b bytes old new
+    → (count_by is_ready old ≤ count_by is_ready new) ⊎ AnyRose (map (λ m. count m.device) old) (map (λ m. count m.device) new)
+ready_followed told size count b bytes [] [] are = inl (omega arith)
+ready_followed told size count b bytes [] (n ∷ new) are = absurd (let long = are.long in omega arith)
+ready_followed told size count b bytes (m ∷ old) [] are = absurd (let long = are.long in omega arith)
+ready_followed {D = D} told size count b bytes (m ∷ old) (n ∷ new) are = by_one (is_ready m) refl (ready_followed told size count b bytes old new (followed_rest told size count b bytes m n old new are)) where
+  Goal : Type 0
+  Goal = (count_by is_ready (m ∷ old) ≤ count_by is_ready (n ∷ new)) ⊎ AnyRose (map (λ (x : Mirror D). count x.device) (m ∷ old)) (map (λ (x : Mirror D). count x.device) (n ∷ new))
+
+  by_both : (count_by is_ready old ≤ count_by is_ready new) ⊎ AnyRose (map (λ (x : Mirror D). count x.device) old) (map (λ (x : Mirror D). count x.device) new) → ((is_ready m ≡ true → is_ready n ≡ true) ⊎ Rose (count m.device) (count n.device))
+      → (count_by is_ready (m ∷ old) ≤ count_by is_ready (n ∷ new)) ⊎ AnyRose (map (λ (x : Mirror D). count x.device) (m ∷ old)) (map (λ (x : Mirror D). count x.device) (n ∷ new))
+  by_both (inl rest) (inl more) = inl (let a = count-cons is_ready m old in let b = count-cons is_ready n new in let l = count_two (is_ready m) (is_ready n) (count_by is_ready old) (count_by is_ready new) more rest in omega arith)
+  by_both (inr rest) more = inr (inr rest)
+  by_both (inl rest) (inr rose) = inr (inl rose)
+
+  by_one : (t : Bool) → is_ready m ≡ t → (count_by is_ready old ≤ count_by is_ready new) ⊎ AnyRose (map (λ (x : Mirror D). count x.device) old) (map (λ (x : Mirror D). count x.device) new)
+      → (count_by is_ready (m ∷ old) ≤ count_by is_ready (n ∷ new)) ⊎ AnyRose (map (λ (x : Mirror D). count x.device) (m ∷ old)) (map (λ (x : Mirror D). count x.device) (n ∷ new))
+  by_one true is rest = by_both rest (elim (still_ready told size count b bytes m n (are.each 0 m n refl refl) is) [ inl r ↦ inl (λ _. r) | inr r ↦ inr r ])
+  by_one false is rest = by_both rest (inl (λ ready. absurd (false_not_true (sym is ∙ ready)))) where
+    false_not_true : false ≡ true → ⊥
+    false_not_true e = cc
+
+-- one mirror changes
+pub ready_set : {D : Type 0} → (mirrors : List (Mirror D)) (k : ℕ) (m next : Mirror D) → slice_get mirrors k ≡ Some m → (is_ready m ≡ true → is_ready next ≡ true) → count_by is_ready mirrors ≤ count_by is_ready (slice_set mirrors k next)
+ready_set [] k m next at more = omega arith
+ready_set {D = D} (x ∷ mirrors) zero m next at more =
+    let a = count-cons is_ready x mirrors in
+    let b = count-cons is_ready next mirrors in
+    let l = count_two (is_ready x) (is_ready next) (count_by is_ready mirrors) (count_by is_ready mirrors) (subst (λ (y : Mirror D). is_ready y ≡ true → is_ready next ≡ true) (sym (same_Some x m at)) more) (same_le (count_by is_ready mirrors)) in
+    omega arith
+ready_set (x ∷ mirrors) (suc k) m next at more =
+    let a = count-cons is_ready x mirrors in
+    let b = count-cons is_ready x (slice_set mirrors k next) in
+    let rest = ready_set mirrors k m next at more in
+    omega arith
+
+-- one that was ready is split off
+pub ready_split : {D : Type 0} → (mirrors : List (Mirror D)) (k : ℕ) (m next : Mirror D) → slice_get mirrors k ≡ Some m → count_by is_ready mirrors ≤ count_by is_ready (slice_set mirrors k next) + 1
+ready_split [] k m next at = omega arith
+ready_split (x ∷ mirrors) zero m next at =
+    let a = count-cons is_ready x mirrors in
+    let b = count-cons is_ready next mirrors in
+    let l = one_less (is_ready x) (is_ready next) (count_by is_ready mirrors) in
+    omega arith where
+      one_less : (s t : Bool) (n : ℕ) → (if s then 1 else 0) + n ≤ (if t then 1 else 0) + n + 1
+      one_less true true n = omega arith
+      one_less true false n = omega arith
+      one_less false true n = omega arith
+      one_less false false n = omega arith
+ready_split (x ∷ mirrors) (suc k) m next at =
+    let a = count-cons is_ready x mirrors in
+    let b = count-cons is_ready x (slice_set mirrors k next) in
+    let rest = ready_split mirrors k m next at in
+    omega arith
+
+one_counts : (t : Bool) (m n : ℕ) → t ≡ true → m ≡ (if t then 1 else 0) + n → 0 < m
+one_counts true m n e is = omega arith
+one_counts false m n e is = cc
+
+none_counts : (t : Bool) (m n : ℕ) → t ≡ false → m ≡ (if t then 1 else 0) + n → n ≡ 0 → m ≡ 0
+none_counts true m n e is none = cc
+none_counts false m n e is none = omega arith
+
+-- some are ready where one is, and none where none is
+pub ready_some : {D : Type 0} → (mirrors : List (Mirror D)) (k : ℕ) (m : Mirror D) → slice_get mirrors k ≡ Some m → is_ready m ≡ true → 0 < count_by is_ready mirrors
+ready_some [] k m at ready = cc
+ready_some (x ∷ mirrors) zero m at ready =
+    one_counts (is_ready x) (count_by is_ready (x ∷ mirrors)) (count_by is_ready mirrors) (ap is_ready (same_Some x m at) ∙ ready) (count-cons is_ready x mirrors)
+ready_some (x ∷ mirrors) (suc k) m at ready =
+    let a = count-cons is_ready x mirrors in
+    let rest = ready_some mirrors k m at ready in
+    omega arith
+
+pub ready_none : {D : Type 0} → (mirrors : List (Mirror D)) → ((k : ℕ) (m : Mirror D) → slice_get mirrors k ≡ Some m → is_ready m ≡ false) → count_by is_ready mirrors ≡ 0
+ready_none [] none = refl
+ready_none (x ∷ mirrors) none =
+    none_counts (is_ready x) (count_by is_ready (x ∷ mirrors)) (count_by is_ready mirrors) (none 0 x refl) (count-cons is_ready x mirrors) (ready_none mirrors (λ k m at. none (suc k) m at))

@@ -1,0 +1,7 @@
+pub mod Contract
+pub mod Stale
+pub mod Mirrors
+pub mod MirrorCalls
+pub mod Resync
+pub mod CowFaults
+pub mod Replies

@@ -1,0 +1,102 @@
+-- How a mirror is brought into step with the primary again, block after block, the lowest stale block first. (This project's own.)
+use Rattle.std.specs.Prelude.{ℕ, ◌≡◌, ◌<◌, ◌⊎◌, false, List, [], ◌∷◌, Option, Some, None, IfSome, slice_get, slice_set, option_map, Result, Ok, Err}
+use Rattle.vss_names.specs.Faults.{Rose}
+use Rattle.volume_device.specs.Blocks.{AreBlocks}
+use Rattle.mirror_volume.specs.declared.mirror.Mirror.{Mirror}
+use Rattle.mirror_volume.specs.declared.synced.Synced.{Synced}
+use Rattle.mirror_volume.specs.declared.synced.Synced.TheVariants.{Copied, InStep}
+use Rattle.mirror_volume.specs.declared.sync_fault.SyncFault.{SyncFault}
+use Rattle.mirror_volume.specs.declared.sync_fault.SyncFault.TheVariants.{HoldsImage, Volume}
+use Rattle.mirror_volume.specs.Stale.{IsLowestStale, stale_count}
+use Rattle.mirror_volume.specs.Mirrors.{MirrorValue}
+use Rattle.mirror_volume.specs.MirrorCalls.{IsQuietDevice}
+
+-- ## one block
+
+-- block b of one device was copied to the other
+pub record IsBlockCopied {D : Type 0} (told : D → Option (List (List ℕ))) (size count : D → ℕ) (from now_from to now_to : D) (b : ℕ) : Type 0 where
+  pub bytes : List ℕ
+  pub source : IsQuietDevice told size count from now_from
+  pub read : IfSome (told from) (λ blocks. slice_get blocks b ≡ Some bytes)
+  pub whole : IfSome (told to) (AreBlocks (size to))
+  pub told_is : told now_to ≡ option_map (λ blocks. slice_set blocks b bytes) (told to)
+  pub size_is : size now_to ≡ size to
+  pub unfailed_source : count now_from ≡ count from
+  pub unfailed : count now_to ≡ count to
+
+-- one of the two devices failed, and both are as they were
+pub record IsNotCopied {D : Type 0} (told : D → Option (List (List ℕ))) (size count : D → ℕ) (from now_from to now_to : D) : Type 0 where
+  pub source : IsQuietDevice told size count from now_from
+  pub target : IsQuietDevice told size count to now_to
+  pub rose : Rose (count from) (count now_from) ⊎ Rose (count to) (count now_to)
+
+abbrev pub IsCopyOr : {D E : Type 0} → (D → Option (List (List ℕ))) → (D → ℕ) → (D → ℕ) → D → D → D → D → ℕ → Result Unit E → Type 0
+IsCopyOr told size count from now_from to now_to b (Ok done) = IsBlockCopied told size count from now_from to now_to b
+IsCopyOr told size count from now_from to now_to b (Err failed) = IsNotCopied told size count from now_from to now_to
+
+-- ## one step
+
+-- the lowest stale block was copied, and is stale no longer
+pub record IsCopied {D : Type 0} (told : D → Option (List (List ℕ))) (size count : D → ℕ) (primary now_primary : D) (old new : Mirror D) (b : ℕ) : Type 0 where
+  pub holds_none : old.holds ≡ None
+  pub lowest : IsLowestStale old.stale b
+  pub copied : IsBlockCopied told size count primary now_primary old.device new.device b
+  pub stale : new.stale ≡ slice_set old.stale b false
+  pub holds : new.holds ≡ old.holds
+
+-- no block is stale, and nothing changed
+pub record IsInStepAlready {D : Type 0} (primary now_primary : D) (old new : Mirror D) : Type 0 where
+  pub holds_none : old.holds ≡ None
+  pub none : stale_count old.stale ≡ 0
+  pub primary_is : now_primary ≡ primary
+  pub mirror_is : new ≡ old
+
+-- the mirror holds an image, and nothing changed
+pub record IsHolding {D : Type 0} (primary now_primary : D) (old new : Mirror D) (set : ℕ) : Type 0 where
+  pub held : old.holds ≡ Some set
+  pub primary_is : now_primary ≡ primary
+  pub mirror_is : new ≡ old
+
+-- a device failed, and the block that was to be copied is stale still
+pub record IsFailed {D : Type 0} (told : D → Option (List (List ℕ))) (size count : D → ℕ) (primary now_primary : D) (old new : Mirror D) : Type 0 where
+  pub holds_none : old.holds ≡ None
+  pub some : 0 < stale_count old.stale
+  pub uncopied : IsNotCopied told size count primary now_primary old.device new.device
+  pub stale : new.stale ≡ old.stale
+  pub holds : new.holds ≡ old.holds
+
+abbrev pub IsStep : {D : Type 0} → (D → Option (List (List ℕ))) → (D → ℕ) → (D → ℕ) → D → D → Mirror D → Mirror D → Result Synced SyncFault → Type 0
+IsStep told size count primary now_primary old new (Ok (Copied b)) = IsCopied told size count primary now_primary old new b
+IsStep told size count primary now_primary old new (Ok InStep) = IsInStepAlready primary now_primary old new
+IsStep told size count primary now_primary old new (Err (HoldsImage set)) = IsHolding primary now_primary old new set
+IsStep told size count primary now_primary old new (Err Volume) = IsFailed told size count primary now_primary old new
+
+-- the step was made on mirror k, and no other changed
+pub record IsSynced {D : Type 0} (told : D → Option (List (List ℕ))) (size count : D → ℕ) (old new : MirrorValue D) (k : ℕ) (result : Result Synced SyncFault) : Type 0 where
+  pub before : Mirror D
+  pub after : Mirror D
+  pub was : slice_get old.mirrors k ≡ Some before
+  pub mirrors : new.mirrors ≡ slice_set old.mirrors k after
+  pub images : new.images ≡ old.images
+  pub step : IsStep told size count old.primary new.primary before after result
+
+-- ## all steps
+
+-- how many blocks of a mirror a step copied
+abbrev pub copied_by : Result Synced SyncFault → ℕ
+copied_by (Ok (Copied b)) = 1
+copied_by (Ok InStep) = 0
+copied_by (Err fault) = 0
+
+abbrev pub stale_in : {D : Type 0} → Option (Mirror D) → ℕ
+stale_in None = 0
+stale_in (Some m) = stale_count m.stale
+
+-- how many blocks of mirror k are stale
+abbrev pub stale_at : {D : Type 0} → MirrorValue D → ℕ → ℕ
+stale_at v k = stale_in (slice_get v.mirrors k)
+
+-- steps on mirror k one after another, with their answers, lead from one state of a volume to another
+abbrev pub AreSynced : {D : Type 0} → (D → Option (List (List ℕ))) → (D → ℕ) → (D → ℕ) → ℕ → MirrorValue D → List (Result Synced SyncFault) → MirrorValue D → Type 0
+AreSynced told size count k old [] new = new ≡ old
+AreSynced {D = D} told size count k old (answer ∷ answers) new = (next : MirrorValue D) × IsSynced told size count old next k answer × AreSynced told size count k next answers new

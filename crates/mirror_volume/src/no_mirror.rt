@@ -1,0 +1,3 @@
+/// Why an image was not cut: the volume was ready for none.
+#[derive(Clone, Copy, Debug, PartialEq, Eq)]
+pub struct NoMirror;
