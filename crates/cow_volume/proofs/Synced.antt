@@ -19,7 +19,7 @@ use Rattle.cow_volume.specs.Calls.{IsQuiet}
 use Rattle.cow_volume.specs.Parts.{group_of}
 use Rattle.cow_volume.specs.Ending.{IsSynced, IsSync, AllTell}
 use Rattle.cow_volume.specs.declared.cause.Cause.{Cause}
-use Rattle.cow_volume.proofs.Group.{told_in-slots}
+use Rattle.cow_volume.proofs.Group.{told_in-slots, quiet_stands as group_stands}
 use Rattle.cow_volume.proofs.Stored.{held_copies}
 use Rattle.cow_volume.proofs.Kept.{kept_area, kept_further, sizes_kept, quiet_stands}
 
@@ -31,6 +31,10 @@ tells_written (Some blocks) new first e = ap is_some e
 past_first : (old new : Option (List (List ℕ))) (first : List (List ℕ)) (place : ℕ) (bytes : List ℕ) → length first ≤ place → new ≡ option_map (with_first first) old → IfSome old (λ blocks. slice_get blocks place ≡ Some bytes) → IfSome new (λ blocks. slice_get blocks place ≡ Some bytes)
 past_first None new first place bytes l e h = subst (λ (o : Option (List (List ℕ))). IfSome o (λ blocks. slice_get blocks place ≡ Some bytes)) (sym e) tt
 past_first (Some blocks) new first place bytes l e h = subst (λ (o : Option (List (List ℕ))). IfSome o (λ blocks. slice_get blocks place ≡ Some bytes)) (sym e) (get-with_first-past first blocks place l ∙ h)
+
+before_first : (old new : Option (List (List ℕ))) (first : List (List ℕ)) (place : ℕ) (bytes : List ℕ) → length first ≤ place → new ≡ option_map (with_first first) old → IfSome new (λ blocks. slice_get blocks place ≡ Some bytes) → IfSome old (λ blocks. slice_get blocks place ≡ Some bytes)
+before_first None new first place bytes l e h = tt
+before_first (Some blocks) new first place bytes l e h = sym (get-with_first-past first blocks place l) ∙ subst (λ (o : Option (List (List ℕ))). IfSome o (λ blocks. slice_get blocks place ≡ Some bytes)) e h
 
 further_on : (a b c : ℕ) → a ≤ b → a ≤ b + c
 further_on a b c l = omega arith
@@ -47,6 +51,18 @@ synced_volume told old new records v n sets h first l e volume = record {
       past_first old new first (place_of_slot (length records) slot) (content h.writes p b) (further_on (length first) (table_for (length records)) slot l) e (volume.copied slot set b p at point tells);
 }
 
+stood_volume : (told old new : Option (List (List ℕ))) (records : List Record) (v n : ℕ) (sets : List ℕ) (h : History) (first : List (List ℕ)) → length first ≤ table_for (length records) → new ≡ option_map (with_first first) old
+    → IsVolume told new records v n sets h → IsVolume told old records v n sets h
+stood_volume told old new records v n sets h first l e volume = record {
+  blocks = volume.blocks;
+  sets_are = volume.sets_are;
+  images = volume.images;
+  named = volume.named;
+  recorded = volume.recorded;
+  copied = λ slot set b p at point tells.
+      before_first old new first (place_of_slot (length records) slot) (content h.writes p b) (further_on (length first) (table_for (length records)) slot l) e (volume.copied slot set b p at point tells);
+}
+
 synced_stands : {D : Type 0} (told : D → Option (List (List ℕ))) (size : D → ℕ) (lending : D → Bool) (devices : List D) (old new : CopiesValue D) (first : List (List ℕ)) (hs : List History) → KeepsTable size lending old.area new.area → new.images ≡ old.images
     → length first ≤ table_for (length old.area.records) → told new.area.device ≡ option_map (with_first first) (told old.area.device) → StandsFor told (group_of devices old) hs → StandsFor told (group_of devices new) hs
 synced_stands told size lending devices old new first hs table images l e stands = record {
@@ -61,6 +77,20 @@ synced_stands told size lending devices old new first hs table images l e stands
       (synced_volume (told_in (told old.area.device) (told d)) (told old.area.device) (told new.area.device) old.area.records v n sets h first l e volume));
 }
 
+stood_first : {D : Type 0} (told : D → Option (List (List ℕ))) (size : D → ℕ) (lending : D → Bool) (devices : List D) (old new : CopiesValue D) (first : List (List ℕ)) (hs : List History) → KeepsTable size lending old.area new.area → new.images ≡ old.images
+    → length first ≤ table_for (length old.area.records) → told new.area.device ≡ option_map (with_first first) (told old.area.device) → StandsFor told (group_of devices new) hs → StandsFor told (group_of devices old) hs
+stood_first told size lending devices old new first hs table images l e stands = record {
+  devices = stands.devices ∙ ap length table.volumes;
+  images = ap length (sym images) ∙ stands.images ∙ ap length table.volumes;
+  histories = stands.histories ∙ ap length table.volumes;
+  each = λ v n d sets h blocks device row history.
+      let volume = stands.each v n d sets h (ap (λ (ns : List ℕ). slice_get ns v) table.volumes ∙ blocks) device (ap (λ (ss : List (List ℕ)). slice_get ss v) images ∙ row) history in
+      stood_volume (told_in (told old.area.device) (told d)) (told old.area.device) (told new.area.device) old.area.records v n sets h first l e
+      (subst (λ (t : Option (List (List ℕ))). IsVolume t (told new.area.device) old.area.records v n sets h)
+      (ap (λ (t : Option (List (List ℕ))). told_in t (told d)) e ∙ told_in-slots (told old.area.device) (told d) (with_first first))
+      (subst (λ (rs : List Record). IsVolume (told_in (told new.area.device) (told d)) (told new.area.device) rs v n sets h) table.records volume));
+}
+
 synced_first : {D : Type 0} (told : D → Option (List (List ℕ))) (size count : D → ℕ) (lending : D → Bool) (devices : List D) (old new : CopiesValue D) (first : List (List ℕ)) → KeepsTable size lending old.area new.area → new.images ≡ old.images
     → count old.area.device ≤ count new.area.device → length first ≤ table_for (length old.area.records) → told new.area.device ≡ option_map (with_first first) (told old.area.device) → IsSynced told size count lending (group_of devices old) (group_of devices new)
 synced_first told size count lending devices old new first table images later l e = record {
@@ -69,6 +99,7 @@ synced_first told size count lending devices old new first table images later l 
   records = table.records;
   images = images;
   stands = λ hs stands. synced_stands told size lending devices old new first hs table images l e stands;
+  stood = λ hs stands. stood_first told size lending devices old new first hs table images l e stands;
 }
 
 -- the table was written
@@ -98,6 +129,7 @@ synced_further told size count lending devices old mid new synced quiet = record
   records = quiet.records ∙ synced.records;
   images = quiet.images ∙ synced.images;
   stands = λ hs stands. quiet_stands told size count lending (group_of devices mid) (group_of devices new) hs quiet (synced.stands hs stands);
+  stood = λ hs stands. synced.stood hs (group_stands told (group_of devices new) (group_of devices mid) hs stands (sym quiet.blocks) (sym quiet.images) (sym quiet.kept.volumes) (sym quiet.records) (sym quiet.slots));
 }
 
 -- the copies of the definitions stand on the area's device

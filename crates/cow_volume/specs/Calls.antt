@@ -55,7 +55,6 @@ pub record IsKept {D : Type 0} (told : D → Option (List (List ℕ))) (size cou
   pub devices : length new.devices ≡ length old.devices
   pub each : (v : ℕ) (d e : D) → slice_get old.devices v ≡ Some d → slice_get new.devices v ≡ Some e → IsSameDevice told size count lending d e
 
--- (A note of the lead, not to be committed: please read READ_ME_NOW.txt in this crate's folder: this record lacks a field that the world needs.)
 -- the count of the device of volume v rose, and each other count is as it was
 pub record VolumeRose {D : Type 0} (count : D → ℕ) (v : ℕ) (old new : GroupValue D) : Type 0 where
   pub before : D

@@ -17,6 +17,8 @@ pub record IsSynced {D : Type 0} (told : D → Option (List (List ℕ))) (size c
   pub records : new.area.records ≡ old.area.records
   pub images : new.images ≡ old.images
   pub stands : (hs : List History) → StandsFor told old hs → StandsFor told new hs
+  -- and it stands for nothing else
+  pub stood : (hs : List History) → StandsFor told new hs → StandsFor told old hs
 
 -- each device tells its blocks
 abbrev pub AllTell : {D : Type 0} → (D → Option (List (List ℕ))) → List D → Type 0

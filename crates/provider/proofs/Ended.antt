@@ -91,9 +91,10 @@ module _ {D : Type 0} (told lasting : D → Option (List (List ℕ))) (size coun
       let second : c.after ≡ q = cc in (
         subst (λ (z : GroupValue D). lasting z.area.device ≡ told z.area.device) second c.called.lasts,
         λ hs are tells.
-            let mine = are.each g c.before c.was in
-            let stored = c.called.sync.1 (of_group g s.volumes hs) mine.stands (λ v d e. tells v d (ap (λ (z : GroupValue D). slice_get z.devices v) (sym first) ∙ e)) in
-            let here = subst (λ (ns : List ℕ). AreStored (told c.after.area.device) (copies (all_placed ns) (of_group g s.volumes hs))) mine.volumes stored in
+            let mine = are.each g c.after (called_there old new g c.before c.after c.was c.is) in
+            let first_volumes : c.before.area.volumes ≡ blocks_in_group g s.volumes = sym c.called.sync.0.kept.volumes ∙ mine.volumes in
+            let stored = c.called.sync.1 (of_group g s.volumes hs) (c.called.sync.0.stood (of_group g s.volumes hs) mine.stands) (λ v d e. tells v d (ap (λ (z : GroupValue D). slice_get z.devices v) (sym first) ∙ e)) in
+            let here = subst (λ (ns : List ℕ). AreStored (told c.after.area.device) (copies (all_placed ns) (of_group g s.volumes hs))) first_volumes stored in
             subst (λ (z : GroupValue D). AreStored (told z.area.device) (copies (map (placed g) s.volumes) hs)) second
             (subst (λ (cs : List Copy). AreStored (told c.after.area.device) cs) (sym (copies_in_group g 0 s.volumes hs)) here),
       )

@@ -221,3 +221,19 @@ counts_same count (z ∷ groups) (suc g) x y at same =
     map-append count z.devices (z.area.device ∷ devices_of (slice_set groups g y))
     ∙ ap (λ (xs : List ℕ). map count z.devices ++ count z.area.device ∷ xs) (counts_same count groups g x y at same)
     ∙ sym (map-append count z.devices (z.area.device ∷ devices_of groups))
+
+-- what is read of each device of one group is as it was, and so it is of all
+pub mapped_same : {D X : Type 0} (f : D → X) (groups : List (GroupValue D)) (g : ℕ) (x y : GroupValue D) → slice_get groups g ≡ Some x → map f y.devices ≡ map f x.devices → f y.area.device ≡ f x.area.device
+    → map f (devices_of (slice_set groups g y)) ≡ map f (devices_of groups)
+mapped_same f [] g x y at devices area = cc
+mapped_same {D = D} {X = X} f (z ∷ groups) zero x y at devices area =
+    let is : z ≡ x = cc in
+    map-append f y.devices (y.area.device ∷ devices_of groups)
+    ∙ ap (λ (xs : List X). xs ++ f y.area.device ∷ map f (devices_of groups)) devices
+    ∙ ap (λ (n : X). map f x.devices ++ n ∷ map f (devices_of groups)) area
+    ∙ sym (map-append f x.devices (x.area.device ∷ devices_of groups))
+    ∙ ap (λ (q : GroupValue D). map f (q.devices ++ q.area.device ∷ devices_of groups)) (sym is)
+mapped_same {D = D} {X = X} f (z ∷ groups) (suc g) x y at devices area =
+    map-append f z.devices (z.area.device ∷ devices_of (slice_set groups g y))
+    ∙ ap (λ (xs : List X). map f z.devices ++ f z.area.device ∷ xs) (mapped_same f groups g x y at devices area)
+    ∙ sym (map-append f z.devices (z.area.device ∷ devices_of groups))

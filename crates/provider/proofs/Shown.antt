@@ -1,5 +1,5 @@
 -- Reads of one group, against the histories of all volumes.
-use Rattle.std.proofs.Common.{◌≡◌, ℕ, ◌<◌, arith, List, length, refl, ap, sym, ◌∙◌, subst, Bool, true, false, Option, Some, None, slice_get, slice_set}
+use Rattle.std.proofs.Common.{◌≡◌, ℕ, ◌<◌, arith, List, length, refl, ap, sym, ◌∙◌, subst, Bool, true, false, Option, Some, None, map, slice_get, slice_set}
 use Rattle.std.specs.Prelude.{◌&&◌, ◌≢◌, is_some, IfSome, Result, Ok, Err}
 use Rattle.write_history.specs.History.{History, content, point_in}
 use Rattle.scenario.specs.Plan.{Plan, blocks_of}
@@ -17,7 +17,7 @@ use Rattle.provider.proofs.Places.{history_of_place, group_there, within_there, 
 use Rattle.provider.proofs.Becoming.{stays}
 use Rattle.provider.proofs.Kept.{call_on, kept_one}
 use Rattle.provider.proofs.Causes.{unfailed, rose_by, by_device, is_device}
-use Rattle.provider.proofs.Flat.{volume_device_at}
+use Rattle.provider.proofs.Flat.{volume_device_at, mapped_same}
 
 -- ## nothing changes
 
@@ -25,6 +25,7 @@ pub quiet_of : {D : Type 0} (told : D → Option (List (List ℕ))) (size count 
     → IsGroupQuiet told size count lending x y → IsQuiet told size count lending s old new v
 quiet_of told size count lending s old new v g u x y place was is quiet = record {
   call = call_on told size count lending s old new v g u x y place was is quiet.kept;
+  blocks = ap (λ (zs : List (GroupValue _)). map told (devices_of zs)) is ∙ mapped_same told old g x y was quiet.blocks quiet.slots;
   stands = λ hs are. stays told s old new g x y hs was is quiet.kept.volumes quiet.kept.slots are
       (quiet_stands told x y (of_group g s.volumes hs) (are.each g x was).stands quiet.blocks quiet.images quiet.kept.volumes quiet.records quiet.slots);
 }

@@ -40,9 +40,10 @@ pub record IsPut {D : Type 0} (told : D → Option (List (List ℕ))) (size coun
 
 -- ## reads
 
--- only counts of devices may have changed: the groups stand for what they stood for
+-- only counts of devices may have changed: the groups stand for what they stood for, and each device tells what it told
 pub record IsQuiet {D : Type 0} (told : D → Option (List (List ℕ))) (size count : D → ℕ) (lending : D → Bool) (s : Plan) (old new : List (GroupValue D)) (v : ℕ) : Type 0 where
   pub call : IsCallOn told size count lending s v old new
+  pub blocks : map told (devices_of new) ≡ map told (devices_of old)
   pub stands : IfStandFor told s old (AreGroups told s new)
 
 -- the bytes are those of block b of volume v now, where the volume tells

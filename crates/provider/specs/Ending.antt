@@ -21,7 +21,7 @@ pub record IsSynced {D : Type 0} (told : D → Option (List (List ℕ))) (size c
 abbrev pub AreLasting : {D : Type 0} → (D → Option (List (List ℕ))) → (D → Option (List (List ℕ))) → Plan → List (GroupValue D) → List (GroupValue D) → ℕ → Type 0
 AreLasting {D = D} told lasting s old new g = (x y : GroupValue D) → slice_get old g ≡ Some x → slice_get new g ≡ Some y
     → (lasting y.area.device ≡ told y.area.device)
-    × IfStandFor told s old (λ hs. AllTell told x.devices → AreStored (told y.area.device) (copies (map (placed g) s.volumes) hs))
+    × IfStandFor told s new (λ hs. AllTell told x.devices → AreStored (told y.area.device) (copies (map (placed g) s.volumes) hs))
 
 -- each count is as it was; or that of the area's device of group g rose
 abbrev pub HasSyncCause : {D : Type 0} → (D → ℕ) → Plan → ℕ → Result Unit DeviceFault → List (GroupValue D) → List (GroupValue D) → Type 0
