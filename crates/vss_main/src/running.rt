@@ -36,22 +36,7 @@ fn report_of<M: Maker>(alloc: Global, scenario: Scenario, maker: &mut M) -> Resu
     let Ok(played) = play_in_turn(alloc, play) else {
         return Err(PlayFault::OutOfMemory);
     };
-    let mut play = played;
-    let Ok(copied) = Text::copy(alloc, play.lines()) else {
-        play.give_back(maker);
-        return Err(PlayFault::OutOfMemory);
-    };
-    let mut report = copied;
-    match play.close(alloc, &mut report) {
-        Ok(()) => {
-            play.give_back(maker);
-            Ok(report)
-        }
-        Err(fault) => {
-            play.give_back(maker);
-            Err(fault)
-        }
-    }
+    played.finish(maker)
 }
 
 /// Reads a scenario, runs it, and writes its report. In order: the words, reading, the scenario, the devices, the run, the

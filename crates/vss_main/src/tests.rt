@@ -66,7 +66,7 @@ fn an_image_shows_the_old_block_whatever_device_it_is(rt: HostRuntime) -> Result
         );
         assert_eq!(rt; status, Status::Done);
         assert_eq!(rt; sink.taken(), report);
-        assert_eq!(rt; maker.returned().len(), 1);
+        assert_eq!(rt; maker.returned().len(), 2);
     }
     Ok(())
 }

@@ -1,17 +1,17 @@
 -- How many lanes have a line left.
-use Rattle.std.proofs.Common.{◌≡◌, ℕ, zero, suc, ◌+◌, ◌-◌, ◌==◌, ◌<◌, ◌≤◌, List, [], ◌∷◌, length, refl, ap, sym, ◌∙◌, arith, Bool, true, false, Option, Some, None, subst, replicate, add-one, inl, inr}
-use Rattle.std.specs.Prelude.{◌⊎◌, slice_get, slice_set, slice_index, is_some, if◌then◌else◌}
+use Rattle.std.proofs.Common.{◌≡◌, ℕ, zero, suc, ◌+◌, ◌-◌, ◌==◌, ◌<◌, ◌≤◌, List, [], ◌∷◌, length, refl, ap, sym, ◌∙◌, arith, Bool, true, false, Option, Some, None, subst, replicate, add-one}
+use Rattle.std.specs.Prelude.{slice_get, slice_set, slice_index, is_some, if◌then◌else◌}
 use Rattle.std.proofs.lemmas.Bool.Decides.{nat_tests}
 use Rattle.write_history.specs.declared.actor.Actor.{Actor}
 use Rattle.write_history.specs.declared.actor.Actor.TheVariants.{Lane, Writer, Advance, Idle}
 use Rattle.write_history.specs.declared.move_item.Move.{Move}
 use Rattle.scenario.specs.Plan.{Plan, LaneLine, lines_of}
 use Rattle.vss_model.specs.declared.event.Event.{Event}
-use Rattle.vss_model.specs.Trail.{cursor}
+use Rattle.vss_model.specs.Trail.{run, cursor, event_of}
 use Rattle.vss_world.specs.Stands.{WorldValue}
 use Rattle.vss_play.specs.Running.{IsUsedUp, IsGoing, going_from}
 use Rattle.vss_play.proofs.LaneLines.{lane_in, cursor_is}
-use Rattle.vss_play.proofs.OneMove.{IsCalled, IsLaneTurn, IsProviderTurn, turn_of}
+use Rattle.vss_play.proofs.OneMove.{IsCalled, lane_turn_of}
 
 -- ## none is left
 
@@ -119,13 +119,16 @@ first_going s cursors lanes going many first is = is ∙ ap (λ (k : ℕ). going
 next_there : (o p : Option LaneLine) (l : LaneLine) → o ≡ p → p ≡ Some l → is_some o ≡ true
 next_there o p l e f = ap (λ (x : Option LaneLine). is_some x) (e ∙ f)
 
-pub going_actor : {D : Type 0} (told : D → Option (List (List ℕ))) (size count : D → ℕ) (s : Plan) (w : WorldValue D) (cursors : List ℕ) (trail : List Move) (text : List ℕ) (actor : Actor) (line : ℕ) (event : Event)
-    → IsCalled told size count s w cursors trail text actor line event → IsGoing s cursors actor
-going_actor told size count s w cursors trail text actor line event c = by_turn (turn_of s trail actor event c.event_is c.made)
-  where
-    by_turn : IsLaneTurn s trail actor event ⊎ IsProviderTurn actor event → IsGoing s cursors actor
-    by_turn (inl t) =
-        let within : t.lane < length cursors = (let a = lane_in s t.lane (cursor trail t.lane) t.line t.next in let e = c.kept.lanes in omega arith) in
-        let at = cursor_is trail cursors t.lane within c.kept.made in
-        subst (IsGoing s cursors) (sym t.who) (within, next_there (slice_get (lines_of s t.lane) (slice_index cursors t.lane)) (slice_get (lines_of s t.lane) (cursor trail t.lane)) t.line (ap (λ (n : ℕ). slice_get (lines_of s t.lane) n) at) t.next)
-    by_turn (inr t) = subst (IsGoing s cursors) (sym t.who) tt
+going_by : (s : Plan) (trail : List Move) (cursors : List ℕ) → length cursors ≡ length s.lanes → (actor : Actor) (event : Event) → event_of s (run s trail) actor ≡ Some event
+    → ((i : ℕ) → i < length cursors → slice_index cursors i ≡ cursor trail i) → IsGoing s cursors actor
+going_by s trail cursors many (Lane i) event e at =
+    let t = lane_turn_of s trail i event e in
+    let within : i < length cursors = (let a = lane_in s i (cursor trail i) t.line t.next in omega arith) in
+    (within, next_there (slice_get (lines_of s i) (slice_index cursors i)) (slice_get (lines_of s i) (cursor trail i)) t.line (ap (λ (n : ℕ). slice_get (lines_of s i) n) (at i within)) t.next)
+going_by s trail cursors many (Writer w) event e at = tt
+going_by s trail cursors many Advance event e at = tt
+going_by s trail cursors many Idle event e at = tt
+
+pub going_actor : {D : Type 0} (told : D → Option (List (List ℕ))) (count : D → ℕ) (s : Plan) (w : WorldValue D) (cursors : List ℕ) (trail : List Move) (text : List ℕ) (actor : Actor) (line : ℕ) (event : Event)
+    → IsCalled told count s w cursors trail text actor line event → IsGoing s cursors actor
+going_actor told count s w cursors trail text actor line event c = going_by s trail cursors c.kept.lanes actor event c.event_is (λ i l. cursor_is trail cursors i l c.kept.made)

@@ -1,4 +1,5 @@
 pub mod Played
 pub mod Running
+pub mod Made
 pub mod Closing
 pub mod Messages

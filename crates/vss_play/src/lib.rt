@@ -2,12 +2,15 @@
 //! trail and whose lines are added to the report.
 //!
 //! Contracts see a run as its scenario, its moves and its devices. What it promises: the trail is legal, the lines are the
-//! report so far, a device that tells holds its volume's content, and the fault marks are at most the devices' faults.
+//! report so far, the device of a volume holds its content where it and its area's tell, and the fault marks are at most the
+//! devices' faults. Once it is closed each area's device stands for the copies of the images, where it and its volumes' tell.
 #![tactic(auto)]
 
 mod closing;
 mod devices;
 mod gate;
+mod groups;
+mod idle;
 mod in_turn;
 mod moved;
 mod open_gate;

@@ -1,20 +1,21 @@
-ghost use Rattle.std.specs.Prelude.{◌≡◌, ◌+◌, ◌≤◌, ◌++◌, [], Some, false, length, map, OnOk, OnErr, IfOk, IsErrOf, option_map};
+ghost use Rattle.std.specs.Prelude.{◌≡◌, ◌+◌, ◌≤◌, ◌++◌, ◌⊎◌, Some, false, length, map, OnOk, OnErr, IfOk, IsErrOf, option_map};
 ghost use Rattle.vss_names.specs.Faults.{Rose, all_counted};
 ghost use Rattle.vss_report.specs.Report.{IsReportSoFar};
-ghost use Rattle.scenario.specs.Bounds.{IsPlan};
 ghost use Rattle.vss_model.specs.Trail.{event_of};
 ghost use Rattle.vss_report.specs.ToldLines.{IsLineOf};
-ghost use Rattle.vss_play.specs.Running.{IsMade};
-ghost use Rattle.vss_play.specs.Played.{run_of, is_finished, tells_in, IsKept, IsTurn, IsFresh, IsUndone, IsQuietPlay, IsClosed, AnyRose, AreNamed, device_names};
+ghost use Rattle.vss_play.specs.Running.{MayIfCan};
+ghost use Rattle.vss_play.specs.Played.{run_of, is_finished, tells_in, IsKept, IsTurn, IsFresh, IsUndone, IsDropped, IsQuietPlay, IsClosed, IsEnded, AnyRose, AreNamed, device_names};
 
 use crate::closing::close_all;
 use crate::devices::{give_all, make_devices};
+use crate::groups::open_groups;
+use crate::idle::{may_idle, next_answer};
 use crate::moved::Moved;
 use crate::play_fault::PlayFault;
 use crate::step_fault::StepFault;
 use crate::turn::{
-    advance, are_used_up, first_cursors, lanes_with_lines, mark_of, next_line, push_move,
-    write_lines,
+    advance, answers_no_more, are_used_up, first_cursors, first_lines, lanes_with_lines, mark_of,
+    next_line, push_move, write_lines,
 };
 use scenario::Scenario;
 use std::alloc::Global;
@@ -23,7 +24,7 @@ use volume_device::{Device, Maker, Store};
 use vss_model::Event;
 use vss_model::laws::turns_come_to_an_end;
 use vss_names::Text;
-use vss_report::{MOST_BYTES, opening_line};
+use vss_report::MOST_BYTES;
 use vss_world::{Reply, World};
 use write_history::{Actor, Move, Trail, TrailFault};
 
@@ -48,13 +49,14 @@ impl<D: Device> Model for Play<D> {
 
     ghost view = { λ a. record { plan = a.scenario; trail = a.trail.moves; devices = a.world.devices } };
 
-    ghost invariant = { λ a. IsPlaying D.told D.size D.count a.scenario a.world a.cursors.items a.going a.trail.moves a.lines.bytes };
+    ghost invariant = { λ a. IsPlaying D.told D.count a.scenario a.world a.cursors.items a.going a.trail.moves a.lines.bytes };
 }
 
 impl<D: Device> Play<D> {
     /// A run of which nothing has happened yet. The maker makes each volume's device by the volume's name with `.vol` behind it,
-    /// in order of the volumes.
-    /// Where one is refused, or memory, the maker gets back those that it made.
+    /// in order of the volumes, and then the device of each area, in order of the groups: that of a volume's own area by the
+    /// volume's name with `.area`, that of a declared area by its name with `.shared`.
+    /// Where one is refused, the maker gets back those that it made. Where memory is refused once all are made, they are dropped.
     pub fn new<M: Maker<Made = D>>(
         alloc: Global,
         scenario: Scenario,
@@ -65,28 +67,25 @@ impl<D: Device> Play<D> {
         ensures tells { M.tells maker.new ≡ M.tells maker.old }
         ensures named { OnOk result (AreNamed (device_names scenario) (M.named maker.old) (M.named maker.new)) }
         ensures kept { OnOk result (M.kept maker.new ≡ M.kept maker.old) }
-        ensures undone { OnErr result (IsUndone D.count scenario (M.named maker.old) (M.named maker.new) (M.kept maker.old) (M.kept maker.new)) }
+        ensures undone { IsErrOf result PlayFault.Failed → IsUndone D.count scenario (M.named maker.old) (M.named maker.new) (M.kept maker.old) (M.kept maker.new) }
+        ensures wanting { IsErrOf result PlayFault.OutOfMemory → IsUndone D.count scenario (M.named maker.old) (M.named maker.new) (M.kept maker.old) (M.kept maker.new) ⊎ IsDropped scenario (M.named maker.old) (M.named maker.new) (M.kept maker.old) (M.kept maker.new) }
         ensures places { IfOk result (λ play. length play.devices ≤ M.places maker.new) }
         ensures later { M.count maker.old ≤ M.count maker.new }
         ensures unfailed { OnOk result (M.count maker.new ≡ M.count maker.old) }
         ensures unmade { IsErrOf result PlayFault.OutOfMemory → M.count maker.new ≡ M.count maker.old }
         ensures rose { IsErrOf result PlayFault.Failed → Rose (M.count maker.old) (M.count maker.new) }
     {
-        let mut lines = Text::new(alloc);
-        if opening_line(&mut lines).is_err() {
-            return Err(PlayFault::OutOfMemory);
-        }
+        let lines = first_lines(alloc)?;
         let Ok(cursors) = first_cursors(alloc, scenario.lanes()) else {
             return Err(PlayFault::OutOfMemory);
         };
         let going = lanes_with_lines(&scenario);
         let devices = make_devices(alloc, &scenario, store, maker)?;
-        let world = match World::new(alloc, &scenario, devices) {
-            Ok(world) => world,
-            Err(given) => {
-                give_all(given, maker);
-                return Err(PlayFault::OutOfMemory);
-            }
+        let Ok(groups) = open_groups(alloc, &scenario, devices) else {
+            return Err(PlayFault::OutOfMemory);
+        };
+        let Ok(world) = World::new(alloc, &scenario, groups) else {
+            return Err(PlayFault::OutOfMemory);
         };
         let trail = Trail::new(alloc);
         Ok(Play {
@@ -111,10 +110,17 @@ impl<D: Device> Play<D> {
                     self.make(alloc, actor, line.number, event)
                 }
             },
-            Actor::Writer(_) => {
-                // No scenario that is run has writers.
-                let _facts = self.scenario.lanes();
-                Ok(Moved::Finished)
+            Actor::Writer(writer) => {
+                if answers_no_more(&self.scenario, writer, self.going) {
+                    return Ok(Moved::Finished);
+                }
+                match next_answer(&self.scenario, &self.world, writer) {
+                    None => Ok(Moved::Blocked),
+                    Some(answer) => {
+                        let event = Event::Answer { writer, answer };
+                        self.make(alloc, actor, 0, event)
+                    }
+                }
             }
             Actor::Advance => {
                 if are_used_up(self.going) {
@@ -125,6 +131,10 @@ impl<D: Device> Play<D> {
             Actor::Idle => {
                 if are_used_up(self.going) {
                     return Ok(Moved::Finished);
+                }
+                turns_come_to_an_end();
+                if may_idle(&self.scenario, &self.world, &self.cursors) {
+                    return self.make(alloc, actor, 0, Event::Idle);
                 }
                 Ok(Moved::Blocked)
             }
@@ -141,7 +151,7 @@ impl<D: Device> Play<D> {
         event: Event,
     ) -> Result<Moved, StepFault>
         requires event { event_of self.old.plan (run_of self.old) actor ≡ Some event }
-        requires made { IsMade self.old.plan event }
+        requires may { MayIfCan self.old.plan (run_of self.old) actor }
         requires line { IsLineOf self.old.plan (run_of self.old) actor line }
         requires going { is_finished self.old.plan self.old.trail actor ≡ false }
         ensures { IsTurn D.told D.count self.old self.new actor result }
@@ -203,8 +213,17 @@ impl<D: Device> Play<D> {
         self.scenario.lanes()
     }
 
-    /// Appends the closing lines: how many moves there are and the clock, and for each volume how it stands, with its kept
-    /// images. Where it is refused, `out` has the bytes that it had.
+    /// How many writers there are.
+    pub fn writers(&self) -> u32
+        ensures count { result ≡ length self.now.plan.writers }
+        ensures kept { IsKept D.told D.count self.now }
+    {
+        self.scenario.writers()
+    }
+
+    /// Writes each group's area to its device, and appends the closing lines: how many moves there are and the clock, for each
+    /// volume how it stands, with its kept images, and for each writer its state. Where it is refused, `out` has the bytes that it
+    /// had.
     pub fn close(&mut self, _alloc: Global, out: &mut Text) -> Result<(), PlayFault>
         ensures closed { OnOk result (IsClosed D.told self.new out.old.bytes out.new.bytes) }
         ensures same { OnErr result (out.new.bytes ≡ out.old.bytes) }
@@ -214,6 +233,7 @@ impl<D: Device> Play<D> {
         ensures wanting { IsErrOf result PlayFault.OutOfMemory → map D.count self.new.devices ≡ map D.count self.old.devices }
         ensures rose { IsErrOf result PlayFault.Failed → AnyRose (map D.count self.old.devices) (map D.count self.new.devices) }
     {
+        turns_come_to_an_end();
         let before = out.len();
         match close_all(&self.scenario, &self.trail, &mut self.world, out) {
             Err(fault) => {
@@ -225,7 +245,37 @@ impl<D: Device> Play<D> {
         Ok(())
     }
 
-    /// Hands the devices back to a maker, in order of the volumes, as they are.
+    /// Closes the report in its own text, as `close` does, and hands the devices back to a maker, as `give_back` does, also where
+    /// the closing lines are refused. The report is answered.
+    pub fn finish<M: Maker<Made = D>>(self, maker: &mut M) -> Result<Text, PlayFault>
+        ensures ended { IsEnded D.told D.count self (M.places maker.old) (M.kept maker.old) (M.kept maker.new) (M.count maker.old) (M.count maker.new) result }
+        ensures tells { M.tells maker.new ≡ M.tells maker.old }
+        ensures named { M.named maker.new ≡ M.named maker.old }
+        ensures later { M.count maker.old ≤ M.count maker.new }
+    {
+        let Play {
+            scenario,
+            world,
+            cursors: _,
+            going: _,
+            trail,
+            lines,
+        } = self;
+        turns_come_to_an_end();
+        let mut report = lines;
+        let mut core = world;
+        match close_all(&scenario, &trail, &mut core, &mut report) {
+            Err(fault) => {
+                give_all(core.into_devices(), maker);
+                return Err(fault);
+            }
+            Ok(()) => {}
+        }
+        give_all(core.into_devices(), maker);
+        Ok(report)
+    }
+
+    /// Hands the devices back to a maker, as they are: for each group its volumes' in order, and then its area's.
     pub fn give_back<M: Maker<Made = D>>(self, maker: &mut M)
         ensures tells { M.tells maker.new ≡ M.tells maker.old }
         ensures named { M.named maker.new ≡ M.named maker.old }

@@ -1,2 +1,10 @@
-pub mod Calls
+pub mod Devices
 pub mod Stands
+pub mod Moves
+pub mod Quiet
+pub mod Reading
+pub mod Puts
+pub mod Settling
+pub mod Steps
+pub mod Evicting
+pub mod Beginning

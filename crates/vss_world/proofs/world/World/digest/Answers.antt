@@ -1,17 +1,16 @@
-use Rattle.vss_world.proofs.Kept.{digest_here, both_ok, quiet_world, at_place, in_place, unfailed_world, no_error}
+use Rattle.vss_world.proofs.Digesting.{now_told_of, quiet_is}
 use Rattle.vss_world.proofs.world.World.digest.Goals as goal
+use Rattle.vss_world.proofs.world.World.digest.Goals.{in-Ok, in-Err}
 
 pub returns-clause-digest : goal.returns-clause-digest
 returns-clause-digest g c =
-    let inside = in_place c.self.inside.volumes.items c.self.inside.sessions c.args.volume (rw (← c.self.view_is) at c.requires) in
-    rw (← c.self.view_is) (both_ok _ _ _ c.digest.result c.digest.ensures.digest c.digest.ensures.wide (λ digest shows wide. digest_here g.D.Device.told g.D.Device.size c.self.inside.volumes.items c.self.inside.sessions c.args.volume digest c.index_mut.result.now (at_place c.self.inside.volumes.items c.args.volume c.index_mut.result.now inside c.index_mut.ensures.value) inside shows wide))
+    elim c.match-digest.branch [
+      | in-Ok w ↦ rw w.result-is (now_told_of g.D.Device.told c.args.scenario.now c.args.volume w.in-Ok.digest
+          c.self.inside.provider c.self.inside.sessions c.self.inside.gate c.self.inside.listed c.self.inside.evicted c.args.self.now c.self.view_is c.requires.of c.requires.in_range w.in-Ok.ensures.digest w.in-Ok.ensures.wide)
+      | in-Err w ↦ rw w.result-is tt
+    ]
 
 pub returns-clause-quiet : goal.returns-clause-quiet
 returns-clause-quiet g c =
-    let inside = in_place c.self.inside.volumes.items c.self.inside.sessions c.args.volume (rw (← c.self.view_is) at c.requires) in
-    rw (← c.self.view_is) (quiet_world g.D.Device.told g.D.Device.size g.D.Device.count c.self.inside.volumes.items c.self.inside.sessions c.args.volume c.index_mut.result.now c.digest.new.self _ (at_place c.self.inside.volumes.items c.args.volume c.index_mut.result.now inside c.index_mut.ensures.value) inside c.digest.ensures.quiet)
-
-pub returns-clause-same : goal.returns-clause-same
-returns-clause-same g c = λ ok.
-    let inside = in_place c.self.inside.volumes.items c.self.inside.sessions c.args.volume (rw (← c.self.view_is) at c.requires) in
-    rw (← c.self.view_is) (unfailed_world g.D.Device.told g.D.Device.size g.D.Device.count c.self.inside.volumes.items c.args.volume c.index_mut.result.now c.digest.new.self _ (at_place c.self.inside.volumes.items c.args.volume c.index_mut.result.now inside c.index_mut.ensures.value) c.digest.ensures.quiet (no_error c.digest.result ok))
+    rw (← c.self.view_is) (quiet_is g.D.Device.told g.D.Device.size g.D.Device.count g.D.Device.lending c.args.scenario.now c.args.volume
+    c.self.inside.provider c.digest.new.self c.self.inside.sessions c.self.inside.gate c.self.inside.listed c.self.inside.evicted (rw (← c.self.view_is) at c.requires.of) c.digest.ensures.quiet)

@@ -1,13 +1,12 @@
-use Rattle.std.proofs.Common.{◌∙◌, ap, rules}
-use Rattle.std.specs.Prelude.{map}
-use Rattle.vss_world.proofs.Beginning.{begins_so, devices_few, devices_same}
+use Rattle.vss_world.proofs.FirstState.{made_of, made_stands}
 use Rattle.vss_world.proofs.world.World.new.Goals as goal
 
-pub volumes_over-requires : goal.volumes_over-requires
-volumes_over-requires g c = devices_few g.D.Device.size c.args.devices.items c.args.scenario.now.volumes c.requires.sizes c.volumes-facts.ensures.built.one_volume
+pub returns-in-Ok-new-clause-stands : goal.returns-in-Ok-new-clause-stands
+returns-in-Ok-new-clause-stands g c =
+    made_stands g.D.Device.told c.args.scenario.now c.args.groups.items c.in-Ok-new.provider c.in-Ok.rest.sessions c.in-Ok.rest.gate c.in-Ok.rest.listed c.in-Ok.rest.evicted
+    c.volumes-volumes.ensures.plan c.requires c.in-Ok-new.ensures.made c.in-Ok-new.ensures.whole c.in-Ok.ensures (c.in-Ok-new.ensures.fresh c.args.scenario.now)
 
-pub returns-clause-stands : goal.returns-clause-stands
-returns-clause-stands g c = begins_so g.D.Device.told g.D.Device.size c.args.scenario.now c.args.devices.items _ _ c.requires.sizes c.requires.fresh c.in-Ok.ensures.volumes (c.new.ensures.keeps c.args.scenario.now c.volumes-facts.ensures.built.no_writers)
-
-pub returns-clause-devices : goal.returns-clause-devices
-returns-clause-devices g c = ap (map (λ v. v.device)) c.in-Ok.ensures.volumes ∙ devices_same g.D.Device.size c.args.devices.items
+pub returns-in-Ok-new-clause-of : goal.returns-in-Ok-new-clause-of
+returns-in-Ok-new-clause-of g c =
+    made_of g.D.Device.told c.args.scenario.now c.args.groups.items c.in-Ok-new.provider c.in-Ok.rest.sessions c.in-Ok.rest.gate c.in-Ok.rest.listed c.in-Ok.rest.evicted
+    c.volumes-volumes.ensures.plan c.requires c.in-Ok-new.ensures.made c.in-Ok-new.ensures.whole c.in-Ok.ensures

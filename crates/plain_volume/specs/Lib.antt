@@ -1,3 +1,0 @@
-pub mod Calls
-pub mod Volume
-pub mod Views

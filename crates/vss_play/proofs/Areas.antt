@@ -1,0 +1,118 @@
+-- Each group's area is written to its device, and stays so through the calls that follow.
+use Rattle.std.proofs.Common.{◌≡◌, ℕ, zero, suc, ◌+◌, ◌-◌, ◌<◌, ◌≤◌, List, [], ◌∷◌, length, refl, ap, sym, ◌∙◌, arith, Option, Some, None, subst, inl, inr}
+use Rattle.std.specs.Prelude.{◌⊎◌, slice_get, map, is_some}
+use Rattle.std.proofs.lemmas.Option.{slice_get_past}
+use Rattle.write_history.specs.History.{History}
+use Rattle.write_history.specs.Slots.{copies}
+use Rattle.write_history.specs.declared.move_item.Move.{Move}
+use Rattle.scenario.specs.declared.volume_row.VolumeRow.{VolumeRow}
+use Rattle.scenario.specs.Plan.{Plan}
+use Rattle.diff_area.specs.Copies.{AreStored}
+use Rattle.cow_volume.specs.GroupValue.{placed}
+use Rattle.vss_model.specs.Acts.{state}
+use Rattle.vss_model.specs.Trail.{acts}
+use Rattle.provider.specs.Groups.{of_group, blocks_in_group}
+use Rattle.provider.specs.Devices.{first_place, area_place}
+use Rattle.vss_world.specs.Devices.{told_of, told_by, AreaHolds}
+use Rattle.vss_world.specs.Stands.{WorldValue, IsOf}
+use Rattle.vss_world.specs.Quiet.{IsQuiet, IsSynced, IsAreaHeld}
+use Rattle.vss_play.specs.Played.{AreasHold}
+use Rattle.vss_play.specs.Running.{IsPlay}
+use Rattle.vss_play.specs.Closing.{StandsAfter, IsEnding}
+use Rattle.vss_play.proofs.FaultMarks.{later-refl, later-trans}
+use Rattle.vss_play.proofs.OneMove.{IsShortLaw, few_of}
+
+-- ## calls that are no moves
+
+pub stands_by : {D : Type 0} (told : D → Option (List (List ℕ))) (count : D → ℕ) (s : Plan) (w : WorldValue D) (cursors : List ℕ) (trail : List Move) (text : List ℕ) → IsShortLaw → IsPlay told count s w cursors trail text → StandsAfter told w s trail
+stands_by told count s w cursors trail text short kept = record { of = kept.of; few = few_of told count s w cursors trail text short kept; stands = kept.stands }
+
+pub ending_same : {D : Type 0} (told : D → Option (List (List ℕ))) (count : D → ℕ) (w : WorldValue D) (s : Plan) → IsOf w s → IsEnding told count w w s
+ending_same told count w s of = record { stands_for = λ xs h. h; is_of = of; tells = refl; later = later-refl (map count w.devices) }
+
+pub ending_quiet : {D : Type 0} (told : D → Option (List (List ℕ))) (count : D → ℕ) (old new : WorldValue D) (s : Plan) → IsQuiet told count old new s → IsEnding told count old new s
+ending_quiet told count old new s q = record { stands_for = q.stands_for; is_of = q.is_of; tells = q.tells; later = q.later }
+
+pub ending_synced : {D : Type 0} (told : D → Option (List (List ℕ))) (count : D → ℕ) (old new : WorldValue D) (s : Plan) (g : ℕ) → IsSynced told count old new s g → IsEnding told count old new s
+ending_synced told count old new s g q = record { stands_for = q.stands_for; is_of = q.is_of; tells = q.tells; later = q.later }
+
+pub ending_trans : {D : Type 0} (told : D → Option (List (List ℕ))) (count : D → ℕ) (u v w : WorldValue D) (s : Plan) → IsEnding told count u v s → IsEnding told count v w s → IsEnding told count u w s
+ending_trans told count u v w s a b = record {
+  stands_for = λ xs h. b.stands_for xs (a.stands_for xs h);
+  is_of = b.is_of;
+  tells = b.tells ∙ a.tells;
+  later = later-trans (map count u.devices) (map count v.devices) (map count w.devices) a.later b.later;
+}
+
+pub still_ending : {D : Type 0} (told : D → Option (List (List ℕ))) (count : D → ℕ) (old new : WorldValue D) (s : Plan) (trail : List Move) → StandsAfter told old s trail → IsEnding told count old new s → StandsAfter told new s trail
+still_ending told count old new s trail h q = record { of = q.is_of; few = h.few; stands = q.stands_for (acts s trail) h.stands }
+
+-- ## places
+
+first_by : (a d : ℕ) (rows : List VolumeRow) → first_place a rows ≤ first_place (a + d) rows
+first_by a zero rows = let e : a + 0 ≡ a = omega arith in subst (λ n. first_place a rows ≤ first_place n rows) (sym e) (omega arith)
+first_by a (suc d) rows =
+    let e : a + suc d ≡ suc (a + d) = omega arith in
+    let below = first_by a d rows in
+    subst (λ n. first_place a rows ≤ first_place n rows) (sym e) (omega arith)
+
+pub first_up : (a b : ℕ) (rows : List VolumeRow) → a ≤ b → first_place a rows ≤ first_place b rows
+first_up a b rows l = let e : a + (b - a) ≡ b = omega arith in subst (λ n. first_place a rows ≤ first_place n rows) e (first_by a (b - a) rows)
+
+-- the devices of an earlier group stand before the area's of a later one
+before_area : (a b p : ℕ) (rows : List VolumeRow) → a < b → p ≤ length (blocks_in_group a rows) → first_place a rows + p ≡ area_place b rows → ⊥
+before_area a b p rows l m e = let up = first_up (suc a) b rows (omega arith) in omega arith
+
+-- ## areas
+
+-- what was written to an area's device stays where the devices of its group tell what they told
+area_as : {D : Type 0} (told : D → Option (List (List ℕ))) (s : Plan) (hs : List History) (old new : List D) (g : ℕ) → ((u : ℕ) → u ≤ length (blocks_in_group g s.volumes) → told_by told new (first_place g s.volumes + u) ≡ told_by told old (first_place g s.volumes + u))
+    → AreaHolds told s hs old g → AreaHolds told s hs new g
+area_as told s hs old new g same holds = λ tell.
+    subst (λ (o : Option (List (List ℕ))). AreStored o (copies (placed (blocks_in_group g s.volumes)) (of_group g s.volumes hs))) (sym (same (length (blocks_in_group g s.volumes)) (omega arith)))
+    (holds (λ u l. ap (λ (o : Option (List (List ℕ))). is_some o) (sym (same u (omega arith))) ∙ tell u l))
+
+joined : Option (Option (List (List ℕ))) → Option (List (List ℕ))
+joined None = None
+joined (Some o) = o
+
+told_joined : {D : Type 0} (told : D → Option (List (List ℕ))) (ds : List D) (p : ℕ) → told_by told ds p ≡ joined (slice_get (map told ds) p)
+unfolding joined
+told_joined {D = D} told [] p = ap (told_of told) (slice_get_past {X = D} [] p (omega arith)) ∙ sym (ap joined (slice_get_past {X = Option (List (List ℕ))} [] p (omega arith)))
+told_joined told (d ∷ ds) zero = refl
+told_joined told (d ∷ ds) (suc p) = told_joined told ds p
+
+told_same : {D : Type 0} (told : D → Option (List (List ℕ))) (old new : List D) → map told new ≡ map told old → (p : ℕ) → told_by told new p ≡ told_by told old p
+told_same told old new e p = told_joined told new p ∙ ap (λ (os : List (Option (List (List ℕ)))). joined (slice_get os p)) e ∙ sym (told_joined told old p)
+
+-- the areas of the first k groups hold
+abbrev pub FirstHold : {D : Type 0} → (D → Option (List (List ℕ))) → Plan → List Move → List D → ℕ → Type 0
+FirstHold told s trail devices k = (g : ℕ) → g < k → AreaHolds told s (state s (acts s trail)).volumes devices g
+
+pub none_hold : {D : Type 0} (told : D → Option (List (List ℕ))) (s : Plan) (trail : List Move) (devices : List D) → FirstHold told s trail devices 0
+none_hold told s trail devices = λ g l. absurd (omega arith)
+
+pub below_or_at : (g k : ℕ) → g < k + 1 → (g < k) ⊎ (g ≡ k)
+below_or_at zero zero l = inr refl
+below_or_at zero (suc k) l = inl (omega arith)
+below_or_at (suc g) zero l = absurd (omega arith)
+below_or_at (suc g) (suc k) l = up (below_or_at g k (omega arith))
+  where
+    up : (g < k) ⊎ (g ≡ k) → (suc g < suc k) ⊎ (suc g ≡ suc k)
+    up (inl h) = inl (omega arith)
+    up (inr h) = inr (ap suc h)
+
+pub one_holds : {D : Type 0} (told : D → Option (List (List ℕ))) (count : D → ℕ) (old new : WorldValue D) (s : Plan) (trail : List Move) (k : ℕ) → StandsAfter told old s trail → IsSynced told count old new s k → IsAreaHeld told new s k
+    → FirstHold told s trail old.devices k → FirstHold told s trail new.devices (k + 1)
+one_holds {D = D} told count old new s trail k stands synced held first g l = by_place (below_or_at g k l)
+  where
+    by_place : (g < k) ⊎ (g ≡ k) → AreaHolds told s (state s (acts s trail)).volumes new.devices g
+    by_place (inl h) =
+        area_as told s (state s (acts s trail)).volumes old.devices new.devices g (λ u m. synced.elsewhere (first_place g s.volumes + u) (before_area g k u s.volumes h m)) (first g h)
+    by_place (inr h) = subst (λ n. AreaHolds told s (state s (acts s trail)).volumes new.devices n) (sym h) (held (acts s trail) (synced.stands_for (acts s trail) stands.stands))
+
+pub all_hold : {D : Type 0} (told : D → Option (List (List ℕ))) (s : Plan) (trail : List Move) (devices : List D) (k many : ℕ) → many ≡ length s.groups → many ≤ k → FirstHold told s trail devices k → AreasHold told s trail devices
+all_hold told s trail devices k many e l h = λ g m. h g (omega arith)
+
+pub areas_quiet : {D : Type 0} (told : D → Option (List (List ℕ))) (count : D → ℕ) (old new : WorldValue D) (s : Plan) (trail : List Move) → IsQuiet told count old new s → AreasHold told s trail old.devices → AreasHold told s trail new.devices
+areas_quiet told count old new s trail quiet h = λ g l. area_as told s (state s (acts s trail)).volumes old.devices new.devices g (λ u m. told_same told old.devices new.devices quiet.blocks (first_place g s.volumes + u)) (h g l)

@@ -1,0 +1,38 @@
+-- A run of which nothing has happened.
+use Rattle.std.proofs.Common.{◌≡◌, ℕ, zero, suc, ◌+◌, List, [], length, refl, ap, sym, ◌∙◌, arith, subst, replicate, Option}
+use Rattle.write_history.specs.declared.move_item.Move.{Move}
+use Rattle.scenario.specs.Plan.{Plan}
+use Rattle.scenario.specs.Bounds.{IsPlan}
+use Rattle.scenario.specs.Built.{IsBuilt}
+use Rattle.vss_report.specs.Report.{first_line, IsReportSoFar}
+use Rattle.vss_report.proofs.LinesGrow.{so_far_none}
+use Rattle.vss_world.specs.Devices.{tells_of}
+use Rattle.vss_world.specs.Stands.{WorldValue, Stands, IsOf}
+use Rattle.vss_play.specs.Running.{AreCursors, IsPlay}
+
+cursors_first : (i n : ℕ) → AreCursors [] i (replicate n 0)
+cursors_first i zero = tt
+cursors_first i (suc n) = (refl, cursors_first (i + 1) n)
+
+length_replicate : (n x : ℕ) → length (replicate n x) ≡ n
+length_replicate zero x = refl
+length_replicate (suc n) x = ap suc (length_replicate n x)
+
+pub play_fresh : {D : Type 0} (told : D → Option (List (List ℕ))) (count : D → ℕ) (s : Plan) (w : WorldValue D) (cursors : List ℕ) (moves : List Move) (text : List ℕ) (lanes : ℕ)
+    → IsPlan s → IsBuilt s → Stands told w s [] → IsOf w s → lanes ≡ length s.lanes → cursors ≡ replicate {A = ℕ} lanes 0 → moves ≡ [] → text ≡ first_line → IsPlay told count s w cursors moves text
+play_fresh told count s w cursors moves text lanes plan built stands of many first none line =
+    subst (λ (ms : List Move). IsPlay told count s w cursors ms text) (sym none)
+    (subst (λ (cs : List ℕ). IsPlay told count s w cs [] text) (sym first)
+    (record {
+      plan = plan;
+      built = built;
+      legal = refl;
+      stands = stands;
+      of = of;
+      lines = subst (λ t. IsReportSoFar s (tells_of told s w.devices) [] t) (sym line) (so_far_none s (tells_of told s w.devices));
+      legible = tt;
+      short = omega arith;
+      made = cursors_first 0 lanes;
+      lanes = length_replicate lanes 0 ∙ many;
+      faults = omega arith;
+    }))

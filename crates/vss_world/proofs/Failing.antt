@@ -1,0 +1,101 @@
+-- The set in progress fails: its agenda is over, no volume is held any more, and its row says so.
+use Rattle.std.proofs.Common.{◌≡◌, ℕ, zero, suc, ◌+◌, ◌<◌, ◌≤◌, ◌==◌, List, [], ◌∷◌, length, refl, ap, sym, ◌∙◌, subst, arith, Bool, true, false, ◌&&◌, Option, Some, None, map, replicate}
+use Rattle.std.specs.Prelude.{find, not, if◌then◌else◌}
+use Rattle.std.specs.List.{slice_index_or}
+use Rattle.std.proofs.lemmas.Bool.Decides.{nat_tests}
+use Rattle.vss_names.specs.declared.vss_result.VssResult.{VssResult}
+use Rattle.vss_names.specs.declared.set_outcome.SetOutcome.{SetOutcome}
+use Rattle.vss_names.specs.declared.set_outcome.SetOutcome.TheVariants.{Failed}
+use Rattle.hold_gate.specs.Gate.{Flags, all_open, is_held as holds}
+use Rattle.set_agenda.specs.Agenda.{Agenda}
+use Rattle.set_agenda.specs.Agenda.{is_held as agenda_holds}
+use Rattle.set_agenda.specs.Course.{Course, failed as course_failed}
+use Rattle.scenario.specs.Plan.{Plan}
+use Rattle.vss_model.specs.State.{State, SetRow, in_progress, is_running}
+use Rattle.vss_model.specs.Ending.{failed_in, row_settled}
+use Rattle.vss_model.specs.Effects.{ended_of}
+use Rattle.vss_model.specs.Facts.{NumberedFrom}
+use Rattle.vss_world.specs.Stands.{IsGateOf}
+
+pub failed_course : (why : VssResult) (c : Course) → ((course_failed why c).agenda ≡ None) × ((course_failed why c).outcome ≡ Failed why)
+unfolding course_failed
+failed_course why c = (refl, refl)
+
+pub failed_agenda : (r : SetRow) (why : VssResult) (st : State) → (failed_in (Some r) why st).course.agenda ≡ None
+failed_agenda r why st = (failed_course why st.course).0
+
+-- ## the gate
+
+open_at : (n v : ℕ) → slice_index_or (replicate n false) v false ≡ false
+open_at zero v = refl
+open_at (suc n) zero = refl
+open_at (suc n) (suc v) = open_at n v
+
+length_open : (n : ℕ) → length (replicate n false) ≡ n
+length_open zero = refl
+length_open (suc n) = ap (λ m. suc m) (length_open n)
+
+-- where no agenda runs, an open gate is right
+pub gate_open : (s : Plan) (n k : ℕ) (st : State) → n ≡ length s.volumes → st.course.agenda ≡ None → IsGateOf (all_open n k) s st
+gate_open s n k st long none = record {
+  volumes = length_open n ∙ long;
+  held = λ v l. open_at n v ∙ sym (ap (λ (a : Option Agenda). agenda_holds a v) none);
+}
+
+-- ## the row
+
+apart_back : (a b : ℕ) → a < b → (a == b) ≡ false
+apart_back a b l = grind (arith, nat_tests)
+
+own_number : (a : ℕ) → (a == a) ≡ true
+own_number a = grind (arith, nat_tests)
+
+found_above : (m : ℕ) (rows : List SetRow) (r : SetRow) → NumberedFrom m rows → find (λ q. is_running q.result) rows ≡ Some r → m ≤ r.number
+found_above m [] r numbered e = cc
+found_above m (q ∷ rows) r numbered e = at_head (is_running q.result) e (λ f. found_above (m + 1) rows r numbered.1 f)
+  where
+    at_head : (t : Bool) → (if t then Some q else find (λ q. is_running q.result) rows) ≡ Some r → (find (λ q. is_running q.result) rows ≡ Some r → m + 1 ≤ r.number) → m ≤ r.number
+    at_head true f rest = let same : q ≡ r = cc in let n = numbered.0 in subst (λ (z : SetRow). m ≤ z.number) same (omega (arith, n))
+    at_head false f rest = let l = rest f in omega (arith, l)
+
+take : (t u : Bool) (q : SetRow) (o : Option SetRow) → t ≡ true → u ≡ true → (if t && u then Some q else o) ≡ Some q
+take true true q o e f = refl
+take true false q o e f = cc
+take false u q o e f = cc
+
+skip : (t u : Bool) (q : SetRow) (o : Option SetRow) → t ≡ false → (if t && u then Some q else o) ≡ o
+skip false u q o e = refl
+skip true u q o e = cc
+
+number_settled : (b : Bool) (o : SetOutcome) (q : SetRow) → (if b then record q { result = o } else q).number ≡ q.number
+number_settled true o q = refl
+number_settled false o q = refl
+
+settled_yes : (o : SetOutcome) (q : SetRow) → is_running q.result ≡ true → row_settled o q ≡ record q { result = o }
+settled_yes o q e = ap (λ (t : Bool). if t then record q { result = o } else q) e
+
+settled_row : (m : ℕ) (why : VssResult) (rows : List SetRow) (r : SetRow) → NumberedFrom m rows → find (λ q. is_running q.result) rows ≡ Some r
+    → find (λ q. (q.number == r.number) && not (is_running q.result)) (map (row_settled (Failed why)) rows) ≡ Some (record r { result = Failed why })
+settled_row m why [] r numbered e = cc
+settled_row m why (q ∷ rows) r numbered e = at_head (is_running q.result) refl e (λ f. settled_row (m + 1) why rows r numbered.1 f)
+  where
+    at_head : (t : Bool) → is_running q.result ≡ t → (if t then Some q else find (λ q. is_running q.result) rows) ≡ Some r
+        → (find (λ q. is_running q.result) rows ≡ Some r → find (λ q. (q.number == r.number) && not (is_running q.result)) (map (row_settled (Failed why)) rows) ≡ Some (record r { result = Failed why }))
+        → find (λ q. (q.number == r.number) && not (is_running q.result)) (row_settled (Failed why) q ∷ map (row_settled (Failed why)) rows) ≡ Some (record r { result = Failed why })
+    at_head true f g rest =
+        let same : q ≡ r = cc in
+        let settled = settled_yes (Failed why) q f in
+        let number : ((row_settled (Failed why) q).number == r.number) ≡ true = ap (λ (z : SetRow). z.number == r.number) settled ∙ ap (λ (z : SetRow). q.number == z.number) (sym same) ∙ own_number q.number in
+        let over : not (is_running (row_settled (Failed why) q).result) ≡ true = ap (λ (z : SetRow). not (is_running z.result)) settled in
+        take ((row_settled (Failed why) q).number == r.number) (not (is_running (row_settled (Failed why) q).result)) (row_settled (Failed why) q) _ number over ∙ ap (λ (z : SetRow). Some z) settled ∙ ap (λ (z : SetRow). Some (record z { result = Failed why })) same
+    at_head false f g rest =
+        let l = found_above (m + 1) rows r numbered.1 g in
+        let here = numbered.0 in
+        let number : (row_settled (Failed why) q).number ≡ q.number = number_settled (is_running q.result) (Failed why) q in
+        skip ((row_settled (Failed why) q).number == r.number) (not (is_running (row_settled (Failed why) q).result)) (row_settled (Failed why) q) _ (apart_back (row_settled (Failed why) q).number r.number (omega (arith, here, l, number)))
+        ∙ rest g
+
+pub failed_ends : (r : SetRow) (why : VssResult) (st : State) → NumberedFrom 1 st.sets → in_progress st ≡ Some r → ended_of (Some r) (failed_in (Some r) why st).sets ≡ Some (record r { result = Failed why })
+failed_ends r why st numbered e =
+    ap (λ (o : SetOutcome). find (λ q. (q.number == r.number) && not (is_running q.result)) (map (row_settled o) st.sets)) (failed_course why st.course).1
+    ∙ settled_row 1 why st.sets r numbered e

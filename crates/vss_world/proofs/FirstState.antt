@@ -1,0 +1,94 @@
+-- What the core stands for before any act.
+use Rattle.std.proofs.Common.{◌≡◌, ℕ, ◌<◌, ◌≤◌, List, [], ◌∷◌, length, refl, ap, sym, ◌∙◌, subst, arith, Bool, true, false, Option, Some, None, map, slice_get}
+use Rattle.std.specs.Prelude.{All}
+use Rattle.std.specs.List.{slice_index_or}
+use Rattle.std.proofs.lemmas.Option.{slice_get_within, get_or_from_slice_get}
+use Rattle.write_history.specs.History.{fresh}
+use Rattle.hold_gate.specs.Gate.{Flags, all_open}
+use Rattle.scenario.specs.declared.volume_row.VolumeRow.{VolumeRow}
+use Rattle.scenario.specs.Plan.{Plan, GroupPlan, WriterPlan}
+use Rattle.scenario.specs.Bounds.{IsPlan, IsInGroup, group_slots}
+use Rattle.cow_volume.specs.GroupValue.{GroupValue}
+use Rattle.cow_volume.proofs.Group.{slice_get_inside}
+use Rattle.set_agenda.specs.Course.{course_start}
+use Rattle.coordinator.specs.Coordinator.{CoordinatorState, writer_count}
+use Rattle.coordinator.specs.Coordinator.{Stands as IsOfCourse}
+use Rattle.vss_model.specs.declared.evicted.Evicted.{Evicted}
+use Rattle.vss_model.specs.State.{State, start, row_of_writer}
+use Rattle.vss_model.specs.Acts.{state}
+use Rattle.provider.specs.Groups.{AreFresh, AreGroups, AreWhole, HasGroups}
+use Rattle.provider.specs.Devices.{devices_of}
+use Rattle.provider.specs.Preparing.{ProviderValue}
+use Rattle.sessions.specs.Keeps.{SessionsValue, Keeps, classes_registered, classes_of, IsOf as IsSessionsOf}
+use Rattle.vss_world.specs.Beginning.{AreFirst, AreBegun}
+use Rattle.vss_world.specs.Stands.{IsOf, IsGateOf, IsInPlan, Stands}
+use Rattle.vss_world.specs.Quiet.{AreNew}
+use Rattle.vss_world.proofs.Moved.{world_of, Parts, stands_at}
+use Rattle.vss_world.proofs.Failing.{gate_open}
+
+in_group : (s : Plan) (v : ℕ) (r : VolumeRow) → IsPlan s → slice_get s.volumes v ≡ Some r → IsInGroup s.groups r
+in_group s v r plan e = subst (IsInGroup s.groups) (get_or_from_slice_get s.volumes v r r e) (plan.grouped.rows v r (slice_get_within s.volumes v r e))
+
+pub fresh_groups : {D : Type 0} (told : D → Option (List (List ℕ))) (s : Plan) (groups : List (GroupValue D)) → IsPlan s → AreNew told s groups → AreFresh told s groups
+fresh_groups told s groups plan new = record {
+  volumes = new.volumes;
+  slots = λ g x v r at e is.
+      let own = in_group s v r plan e in
+      let p = slice_get_inside s.groups r.group own.in_range in
+      new.slots g x p.0 at (ap (slice_get s.groups) (sym is) ∙ p.1) ∙ sym (own.slots ∙ ap group_slots p.1);
+  stands = new.fresh_are;
+}
+
+pub has_groups : {D : Type 0} (told : D → Option (List (List ℕ))) (s : Plan) (groups : List (GroupValue D)) → IsPlan s → AreNew told s groups → AreWhole groups → HasGroups s groups
+has_groups told s groups plan new whole = record {
+  there = λ v r e. let own = (in_group s v r plan e).in_range in let number = new.number in omega (arith, own, number);
+  volumes = new.volumes;
+  devices = whole;
+}
+
+pub no_groups_more : {D : Type 0} (told : D → Option (List (List ℕ))) (s : Plan) (groups : List (GroupValue D)) (count : ℕ) → count ≡ length s.groups → count < 4294967296 → AreNew told s groups → length groups < 4294967296
+no_groups_more told s groups count is few new = let number = new.number in omega (arith, is, few, number)
+
+-- without writers the course begins without rows
+pub first_course : (s : Plan) (k : CoordinatorState) → s.writers ≡ [] → IsOfCourse k (course_start []) → IsOfCourse k (start s).course
+first_course s k none is = subst (λ (ws : List WriterPlan). IsOfCourse k (course_start (map row_of_writer ws))) (sym none) is
+
+pub first_writers : (s : Plan) (x : SessionsValue) (k : CoordinatorState) → s.writers ≡ [] → x.coordinator ≡ k → k.writers ≡ [] → writer_count k ≡ 0 → IsSessionsOf x s
+first_writers s x k none same nobody count = record {
+  classes = ap (λ (z : CoordinatorState). classes_registered z.writers) same ∙ ap classes_registered nobody ∙ ap classes_of (sym none);
+  count = ap writer_count same ∙ count ∙ ap length (sym none);
+}
+
+pub made_of : {D : Type 0} (told : D → Option (List (List ℕ))) (s : Plan) (groups : List (GroupValue D)) (p : ProviderValue D) (x : SessionsValue) (g : Flags) (l : List ℕ) (e : List Evicted) → IsPlan s → AreNew told s groups
+    → p ≡ record { groups = groups; set = 0; volumes = [] } → AreWhole p.groups → AreBegun s x g → IsOf (world_of p x g l e) s
+made_of {D = D} told s groups p x g l e plan new is whole begun =
+    let same : p.groups ≡ groups = ap (λ (z : ProviderValue D). z.groups) is in
+    record {
+      devices = refl;
+      number = ap length same ∙ new.number;
+      groups = subst (HasGroups s) (sym same) (has_groups told s groups plan new (subst AreWhole same whole));
+      writers = begun.sessions.writers;
+    }
+
+pub made_stands : {D : Type 0} (told : D → Option (List (List ℕ))) (s : Plan) (groups : List (GroupValue D)) (p : ProviderValue D) (x : SessionsValue) (g : Flags) (l : List ℕ) (e : List Evicted) → IsPlan s → AreNew told s groups
+    → p ≡ record { groups = groups; set = 0; volumes = [] } → AreWhole p.groups → AreBegun s x g → (AreFresh told s groups → AreGroups told s p.groups (map (λ (r : VolumeRow). fresh) s.volumes))
+    → Stands told (world_of p x g l e) s []
+made_stands {D = D} told s groups p x g l e plan new is whole begun stand =
+    let of = made_of told s groups p x g l e plan new is whole begun in
+    let sets : length x.sets ≡ 0 = ap length begun.sessions.keeps.sets in
+    let posts = begun.sessions.posts in
+    let clock = begun.sessions.clock in
+    record {
+      at = stands_at told p x g l e s (start s) of.groups (record {
+        groups = stand (fresh_groups told s groups plan new);
+        sessions = begun.sessions.keeps;
+        gate = subst (λ (f : Flags). IsGateOf f s (start s)) (sym begun.gate) (gate_open s (length s.volumes) (length s.writers) (start s) refl refl);
+        plan = record { sets = tt; agenda = tt; members = tt; disabled = tt };
+      });
+      sets = omega (arith, sets);
+      posts = omega (arith, posts);
+      early = omega (arith, clock);
+    }
+
+pub made_devices : {D : Type 0} (groups : List (GroupValue D)) (p : ProviderValue D) → p ≡ record { groups = groups; set = 0; volumes = [] } → devices_of p.groups ≡ devices_of groups
+made_devices {D = D} groups p is = ap (λ (z : ProviderValue D). devices_of z.groups) is

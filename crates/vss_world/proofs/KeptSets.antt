@@ -1,0 +1,119 @@
+-- Which images of a volume are kept: all of them but the newest, where its set is in progress.
+use Rattle.std.proofs.Common.{◌≡◌, ℕ, zero, suc, ◌+◌, ◌<◌, ◌≤◌, List, [], ◌∷◌, length, refl, ap, sym, ◌∙◌, subst, arith, Bool, true, false, ◌&&◌, ◌||◌, ◌==◌, Option, Some, None, map, take}
+use Rattle.std.specs.Prelude.{filter, not, if◌then◌else◌, slice_index, slice_get}
+use Rattle.std.specs.List.{list_any}
+use Rattle.std.proofs.lemmas.Bool.Decides.{nat_tests}
+use Rattle.vss_names.specs.declared.set_outcome.SetOutcome.{SetOutcome}
+use Rattle.vss_names.specs.declared.set_outcome.SetOutcome.TheVariants.{Running, Complete, Failed}
+use Rattle.write_history.specs.History.{Image, History, sets_of, AreInTime, AreLater}
+use Rattle.scenario.specs.Plan.{Plan}
+use Rattle.vss_model.specs.State.{State, SetRow, is_running, is_complete, is_kept_set, kept, history_in, history_of}
+use Rattle.vss_model.specs.Facts.{NumberedFrom, OverButNewest, AreLive, AllLive, is_live, has_failed}
+use Rattle.vss_model.specs.Acts.{Act, state}
+use Rattle.vss_model.proofs.OrderlyActs.{orderly}
+use Rattle.vss_model.proofs.OneCut.{images_in_time}
+use Rattle.vss_model.proofs.NewestImage.{UpTo, images_up_to}
+
+apart_back : (a b : ℕ) → a < b → (a == b) ≡ false
+apart_back a b l = grind (arith, nat_tests)
+
+number_is : (a b : ℕ) → (a == b) ≡ true → a ≡ b
+number_is a b e = grind (arith, nat_tests)
+
+apart : (a b : ℕ) → a < b → (b == a) ≡ false
+apart a b l = grind (arith, nat_tests)
+
+skip : (t c b : Bool) → t ≡ false → ((t && c) || b) ≡ b
+skip false c b e = refl
+skip true c b e = cc
+
+no_live : (m n : ℕ) (rows : List SetRow) → NumberedFrom m rows → n < m → is_live rows n ≡ false
+no_live m n [] numbered l = refl
+no_live m n (r ∷ rows) numbered l =
+    let here = numbered.0 in
+    skip (r.number == n) (not (has_failed r.result)) (is_live rows n) (apart n r.number (omega (arith, here, l))) ∙ no_live (m + 1) n rows numbered.1 (omega (arith, l))
+
+over_live : (o : SetOutcome) → is_running o ≡ false → has_failed o ≡ false → is_complete o ≡ true
+over_live Running e f = cc
+over_live Complete e f = refl
+over_live (Failed why) e f = cc
+
+-- a set that has not failed and is not the newest is complete
+older_complete : (m n : ℕ) (rows : List SetRow) → NumberedFrom m rows → OverButNewest rows → is_live rows n ≡ true → n + 1 < m + length rows → list_any (λ r. (r.number == n) && is_complete r.result) rows ≡ true
+older_complete m n [] numbered over live l = cc
+older_complete m n (r ∷ []) numbered over live l = by_test (r.number == n) refl live
+  where
+    by_test : (t : Bool) → (r.number == n) ≡ t → ((t && not (has_failed r.result)) || false) ≡ true → ((r.number == n) && is_complete r.result) || false ≡ true
+    by_test true e h = let here = numbered.0 in let same = number_is r.number n e in absurd (omega (arith, here, same, l))
+    by_test false e h = cc
+older_complete m n (r ∷ q ∷ rows) numbered over live l = by_test (r.number == n) (has_failed r.result) refl refl live (λ h. older_complete (m + 1) n (q ∷ rows) numbered.1 over.1 h (omega (arith, l)))
+  where
+    by_test : (t c : Bool) → (r.number == n) ≡ t → has_failed r.result ≡ c → ((t && not c) || is_live (q ∷ rows) n) ≡ true
+        → (is_live (q ∷ rows) n ≡ true → list_any (λ r. (r.number == n) && is_complete r.result) (q ∷ rows) ≡ true)
+        → (((r.number == n) && is_complete r.result) || list_any (λ r. (r.number == n) && is_complete r.result) (q ∷ rows)) ≡ true
+    by_test true false e f h rest =
+        ap (λ (t : Bool). (t && is_complete r.result) || list_any (λ r. (r.number == n) && is_complete r.result) (q ∷ rows)) e
+        ∙ ap (λ (t : Bool). t || list_any (λ r. (r.number == n) && is_complete r.result) (q ∷ rows)) (over_live r.result over.0 f)
+    by_test true true e f h rest =
+        let here = numbered.0 in
+        let same = number_is r.number n e in
+        let none = no_live (m + 1) n (q ∷ rows) numbered.1 (omega (arith, here, same)) in
+        absurd (not_both (is_live (q ∷ rows) n) h none)
+      where
+        not_both : (b : Bool) → b ≡ true → b ≡ false → ⊥
+        not_both true d c = cc
+        not_both false d c = cc
+    by_test false c e f h rest = ap (λ (t : Bool). (t && is_complete r.result) || list_any (λ r. (r.number == n) && is_complete r.result) (q ∷ rows)) e ∙ rest h
+
+keep : (t : Bool) (i : Image) (xs : List Image) → t ≡ true → (if t then i ∷ xs else xs) ≡ i ∷ xs
+keep true i xs e = refl
+keep false i xs e = cc
+
+last_if : (t b : Bool) (i : Image) → t ≡ b → (if t then i ∷ [] else []) ≡ (if b then i ∷ [] else [])
+last_if t b i e = ap (λ (u : Bool). if u then i ∷ [] else []) e
+
+behind : (b : Bool) (i : Image) (xs ys : List Image) → i ∷ (if b then xs else ys) ≡ (if b then i ∷ xs else i ∷ ys)
+behind true i xs ys = refl
+behind false i xs ys = refl
+
+-- whether the newest of these is kept decides it
+pub kept_by_newest : (st : State) (writes : ℕ) (images : List Image) (k : ℕ) (b : Bool) → NumberedFrom 1 st.sets → OverButNewest st.sets → AreLive st.sets images → AreInTime writes images → UpTo (length st.sets) images
+    → k + 1 ≡ length images → is_kept_set st (slice_index (sets_of images) k) ≡ b → filter (λ i. is_kept_set st i.set) images ≡ (if b then images else take k images)
+kept_by_newest st writes [] k b numbered over live times up long is = absurd (omega (arith, long))
+kept_by_newest st writes (i ∷ []) zero b numbered over live times up long is = last_if (is_kept_set st i.set) b i is
+kept_by_newest st writes (i ∷ []) (suc k) b numbered over live times up long is = absurd (omega (arith, long))
+kept_by_newest st writes (i ∷ j ∷ images) zero b numbered over live times up long is = absurd (omega (arith, long))
+kept_by_newest st writes (i ∷ j ∷ images) (suc k) b numbered over live times up long is =
+    let later = times.1.0 in
+    let most = up.1.0 in
+    let old : is_kept_set st i.set ≡ true = older_complete 1 i.set st.sets numbered over live.0 (omega (arith, later, most)) in
+    let rest = kept_by_newest st writes (j ∷ images) k b numbered over live.1 times.2 up.1 (omega (arith, long)) is in
+    keep (is_kept_set st i.set) i (filter (λ i. is_kept_set st i.set) (j ∷ images)) old ∙ ap (λ (xs : List Image). i ∷ xs) rest ∙ behind b i (j ∷ images) (take k (j ∷ images))
+
+sets_taken : (k : ℕ) (images : List Image) → sets_of (take k images) ≡ take k (sets_of images)
+sets_taken zero images = refl
+sets_taken (suc k) [] = refl
+sets_taken (suc k) (i ∷ images) = ap (λ (ns : List ℕ). i.set ∷ ns) (sets_taken k images)
+
+live_at : (rows : List SetRow) (hs : List History) (v : ℕ) → AllLive rows hs → AreLive rows (history_in (slice_get hs v)).images
+live_at rows [] v live = tt
+live_at rows (h ∷ hs) zero live = live.0
+live_at rows (h ∷ hs) (suc v) live = live_at rows hs v live.1
+
+decided : (b : Bool) (images : List Image) (k : ℕ) → sets_of (if b then images else take k images) ≡ (if b then sets_of images else take k (sets_of images))
+decided true images k = refl
+decided false images k = sets_taken k images
+
+pub kept_sets_are : (s : Plan) (acts : List Act) (v k : ℕ) (sets : List ℕ) (b : Bool) → sets ≡ sets_of (history_of (state s acts) v).images → k + 1 ≡ length sets → b ≡ is_kept_set (state s acts) (slice_index sets k)
+    → (if b then sets else take k sets) ≡ sets_of (kept (state s acts) (history_of (state s acts) v))
+kept_sets_are s acts v k sets b are long is =
+    let st = state s acts in
+    let o = orderly s acts in
+    let images = (history_of st v).images in
+    let count : length sets ≡ length images = ap length are ∙ length_sets images in
+    let decides = kept_by_newest st (length (history_of st v).writes) images k b o.numbered o.newest (live_at st.sets st.volumes v o.live) (images_in_time s acts v) (images_up_to st.sets st.volumes v o.numbered o.live) (long ∙ count) (ap (λ (ns : List ℕ). is_kept_set st (slice_index ns k)) (sym are) ∙ sym is) in
+    ap (λ (ns : List ℕ). if b then ns else take k ns) are ∙ sym (decided b images k) ∙ ap sets_of (sym decides)
+  where
+    length_sets : (images : List Image) → length (sets_of images) ≡ length images
+    length_sets [] = refl
+    length_sets (i ∷ images) = ap (λ n. suc n) (length_sets images)

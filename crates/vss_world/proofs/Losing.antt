@@ -1,0 +1,204 @@
+-- For a write the image of the set in progress goes just where the sets go up to it.
+use Rattle.std.proofs.Common.{◌≡◌, ℕ, zero, suc, ◌+◌, ◌<◌, ◌≤◌, ◌==◌, List, [], ◌∷◌, length, refl, ap, sym, ◌∙◌, subst, arith, Bool, true, false, Option, Some, None, map, slice_get}
+use Rattle.std.specs.Prelude.{◌&&◌, ◌||◌, not, filter, find, nat_lt, is_some, unwrap_or, if◌then◌else◌}
+use Rattle.std.specs.List.{range_with_len}
+use Rattle.std.proofs.lemmas.Bool.Decides.{nat_tests}
+use Rattle.write_history.specs.History.{Image, History, point_in, after_set}
+use Rattle.write_history.specs.Slots.{Placed, gone_up_to, needs_slot_in, lacks_slot, group_used, evicted_up_to}
+use Rattle.vss_model.specs.State.{has_image}
+use Rattle.vss_model.specs.Images.{has_lost_image}
+
+-- none of these is of a set after n
+abbrev pub AreUpTo : ℕ → List Image → Type 0
+AreUpTo n [] = Unit {0}
+AreUpTo n (i ∷ images) = (i.set ≤ n) × AreUpTo n images
+
+abbrev pub AllUpTo : ℕ → List History → Type 0
+AllUpTo n [] = Unit {0}
+AllUpTo n (h ∷ hs) = AreUpTo n h.images × AllUpTo n hs
+
+-- ## one history
+
+lt_yes : (a b : ℕ) → a < b → nat_lt a b ≡ true
+lt_yes a b l = grind (arith, nat_tests)
+
+lt_no : (a b : ℕ) → b ≤ a → nat_lt a b ≡ false
+lt_no a b l = grind (arith, nat_tests)
+
+eq_is : (a b : ℕ) → (a == b) ≡ true → a ≡ b
+eq_is a b e = grind (arith, nat_tests)
+
+eq_not : (a b : ℕ) → (a == b) ≡ false → a ≡ b → ⊥
+eq_not a b e f = grind (arith, nat_tests)
+
+skip : (b : Bool) (i : Image) (xs : List Image) → b ≡ false → (if b then i ∷ xs else xs) ≡ xs
+skip true i xs e = cc
+skip false i xs e = refl
+
+keep : (b : Bool) (i : Image) (xs : List Image) → b ≡ true → (if b then i ∷ xs else xs) ≡ i ∷ xs
+keep true i xs e = refl
+keep false i xs e = cc
+
+-- beyond the greatest set nothing is left
+all_gone : (n : ℕ) (images : List Image) → AreUpTo n images → after_set n images ≡ []
+all_gone n [] up = refl
+all_gone n (i ∷ images) up = skip (nat_lt n i.set) i (after_set n images) (lt_no n i.set up.0) ∙ all_gone n images up.1
+
+if_kept : (b c : Bool) (p : ℕ) (i : Image) (n : ℕ) (xs : List Image) (o : Option ℕ) → (i.set == n) ≡ c → (c ≡ true → b ≡ true) → point_in n xs ≡ o
+    → point_in n (if b then i ∷ xs else xs) ≡ (if c then Some i.point else o)
+if_kept true c p i n xs o e f g = ap (λ (t : Bool). if t then Some i.point else point_in n xs) e ∙ ap (λ (q : Option ℕ). if c then Some i.point else q) g
+if_kept false true p i n xs o e f g = let t : false ≡ true = f refl in cc
+if_kept false false p i n xs o e f g = g
+
+-- the image of a later set stays
+stays : (m n : ℕ) (images : List Image) → m < n → point_in n (after_set m images) ≡ point_in n images
+stays m n [] l = refl
+stays m n (i ∷ images) l = if_kept (nat_lt m i.set) (i.set == n) i.point i n (after_set m images) (point_in n images) refl (λ e. let same = eq_is i.set n e in lt_yes m i.set (omega (arith, same, l))) (stays m n images l)
+
+none_if : (b : Bool) (p : ℕ) (o : Option ℕ) → is_some (if b then Some p else o) ≡ false → (b ≡ false) × (is_some o ≡ false)
+none_if true p o e = absurd cc
+none_if false p o e = (refl, e)
+
+-- where no image is of the next set, one more set takes nothing
+no_more : (k : ℕ) (images : List Image) → is_some (point_in (suc k) images) ≡ false → after_set (suc k) images ≡ after_set k images
+no_more k [] e = refl
+no_more k (i ∷ images) e =
+    let n = none_if (i.set == suc k) i.point (point_in (suc k) images) e in
+    by_test (nat_lt k i.set) refl (nat_lt (suc k) i.set) refl n.0 (no_more k images n.1)
+  where
+    by_test : (b : Bool) → nat_lt k i.set ≡ b → (c : Bool) → nat_lt (suc k) i.set ≡ c → (i.set == suc k) ≡ false → after_set (suc k) images ≡ after_set k images
+        → (if nat_lt (suc k) i.set then i ∷ after_set (suc k) images else after_set (suc k) images) ≡ (if nat_lt k i.set then i ∷ after_set k images else after_set k images)
+    by_test true f true g h rest = keep (nat_lt (suc k) i.set) i (after_set (suc k) images) g ∙ ap (λ (xs : List Image). i ∷ xs) rest ∙ sym (keep (nat_lt k i.set) i (after_set k images) f)
+    by_test false f false g h rest = skip (nat_lt (suc k) i.set) i (after_set (suc k) images) g ∙ rest ∙ sym (skip (nat_lt k i.set) i (after_set k images) f)
+    by_test true f false g h rest = absurd (apart k i.set f g h)
+      where
+        apart : (k n : ℕ) → nat_lt k n ≡ true → nat_lt (suc k) n ≡ false → (n == suc k) ≡ false → ⊥
+        apart k n f g h = grind (arith, nat_tests)
+    by_test false f true g h rest = absurd (apart k i.set f g)
+      where
+        apart : (k n : ℕ) → nat_lt k n ≡ false → nat_lt (suc k) n ≡ true → ⊥
+        apart k n f g = grind (arith, nat_tests)
+
+-- ## all of them
+
+and_not : (x : Bool) → (x && not x) ≡ false
+and_not true = refl
+and_not false = refl
+
+or_false : (a b : Bool) → a ≡ false → b ≡ false → (a || b) ≡ false
+or_false true b e f = cc
+or_false false b e f = f
+
+or_parts : (a b : Bool) → (a || b) ≡ false → (a ≡ false) × (b ≡ false)
+or_parts true b e = absurd cc
+or_parts false b e = (refl, e)
+
+lost_itself : (n : ℕ) (hs : List History) → has_lost_image n hs hs ≡ false
+lost_itself n [] = refl
+lost_itself n (h ∷ hs) = or_false (has_image n h && not (has_image n h)) (has_lost_image n hs hs) (and_not (has_image n h)) (lost_itself n hs)
+
+gone_if : Bool → ℕ → History → History
+gone_if b m h = if b then record { writes = h.writes; images = after_set m h.images } else h
+
+kept_if : (b : Bool) (m n : ℕ) (h : History) → m < n → (has_image n h && not (has_image n (if b then record { writes = h.writes; images = after_set m h.images } else h))) ≡ false
+kept_if true m n h l = ap (λ (o : Option ℕ). has_image n h && not (is_some o)) (stays m n h.images l) ∙ and_not (has_image n h)
+kept_if false m n h l = and_not (has_image n h)
+
+-- the image of a later set is not lost
+pub not_lost : (m n : ℕ) (ps : List Placed) (hs : List History) → m < n → has_lost_image n hs (gone_up_to m ps hs) ≡ false
+not_lost m n [] hs l = lost_itself n hs
+not_lost m n (p ∷ ps) [] l = refl
+not_lost m n (p ∷ ps) (h ∷ hs) l = or_false _ (has_lost_image n hs (gone_up_to m ps hs)) (kept_if p.within m n h l) (not_lost m n ps hs l)
+
+lost_if : (b : Bool) (k : ℕ) (h : History) → AreUpTo (suc k) h.images → (has_image (suc k) h && not (has_image (suc k) (if b then record { writes = h.writes; images = after_set (suc k) h.images } else h))) ≡ false
+    → (if b then record { writes = h.writes; images = after_set (suc k) h.images } else h) ≡ (if b then record { writes = h.writes; images = after_set k h.images } else h)
+lost_if true k h up e =
+    let t : (has_image (suc k) h && true) ≡ false = ap (λ (xs : List Image). has_image (suc k) h && not (is_some (point_in (suc k) xs))) (sym (all_gone (suc k) h.images up)) ∙ e in
+    ap (λ (xs : List Image). record { writes = h.writes; images = xs }) (no_more k h.images (first (has_image (suc k) h) t))
+  where
+    first : (x : Bool) → (x && true) ≡ false → x ≡ false
+    first true q = q
+    first false q = q
+lost_if false k h up e = refl
+
+-- where the image of the greatest set is not lost, it is on no volume of the group
+same_gone : (k : ℕ) (ps : List Placed) (hs : List History) → AllUpTo (suc k) hs → has_lost_image (suc k) hs (gone_up_to (suc k) ps hs) ≡ false → gone_up_to (suc k) ps hs ≡ gone_up_to k ps hs
+same_gone k [] hs up e = refl
+same_gone k (p ∷ ps) [] up e = refl
+same_gone k (p ∷ ps) (h ∷ hs) up e =
+    let parts = or_parts _ (has_lost_image (suc k) hs (gone_up_to (suc k) ps hs)) e in
+    let here = lost_if p.within k h up.0 parts.0 in
+    let rest = same_gone k ps hs up.1 parts.1 in
+    ap (λ (x : History). x ∷ gone_up_to (suc k) ps hs) here ∙ ap (λ (xs : List History). (if p.within then record { writes = h.writes; images = after_set k h.images } else h) ∷ xs) rest
+
+-- no slot is needed where all images of the volume are gone
+needs_if : (b c : Bool) (n b_ : ℕ) (h : History) → b ≡ true → AreUpTo n h.images → needs_slot_in (Some (if b then record { writes = h.writes; images = after_set n h.images } else h)) b_ ≡ false
+needs_if true c n b h e up = ap (λ (xs : List Image). needs_slot_in (Some (record { writes = h.writes; images = xs })) b) (all_gone n h.images up)
+needs_if false c n b h e up = cc
+
+needs_none : (n v b : ℕ) (ps : List Placed) (hs : List History) (p : Placed) → slice_get ps v ≡ Some p → p.within ≡ true → AllUpTo n hs → needs_slot_in (slice_get (gone_up_to n ps hs) v) b ≡ false
+needs_none n v b [] hs p e w up = cc
+needs_none n zero b (q ∷ ps) [] p e w up = refl
+needs_none n (suc v) b (q ∷ ps) [] p e w up = refl
+needs_none n zero b (q ∷ ps) (h ∷ hs) p e w up = let same : q ≡ p = cc in needs_if q.within true n b h (ap (λ (x : Placed). x.within) same ∙ w) up.0
+needs_none n (suc v) b (q ∷ ps) (h ∷ hs) p e w up = needs_none n v b ps hs p e w up.1
+
+-- ## the least number
+
+below_if : (t : Bool) (a n x : ℕ) (o : Option ℕ) → (if t then Some a else o) ≡ Some x → (o ≡ Some x → x < (a + 1) + n) → x < a + suc n
+below_if true a n x o g h = let same : a ≡ x = cc in omega (arith, same)
+below_if false a n x o g h = let l = h g in omega (arith, l)
+
+found_below : (f : ℕ → Bool) (a n x : ℕ) → find f (range_with_len a n) ≡ Some x → x < a + n
+found_below f a zero x e = cc
+found_below f a (suc n) x e = below_if (f a) a n x (find f (range_with_len (a + 1) n)) e (found_below f (a + 1) n x)
+
+more : (a k : ℕ) → a ≤ k → (a == k) ≡ false → a + 1 ≤ k
+more a k l i = grind (arith, nat_tests)
+
+none_by : (t u : Bool) (f : ℕ → Bool) (a n k : ℕ) (o : Option ℕ) → f a ≡ t → (a == k) ≡ u → (if t then Some a else o) ≡ None → a ≤ k → (o ≡ None → a + 1 ≤ k → f k ≡ false) → f k ≡ false
+none_by true u f a n k o g i e l h = absurd cc
+none_by false true f a n k o g i e l h = ap f (sym (eq_is a k i)) ∙ g
+none_by false false f a n k o g i e l h = h e (more a k l i)
+
+none_found : (f : ℕ → Bool) (a n k : ℕ) → find f (range_with_len a n) ≡ None → a ≤ k → k < a + n → f k ≡ false
+none_found f a zero k e l m = absurd (omega arith)
+none_found f a (suc n) k e l m = none_by (f a) (a == k) f a n k (find f (range_with_len (a + 1) n)) refl refl e l (λ h i. none_found f (a + 1) n k h i (omega (arith, m)))
+
+pub up_to_most : (f : ℕ → Bool) (n : ℕ) → unwrap_or (find f (range_with_len 0 n)) n ≤ n
+up_to_most f n = by_found (find f (range_with_len 0 n)) (λ x e. found_below f 0 n x e)
+  where
+    by_found : (o : Option ℕ) → ((x : ℕ) → o ≡ Some x → x < 0 + n) → unwrap_or o n ≤ n
+    by_found None h = omega arith
+    by_found (Some x) h = let l = h x refl in omega (arith, l)
+
+-- where sets go up to the greatest, its image goes
+pub is_lost : (k slots v b : ℕ) (ps : List Placed) (hs : List History) (p : Placed) → slice_get ps v ≡ Some p → p.within ≡ true → AllUpTo (suc k) hs → evicted_up_to (suc k) slots ps v b hs ≡ suc k
+    → has_lost_image (suc k) hs (gone_up_to (suc k) ps hs) ≡ true
+is_lost k slots v b ps hs p at within up e = by_test (has_lost_image (suc k) hs (gone_up_to (suc k) ps hs)) refl
+  where
+    lacks : ℕ → Bool
+    lacks m = lacks_slot slots ps v b (gone_up_to m ps hs)
+
+    none : (o : Option ℕ) → find (λ m. not (lacks_slot slots ps v b (gone_up_to m ps hs))) (range_with_len 0 (suc k)) ≡ o → unwrap_or o (suc k) ≡ suc k → o ≡ None
+    none None f g = refl
+    none (Some x) f g = let l = found_below (λ m. not (lacks_slot slots ps v b (gone_up_to m ps hs))) 0 (suc k) x f in absurd (omega (arith, l, g))
+
+    at_k : not (lacks_slot slots ps v b (gone_up_to k ps hs)) ≡ false
+    at_k = none_found (λ m. not (lacks_slot slots ps v b (gone_up_to m ps hs))) 0 (suc k) k (none _ refl e) (omega arith) (omega arith)
+
+    at_last : lacks_slot slots ps v b (gone_up_to (suc k) ps hs) ≡ false
+    at_last = ap (λ (t : Bool). t && (group_used ps (gone_up_to (suc k) ps hs) == slots)) (needs_none (suc k) v b ps hs p at within up)
+
+    by_test : (t : Bool) → has_lost_image (suc k) hs (gone_up_to (suc k) ps hs) ≡ t → t ≡ true
+    by_test true f = refl
+    by_test false f =
+        let same = same_gone k ps hs up f in
+        let q : lacks_slot slots ps v b (gone_up_to k ps hs) ≡ false = ap (λ (xs : List History). lacks_slot slots ps v b xs) (sym same) ∙ at_last in
+        let w : not false ≡ false = ap not (sym q) ∙ at_k in
+        cc
+
+pub lost_at : (n slots v b : ℕ) (ps : List Placed) (hs : List History) (p : Placed) → 0 < n → slice_get ps v ≡ Some p → p.within ≡ true → AllUpTo n hs → evicted_up_to n slots ps v b hs ≡ n
+    → has_lost_image n hs (gone_up_to n ps hs) ≡ true
+lost_at zero slots v b ps hs p l at within up e = absurd (omega arith)
+lost_at (suc k) slots v b ps hs p l at within up e = is_lost k slots v b ps hs p at within up e

@@ -1,0 +1,12 @@
+-- Where a device failed in a call on a volume, its count alone rose.
+use Rattle.std.proofs.Common.{◌≡◌, ℕ, List, Option, Some, None, inl, inr}
+use Rattle.scenario.specs.Plan.{Plan}
+use Rattle.cow_volume.specs.GroupValue.{GroupValue}
+use Rattle.provider.specs.Devices.{counts_of, HasCause, failed_place}
+use Rattle.provider.specs.declared.device_fault.DeviceFault.{DeviceFault}
+use Rattle.provider.specs.declared.device_fault.DeviceFault.TheVariants.{Volume, Area}
+use Rattle.vss_world.specs.Devices.{RoseFor}
+
+pub rose_for : {D : Type 0} (count : D → ℕ) (s : Plan) (v : ℕ) (fault : DeviceFault) (old new : List (GroupValue D)) → HasCause count s v (Some fault) old new → RoseFor s (Some v) (counts_of count old) (counts_of count new)
+rose_for count s v Volume old new cause = inl cause
+rose_for count s v Area old new cause = inr cause

@@ -1,0 +1,95 @@
+-- Lines that begin or end nothing: they are answered, and at most the volumes change.
+use Rattle.std.proofs.Common.{◌≡◌, ℕ, ◌+◌, ◌<◌, List, [], ◌∷◌, ◌++◌, length, refl, ap, sym, ◌∙◌, subst, arith, Bool, true, false, Option, Some, None, map}
+use Rattle.vss_names.specs.declared.set_outcome.SetOutcome.TheVariants.{Running}
+use Rattle.writer_state.specs.declared.writer_row.WriterRow.{WriterRow}
+use Rattle.write_history.specs.declared.mark.Mark.{Mark}
+use Rattle.write_history.specs.History.{History}
+use Rattle.hold_gate.specs.Gate.{Flags}
+use Rattle.set_agenda.specs.Agenda.{order_now}
+use Rattle.set_agenda.proofs.WriterSets.{new-is}
+use Rattle.scenario.specs.declared.op.Op.{Op}
+use Rattle.scenario.specs.Plan.{Plan}
+use Rattle.vss_model.specs.declared.event.Event.{Event}
+use Rattle.vss_model.specs.declared.event.Event.TheVariants.{Line}
+use Rattle.vss_model.specs.declared.evicted.Evicted.{Evicted}
+use Rattle.vss_model.specs.declared.outcome.Outcome.{Outcome}
+use Rattle.vss_model.specs.declared.told.Told.{Told}
+use Rattle.vss_model.specs.Reply.{Reply}
+use Rattle.vss_model.specs.State.{State, SetRow, left_now, in_progress}
+use Rattle.vss_model.specs.Images.{Replied}
+use Rattle.vss_model.specs.Lines.{line}
+use Rattle.vss_model.specs.Acts.{Act, state, after, after_if, reply, line_enabled, line_allows}
+use Rattle.vss_model.specs.Effects.{evicted, lost, lost_order_if, ended_of}
+use Rattle.vss_model.specs.Facts.{NumberedFrom}
+use Rattle.vss_model.specs.Trail.{act_of}
+use Rattle.vss_model.specs.Told.{Fits, mark_of}
+use Rattle.vss_model.specs.Outcome.{IsOutcome, HasLists, EndsAs, told_act}
+use Rattle.provider.specs.Groups.{AreGroups}
+use Rattle.provider.specs.Devices.{devices_of}
+use Rattle.provider.specs.Preparing.{ProviderValue}
+use Rattle.sessions.specs.Keeps.{SessionsValue, Keeps}
+use Rattle.vss_world.specs.Devices.{tells_of}
+use Rattle.vss_world.specs.Stands.{WorldValue, IsGateOf, IsInPlan, Stands}
+use Rattle.vss_world.specs.Moves.{IsMoved, simple_outcome}
+use Rattle.vss_world.proofs.Ends.{none_ends}
+use Rattle.vss_world.proofs.Moved.{world_of, Parts, OfDevices, Comes, in_order, goes_nowhere, moved}
+
+pub after_line : (s : Plan) (st : State) (lane : ℕ) (op : Op) (mark : Mark) → line_enabled s st lane op ≡ true → after s st (act_of mark (Line lane op)) ≡ (line s lane op mark st).1
+unfolding after
+after_line s st lane op mark on = ap (λ (t : Bool). after_if t s st (act_of mark (Line lane op))) on
+
+-- what a line comes to that begins and ends nothing
+pub record LineComes {D : Type 0} (told : D → Option (List (List ℕ))) (s : Plan) (lane : ℕ) (op : Op) (answer : Told) (tells : List Bool) (q : ProviderValue D) (x : SessionsValue) (g : Flags) (listed_sets : List ℕ) (evicted_images : List Evicted) (st : State) : Type 0 where
+  pub on : line_enabled s st lane op ≡ true
+  pub allowed : line_allows s st op (mark_of answer) ≡ true
+  pub said : Reply
+  pub next : State
+  pub is : line s lane op (mark_of answer) st ≡ (said, next)
+  pub fits : Fits tells said answer
+  pub lists : (rows : List WriterRow) → rows ≡ next.course.rows → HasLists said listed_sets rows
+  pub evicts : evicted_images ≡ evicted s st (Line lane op)
+  pub nobody : lost st (Line lane op) ≡ []
+  pub sets : next.sets ≡ st.sets
+  pub parts : Parts told q x g s next
+
+comes_so : {D : Type 0} (told : D → Option (List (List ℕ))) (s : Plan) (lane : ℕ) (op : Op) (answer : Told) (tells : List Bool) (q : ProviderValue D) (x : SessionsValue) (g : Flags) (l : List ℕ) (e : List Evicted) (st : State)
+    → NumberedFrom 1 st.sets → LineComes told s lane op answer tells q x g l e st → Comes told s (Line lane op) (simple_outcome answer) tells q x g l e st
+comes_so told s lane op answer tells q x g l e st numbered c =
+    let to : after s st (told_act (Line lane op) answer) ≡ c.next = after_line s st lane op (mark_of answer) c.on ∙ ap (λ (r : Replied). r.1) c.is in
+    let answered : reply s st (told_act (Line lane op) answer) ≡ c.said = ap (λ (r : Replied). r.0) c.is in
+    record {
+      is_enabled = c.on;
+      is_allowed = c.allowed;
+      outcome = λ rows are. record {
+        fits = subst (λ (r : Reply). Fits tells r answer) (sym answered) c.fits;
+        lists = subst (λ (r : Reply). HasLists r l rows) (sym answered) (c.lists rows (are ∙ ap (λ (z : State). z.course.rows) to));
+        evicts = c.evicts;
+        loses = new-is ∙ sym c.nobody;
+        order = sym (ap (λ (ws : List ℕ). lost_order_if ws (order_now (left_now st))) c.nobody);
+        ends = subst (λ (o : Option SetRow). EndsAs o 0 Running) (sym (ap (ended_of (in_progress st)) (ap (λ (z : State). z.sets) to ∙ c.sets) ∙ none_ends st.sets numbered)) refl;
+      };
+      parts = subst (λ (z : State). Parts told q x g s z) (sym to) c.parts;
+    }
+
+pub line_moves : {D : Type 0} (told : D → Option (List (List ℕ))) (count : D → ℕ) (s : Plan) (lane : ℕ) (op : Op) (answer : Told) (p q : ProviderValue D) (x : SessionsValue) (g : Flags) (l k : List ℕ) (e f : List Evicted)
+    → OfDevices told count s (Line lane op) (simple_outcome answer) (world_of p x g l e) (world_of q x g k f)
+    → ((acts : List Act) → Stands told (world_of p x g l e) s acts → LineComes told s lane op answer (tells_of told s (devices_of p.groups)) q x g k f (state s acts))
+    → IsMoved told count (world_of p x g l e) (world_of q x g k f) s (Line lane op) (simple_outcome answer)
+line_moves told count s lane op answer p q x g l k e f devices comes =
+    moved told count s (Line lane op) (simple_outcome answer) p q x x g g l k e f devices (goes_nowhere x)
+    (λ acts stands. comes_so told s lane op answer (tells_of told s (devices_of p.groups)) q x g k f (state s acts) (in_order s acts).numbered (comes acts stands))
+
+-- ## the parts, where at most the volumes change
+
+pub volumes_parts : {D : Type 0} (told : D → Option (List (List ℕ))) (p q : ProviderValue D) (x : SessionsValue) (g : Flags) (s : Plan) (st : State) (hs : List History) → Parts told p x g s st → AreGroups told s q.groups hs → Parts told q x g s (record st { volumes = hs })
+volumes_parts told p q x g s st hs parts groups =
+    let k = parts.sessions in
+    record {
+      groups = groups;
+      sessions = record { session = k.session; made = k.made; course = k.course; sets = k.sets; clock = k.clock; explicit = k.explicit; over = k.over; on_time = k.on_time; disabled = k.disabled };
+      gate = record { volumes = parts.gate.volumes; held = parts.gate.held };
+      plan = record { sets = parts.plan.sets; agenda = parts.plan.agenda; members = parts.plan.members; disabled = parts.plan.disabled };
+    }
+
+pub same_parts : {D : Type 0} (told : D → Option (List (List ℕ))) (p q : ProviderValue D) (x : SessionsValue) (g : Flags) (s : Plan) (st : State) → Parts told p x g s st → AreGroups told s q.groups st.volumes → Parts told q x g s st
+same_parts told p q x g s st parts groups = record { groups = groups; sessions = parts.sessions; gate = parts.gate; plan = parts.plan }

@@ -1,0 +1,113 @@
+-- What a step of the core promises: it waits exactly where the event is not enabled, and else it is answered as defined, and stands for
+-- the acts with this one. (This project's own.)
+use Rattle.std.specs.Prelude.{ℕ, ◌≡◌, ◌<◌, ◌≤◌, Bool, true, false, List, [], ◌∷◌, ◌++◌, length, map, Option, Some, None, slice_get}
+use Rattle.vss_names.specs.declared.set_outcome.SetOutcome.TheVariants.{Running}
+use Rattle.writer_state.specs.declared.writer_row.WriterRow.{WriterRow}
+use Rattle.set_agenda.specs.declared.group.Group.TheVariants.{Flush}
+use Rattle.scenario.specs.declared.op.Op.{Op}
+use Rattle.scenario.specs.declared.op.Op.TheVariants.{WriteFill, WriteStamp, Read, ImageDigest, ImageBlock, Revert, Component, Document, Start, Gather, Prepare, Snapshot, Complete}
+use Rattle.scenario.specs.Plan.{Plan}
+use Rattle.scenario.specs.Bounds.{IsOp}
+use Rattle.scenario.specs.Built.{is_run}
+use Rattle.vss_model.specs.declared.event.Event.{Event}
+use Rattle.vss_model.specs.declared.event.Event.TheVariants.{Line, Answer as AnswerEvent, Provider, Idle}
+use Rattle.vss_model.specs.declared.outcome.Outcome.{Outcome}
+use Rattle.vss_model.specs.declared.told.Told.{Told}
+use Rattle.vss_model.specs.declared.told.Told.TheVariants as told
+use Rattle.vss_model.specs.Acts.{Act, state, after, enabled, event_allows}
+use Rattle.vss_model.specs.Told.{mark_of}
+use Rattle.vss_model.specs.Trail.{is_fault}
+use Rattle.vss_model.specs.Outcome.{IsOutcome, told_act}
+use Rattle.provider.specs.Devices.{AreLater, volume_place}
+use Rattle.vss_world.specs.declared.reply.Reply.{Reply}
+use Rattle.vss_world.specs.declared.reply.Reply.TheVariants.{Blocked, Moved}
+use Rattle.vss_world.specs.Devices.{tells_of, RoseFor}
+use Rattle.vss_world.specs.Stands.{WorldValue, IsOf, Stands}
+
+-- ## events
+
+-- the numbers of an event are in the scenario's range, and a line is of a kind that is run
+abbrev pub IsEvent : Plan → Event → Type 0
+IsEvent s (Line lane op) = IsOp s op × (is_run op ≡ true)
+IsEvent s (AnswerEvent w answer) = w < length s.writers
+IsEvent s Provider = Unit {0}
+IsEvent s Idle = Unit {0}
+
+-- the lines for which memory is taken
+abbrev pub takes_for : Op → Bool
+takes_for (Component w full) = true
+takes_for Document = true
+takes_for Start = true
+takes_for Gather = true
+takes_for Prepare = true
+takes_for Snapshot = true
+takes_for Complete = true
+takes_for _ = false
+
+abbrev pub takes_memory : Event → Bool
+takes_memory (Line lane op) = takes_for op
+takes_memory (AnswerEvent w answer) = false
+takes_memory Provider = false
+takes_memory Idle = false
+
+-- the volume of a line, and that of a step
+abbrev pub volume_of_line : Op → Option ℕ
+volume_of_line (WriteFill v b x) = Some v
+volume_of_line (WriteStamp v b n) = Some v
+volume_of_line (Read v b) = Some v
+volume_of_line (ImageDigest n v) = Some v
+volume_of_line (ImageBlock n v b) = Some v
+volume_of_line (Revert n v) = Some v
+volume_of_line _ = None
+
+-- the volume of which a line writes a block
+abbrev pub written_by : Op → Option ℕ
+written_by (WriteFill v b x) = Some v
+written_by (WriteStamp v b n) = Some v
+written_by _ = None
+
+abbrev pub volume_of_step : Told → Option ℕ
+volume_of_step (told.Step g v fault) = v
+volume_of_step _ = None
+
+abbrev pub volume_of : Event → Told → Option ℕ
+volume_of (Line lane op) answer = volume_of_line op
+volume_of (AnswerEvent w a) answer = None
+volume_of Provider answer = volume_of_step answer
+volume_of Idle answer = None
+
+-- ## a step
+
+-- the event is not enabled, and nothing changed
+pub record IsBlocked {D : Type 0} (blocks_told : D → Option (List (List ℕ))) (old new : WorldValue D) (s : Plan) (event : Event) : Type 0 where
+  pub same : new ≡ old
+  pub not_enabled : (acts : List Act) → Stands blocks_told old s acts → enabled s (state s acts) event ≡ false
+
+-- The event was enabled. It was answered as defined, with a mark that is allowed, and what stood for a list of acts stands for the list
+-- with this act. The rows of the writers that may be told are those after it. A mark other than Clean comes only where the count of the
+-- device of the act's volume, or that of its area's, rose and each other count is as it was, and Clean only where each count is as it
+-- was.
+pub record IsMoved {D : Type 0} (blocks_told : D → Option (List (List ℕ))) (count : D → ℕ) (old new : WorldValue D) (s : Plan) (event : Event) (o : Outcome) : Type 0 where
+  pub is_enabled : (acts : List Act) → Stands blocks_told old s acts → enabled s (state s acts) event ≡ true
+  pub is_allowed : (acts : List Act) → Stands blocks_told old s acts → event_allows s (state s acts) event (mark_of o.told) ≡ true
+  pub outcome : (acts : List Act) (rows : List WriterRow) → Stands blocks_told old s acts → rows ≡ (after s (state s acts) (told_act event o.told)).course.rows
+      → IsOutcome (tells_of blocks_told s old.devices) s (state s acts) event o new.listed new.evicted rows
+  pub stands_for : (acts : List Act) → Stands blocks_told old s acts → Stands blocks_told new s (acts ++ told_act event o.told ∷ [])
+  pub is_of : IsOf new s
+  pub tells : tells_of blocks_told s new.devices ≡ tells_of blocks_told s old.devices
+  pub later : AreLater (map count old.devices) (map count new.devices)
+  pub rose : is_fault (mark_of o.told) ≡ true → RoseFor s (volume_of event o.told) (map count old.devices) (map count new.devices)
+  pub unfailed : is_fault (mark_of o.told) ≡ false → map count new.devices ≡ map count old.devices
+
+abbrev pub IsStepped : {D : Type 0} → (D → Option (List (List ℕ))) → (D → ℕ) → WorldValue D → WorldValue D → Plan → Event → Reply → Type 0
+IsStepped blocks_told count old new s event Blocked = IsBlocked blocks_told old new s event
+IsStepped blocks_told count old new s event (Moved o) = IsMoved blocks_told count old new s event o
+
+-- where a step of the Flush group is told clean, what its volume's device tells lasts
+abbrev pub StepLasts : {D : Type 0} → (D → Option (List (List ℕ))) → (D → Option (List (List ℕ))) → WorldValue D → Plan → Reply → Type 0
+StepLasts blocks_told lasting new s Blocked = Unit {0}
+StepLasts {D = D} blocks_told lasting new s (Moved o) = (v : ℕ) (d : D) → o.told ≡ told.Step Flush (Some v) false → slice_get new.devices (volume_place s v) ≡ Some d → lasting d ≡ blocks_told d
+
+-- what a move comes to that ends no set and loses no writer
+abbrev pub simple_outcome : Told → Outcome
+simple_outcome told = record { told = told; lost = 0; lost_order = None; set = 0; result = Running }

@@ -1,0 +1,61 @@
+-- The beginning, and the calls that are no acts: they leave what the core stands for as it was. (This project's own.)
+use Rattle.std.specs.Prelude.{ℕ, ◌≡◌, ◌<◌, List, [], length, map, Option, Some, None, slice_get}
+use Rattle.write_history.specs.History.{History, contents, fresh, sets_of}
+use Rattle.write_history.specs.Slots.{used}
+use Rattle.scenario.specs.declared.volume_row.VolumeRow.{VolumeRow}
+use Rattle.scenario.specs.Plan.{Plan, GroupPlan}
+use Rattle.cow_volume.specs.GroupValue.{GroupValue}
+use Rattle.cow_volume.specs.StandsFor.{StandsFor}
+use Rattle.vss_model.specs.State.{history_of, kept}
+use Rattle.vss_model.specs.Acts.{Act, state}
+use Rattle.sessions.specs.Keeps.{SessionsValue, Keeps}
+use Rattle.provider.specs.Preparing.{ProviderValue}
+use Rattle.provider.specs.Groups.{blocks_in_group, AreGroups}
+use Rattle.provider.specs.Devices.{AreLater, area_place}
+use Rattle.vss_world.specs.Devices.{tells_of, told_by, AreaHolds}
+use Rattle.vss_world.specs.Stands.{WorldValue, IsOf, Stands}
+
+-- ## the beginning
+
+-- the scenario's groups, in order, with its blocks and slots, without images, and with zeros where their devices tell
+pub record AreNew {D : Type 0} (told : D → Option (List (List ℕ))) (s : Plan) (groups : List (GroupValue D)) : Type 0 where
+  pub number : length groups ≡ length s.groups
+  pub volumes : (g : ℕ) (x : GroupValue D) → slice_get groups g ≡ Some x → x.area.volumes ≡ blocks_in_group g s.volumes
+  pub slots : (g : ℕ) (x : GroupValue D) (p : GroupPlan) → slice_get groups g ≡ Some x → slice_get s.groups g ≡ Some p → length x.area.records ≡ p.slots
+  pub fresh_are : (g : ℕ) (x : GroupValue D) → slice_get groups g ≡ Some x → StandsFor told x (map (λ _. fresh) x.area.volumes)
+
+-- ## calls that are no acts
+
+-- what it stands for, which devices tell, and what they tell are as they were
+pub record IsQuiet {D : Type 0} (told : D → Option (List (List ℕ))) (count : D → ℕ) (old new : WorldValue D) (s : Plan) : Type 0 where
+  pub stands_for : (acts : List Act) → Stands told old s acts → Stands told new s acts
+  pub is_of : IsOf new s
+  pub blocks : map told new.devices ≡ map told old.devices
+  pub tells : tells_of told s new.devices ≡ tells_of told s old.devices
+  pub later : AreLater (map count old.devices) (map count new.devices)
+
+-- the area of group g was written to its device: what it stands for is as it was, and so is what every other device tells
+pub record IsSynced {D : Type 0} (told : D → Option (List (List ℕ))) (count : D → ℕ) (old new : WorldValue D) (s : Plan) (g : ℕ) : Type 0 where
+  pub stands_for : (acts : List Act) → Stands told old s acts → Stands told new s acts
+  pub is_of : IsOf new s
+  pub elsewhere : (place : ℕ) → (place ≡ area_place g s.volumes → ⊥) → told_by told new.devices place ≡ told_by told old.devices place
+  pub tells : tells_of told s new.devices ≡ tells_of told s old.devices
+  pub later : AreLater (map count old.devices) (map count new.devices)
+
+-- after a sync the area's device holds the copies, at each list of acts that the core stands for
+abbrev pub IsAreaHeld : {D : Type 0} → (D → Option (List (List ℕ))) → WorldValue D → Plan → ℕ → Type 0
+IsAreaHeld told w s g = (acts : List Act) → Stands told w s acts → AreaHolds told s (state s acts).volumes w.devices g
+
+-- ## what is told of a volume
+
+abbrev pub blocks_at : Option VolumeRow → History → ℕ → List (List ℕ)
+blocks_at None h k = []
+blocks_at (Some r) h k = contents r.blocks h.writes k
+
+abbrev pub used_at : Option VolumeRow → History → ℕ
+used_at None h = 0
+used_at (Some r) h = used r.blocks h.writes h.images
+
+-- these are the sets whose images are kept on volume v, at each list of acts for which both parts stand
+abbrev pub AreKeptSets : {D : Type 0} → (D → Option (List (List ℕ))) → ProviderValue D → SessionsValue → Plan → ℕ → List ℕ → Type 0
+AreKeptSets told p x s v sets = (acts : List Act) → Keeps x (state s acts) → AreGroups told s p.groups (state s acts).volumes → sets ≡ sets_of (kept (state s acts) (history_of (state s acts) v))

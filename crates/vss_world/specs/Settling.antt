@@ -1,0 +1,31 @@
+-- What follows from a move of the sessions for the images and for the volumes that are held. (This project's own.)
+use Rattle.std.specs.Prelude.{ℕ, ◌≡◌, ◌||◌, Bool, true, false, List, Option, length, if◌then◌else◌}
+use Rattle.hold_gate.specs.Gate.{Flags, all_open}
+use Rattle.set_agenda.specs.Agenda.{is_asking, is_working}
+use Rattle.vss_model.specs.State.{State, left_now}
+use Rattle.write_history.specs.History.{History}
+use Rattle.scenario.specs.declared.op.Op.{Op}
+use Rattle.scenario.specs.declared.op.Op.TheVariants.{Add}
+use Rattle.provider.specs.Groups.{history_at}
+use Rattle.provider.specs.Calls.{AreWithout}
+use Rattle.provider.specs.Preparing.{ProviderValue}
+use Rattle.sessions.specs.Keeps.{SessionsValue, Keeps}
+use Rattle.sessions.specs.declared.image_change.ImageChange.{ImageChange}
+use Rattle.sessions.specs.declared.image_change.ImageChange.TheVariants.{NoChange, Cut, Drop}
+
+-- the images of a set went from all volumes, or nothing changed
+abbrev pub IsDroppedFor : {D : Type 0} → (D → Option (List (List ℕ))) → (D → ℕ) → (D → ℕ) → (D → Bool) → ImageChange → ProviderValue D → ProviderValue D → Type 0
+IsDroppedFor told size count lending NoChange old new = new ≡ old
+IsDroppedFor told size count lending (Cut n) old new = ⊥
+IsDroppedFor told size count lending (Drop n) old new = (stood : ℕ) × AreWithout told size count lending old.groups new.groups n stood
+
+-- whether an agenda runs, by what is asked; where none does the gate was opened, and else it is as it was
+pub record IsOpened (x : SessionsValue) (old new : Flags) : Type 0 where
+  pub running : Bool
+  pub is_running : (st : State) → Keeps x st → running ≡ (is_working (left_now st) || is_asking (left_now st))
+  pub gate : new ≡ (if running then old else all_open (length old.held) (length old.frozen))
+
+-- so many images stand on the volume that a line adds to a set
+abbrev pub AreImagesFor : Op → ℕ → List History → Type 0
+AreImagesFor (Add v) images hs = length (history_at hs v).images ≡ images
+AreImagesFor _ images hs = Unit {0}

@@ -1,0 +1,40 @@
+//! Whether a line waits.
+
+ghost use Rattle.std.specs.Prelude.{◌≡◌};
+ghost use Rattle.scenario.specs.Bounds.{IsOp};
+ghost use Rattle.vss_model.specs.Acts.{line_enabled};
+ghost use Rattle.vss_world.specs.Stands.{IsOf, IsStanding, IfStands};
+ghost use Rattle.vss_world.specs.Moves.{written_by};
+
+use crate::world::World;
+use scenario::{Op, Scenario};
+use volume_device::Device;
+
+impl<D: Device> World<D> {
+    /// Whether a line does not wait.
+    pub(crate) fn may_go(&self, scenario: &Scenario, lane: u32, op: Op) -> bool
+        requires of { IsOf self.now scenario.now }
+        requires standing { IsStanding D.told self.now scenario.now }
+        requires in_range { IsOp scenario.now op }
+        ensures { IfStands D.told self.now scenario.now (λ st. result ≡ line_enabled scenario.now st lane op) }
+    {
+        let _facts = scenario.volumes();
+        if let Some(volume) = written_by(op) {
+            return !self.gate.is_held(volume);
+        }
+        match op.session_call() {
+            None => true,
+            Some(call) => self.sessions.may_call(lane, call),
+        }
+    }
+}
+
+/// The volume of which a line writes a block.
+fn written_by(op: Op) -> Option<u32>
+    ensures { result ≡ written_by op }
+{
+    match op {
+        Op::WriteFill { volume, .. } | Op::WriteStamp { volume, .. } => Some(volume),
+        _ => None,
+    }
+}

@@ -1,0 +1,64 @@
+//! A line of a lane.
+
+ghost use Rattle.std.specs.Prelude.{◌≡◌, true, IfOk, IsErr, OnErr};
+ghost use Rattle.scenario.specs.Bounds.{IsOp};
+ghost use Rattle.vss_model.specs.declared.event.Event.TheVariants.{Line};
+ghost use Rattle.vss_world.specs.Stands.{IsOf, IsStanding};
+ghost use Rattle.vss_world.specs.Moves.{IsStepped, takes_for};
+
+use crate::reply::Reply;
+use crate::world::World;
+use block_data::Payload;
+use scenario::{Op, Scenario};
+use std::alloc::Global;
+use volume_device::Device;
+use vss_names::OutOfMemory;
+
+impl<D: Device> World<D> {
+    /// Makes a line.
+    pub(crate) fn line(
+        &mut self,
+        alloc: Global,
+        scenario: &Scenario,
+        lane: u32,
+        op: Op,
+    ) -> Result<Reply, OutOfMemory>
+        requires of { IsOf self.old scenario.now }
+        requires standing { IsStanding D.told self.old scenario.now }
+        requires in_range { IsOp scenario.now op }
+        ensures memory { OnErr result (self.new ≡ self.old) }
+        ensures takes { IsErr result → takes_for op ≡ true }
+        ensures stepped { IfOk result (IsStepped D.told D.count self.old self.new scenario.now (Line lane op)) }
+    {
+        match op {
+            Op::WriteFill {
+                volume,
+                block,
+                byte,
+            } => {
+                let payload = Payload::Fill(byte);
+                Ok(self.write(scenario, lane, op, volume, block, &payload))
+            }
+            Op::WriteStamp {
+                volume,
+                block,
+                number,
+            } => {
+                let payload = Payload::Stamp(number);
+                Ok(self.write(scenario, lane, op, volume, block, &payload))
+            }
+            Op::Read { volume, block } => Ok(self.read(scenario, lane, volume, block)),
+            Op::ImageDigest { set, volume } => Ok(self.show_image(scenario, lane, set, volume)),
+            Op::ImageBlock { set, volume, block } => {
+                Ok(self.show_block(scenario, lane, set, volume, block))
+            }
+            Op::Query { volume } => Ok(self.query(scenario, lane, volume)),
+            Op::Properties { set, volume } => Ok(self.properties(scenario, lane, set, volume)),
+            Op::Revert { set, volume } => Ok(self.revert(scenario, lane, set, volume)),
+            Op::DeleteSet { set } => Ok(self.delete_set(scenario, lane, set)),
+            Op::DeleteImage { set, volume } => Ok(self.delete_image(scenario, lane, set, volume)),
+            Op::Tick { ticks } => Ok(self.tick(scenario, lane, ticks)),
+            _ => self.call(alloc, scenario, lane, op),
+        }
+    }
+}

@@ -1,0 +1,84 @@
+//! Lines that write a block.
+
+ghost use Rattle.std.specs.Prelude.{◌≡◌, ◌<◌};
+ghost use Rattle.block_data.specs.PayloadBytes.{payload_bytes};
+ghost use Rattle.scenario.specs.Bounds.{IsBlock};
+ghost use Rattle.vss_model.specs.declared.event.Event.TheVariants.{Line};
+ghost use Rattle.vss_world.specs.Stands.{IsOf, IsStanding};
+ghost use Rattle.vss_world.specs.Moves.{IsStepped};
+ghost use Rattle.vss_world.specs.Puts.{IsWriteLine, told_if};
+
+use crate::evicting::list_evicted;
+use crate::outcomes::told;
+use crate::reply::Reply;
+use crate::world::World;
+use block_data::Payload;
+use provider::DeviceFault;
+use scenario::{Op, Scenario};
+use volume_device::Device;
+use vss_model::{Outcome, Told};
+use vss_names::{SetOutcome, VssResult};
+
+impl<D: Device> World<D> {
+    /// Writes a block, unless the volume's writes are held. Where images have to go for it, and one of the set in progress is among
+    /// them, the set fails.
+    pub(crate) fn write(
+        &mut self,
+        scenario: &Scenario,
+        lane: u32,
+        op: Op,
+        volume: u32,
+        block: u32,
+        payload: &Payload,
+    ) -> Reply
+        requires of { IsOf self.old scenario.now }
+        requires standing { IsStanding D.told self.old scenario.now }
+        requires in_range { IsBlock scenario.now volume block }
+        requires line { IsWriteLine op volume (record { block = block; bytes = payload_bytes payload.now }) }
+        ensures { IsStepped D.told D.count self.old self.new scenario.now (Line lane op) result }
+    {
+        let _facts = scenario.volumes();
+        if self.gate.is_held(volume) {
+            return Reply::Blocked;
+        }
+        let up_to = self.provider.goes_up_to(scenario, volume, block);
+        list_evicted(
+            &mut self.evicted,
+            &self.provider,
+            &self.sessions,
+            scenario,
+            volume,
+            block,
+            up_to,
+        );
+        let put = self.provider.write(scenario, volume, block, payload);
+        let answer = told_of(put.fault);
+        let Some(set) = self.sessions.current() else {
+            return told(answer);
+        };
+        if set != up_to {
+            return told(answer);
+        }
+        let why = VssResult::InsufficientStorage;
+        let _ = self.sessions.fail(why);
+        let _ = self.provider.drop_set(set);
+        self.gate.clear();
+        Reply::Moved(Outcome {
+            told: answer,
+            lost: 0,
+            lost_order: None,
+            set,
+            result: SetOutcome::Failed(why),
+        })
+    }
+}
+
+/// What a write is answered.
+fn told_of(fault: Option<DeviceFault>) -> Told
+    ensures { result ≡ told_if fault }
+{
+    match fault {
+        None => Told::Ok,
+        Some(_) => Told::Fault,
+    }
+}
