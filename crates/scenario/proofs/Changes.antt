@@ -11,7 +11,6 @@ use Rattle.scenario.specs.declared.writer.Writer.{Writer}
 use Rattle.scenario.specs.Rows.{writer_plan, lane_plan}
 use Rattle.scenario.specs.Plan.{WriterPlan, LaneLine, LanePlan}
 use Rattle.scenario.specs.Bounds.{is_begin, begins_agenda, agenda_lines}
-use Rattle.scenario.specs.Built.{has_begin, last_lines}
 use Rattle.scenario.specs.Fields.{bytes_of}
 use Rattle.scenario.specs.Names.{writer_names, lane_names}
 use Rattle.scenario.specs.SoFar.{with_answer, with_line, line_count, agenda_count, answer_count}
@@ -71,24 +70,6 @@ agendas_with_is n op =
 pub agendas_more : (line : LaneLine) (lanes : List LanePlan) → 0 < length lanes → agenda_count (with_line line lanes) ≡ agendas_with (agenda_count lanes) line.op
 agendas_more line lanes h = agendas_more_by line lanes h ∙ agendas_with_is (agenda_count lanes) line.op
 
-or_more : (a b c : Bool) → (a || (b || c)) ≡ ((a || b) || c)
-or_more true b c = refl
-or_more false b c = refl
-
-or_none : (a : Bool) → (a || false) ≡ a
-or_none true = refl
-or_none false = refl
-
-begin_more : (lines : List LaneLine) (line : LaneLine) → has_begin (lines ++ line ∷ []) ≡ (has_begin lines || is_begin line.op)
-begin_more [] line = or_none (is_begin line.op)
-begin_more (l ∷ lines) line = ap (λ b. is_begin l.op || b) (begin_more lines line) ∙ or_more (is_begin l.op) (has_begin lines) (is_begin line.op)
-
-pub begun_more : (line : LaneLine) (lanes : List LanePlan) → 0 < length lanes → has_begin (last_lines (with_line line lanes)) ≡ (has_begin (last_lines lanes) || is_begin line.op)
-begun_more line [] h = absurd (omega arith)
-begun_more line (lane ∷ []) h = begin_more lane.lines line
-begun_more line (lane ∷ next ∷ []) h = begin_more next.lines line
-begun_more line (lane ∷ next ∷ more ∷ lanes) h = begun_more line (next ∷ more ∷ lanes) (omega arith)
-
 pub lane_names_stay : (text : List ℕ) (line : LaneLine) (lanes : List LanePlan) → lane_names text (with_line line lanes) ≡ lane_names text lanes
 lane_names_stay text line [] = refl
 lane_names_stay text line (lane ∷ []) = refl
@@ -115,11 +96,6 @@ lines_in_new (l ∷ lanes) lane h = omega (arith, lines_cons l (lanes ++ lane �
 pub agendas_in_new : (lanes : List LanePlan) (lane : LanePlan) → lane.lines ≡ [] → agenda_count (lanes ++ lane ∷ []) ≡ agenda_count lanes
 agendas_in_new [] lane h = omega (arith, agendas_cons lane [], ap (λ (ls : List LaneLine). agenda_lines ls) h)
 agendas_in_new (l ∷ lanes) lane h = omega (arith, agendas_cons l (lanes ++ lane ∷ []), agendas_cons l lanes, agendas_in_new lanes lane h)
-
-pub last_is_new : (lanes : List LanePlan) (lane : LanePlan) → last_lines (lanes ++ lane ∷ []) ≡ lane.lines
-last_is_new [] lane = refl
-last_is_new (l ∷ []) lane = refl
-last_is_new (l ∷ next ∷ lanes) lane = last_is_new (next ∷ lanes) lane
 
 -- ## a row more in a script
 

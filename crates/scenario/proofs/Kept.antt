@@ -13,13 +13,12 @@ use Rattle.scenario.specs.declared.entry.Entry.{Entry}
 use Rattle.scenario.specs.declared.entry.Entry.TheVariants as entry
 use Rattle.scenario.specs.Plan.{GroupPlan, WriterPlan, LaneLine, LanePlan}
 use Rattle.scenario.specs.Bounds.{IsInGroup, begins_agenda}
-use Rattle.scenario.specs.Built.{has_begin}
 use Rattle.scenario.specs.Fields.{bytes_of}
 use Rattle.scenario.specs.Names.{area_names}
 use Rattle.scenario.specs.SoFar.{SoFar, Saying, after, new_area, own_group, area_group, with_answer, with_line, line_count, agenda_count, answer_count}
 use Rattle.scenario.specs.SoFar as saying
 use Rattle.scenario.specs.Drafts.{DraftValue, with_entry, saying_in, names_after, counts_after, agendas_with, IsGroupRow, IsRow, IsAreaRow, IsNth, IsWriterRow, IsRanged, IsLaneRow, IsWithin, AreNames, AreCounts, IsDraft, IsEntry}
-use Rattle.scenario.proofs.Changes.{lines_more, agendas_more, begun_more, lane_names_stay, lane_count_stays, lanes_more, lines_in_new, agendas_in_new, last_is_new, answers_more, writer_names_stay, writer_count_stays, writers_more, answers_in_new}
+use Rattle.scenario.proofs.Changes.{lines_more, agendas_more, lane_names_stay, lane_count_stays, lanes_more, lines_in_new, agendas_in_new, answers_more, writer_names_stay, writer_count_stays, writers_more, answers_in_new}
 use Rattle.scenario.proofs.Groups.{get_last, set_same, numbered_new, numbered_old, all_in_more_groups, in_new_group, in_old_group, areas_with_more_groups}
 
 -- ## the limits
@@ -290,33 +289,30 @@ names_stay text d (entry.Line line) h g =
 
 pub counts_stay : (text : List ℕ) (d : DraftValue) (e : Entry) → AreCounts d.said d.counts → IsEntry text d e → AreCounts (after d.said (saying_in e)) (counts_after d.counts (saying_in e))
 counts_stay text d entry.Skipped h g = h
-counts_stay text d entry.Opening h g = record { lines = h.lines; agenda_lines = h.agenda_lines; answers = h.answers; begun = h.begun }
-counts_stay text d (entry.Area area) h g = record { lines = h.lines; agenda_lines = h.agenda_lines; answers = h.answers; begun = h.begun }
-counts_stay text d (entry.OwnVolume row) h g = record { lines = h.lines; agenda_lines = h.agenda_lines; answers = h.answers; begun = h.begun }
-counts_stay text d (entry.SharedVolume row a area) h g = record { lines = h.lines; agenda_lines = h.agenda_lines; answers = h.answers; begun = h.begun }
+counts_stay text d entry.Opening h g = record { lines = h.lines; agenda_lines = h.agenda_lines; answers = h.answers }
+counts_stay text d (entry.Area area) h g = record { lines = h.lines; agenda_lines = h.agenda_lines; answers = h.answers }
+counts_stay text d (entry.OwnVolume row) h g = record { lines = h.lines; agenda_lines = h.agenda_lines; answers = h.answers }
+counts_stay text d (entry.SharedVolume row a area) h g = record { lines = h.lines; agenda_lines = h.agenda_lines; answers = h.answers }
 counts_stay text d (entry.Writer name metadata) h g =
     record {
       lines = h.lines;
       agenda_lines = h.agenda_lines;
       answers = h.answers ∙ sym (answers_in_new d.said.writers (record { name = name; meta = meta_of metadata; script = [] }) refl);
-      begun = h.begun;
     }
 counts_stay text d (entry.Answer w row) h g =
-    record { lines = h.lines; agenda_lines = h.agenda_lines; answers = ap (λ n. n + 1) h.answers ∙ sym (answers_more w row d.said.writers g.known); begun = h.begun }
+    record { lines = h.lines; agenda_lines = h.agenda_lines; answers = ap (λ n. n + 1) h.answers ∙ sym (answers_more w row d.said.writers g.known) }
 counts_stay text d (entry.Lane name whom) h g =
     let lane : LanePlan = record { name = name; acts_as = whom; lines = [] } in
     record {
       lines = h.lines ∙ sym (lines_in_new d.said.lanes lane refl);
       agenda_lines = h.agenda_lines ∙ sym (agendas_in_new d.said.lanes lane refl);
       answers = h.answers;
-      begun = sym (ap (λ (ls : List LaneLine). has_begin ls) (last_is_new d.said.lanes lane));
     }
 counts_stay text d (entry.Line line) h g =
     record {
       lines = ap (λ n. n + 1) h.lines ∙ sym (lines_more line d.said.lanes g.in_lane);
       agenda_lines = ap (λ n. agendas_with n line.op) h.agenda_lines ∙ sym (agendas_more line d.said.lanes g.in_lane);
       answers = h.answers;
-      begun = rw h.begun (sym (begun_more line d.said.lanes g.in_lane));
     }
 
 -- ## all of it

@@ -6,8 +6,6 @@ pub mod Tables
 pub mod Changes
 pub mod Groups
 pub mod Kept
-pub mod StillBuilt
 pub mod Whole
 pub mod Stored
-pub mod Language
 pub mod Named

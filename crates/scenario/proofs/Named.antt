@@ -1,5 +1,5 @@
--- Each scenario that is read has names by the grammar, those of writers and of lanes apart, and its lines are numbered by the lines of
--- its text.
+-- Each scenario that is read has names by the grammar, those of volumes, of writers and of lanes apart, and its lines are numbered by
+-- the lines of its text.
 use Rattle.std.proofs.Common.{◌≡◌, ◌∙◌, ℕ, zero, suc, ◌+◌, ◌-◌, ◌^◌, ◌<◌, ◌≤◌, Bool, true, false, List, [], ◌∷◌, ◌++◌, length, map, Option, Some, None, Result, Ok, Err, refl, ap, sym, subst, arith, cond}
 use Rattle.std.specs.Prelude.{◌==◌, ◌&&◌, not, nat_lt, nat_le, is_some, if◌then◌else◌, slice_get, codes}
 use Rattle.std.specs.List.{list_all, position_from}
@@ -21,7 +21,7 @@ use Rattle.scenario.specs.declared.word.Word.{Word}
 use Rattle.scenario.specs.declared.word.Word.TheVariants as word
 use Rattle.scenario.specs.Plan.{Plan, GroupPlan, WriterPlan, LanePlan, LaneLine}
 use Rattle.scenario.specs.Bounds.{ends_sessions}
-use Rattle.scenario.specs.Names.{is_name, writer_names, lane_names, volume_named, writer_named, lane_named}
+use Rattle.scenario.specs.Names.{is_name, volume_names, writer_names, lane_names, volume_named, writer_named, lane_named}
 use Rattle.scenario.specs.Lines.{span_from, lines_from, lines_in}
 use Rattle.scenario.specs.Fields.{bytes_of, words_at, fields_for}
 use Rattle.scenario.specs.Words.{word_of}
@@ -29,7 +29,7 @@ use Rattle.scenario.specs.Ops.{◌>>=◌, op_of, number_field, writer_field, is_
 use Rattle.scenario.specs.SoFar.{SoFar, Saying, Skipped, Opening, Area, OwnVolume, SharedVolume, Writer, Answer, Lane, Line, nothing, after, with_answer, with_line, implied_end, closed, closed_lane, plan_in, line_count, agenda_count, answer_count}
 use Rattle.scenario.specs.Declarations.{name_field, opening_of, area_of, has_space, has_volume_room, new_volume, blocks_field, own_row, own_volume_of, area_field, shared_row, shared_volume_of, volume_of, document_field, new_writer, writer_of, code_field, asked_of, answer_if, row_for, answer_of, new_lane, lane_if, free_lane_of, acting_lane_of, lane_of}
 use Rattle.scenario.specs.Entries.{is_printable, is_skipped, has_lane, may_stand, has_line_room, line_of, row_of, placed_row_of, said_of, saying_of}
-use Rattle.scenario.specs.Grammar.{Reading, IsScenario, IsBad, whole, goes_on, run_only, read_from, language_of}
+use Rattle.scenario.specs.Grammar.{Reading, IsScenario, IsBad, whole, goes_on, read_from, reading_of}
 use Rattle.scenario.specs.Named.{AllNamed, Differ, Distinct, volume_spans, writer_spans, lane_spans, Numbered, AllNumbered, HasNames}
 
 -- ## what one line says
@@ -38,8 +38,8 @@ abbrev IsSaid : List ℕ → SoFar → ℕ → Saying → Type 0
 IsSaid text d number Skipped = Unit {0}
 IsSaid text d number Opening = Unit {0}
 IsSaid text d number (Area area) = Unit {0}
-IsSaid text d number (OwnVolume row) = is_name (bytes_of text row.name) ≡ true
-IsSaid text d number (SharedVolume row a area) = is_name (bytes_of text row.name) ≡ true
+IsSaid text d number (OwnVolume row) = (is_name (bytes_of text row.name) ≡ true) × (is_some (volume_named text d.volumes (bytes_of text row.name)) ≡ false)
+IsSaid text d number (SharedVolume row a area) = (is_name (bytes_of text row.name) ≡ true) × (is_some (volume_named text d.volumes (bytes_of text row.name)) ≡ false)
 IsSaid text d number (Writer w) = (is_name (bytes_of text w.name) ≡ true) × (is_some (writer_named text d.writers (bytes_of text w.name)) ≡ false)
 IsSaid text d number (Answer w row) = Unit {0}
 IsSaid text d number (Lane name whom) = (is_name (bytes_of text name) ≡ true) × (is_some (lane_named text d.lanes (bytes_of text name)) ≡ false)
@@ -84,17 +84,21 @@ area_said text d number (Two name slots) =
     on_bind (IsSaid text d number) (name_field text _ name) _ (λ n e. on_bind (IsSaid text d number) (number_field text 0 65536 slots) _ (λ s f. on_either (IsSaid text d number) (nat_lt (length d.areas) 128 && has_space d s) (Ok (Area (record { name = n; slots = s }))) (Err TooMany) tt tt))
 area_said text d number _ = tt
 
+volume_new : (text : List ℕ) (d : SoFar) (name n : Span) → IsNewName text (is_some (volume_named text d.volumes (bytes_of text name))) name n
+    → (is_name (bytes_of text n) ≡ true) × (is_some (volume_named text d.volumes (bytes_of text n)) ≡ false)
+volume_new text d name n h = (h.name, subst (λ x. is_some (volume_named text d.volumes (bytes_of text x)) ≡ false) (sym h.same) h.free)
+
 own_said : (text : List ℕ) (d : SoFar) (number : ℕ) (name blocks slots : Span) → IsGood (IsSaid text d number) (own_volume_of text d name blocks slots)
 unfolding own_volume_of
 own_said text d number name blocks slots =
     on_bind (IsSaid text d number) (new_volume text d name) _ (λ n e. on_bind (IsSaid text d number) (blocks_field text blocks) _ (λ b f. on_bind (IsSaid text d number) (number_field text 0 65536 slots) _
-    (λ s g. on_either (IsSaid text d number) (has_volume_room d (b + s)) (Ok (OwnVolume (own_row d n b s))) (Err TooMany) (new_name text _ name n e).name tt)))
+    (λ s g. on_either (IsSaid text d number) (has_volume_room d (b + s)) (Ok (OwnVolume (own_row d n b s))) (Err TooMany) (volume_new text d name n (new_name text _ name n e)) tt)))
 
 shared_said : (text : List ℕ) (d : SoFar) (number : ℕ) (name blocks kind area : Span) → IsGood (IsSaid text d number) (shared_volume_of text d name blocks kind area)
 unfolding shared_volume_of
 shared_said text d number name blocks kind area =
     on_bind (IsSaid text d number) (new_volume text d name) _ (λ n e. on_bind (IsSaid text d number) (blocks_field text blocks) _ (λ b f. on_either (IsSaid text d number) (is_word text kind (codes "in")) _ (Err UnknownWord)
-    (on_bind (IsSaid text d number) (area_field text d.areas area) _ (λ p g. on_either (IsSaid text d number) (has_volume_room d b) (Ok (SharedVolume (shared_row d n b p.1) p.0 p.1)) (Err TooMany) (new_name text _ name n e).name tt)) tt))
+    (on_bind (IsSaid text d number) (area_field text d.areas area) _ (λ p g. on_either (IsSaid text d number) (has_volume_room d b) (Ok (SharedVolume (shared_row d n b p.1) p.0 p.1)) (Err TooMany) (volume_new text d name n (new_name text _ name n e)) tt)) tt))
 
 volume_said : (text : List ℕ) (d : SoFar) (number : ℕ) (fields : Fields) → IsGood (IsSaid text d number) (volume_of text d fields)
 volume_said text d number (Three name blocks slots) = own_said text d number name blocks slots
@@ -213,6 +217,11 @@ absent_from text name f n (x ∷ xs) e = by_first (bytes_eq name (bytes_of text 
     by_first true g h later = absurd cc
     by_first false g h later = (swapped name (bytes_of text (f x)) g, later h)
 
+absent_volume : (text name : List ℕ) (rows : List VolumeRow) → is_some (volume_named text rows name) ≡ false → Absent text name (volume_spans rows)
+unfolding volume_named
+absent_volume text name rows e =
+    absent_from text name (λ (r : VolumeRow). r.name) 0 rows (ap is_some (sym (position_from-zero (λ other. bytes_eq name other) (volume_names text rows))) ∙ e)
+
 absent_writer : (text name : List ℕ) (ws : List WriterPlan) → is_some (writer_named text ws name) ≡ false → Absent text name (writer_spans ws)
 unfolding writer_named
 absent_writer text name ws e =
@@ -268,26 +277,29 @@ record IsNamed (text : List ℕ) (k : ℕ) (d : SoFar) : Type 0 where
   pub volumes : AllNamed text (volume_spans d.volumes)
   pub writers : AllNamed text (writer_spans d.writers)
   pub lanes : AllNamed text (lane_spans d.lanes)
+  pub volumes_apart : Distinct text (volume_spans d.volumes)
   pub writers_apart : Distinct text (writer_spans d.writers)
   pub lanes_apart : Distinct text (lane_spans d.lanes)
   pub lines : AllNumbered k d.lanes
 
 named_after : (text : List ℕ) (k : ℕ) (d : SoFar) (saying : Saying) → IsSaid text d k saying → IsNamed text k d → IsNamed text (k + 1) (after d saying)
-named_after text k d Skipped said h = record { volumes = h.volumes; writers = h.writers; lanes = h.lanes; writers_apart = h.writers_apart; lanes_apart = h.lanes_apart; lines = all_numbered_on k d.lanes h.lines }
-named_after text k d Opening said h = record { volumes = h.volumes; writers = h.writers; lanes = h.lanes; writers_apart = h.writers_apart; lanes_apart = h.lanes_apart; lines = all_numbered_on k d.lanes h.lines }
-named_after text k d (Area area) said h = record { volumes = h.volumes; writers = h.writers; lanes = h.lanes; writers_apart = h.writers_apart; lanes_apart = h.lanes_apart; lines = all_numbered_on k d.lanes h.lines }
+named_after text k d Skipped said h = record { volumes = h.volumes; writers = h.writers; lanes = h.lanes; volumes_apart = h.volumes_apart; writers_apart = h.writers_apart; lanes_apart = h.lanes_apart; lines = all_numbered_on k d.lanes h.lines }
+named_after text k d Opening said h = record { volumes = h.volumes; writers = h.writers; lanes = h.lanes; volumes_apart = h.volumes_apart; writers_apart = h.writers_apart; lanes_apart = h.lanes_apart; lines = all_numbered_on k d.lanes h.lines }
+named_after text k d (Area area) said h = record { volumes = h.volumes; writers = h.writers; lanes = h.lanes; volumes_apart = h.volumes_apart; writers_apart = h.writers_apart; lanes_apart = h.lanes_apart; lines = all_numbered_on k d.lanes h.lines }
 named_after text k d (OwnVolume row) said h = record {
-  volumes = subst (AllNamed text) (sym (spans_more (λ (r : VolumeRow). r.name) d.volumes row)) (named_more text (volume_spans d.volumes) row.name h.volumes said);
+  volumes = subst (AllNamed text) (sym (spans_more (λ (r : VolumeRow). r.name) d.volumes row)) (named_more text (volume_spans d.volumes) row.name h.volumes said.0);
   writers = h.writers;
   lanes = h.lanes;
+  volumes_apart = subst (Distinct text) (sym (spans_more (λ (r : VolumeRow). r.name) d.volumes row)) (distinct_more text (volume_spans d.volumes) row.name h.volumes_apart (absent_volume text (bytes_of text row.name) d.volumes said.1));
   writers_apart = h.writers_apart;
   lanes_apart = h.lanes_apart;
   lines = all_numbered_on k d.lanes h.lines;
 }
 named_after text k d (SharedVolume row a area) said h = record {
-  volumes = subst (AllNamed text) (sym (spans_more (λ (r : VolumeRow). r.name) d.volumes row)) (named_more text (volume_spans d.volumes) row.name h.volumes said);
+  volumes = subst (AllNamed text) (sym (spans_more (λ (r : VolumeRow). r.name) d.volumes row)) (named_more text (volume_spans d.volumes) row.name h.volumes said.0);
   writers = h.writers;
   lanes = h.lanes;
+  volumes_apart = subst (Distinct text) (sym (spans_more (λ (r : VolumeRow). r.name) d.volumes row)) (distinct_more text (volume_spans d.volumes) row.name h.volumes_apart (absent_volume text (bytes_of text row.name) d.volumes said.1));
   writers_apart = h.writers_apart;
   lanes_apart = h.lanes_apart;
   lines = all_numbered_on k d.lanes h.lines;
@@ -296,6 +308,7 @@ named_after text k d (Writer w) said h =
     let more = spans_more (λ (x : WriterPlan). x.name) d.writers w in
     record {
       volumes = h.volumes;
+      volumes_apart = h.volumes_apart;
       writers = subst (AllNamed text) (sym more) (named_more text (writer_spans d.writers) w.name h.writers said.0);
       lanes = h.lanes;
       writers_apart = subst (Distinct text) (sym more) (distinct_more text (writer_spans d.writers) w.name h.writers_apart (absent_writer text (bytes_of text w.name) d.writers said.1));
@@ -306,6 +319,7 @@ named_after text k d (Answer w row) said h =
     let same = spans_answer w row d.writers in
     record {
       volumes = h.volumes;
+      volumes_apart = h.volumes_apart;
       writers = subst (AllNamed text) (sym same) h.writers;
       lanes = h.lanes;
       writers_apart = subst (Distinct text) (sym same) h.writers_apart;
@@ -317,6 +331,7 @@ named_after text k d (Lane name whom) said h =
     let more = spans_more (λ (x : LanePlan). x.name) d.lanes lane in
     record {
       volumes = h.volumes;
+      volumes_apart = h.volumes_apart;
       writers = h.writers;
       lanes = subst (AllNamed text) (sym more) (named_more text (lane_spans d.lanes) name h.lanes said.0);
       writers_apart = h.writers_apart;
@@ -327,6 +342,7 @@ named_after text k d (Line l) said h =
     let same = spans_line l d.lanes in
     record {
       volumes = h.volumes;
+      volumes_apart = h.volumes_apart;
       writers = h.writers;
       lanes = subst (AllNamed text) (sym same) h.lanes;
       writers_apart = h.writers_apart;
@@ -345,13 +361,13 @@ whole_read : (text : List ℕ) (k : ℕ) (d : SoFar) (s : Plan) (b : Bool) → I
 whole_read text k d s true h e = record { all = d; is = cc; named = h }
 whole_read text k d s false h e = absurd cc
 
-read_on : (text : List ℕ) (k : ℕ) (d : SoFar) (lines : List TextLine) (s : Plan) → IsNamed text k d → read_from (λ x saying. true) text k d lines ≡ IsScenario s → IsRead text (k + length lines) s
+read_on : (text : List ℕ) (k : ℕ) (d : SoFar) (lines : List TextLine) (s : Plan) → IsNamed text k d → read_from text k d lines ≡ IsScenario s → IsRead text (k + length lines) s
 read_on text k d [] s h e = subst (λ n. IsRead text n s) (omega arith) (whole_read text k d s d.opened h e)
 read_on text k d (line ∷ lines) s h e =
     subst (λ n. IsRead text n s) (omega arith) (by_saying (saying_of text d k line) (is_said text d k line) e (λ saying said. read_on text (k + 1) (after d saying) lines s (named_after text k d saying said h)))
   where
-    by_saying : (r : Result Saying Reason) → IsGood (IsSaid text d k) r → goes_on k (λ saying. read_from (λ x y. true) text (k + 1) (after d saying) lines) (run_only (λ y. true) r) ≡ IsScenario s
-        → ((saying : Saying) → IsSaid text d k saying → read_from (λ x y. true) text (k + 1) (after d saying) lines ≡ IsScenario s → IsRead text (k + 1 + length lines) s) → IsRead text (k + 1 + length lines) s
+    by_saying : (r : Result Saying Reason) → IsGood (IsSaid text d k) r → goes_on k (λ saying. read_from text (k + 1) (after d saying) lines) r ≡ IsScenario s
+        → ((saying : Saying) → IsSaid text d k saying → read_from text (k + 1) (after d saying) lines ≡ IsScenario s → IsRead text (k + 1 + length lines) s) → IsRead text (k + 1 + length lines) s
     by_saying (Ok saying) said f later = later saying said f
     by_saying (Err why) said f later = absurd cc
 
@@ -401,6 +417,7 @@ plan_named text k d h some few =
     let same = spans_closed d.lanes in
     record {
       volumes = h.volumes;
+      volumes_apart = h.volumes_apart;
       writers = h.writers;
       lanes = subst (AllNamed text) (sym same) h.lanes;
       writers_apart = h.writers_apart;
@@ -408,10 +425,10 @@ plan_named text k d h some few =
       lines = all_numbered_up k (length text + 2) (map closed_lane d.lanes) few (all_numbered_closed k d.lanes h.lines some);
     }
 
-pub has_names : (text : List ℕ) (s : Plan) → language_of text ≡ IsScenario s → HasNames s
-unfolding language_of
+pub has_names : (text : List ℕ) (s : Plan) → reading_of text ≡ IsScenario s → HasNames s
+unfolding reading_of
 has_names text s e =
-    let none : IsNamed text 1 nothing = record { volumes = tt; writers = tt; lanes = tt; writers_apart = tt; lanes_apart = tt; lines = tt } in
+    let none : IsNamed text 1 nothing = record { volumes = tt; writers = tt; lanes = tt; volumes_apart = tt; writers_apart = tt; lanes_apart = tt; lines = tt } in
     let read = read_on text 1 nothing (lines_in text) s none e in
     let few = few_lines 0 0 text in
     subst HasNames read.is (plan_named text (1 + length (lines_in text)) read.all read.named (omega arith) (omega (arith, few)))

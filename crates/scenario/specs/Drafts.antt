@@ -18,7 +18,6 @@ use Rattle.scenario.specs.declared.entry.Entry.{Entry}
 use Rattle.scenario.specs.declared.entry.Entry.TheVariants as entry
 use Rattle.scenario.specs.Plan.{GroupPlan, WriterPlan, LaneLine, LanePlan, blocks_in, script_in}
 use Rattle.scenario.specs.Bounds.{is_begin, begins_agenda, IsInGroup, groups_from}
-use Rattle.scenario.specs.Built.{has_begin, last_lines}
 use Rattle.scenario.specs.SoFar.{SoFar, Saying, nothing, after, group_for, area_group, line_count, agenda_count, answer_count}
 use Rattle.scenario.specs.SoFar as saying
 use Rattle.scenario.specs.Fields.{bytes_of, IsPart}
@@ -40,7 +39,7 @@ abbrev pub empty_draft : DraftValue
 empty_draft = record {
   said = nothing;
   names = record { areas = []; volumes = []; writers = []; lanes = [] };
-  counts = record { lines = 0; agenda_lines = 0; answers = 0; begun = false };
+  counts = record { lines = 0; agenda_lines = 0; answers = 0 };
 }
 
 -- ## one line more
@@ -74,8 +73,8 @@ agendas_with n op = if begins_agenda op then n + 1 else n
 
 abbrev pub counts_after : Counts → Saying → Counts
 counts_after c (saying.Answer w row) = record c { answers = c.answers + 1 }
-counts_after c (saying.Lane name whom) = record c { begun = false }
-counts_after c (saying.Line line) = record c { lines = c.lines + 1; agenda_lines = agendas_with c.agenda_lines line.op; begun = c.begun || is_begin line.op }
+counts_after c (saying.Lane name whom) = c
+counts_after c (saying.Line line) = record c { lines = c.lines + 1; agenda_lines = agendas_with c.agenda_lines line.op }
 counts_after c saying.Skipped = c
 counts_after c saying.Opening = c
 counts_after c (saying.Area area) = c
@@ -186,7 +185,6 @@ pub record AreCounts (d : SoFar) (c : Counts) : Type 0 where
   pub lines : c.lines ≡ line_count d.lanes
   pub agenda_lines : c.agenda_lines ≡ agenda_count d.lanes
   pub answers : c.answers ≡ answer_count d.writers
-  pub begun : c.begun ≡ has_begin (last_lines d.lanes)
 
 pub record IsDraft (text : List ℕ) (d : DraftValue) : Type 0 where
   pub within : IsWithin (length text) d.said

@@ -1,8 +1,8 @@
 -- Which text is which scenario: its lines are read one after another, and the first bad one is refused. (This project's
 -- own format.)
-use Rattle.std.specs.Prelude.{ℕ, ◌≡◌, ◌+◌, Bool, true, List, [], ◌∷◌, Result, Ok, Err, if◌then◌else◌}
+use Rattle.std.specs.Prelude.{ℕ, ◌≡◌, ◌+◌, List, [], ◌∷◌, Result, Ok, Err, if◌then◌else◌}
 use Rattle.scenario.specs.declared.reason.Reason.{Reason}
-use Rattle.scenario.specs.declared.reason.Reason.TheVariants.{Empty, NotBuilt}
+use Rattle.scenario.specs.declared.reason.Reason.TheVariants.{Empty}
 use Rattle.scenario.specs.declared.refused.Refused.{Refused}
 use Rattle.scenario.specs.declared.refused.Refused.TheVariants.{Line, OutOfMemory}
 use Rattle.scenario.specs.declared.text_line.TextLine.{TextLine}
@@ -10,7 +10,6 @@ use Rattle.scenario.specs.Plan.{Plan}
 use Rattle.scenario.specs.Lines.{lines_in}
 use Rattle.scenario.specs.SoFar.{SoFar, Saying, nothing, after, plan_in}
 use Rattle.scenario.specs.Entries.{saying_of}
-use Rattle.scenario.specs.Built.{is_next_built}
 
 -- what a text is: a scenario, or its first bad line with the first check that this does not pass
 pub data Reading : Type 0 where
@@ -26,24 +25,13 @@ abbrev pub goes_on : ℕ → (Saying → Reading) → Result Saying Reason → R
 goes_on number more (Ok saying) = more saying
 goes_on number more (Err reason) = IsBad number reason
 
--- the last check of a line: that it is run
-abbrev pub run_only : (Saying → Bool) → Result Saying Reason → Result Saying Reason
-run_only is_run (Ok saying) = if is_run saying then Ok saying else Err NotBuilt
-run_only is_run (Err reason) = Err reason
+-- what these lines make of a text whose lines before number `number` say d
+abbrev pub read_from : List ℕ → ℕ → SoFar → List TextLine → Reading
+read_from text number d [] = whole text number d
+read_from text number d (line ∷ lines) = goes_on number (λ saying. read_from text (number + 1) (after d saying) lines) (saying_of text d number line)
 
--- what these lines make of a text whose lines before number `number` say d, where these sayings alone are run
-abbrev pub read_from : (SoFar → Saying → Bool) → List ℕ → ℕ → SoFar → List TextLine → Reading
-read_from is_run text number d [] = whole text number d
-read_from is_run text number d (line ∷ lines) =
-    goes_on number (λ saying. read_from is_run text (number + 1) (after d saying) lines) (run_only (is_run d) (saying_of text d number line))
-
--- the whole language, whatever is run of it
-unfoldable pub language_of : List ℕ → Reading
-language_of text = read_from (λ d saying. true) text 1 nothing (lines_in text)
-
--- the language as far as it is run
 unfoldable pub reading_of : List ℕ → Reading
-reading_of text = read_from is_next_built text 1 nothing (lines_in text)
+reading_of text = read_from text 1 nothing (lines_in text)
 
 -- why a text of this reading was refused
 abbrev pub IsRefused : Reading → Refused → Type 0

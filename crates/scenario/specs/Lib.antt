@@ -1,7 +1,6 @@
 pub mod Plan
 pub mod Calls
 pub mod Bounds
-pub mod Built
 pub mod Keys
 pub mod Rows
 pub mod Views

@@ -1,5 +1,5 @@
--- The names of a scenario that was read: each is a name by the grammar, and no two writers and no two lanes have the same. The
--- lines of lanes are numbered by the lines of the text. (This project's own format.)
+-- The names of a scenario that was read: each is a name by the grammar, and no two volumes, no two writers and no two lanes have the
+-- same. The lines of lanes are numbered by the lines of the text. (This project's own format.)
 use Rattle.std.specs.Prelude.{ℕ, ◌≡◌, ◌<◌, ◌+◌, true, false, List, [], ◌∷◌, length, map}
 use Rattle.std.specs.Str.{bytes_eq}
 use Rattle.scenario.specs.declared.span.Span.{Span}
@@ -44,6 +44,7 @@ pub record HasNames (s : Plan) : Type 0 where
   pub volumes : AllNamed s.source (volume_spans s.volumes)
   pub writers : AllNamed s.source (writer_spans s.writers)
   pub lanes : AllNamed s.source (lane_spans s.lanes)
+  pub volumes_apart : Distinct s.source (volume_spans s.volumes)
   pub writers_apart : Distinct s.source (writer_spans s.writers)
   pub lanes_apart : Distinct s.source (lane_spans s.lanes)
   -- a text has at most one line more than bytes, and lines are counted from 1

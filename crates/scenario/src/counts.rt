@@ -1,7 +1,6 @@
-ghost use Rattle.std.specs.Prelude.{◌≡◌, ◌<◌, ◌+◌, ◌||◌, true};
-ghost use Rattle.scenario.specs.Bounds.{is_begin, begins_agenda};
+ghost use Rattle.std.specs.Prelude.{◌≡◌, ◌<◌, ◌+◌, true};
+ghost use Rattle.scenario.specs.Bounds.{begins_agenda};
 
-use crate::closing::is_begin;
 use crate::op::Op;
 
 /// How many there are so far of what is limited.
@@ -13,8 +12,6 @@ pub(crate) struct Counts {
     pub agenda_lines: usize,
     /// The `answer` lines.
     pub answers: usize,
-    /// Whether one of the last lane's lines is a `begin`.
-    pub begun: bool,
 }
 
 pub(crate) fn begins_agenda(op: Op) -> bool
@@ -33,7 +30,7 @@ impl Counts {
     pub(crate) fn with_line(self, op: Op) -> Counts
         requires lines { self.lines < 100000 }
         requires agendas { begins_agenda op ≡ true → self.agenda_lines < 2000 }
-        ensures { result ≡ record self { lines = self.lines + 1; agenda_lines = agendas_with self.agenda_lines op; begun = self.begun || is_begin op } }
+        ensures { result ≡ record self { lines = self.lines + 1; agenda_lines = agendas_with self.agenda_lines op } }
     {
         let agenda_lines = if begins_agenda(op) {
             self.agenda_lines + 1
@@ -44,7 +41,6 @@ impl Counts {
             lines: self.lines + 1,
             agenda_lines,
             answers: self.answers,
-            begun: self.begun || is_begin(op),
         }
     }
 }

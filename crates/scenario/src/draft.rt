@@ -90,7 +90,6 @@ impl Draft {
                 lines: 0,
                 agenda_lines: 0,
                 answers: 0,
-                begun: false,
             },
         }
     }
@@ -324,7 +323,6 @@ impl Draft {
             acts_as: whom,
             lines: Vec::new(alloc),
         })?;
-        self.counts.begun = false;
         Ok(())
     }
 

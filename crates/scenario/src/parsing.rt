@@ -2,11 +2,10 @@ ghost use Rattle.std.specs.Prelude.{◌≡◌, ◌<◌, ◌+◌, ◌∷◌, List
 ghost use Rattle.scenario.specs.declared.text_line.TextLine.{TextLine as Line};
 ghost use Rattle.scenario.specs.Fields.{IsPart};
 ghost use Rattle.scenario.specs.SoFar.{plan_in};
-ghost use Rattle.scenario.specs.Built.{is_next_built, IsBuiltSoFar};
 ghost use Rattle.scenario.specs.Drafts.{IsDraft};
+ghost use Rattle.scenario.specs.Named.{HasNames};
 ghost use Rattle.scenario.specs.Grammar.{reading_of, read_from, IsScenario, IsRefusal, IsRefused};
 
-use crate::built::is_next_built;
 use crate::draft::Draft;
 use crate::entries::entry_of;
 use crate::reason::Reason;
@@ -28,14 +27,12 @@ fn take_in(
     requires short { length text.now < 4294967295 }
     requires part { IsPart (length text.now) line.span }
     requires draft { IsDraft text.now draft.old }
-    requires built { IsBuiltSoFar draft.old.said }
     ensures on { OnOk result ((rest : List Line) →
-        read_from is_next_built text.now number draft.old.said (line ∷ rest)
-        ≡ read_from is_next_built text.now (number + 1) draft.new.said rest) }
+        read_from text.now number draft.old.said (line ∷ rest)
+        ≡ read_from text.now (number + 1) draft.new.said rest) }
     ensures kept { OnOk result (IsDraft text.now draft.new) }
-    ensures built { OnOk result (IsBuiltSoFar draft.new.said) }
     ensures refused { IfErr result (λ refused. (rest : List Line) →
-        IsRefused (read_from is_next_built text.now number draft.old.said (line ∷ rest)) refused) }
+        IsRefused (read_from text.now number draft.old.said (line ∷ rest)) refused) }
 {
     let entry = match entry_of(alloc, text, draft, number, line) {
         Ok(entry) => entry,
@@ -47,12 +44,6 @@ fn take_in(
         }
         Err(Unread::OutOfMemory) => return Err(Refused::OutOfMemory),
     };
-    if !is_next_built(draft, &entry) {
-        return Err(Refused::Line {
-            line: number,
-            reason: Reason::NotBuilt,
-        });
-    }
     match draft.add(alloc, text, entry) {
         Ok(()) => Ok(()),
         Err(_) => Err(Refused::OutOfMemory),
@@ -65,7 +56,6 @@ fn read(alloc: Global, text: &[u8]) -> Result<Draft, Refused>
     requires { length text.now < 4294967295 }
     ensures read { IfOk result (λ draft. reading_of text.now ≡ IsScenario (plan_in text.now draft.said)) }
     ensures kept { IfOk result (IsDraft text.now) }
-    ensures built { IfOk result (λ draft. IsBuiltSoFar draft.said) }
     ensures refused { IfErr result (IsRefusal text.now) }
 {
     let mut draft = Draft::new(alloc);
@@ -93,7 +83,7 @@ fn read(alloc: Global, text: &[u8]) -> Result<Draft, Refused>
 fn finish(alloc: Global, text: &[u8], draft: Draft) -> Result<Scenario, OutOfMemory>
     requires short { length text.now < 4294967295 }
     requires draft { IsDraft text.now draft }
-    requires built { IsBuiltSoFar draft.said }
+    requires names { HasNames (plan_in text.now draft.said) }
     ensures { IfOk result (λ scenario. scenario ≡ plan_in text.now draft.said) }
 {
     let source = Text::copy(alloc, text)?;
@@ -102,8 +92,7 @@ fn finish(alloc: Global, text: &[u8], draft: Draft) -> Result<Scenario, OutOfMem
 }
 
 /// Reads a scenario from its text, forward and once. A text is refused at its first bad line, with the first check that
-/// this does not pass. The last check of a line is that its kind, form and values are run: `Reason::NotBuilt`. Memory is
-/// taken for a copy of the text, for all that it declares, the names among it, for each metadata document that is read,
+/// this does not pass. Memory is taken for a copy of the text, for all that it declares, the names among it, for each metadata document that is read,
 /// and for the lines of the lanes.
 pub fn parse(alloc: Global, text: &[u8]) -> Result<Scenario, Refused>
     requires { length text.now < 4294967295 }

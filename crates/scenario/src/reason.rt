@@ -25,8 +25,6 @@ pub enum Reason {
     TooMany,
     /// There is no `scenario` line.
     Empty,
-    /// The line is good, and this program does not run its kind yet.
-    NotBuilt,
 }
 
 impl fmt::Display for Reason {
@@ -45,7 +43,6 @@ impl fmt::Display for Reason {
             Reason::BadDocument => "BadDocument",
             Reason::TooMany => "TooMany",
             Reason::Empty => "Empty",
-            Reason::NotBuilt => "NotBuilt",
         })
     }
 }

@@ -3,7 +3,7 @@ ghost use Rattle.writer_meta.specs.Metadata.{meta_of};
 ghost use Rattle.writer_calls.specs.Script.{scripted_answer};
 ghost use Rattle.scenario.specs.Plan.{token, lines_of, acts_as, script_of};
 ghost use Rattle.scenario.specs.Bounds.{IsPlan, IsSpan};
-ghost use Rattle.scenario.specs.Built.{IsBuilt};
+ghost use Rattle.scenario.specs.Named.{HasNames};
 
 use crate::group_row::GroupRow;
 use crate::lane::Lane;
@@ -32,13 +32,13 @@ impl Model for Scenario {
     ghost use Rattle.scenario.specs.Plan.{Plan};
     ghost use Rattle.scenario.specs.Views.{plan_of};
     ghost use Rattle.scenario.specs.Bounds.{IsPlan};
-    ghost use Rattle.scenario.specs.Built.{IsBuilt};
+    ghost use Rattle.scenario.specs.Named.{HasNames};
 
     ghost Value = { Plan };
 
     ghost view = { plan_of };
 
-    ghost invariant = { λ a. IsPlan (plan_of a) × IsBuilt (plan_of a) };
+    ghost invariant = { λ a. IsPlan (plan_of a) × HasNames (plan_of a) };
 }
 
 impl Scenario {
@@ -47,7 +47,7 @@ impl Scenario {
     /// The scenario of a text, without taking memory.
     pub(crate) fn of(source: Text, parts: Parts) -> Scenario
         requires plan { IsPlan (plan_from source.bytes parts.volumes.items parts.groups.items parts.writers.items parts.lanes.items) }
-        requires built { IsBuilt (plan_from source.bytes parts.volumes.items parts.groups.items parts.writers.items parts.lanes.items) }
+        requires names { HasNames (plan_from source.bytes parts.volumes.items parts.groups.items parts.writers.items parts.lanes.items) }
         ensures { result ≡ plan_from source.bytes parts.volumes.items parts.groups.items parts.writers.items parts.lanes.items }
     {
         Scenario {
@@ -63,7 +63,7 @@ impl Scenario {
     pub fn volumes(&self) -> u32
         ensures count { result ≡ length self.now.volumes }
         ensures plan { IsPlan self.now }
-        ensures built { IsBuilt self.now }
+        ensures names { HasNames self.now }
     {
         self.volumes.len() as u32
     }
@@ -103,6 +103,7 @@ impl Scenario {
     pub fn writers(&self) -> u32
         ensures count { result ≡ length self.now.writers }
         ensures plan { IsPlan self.now }
+        ensures names { HasNames self.now }
     {
         self.writers.len() as u32
     }
@@ -136,7 +137,7 @@ impl Scenario {
     pub fn lanes(&self) -> u32
         ensures count { result ≡ length self.now.lanes }
         ensures plan { IsPlan self.now }
-        ensures built { IsBuilt self.now }
+        ensures names { HasNames self.now }
     {
         self.lanes.len() as u32
     }

@@ -38,7 +38,3 @@ pub mod Ended
 pub mod Late
 pub mod Causes
 pub mod Freed
-pub mod NoWriters
-pub mod OneSet
-pub mod Room
-pub mod EndOrFlush

@@ -17,4 +17,3 @@ pub mod Outcome
 pub mod Turns
 pub mod Headline
 pub mod Causes
-pub mod EndOrFlush

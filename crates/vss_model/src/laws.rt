@@ -22,10 +22,8 @@ ghost use Rattle.vss_model.specs.Facts.{IsNewest, IsOrderly, has_failed, holds_f
 ghost use Rattle.vss_model.specs.Acts.{Act, after, state, order_of_writer, idle_now};
 ghost use Rattle.vss_model.specs.Trail.{run, moved, acts, acts_if, event_of, is_legal, is_legal_move, is_complete, cursor, faults};
 ghost use Rattle.scenario.specs.Bounds.{IsPlan, has_end};
-ghost use Rattle.scenario.specs.Built.{IsBuilt};
 ghost use Rattle.vss_model.specs.GoesOn.{EndsSessions, CanGoOn, most_moves};
 ghost use Rattle.vss_model.specs.Causes.{SetsFailWithCause};
-ghost use Rattle.vss_model.specs.EndOrFlush.{SetsFailByEndOrFlush};
 ghost use Rattle.vss_model.specs.Headline.{KeepsPromises, MakesEachLineOnce};
 ghost use Rattle.vss_model.specs.Turns.{turns_left};
 ghost use Rattle.vss_model.specs.Laws.{IsKeptByChanges, IsKeptByWrites, Passes, RunsSnapshot};
@@ -217,10 +215,4 @@ pub fn complete_trail_ends_each_set()
 /// A set fails only in an act that gives a cause.
 pub fn sets_fail_with_cause()
     ensures { (s : Plan) (acts : List Act) → SetsFailWithCause s acts }
-{}
-
-/// In a legal run of a scenario of the kinds that are run so far, a set fails only by an `end` line or by a device that fails
-/// a flush.
-pub fn sets_fail_by_end_or_flush()
-    ensures { (s : Plan) (trail : List Move) → IsPlan s → IsBuilt s → is_legal s trail ≡ true → SetsFailByEndOrFlush s (acts s trail) }
 {}

@@ -3,7 +3,6 @@ use Rattle.std.proofs.Common.{◌≡◌, ℕ, zero, suc, ◌+◌, List, [], leng
 use Rattle.write_history.specs.declared.move_item.Move.{Move}
 use Rattle.scenario.specs.Plan.{Plan}
 use Rattle.scenario.specs.Bounds.{IsPlan}
-use Rattle.scenario.specs.Built.{IsBuilt}
 use Rattle.vss_report.specs.Report.{first_line, IsReportSoFar}
 use Rattle.vss_report.proofs.LinesGrow.{so_far_none}
 use Rattle.vss_world.specs.Devices.{tells_of}
@@ -19,13 +18,12 @@ length_replicate zero x = refl
 length_replicate (suc n) x = ap suc (length_replicate n x)
 
 pub play_fresh : {D : Type 0} (told : D → Option (List (List ℕ))) (count : D → ℕ) (s : Plan) (w : WorldValue D) (cursors : List ℕ) (moves : List Move) (text : List ℕ) (lanes : ℕ)
-    → IsPlan s → IsBuilt s → Stands told w s [] → IsOf w s → lanes ≡ length s.lanes → cursors ≡ replicate {A = ℕ} lanes 0 → moves ≡ [] → text ≡ first_line → IsPlay told count s w cursors moves text
-play_fresh told count s w cursors moves text lanes plan built stands of many first none line =
+    → IsPlan s → Stands told w s [] → IsOf w s → lanes ≡ length s.lanes → cursors ≡ replicate {A = ℕ} lanes 0 → moves ≡ [] → text ≡ first_line → IsPlay told count s w cursors moves text
+play_fresh told count s w cursors moves text lanes plan stands of many first none line =
     subst (λ (ms : List Move). IsPlay told count s w cursors ms text) (sym none)
     (subst (λ (cs : List ℕ). IsPlay told count s w cs [] text) (sym first)
     (record {
       plan = plan;
-      built = built;
       legal = refl;
       stands = stands;
       of = of;

@@ -1,5 +1,4 @@
 use Rattle.scenario.proofs.Whole.{plan_is}
-use Rattle.scenario.proofs.StillBuilt.{built_is}
 use Rattle.scenario.proofs.parsing.finish.Goals as goal
 
 pub of-requires-clause-plan : goal.of-requires-clause-plan
@@ -7,7 +6,7 @@ of-requires-clause-plan c =
     rw (c.in_ok-source.ensures, c.in_ok-parts.ensures.volumes, c.in_ok-parts.ensures.groups, c.in_ok-parts.ensures.writers, c.in_ok-parts.ensures.lanes)
     (plan_is c.args.text.now c.args.draft.said c.requires.short c.requires.draft.within)
 
-pub of-requires-clause-built : goal.of-requires-clause-built
-of-requires-clause-built c =
+pub of-requires-clause-names : goal.of-requires-clause-names
+of-requires-clause-names c =
     rw (c.in_ok-source.ensures, c.in_ok-parts.ensures.volumes, c.in_ok-parts.ensures.groups, c.in_ok-parts.ensures.writers, c.in_ok-parts.ensures.lanes)
-    (built_is c.args.text.now c.args.draft.said c.requires.built)
+    c.requires.names

@@ -3,7 +3,6 @@ use Rattle.std.proofs.lemmas.Bool.Decides.{nat_tests}
 use Rattle.std.proofs.lemmas.List.{drop_all}
 use Rattle.scenario.specs.declared.text_line.TextLine.{TextLine}
 use Rattle.scenario.specs.Lines.{lines_at}
-use Rattle.scenario.specs.Built.{is_next_built}
 use Rattle.scenario.specs.Grammar.{read_from}
 use Rattle.scenario.proofs.parsing.read.Goals as goal
 
@@ -19,5 +18,5 @@ no_lines text at past =
 pub returns-then-not-is_opened-clause-refused : goal.returns-then-not-is_opened-clause-refused
 returns-then-not-is_opened-clause-refused c =
     c.lines.invariant.0
-    ∙ ap (λ (ls : List TextLine). read_from is_next_built c.args.text.now c.lines.number c.lines.draft.said ls) (no_lines c.args.text.now c.lines.at c.lines-test.false)
+    ∙ ap (λ (ls : List TextLine). read_from c.args.text.now c.lines.number c.lines.draft.said ls) (no_lines c.args.text.now c.lines.at c.lines-test.false)
     ∙ rw (sym c.is_opened.ensures, c.if-not-is_opened.true) refl

@@ -1,6 +1,5 @@
 use Rattle.std.proofs.Common.{◌≡◌, ◌≤◌, ◌-◌, ◌+◌, length}
 use Rattle.scenario.specs.Lines.{lines_at}
-use Rattle.scenario.specs.Built.{is_next_built, IsBuiltSoFar}
 use Rattle.scenario.specs.Drafts.{IsDraft}
 use Rattle.scenario.specs.Grammar.{reading_of, read_from}
 use Rattle.scenario.proofs.parsing.read.Given as goal
@@ -8,7 +7,7 @@ use Rattle.scenario.proofs.parsing.read.Given as goal
 -- the lines that are left go on with what was said so far
 abbrev pub invariant-lines : goal.invariant-lines
 invariant-lines l =
-    (reading_of l.text ≡ read_from is_next_built l.text l.number l.draft.said (lines_at l.text l.at)) × IsDraft l.text l.draft × IsBuiltSoFar l.draft.said × (l.number ≤ l.at + 1) × (l.at ≤ length l.text + 1)
+    (reading_of l.text ≡ read_from l.text l.number l.draft.said (lines_at l.text l.at)) × IsDraft l.text l.draft × (l.number ≤ l.at + 1) × (l.at ≤ length l.text + 1)
 
 abbrev pub decreases-lines : goal.decreases-lines
 decreases-lines l = length l.text - l.at

@@ -1,12 +1,6 @@
 use Rattle.std.proofs.Common.{length, sym, ◌∙◌}
 use Rattle.scenario.proofs.Kept.{kept}
-use Rattle.scenario.proofs.StillBuilt.{built_after}
 use Rattle.scenario.proofs.parsing.take_in.Goals as goal
 
 pub returns-in-Ok-add-clause-kept : goal.returns-in-Ok-add-clause-kept
 returns-in-Ok-add-clause-kept c = rw c.in-Ok-add.ensures (kept c.args.text.now c.args.draft.now c.in-Ok.entry c.requires.draft c.in-Ok.ensures.kept)
-
-pub returns-in-Ok-add-clause-built : goal.returns-in-Ok-add-clause-built
-returns-in-Ok-add-clause-built c =
-    rw c.in-Ok-add.ensures
-    (built_after (length c.args.text.now) c.args.text.now c.args.draft.now c.in-Ok.entry c.requires.built c.requires.draft.within c.in-Ok.ensures.kept (sym c.is_next_built.ensures ∙ c.if-not-is_next_built.false))
