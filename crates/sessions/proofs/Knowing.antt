@@ -1,12 +1,11 @@
 -- Whom the session knows, and what it takes: from what is kept, as the definitions say.
-use Rattle.std.proofs.Common.{◌≡◌, ℕ, zero, suc, ◌+◌, ◌<◌, ◌≤◌, ◌==◌, List, [], ◌∷◌, ◌++◌, drop, length, refl, ap, sym, ◌∙◌, subst, arith, append_assoc, add-one, Bool, true, false, Option, Some, None, map, slice_get}
-use Rattle.std.specs.Prelude.{All, filter, nat_le, is_some, not, ◌&&◌, ◌||◌, if◌then◌else◌, Result, Ok, Err, OnOk, OnErr, IfErr}
+use Rattle.std.proofs.Common.{◌≡◌, ℕ, zero, suc, ◌+◌, ◌<◌, ◌≤◌, ◌==◌, List, [], ◌∷◌, ◌++◌, drop, length, refl, ap, sym, ◌∙◌, subst, arith, append_assoc, add-one, Bool, true, false, Option, Some, None, slice_get}
+use Rattle.std.specs.Prelude.{All, filter, nat_le, is_some, option_map, not, ◌&&◌, ◌||◌, if◌then◌else◌, Result, Ok, Err, OnOk, OnErr, IfErr}
 use Rattle.std.specs.List.{list_all, list_any, range_with_len}
 use Rattle.std.proofs.lemmas.Bool.Decides.{nat_tests}
 use Rattle.vss_names.specs.declared.vss_result.VssResult.TheVariants.{BadState, ObjectNotFound, ObjectAlreadyExists}
 use Rattle.block_data.specs.Digest.{sha256}
 use Rattle.write_history.specs.declared.mark.Mark.TheVariants.{Clean}
-use Rattle.writer_meta.specs.declared.metadata.Metadata.{Metadata}
 use Rattle.scenario.specs.declared.span.Span.{Span}
 use Rattle.component_doc.specs.declared.add_fault.AddFault.{AddFault}
 use Rattle.component_doc.specs.declared.add_fault.AddFault.TheVariants as fault
@@ -17,7 +16,7 @@ use Rattle.vss_model.specs.Reply.{Reply, Fine, Coded, NotSelectable, DocumentOf}
 use Rattle.vss_model.specs.Outcome.{HasLists}
 use Rattle.vss_model.specs.Told.{Fits, mark_of}
 use Rattle.writer_state.specs.declared.writer_row.WriterRow.{WriterRow}
-use Rattle.writer_meta.specs.Metadata.{Meta, meta_of}
+use Rattle.writer_meta.specs.Metadata.{Meta}
 use Rattle.writer_meta.specs.Allowed.{IsAllowed}
 use Rattle.set_agenda.specs.declared.kind.Kind.TheVariants as kind
 use Rattle.set_agenda.specs.Course.{prepared}
@@ -40,7 +39,7 @@ use Rattle.vss_model.specs.State.{State, in_progress}
 use Rattle.vss_model.specs.Ending.{runs}
 use Rattle.vss_model.specs.Sessions.{line_in, component_in, named_as, is_disabled, has_failed_identify, is_identify_failure, is_known, meta_if, known_from, known_metas, selected, selected_in, has_no_volume, volumes_of}
 use Rattle.sessions.specs.declared.session_move.SessionMove.{SessionMove}
-use Rattle.sessions.specs.Keeps.{SessionsValue, Keeps, IsInOrder, IsOf, IsAt, metas_in}
+use Rattle.sessions.specs.Keeps.{SessionsValue, Keeps, IsInOrder, IsOf, IsAt}
 use Rattle.sessions.specs.Told.{told_alone, told_named}
 use Rattle.sessions.specs.Moves.{ComesTo, HasBegun, IsDocumentIn, is_all, takes_all_of}
 use Rattle.sessions.proofs.Lines.{alone, owners, line_of, refuses}
@@ -62,12 +61,12 @@ record IsNext (ps : List WriterPlan) (w : ℕ) (m : Meta) : Type 0 where
   is : drop w ps ≡ writer ∷ drop (suc w) ps
   meta : writer.meta ≡ m
 
-next_at : (ps : List WriterPlan) (w : ℕ) (m : Meta) → slice_get (map (λ (p : WriterPlan). p.meta) ps) w ≡ Some m → IsNext ps w m
+next_at : (ps : List WriterPlan) (w : ℕ) (m : Meta) → option_map (λ (p : WriterPlan). p.meta) (slice_get ps w) ≡ Some m → IsNext ps w m
 next_at [] w m e = cc
 next_at (p ∷ ps) zero m e = record { writer = p; is = refl; meta = cc }
 next_at (p ∷ ps) (suc w) m e = let h = next_at ps w m e in record { writer = h.writer; is = h.is; meta = h.meta }
 
-pub known_step : (s : Plan) (st : State) (w : ℕ) (xs ys total : List (Option Meta)) (b : Bool) (m : Meta) → b ≡ is_known s st w → slice_get (metas_in s) w ≡ Some m
+pub known_step : (s : Plan) (st : State) (w : ℕ) (xs ys total : List (Option Meta)) (b : Bool) (m : Meta) → b ≡ is_known s st w → option_map (λ (p : WriterPlan). p.meta) (slice_get s.writers w) ≡ Some m
     → xs ++ known_from s st w (drop w s.writers) ≡ total → ys ≡ xs ++ meta_if b m ∷ [] → ys ++ known_from s st (w + 1) (drop (w + 1) s.writers) ≡ total
 known_step s st w xs ys total b m knows at so_far is =
     let h = next_at s.writers w m at in
@@ -203,18 +202,6 @@ few_if false m ms h rest = rest
 pub known_few : (s : Plan) (st : State) (k : ℕ) (ps : List WriterPlan) → All (IsWriter s) ps → all_have_few (known_from s st k ps) ≡ true
 known_few s st k [] h = refl
 known_few s st k (p ∷ ps) h = few_if (is_known s st k) p.meta (known_from s st (k + 1) ps) (h 0 p (omega arith)).allowed (known_few s st (k + 1) ps (λ i d l. h (suc i) d (omega (arith, l))))
-
-metadata_length : (ms : List Metadata) → length (map meta_of ms) ≡ length ms
-metadata_length [] = refl
-metadata_length (m ∷ ms) = ap (λ n. suc n) (metadata_length ms)
-
-writers_length : (ps : List WriterPlan) → length (map (λ (p : WriterPlan). p.meta) ps) ≡ length ps
-writers_length [] = refl
-writers_length (p ∷ ps) = ap (λ n. suc n) (writers_length ps)
-
--- there are as many metadata as writers
-pub metadata_count : (ms : List Metadata) (s : Plan) (n : ℕ) → map meta_of ms ≡ metas_in s → n ≡ length s.writers → length ms ≡ n
-metadata_count ms s n e f = sym (metadata_length ms) ∙ ap length e ∙ writers_length s.writers ∙ sym f
 
 -- ## component
 

@@ -2,7 +2,6 @@
 -- own.)
 use Rattle.std.specs.Prelude.{ℕ, ◌≡◌, ◌<◌, ◌≤◌, ◌^◌, ◌-◌, ◌+◌, List, length, map, All, []}
 use Rattle.requestor.specs.Requestor.{Sessions as Requestor}
-use Rattle.writer_meta.specs.Metadata.{Meta}
 use Rattle.component_doc.specs.Held.{Held}
 use Rattle.component_doc.specs.Selection.{Named}
 use Rattle.component_doc.specs.Over.{IsSelectedOver}
@@ -96,9 +95,3 @@ pub record Leaves (old new : SessionsValue) : Type 0 where
   pub count : writer_count new.coordinator ≡ writer_count old.coordinator
   pub posts : new.coordinator.posts ≤ old.coordinator.posts + 1
   pub sets : length new.sets ≤ length old.sets + 1
-
--- ## metadata
-
--- these are the metadata of the scenario's writers, in order
-abbrev pub metas_in : Plan → List Meta
-metas_in s = map (λ (w : WriterPlan). w.meta) s.writers

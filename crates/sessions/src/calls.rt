@@ -1,11 +1,10 @@
-ghost use Rattle.std.specs.Prelude.{◌≡◌, ℕ, map, true, false, is_some, IfOk, IfSome, IsErr, OnErr};
+ghost use Rattle.std.specs.Prelude.{◌≡◌, ℕ, true, false, is_some, IfOk, IfSome, IsErr, OnErr};
 ghost use Rattle.coordinator.specs.Coordinator.{runs};
 ghost use Rattle.requestor.specs.Check.{check};
-ghost use Rattle.writer_meta.specs.Metadata.{meta_of};
 ghost use Rattle.scenario.specs.Bounds.{IsOp, IsPlan};
 ghost use Rattle.scenario.specs.Calls.{call_of};
 ghost use Rattle.vss_model.specs.declared.event.Event.TheVariants.{Line};
-ghost use Rattle.sessions.specs.Keeps.{IsStandingIn, Leaves, metas_in};
+ghost use Rattle.sessions.specs.Keeps.{IsStandingIn, Leaves};
 ghost use Rattle.sessions.specs.Moves.{IsAtWith, IsCall, IsGoneAs, IsUncut, cuts, takes_memory};
 
 use crate::called::Called;
@@ -16,17 +15,15 @@ use scenario::{Op, Scenario};
 use std::alloc::Global;
 use vss_model::Told;
 use vss_names::{OutOfMemory, VssResult};
-use writer_meta::Metadata;
 
 impl Sessions {
-    /// A session line of a lane. `metadata` are those of the scenario's writers, in order; `images` is how many images
-    /// stand on the volume of an `add`, and counts for no other line. Only `component`, `document`, `start`, `gather`,
-    /// `prepare`, `snapshot` and `complete` may want memory, and then nothing has changed.
+    /// A session line of a lane. `images` is how many images stand on the volume of an `add`, and counts for no other
+    /// line. Only `component`, `document`, `start`, `gather`, `prepare`, `snapshot` and `complete` may want memory, and
+    /// then nothing has changed.
     pub fn call(
         &mut self,
         alloc: Global,
         scenario: &Scenario,
-        metadata: &[Metadata],
         lane: u32,
         op: Op,
         images: u32,
@@ -34,7 +31,6 @@ impl Sessions {
         requires standing { IsStandingIn scenario.now self.old }
         requires is_call { is_some (call_of op) ≡ true }
         requires is_op { IsOp scenario.now op }
-        requires metadata { map meta_of metadata.now ≡ metas_in scenario.now }
         ensures called { IfOk result (IsCall (IsAtWith images op self.old scenario.now) scenario.now self.old self.new (Line lane op)) }
         ensures uncut { IfOk result IsUncut }
         ensures unchanged { OnErr result (self.new ≡ self.old) }
@@ -50,7 +46,7 @@ impl Sessions {
             Verdict::Blocked => Ok(Called::Waits),
             Verdict::Refused(why) => Ok(Called::Moves(SessionMove::alone(Told::Result(why)))),
             Verdict::Go => {
-                let moved = self.go(alloc, scenario, metadata, lane, op, images)?;
+                let moved = self.go(alloc, scenario, lane, op, images)?;
                 Ok(Called::Moves(moved))
             }
         }
@@ -61,7 +57,6 @@ impl Sessions {
         &mut self,
         alloc: Global,
         scenario: &Scenario,
-        metadata: &[Metadata],
         lane: u32,
         op: Op,
         images: u32,
@@ -70,7 +65,6 @@ impl Sessions {
         requires is_call { is_some (call_of op) ≡ true }
         requires is_op { IsOp scenario.now op }
         requires plan { IsPlan scenario.now }
-        requires metadata { map meta_of metadata.now ≡ metas_in scenario.now }
         requires goes { IfSome (call_of op) (λ call. check self.old.requestor.session (runs self.old.coordinator) lane call ≡ Verdict.Go) }
         requires at_rest { IfSome (call_of op) (λ call. check self.old.requestor.session false lane call ≡ Verdict.Go) }
         ensures gone { IfOk result (IsGoneAs scenario.now images self.old self.new lane op) }
@@ -85,12 +79,12 @@ impl Sessions {
             Op::Disable { writer } => Ok(self.disable(lane, writer)),
             Op::Gather => self.gather(alloc, lane),
             Op::Component { writer, full } => {
-                self.component(alloc, scenario, metadata, lane, writer, full)
+                self.component(alloc, scenario, lane, writer, full)
             }
-            Op::Document => self.document(alloc, scenario, metadata, lane),
+            Op::Document => self.document(alloc, scenario, lane),
             Op::Start => self.start(lane),
             Op::Add { volume } => Ok(self.add(lane, volume, images)),
-            Op::Prepare => self.prepare(alloc, scenario, metadata, lane),
+            Op::Prepare => self.prepare(alloc, scenario, lane),
             Op::Snapshot => self.snapshot(alloc, lane),
             Op::Await => Ok(self.await_last(lane)),
             Op::Status => Ok(self.status(lane)),

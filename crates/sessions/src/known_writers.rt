@@ -5,10 +5,11 @@ ghost use Rattle.scenario.specs.Plan.{Plan};
 ghost use Rattle.writer_meta.specs.Metadata.{meta_of};
 ghost use Rattle.vss_model.specs.Sessions.{is_identify_failure, is_known, known_metas, meta_if};
 ghost use Rattle.vss_model.specs.State.{State};
-ghost use Rattle.sessions.specs.Keeps.{IsOf, Keeps, metas_in};
+ghost use Rattle.sessions.specs.Keeps.{IsOf, Keeps};
 
 use crate::sessions::Sessions;
 use component_doc::Metas;
+use scenario::Scenario;
 use std::alloc::Global;
 use vss_names::{OutOfMemory, WriterState};
 use writer_meta::Metadata;
@@ -30,15 +31,15 @@ impl Sessions {
     pub(crate) fn metas<'a>(
         &self,
         alloc: Global,
-        metadata: &'a [Metadata],
+        scenario: &'a Scenario,
     ) -> Result<Metas<'a>, OutOfMemory>
-        requires { length metadata.now ≡ writer_count self.now.coordinator }
-        ensures known { IfOk result (λ metas. (s : Plan) (st : State) → Keeps self.now st → IsOf self.now s → map meta_of metadata.now ≡ metas_in s → metas_of metas ≡ known_metas s st) }
-        ensures count { IfOk result (λ metas. length metas ≡ length metadata.now) }
+        requires { IsOf self.now scenario.now }
+        ensures known { IfOk result (λ metas. (st : State) → Keeps self.now st → metas_of metas ≡ known_metas scenario.now st) }
+        ensures count { IfOk result (λ metas. length metas ≡ length scenario.now.writers) }
     {
         let mut known = Vec::new(alloc);
-        for writer in 0..self.coordinator.writers() {
-            push_if(&mut known, self.knows(writer), &metadata[writer as usize])?;
+        for writer in 0..scenario.writers() {
+            push_if(&mut known, self.knows(writer), scenario.metadata(writer))?;
         }
         Ok(Metas::of(known))
     }

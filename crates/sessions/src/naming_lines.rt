@@ -1,10 +1,9 @@
-ghost use Rattle.std.specs.Prelude.{◌≡◌, ◌<◌, ◌^◌, false, map, length, Some, None, IfOk, OnErr};
+ghost use Rattle.std.specs.Prelude.{◌≡◌, ◌<◌, ◌^◌, false, length, Some, None, IfOk, OnErr};
 ghost use Rattle.coordinator.specs.Coordinator.{runs, writer_count};
 ghost use Rattle.requestor.specs.Check.{check};
 ghost use Rattle.scenario.specs.Bounds.{IsPlan, IsSpan};
 ghost use Rattle.scenario.specs.declared.op.Op.TheVariants as op;
-ghost use Rattle.writer_meta.specs.Metadata.{meta_of};
-ghost use Rattle.sessions.specs.Keeps.{IsStandingIn, Leaves, metas_in};
+ghost use Rattle.sessions.specs.Keeps.{IsStandingIn, Leaves};
 ghost use Rattle.block_data.specs.Digest.{sha256};
 ghost use Rattle.sessions.specs.Moves.{IsDocumentIn, IsGoneIn, cuts, takes_all_of};
 ghost use Rattle.sessions.specs.Told.{told_named};
@@ -19,7 +18,6 @@ use set_agenda::Kind;
 use std::alloc::Global;
 use vss_model::Told;
 use vss_names::{OutOfMemory, Text, VssResult};
-use writer_meta::Metadata;
 
 impl Sessions {
     /// The participants are fixed, and asked to prepare.
@@ -27,12 +25,10 @@ impl Sessions {
         &mut self,
         alloc: Global,
         scenario: &Scenario,
-        metadata: &[Metadata],
         lane: u32,
     ) -> Result<SessionMove, OutOfMemory>
         requires standing { IsStandingIn scenario.now self.old }
         requires plan { IsPlan scenario.now }
-        requires metadata { map meta_of metadata.now ≡ metas_in scenario.now }
         requires goes { check self.old.requestor.session (runs self.old.coordinator) lane SessionCall.Prepare ≡ Verdict.Go }
         ensures gone { IfOk result (IsGoneIn scenario.now self.old self.new lane op.Prepare) }
         ensures uncut { IfOk result (λ moved. cuts moved.change ≡ false) }
@@ -40,7 +36,6 @@ impl Sessions {
         ensures leaves { Leaves self.old self.new }
         ensures clock { self.new.clock ≡ self.old.clock }
     {
-        let _scenario = scenario;
         let _lane = lane;
         if self.volumes().is_empty() {
             return Ok(SessionMove::alone(Told::Result(VssResult::BadState)));
@@ -48,7 +43,7 @@ impl Sessions {
         if !self.takes_all() {
             return self.begin_agenda(alloc, Kind::Prepare);
         }
-        let metas = self.metas(alloc, metadata)?;
+        let metas = self.metas(alloc, scenario)?;
         let selection = Selection::all(alloc, &metas)?;
         self.begin_agenda_over(alloc, Kind::Prepare, &selection)
     }
@@ -68,14 +63,12 @@ impl Sessions {
         &mut self,
         alloc: Global,
         scenario: &Scenario,
-        metadata: &[Metadata],
         lane: u32,
         writer: u32,
         full: Span,
     ) -> Result<SessionMove, OutOfMemory>
         requires standing { IsStandingIn scenario.now self.old }
         requires plan { IsPlan scenario.now }
-        requires metadata { map meta_of metadata.now ≡ metas_in scenario.now }
         requires span { IsSpan scenario.now full }
         requires goes { check self.old.requestor.session (runs self.old.coordinator) lane SessionCall.Component ≡ Verdict.Go }
         ensures gone { IfOk result (IsGoneIn scenario.now self.old self.new lane (op.Component writer full)) }
@@ -88,7 +81,7 @@ impl Sessions {
         if self.takes_all() {
             return Ok(SessionMove::alone(Told::Result(VssResult::BadState)));
         }
-        let metas = self.metas(alloc, metadata)?;
+        let metas = self.metas(alloc, scenario)?;
         let name = scenario.token(full);
         let added = self.selection.add(alloc, &metas, writer, name);
         Ok(SessionMove::alone(told_of_naming(added)?))
@@ -99,12 +92,10 @@ impl Sessions {
         &mut self,
         alloc: Global,
         scenario: &Scenario,
-        metadata: &[Metadata],
         lane: u32,
     ) -> Result<SessionMove, OutOfMemory>
         requires standing { IsStandingIn scenario.now self.old }
         requires plan { IsPlan scenario.now }
-        requires metadata { map meta_of metadata.now ≡ metas_in scenario.now }
         requires goes { check self.old.requestor.session (runs self.old.coordinator) lane SessionCall.Document ≡ Verdict.Go }
         ensures gone { IfOk result (IsGoneIn scenario.now self.old self.new lane op.Document) }
         ensures uncut { IfOk result (λ moved. cuts moved.change ≡ false) }
@@ -112,7 +103,7 @@ impl Sessions {
         ensures leaves { Leaves self.old self.new }
         ensures clock { self.new.clock ≡ self.old.clock }
     {
-        let text = self.document_text(alloc, scenario, metadata, lane)?;
+        let text = self.document_text(alloc, scenario, lane)?;
         Ok(SessionMove::alone(told_of(&text)?))
     }
 
@@ -121,22 +112,19 @@ impl Sessions {
         &self,
         alloc: Global,
         scenario: &Scenario,
-        metadata: &[Metadata],
         lane: u32,
     ) -> Result<Text, OutOfMemory>
         requires standing { IsStandingIn scenario.now self.now }
         requires plan { IsPlan scenario.now }
-        requires metadata { map meta_of metadata.now ≡ metas_in scenario.now }
         requires goes { check self.now.requestor.session (runs self.now.coordinator) lane SessionCall.Document ≡ Verdict.Go }
         ensures { IfOk result (λ text. IsDocumentIn scenario.now self.now text.bytes) }
     {
-        let _scenario = scenario;
         let _lane = lane;
         let Some(context) = self.requestor.context() else {
             // the checks let no document be asked for without a session
             return Err(OutOfMemory);
         };
-        let metas = self.metas(alloc, metadata)?;
+        let metas = self.metas(alloc, scenario)?;
         if self.takes_all() {
             let selection = Selection::all(alloc, &metas)?;
             return selection.to_json(alloc, &metas, context);

@@ -38,7 +38,7 @@ impl<D: Device> World<D> {
     {
         let _facts = scenario.volumes();
         let images = images_for(&self.provider, scenario, op);
-        match self.sessions.call(alloc, scenario, &[], lane, op, images)? {
+        match self.sessions.call(alloc, scenario, lane, op, images)? {
             Called::Waits => Ok(Reply::Blocked),
             Called::Moves(item) => {
                 drop_images(&mut self.provider, item.change);

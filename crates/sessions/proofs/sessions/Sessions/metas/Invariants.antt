@@ -1,16 +1,14 @@
 use Rattle.std.proofs.Common.{◌≡◌, ◌++◌, drop, map, length}
 use Rattle.std.specs.Prelude.{option_map}
 use Rattle.component_doc.specs.Held.{metas_of}
-use Rattle.scenario.specs.Plan.{Plan}
-use Rattle.writer_meta.specs.Metadata.{meta_of}
 use Rattle.vss_model.specs.State.{State}
 use Rattle.vss_model.specs.Sessions.{known_from, known_metas}
-use Rattle.sessions.specs.Keeps.{Keeps, IsOf, metas_in}
+use Rattle.sessions.specs.Keeps.{Keeps}
 use Rattle.sessions.proofs.sessions.Sessions.metas.Given as goal
 
 -- the metadata that are known of the writers so far, and then those of the others
 abbrev pub invariant-loop-writer : goal.invariant-loop-writer
 invariant-loop-writer l = record {
-  known : (s : Plan) (st : State) → Keeps l.self st → IsOf l.self s → map meta_of l.metadata ≡ metas_in s → metas_of (map (option_map (λ found. found.now)) l.known.items) ++ known_from s st l.writer (drop l.writer s.writers) ≡ known_metas s st;
+  known : (st : State) → Keeps l.self st → metas_of (map (option_map (λ found. found.now)) l.known.items) ++ known_from l.scenario st l.writer (drop l.writer l.scenario.writers) ≡ known_metas l.scenario st;
   count : length l.known.items ≡ l.writer;
 }

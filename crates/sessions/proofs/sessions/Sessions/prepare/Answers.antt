@@ -9,7 +9,7 @@ use Rattle.vss_model.specs.State.{in_progress}
 use Rattle.vss_model.specs.Sessions.{known_metas}
 use Rattle.sessions.specs.Moves.{HasBegun, IsGoneIn}
 use Rattle.sessions.proofs.AgendaLines.{then_ok, volume_test}
-use Rattle.sessions.proofs.Knowing.{prepares, prepares_not, takes_named, takes_known, mode_at, metadata_count}
+use Rattle.sessions.proofs.Knowing.{prepares, prepares_not, takes_named, takes_known, mode_at}
 use Rattle.sessions.proofs.sessions.Sessions.prepare.Goals as goal
 
 pub returns-then-is_empty-clause-gone : goal.returns-then-is_empty-clause-gone
@@ -29,10 +29,10 @@ pub returns-clause-gone : goal.returns-clause-gone
 returns-clause-gone c =
     then_ok c.begin_agenda_over.result (HasBegun kind.Prepare c.in_ok-selection.selection c.args.self.now c.begin_agenda_over.new.self) (IsGoneIn c.args.scenario.now c.args.self.now c.begin_agenda_over.new.self c.args.lane op.Prepare)
     (λ m has st at.
-    let known = c.in_ok-metas.ensures.known c.args.scenario.now st at.keeps at.of c.requires.metadata in
+    let known = c.in_ok-metas.ensures.known st at.keeps in
     prepares c.args.scenario.now c.args.lane c.args.self.now c.begin_agenda_over.new.self c.in_ok-selection.selection (all_of (known_metas c.args.scenario.now st)) st m (sym (checked_same c.args.self.now st c.args.lane call.Prepare at.keeps) ∙ c.requires.goes) at
     (sym (volume_test (in_progress st) c.volumes.result.now (c.volumes.ensures.volumes st at.keeps)) ∙ sym c.is_empty.ensures ∙ c.if-is_empty.false)
-    (ap (λ (h : Held). h.writers) c.in_ok-selection.ensures ∙ c.in_ok-metas.ensures.count ∙ metadata_count c.args.metadata.now c.args.scenario.now _ c.requires.metadata at.of.count)
+    (ap (λ (h : Held). h.writers) c.in_ok-selection.ensures ∙ c.in_ok-metas.ensures.count ∙ sym at.of.count)
     (ap (λ (h : Held). h.selected) c.in_ok-selection.ensures ∙ ap all_of known) refl
     (λ q is. takes_known q.mode c.args.scenario.now st (mode_at c.args.self.now st q c.takes_all.result true at.keeps is c.takes_all.ensures c.if-not-takes_all.false)) has)
     c.begin_agenda_over.ensures.begun
