@@ -49,16 +49,6 @@ has_groups told s groups plan new whole = record {
 pub no_groups_more : {D : Type 0} (told : D → Option (List (List ℕ))) (s : Plan) (groups : List (GroupValue D)) (count : ℕ) → count ≡ length s.groups → count < 4294967296 → AreNew told s groups → length groups < 4294967296
 no_groups_more told s groups count is few new = let number = new.number in omega (arith, is, few, number)
 
--- without writers the course begins without rows
-pub first_course : (s : Plan) (k : CoordinatorState) → s.writers ≡ [] → IsOfCourse k (course_start []) → IsOfCourse k (start s).course
-first_course s k none is = subst (λ (ws : List WriterPlan). IsOfCourse k (course_start (map row_of_writer ws))) (sym none) is
-
-pub first_writers : (s : Plan) (x : SessionsValue) (k : CoordinatorState) → s.writers ≡ [] → x.coordinator ≡ k → k.writers ≡ [] → writer_count k ≡ 0 → IsSessionsOf x s
-first_writers s x k none same nobody count = record {
-  classes = ap (λ (z : CoordinatorState). classes_registered z.writers) same ∙ ap classes_registered nobody ∙ ap classes_of (sym none);
-  count = ap writer_count same ∙ count ∙ ap length (sym none);
-}
-
 pub made_of : {D : Type 0} (told : D → Option (List (List ℕ))) (s : Plan) (groups : List (GroupValue D)) (p : ProviderValue D) (x : SessionsValue) (g : Flags) (l : List ℕ) (e : List Evicted) → IsPlan s → AreNew told s groups
     → p ≡ record { groups = groups; set = 0; volumes = [] } → AreWhole p.groups → AreBegun s x g → IsOf (world_of p x g l e) s
 made_of {D = D} told s groups p x g l e plan new is whole begun =

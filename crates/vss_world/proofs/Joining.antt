@@ -10,7 +10,7 @@ use Rattle.vss_model.specs.Images.{count_images}
 use Rattle.write_history.specs.History.{History}
 use Rattle.vss_model.specs.State.{has_image}
 use Rattle.scenario.specs.Plan.{Plan}
-use Rattle.scenario.specs.Built.{IsBuilt}
+use Rattle.scenario.specs.Bounds.{IsPlan}
 use Rattle.cow_volume.specs.GroupValue.{GroupValue}
 use Rattle.provider.specs.Calls.{AreWithout}
 use Rattle.vss_model.specs.State.{State, in_progress}
@@ -137,9 +137,9 @@ join_end p q vs i l is = is ∙ ap (λ us. record { groups = p.groups; set = p.s
 
 -- ## how many images went
 
-pub few_gone : {D : Type 0} (told : D → Option (List (List ℕ))) (size count : D → ℕ) (lending : D → Bool) (s : Plan) (old new : List (GroupValue D)) (set stood : ℕ) (hs : List History) → IsBuilt s → HasGroups s old → AreGroups told s old hs → AreWithout told size count lending old new set stood → stood < 4294967296
-few_gone told size count lending s old new set stood hs built has groups without =
-    fits stood (length s.volumes) built.one_volume (subst (λ n. stood ≤ n) groups.histories (subst (λ n. n ≤ length hs) (sym (without.number s has hs groups)) (few_images set hs)))
+pub few_gone : {D : Type 0} (told : D → Option (List (List ℕ))) (size count : D → ℕ) (lending : D → Bool) (s : Plan) (old new : List (GroupValue D)) (set stood : ℕ) (hs : List History) → IsPlan s → HasGroups s old → AreGroups told s old hs → AreWithout told size count lending old new set stood → stood < 4294967296
+few_gone told size count lending s old new set stood hs plan has groups without =
+    fits stood (length s.volumes) plan.few_volumes (subst (λ n. stood ≤ n) groups.histories (subst (λ n. n ≤ length hs) (sym (without.number s has hs groups)) (few_images set hs)))
   where
-    fits : (n m : ℕ) → m ≤ 1 → n ≤ m → n < 4294967296
+    fits : (n m : ℕ) → m ≤ 128 → n ≤ m → n < 4294967296
     fits n m k l = omega arith

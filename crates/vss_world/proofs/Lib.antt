@@ -26,5 +26,7 @@ pub mod Joining
 pub mod Digesting
 pub mod Synced
 pub mod FirstState
+pub mod Registering
 pub mod Going
+pub mod Holders
 pub mod Listing

@@ -27,7 +27,8 @@ use Rattle.vss_world.specs.Puts.{AreEvicted}
 use Rattle.vss_world.proofs.Moved.{in_order}
 use Rattle.vss_world.proofs.Putting.{all_up, last_of}
 use Rattle.vss_world.proofs.Tied.{here}
-use Rattle.vss_world.proofs.Going.{pick, total, total_is, total_same, up_to, past, one_set_more, IsBelow, AllInTime, listing, none_listed, going, all_listed, few_listed}
+use Rattle.vss_world.proofs.Going.{pick, total, total_is, total_same, up_to, past, one_set_more, IsBelow, AllInTime, listing, none_listed, going, all_listed}
+use Rattle.vss_world.proofs.Holders.{few_listed}
 
 -- ## facts of every list of acts
 

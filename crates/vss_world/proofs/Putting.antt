@@ -1,6 +1,6 @@
 -- A write, against the acts: the images that it needs gone, and the set in progress that fails where its own goes.
 use Rattle.std.proofs.Common.{◌≡◌, ℕ, zero, suc, ◌+◌, ◌<◌, ◌≤◌, ◌==◌, List, [], ◌∷◌, ◌++◌, length, refl, ap, sym, ◌∙◌, subst, arith, Bool, true, false, Option, Some, None, map, slice_get}
-use Rattle.std.specs.Prelude.{option_map, is_some, find, not, ◌&&◌, if◌then◌else◌}
+use Rattle.std.specs.Prelude.{option_map, is_some, find, not, ◌&&◌, if◌then◌else◌, IfSome}
 use Rattle.std.proofs.lemmas.Bool.Decides.{nat_tests}
 use Rattle.vss_names.specs.declared.set_outcome.SetOutcome.{SetOutcome}
 use Rattle.vss_names.specs.declared.set_outcome.SetOutcome.TheVariants.{Running, Failed}
@@ -20,10 +20,9 @@ use Rattle.set_agenda.specs.Course.{Course, change_at, failed as course_failed}
 use Rattle.scenario.specs.declared.volume_row.VolumeRow.{VolumeRow}
 use Rattle.scenario.specs.declared.op.Op.{Op}
 use Rattle.scenario.specs.declared.op.Op.TheVariants.{WriteFill, WriteStamp}
-use Rattle.scenario.specs.Bounds.{IsBlock}
+use Rattle.scenario.specs.Bounds.{IsPlan, IsBlock}
 use Rattle.scenario.specs.Calls.{Target, target_of}
 use Rattle.std.specs.List.{slice_index_or}
-use Rattle.scenario.specs.Built.{IsBuilt, IsBuiltLane}
 use Rattle.scenario.specs.Plan.{Plan, LanePlan, placed, placed_in, slots_of, group_of, acts_as, writer_in}
 use Rattle.cow_volume.specs.GroupValue.{GroupValue}
 use Rattle.vss_model.specs.declared.event.Event.TheVariants.{Line}
@@ -31,7 +30,7 @@ use Rattle.vss_model.specs.declared.evicted.Evicted.{Evicted}
 use Rattle.vss_model.specs.declared.told.Told.{Told}
 use Rattle.vss_model.specs.declared.told.Told.TheVariants as told
 use Rattle.vss_model.specs.Reply.{Reply, Fine, Faulted}
-use Rattle.vss_model.specs.State.{State, SetRow, in_progress, is_running, history_in, left_now, is_held}
+use Rattle.vss_model.specs.State.{State, SetRow, in_progress, is_running, history_in, left_now, is_held, is_frozen}
 use Rattle.vss_model.specs.Ending.{failed, failed_in, images_dropped}
 use Rattle.vss_model.specs.Images.{Replied, cleared, going_up_to, put, with_room, with_room_if, set_loses_image, write, has_lost_image, reply_of_mark}
 use Rattle.vss_model.specs.Lines.{line}
@@ -55,7 +54,7 @@ use Rattle.sessions.specs.Sets.{current_of}
 use Rattle.sessions.specs.Keeps.{SessionsValue, Keeps, IsInOrder, Leaves, IsOf as IsSessionsOf}
 use Rattle.sessions.specs.Moves.{IsFailed}
 use Rattle.vss_world.specs.Devices.{tells_of, RoseFor}
-use Rattle.vss_world.specs.Stands.{WorldValue, IsOf, IsGateOf, IsInPlan, Stands, IsStanding}
+use Rattle.vss_world.specs.Stands.{WorldValue, IsOf, IsGateOf, IsInPlan, Stands, IsStanding, IfStands}
 use Rattle.vss_world.specs.Moves.{IsMoved, IsBlocked, simple_outcome, volume_of_line}
 use Rattle.vss_world.specs.Puts.{IsWriteLine, told_if, AreEvicted}
 use Rattle.vss_world.proofs.Moved.{world_of, Parts, parts_of, OfDevices, Comes, Goes, goes_on, leaves_of, in_order, moved, clean_devices, failed_devices}
@@ -347,33 +346,53 @@ lost_moves blocks_told size count lending s lane v op w done n k p q r x y g l e
 
 -- ## whether it may go
 
-may : (s : Plan) (st : State) (lane v : ℕ) (b : Bool) → acts_as s lane ≡ None → is_held st v ≡ b → may_write s st lane v ≡ not b
-may s st lane v b alone held = ap (λ (t : Bool). not t && is_free st (acts_as s lane)) held ∙ ap (λ (o : Option ℕ). not b && is_free st o) alone ∙ both b
-  where
-    both : (b : Bool) → (not b && true) ≡ not b
-    both true = refl
-    both false = refl
+may : (s : Plan) (st : State) (lane v : ℕ) (held : Bool) (o : Option ℕ) → is_held st v ≡ held → acts_as s lane ≡ o → may_write s st lane v ≡ (not held && is_free st o)
+may s st lane v held o f e = ap (λ (t : Bool). not t && is_free st (acts_as s lane)) f ∙ ap (λ (w : Option ℕ). not held && is_free st w) e
 
--- the gate says it
-pub gate_says : {D : Type 0} (blocks_told : D → Option (List (List ℕ))) (s : Plan) (lane v : ℕ) (b : Bool) (p : ProviderValue D) (x : SessionsValue) (g : Flags) (l : List ℕ) (e : List Evicted) (acts : List Act) → v < length s.volumes → acts_as s lane ≡ None → b ≡ holds g v → Stands blocks_told (world_of p x g l e) s acts
-    → may_write s (state s acts) lane v ≡ not b
-gate_says blocks_told s lane v b p x g l e acts within alone is stands = may s (state s acts) lane v b alone (sym (stands.at.gate.held v within) ∙ sym is)
+-- the gate says whether the volume is held
+gate_says : {D : Type 0} (blocks_told : D → Option (List (List ℕ))) (s : Plan) (lane v : ℕ) (held t : Bool) (o : Option ℕ) (p : ProviderValue D) (x : SessionsValue) (g : Flags) (l : List ℕ) (e : List Evicted) (acts : List Act) → v < length s.volumes → acts_as s lane ≡ o → held ≡ holds g v → held ≡ t → Stands blocks_told (world_of p x g l e) s acts
+    → may_write s (state s acts) lane v ≡ (not t && is_free (state s acts) o)
+gate_says blocks_told s lane v held t o p x g l e acts within acting is says stands = may s (state s acts) lane v t o (sym (stands.at.gate.held v within) ∙ sym is ∙ says) acting
 
-pub write_waits : {D : Type 0} (blocks_told : D → Option (List (List ℕ))) (s : Plan) (lane v : ℕ) (op : Op) (w : Write) (b : Bool) (p : ProviderValue D) (x : SessionsValue) (g : Flags) (l : List ℕ) (e : List Evicted) → IsWriting s lane op v w → v < length s.volumes → acts_as s lane ≡ None → b ≡ holds g v → b ≡ true
-    → IsBlocked blocks_told (world_of p x g l e) (world_of p x g l e) s (Line lane op)
-write_waits blocks_told s lane v op w b p x g l e is_writing within alone says is = record {
+-- a volume that is held waits, whoever writes
+pub held_waits : {D : Type 0} (blocks_told : D → Option (List (List ℕ))) (s : Plan) (lane v : ℕ) (held : Bool) (p : ProviderValue D) (x : SessionsValue) (g : Flags) (l : List ℕ) (e : List Evicted) → v < length s.volumes → held ≡ holds g v → held ≡ true
+    → IfStands blocks_told (world_of p x g l e) s (λ st. false ≡ may_write s st lane v)
+held_waits blocks_told s lane v held p x g l e within is says acts stands = sym (gate_says blocks_told s lane v held true (acts_as s lane) p x g l e acts within refl is says stands)
+
+-- else a lane that acts as nobody writes
+pub alone_goes : {D : Type 0} (blocks_told : D → Option (List (List ℕ))) (s : Plan) (lane v : ℕ) (held : Bool) (p : ProviderValue D) (x : SessionsValue) (g : Flags) (l : List ℕ) (e : List Evicted) → v < length s.volumes → acts_as s lane ≡ None → held ≡ holds g v → held ≡ false
+    → IfStands blocks_told (world_of p x g l e) s (λ st. true ≡ may_write s st lane v)
+alone_goes blocks_told s lane v held p x g l e within alone is says acts stands = sym (gate_says blocks_told s lane v held false None p x g l e acts within alone is says stands)
+
+-- and one that acts as a writer, where that is not frozen
+pub writer_goes : {D : Type 0} (blocks_told : D → Option (List (List ℕ))) (s : Plan) (lane v w : ℕ) (held frozen : Bool) (p : ProviderValue D) (x : SessionsValue) (g : Flags) (l : List ℕ) (e : List Evicted) → v < length s.volumes → acts_as s lane ≡ Some w → held ≡ holds g v → held ≡ false
+    → ((st : State) → Keeps x st → frozen ≡ is_frozen st w) → IfStands blocks_told (world_of p x g l e) s (λ st. not frozen ≡ may_write s st lane v)
+writer_goes blocks_told s lane v w held frozen p x g l e within acting is says stands_frozen acts stands =
+    ap not (stands_frozen (state s acts) stands.at.sessions) ∙ sym (gate_says blocks_told s lane v held false (Some w) p x g l e acts within acting is says stands)
+
+pub free_to_write : {D : Type 0} (blocks_told : D → Option (List (List ℕ))) (s : Plan) (lane v : ℕ) (b : Bool) (p : ProviderValue D) (x : SessionsValue) (g : Flags) (l : List ℕ) (e : List Evicted) (acts : List Act) → IfStands blocks_told (world_of p x g l e) s (λ st. b ≡ may_write s st lane v) → b ≡ true
+    → Stands blocks_told (world_of p x g l e) s acts → may_write s (state s acts) lane v ≡ true
+free_to_write blocks_told s lane v b p x g l e acts says is stands = sym (says acts stands) ∙ is
+
+pub write_waits : {D : Type 0} (blocks_told : D → Option (List (List ℕ))) (s : Plan) (lane v : ℕ) (op : Op) (w : Write) (b : Bool) (p : ProviderValue D) (x : SessionsValue) (g : Flags) (l : List ℕ) (e : List Evicted) → IsWriting s lane op v w
+    → IfStands blocks_told (world_of p x g l e) s (λ st. b ≡ may_write s st lane v) → b ≡ false → IsBlocked blocks_told (world_of p x g l e) (world_of p x g l e) s (Line lane op)
+write_waits blocks_told s lane v op w b p x g l e is_writing says is = record {
   same = refl;
-  not_enabled = λ acts stands. is_writing.on (state s acts) ∙ gate_says blocks_told s lane v b p x g l e acts within alone says stands ∙ ap not is;
+  not_enabled = λ acts stands. is_writing.on (state s acts) ∙ sym (says acts stands) ∙ is;
 }
 
 pub gate_wide : {D : Type 0} (blocks_told : D → Option (List (List ℕ))) (s : Plan) (v : ℕ) (p : ProviderValue D) (x : SessionsValue) (g : Flags) (l : List ℕ) (e : List Evicted) → v < length s.volumes → IsStanding blocks_told (world_of p x g l e) s → v < length g.held
 gate_wide blocks_told s v p x g l e within standing = let long = standing.stands.at.gate.volumes in omega (arith, within, long)
 
--- no lane acts as a writer in the scenarios that are run so far
-lane_alone : (lanes : List LanePlan) (lane : ℕ) → ((k : ℕ) (d : LanePlan) → k < length lanes → IsBuiltLane (slice_index_or lanes k d)) → writer_in (slice_get lanes lane) ≡ None
-lane_alone [] lane all = refl
-lane_alone (l ∷ lanes) zero all = (all 0 l (omega arith)).alone
-lane_alone (l ∷ lanes) (suc lane) all = lane_alone lanes lane (λ k d inside. all (suc k) d (omega arith))
+-- a lane acts as a writer of the scenario
+whom : (lanes : List LanePlan) (lane w n : ℕ) → writer_in (slice_get lanes lane) ≡ Some w → ((k : ℕ) (d : LanePlan) → k < length lanes → IfSome (slice_index_or lanes k d).acts_as (λ x. x < n)) → w < n
+whom [] lane w n e all = cc
+whom (l ∷ lanes) zero w n e all = given l.acts_as (all 0 l (omega arith)) e
+  where
+    given : (o : Option ℕ) → IfSome o (λ x. x < n) → o ≡ Some w → w < n
+    given None h f = cc
+    given (Some x) h f = let same : x ≡ w = cc in omega (arith, h, same)
+whom (l ∷ lanes) (suc lane) w n e all = whom lanes lane w n e (λ k d inside. all (suc k) d (omega (arith, inside)))
 
-pub acts_alone : (s : Plan) (lane : ℕ) → IsBuilt s → acts_as s lane ≡ None
-acts_alone s lane built = lane_alone s.lanes lane built.lanes
+pub acts_within : (s : Plan) (lane w count : ℕ) → IsPlan s → acts_as s lane ≡ Some w → count ≡ length s.writers → w < count
+acts_within s lane w count plan e is = let inside = whom s.lanes lane w (length s.writers) e (λ k d within. (plan.lanes k d within).whom) in omega (arith, inside, is)

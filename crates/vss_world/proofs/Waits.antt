@@ -20,12 +20,11 @@ use Rattle.sessions.specs.Keeps.{SessionsValue, Keeps}
 use Rattle.vss_world.specs.Stands.{WorldValue, Stands, IfStands}
 use Rattle.vss_world.specs.Moves.{written_by}
 use Rattle.vss_world.proofs.Moved.{world_of}
-use Rattle.vss_world.proofs.Putting.{gate_says}
 
 same_number : (u v : ℕ) → Some u ≡ Some v → u ≡ v
 same_number u v e = cc
 
--- a line that writes waits where its volume is held
+-- a line that writes waits where its lane may not write to the volume
 writes_on : (s : Plan) (st : State) (lane v : ℕ) (op : Op) → written_by op ≡ Some v → line_enabled s st lane op ≡ may_write s st lane v
 writes_on s st lane v (WriteFill u b x) e = ap (may_write s st lane) (same_number u v e)
 writes_on s st lane v (WriteStamp u b n) e = ap (may_write s st lane) (same_number u v e)
@@ -81,9 +80,9 @@ other_on s st lane Complete e = refl
 other_on s st lane Abort e = refl
 other_on s st lane End e = refl
 
-pub write_goes : {D : Type 0} (blocks_told : D → Option (List (List ℕ))) (s : Plan) (lane v : ℕ) (op : Op) (b : Bool) (p : ProviderValue D) (x : SessionsValue) (g : Flags) (l : List ℕ) (e : List Evicted) → v < length s.volumes → acts_as s lane ≡ None → b ≡ holds g v → written_by op ≡ Some v
-    → IfStands blocks_told (world_of p x g l e) s (λ st. not b ≡ line_enabled s st lane op)
-write_goes blocks_told s lane v op b p x g l e within alone says writes acts stands = sym (writes_on s (state s acts) lane v op writes ∙ gate_says blocks_told s lane v b p x g l e acts within alone says stands)
+pub write_goes : {D : Type 0} (blocks_told : D → Option (List (List ℕ))) (s : Plan) (lane v : ℕ) (op : Op) (b : Bool) (p : ProviderValue D) (x : SessionsValue) (g : Flags) (l : List ℕ) (e : List Evicted) → written_by op ≡ Some v → IfStands blocks_told (world_of p x g l e) s (λ st. b ≡ may_write s st lane v)
+    → IfStands blocks_told (world_of p x g l e) s (λ st. b ≡ line_enabled s st lane op)
+write_goes blocks_told s lane v op b p x g l e writes says acts stands = says acts stands ∙ sym (writes_on s (state s acts) lane v op writes)
 
 pub other_goes : {D : Type 0} (blocks_told : D → Option (List (List ℕ))) (s : Plan) (lane : ℕ) (op : Op) (b : Bool) (p : ProviderValue D) (x : SessionsValue) (g : Flags) (l : List ℕ) (e : List Evicted) → written_by op ≡ None → ((st : State) → Keeps x st → b ≡ may_call st lane (call_of op))
     → IfStands blocks_told (world_of p x g l e) s (λ st. b ≡ line_enabled s st lane op)

@@ -8,7 +8,6 @@ use Rattle.scenario.specs.declared.op.Op.{Op}
 use Rattle.scenario.specs.declared.op.Op.TheVariants.{WriteFill, WriteStamp, Read, ImageDigest, ImageBlock, Revert, Component, Document, Start, Gather, Prepare, Snapshot, Complete}
 use Rattle.scenario.specs.Plan.{Plan}
 use Rattle.scenario.specs.Bounds.{IsOp}
-use Rattle.scenario.specs.Built.{is_run}
 use Rattle.vss_model.specs.declared.event.Event.{Event}
 use Rattle.vss_model.specs.declared.event.Event.TheVariants.{Line, Answer as AnswerEvent, Provider, Idle}
 use Rattle.vss_model.specs.declared.outcome.Outcome.{Outcome}
@@ -26,9 +25,9 @@ use Rattle.vss_world.specs.Stands.{WorldValue, IsOf, Stands}
 
 -- ## events
 
--- the numbers of an event are in the scenario's range, and a line is of a kind that is run
+-- the numbers of an event are in the scenario's range
 abbrev pub IsEvent : Plan → Event → Type 0
-IsEvent s (Line lane op) = IsOp s op × (is_run op ≡ true)
+IsEvent s (Line lane op) = (lane < length s.lanes) × IsOp s op
 IsEvent s (AnswerEvent w answer) = w < length s.writers
 IsEvent s Provider = Unit {0}
 IsEvent s Idle = Unit {0}

@@ -1,17 +1,19 @@
 //! What a core begins with beside its groups.
 
-ghost use Rattle.std.specs.Prelude.{IfOk};
-ghost use Rattle.vss_world.specs.Beginning.{AreBegun, AreFirst};
+ghost use Rattle.std.specs.Prelude.{◌<◌, ◌+◌, length, IfOk, OnOk};
+ghost use Rattle.scenario.specs.Bounds.{IsPlan};
+ghost use Rattle.scenario.specs.Named.{HasNames};
+ghost use Rattle.vss_world.specs.Beginning.{AreBegun, AreFirst, HasRegistered};
 
 use crate::evicted_images::EvictedImages;
 use crate::listed_sets::ListedSets;
 use block_data::BlockBuf;
-use coordinator::Coordinator;
+use coordinator::{Coordinator, RegisterFault};
 use hold_gate::HoldGate;
 use scenario::Scenario;
 use sessions::Sessions;
 use std::alloc::Global;
-use vss_names::OutOfMemory;
+use vss_names::{OutOfMemory, Text};
 
 /// All parts of a core but its groups, with their memory.
 #[derive(Drop)]
@@ -43,11 +45,35 @@ impl Rest {
     }
 }
 
-/// The sessions before any act. No scenario that is run has writers so far.
+/// The sessions before any act, with all writers of the scenario.
 fn first_sessions(alloc: Global, scenario: &Scenario) -> Result<Sessions, OutOfMemory>
     ensures { IfOk result (AreFirst scenario.now) }
 {
-    let _facts = scenario.volumes();
-    let coordinator = Coordinator::new(alloc)?;
+    let mut coordinator = Coordinator::new(alloc)?;
+    for writer in 0..scenario.writers() {
+        register(alloc, scenario, &mut coordinator, writer)?;
+    }
     Ok(Sessions::new(alloc, coordinator))
+}
+
+/// Registers a writer of the scenario, after those before it. No two writers of a scenario have one name.
+fn register(
+    alloc: Global,
+    scenario: &Scenario,
+    coordinator: &mut Coordinator,
+    writer: u32,
+) -> Result<(), OutOfMemory>
+    requires in_range { writer < length scenario.now.writers }
+    requires plan { IsPlan scenario.now }
+    requires names { HasNames scenario.now }
+    requires before { HasRegistered scenario.now writer coordinator.old }
+    ensures { OnOk result (HasRegistered scenario.now (writer + 1) coordinator.new) }
+{
+    let name = Text::copy(alloc, scenario.token(scenario.writer_name(writer)))?;
+    let metadata = scenario.metadata(writer).copy(alloc)?;
+    match coordinator.register(alloc, &name, metadata) {
+        Ok(_number) => Ok(()),
+        Err(RegisterFault::OutOfMemory) => Err(OutOfMemory),
+        Err(RegisterFault::Double { at: _ }) => unreachable!(),
+    }
 }

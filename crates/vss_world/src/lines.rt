@@ -1,6 +1,6 @@
 //! A line of a lane.
 
-ghost use Rattle.std.specs.Prelude.{◌≡◌, true, IfOk, IsErr, OnErr};
+ghost use Rattle.std.specs.Prelude.{◌≡◌, ◌<◌, true, length, IfOk, IsErr, OnErr};
 ghost use Rattle.scenario.specs.Bounds.{IsOp};
 ghost use Rattle.vss_model.specs.declared.event.Event.TheVariants.{Line};
 ghost use Rattle.vss_world.specs.Stands.{IsOf, IsStanding};
@@ -25,6 +25,7 @@ impl<D: Device> World<D> {
     ) -> Result<Reply, OutOfMemory>
         requires of { IsOf self.old scenario.now }
         requires standing { IsStanding D.told self.old scenario.now }
+        requires lane { lane < length scenario.now.lanes }
         requires in_range { IsOp scenario.now op }
         ensures memory { OnErr result (self.new ≡ self.old) }
         ensures takes { IsErr result → takes_for op ≡ true }

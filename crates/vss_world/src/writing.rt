@@ -1,6 +1,6 @@
 //! Lines that write a block.
 
-ghost use Rattle.std.specs.Prelude.{◌≡◌, ◌<◌};
+ghost use Rattle.std.specs.Prelude.{◌≡◌, ◌<◌, length};
 ghost use Rattle.block_data.specs.PayloadBytes.{payload_bytes};
 ghost use Rattle.scenario.specs.Bounds.{IsBlock};
 ghost use Rattle.vss_model.specs.declared.event.Event.TheVariants.{Line};
@@ -20,8 +20,8 @@ use vss_model::{Outcome, Told};
 use vss_names::{SetOutcome, VssResult};
 
 impl<D: Device> World<D> {
-    /// Writes a block, unless the volume's writes are held. Where images have to go for it, and one of the set in progress is among
-    /// them, the set fails.
+    /// Writes a block, where that does not wait. Where images have to go for it, and one of the set in progress is among them, the set
+    /// fails.
     pub(crate) fn write(
         &mut self,
         scenario: &Scenario,
@@ -33,12 +33,12 @@ impl<D: Device> World<D> {
     ) -> Reply
         requires of { IsOf self.old scenario.now }
         requires standing { IsStanding D.told self.old scenario.now }
+        requires lane { lane < length scenario.now.lanes }
         requires in_range { IsBlock scenario.now volume block }
         requires line { IsWriteLine op volume (record { block = block; bytes = payload_bytes payload.now }) }
         ensures { IsStepped D.told D.count self.old self.new scenario.now (Line lane op) result }
     {
-        let _facts = scenario.volumes();
-        if self.gate.is_held(volume) {
+        if !self.may_write(scenario, lane, volume) {
             return Reply::Blocked;
         }
         let up_to = self.provider.goes_up_to(scenario, volume, block);

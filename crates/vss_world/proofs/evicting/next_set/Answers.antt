@@ -1,4 +1,4 @@
-use Rattle.vss_world.proofs.Going.{next_step, lesser_some}
+use Rattle.vss_world.proofs.Holders.{next_step, lesser_some}
 use Rattle.std.proofs.Common.{◌<◌, ℕ, Option, subst, sym}
 use Rattle.std.specs.Prelude.{IfSome}
 use Rattle.vss_world.proofs.evicting.next_set.Goals as goal

@@ -8,7 +8,7 @@ use Rattle.vss_world.proofs.world.World.delete_set.Goals as goal
 pub overflow_cast-images : goal.overflow_cast-images
 overflow_cast-images g c =
     let standing = (rw (← c.self.view_is) at c.requires.standing) in
-    let most = few_gone g.D.Device.told g.D.Device.size g.D.Device.count g.D.Device.lending c.args.scenario.now c.self.inside.provider.groups c.drop_set-count.new.self.groups c.args.set c.drop_set-count.result (state c.args.scenario.now standing.acts).volumes c.volumes-facts.ensures.built
+    let most = few_gone g.D.Device.told g.D.Device.size g.D.Device.count g.D.Device.lending c.args.scenario.now c.self.inside.provider.groups c.drop_set-count.new.self.groups c.args.set c.drop_set-count.result (state c.args.scenario.now standing.acts).volumes c.volumes-facts.ensures.plan
     (rw (← c.self.view_is) at c.requires.of).groups standing.stands.at.groups c.drop_set-count.ensures.without in
     omega (arith, most)
 
