@@ -1,7 +1,6 @@
 -- A session line: what its numbers and its checks say of it at a state.
-use Rattle.std.proofs.Common.{◌≡◌, ℕ, ◌+◌, ◌*◌, ◌<◌, ◌≤◌, List, [], ◌∷◌, ◌++◌, length, refl, ap, sym, ◌∙◌, subst, arith, Bool, true, false, Option, Some, None, map}
+use Rattle.std.proofs.Common.{◌≡◌, ℕ, ◌+◌, ◌≤◌, List, [], refl, sym, subst, arith, Bool, true, false, Option}
 use Rattle.std.specs.Prelude.{is_some}
-use Rattle.write_history.specs.History.{History}
 use Rattle.write_history.specs.declared.mark.Mark.{Mark}
 use Rattle.write_history.specs.declared.mark.Mark.TheVariants.{Clean, Fault, FaultAfter}
 use Rattle.hold_gate.specs.Gate.{Flags}
@@ -18,12 +17,12 @@ use Rattle.vss_model.specs.Lines.{line}
 use Rattle.vss_model.specs.Told.{mark_of}
 use Rattle.vss_model.specs.Trail.{is_fault}
 use Rattle.vss_model.specs.Outcome.{told_act}
-use Rattle.provider.specs.Groups.{AreGroups, IfStandFor}
+use Rattle.provider.specs.Groups.{IfStandFor}
 use Rattle.provider.specs.Preparing.{ProviderValue}
 use Rattle.sessions.specs.Keeps.{SessionsValue, Leaves}
 use Rattle.sessions.specs.Moves.{IsMove, IsWait, IsAtWith, HasImages}
 use Rattle.sessions.specs.declared.session_move.SessionMove.{SessionMove}
-use Rattle.vss_world.specs.Stands.{WorldValue, IsOf, IsInPlan, Stands, IsStanding}
+use Rattle.vss_world.specs.Stands.{IsOf, IsInPlan, Stands, IsStanding}
 use Rattle.vss_world.specs.Moves.{IsMoved, IsBlocked}
 use Rattle.vss_world.specs.Settling.{IsDroppedFor, IsOpened, AreImagesFor}
 use Rattle.vss_world.proofs.Moved.{world_of}

@@ -6,7 +6,7 @@ use Rattle.std.proofs.lemmas.Bool.Decides.{nat_tests}
 use Rattle.vss_names.specs.declared.vss_result.VssResult.{VssResult}
 use Rattle.vss_names.specs.declared.set_outcome.SetOutcome.{SetOutcome}
 use Rattle.vss_names.specs.declared.set_outcome.SetOutcome.TheVariants.{Failed}
-use Rattle.hold_gate.specs.Gate.{Flags, all_open, is_held as holds}
+use Rattle.hold_gate.specs.Gate.{all_open}
 use Rattle.set_agenda.specs.Agenda.{Agenda}
 use Rattle.set_agenda.specs.Agenda.{is_held as agenda_holds}
 use Rattle.set_agenda.specs.Course.{Course, failed as course_failed}

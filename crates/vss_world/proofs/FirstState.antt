@@ -1,29 +1,23 @@
 -- What the core stands for before any act.
-use Rattle.std.proofs.Common.{◌≡◌, ℕ, ◌<◌, ◌≤◌, List, [], ◌∷◌, length, refl, ap, sym, ◌∙◌, subst, arith, Bool, true, false, Option, Some, None, map, slice_get}
-use Rattle.std.specs.Prelude.{All}
-use Rattle.std.specs.List.{slice_index_or}
+use Rattle.std.proofs.Common.{◌≡◌, ℕ, ◌<◌, List, [], length, refl, ap, sym, ◌∙◌, subst, arith, Option, Some, map, slice_get}
 use Rattle.std.proofs.lemmas.Option.{slice_get_within, get_or_from_slice_get}
 use Rattle.write_history.specs.History.{fresh}
-use Rattle.hold_gate.specs.Gate.{Flags, all_open}
+use Rattle.hold_gate.specs.Gate.{Flags}
 use Rattle.scenario.specs.declared.volume_row.VolumeRow.{VolumeRow}
-use Rattle.scenario.specs.Plan.{Plan, GroupPlan, WriterPlan}
+use Rattle.scenario.specs.Plan.{Plan}
 use Rattle.scenario.specs.Bounds.{IsPlan, IsInGroup, group_slots}
 use Rattle.cow_volume.specs.GroupValue.{GroupValue}
 use Rattle.cow_volume.proofs.Group.{slice_get_inside}
-use Rattle.set_agenda.specs.Course.{course_start}
-use Rattle.coordinator.specs.Coordinator.{CoordinatorState, writer_count}
-use Rattle.coordinator.specs.Coordinator.{Stands as IsOfCourse}
 use Rattle.vss_model.specs.declared.evicted.Evicted.{Evicted}
-use Rattle.vss_model.specs.State.{State, start, row_of_writer}
-use Rattle.vss_model.specs.Acts.{state}
+use Rattle.vss_model.specs.State.{start}
 use Rattle.provider.specs.Groups.{AreFresh, AreGroups, AreWhole, HasGroups}
 use Rattle.provider.specs.Devices.{devices_of}
 use Rattle.provider.specs.Preparing.{ProviderValue}
-use Rattle.sessions.specs.Keeps.{SessionsValue, Keeps, classes_registered, classes_of, IsOf as IsSessionsOf}
-use Rattle.vss_world.specs.Beginning.{AreFirst, AreBegun}
-use Rattle.vss_world.specs.Stands.{IsOf, IsGateOf, IsInPlan, Stands}
+use Rattle.sessions.specs.Keeps.{SessionsValue}
+use Rattle.vss_world.specs.Beginning.{AreBegun}
+use Rattle.vss_world.specs.Stands.{IsOf, IsGateOf, Stands}
 use Rattle.vss_world.specs.Quiet.{AreNew}
-use Rattle.vss_world.proofs.Moved.{world_of, Parts, stands_at}
+use Rattle.vss_world.proofs.Moved.{world_of, stands_at}
 use Rattle.vss_world.proofs.Failing.{gate_open}
 
 in_group : (s : Plan) (v : ℕ) (r : VolumeRow) → IsPlan s → slice_get s.volumes v ≡ Some r → IsInGroup s.groups r

@@ -1,18 +1,14 @@
 -- A move of the sessions, against the acts: what they come to, with the images that go and the gate that opens.
 use Rattle.std.proofs.Common.{◌≡◌, ℕ, ◌+◌, ◌*◌, ◌<◌, ◌≤◌, ◌^◌, ◌-◌, List, [], ◌∷◌, ◌++◌, length, refl, ap, sym, ◌∙◌, subst, arith, Bool, true, false, ◌||◌, Option, Some, None, ◌⊎◌, inl, inr, map}
 use Rattle.std.specs.Prelude.{is_some, if◌then◌else◌}
-use Rattle.writer_state.specs.declared.writer_row.WriterRow.{WriterRow}
-use Rattle.write_history.specs.History.{History, dropped}
+use Rattle.write_history.specs.History.{History}
 use Rattle.hold_gate.specs.Gate.{Flags, all_open}
 use Rattle.set_agenda.specs.Agenda.{Agenda, left, is_asking, is_working}
 use Rattle.set_agenda.specs.Agenda.{is_held as agenda_holds}
-use Rattle.coordinator.specs.Coordinator.{CoordinatorState, writer_count, works}
-use Rattle.scenario.specs.declared.op.Op.{Op}
-use Rattle.scenario.specs.declared.op.Op.TheVariants.{Add}
 use Rattle.scenario.specs.Plan.{Plan}
 use Rattle.vss_model.specs.declared.event.Event.{Event}
 use Rattle.vss_model.specs.declared.evicted.Evicted.{Evicted}
-use Rattle.vss_model.specs.State.{State, left_now, is_held}
+use Rattle.vss_model.specs.State.{State, left_now}
 use Rattle.vss_model.specs.Ending.{runs}
 use Rattle.vss_model.specs.Acts.{Act, state, after}
 use Rattle.vss_model.specs.Told.{mark_of}
@@ -21,21 +17,20 @@ use Rattle.vss_model.specs.Outcome.{IsOutcome, told_act}
 use Rattle.vss_model.proofs.Appending.{state-append}
 use Rattle.vss_model.proofs.Gathered.{named_known_components}
 use Rattle.vss_model.proofs.Waiting.{working_or_asking}
-use Rattle.provider.specs.Groups.{AreGroups, IfStandFor, history_at}
+use Rattle.provider.specs.Groups.{AreGroups}
 use Rattle.provider.specs.Devices.{devices_of, counts_of, AreKept}
-use Rattle.provider.specs.Calls.{AreWithout}
 use Rattle.provider.specs.Preparing.{ProviderValue}
 use Rattle.provider.proofs.Kept.{kept_same}
-use Rattle.sessions.specs.Keeps.{SessionsValue, Keeps, IsAt, IsInOrder, IsStanding as IsSessionsStanding, IsStandingIn, IsOf as IsSessionsOf, Leaves}
-use Rattle.sessions.specs.Moves.{IsMove, IsWait, IsAtWith, HasImages, images_changed, cuts}
+use Rattle.sessions.specs.Keeps.{SessionsValue, Keeps, IsAt, IsStanding as IsSessionsStanding, IsStandingIn, IsOf as IsSessionsOf, Leaves}
+use Rattle.sessions.specs.Moves.{IsMove, IsWait, images_changed}
 use Rattle.sessions.specs.declared.image_change.ImageChange.{ImageChange}
 use Rattle.sessions.specs.declared.image_change.ImageChange.TheVariants.{NoChange, Cut, Drop}
 use Rattle.sessions.specs.declared.session_move.SessionMove.{SessionMove}
 use Rattle.vss_world.specs.Devices.{tells_of}
-use Rattle.vss_world.specs.Stands.{WorldValue, IsOf, IsGateOf, IsInPlan, Stands, IsStanding}
+use Rattle.vss_world.specs.Stands.{IsOf, IsGateOf, IsInPlan, Stands, IsStanding}
 use Rattle.vss_world.specs.Moves.{IsMoved, IsBlocked}
-use Rattle.vss_world.specs.Settling.{IsDroppedFor, IsOpened, AreImagesFor}
-use Rattle.vss_world.proofs.Moved.{world_of, Parts, parts_of, OfDevices, Comes, Goes, in_order, moved, clean_devices, goes_on, leaves_of}
+use Rattle.vss_world.specs.Settling.{IsDroppedFor, IsOpened}
+use Rattle.vss_world.proofs.Moved.{world_of, in_order, moved, clean_devices, goes_on, leaves_of}
 use Rattle.vss_world.proofs.Failing.{gate_open}
 use Rattle.vss_world.proofs.Held.{HeldAs}
 use Rattle.vss_world.proofs.Holding.{FlagsAs}

@@ -1,14 +1,13 @@
 -- Which volumes are held, as the course goes on: what is heard of writers, time and session lines holds and releases none; where the
 -- agenda is over none is held.
-use Rattle.std.proofs.Common.{◌≡◌, ℕ, zero, suc, ◌+◌, ◌<◌, ◌==◌, List, [], ◌∷◌, ◌++◌, refl, ap, sym, ◌∙◌, subst, Bool, true, false, ◌&&◌, ◌||◌, Option, Some, None, ◌⊎◌, inl, inr, map, arith}
+use Rattle.std.proofs.Common.{◌≡◌, ℕ, ◌==◌, List, [], ◌∷◌, ◌++◌, refl, ap, sym, ◌∙◌, subst, Bool, true, false, ◌&&◌, ◌||◌, Option, Some, None, ◌⊎◌, inl, inr, map}
 use Rattle.std.specs.Prelude.{is_some, not, option_map, if◌then◌else◌}
-use Rattle.std.specs.List.{list_any}
 use Rattle.vss_names.specs.declared.order.Order.{Order}
 use Rattle.vss_names.specs.declared.order.Order.TheVariants.{Identify, PrepareBackup, PrepareSnapshot, Freeze, Thaw, PostSnapshot, BackupComplete}
 use Rattle.vss_names.specs.declared.vss_result.VssResult.{VssResult}
 use Rattle.vss_names.specs.declared.context.Context.{Context}
 use Rattle.writer_state.specs.declared.said.Said.{Said}
-use Rattle.writer_state.specs.declared.said.Said.TheVariants.{Ok, Lost}
+use Rattle.writer_state.specs.declared.said.Said.TheVariants.{Lost}
 use Rattle.writer_state.specs.WriterState.{is_ok}
 use Rattle.write_history.specs.declared.mark.Mark.{Mark}
 use Rattle.component_doc.specs.Selection.{Naming, IsNotFound, IsNotSelectable, IsNamedAlready, Names, naming}
@@ -21,8 +20,8 @@ use Rattle.set_agenda.specs.declared.limit.Limit.TheVariants.{Hold as HoldLimit,
 use Rattle.set_agenda.specs.declared.member.Member.{Member}
 use Rattle.set_agenda.specs.declared.place.Place.{Place}
 use Rattle.set_agenda.specs.Limits.{Running, spent_of}
-use Rattle.set_agenda.specs.Agenda.{Agenda, Entry, Open, plain, places, groups_left, left, open_place, open_order, order_if, is_asked, is_orders, order_of, order_now, waits_now, is_done, is_among, has_said, same_place, group_code, level_code, at_place, all_say, is_snapshot, is_held}
-use Rattle.set_agenda.specs.Course.{Course, failed, settled_if, settled_in, settled, posted, begun, gathered, prepared, snapshot_begun, completing, told, decided, is_decisive, answered_to, answered, lost_to, lost, fails_set, lost_decided, treated_as, treated, timed, limits_now, released}
+use Rattle.set_agenda.specs.Agenda.{Agenda, Entry, Open, plain, groups_left, left, open_place, open_order, order_if, is_asked, is_orders, order_of, order_now, waits_now, is_done, is_among, has_said, same_place, group_code, level_code, at_place, all_say, is_snapshot, is_held}
+use Rattle.set_agenda.specs.Course.{Course, failed, settled_if, settled_in, settled, posted, begun, told, decided, is_decisive, answered_to, answered, lost_to, lost, fails_set, lost_decided, treated_as, treated, timed, limits_now, released}
 use Rattle.requestor.specs.declared.verdict.Verdict.{Verdict}
 use Rattle.requestor.specs.declared.verdict.Verdict.TheVariants.{Go, Blocked, Refused}
 use Rattle.requestor.specs.declared.mode.Mode.{Mode}
@@ -38,7 +37,7 @@ use Rattle.scenario.specs.Plan.{Plan, token}
 use Rattle.vss_model.specs.State.{State, SetRow, in_progress}
 use Rattle.vss_model.specs.Ending.{Ending, NothingEnds, AgendaEnds, SetFails, ending, concluded, followed, failed_in, failed as set_failed, runs}
 use Rattle.vss_model.specs.Images.{Replied}
-use Rattle.vss_model.specs.Sessions.{begin_in, named_as, component_in, known_metas, add_refusal, add_to, add, has_no_volume, volumes_of, prepare, snapshot, await_last, closed, session_line, line_without_session, line_in, judged}
+use Rattle.vss_model.specs.Sessions.{begin_in, named_as, component_in, known_metas, add_refusal, add_to, add, has_no_volume, volumes_of, await_last, closed, session_line, line_without_session, line_in, judged}
 use Rattle.vss_model.specs.Lines.{called, line}
 use Rattle.vss_world.proofs.Failing.{failed_course}
 

@@ -1,19 +1,15 @@
 -- The images of one set on the volumes of a group, as they are listed volume by volume: how many there can be, and one volume more.
-use Rattle.std.proofs.Common.{◌≡◌, ℕ, zero, suc, ◌+◌, ◌*◌, ◌<◌, ◌≤◌, ◌==◌, List, [], ◌∷◌, ◌++◌, length, refl, ap, sym, ◌∙◌, subst, arith, append_assoc, Bool, true, false, ◌&&◌, ◌||◌, Option, Some, None, map, slice_get}
-use Rattle.std.specs.Prelude.{filter, find, not, if◌then◌else◌, is_some, nat_le, nat_lt, IfSome}
-use Rattle.std.specs.List.{flat_map, list_any}
-use Rattle.std.proofs.lemmas.Bool.Decides.{nat_tests}
+use Rattle.std.proofs.Common.{◌≡◌, ℕ, zero, suc, ◌+◌, ◌*◌, ◌<◌, ◌≤◌, ◌==◌, List, [], ◌∷◌, ◌++◌, length, refl, ap, sym, ◌∙◌, subst, arith, append_assoc, Bool, true, false, ◌&&◌, Option, Some, None}
+use Rattle.std.specs.Prelude.{if◌then◌else◌, is_some, nat_le, nat_lt, IfSome}
 use Rattle.std.proofs.lemmas.List.{length-append, length-map, map-append}
-use Rattle.write_history.specs.History.{Image, History, AreInTime, AreLater, point_in, sets_of, after_set}
-use Rattle.write_history.specs.Slots.{gone_up_to}
-use Rattle.scenario.specs.declared.volume_row.VolumeRow.{VolumeRow}
-use Rattle.scenario.specs.Plan.{Plan, placed}
+use Rattle.write_history.specs.History.{Image, History, point_in}
+use Rattle.scenario.specs.Plan.{Plan}
 use Rattle.vss_model.specs.declared.evicted.Evicted.{Evicted}
-use Rattle.vss_model.specs.State.{SetRow, has_image, is_complete, history_in}
-use Rattle.vss_model.specs.Effects.{volumes_losing, evicted_of}
+use Rattle.vss_model.specs.State.{SetRow, has_image, is_complete}
+use Rattle.vss_model.specs.Effects.{evicted_of}
 use Rattle.vss_model.specs.Facts.{NumberedFrom}
 use Rattle.provider.specs.Groups.{history_at}
-use Rattle.vss_world.specs.Evicting.{is_member_row, is_member, lesser, first_above, first_if, first_on, least_above, is_holder, one_more, holders, IsAdded, AreAddedTo, AreAddedIf}
+use Rattle.vss_world.specs.Evicting.{is_member, lesser, first_on, least_above, is_holder, one_more, holders, IsAdded, AreAddedTo, AreAddedIf}
 use Rattle.vss_world.proofs.Going.{Lies, is_below, is_equal, is_over, lies, above_apart, below_apart, same_is, append_none, pick, total, up_to, listing}
 
 -- ## how many

@@ -1,6 +1,6 @@
 -- The volumes of sets and agendas, and the writers that take part or are disabled, stay those of the scenario: what each change of
 -- the course and of the sets keeps.
-use Rattle.std.proofs.Common.{◌≡◌, ℕ, ◌+◌, ◌<◌, ◌≤◌, ◌==◌, List, [], ◌∷◌, ◌++◌, Option, Some, None, refl, Bool, true, false, ap, sym, ◌∙◌, subst, length, arith}
+use Rattle.std.proofs.Common.{◌≡◌, ℕ, ◌+◌, ◌<◌, ◌≤◌, ◌==◌, List, [], ◌∷◌, ◌++◌, Option, Some, None, refl, Bool, true, false, subst, length, arith}
 use Rattle.std.specs.Prelude.{option_map, map, filter, find, is_some, if◌then◌else◌, not, ◌&&◌}
 use Rattle.vss_names.specs.declared.order.Order.{Order}
 use Rattle.vss_names.specs.declared.level.Level.{Level}
@@ -16,7 +16,7 @@ use Rattle.set_agenda.specs.declared.limit.Limit.TheVariants.{Hold as HoldLimit,
 use Rattle.set_agenda.specs.declared.member.Member.{Member}
 use Rattle.set_agenda.specs.declared.place.Place.{Place}
 use Rattle.set_agenda.specs.Limits.{Running, spent_of}
-use Rattle.set_agenda.specs.Agenda.{Agenda, Open, groups_left, left, left_from, with_group, places, waited_for, members_of, has_said, all_say, is_done, next_member, next_volume, volume_if, is_over_volumes, head_or_0, open_order, order_now, waits_now}
+use Rattle.set_agenda.specs.Agenda.{Agenda, Open, groups_left, left, left_from, with_group, places, waited_for, members_of, has_said, all_say, is_done, next_member, next_volume, volume_if, is_over_volumes, open_order, order_now, waits_now}
 use Rattle.set_agenda.specs.Course.{Course, failed, settled_if, settled_in, settled, posted, begun, snapshot_begun, told, decided, is_decisive, answered_to, answered, worked, stepped_as, stepped, lost_to, lost, fails_set, lost_decided, treated_as, treated, timed, limits_now, released}
 use Rattle.writer_state.specs.WriterState.{is_ok}
 use Rattle.vss_names.specs.declared.context.Context.{Context}
@@ -44,8 +44,8 @@ use Rattle.vss_model.specs.Images.{Replied}
 use Rattle.vss_model.specs.Lines.{called, line}
 use Rattle.vss_model.specs.State.{State, SetRow, in_progress, is_running, row_changed}
 use Rattle.vss_model.specs.Ending.{Ending, NothingEnds, AgendaEnds, SetFails, ending, concluded, followed, row_settled, failed_in, failed as set_failed, runs}
-use Rattle.vss_model.specs.Sessions.{with_volume, new_set, volumes_of, begin_in, named_as, component_in, known_metas, add_refusal, add_to, add, has_no_volume, await_last, closed, session_line, line_without_session, line_in, judged}
-use Rattle.vss_model.specs.Steps.{with_cut, row_cut, cut_set}
+use Rattle.vss_model.specs.Sessions.{with_volume, volumes_of, begin_in, named_as, component_in, known_metas, add_refusal, add_to, add, has_no_volume, await_last, closed, session_line, line_without_session, line_in, judged}
+use Rattle.vss_model.specs.Steps.{with_cut, row_cut}
 use Rattle.vss_world.specs.Stands.{AreBelow, MembersBelow, SetsBelow, IsAgendaIn, IsInPlan}
 
 -- ## the course

@@ -1,10 +1,10 @@
 -- Whether an image is kept: its set is complete, and it stands.
-use Rattle.std.proofs.Common.{◌≡◌, ℕ, suc, ◌+◌, ◌<◌, ◌≤◌, List, [], ◌∷◌, refl, ap, sym, ◌∙◌, subst, arith, Bool, true, false, ◌&&◌, ◌||◌, ◌==◌, Option, Some, None}
+use Rattle.std.proofs.Common.{◌≡◌, ℕ, ◌+◌, ◌<◌, List, [], ◌∷◌, refl, ap, ◌∙◌, arith, Bool, true, false, ◌&&◌, ◌||◌, ◌==◌, Option, Some, None}
 use Rattle.std.specs.Prelude.{find, if◌then◌else◌, is_some}
 use Rattle.std.specs.List.{list_any}
 use Rattle.std.proofs.lemmas.Bool.Decides.{nat_tests}
 use Rattle.write_history.specs.History.{point_in}
-use Rattle.vss_model.specs.State.{State, SetRow, Kept, kept_of, kept_at, kept_if, kept_image, is_kept_set, is_complete, row_of, history_of}
+use Rattle.vss_model.specs.State.{State, SetRow, kept_of, kept_at, kept_if, kept_image, is_kept_set, is_complete, row_of, history_of}
 use Rattle.vss_model.specs.Facts.{NumberedFrom}
 
 not_kept : (rows : List SetRow) (n : ℕ) (o : Option ℕ) → list_any (λ r. (r.number == n) && is_complete r.result) rows ≡ false → kept_of (find (λ r. r.number == n) rows) o ≡ None

@@ -1,11 +1,11 @@
 -- Which images of a volume are kept: all of them but the newest, where its set is in progress.
-use Rattle.std.proofs.Common.{◌≡◌, ℕ, zero, suc, ◌+◌, ◌<◌, ◌≤◌, List, [], ◌∷◌, length, refl, ap, sym, ◌∙◌, subst, arith, Bool, true, false, ◌&&◌, ◌||◌, ◌==◌, Option, Some, None, map, take}
+use Rattle.std.proofs.Common.{◌≡◌, ℕ, zero, suc, ◌+◌, ◌<◌, List, [], ◌∷◌, length, refl, ap, sym, ◌∙◌, arith, Bool, true, false, ◌&&◌, ◌||◌, ◌==◌, take}
 use Rattle.std.specs.Prelude.{filter, not, if◌then◌else◌, slice_index, slice_get}
 use Rattle.std.specs.List.{list_any}
 use Rattle.std.proofs.lemmas.Bool.Decides.{nat_tests}
 use Rattle.vss_names.specs.declared.set_outcome.SetOutcome.{SetOutcome}
 use Rattle.vss_names.specs.declared.set_outcome.SetOutcome.TheVariants.{Running, Complete, Failed}
-use Rattle.write_history.specs.History.{Image, History, sets_of, AreInTime, AreLater}
+use Rattle.write_history.specs.History.{Image, History, sets_of, AreInTime}
 use Rattle.scenario.specs.Plan.{Plan}
 use Rattle.vss_model.specs.State.{State, SetRow, is_running, is_complete, is_kept_set, kept, history_in, history_of}
 use Rattle.vss_model.specs.Facts.{NumberedFrom, OverButNewest, AreLive, AllLive, is_live, has_failed}

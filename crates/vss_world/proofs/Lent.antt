@@ -1,17 +1,14 @@
 -- What was lent is told as it is, and nothing changes.
-use Rattle.std.proofs.Common.{◌≡◌, ℕ, ◌<◌, List, [], ◌∷◌, length, refl, ap, sym, ◌∙◌, subst, Bool, true, false, Option, Some, None}
-use Rattle.std.specs.Prelude.{is_some, take}
+use Rattle.std.proofs.Common.{◌≡◌, ℕ, List, refl, sym, ◌∙◌, subst, Bool, true, Option, Some, None}
+use Rattle.std.specs.Prelude.{take}
 use Rattle.block_data.specs.Digest.{sha256}
-use Rattle.write_history.specs.History.{History, content, point_in}
 use Rattle.scenario.specs.Plan.{Plan}
-use Rattle.vss_model.specs.declared.told.Told.{Told}
 use Rattle.vss_model.specs.declared.told.Told.TheVariants as told
-use Rattle.provider.specs.Groups.{AreGroups, history_at}
 use Rattle.provider.specs.Calls.{IsNow, IsShown, HasImage}
 use Rattle.provider.specs.Preparing.{ProviderValue}
 use Rattle.provider.proofs.Kept.{kept_same}
 use Rattle.vss_world.specs.declared.fingerprint.Fingerprint.{Fingerprint}
-use Rattle.vss_world.specs.Reading.{IsFingerprint, IsWide, IsReading, IsBlockTold, IsBlockSeen, IsSeenIf, AreNow, AreShown}
+use Rattle.vss_world.specs.Reading.{IsFingerprint, IsWide, IsReading, IsBlockSeen, IsSeenIf, AreNow, AreShown}
 
 pub reading_itself : {D : Type 0} (blocks_told : D → Option (List (List ℕ))) (size count : D → ℕ) (lending : D → Bool) (s : Plan) (p : ProviderValue D) (v : ℕ) → IsReading blocks_told size count lending s p p v None
 reading_itself blocks_told size count lending s p v = record {

@@ -1,5 +1,5 @@
 -- The list of the kept images that go for a write, as it grows set by set.
-use Rattle.std.proofs.Common.{◌≡◌, ℕ, zero, suc, ◌+◌, ◌<◌, ◌≤◌, List, [], ◌∷◌, ◌++◌, length, refl, ap, sym, ◌∙◌, subst, arith, append_assoc, Bool, true, false, Option, Some, None, map, slice_get}
+use Rattle.std.proofs.Common.{◌≡◌, ℕ, ◌<◌, ◌≤◌, List, [], ◌∷◌, ◌++◌, length, refl, ap, sym, ◌∙◌, subst, arith, Bool, true, false, Option, Some, None, map, slice_get}
 use Rattle.std.specs.Prelude.{filter}
 use Rattle.std.specs.List.{flat_map}
 use Rattle.std.proofs.lemmas.List.{length-append, length-map}
@@ -16,7 +16,7 @@ use Rattle.vss_model.specs.Effects.{volumes_losing, evicted_of, evicted_for}
 use Rattle.vss_model.specs.Images.{going_up_to}
 use Rattle.vss_model.specs.Acts.{Act, state}
 use Rattle.vss_model.proofs.OneCut.{images_in_time}
-use Rattle.provider.specs.Groups.{of_group, place_in, HasGroups, AreGroups, IfStandFor, history_at}
+use Rattle.provider.specs.Groups.{of_group, place_in, HasGroups, AreGroups, IfStandFor}
 use Rattle.provider.specs.Calls.{GoUpTo}
 use Rattle.provider.specs.Preparing.{ProviderValue}
 use Rattle.provider.proofs.InGroup.{at_place}

@@ -1,12 +1,9 @@
 -- Each line that looks at volumes or images, against the definitions.
-use Rattle.std.proofs.Common.{◌≡◌, ℕ, ◌<◌, List, [], ◌∷◌, length, refl, ap, sym, ◌∙◌, subst, Bool, true, false, Option, Some, None, map, slice_get}
+use Rattle.std.proofs.Common.{◌≡◌, ℕ, ◌<◌, List, [], length, refl, ap, sym, ◌∙◌, subst, Bool, true, false, Option, Some, None}
 use Rattle.std.specs.Prelude.{is_some, unwrap_or, option_map}
-use Rattle.std.specs.List.{concat}
-use Rattle.vss_names.specs.declared.vss_result.VssResult.{VssResult}
 use Rattle.vss_names.specs.declared.vss_result.VssResult.TheVariants.{ObjectNotFound}
-use Rattle.write_history.specs.declared.mark.Mark.{Mark}
-use Rattle.write_history.specs.declared.mark.Mark.TheVariants.{Clean, Fault}
-use Rattle.write_history.specs.History.{History, content, contents, point_in, sets_of}
+use Rattle.write_history.specs.declared.mark.Mark.TheVariants.{Clean}
+use Rattle.write_history.specs.History.{content, contents, point_in, sets_of}
 use Rattle.write_history.specs.Slots.{used_by}
 use Rattle.hold_gate.specs.Gate.{Flags}
 use Rattle.scenario.specs.declared.op.Op.{Op}
@@ -17,10 +14,9 @@ use Rattle.vss_model.specs.declared.event.Event.TheVariants.{Line}
 use Rattle.vss_model.specs.declared.evicted.Evicted.{Evicted}
 use Rattle.vss_model.specs.declared.told.Told.{Told}
 use Rattle.vss_model.specs.declared.told.Told.TheVariants as told
-use Rattle.vss_model.specs.Reply.{Reply, Coded, BlockOf, BlocksOf, KeptSets, PropertiesOf}
-use Rattle.vss_model.specs.State.{State, SetRow, Kept, kept, kept_of, kept_at, kept_if, kept_image, is_complete, row_of, history_of}
-use Rattle.vss_model.specs.Images.{Replied, image_block, image_blocks, properties, read_as}
-use Rattle.vss_model.specs.Lines.{line}
+use Rattle.vss_model.specs.Reply.{Coded, KeptSets, PropertiesOf}
+use Rattle.vss_model.specs.State.{State, SetRow, Kept, kept, kept_of, kept_if, kept_image, is_complete, row_of, history_of}
+use Rattle.vss_model.specs.Images.{image_block, image_blocks, properties}
 use Rattle.vss_model.specs.Acts.{Act, state}
 use Rattle.provider.specs.Preparing.{ProviderValue}
 use Rattle.sessions.specs.Keeps.{SessionsValue}

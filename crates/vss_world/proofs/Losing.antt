@@ -1,6 +1,6 @@
 -- For a write the image of the set in progress goes just where the sets go up to it.
-use Rattle.std.proofs.Common.{◌≡◌, ℕ, zero, suc, ◌+◌, ◌<◌, ◌≤◌, ◌==◌, List, [], ◌∷◌, length, refl, ap, sym, ◌∙◌, subst, arith, Bool, true, false, Option, Some, None, map, slice_get}
-use Rattle.std.specs.Prelude.{◌&&◌, ◌||◌, not, filter, find, nat_lt, is_some, unwrap_or, if◌then◌else◌}
+use Rattle.std.proofs.Common.{◌≡◌, ℕ, zero, suc, ◌+◌, ◌<◌, ◌≤◌, ◌==◌, List, [], ◌∷◌, refl, ap, sym, ◌∙◌, arith, Bool, true, false, Option, Some, None, slice_get}
+use Rattle.std.specs.Prelude.{◌&&◌, ◌||◌, not, find, nat_lt, is_some, unwrap_or, if◌then◌else◌}
 use Rattle.std.specs.List.{range_with_len}
 use Rattle.std.proofs.lemmas.Bool.Decides.{nat_tests}
 use Rattle.write_history.specs.History.{Image, History, point_in, after_set}

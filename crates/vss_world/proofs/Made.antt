@@ -1,23 +1,20 @@
 -- A step of the provider, against the acts.
-use Rattle.std.proofs.Common.{◌≡◌, ℕ, ◌+◌, ◌<◌, ◌≤◌, List, [], ◌∷◌, ◌++◌, length, refl, ap, sym, ◌∙◌, subst, arith, Bool, true, false, ◌&&◌, ◌||◌, Option, Some, None, ◌⊎◌, inl, inr, map}
-use Rattle.std.specs.Prelude.{not, IfSome, Result, Ok, Err, slice_get}
+use Rattle.std.proofs.Common.{◌≡◌, ℕ, List, length, refl, ap, sym, ◌∙◌, Bool, true, false, ◌&&◌, Option, Some, None}
+use Rattle.std.specs.Prelude.{not}
 use Rattle.vss_names.specs.declared.set_outcome.SetOutcome.{SetOutcome}
 use Rattle.vss_names.specs.declared.set_outcome.SetOutcome.TheVariants.{Running, Complete, Failed}
 use Rattle.vss_names.specs.declared.vss_result.VssResult.{VssResult}
 use Rattle.vss_names.specs.declared.vss_result.VssResult.TheVariants.{UnexpectedProviderError}
 use Rattle.write_history.specs.declared.mark.Mark.{Mark}
-use Rattle.write_history.specs.declared.mark.Mark.TheVariants.{Clean, Fault}
-use Rattle.write_history.specs.History.{History, dropped}
-use Rattle.hold_gate.specs.Gate.{Flags, is_held as holds, all_open}
 use Rattle.set_agenda.specs.declared.kind.Kind.{Kind}
 use Rattle.set_agenda.specs.declared.kind.Kind.TheVariants as kind
 use Rattle.set_agenda.specs.declared.group.Group.{Group}
 use Rattle.set_agenda.specs.declared.group.Group.TheVariants.{Orders, PreCommit, Flush, Hold, Cut, Commit, Release, PostCommit}
-use Rattle.set_agenda.specs.Agenda.{Agenda, open_group, is_done, is_working, groups_left}
+use Rattle.set_agenda.specs.Agenda.{Agenda, open_group, is_done, groups_left}
 use Rattle.set_agenda.specs.Course.{Course, settled_in, settled_if, settled, worked, posted, outcome_after, failed as course_failed, stepped as course_stepped}
 use Rattle.scenario.specs.Plan.{Plan}
 use Rattle.vss_model.specs.State.{State, SetRow, in_progress, left_now}
-use Rattle.vss_model.specs.Ending.{Ending, NothingEnds, AgendaEnds, SetFails, ending, concluded, followed, images_dropped, runs}
+use Rattle.vss_model.specs.Ending.{ending, concluded, followed, images_dropped, runs}
 use Rattle.vss_model.specs.Steps.{cut_set, cut_each, step_made, is_flush, is_failed_step, stepped_as, stepped}
 use Rattle.vss_model.specs.Told.{mark_if}
 use Rattle.provider.specs.Preparing.{step_taken}

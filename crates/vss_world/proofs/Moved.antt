@@ -1,7 +1,6 @@
 -- A move, from what it does to the devices and what it comes to at each state.
-use Rattle.std.proofs.Common.{◌≡◌, ℕ, ◌+◌, ◌*◌, ◌<◌, ◌≤◌, List, [], ◌∷◌, ◌++◌, length, refl, ap, sym, ◌∙◌, subst, arith, Bool, true, false, Option, Some, None, map}
+use Rattle.std.proofs.Common.{◌≡◌, ℕ, ◌+◌, ◌≤◌, List, [], ◌∷◌, ◌++◌, length, refl, ap, sym, ◌∙◌, subst, arith, Bool, true, false, Option, map}
 use Rattle.std.proofs.lemmas.List.{length-append}
-use Rattle.write_history.specs.History.{History}
 use Rattle.writer_state.specs.declared.writer_row.WriterRow.{WriterRow}
 use Rattle.hold_gate.specs.Gate.{Flags}
 use Rattle.scenario.specs.Plan.{Plan}
@@ -18,7 +17,6 @@ use Rattle.vss_model.proofs.Appending.{state-append}
 use Rattle.vss_model.proofs.OrderlyActs.{orderly}
 use Rattle.provider.specs.Groups.{AreGroups, HasGroups}
 use Rattle.provider.specs.Devices.{devices_of, counts_of, AreKept, AreLater}
-use Rattle.provider.specs.Devices.{tells_of as group_tells_of}
 use Rattle.provider.specs.Preparing.{ProviderValue}
 use Rattle.provider.proofs.Kept.{later_same}
 use Rattle.coordinator.specs.Coordinator.{Registered}

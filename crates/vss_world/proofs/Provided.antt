@@ -1,9 +1,9 @@
 -- A step of the provider: what it asks for.
-use Rattle.std.proofs.Common.{◌≡◌, ℕ, zero, suc, ◌+◌, ◌<◌, ◌≤◌, ◌==◌, List, [], ◌∷◌, length, refl, ap, sym, ◌∙◌, subst, arith, Bool, true, false, ◌||◌, Option, Some, None, All}
-use Rattle.std.specs.Prelude.{IfSome, if◌then◌else◌, option_map, slice_get}
+use Rattle.std.proofs.Common.{◌≡◌, ℕ, ◌+◌, ◌<◌, ◌≤◌, ◌==◌, List, [], ◌∷◌, length, refl, ap, sym, ◌∙◌, subst, arith, Bool, true, false, ◌||◌, Option, Some, None, All}
+use Rattle.std.specs.Prelude.{IfSome, if◌then◌else◌, option_map}
 use Rattle.std.specs.List.{find}
 use Rattle.std.proofs.lemmas.List.Elements.{All-nil, All-cons}
-use Rattle.write_history.specs.History.{Image, History, point_in}
+use Rattle.write_history.specs.History.{Image, point_in}
 use Rattle.hold_gate.specs.Gate.{Flags}
 use Rattle.set_agenda.specs.declared.group.Group.{Group}
 use Rattle.set_agenda.specs.declared.group.Group.TheVariants.{Cut}
@@ -16,7 +16,7 @@ use Rattle.vss_model.specs.Cut.{is_cut_group}
 use Rattle.vss_model.specs.Facts.{NumberedFrom, OverButNewest}
 use Rattle.vss_model.specs.Sessions.{volumes_of}
 use Rattle.vss_model.proofs.AtCut.{cuts}
-use Rattle.vss_model.proofs.CutStep.{HasSet, has_set}
+use Rattle.vss_model.proofs.CutStep.{has_set}
 use Rattle.vss_model.proofs.NewestImage.{UpTo, images_up_to}
 use Rattle.vss_model.proofs.OneCut.{newest_number, uncut_at_cut}
 use Rattle.vss_model.proofs.RoomForImage.{room_at_cut}
@@ -25,7 +25,7 @@ use Rattle.provider.specs.Groups.{AreGroups}
 use Rattle.provider.specs.Preparing.{ProviderValue, CanCut}
 use Rattle.sessions.specs.Keeps.{SessionsValue, Keeps}
 use Rattle.sessions.specs.Sets.{current_of}
-use Rattle.vss_world.specs.Stands.{WorldValue, IsOf, AreBelow, IsInPlan, Stands}
+use Rattle.vss_world.specs.Stands.{IsOf, AreBelow, IsInPlan, Stands}
 use Rattle.vss_world.specs.Steps.{HasRoom, IsTakenUp}
 use Rattle.vss_world.proofs.Moved.{world_of}
 use Rattle.vss_world.proofs.InPlan.{IsBelowIf, next_below, volumes_below}

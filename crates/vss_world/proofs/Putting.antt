@@ -1,49 +1,41 @@
 -- A write, against the acts: the images that it needs gone, and the set in progress that fails where its own goes.
-use Rattle.std.proofs.Common.{◌≡◌, ℕ, zero, suc, ◌+◌, ◌<◌, ◌≤◌, ◌==◌, List, [], ◌∷◌, ◌++◌, length, refl, ap, sym, ◌∙◌, subst, arith, Bool, true, false, Option, Some, None, map, slice_get}
+use Rattle.std.proofs.Common.{◌≡◌, ℕ, zero, suc, ◌<◌, ◌≤◌, ◌==◌, List, [], ◌∷◌, length, refl, ap, sym, ◌∙◌, subst, arith, Bool, true, false, Option, Some, None, map, slice_get}
 use Rattle.std.specs.Prelude.{option_map, is_some, find, not, ◌&&◌, if◌then◌else◌, IfSome}
 use Rattle.std.proofs.lemmas.Bool.Decides.{nat_tests}
 use Rattle.vss_names.specs.declared.set_outcome.SetOutcome.{SetOutcome}
 use Rattle.vss_names.specs.declared.set_outcome.SetOutcome.TheVariants.{Running, Failed}
-use Rattle.vss_names.specs.declared.vss_result.VssResult.{VssResult}
 use Rattle.vss_names.specs.declared.vss_result.VssResult.TheVariants.{InsufficientStorage}
 use Rattle.writer_state.specs.declared.writer_row.WriterRow.{WriterRow}
-use Rattle.block_data.specs.declared.payload.Payload.TheVariants.{Fill, Stamp}
-use Rattle.block_data.specs.PayloadBytes.{payload_bytes}
 use Rattle.write_history.specs.declared.mark.Mark.{Mark}
-use Rattle.write_history.specs.declared.mark.Mark.TheVariants.{Clean, Fault}
 use Rattle.write_history.specs.History.{Write, Image, History, point_in, written, dropped}
 use Rattle.write_history.specs.Slots.{Placed, gone_up_to, evicted_up_to}
 use Rattle.hold_gate.specs.Gate.{Flags, all_open, is_held as holds}
 use Rattle.set_agenda.specs.Agenda.{order_now}
 use Rattle.set_agenda.proofs.WriterSets.{new-is}
-use Rattle.set_agenda.specs.Course.{Course, change_at, failed as course_failed}
+use Rattle.set_agenda.specs.Course.{change_at}
 use Rattle.scenario.specs.declared.volume_row.VolumeRow.{VolumeRow}
 use Rattle.scenario.specs.declared.op.Op.{Op}
 use Rattle.scenario.specs.declared.op.Op.TheVariants.{WriteFill, WriteStamp}
 use Rattle.scenario.specs.Bounds.{IsPlan, IsBlock}
-use Rattle.scenario.specs.Calls.{Target, target_of}
 use Rattle.std.specs.List.{slice_index_or}
 use Rattle.scenario.specs.Plan.{Plan, LanePlan, placed, placed_in, slots_of, group_of, acts_as, writer_in}
-use Rattle.cow_volume.specs.GroupValue.{GroupValue}
 use Rattle.vss_model.specs.declared.event.Event.TheVariants.{Line}
 use Rattle.vss_model.specs.declared.evicted.Evicted.{Evicted}
-use Rattle.vss_model.specs.declared.told.Told.{Told}
 use Rattle.vss_model.specs.declared.told.Told.TheVariants as told
 use Rattle.vss_model.specs.Reply.{Reply, Fine, Faulted}
 use Rattle.vss_model.specs.State.{State, SetRow, in_progress, is_running, history_in, left_now, is_held, is_frozen}
-use Rattle.vss_model.specs.Ending.{failed, failed_in, images_dropped}
+use Rattle.vss_model.specs.Ending.{failed_in, images_dropped}
 use Rattle.vss_model.specs.Images.{Replied, cleared, going_up_to, put, with_room, with_room_if, set_loses_image, write, has_lost_image, reply_of_mark}
 use Rattle.vss_model.specs.Lines.{line}
 use Rattle.vss_model.specs.Effects.{evicted, evicted_for, lost, lost_order_if, ended_of}
-use Rattle.vss_model.specs.Acts.{Act, state, after, after_if, enabled, happens, may_write, is_free, line_enabled, line_allows, reply}
+use Rattle.vss_model.specs.Acts.{Act, state, after, may_write, is_free, line_enabled, line_allows}
 use Rattle.vss_model.specs.Told.{Fits, mark_of}
-use Rattle.vss_model.specs.Trail.{act_of, is_fault}
-use Rattle.vss_model.specs.Outcome.{IsOutcome, HasLists, EndsAs, told_act}
-use Rattle.vss_model.specs.Facts.{IsOrderly, NumberedFrom, OverButNewest}
+use Rattle.vss_model.specs.Trail.{act_of}
+use Rattle.vss_model.specs.Outcome.{HasLists, EndsAs}
 use Rattle.vss_model.proofs.OrderlyActs.{orderly}
 use Rattle.vss_model.proofs.NewestImage.{UpTo, images_up_to}
 use Rattle.vss_model.proofs.OneCut.{newest_number}
-use Rattle.provider.specs.Groups.{AreGroups, HasGroups}
+use Rattle.provider.specs.Groups.{AreGroups}
 use Rattle.provider.specs.Devices.{devices_of, counts_of, AreKept, HasCause}
 use Rattle.provider.specs.Calls.{IsLastSet, IsPut, put_if, AreWithout}
 use Rattle.provider.specs.Preparing.{ProviderValue}
@@ -54,11 +46,11 @@ use Rattle.sessions.specs.Sets.{current_of}
 use Rattle.sessions.specs.Keeps.{SessionsValue, Keeps, IsInOrder, Leaves, IsOf as IsSessionsOf}
 use Rattle.sessions.specs.Moves.{IsFailed}
 use Rattle.vss_world.specs.Devices.{tells_of, RoseFor}
-use Rattle.vss_world.specs.Stands.{WorldValue, IsOf, IsGateOf, IsInPlan, Stands, IsStanding, IfStands}
+use Rattle.vss_world.specs.Stands.{IsOf, IsGateOf, IsInPlan, Stands, IsStanding, IfStands}
 use Rattle.vss_world.specs.Moves.{IsMoved, IsBlocked, simple_outcome, volume_of_line}
 use Rattle.vss_world.specs.Puts.{IsWriteLine, told_if, AreEvicted}
-use Rattle.vss_world.proofs.Moved.{world_of, Parts, parts_of, OfDevices, Comes, Goes, goes_on, leaves_of, in_order, moved, clean_devices, failed_devices}
-use Rattle.vss_world.proofs.Simple.{LineComes, line_moves, after_line, volumes_parts}
+use Rattle.vss_world.proofs.Moved.{world_of, Parts, OfDevices, Comes, goes_on, leaves_of, in_order, moved, clean_devices, failed_devices}
+use Rattle.vss_world.proofs.Simple.{LineComes, line_moves, after_line}
 use Rattle.vss_world.proofs.Rising.{rose_for}
 use Rattle.vss_world.proofs.Failing.{failed_agenda, gate_open, failed_ends}
 use Rattle.vss_world.proofs.InPlan.{in_failed_in}

@@ -1,7 +1,7 @@
 -- The writers of a scenario, registered one after another: none has the name of one before it.
-use Rattle.std.proofs.Common.{◌≡◌, ℕ, zero, suc, ◌+◌, ◌<◌, ◌≤◌, List, [], ◌∷◌, ◌++◌, length, refl, ap, sym, ◌∙◌, subst, arith, add-one, take, Bool, true, false, Option, Some, None, map, slice_get}
-use Rattle.std.specs.Prelude.{All, position, option_map, Result, if◌then◌else◌}
-use Rattle.std.specs.List.{position_from, slice_index_or}
+use Rattle.std.proofs.Common.{◌≡◌, ℕ, zero, suc, ◌+◌, ◌≤◌, List, [], ◌∷◌, ◌++◌, length, refl, ap, sym, ◌∙◌, subst, arith, add-one, take, Bool, true, false, Option, Some, None, map, slice_get}
+use Rattle.std.specs.Prelude.{option_map, Result, if◌then◌else◌}
+use Rattle.std.specs.List.{position_from}
 use Rattle.std.specs.Str.{bytes_eq}
 use Rattle.std.proofs.lemmas.Slice.Eq.{bytes_eq-Decides}
 use Rattle.std.proofs.lemmas.Iterator.Adapters.{position_from-zero}
@@ -21,7 +21,7 @@ use Rattle.scenario.specs.Plan.{Plan, WriterPlan, token}
 use Rattle.scenario.specs.Bounds.{IsPlan, IsSpan, IsWriter}
 use Rattle.scenario.specs.Named.{HasNames, Differ, Distinct, writer_spans}
 use Rattle.vss_model.specs.State.{start, row_of_writer}
-use Rattle.sessions.specs.Keeps.{SessionsValue, Keeps, classes_registered, classes_of}
+use Rattle.sessions.specs.Keeps.{SessionsValue, Keeps, classes_registered}
 use Rattle.vss_world.specs.Beginning.{AreFirst, HasRegistered, registered_as}
 
 -- ## the writer at a place
@@ -104,7 +104,7 @@ registers s k old new span name found given before e meta copied is stands write
     record {
       stands = subst (λ (rs : List WriterRow). Stands new (course_start rs)) rows (stands (course_start (map row_of_writer (take k s.writers))) before.stands);
       writers = writers ∙ ap (λ (rs : List Registered). rs ++ record { name = name; class = given.class } ∷ []) before.writers ∙ ap (λ (r : Registered). map (registered_as s) (take k s.writers) ++ r ∷ []) entry
-      ∙ sym (more (registered_as s) s.writers k w.writer w.at) ∙ ap (λ n. map (registered_as s) (take n s.writers)) (sym (add-one k));
+          ∙ sym (more (registered_as s) s.writers k w.writer w.at) ∙ ap (λ n. map (registered_as s) (take n s.writers)) (sym (add-one k));
       count = count ∙ ap (λ n. n + 1) before.count;
       times = times 0 before.times;
       posts = posts ∙ before.posts;

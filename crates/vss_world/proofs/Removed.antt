@@ -1,45 +1,37 @@
 -- Images that are deleted, and volumes that are brought back to one, against the definitions.
-use Rattle.std.proofs.Common.{◌≡◌, ℕ, zero, suc, ◌<◌, ◌≤◌, List, [], ◌∷◌, length, refl, ap, sym, ◌∙◌, subst, arith, Bool, true, false, ◌&&◌, Option, Some, None, map}
-use Rattle.std.specs.Prelude.{is_some, is_none, nat_lt, option_map, if◌then◌else◌, Result, Ok, Err}
+use Rattle.std.proofs.Common.{◌≡◌, ℕ, ◌<◌, List, [], length, refl, ap, sym, ◌∙◌, subst, arith, Bool, true, false, ◌&&◌, Option, Some, None, map}
+use Rattle.std.specs.Prelude.{is_some, is_none, nat_lt, option_map, if◌then◌else◌, Ok, Err}
 use Rattle.std.proofs.lemmas.Bool.Decides.{nat_tests}
 use Rattle.vss_names.specs.declared.vss_result.VssResult.{VssResult}
 use Rattle.vss_names.specs.declared.vss_result.VssResult.TheVariants.{ObjectNotFound, UnsupportedContext, SnapshotSetInProgress}
 use Rattle.write_history.specs.declared.mark.Mark.{Mark}
-use Rattle.write_history.specs.declared.mark.Mark.TheVariants.{Clean, Fault, FaultAfter}
-use Rattle.write_history.specs.History.{History, point_in, dropped, reverted, reverted_in_part, to_restore}
+use Rattle.write_history.specs.declared.mark.Mark.TheVariants.{Clean, FaultAfter}
+use Rattle.write_history.specs.History.{point_in, dropped, reverted, reverted_in_part, to_restore}
 use Rattle.hold_gate.specs.Gate.{Flags}
 use Rattle.cow_volume.specs.GroupValue.{GroupValue}
 use Rattle.set_agenda.specs.Course.{change_at}
-use Rattle.scenario.specs.declared.op.Op.{Op}
 use Rattle.scenario.specs.declared.op.Op.TheVariants.{DeleteSet, DeleteImage, Revert}
 use Rattle.scenario.specs.Plan.{Plan, blocks_of}
 use Rattle.vss_model.specs.declared.event.Event.TheVariants.{Line}
 use Rattle.vss_model.specs.declared.evicted.Evicted.{Evicted}
-use Rattle.vss_model.specs.declared.told.Told.{Told}
 use Rattle.vss_model.specs.declared.told.Told.TheVariants as told
-use Rattle.vss_model.specs.Reply.{Reply, Fine, FaultedAfter, Coded, Deleted}
+use Rattle.vss_model.specs.Reply.{Fine, FaultedAfter, Coded, Deleted}
 use Rattle.vss_model.specs.State.{State, SetRow, Kept, kept_of, kept_image, is_kept_set, row_of, in_progress, history_of}
-use Rattle.vss_model.specs.Images.{Replied, refused, count_images, delete_set, delete_kept, delete_image, is_backup, is_in_set, reverted_as, revert_refusal, revert_to, revert}
-use Rattle.vss_model.specs.Lines.{line}
+use Rattle.vss_model.specs.Images.{refused, count_images, delete_set, delete_kept, delete_image, is_backup, is_in_set, revert_refusal, revert_to, revert}
 use Rattle.vss_model.specs.Acts.{Act, state, may_stop_after, restorable}
-use Rattle.vss_model.specs.Told.{mark_of}
 use Rattle.vss_model.proofs.OneCut.{row_number}
-use Rattle.provider.specs.Groups.{AreGroups}
-use Rattle.provider.specs.Devices.{devices_of, counts_of, HasCause}
 use Rattle.provider.specs.Calls.{AreWithout, IsDropped, IsRevert, HasImage}
 use Rattle.provider.specs.Preparing.{ProviderValue}
 use Rattle.provider.specs.declared.device_fault.DeviceFault.{DeviceFault}
-use Rattle.provider.specs.declared.revert_fault.RevertFault.{RevertFault}
 use Rattle.provider.specs.declared.revert_fault.RevertFault.TheVariants.{NoSuchImage, Stopped}
 use Rattle.sessions.specs.Keeps.{SessionsValue, Keeps}
 use Rattle.sessions.specs.Sets.{facts_of}
 use Rattle.sessions.specs.declared.set_facts.SetFacts.{SetFacts}
-use Rattle.vss_world.specs.Devices.{tells_of}
-use Rattle.vss_world.specs.Stands.{WorldValue, IsOf, Stands}
+use Rattle.vss_world.specs.Stands.{IsOf, Stands}
 use Rattle.vss_world.specs.Moves.{IsMoved, simple_outcome}
-use Rattle.vss_world.proofs.Moved.{world_of, Parts, parts_of, in_order, clean_devices, failed_devices}
-use Rattle.vss_world.proofs.Simple.{LineComes, line_moves, volumes_parts}
-use Rattle.vss_world.proofs.Seen.{answered_moves, Answers}
+use Rattle.vss_world.proofs.Moved.{world_of, parts_of, clean_devices, failed_devices}
+use Rattle.vss_world.proofs.Simple.{line_moves, volumes_parts}
+use Rattle.vss_world.proofs.Seen.{answered_moves}
 use Rattle.vss_world.proofs.Looking.{IsKeptIf, some_kept, no_kept, of_image, none_stands}
 use Rattle.vss_world.proofs.Rising.{rose_for}
 

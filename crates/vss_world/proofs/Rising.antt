@@ -1,8 +1,8 @@
 -- Where a device failed in a call on a volume, its count alone rose.
-use Rattle.std.proofs.Common.{◌≡◌, ℕ, List, Option, Some, None, inl, inr}
+use Rattle.std.proofs.Common.{ℕ, List, Some, inl, inr}
 use Rattle.scenario.specs.Plan.{Plan}
 use Rattle.cow_volume.specs.GroupValue.{GroupValue}
-use Rattle.provider.specs.Devices.{counts_of, HasCause, failed_place}
+use Rattle.provider.specs.Devices.{counts_of, HasCause}
 use Rattle.provider.specs.declared.device_fault.DeviceFault.{DeviceFault}
 use Rattle.provider.specs.declared.device_fault.DeviceFault.TheVariants.{Volume, Area}
 use Rattle.vss_world.specs.Devices.{RoseFor}

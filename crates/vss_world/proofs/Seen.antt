@@ -1,8 +1,6 @@
 -- What is read of volumes and images, against the definitions.
-use Rattle.std.proofs.Common.{◌≡◌, ℕ, ◌<◌, List, [], ◌∷◌, length, refl, ap, sym, ◌∙◌, subst, Bool, true, false, Option, Some, None, map, slice_get}
-use Rattle.std.specs.Prelude.{is_some}
+use Rattle.std.proofs.Common.{◌≡◌, ℕ, ◌<◌, List, [], length, refl, ap, sym, ◌∙◌, subst, Bool, true, false, Option, Some, slice_get}
 use Rattle.std.specs.List.{concat}
-use Rattle.vss_names.specs.declared.vss_result.VssResult.{VssResult}
 use Rattle.writer_state.specs.declared.writer_row.WriterRow.{WriterRow}
 use Rattle.write_history.specs.declared.mark.Mark.{Mark}
 use Rattle.write_history.specs.declared.mark.Mark.TheVariants.{Clean, Fault}
@@ -37,8 +35,8 @@ use Rattle.vss_world.specs.Stands.{IsOf, Stands}
 use Rattle.vss_world.specs.Moves.{IsMoved, simple_outcome, volume_of_line}
 use Rattle.vss_world.specs.Reading.{IsFingerprint, IsWide, IsReading, IsBlockTold, IsDigestTold, IsBlockSeen, IsDigestSeen}
 use Rattle.vss_world.proofs.Tied.{tells_are}
-use Rattle.vss_world.proofs.Moved.{world_of, Parts, parts_of, OfDevices, clean_devices, failed_devices}
-use Rattle.vss_world.proofs.Simple.{LineComes, line_moves, same_parts}
+use Rattle.vss_world.proofs.Moved.{world_of, parts_of, clean_devices, failed_devices}
+use Rattle.vss_world.proofs.Simple.{line_moves, same_parts}
 use Rattle.vss_world.proofs.Rising.{rose_for}
 
 -- ## what is told fits

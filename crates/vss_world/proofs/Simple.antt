@@ -1,5 +1,5 @@
 -- Lines that begin or end nothing: they are answered, and at most the volumes change.
-use Rattle.std.proofs.Common.{◌≡◌, ℕ, ◌+◌, ◌<◌, List, [], ◌∷◌, ◌++◌, length, refl, ap, sym, ◌∙◌, subst, arith, Bool, true, false, Option, Some, None, map}
+use Rattle.std.proofs.Common.{◌≡◌, ℕ, List, [], refl, ap, sym, ◌∙◌, subst, Bool, true, Option}
 use Rattle.vss_names.specs.declared.set_outcome.SetOutcome.TheVariants.{Running}
 use Rattle.writer_state.specs.declared.writer_row.WriterRow.{WriterRow}
 use Rattle.write_history.specs.declared.mark.Mark.{Mark}
@@ -9,10 +9,8 @@ use Rattle.set_agenda.specs.Agenda.{order_now}
 use Rattle.set_agenda.proofs.WriterSets.{new-is}
 use Rattle.scenario.specs.declared.op.Op.{Op}
 use Rattle.scenario.specs.Plan.{Plan}
-use Rattle.vss_model.specs.declared.event.Event.{Event}
 use Rattle.vss_model.specs.declared.event.Event.TheVariants.{Line}
 use Rattle.vss_model.specs.declared.evicted.Evicted.{Evicted}
-use Rattle.vss_model.specs.declared.outcome.Outcome.{Outcome}
 use Rattle.vss_model.specs.declared.told.Told.{Told}
 use Rattle.vss_model.specs.Reply.{Reply}
 use Rattle.vss_model.specs.State.{State, SetRow, left_now, in_progress}
@@ -23,13 +21,13 @@ use Rattle.vss_model.specs.Effects.{evicted, lost, lost_order_if, ended_of}
 use Rattle.vss_model.specs.Facts.{NumberedFrom}
 use Rattle.vss_model.specs.Trail.{act_of}
 use Rattle.vss_model.specs.Told.{Fits, mark_of}
-use Rattle.vss_model.specs.Outcome.{IsOutcome, HasLists, EndsAs, told_act}
+use Rattle.vss_model.specs.Outcome.{HasLists, EndsAs, told_act}
 use Rattle.provider.specs.Groups.{AreGroups}
 use Rattle.provider.specs.Devices.{devices_of}
 use Rattle.provider.specs.Preparing.{ProviderValue}
-use Rattle.sessions.specs.Keeps.{SessionsValue, Keeps}
+use Rattle.sessions.specs.Keeps.{SessionsValue}
 use Rattle.vss_world.specs.Devices.{tells_of}
-use Rattle.vss_world.specs.Stands.{WorldValue, IsGateOf, IsInPlan, Stands}
+use Rattle.vss_world.specs.Stands.{Stands}
 use Rattle.vss_world.specs.Moves.{IsMoved, simple_outcome}
 use Rattle.vss_world.proofs.Ends.{none_ends}
 use Rattle.vss_world.proofs.Moved.{world_of, Parts, OfDevices, Comes, in_order, goes_nowhere, moved}

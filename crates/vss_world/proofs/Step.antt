@@ -1,13 +1,13 @@
 -- A step of the provider, made or failed: what it comes to.
-use Rattle.std.proofs.Common.{◌≡◌, ℕ, zero, suc, ◌+◌, ◌<◌, ◌≤◌, List, [], ◌∷◌, ◌++◌, length, refl, ap, sym, ◌∙◌, subst, arith, Bool, true, false, ◌&&◌, Option, Some, None, ◌⊎◌, inl, inr, map}
-use Rattle.std.specs.Prelude.{not, is_some, is_ok, IfSome, OnOk, Result, Ok, Err, slice_get, slice_set, option_map}
+use Rattle.std.proofs.Common.{◌≡◌, ℕ, zero, suc, List, [], ◌∷◌, length, refl, ap, sym, ◌∙◌, subst, Bool, true, false, ◌&&◌, Option, Some, None, inl, map}
+use Rattle.std.specs.Prelude.{not, is_ok, IfSome, OnOk, Result, Ok, Err, slice_get, slice_set, option_map}
 use Rattle.write_history.specs.declared.mark.Mark.{Mark}
 use Rattle.write_history.specs.declared.mark.Mark.TheVariants.{Clean, Fault}
 use Rattle.write_history.specs.History.{History, dropped}
-use Rattle.hold_gate.specs.Gate.{Flags, is_held as holds}
+use Rattle.hold_gate.specs.Gate.{Flags}
 use Rattle.set_agenda.specs.declared.group.Group.{Group}
 use Rattle.set_agenda.specs.declared.group.Group.TheVariants.{Orders, PreCommit, Flush, Hold, Cut, Commit, Release, PostCommit}
-use Rattle.set_agenda.specs.Agenda.{Agenda, Open, plain, open_group, next_volume, is_orders, is_working, has_said}
+use Rattle.set_agenda.specs.Agenda.{Open, open_group, next_volume, is_orders, is_working}
 use Rattle.set_agenda.specs.Course.{Course, stepped as course_stepped}
 use Rattle.coordinator.specs.Coordinator.{works}
 use Rattle.scenario.specs.Plan.{Plan}
@@ -18,16 +18,15 @@ use Rattle.vss_model.specs.declared.told.Told.{Told}
 use Rattle.vss_model.specs.declared.told.Told.TheVariants as told
 use Rattle.vss_model.specs.State.{State, SetRow, in_progress, left_now}
 use Rattle.vss_model.specs.Ending.{followed, images_dropped, runs}
-use Rattle.vss_model.specs.Steps.{is_flush, is_failed_step, step_made, stepped}
+use Rattle.vss_model.specs.Steps.{is_flush, is_failed_step, step_made}
 use Rattle.vss_model.specs.Acts.{Act, state, after, step_reply}
-use Rattle.vss_model.specs.Trail.{is_fault, act_of}
+use Rattle.vss_model.specs.Trail.{is_fault}
 use Rattle.vss_model.specs.Told.{Fits, mark_if, mark_of}
 use Rattle.vss_model.specs.Outcome.{IsOutcome, told_act}
 use Rattle.vss_model.proofs.CutStep.{after_provider}
 use Rattle.vss_model.proofs.FlushFails.{outcome_is_running}
 use Rattle.vss_model.proofs.HoldOpen.{unreleased_at_hold}
 use Rattle.provider.specs.declared.device_fault.DeviceFault.{DeviceFault}
-use Rattle.provider.specs.declared.device_fault.DeviceFault.TheVariants as device
 use Rattle.provider.specs.Groups.{AreGroups, IfStandFor}
 use Rattle.provider.specs.Devices.{devices_of, counts_of, AreKept, RoseAlone, volume_place}
 use Rattle.provider.specs.Preparing.{ProviderValue, HasStepCause, LastsAt, step_taken}
@@ -37,7 +36,7 @@ use Rattle.sessions.specs.Moves.{IsMove}
 use Rattle.sessions.specs.Sets.{current_of}
 use Rattle.sessions.specs.declared.session_move.SessionMove.{SessionMove}
 use Rattle.vss_world.specs.Devices.{tells_of, RoseFor}
-use Rattle.vss_world.specs.Stands.{WorldValue, IsOf, IsGateOf, IsInPlan, Stands, IsStanding}
+use Rattle.vss_world.specs.Stands.{IsOf, IsGateOf, IsInPlan, Stands, IsStanding}
 use Rattle.vss_world.specs.Moves.{IsMoved, volume_of_step}
 use Rattle.vss_world.specs.Settling.{IsOpened}
 use Rattle.vss_world.specs.Steps.{IsTakenUp, IsFreed, IsGated, flags_at}

@@ -1,5 +1,5 @@
 -- A group's area is brought to where it lasts: every other device is as it was, and the area's holds the copies.
-use Rattle.std.proofs.Common.{◌≡◌, ℕ, zero, suc, ◌+◌, ◌<◌, ◌==◌, List, [], ◌∷◌, ◌++◌, length, refl, ap, sym, ◌∙◌, subst, arith, Bool, true, false, Option, Some, None, map, slice_get}
+use Rattle.std.proofs.Common.{◌≡◌, ℕ, zero, suc, ◌+◌, ◌<◌, ◌==◌, List, [], ◌∷◌, ◌++◌, length, refl, ap, sym, ◌∙◌, subst, arith, Bool, true, false, Option, Some, map, slice_get}
 use Rattle.std.specs.Prelude.{is_some, if◌then◌else◌}
 use Rattle.std.proofs.lemmas.Option.{slice_get_within}
 use Rattle.diff_area.specs.Copies.{AreStored}
@@ -12,16 +12,16 @@ use Rattle.cow_volume.specs.GroupValue.{GroupValue, placed as all_placed}
 use Rattle.cow_volume.specs.Ending.{AllTell as AllDevicesTell}
 use Rattle.cow_volume.proofs.Group.{slice_get_inside}
 use Rattle.vss_model.specs.declared.evicted.Evicted.{Evicted}
-use Rattle.vss_model.specs.Acts.{Act, state}
-use Rattle.provider.specs.Groups.{of_group, of_group_if, blocks_in_group, HasGroups, AreGroups}
-use Rattle.provider.specs.Devices.{devices_of, counts_of, first_place, area_place}
+use Rattle.vss_model.specs.Acts.{state}
+use Rattle.provider.specs.Groups.{of_group, of_group_if, blocks_in_group}
+use Rattle.provider.specs.Devices.{devices_of, counts_of, first_place}
 use Rattle.provider.specs.Ending.{AreLasting}
 use Rattle.provider.specs.Ending.{IsSynced as AreSynced}
 use Rattle.provider.specs.Preparing.{ProviderValue}
 use Rattle.provider.proofs.Flat.{area_device_at}
 use Rattle.sessions.specs.Keeps.{SessionsValue}
-use Rattle.vss_world.specs.Devices.{told_of, told_by, AllTell, AreaHolds}
-use Rattle.vss_world.specs.Stands.{WorldValue, IsOf, Stands}
+use Rattle.vss_world.specs.Devices.{told_of}
+use Rattle.vss_world.specs.Stands.{WorldValue, IsOf}
 use Rattle.vss_world.specs.Quiet.{IsSynced, IsAreaHeld}
 use Rattle.vss_world.proofs.Moved.{world_of, of_kept, tells_kept}
 use Rattle.vss_world.proofs.Digesting.{stands_still}

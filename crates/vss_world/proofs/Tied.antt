@@ -1,15 +1,15 @@
 -- The flat list of devices against the groups: what a volume's devices tell there, and that they hold the volume's content.
-use Rattle.std.proofs.Common.{◌≡◌, ℕ, zero, suc, ◌+◌, ◌<◌, List, [], ◌∷◌, length, refl, ap, sym, ◌∙◌, subst, arith, Bool, true, false, ◌&&◌, Option, Some, None, map, slice_get}
+use Rattle.std.proofs.Common.{◌≡◌, ℕ, suc, ◌+◌, ◌<◌, List, [], ◌∷◌, length, refl, ap, sym, ◌∙◌, arith, ◌&&◌, Option, Some, None, slice_get}
 use Rattle.std.specs.Prelude.{is_some, IfSome}
 use Rattle.write_history.specs.History.{History, contents}
 use Rattle.scenario.specs.declared.volume_row.VolumeRow.{VolumeRow}
 use Rattle.scenario.specs.Plan.{Plan}
 use Rattle.cow_volume.specs.GroupValue.{GroupValue}
-use Rattle.cow_volume.specs.StandsFor.{told_in, IsVolume}
+use Rattle.cow_volume.specs.StandsFor.{told_in}
 use Rattle.cow_volume.proofs.Group.{slice_get_inside}
-use Rattle.provider.specs.Groups.{of_group, blocks_in_group, place_in, IsPlaceOf, IsGroup, AreGroups, HasGroups}
-use Rattle.provider.specs.Devices.{devices_of, volume_place, volumes_area, area_place, tells_row, tells_in, tells_within}
-use Rattle.provider.specs.Devices.{tells_from as group_tells_from, tells_of as group_tells_of, tells_at as group_tells_at}
+use Rattle.provider.specs.Groups.{of_group, place_in, IsPlaceOf, AreGroups, HasGroups}
+use Rattle.provider.specs.Devices.{devices_of, volume_place, volumes_area, tells_row, tells_in, tells_within}
+use Rattle.provider.specs.Devices.{tells_from as group_tells_from, tells_of as group_tells_of}
 use Rattle.provider.proofs.InGroup.{at_place}
 use Rattle.provider.proofs.Places.{group_there, within_there, blocks_there}
 use Rattle.provider.proofs.Flat.{volume_device_at, area_device_at, area_of_place}

@@ -1,6 +1,5 @@
 -- Time that goes by, and what writers answer, against the acts.
-use Rattle.std.proofs.Common.{◌≡◌, ℕ, ◌+◌, ◌*◌, ◌<◌, ◌≤◌, List, [], ◌∷◌, ◌++◌, length, refl, ap, sym, ◌∙◌, subst, arith, Bool, true, false, Option, Some, None, map}
-use Rattle.std.specs.Prelude.{is_some}
+use Rattle.std.proofs.Common.{◌≡◌, ℕ, ◌+◌, ◌<◌, ◌≤◌, List, [], length, refl, ap, sym, subst, arith, Bool, true, false, Option}
 use Rattle.write_history.specs.declared.mark.Mark.{Mark}
 use Rattle.write_history.specs.declared.mark.Mark.TheVariants.{Clean, Fault, FaultAfter}
 use Rattle.writer_state.specs.declared.said.Said.{Said}
@@ -8,7 +7,6 @@ use Rattle.writer_calls.specs.declared.answer.Answer.{Answer}
 use Rattle.writer_calls.specs.Script.{said_of}
 use Rattle.hold_gate.specs.Gate.{Flags}
 use Rattle.set_agenda.specs.Course.{answered as course_answered, timed as course_timed}
-use Rattle.coordinator.specs.Coordinator.{writer_count}
 use Rattle.scenario.specs.declared.op.Op.TheVariants.{Tick}
 use Rattle.scenario.specs.Plan.{Plan}
 use Rattle.vss_model.specs.declared.event.Event.{Event}
@@ -17,7 +15,7 @@ use Rattle.vss_model.specs.declared.evicted.Evicted.{Evicted}
 use Rattle.vss_model.specs.State.{State}
 use Rattle.vss_model.specs.Ending.{runs}
 use Rattle.vss_model.specs.Steps.{answered, ticked, later}
-use Rattle.vss_model.specs.Acts.{Act, state, after, after_if, enabled, event_allows, flush_allows, line_allows, idle_now}
+use Rattle.vss_model.specs.Acts.{Act, state, after, after_if, enabled, flush_allows, line_allows, idle_now}
 use Rattle.vss_model.specs.Told.{mark_of}
 use Rattle.vss_model.specs.Trail.{is_fault, act_of}
 use Rattle.vss_model.specs.Outcome.{told_act}
@@ -25,7 +23,7 @@ use Rattle.provider.specs.Preparing.{ProviderValue}
 use Rattle.sessions.specs.Keeps.{SessionsValue, IsAt, Leaves}
 use Rattle.sessions.specs.Moves.{IsMove, IsWait}
 use Rattle.sessions.specs.declared.session_move.SessionMove.{SessionMove}
-use Rattle.vss_world.specs.Stands.{WorldValue, IsOf, IsInPlan, Stands, IsStanding}
+use Rattle.vss_world.specs.Stands.{IsOf, IsInPlan, Stands, IsStanding}
 use Rattle.vss_world.specs.Moves.{IsMoved, IsBlocked}
 use Rattle.vss_world.specs.Settling.{IsDroppedFor, IsOpened}
 use Rattle.vss_world.proofs.Moved.{world_of}

@@ -1,23 +1,23 @@
 -- Where a line waits.
-use Rattle.std.proofs.Common.{◌≡◌, ℕ, ◌<◌, List, [], ◌∷◌, length, refl, ap, sym, ◌∙◌, subst, arith, Bool, true, false, ◌&&◌, Option, Some, None}
-use Rattle.std.specs.Prelude.{is_some, not, option_map}
-use Rattle.hold_gate.specs.Gate.{Flags, is_held as holds}
+use Rattle.std.proofs.Common.{◌≡◌, ℕ, ◌<◌, List, length, refl, ap, sym, ◌∙◌, subst, Bool, Option, Some, None}
+use Rattle.std.specs.Prelude.{is_some, option_map}
+use Rattle.hold_gate.specs.Gate.{Flags}
 use Rattle.vss_names.specs.declared.order.Order.{Order}
 use Rattle.scenario.specs.declared.op.Op.{Op}
 use Rattle.scenario.specs.declared.op.Op.TheVariants.{WriteFill, WriteStamp, Read, ImageDigest, ImageBlock, Query, Properties, Revert, DeleteSet, DeleteImage, Tick, Begin, Disable, Gather, Component, Document, Start, Add, Prepare, Snapshot, Await, Status, Complete, Abort, End}
 use Rattle.scenario.specs.Calls.{call_of}
 use Rattle.scenario.specs.Bounds.{IsOp}
-use Rattle.scenario.specs.Plan.{Plan, acts_as}
+use Rattle.scenario.specs.Plan.{Plan}
 use Rattle.set_agenda.specs.Agenda.{is_working, left, open_order}
 use Rattle.coordinator.specs.Coordinator.{works}
 use Rattle.coordinator.specs.OpenOrders.{standing_in}
 use Rattle.coordinator.proofs.Following.{left-is}
 use Rattle.vss_model.specs.declared.evicted.Evicted.{Evicted}
-use Rattle.vss_model.specs.State.{State, is_held, left_now}
-use Rattle.vss_model.specs.Acts.{Act, state, may_write, may_call, is_free, line_enabled, order_of_writer}
+use Rattle.vss_model.specs.State.{State, left_now}
+use Rattle.vss_model.specs.Acts.{state, may_write, may_call, line_enabled, order_of_writer}
 use Rattle.provider.specs.Preparing.{ProviderValue}
 use Rattle.sessions.specs.Keeps.{SessionsValue, Keeps}
-use Rattle.vss_world.specs.Stands.{WorldValue, Stands, IfStands}
+use Rattle.vss_world.specs.Stands.{IfStands}
 use Rattle.vss_world.specs.Moves.{written_by}
 use Rattle.vss_world.proofs.Moved.{world_of}
 

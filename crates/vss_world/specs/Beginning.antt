@@ -1,5 +1,5 @@
 -- The sessions and the gate before any act, with the scenario's writers, who are registered one after another. (This project's own.)
-use Rattle.std.specs.Prelude.{ℕ, ◌≡◌, List, length, map, take}
+use Rattle.std.specs.Prelude.{ℕ, ◌≡◌, length, map, take}
 use Rattle.hold_gate.specs.Gate.{Flags, all_open}
 use Rattle.set_agenda.specs.Course.{course_start}
 use Rattle.coordinator.specs.Coordinator.{CoordinatorState, Registered, Stands, IsOnTime, writer_count}

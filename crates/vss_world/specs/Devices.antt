@@ -1,7 +1,6 @@
 -- The devices of all groups as one list, in the order in which they are given back. What is said of the two devices of a volume, its
 -- own and that of its group's area: what they tell, that they hold its content, and that one of them failed. (This project's own.)
-use Rattle.std.specs.Prelude.{ℕ, ◌≡◌, ◌<◌, ◌+◌, ◌⊎◌, Bool, true, false, zero, suc, List, [], ◌∷◌, length, Option, Some, None, is_some, slice_get}
-use Rattle.vss_names.specs.Faults.{Rose}
+use Rattle.std.specs.Prelude.{ℕ, ◌≡◌, ◌<◌, ◌+◌, ◌⊎◌, Bool, true, List, [], ◌∷◌, length, Option, Some, None, is_some, slice_get}
 use Rattle.write_history.specs.History.{History, contents}
 use Rattle.write_history.specs.Slots.{copies}
 use Rattle.scenario.specs.declared.volume_row.VolumeRow.{VolumeRow}

@@ -1,5 +1,5 @@
 -- The beginning, and the calls that are no acts: they leave what the core stands for as it was. (This project's own.)
-use Rattle.std.specs.Prelude.{ℕ, ◌≡◌, ◌<◌, List, [], length, map, Option, Some, None, slice_get}
+use Rattle.std.specs.Prelude.{ℕ, ◌≡◌, List, [], length, map, Option, Some, None, slice_get}
 use Rattle.write_history.specs.History.{History, contents, fresh, sets_of}
 use Rattle.write_history.specs.Slots.{used}
 use Rattle.scenario.specs.declared.volume_row.VolumeRow.{VolumeRow}

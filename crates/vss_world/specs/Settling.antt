@@ -1,5 +1,5 @@
 -- What follows from a move of the sessions for the images and for the volumes that are held. (This project's own.)
-use Rattle.std.specs.Prelude.{ℕ, ◌≡◌, ◌||◌, Bool, true, false, List, Option, length, if◌then◌else◌}
+use Rattle.std.specs.Prelude.{ℕ, ◌≡◌, ◌||◌, Bool, List, Option, length, if◌then◌else◌}
 use Rattle.hold_gate.specs.Gate.{Flags, all_open}
 use Rattle.set_agenda.specs.Agenda.{is_asking, is_working}
 use Rattle.vss_model.specs.State.{State, left_now}

@@ -1,4 +1,4 @@
-use Rattle.std.proofs.Common.{◌≤◌, ◌∙◌, sym, arith}
+use Rattle.std.proofs.Common.{◌∙◌, sym, arith}
 use Rattle.vss_world.proofs.Listing.{none_yet, one_more_set, ends_at, ends_none, ends_over}
 use Rattle.vss_world.proofs.evicting.list_evicted.Goals as goal
 

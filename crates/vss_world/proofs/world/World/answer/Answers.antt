@@ -1,4 +1,3 @@
-use Rattle.std.proofs.Common.{◌∙◌, sym, ap}
 use Rattle.vss_world.proofs.Following.{standing_of}
 use Rattle.vss_world.proofs.Timed.{answer_moves, waits_at, known_as}
 use Rattle.vss_world.proofs.world.World.answer.Goals as goal

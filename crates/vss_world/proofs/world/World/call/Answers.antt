@@ -1,4 +1,3 @@
-use Rattle.std.proofs.Common.{◌∙◌, sym, ap}
 use Rattle.vss_world.proofs.Following.{standing_in}
 use Rattle.vss_world.proofs.Called.{call_moves, call_waits}
 use Rattle.vss_world.proofs.world.World.call.Goals as goal

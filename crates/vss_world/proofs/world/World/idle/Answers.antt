@@ -1,4 +1,3 @@
-use Rattle.std.proofs.Common.{◌∙◌, sym, ap}
 use Rattle.vss_world.proofs.Following.{standing_of}
 use Rattle.vss_world.proofs.Timed.{idle_moves, waits_at}
 use Rattle.vss_world.proofs.world.World.idle.Goals as goal

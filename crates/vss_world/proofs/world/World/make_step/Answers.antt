@@ -1,8 +1,8 @@
-use Rattle.std.proofs.Common.{◌∙◌, sym, ap, refl}
+use Rattle.std.proofs.Common.{sym, refl}
 use Rattle.vss_model.specs.Acts.{state}
 use Rattle.vss_world.proofs.Following.{standing_of}
 use Rattle.vss_world.proofs.Provided.{has_room, volume_within, can_cut}
-use Rattle.vss_world.proofs.Step.{IsNext, step_moves, step_lasts}
+use Rattle.vss_world.proofs.Step.{step_moves, step_lasts}
 use Rattle.vss_world.proofs.world.World.make_step.Goals as goal
 
 pub take_up-requires : goal.take_up-requires

@@ -1,4 +1,3 @@
-use Rattle.std.proofs.Common.{◌∙◌, sym, ap}
 use Rattle.vss_world.proofs.Following.{standing_of}
 use Rattle.vss_world.proofs.Timed.{tick_moves}
 use Rattle.vss_world.proofs.world.World.tick.Goals as goal
