@@ -12,6 +12,10 @@ use vss_play::Play;
 /// The moves of the requestor and of the provider, which have one order.
 const OTHERS: &[u8] = b"aaaaapppppppppppaa";
 
+/// After how many of them a write may come: from the first to the last, and with each of them in between that changes who waits or what
+/// is cut, or comes beside one that does.
+const PLACES: [usize; 11] = [0, 5, 8, 9, 10, 11, 12, 13, 14, 15, 18];
+
 /// The last lines, by how many of the four writes were made before the cut.
 const ENDS: [&str; 5] = [
     "volume C used 2 of 4 b283b11a5bb6a93bf64ff7d2e12155021bcdeff36c8b5c2e2d0296ef3de268f6\nimage 1 C c35020473aed1b4642cd726cad727b63fff2824ad68cedd7ffb73c7cbd890479\nvolume D used 2 of 4 c41488ff342589aa25c49de04a5c6f86c60f6a76711242aa610dd44d8954f956\nimage 1 D c35020473aed1b4642cd726cad727b63fff2824ad68cedd7ffb73c7cbd890479\n",
@@ -95,11 +99,11 @@ fn is_cut_at_once(alloc: Global, places: [usize; 4]) -> Result<bool, Fail> {
 
 #[test]
 fn both_volumes_are_cut_at_one_moment_in_every_order(rt: HostRuntime) -> Result<(), Fail> {
-    for first in 0..19usize {
-        for second in first..19 {
-            for third in second..19 {
-                for fourth in third..19 {
-                    let places = [first, second, third, fourth];
+    for first in 0..11usize {
+        for second in first..11 {
+            for third in second..11 {
+                for fourth in third..11 {
+                    let places = [PLACES[first], PLACES[second], PLACES[third], PLACES[fourth]];
                     assert!(rt; is_cut_at_once(rt.alloc(), places)?, "{first} {second} {third} {fourth}");
                 }
             }

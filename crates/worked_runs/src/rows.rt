@@ -1,6 +1,7 @@
 //! Scenarios with the moves that are made of them in a given order, and the reports of these runs.
 
 /// A scenario, its moves by their letters, and the report of the run.
+#[derive(Clone, Copy)]
 pub(crate) struct Row {
     pub(crate) scenario: &'static str,
     /// `a` is the first lane, `b` the second; a digit is a writer; `p` is the provider, `i` an idle stretch. A capital stands for a
