@@ -2,8 +2,8 @@
 
 use crate::making::goes_as_told;
 use crate::rows::{
-    ABORT_BETWEEN_COMMITS, DEVICE_FAULT, HOLD_LIMIT_REACHED, HOLD_LIMIT_SPENT, ONE_CUT,
-    OWN_IMAGE_GOES, Row, VETO,
+    ABORT_BETWEEN_COMMITS, DEVICE_FAULT, FREEZE_LEVELS, HOLD_LIMIT_REACHED, HOLD_LIMIT_SPENT,
+    LOST_ANSWER, ONE_CUT, OWN_IMAGE_GOES, Row, VETO,
 };
 use scenario::parse;
 use std::alloc::Global;
@@ -50,7 +50,9 @@ fn moves_in_a_given_order_have_their_report(rt: HostRuntime) -> Result<(), Fail>
         (HOLD_LIMIT_SPENT, 0),
         (ABORT_BETWEEN_COMMITS, 0),
         (OWN_IMAGE_GOES, 0),
+        (FREEZE_LEVELS, 0),
         (VETO, 0),
+        (LOST_ANSWER, 0),
         (DEVICE_FAULT, 2),
     ] {
         let report = report_of(rt.alloc(), &row, &[failing])?.expect(&rt, "moves as they are told");
