@@ -26,13 +26,10 @@ refuses 2 "vss: usage" "scenario 1\n"
 refuses 2 "vss: usage" "scenario 1\n" run -x
 refuses 2 "vss: usage" "scenario 1\n" gen 7
 refuses 3 "vss: line 1: Empty" "" run
-refuses 3 "vss: line 2: NotBuilt" "scenario 1\nvolume C 4 3\n" run
-refuses 3 "vss: line 4: NotBuilt" "scenario 1\nvolume C 4 4\nlane a\ntick 5\n" run
 refuses 3 "vss: line 4: OutOfRange" "scenario 1\nvolume C 4 4\nlane a\nwrite C 4 fill 1\n" run
 refuses 3 "vss: line 2: NoNewline" "scenario 1\nvolume C 4 4" run
 refuses 3 "vss: line 3: Empty" "# nothing\n\n" run
-refuses 3 "vss: line 3: NotBuilt" "scenario 1\nlane a\nlane b\n" run
-refuses 3 "vss: line 5: NotBuilt" "scenario 1\nlane a\nbegin 25\nend\nbegin 25\n" run
-refuses 3 "vss: line 3: NotBuilt" "scenario 1\nlane a\nbegin 9\n" run
+refuses 3 "vss: line 3: UnknownName" "scenario 1\nvolume C 4 4\nlane a as sql\n" run
+refuses 3 "vss: line 2: BadDocument" "scenario 1\nwriter sql {}\n" run
 [ "$failed" = 0 ] && echo "refusals: as written"
 exit "$failed"

@@ -70,7 +70,6 @@ NR < bad {
 NR == bad { text = $0; word = $1; name = $2; found = 1; exit }
 END {
   if (reason == "Empty") say("there is no `scenario 1` line")
-  else if (reason == "NotBuilt") say("the line is good, but this program does not run it yet; README.md says what it runs")
   else if (reason == "BadDocument") say("what stands behind the name is no metadata document; docs/FORMATS.md has its members and their values")
   else if (reason == "TooMany") say("the line goes past a limit of docs/FORMATS.md: of volumes, areas, writers, lanes, lines, answers, or of blocks and slots together")
   else if (reason == "BadName") say("a name has 1 to 32 letters, digits, `_`, `-` and `.`, and begins with a letter")

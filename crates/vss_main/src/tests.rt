@@ -109,11 +109,11 @@ fn each_failing_edge_has_its_status(rt: HostRuntime) -> Result<(), Fail> {
 fn statuses_are_printed_in_one_line(rt: HostRuntime) -> Result<(), Fail> {
     let refused = Status::ScenarioRefused {
         line: 4,
-        reason: Reason::NotBuilt,
+        reason: Reason::OutOfRange,
     };
     for (status, text) in [
         (Status::Usage, "usage"),
-        (refused, "line 4: NotBuilt"),
+        (refused, "line 4: OutOfRange"),
         (Status::ReadFault, "read fault"),
         (Status::WriteFault, "write fault"),
         (Status::DeviceFault, "device fault"),

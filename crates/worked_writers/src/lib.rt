@@ -1,5 +1,5 @@
 //! Worked calls of the writers' and the session's crates: each call that may want memory, once with memory at hand; the example
-//! documents, what refusals print, and a session from its begin to its end.
+//! documents, and what refusals print.
 //!
 //! They stand in a crate of their own, above all that they call: so each of those crates is proved once in a run of the gate,
 //! and not a second time with its tests. A test here sees what every caller sees, the public contracts.
@@ -19,8 +19,6 @@ mod requestors;
 mod scripts;
 #[cfg(test)]
 mod selections;
-#[cfg(test)]
-mod sessions;
 #[cfg(test)]
 mod states;
 #[cfg(test)]
