@@ -1,4 +1,4 @@
-//! A set over two volumes, in two hundred orders in which a lane may write to both meanwhile.
+//! A set over two volumes, in a hundred and twenty-six orders in which a lane may write to both meanwhile.
 
 use crate::making::goes_as_told;
 use crate::rows::ONE_CUT;
@@ -12,8 +12,8 @@ use vss_play::Play;
 /// The moves of the requestor and of the provider, which have one order.
 const OTHERS: &[u8] = b"aaaaapppppppppppaa";
 
-/// After how many of them a write may come: before all of them, and before and after each that changes who waits or what is cut.
-const PLACES: [usize; 7] = [0, 8, 9, 10, 11, 14, 15];
+/// After how many of them a write may come: before all of them, and behind each that changes who waits or what is cut.
+const PLACES: [usize; 6] = [0, 9, 10, 11, 14, 15];
 
 /// The last lines, by how many of the four writes were made before the cut.
 const ENDS: [&str; 5] = [
@@ -98,10 +98,10 @@ fn is_cut_at_once(alloc: Global, places: [usize; 4]) -> Result<bool, Fail> {
 
 #[test]
 fn both_volumes_are_cut_at_one_moment_in_every_order(rt: HostRuntime) -> Result<(), Fail> {
-    for first in 0..7usize {
-        for second in first..7 {
-            for third in second..7 {
-                for fourth in third..7 {
+    for first in 0..6usize {
+        for second in first..6 {
+            for third in second..6 {
+                for fourth in third..6 {
                     let places = [PLACES[first], PLACES[second], PLACES[third], PLACES[fourth]];
                     assert!(rt; is_cut_at_once(rt.alloc(), places)?, "{first} {second} {third} {fourth}");
                 }

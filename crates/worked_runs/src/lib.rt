@@ -1,5 +1,5 @@
-//! Worked runs: scenarios of which the moves are made in a given order, each with its report; and a set over two volumes in two
-//! hundred orders in which a lane may write to both meanwhile.
+//! Worked runs: scenarios of which the moves are made in a given order, each with its report; and a set over two volumes in a
+//! hundred and twenty-six orders in which a lane writes to both meanwhile.
 //!
 //! They stand in a crate of their own, above all that they call: so `vss_play` is proved once in a run of the gate, and not a second
 //! time with its tests. A test here sees what every caller sees, the public contracts.
