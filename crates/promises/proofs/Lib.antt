@@ -1,0 +1,4 @@
+pub mod ByEvent
+pub mod Clock
+pub mod Speaks
+pub mod Along

@@ -1,0 +1,5 @@
+pub mod Way
+pub mod Gone
+pub mod Failing
+pub mod Contents
+pub mod Clock
