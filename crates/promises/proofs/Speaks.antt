@@ -47,8 +47,13 @@ pub record IsOne (a : Agenda) (ws : List ℕ) : Type 0 where
   pub is : ws ≡ one ∷ []
   pub waits : is_among one (waits_now (groups_left a)) ≡ true
 
+-- all writers that are waited for
+pub record IsAll (a : Agenda) (ws : List ℕ) : Type 0 where
+  pub is : ws ≡ waits_now (groups_left a)
+  pub writers : is_orders (open_place (groups_left a)).group ≡ true
+
 abbrev pub Speaks : Agenda → List ℕ → Type 0
-Speaks a ws = IsOne a ws ⊎ (ws ≡ waits_now (groups_left a))
+Speaks a ws = IsOne a ws ⊎ IsAll a ws
 
 pub record Says (a : Agenda) (o : SetOutcome) (b : Option Agenda) (p : SetOutcome) (news : List Deed) : Type 0 where
   pub said : Said
@@ -249,7 +254,7 @@ grows_lost_to (Some o) now a c e f g =
     let os = groups_left a in
     let group = now_group os o f in
     subst (λ ws. Grows (Some a) c.outcome (settled (told o Lost now ws c)).agenda (settled (told o Lost now ws c)).outcome (lost_by now (Some o) (waits_now os))) (ap (λ x. waits_now (left x)) (sym e))
-    (says_told o Lost now (waits_now os) _ a c e (inr refl) (mild_at (open_place os).group o Lost group (rw g refl)) (lost_are (open_place os) o now (waits_now os) group))
+    (says_told o Lost now (waits_now os) _ a c e (inr (record { is = refl; writers = ap is_orders group })) (mild_at (open_place os).group o Lost group (rw g refl)) (lost_are (open_place os) o now (waits_now os) group))
 
 grows_lost_decided : (fails : Bool) (now : ℕ) (a : Agenda) (c : Course) → c.agenda ≡ Some a → fails_set (order_now (groups_left a)) ≡ fails
     → Grows (Some a) c.outcome (lost_decided fails (lost_to (order_now (groups_left a)) now c)).agenda (lost_decided fails (lost_to (order_now (groups_left a)) now c)).outcome (lost_by now (order_now (groups_left a)) (waits_now (groups_left a)))

@@ -1,7 +1,7 @@
 -- The way to completion: what writers said and the provider made since the `snapshot` line, as the acts tell it, in order.
 -- A set completes only where that is the whole sequence of a snapshot, each part once. (The sequence is that of the SDK's
 -- overview of shadow copy creation; the order of the Thaw levels is this project's own.)
-use Rattle.std.specs.Prelude.{ℕ, ◌≡◌, ◌≤◌, ◌==◌, Bool, true, false, List, [], ◌∷◌, ◌++◌, map, fold, ◌&&◌, if◌then◌else◌, Option, Some, None}
+use Rattle.std.specs.Prelude.{ℕ, ◌≡◌, ◌≤◌, ◌==◌, Bool, true, false, List, [], ◌∷◌, ◌++◌, map, fold, ◌&&◌, not, if◌then◌else◌, Option, Some, None}
 use Rattle.std.specs.List.{list_any}
 use Rattle.vss_names.specs.declared.order.Order.{Order}
 use Rattle.vss_names.specs.declared.order.Order.TheVariants.{Identify, PrepareBackup, PrepareSnapshot, Freeze, Thaw, PostSnapshot, BackupComplete}
@@ -143,19 +143,25 @@ abbrev pub is_agreed : Order → ℕ → Deed → Bool
 is_agreed order w (Spoke o u said now) = same_order o order && is_ok said && (u == w)
 is_agreed order w (Made g v now) = false
 
+-- a veto of this writer, or its lost answer, to any order
+abbrev pub is_failure : ℕ → Deed → Bool
+is_failure w (Spoke o u said now) = not (is_ok said) && (u == w)
+is_failure w (Made g v now) = false
+
 -- this step
 abbrev pub is_made : Group → Option ℕ → Deed → Bool
 is_made g v (Spoke o u said now) = false
 is_made g v (Made h u now) = (group_code h == group_code g) && same_volume u v
 
--- of the same writer to the same order, or the same step
+-- the same step
 abbrev pub is_again : Deed → Deed → Bool
-is_again (Spoke order w said now) d = is_heard order w d
+is_again (Spoke order w said now) d = false
 is_again (Made g v now) d = is_made g v d
 
+-- no step is made twice
 abbrev pub AreOnce : List Deed → Type 0
 AreOnce [] = Unit {0}
-AreOnce (d ∷ ds) = (list_any (is_again d) ds ≡ false) × AreOnce ds
+AreOnce (d ∷ ds) = (list_any (λ e. is_again e d) ds ≡ false) × AreOnce ds
 
 abbrev pub heard : Order → ℕ → List Deed → Bool
 heard order w way = list_any (is_heard order w) way
@@ -163,14 +169,17 @@ heard order w way = list_any (is_heard order w) way
 abbrev pub agreed : Order → ℕ → List Deed → Bool
 agreed order w way = list_any (is_agreed order w) way
 
+abbrev pub failed : ℕ → List Deed → Bool
+failed w way = list_any (is_failure w) way
+
 abbrev pub made : Group → Option ℕ → List Deed → Bool
 made g v way = list_any (is_made g v) way
 
 -- ## the way of a set
 
--- the whole sequence, in order, each part once: every participant said ok to PrepareSnapshot and to Freeze; the provider made
--- each of its steps, on each volume of the set; every participant was heard at Thaw, and those that said ok to it at
--- PostSnapshot; and nobody else was heard, nor was a step made on another volume
+-- the whole sequence, in order, and no step twice: every participant said ok to PrepareSnapshot and to Freeze; the provider made
+-- each of its steps, on each volume of the set; every participant was heard at Thaw, and at
+-- PostSnapshot those that have not failed, and nobody that has failed at Thaw; and nobody else was heard, nor was a step made on another volume
 pub record IsWholeWay (participants : List Member) (volumes : List ℕ) (way : List Deed) : Type 0 where
   pub in_order : Rising (map stage way)
   pub once : AreOnce way
@@ -184,7 +193,7 @@ pub record IsWholeWay (participants : List Member) (volumes : List ℕ) (way : L
   pub released : (v : ℕ) → is_among v volumes ≡ true → made Release (Some v) way ≡ true
   pub post_commit : made PostCommit None way ≡ true
   pub thawed : (w : ℕ) → is_member participants w ≡ true → heard Thaw w way ≡ true
-  pub told_after : (w : ℕ) → is_member participants w ≡ true → agreed Thaw w way ≡ true → heard PostSnapshot w way ≡ true
+  pub told_after : (w : ℕ) → is_member participants w ≡ true → failed w way ≡ false → heard PostSnapshot w way ≡ true
   pub told_no_failed : (w : ℕ) → agreed Thaw w way ≡ false → heard PostSnapshot w way ≡ false
   pub of_participants : (order : Order) (w : ℕ) → heard order w way ≡ true → is_member participants w ≡ true
   pub of_volumes : (g : Group) (v : ℕ) → made g (Some v) way ≡ true → is_among v volumes ≡ true

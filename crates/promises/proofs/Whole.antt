@@ -1,0 +1,897 @@
+-- A set that completes has come the whole way: what its agenda's log keeps in order, and that nothing of it is left out.
+use Rattle.std.proofs.Common.{◌≡◌, ◌∙◌, ℕ, ◌+◌, ◌==◌, ◌≤◌, ◌<◌, List, [], ◌∷◌, ◌++◌, ◌⊎◌, Option, Some, None, refl, Bool, true, false, ap, sym, subst, inl, inr, map, filter, arith}
+use Rattle.std.specs.Prelude.{◌&&◌, ◌||◌, not, if◌then◌else◌}
+use Rattle.std.specs.List.{list_any}
+use Rattle.std.proofs.lemmas.List.Folds.{list_any-append}
+use Rattle.vss_names.specs.declared.level.Level.{Level}
+use Rattle.vss_names.specs.declared.level.Level.TheVariants.{System, BackEnd, FrontEnd}
+use Rattle.vss_names.specs.declared.order.Order.{Order}
+use Rattle.vss_names.specs.declared.order.Order.TheVariants.{Identify, PrepareBackup, PrepareSnapshot, Freeze, Thaw, PostSnapshot, BackupComplete}
+use Rattle.writer_state.specs.declared.said.Said.{Said}
+use Rattle.writer_state.specs.WriterState.{is_ok}
+use Rattle.set_agenda.specs.declared.group.Group.{Group}
+use Rattle.set_agenda.specs.declared.group.Group.TheVariants.{Orders, PreCommit, Flush, Hold, Cut, Commit, Release, PostCommit}
+use Rattle.set_agenda.specs.declared.kind.Kind.{Kind}
+use Rattle.set_agenda.specs.declared.kind.Kind.TheVariants.{Gather, Prepare, Snapshot, Complete}
+use Rattle.set_agenda.specs.declared.member.Member.{Member}
+use Rattle.set_agenda.specs.declared.place.Place.{Place}
+use Rattle.set_agenda.specs.Agenda.{Agenda, Entry, Open, plain, at_level, places, same_order, order_code, group_code, level_code, same_place, order_of, is_orders, has_failed, has_said, is_at, writers_at, members_of, waited_for, with_group, left_from, groups_left, open_place, is_among, waits_now, is_done, is_snapshot, at_place, all_say}
+use Rattle.set_agenda.specs.Course.{is_member, fails_set}
+use Rattle.scenario.specs.Plan.{Plan}
+use Rattle.vss_model.specs.State.{State, SetRow, is_complete, in_progress, row_of}
+use Rattle.vss_model.specs.Acts.{Act, after, state}
+use Rattle.vss_model.proofs.CutLog.{said_stays}
+use Rattle.vss_model.proofs.HeldOfSet.{IsOf, Tied, tied}
+use Rattle.vss_model.proofs.LogRule.{unspoken}
+use Rattle.vss_model.proofs.Orderly.{true_not_false}
+use Rattle.vss_model.proofs.Spoken.{among_filter, waits_members, among_members}
+use Rattle.promises.specs.Way.{Deed, Spoke, Made, order_stage, step_stage, stage, Rising, same_volume, is_heard, is_agreed, is_made, is_again, AreOnce, is_failure, heard, agreed, failed, made, IsWholeWay, way, CompletesByTheWay}
+use Rattle.promises.proofs.Along.{IsKeptAlong, IsLast, last_stand}
+use Rattle.promises.proofs.Speaks.{deed_at, deed_in, said_at, IsOne, IsAll, Speaks}
+
+abbrev deeds_in : Agenda → List Deed
+deeds_in a = map deed_in a.log
+
+-- ## truth values
+
+either_true : (a b c : Bool) → (a || b) ≡ true → (a ≡ true → c ≡ true) → (b ≡ true → c ≡ true) → c ≡ true
+either_true true b c e f g = f refl
+either_true false b c e f g = g e
+
+left_part : (a b : Bool) → a ≡ true → (a || b) ≡ true
+left_part true b e = refl
+left_part false b e = absurd cc
+
+right_part : (a b : Bool) → b ≡ true → (a || b) ≡ true
+right_part true b e = refl
+right_part false b e = e
+
+both_parts : (a b : Bool) → (a && b) ≡ true → (a ≡ true) × (b ≡ true)
+both_parts true b e = (refl, e)
+both_parts false b e = absurd cc
+
+both_are : (a b : Bool) → a ≡ true → b ≡ true → (a && b) ≡ true
+both_are true b e f = f
+both_are false b e f = absurd cc
+
+false_of : (b : Bool) → (b ≡ true → ⊥) → b ≡ false
+false_of true f = absurd (f refl)
+false_of false f = refl
+
+equal : (a b : ℕ) → (a == b) ≡ true → a ≡ b
+equal a b e = grind arith
+
+same_number : (a : ℕ) → (a == a) ≡ true
+same_number a = grind arith
+
+deeds_append : (xs ys : List Entry) → map deed_in (xs ++ ys) ≡ map deed_in xs ++ map deed_in ys
+deeds_append [] ys = refl
+deeds_append (x ∷ xs) ys = ap (λ zs. deed_in x ∷ zs) (deeds_append xs ys)
+
+any_more : (test : Deed → Bool) (log new : List Entry) → list_any test (map deed_in (log ++ new)) ≡ (list_any test (map deed_in log) || list_any test (map deed_in new))
+any_more test log new = ap (list_any test) (deeds_append log new) ∙ list_any-append test (map deed_in log) (map deed_in new)
+
+-- what one member more says holds of all or of none
+any_said : (test : Deed → Bool) (p : Place) (said : Said) (now : ℕ) (ws : List ℕ) (X : Type 0) → ((w : ℕ) → is_among w ws ≡ true → test (deed_at p.group w said now) ≡ true → X) → list_any test (map deed_in (map (at_place p said now) ws)) ≡ true → X
+any_said test p said now [] X f e = absurd cc
+any_said test p said now (w ∷ ws) X f e = by_head (test (deed_at p.group w said now)) refl e (any_said test p said now ws X (λ u i. f u (right_part (w == u) (is_among u ws) i)))
+  where
+    by_head : (b : Bool) → test (deed_at p.group w said now) ≡ b → (b || list_any test (map deed_in (map (at_place p said now) ws))) ≡ true → (list_any test (map deed_in (map (at_place p said now) ws)) ≡ true → X) → X
+    by_head true g h ih = f w (left_part (w == w) (is_among w ws) (same_number w)) g
+    by_head false g h ih = ih h
+
+-- ## stages
+
+abbrev group_stage : Group → ℕ
+group_stage (Orders o) = order_stage o
+group_stage PreCommit = 2
+group_stage Flush = 3
+group_stage Hold = 4
+group_stage Cut = 5
+group_stage Commit = 6
+group_stage Release = 7
+group_stage PostCommit = 8
+
+stage_at : (g : Group) (who : ℕ) (said : Said) (now : ℕ) → stage (deed_at g who said now) ≡ group_stage g
+stage_at (Orders o) who said now = refl
+stage_at PreCommit who said now = refl
+stage_at Flush who said now = refl
+stage_at Hold who said now = refl
+stage_at Cut who said now = refl
+stage_at Commit who said now = refl
+stage_at Release who said now = refl
+stage_at PostCommit who said now = refl
+
+abbrev open_stage : List Open → ℕ
+open_stage [] = 11
+open_stage (o ∷ os) = group_stage o.place.group
+
+abbrev Below : ℕ → List ℕ → Type 0
+Below m [] = Unit {0}
+Below m (n ∷ ns) = (n ≤ m) × Below m ns
+
+below_more : (m n : ℕ) (ns : List ℕ) → m ≤ n → Below m ns → Below n ns
+below_more m n [] l h = tt
+below_more m n (x ∷ ns) l h = (trans x m n h.0 l, below_more m n ns l h.1)
+  where
+    trans : (a b c : ℕ) → a ≤ b → b ≤ c → a ≤ c
+    trans a b c l h = omega arith
+
+below_append : (m : ℕ) (ns : List ℕ) (ws : List ℕ) (k : ℕ) → Below m ns → k ≤ m → Below m (ns ++ map (λ w. k) ws)
+below_append m [] [] k h l = tt
+below_append m [] (w ∷ ws) k h l = (l, below_append m [] ws k h l)
+below_append m (n ∷ ns) ws k h l = (h.0, below_append m ns ws k h.1 l)
+
+no_less : (n : ℕ) → n ≤ n
+no_less n = omega arith
+
+rising_same : (k : ℕ) (ws : List ℕ) → Rising (map (λ w. k) ws)
+rising_same k [] = tt
+rising_same k (w ∷ []) = tt
+rising_same k (w ∷ v ∷ ws) = (no_less k, rising_same k (v ∷ ws))
+
+rising_append : (ns : List ℕ) (k : ℕ) (ws : List ℕ) → Rising ns → Below k ns → Rising (ns ++ map (λ w. k) ws)
+rising_append [] k ws h b = rising_same k ws
+rising_append (n ∷ []) k [] h b = tt
+rising_append (n ∷ []) k (w ∷ ws) h b = (b.0, rising_same k (w ∷ ws))
+rising_append (n ∷ m ∷ ns) k ws h b = (h.0, rising_append (m ∷ ns) k ws h.1 b.1)
+
+stages_append : (xs ys : List Deed) → map stage (xs ++ ys) ≡ map stage xs ++ map stage ys
+stages_append [] ys = refl
+stages_append (x ∷ xs) ys = ap (λ zs. stage x ∷ zs) (stages_append xs ys)
+
+stages_said : (p : Place) (said : Said) (now : ℕ) (ws : List ℕ) → map stage (map deed_in (map (at_place p said now) ws)) ≡ map (λ w. group_stage p.group) ws
+stages_said p said now [] = refl
+stages_said p said now (w ∷ ws) = ap (λ n. n ∷ map stage (map deed_in (map (at_place p said now) ws))) (stage_at p.group w said now) ∙ ap (λ ns. group_stage p.group ∷ ns) (stages_said p said now ws)
+
+stages_more : (log : List Entry) (p : Place) (said : Said) (now : ℕ) (ws : List ℕ) → map stage (map deed_in (log ++ map (at_place p said now) ws)) ≡ map stage (map deed_in log) ++ map (λ w. group_stage p.group) ws
+stages_more log p said now ws =
+    ap (map stage) (deeds_append log (map (at_place p said now) ws)) ∙ stages_append (map deed_in log) (map deed_in (map (at_place p said now) ws)) ∙ ap (λ ns. map stage (map deed_in log) ++ ns) (stages_said p said now ws)
+
+-- ## groups stay closed
+
+fewer_wait : (log new : List Entry) (p : Place) (xs : List ℕ) → filter (λ x. not (has_said log p x)) xs ≡ [] → filter (λ x. not (has_said (log ++ new) p x)) xs ≡ []
+fewer_wait log new p [] e = refl
+fewer_wait log new p (x ∷ xs) e = by_head (has_said log p x) (has_said (log ++ new) p x) (said_stays log new p x) e (fewer_wait log new p xs)
+  where
+    by_head : (b c : Bool) → (b ≡ true → c ≡ true) → (if not b then x ∷ filter (λ x. not (has_said log p x)) xs else filter (λ x. not (has_said log p x)) xs) ≡ []
+        → (filter (λ x. not (has_said log p x)) xs ≡ [] → filter (λ x. not (has_said (log ++ new) p x)) xs ≡ [])
+        → (if not c then x ∷ filter (λ x. not (has_said (log ++ new) p x)) xs else filter (λ x. not (has_said (log ++ new) p x)) xs) ≡ []
+    by_head true true f e ih = ih e
+    by_head true false f e ih = absurd (true_not_false false (f refl) refl)
+    by_head false c f e ih = absurd cc
+
+failed_stays : (log new : List Entry) (w : ℕ) → has_failed log w ≡ true → has_failed (log ++ new) w ≡ true
+failed_stays log new w e = list_any-append (λ (x : Entry). is_orders x.place.group && not (is_ok x.said) && (x.who == w)) log new ∙ left_part (has_failed log w) (has_failed new w) e
+
+-- of those that have not failed
+fewer_unfailed : (log new : List Entry) (p : Place) (xs : List ℕ) → filter (λ x. not (has_said log p x)) (filter (λ w. not (has_failed log w)) xs) ≡ []
+    → filter (λ x. not (has_said (log ++ new) p x)) (filter (λ w. not (has_failed (log ++ new) w)) xs) ≡ []
+fewer_unfailed log new p [] e = refl
+fewer_unfailed log new p (x ∷ xs) e =
+    by_head (has_failed log x) (has_failed (log ++ new) x) (has_said log p x) (has_said (log ++ new) p x) refl refl (failed_stays log new x) (said_stays log new p x) e (fewer_unfailed log new p xs)
+  where
+    keep : (c : Bool) (rest : List ℕ) → c ≡ true → rest ≡ [] → (if not c then x ∷ rest else rest) ≡ []
+    keep true rest e f = f
+    keep false rest e f = absurd cc
+
+    drops : (c : Bool) (rest : List ℕ) → (if not c then x ∷ rest else rest) ≡ [] → (c ≡ true) × (rest ≡ [])
+    drops true rest e = (refl, e)
+    drops false rest e = absurd cc
+
+    by_head : (f g b c : Bool) → has_said log p x ≡ b → has_said (log ++ new) p x ≡ c → (f ≡ true → g ≡ true) → (b ≡ true → c ≡ true)
+        → filter (λ x. not (has_said log p x)) (if not f then x ∷ filter (λ w. not (has_failed log w)) xs else filter (λ w. not (has_failed log w)) xs) ≡ []
+        → (filter (λ x. not (has_said log p x)) (filter (λ w. not (has_failed log w)) xs) ≡ [] → filter (λ x. not (has_said (log ++ new) p x)) (filter (λ w. not (has_failed (log ++ new) w)) xs) ≡ [])
+        → filter (λ x. not (has_said (log ++ new) p x)) (if not g then x ∷ filter (λ w. not (has_failed (log ++ new) w)) xs else filter (λ w. not (has_failed (log ++ new) w)) xs) ≡ []
+    by_head true true b c s t f g e ih = ih e
+    by_head true false b c s t f g e ih = absurd (true_not_false false (f refl) refl)
+    by_head false true b c s t f g e ih = ih (drops (has_said log p x) _ e).1
+    by_head false false b c s t f g e ih =
+        let old = drops (has_said log p x) _ e in
+        keep (has_said (log ++ new) p x) _ (t ∙ g (sym s ∙ old.0)) (ih old.1)
+
+module _ (said : Said) (now : ℕ) (ws : List ℕ) (a : Agenda) where
+  abbrev new_log : List Entry
+  new_log = said_at (groups_left a) said now ws
+
+  abbrev grown : Agenda
+  grown = all_say said now ws a
+
+  closed_group : (g : Group) (p : Place) → filter (λ who. not (has_said a.log p who)) (members_of a g p.level) ≡ [] → filter (λ who. not (has_said (a.log ++ new_log) p who)) (members_of grown g p.level) ≡ []
+  closed_group (Orders Identify) p e = fewer_wait a.log new_log p (members_of a (Orders Identify) p.level) e
+  closed_group (Orders PrepareBackup) p e = fewer_wait a.log new_log p (members_of a (Orders PrepareBackup) p.level) e
+  closed_group (Orders PrepareSnapshot) p e = fewer_wait a.log new_log p (members_of a (Orders PrepareSnapshot) p.level) e
+  closed_group (Orders Freeze) p e = fewer_wait a.log new_log p (members_of a (Orders Freeze) p.level) e
+  closed_group (Orders Thaw) p e = fewer_wait a.log new_log p (members_of a (Orders Thaw) p.level) e
+  closed_group (Orders PostSnapshot) p e = fewer_unfailed a.log new_log p (writers_at a.members p.level) e
+  closed_group (Orders BackupComplete) p e = fewer_wait a.log new_log p (members_of a (Orders BackupComplete) p.level) e
+  closed_group PreCommit p e = fewer_wait a.log new_log p (members_of a PreCommit p.level) e
+  closed_group Flush p e = fewer_wait a.log new_log p (members_of a Flush p.level) e
+  closed_group Hold p e = fewer_wait a.log new_log p (members_of a Hold p.level) e
+  closed_group Cut p e = fewer_wait a.log new_log p (members_of a Cut p.level) e
+  closed_group Commit p e = fewer_wait a.log new_log p (members_of a Commit p.level) e
+  closed_group Release p e = fewer_wait a.log new_log p (members_of a Release p.level) e
+  closed_group PostCommit p e = fewer_wait a.log new_log p (members_of a PostCommit p.level) e
+
+  closed_stays : (p : Place) → waited_for a p ≡ [] → waited_for grown p ≡ []
+  closed_stays p e = closed_group p.group p e
+
+-- ## the stage of the open group
+
+-- places whose stages do not fall, from m on
+abbrev From : ℕ → List Place → Type 0
+From m [] = m ≤ 11
+From m (p ∷ ps) = (m ≤ group_stage p.group) × From (group_stage p.group) ps
+
+less_both : (a b c : ℕ) → a ≤ b → b ≤ c → a ≤ c
+less_both a b c l h = omega arith
+
+not_before : (a : Agenda) (m : ℕ) (ps : List Place) → From m ps → m ≤ open_stage (left_from a ps)
+not_before a m [] h = h
+not_before a m (p ∷ ps) h = at_group (waited_for a p) (left_from a ps) (not_before a (group_stage p.group) ps h.1)
+  where
+    at_group : (ws : List ℕ) (later : List Open) → group_stage p.group ≤ open_stage later → m ≤ open_stage (with_group p ws later)
+    at_group [] later l = less_both m (group_stage p.group) (open_stage later) h.0 l
+    at_group (w ∷ ws) later l = h.0
+
+goes_up : (a b : Agenda) (m : ℕ) (ps : List Place) → From m ps → ((p : Place) → waited_for a p ≡ [] → waited_for b p ≡ []) → open_stage (left_from a ps) ≤ open_stage (left_from b ps)
+goes_up a b m [] h stays = no_less 11
+goes_up a b m (p ∷ ps) h stays =
+    at_group (waited_for a p) (waited_for b p) (left_from a ps) (left_from b ps) (stays p) (not_before b (group_stage p.group) ps h.1) (goes_up a b (group_stage p.group) ps h.1 stays)
+  where
+    at_group : (ws us : List ℕ) (later after : List Open) → (ws ≡ [] → us ≡ []) → group_stage p.group ≤ open_stage after → open_stage later ≤ open_stage after → open_stage (with_group p ws later) ≤ open_stage (with_group p us after)
+    at_group [] [] later after f l ih = ih
+    at_group [] (u ∷ us) later after f l ih = absurd (none u us (f refl))
+      where
+        none : (u : ℕ) (us : List ℕ) → u ∷ us ≡ [] → ⊥
+        none u us e = cc
+    at_group (w ∷ ws) [] later after f l ih = l
+    at_group (w ∷ ws) (u ∷ us) later after f l ih = no_less (group_stage p.group)
+
+-- the groups below the open one are closed
+abbrev Closed : Agenda → ℕ → List Place → Type 0
+Closed a k [] = Unit {0}
+Closed a k (p ∷ ps) = (group_stage p.group < k → waited_for a p ≡ []) × Closed a k ps
+
+none_below : (a : Agenda) (m k : ℕ) (ps : List Place) → From m ps → k ≤ m → Closed a k ps
+none_below a m k [] h l = tt
+none_below a m k (p ∷ ps) h l =
+    (λ i. absurd (over m (group_stage p.group) k h.0 l i), none_below a (group_stage p.group) k ps h.1 (less_both k m (group_stage p.group) l h.0))
+  where
+    over : (m g k : ℕ) → m ≤ g → k ≤ m → g < k → ⊥
+    over m g k h l i = omega arith
+
+closed_below : (a : Agenda) (m : ℕ) (ps : List Place) → From m ps → Closed a (open_stage (left_from a ps)) ps
+closed_below a m [] h = tt
+closed_below a m (p ∷ ps) h = at_group (waited_for a p) (left_from a ps) refl (closed_below a (group_stage p.group) ps h.1)
+  where
+    itself : (n : ℕ) → n < n → ⊥
+    itself n l = omega arith
+
+    at_group : (ws : List ℕ) (later : List Open) → waited_for a p ≡ ws → Closed a (open_stage later) ps → Closed a (open_stage (with_group p ws later)) (p ∷ ps)
+    at_group [] later e c = (λ l. e, c)
+    at_group (w ∷ ws) later e c = (λ l. absurd (itself (group_stage p.group) l), none_below a (group_stage p.group) (group_stage p.group) ps h.1 (no_less (group_stage p.group)))
+
+snapshot_from : From 0 (places Snapshot)
+snapshot_from = (omega arith, (omega arith, (omega arith, (omega arith, (omega arith, (omega arith, (omega arith, (omega arith, (omega arith, (omega arith, (omega arith, (omega arith, (omega arith, (omega arith, (omega arith, omega arith)))))))))))))))
+
+-- ## who was waited for has spoken
+
+said_all : (log : List Entry) (p : Place) (xs : List ℕ) (x : ℕ) → filter (λ who. not (has_said log p who)) xs ≡ [] → is_among x xs ≡ true → has_said log p x ≡ true
+said_all log p [] x e f = absurd cc
+said_all log p (y ∷ xs) x e f = by_head (has_said log p y) (y == x) refl refl e f (said_all log p xs x)
+  where
+    by_head : (b c : Bool) → has_said log p y ≡ b → (y == x) ≡ c → (if not b then y ∷ filter (λ who. not (has_said log p who)) xs else filter (λ who. not (has_said log p who)) xs) ≡ [] → (c || is_among x xs) ≡ true
+        → (filter (λ who. not (has_said log p who)) xs ≡ [] → is_among x xs ≡ true → has_said log p x ≡ true) → has_said log p x ≡ true
+    by_head false c g h e f ih = absurd cc
+    by_head true true g h e f ih = subst (λ z. has_said log p z ≡ true) (equal y x h) g
+    by_head true false g h e f ih = ih e f
+
+decode : ℕ → Group
+decode n =
+    if n == 0 then Orders Identify
+    else if n == 1 then Orders PrepareBackup
+    else if n == 2 then Orders PrepareSnapshot
+    else if n == 3 then Orders Freeze
+    else if n == 4 then Orders Thaw
+    else if n == 5 then Orders PostSnapshot
+    else if n == 6 then Orders BackupComplete
+    else if n == 7 then PreCommit
+    else if n == 8 then Flush
+    else if n == 9 then Hold
+    else if n == 10 then Cut
+    else if n == 11 then Commit
+    else if n == 12 then Release
+    else PostCommit
+
+decoded : (g : Group) → decode (group_code g) ≡ g
+unfolding decode
+decoded (Orders Identify) = refl
+decoded (Orders PrepareBackup) = refl
+decoded (Orders PrepareSnapshot) = refl
+decoded (Orders Freeze) = refl
+decoded (Orders Thaw) = refl
+decoded (Orders PostSnapshot) = refl
+decoded (Orders BackupComplete) = refl
+decoded PreCommit = refl
+decoded Flush = refl
+decoded Hold = refl
+decoded Cut = refl
+decoded Commit = refl
+decoded Release = refl
+decoded PostCommit = refl
+
+same_group : (g h : Group) → (group_code g == group_code h) ≡ true → g ≡ h
+same_group g h e = sym (decoded g) ∙ ap decode (equal (group_code g) (group_code h) e) ∙ decoded h
+
+-- what was said at a place is a deed of it
+said_deed : (log : List Entry) (p : Place) (who : ℕ) (test : Deed → Bool) → ((said : Said) (now u : ℕ) → (u == who) ≡ true → test (deed_at p.group u said now) ≡ true) → has_said log p who ≡ true → list_any test (map deed_in log) ≡ true
+said_deed [] p who test f e = absurd cc
+said_deed (x ∷ log) p who test f e = by_head (group_code x.place.group == group_code p.group) (level_code x.place.level == level_code p.level) (x.who == who) refl refl e (said_deed log p who test f)
+  where
+    by_head : (b l c : Bool) → (group_code x.place.group == group_code p.group) ≡ b → (x.who == who) ≡ c → (((b && l) && c) || has_said log p who) ≡ true → (has_said log p who ≡ true → list_any test (map deed_in log) ≡ true)
+        → (test (deed_in x) || list_any test (map deed_in log)) ≡ true
+    by_head true true true g h e ih =
+        left_part (test (deed_in x)) _ (subst (λ z. test (deed_at z x.who x.said x.time) ≡ true) (sym (same_group x.place.group p.group g)) (f x.said x.time x.who h))
+    by_head true true false g h e ih = right_part (test (deed_in x)) _ (ih e)
+    by_head true false c g h e ih = right_part (test (deed_in x)) _ (ih e)
+    by_head false l c g h e ih = right_part (test (deed_in x)) _ (ih e)
+
+-- ## what the log keeps
+
+abbrev volume_number : Option ℕ → ℕ
+volume_number None = 0
+volume_number (Some v) = v
+
+pub record Good (a : Agenda) : Type 0 where
+  pub rising : Rising (map stage (deeds_in a))
+  pub below : Below (open_stage (groups_left a)) (map stage (deeds_in a))
+  pub once : AreOnce (deeds_in a)
+  -- a step that was made is in the log
+  pub logged : (g : Group) (v : Option ℕ) → made g v (deeds_in a) ≡ true → has_said a.log (plain g) (volume_number v) ≡ true
+  pub of_participants : (order : Order) (w : ℕ) → heard order w (deeds_in a) ≡ true → is_member a.members w ≡ true
+  pub of_volumes : (g : Group) (v : ℕ) → made g (Some v) (deeds_in a) ≡ true → is_among v a.volumes ≡ true
+  pub consent : (order : Order) (w : ℕ) → fails_set (Some order) ≡ true → heard order w (deeds_in a) ≡ true → agreed order w (deeds_in a) ≡ true
+  pub told_after : (w : ℕ) → heard PostSnapshot w (deeds_in a) ≡ true → agreed Thaw w (deeds_in a) ≡ true
+
+good_unspoken : (ms : List Member) (vs : List ℕ) (now : ℕ) → Good (unspoken Snapshot ms vs now)
+good_unspoken ms vs now = record {
+  rising = tt;
+  below = tt;
+  once = tt;
+  logged = λ g v e. absurd cc;
+  of_participants = λ order w e. absurd cc;
+  of_volumes = λ g v e. absurd cc;
+  consent = λ order w e f. absurd cc;
+  told_after = λ w e. absurd cc;
+}
+
+-- a step of the provider is plain
+abbrev StepsPlain : List Place → Type 0
+StepsPlain [] = Unit {0}
+StepsPlain (p ∷ ps) = (is_orders p.group ≡ false → p ≡ plain p.group) × StepsPlain ps
+
+steps_plain : StepsPlain (places Snapshot)
+steps_plain = (λ e. absurd cc, (λ e. absurd cc, (λ e. absurd cc, (λ e. absurd cc, (λ e. refl, (λ e. refl, (λ e. refl, (λ e. refl, (λ e. refl, (λ e. refl, (λ e. refl, (λ e. absurd cc, (λ e. absurd cc, (λ e. absurd cc, (λ e. absurd cc, tt)))))))))))))))
+
+open_plain : (a : Agenda) (ps : List Place) → StepsPlain ps → is_orders (open_place (left_from a ps)).group ≡ false → open_place (left_from a ps) ≡ plain (open_place (left_from a ps)).group
+open_plain a [] h e = refl
+open_plain a (p ∷ ps) h e = at_group (waited_for a p) (left_from a ps) (open_plain a ps h.1) e
+  where
+    at_group : (ws : List ℕ) (later : List Open) → (is_orders (open_place later).group ≡ false → open_place later ≡ plain (open_place later).group) → is_orders (open_place (with_group p ws later)).group ≡ false
+        → open_place (with_group p ws later) ≡ plain (open_place (with_group p ws later)).group
+    at_group [] later ih e = ih e
+    at_group (w ∷ ws) later ih e = h.0 e
+
+-- who passes a filter passes its test
+passes : (test : ℕ → Bool) (x : ℕ) (xs : List ℕ) → is_among x (filter test xs) ≡ true → test x ≡ true
+passes test x [] e = absurd cc
+passes test x (y ∷ xs) e = by_head (test y) (y == x) refl refl e (passes test x xs)
+  where
+    by_head : (b c : Bool) → test y ≡ b → (y == x) ≡ c → is_among x (if b then y ∷ filter test xs else filter test xs) ≡ true → (is_among x (filter test xs) ≡ true → test x ≡ true) → test x ≡ true
+    by_head false c g h e ih = ih e
+    by_head true true g h e ih = subst (λ z. test z ≡ true) (equal y x h) g
+    by_head true false g h e ih = ih (other (y == x) h e)
+      where
+        other : (c : Bool) → c ≡ false → (c || is_among x (filter test xs)) ≡ true → is_among x (filter test xs) ≡ true
+        other true h e = absurd cc
+        other false h e = e
+
+not_true : (b : Bool) → not b ≡ true → b ≡ false
+not_true true e = absurd cc
+not_true false e = refl
+
+-- who is waited for has not spoken
+unsaid_filter : (log : List Entry) (p : Place) (x : ℕ) (xs : List ℕ) → is_among x (filter (λ who. not (has_said log p who)) xs) ≡ true → has_said log p x ≡ false
+unsaid_filter log p x xs e = not_true (has_said log p x) (passes (λ who. not (has_said log p who)) x xs e)
+
+unsaid : (a : Agenda) (ps : List Place) (x : ℕ) → is_among x (waits_now (left_from a ps)) ≡ true → has_said a.log (open_place (left_from a ps)) x ≡ false
+unsaid a [] x e = absurd cc
+unsaid a (p ∷ ps) x e = at_group (waited_for a p) (left_from a ps) (λ f. unsaid_filter a.log p x (members_of a p.group p.level) f) (unsaid a ps x) e
+  where
+    at_group : (ws : List ℕ) (later : List Open) → (is_among x ws ≡ true → has_said a.log p x ≡ false) → (is_among x (waits_now later) ≡ true → has_said a.log (open_place later) x ≡ false) → is_among x (waits_now (with_group p ws later)) ≡ true
+        → has_said a.log (open_place (with_group p ws later)) x ≡ false
+    at_group [] later own ih e = ih e
+    at_group (w ∷ ws) later own ih e = own e
+
+-- ## members
+
+order_member : (o : Order) (a : Agenda) (l : Option Level) (w : ℕ) → is_among w (members_of a (Orders o) l) ≡ true → is_member a.members w ≡ true
+order_member Identify a l w h = among_members (λ m. is_at l m.level) w a.members h
+order_member PrepareBackup a l w h = among_members (λ m. is_at l m.level) w a.members h
+order_member PrepareSnapshot a l w h = among_members (λ m. is_at l m.level) w a.members h
+order_member Freeze a l w h = among_members (λ m. is_at l m.level) w a.members h
+order_member Thaw a l w h = among_members (λ m. is_at l m.level) w a.members h
+order_member PostSnapshot a l w h = among_members (λ m. is_at l m.level) w a.members (among_filter (λ x. not (has_failed a.log x)) w (writers_at a.members l) h)
+order_member BackupComplete a l w h = among_members (λ m. is_at l m.level) w a.members h
+
+-- the writer of a deed that was heard, and its group
+heard_writer : (order : Order) (w : ℕ) (g : Group) (a : Agenda) (l : Option Level) (u : ℕ) (said : Said) (now : ℕ) → is_among u (members_of a g l) ≡ true → is_heard order w (deed_at g u said now) ≡ true → is_member a.members w ≡ true
+heard_writer order w (Orders o) a l u said now h e = subst (λ x. is_member a.members x ≡ true) (equal u w (both_parts (same_order o order) (u == w) e).1) (order_member o a l u h)
+heard_writer order w PreCommit a l u said now h e = absurd cc
+heard_writer order w Flush a l u said now h e = absurd cc
+heard_writer order w Hold a l u said now h e = absurd cc
+heard_writer order w Cut a l u said now h e = absurd cc
+heard_writer order w Commit a l u said now h e = absurd cc
+heard_writer order w Release a l u said now h e = absurd cc
+heard_writer order w PostCommit a l u said now h e = absurd cc
+
+made_volume : (g : Group) (v : ℕ) (h : Group) (a : Agenda) (l : Option Level) (u : ℕ) (said : Said) (now : ℕ) → is_among u (members_of a h l) ≡ true → is_made g (Some v) (deed_at h u said now) ≡ true → is_among v a.volumes ≡ true
+made_volume g v (Orders o) a l u said now i e = absurd cc
+made_volume g v PreCommit a l u said now i e = absurd (true_not_false false (both_parts (group_code PreCommit == group_code g) false e).1 refl)
+made_volume g v Flush a l u said now i e = subst (λ x. is_among x a.volumes ≡ true) (equal u v (both_parts (group_code Flush == group_code g) (u == v) e).1) i
+made_volume g v Hold a l u said now i e = subst (λ x. is_among x a.volumes ≡ true) (equal u v (both_parts (group_code Hold == group_code g) (u == v) e).1) i
+made_volume g v Cut a l u said now i e = absurd (true_not_false false (both_parts (group_code Cut == group_code g) false e).1 refl)
+made_volume g v Commit a l u said now i e = subst (λ x. is_among x a.volumes ≡ true) (equal u v (both_parts (group_code Commit == group_code g) (u == v) e).1) i
+made_volume g v Release a l u said now i e = subst (λ x. is_among x a.volumes ≡ true) (equal u v (both_parts (group_code Release == group_code g) (u == v) e).1) i
+made_volume g v PostCommit a l u said now i e = absurd (true_not_false false (both_parts (group_code PostCommit == group_code g) false e).1 refl)
+
+-- a step is logged under its volume, or under 0
+alone : (u : ℕ) → is_among u (0 ∷ []) ≡ true → u ≡ 0
+alone u e = by_head (0 == u) refl e
+  where
+    by_head : (b : Bool) → (0 == u) ≡ b → (b || false) ≡ true → u ≡ 0
+    by_head true f e = sym (equal 0 u f)
+    by_head false f e = absurd cc
+
+record IsStep (g : Group) (v : Option ℕ) (h : Group) (u : ℕ) : Type 0 where
+  group : h ≡ g
+  number : u ≡ volume_number v
+  step : is_orders h ≡ false
+
+step_none : (g : Group) (v : Option ℕ) (h : Group) (u : ℕ) → is_orders h ≡ false → u ≡ 0 → ((group_code h == group_code g) && same_volume None v) ≡ true → IsStep g v h u
+step_none g None h u s e f = record { group = same_group h g (both_parts (group_code h == group_code g) true f).0; number = e; step = s }
+step_none g (Some v) h u s e f = absurd (true_not_false false (both_parts (group_code h == group_code g) false f).1 refl)
+
+step_some : (g : Group) (v : Option ℕ) (h : Group) (u : ℕ) → is_orders h ≡ false → ((group_code h == group_code g) && same_volume (Some u) v) ≡ true → IsStep g v h u
+step_some g None h u s f = absurd (true_not_false false (both_parts (group_code h == group_code g) false f).1 refl)
+step_some g (Some v) h u s f =
+    let parts = both_parts (group_code h == group_code g) (u == v) f in
+    record { group = same_group h g parts.0; number = equal u v parts.1; step = s }
+
+is_step : (g : Group) (v : Option ℕ) (h : Group) (a : Agenda) (l : Option Level) (u : ℕ) (said : Said) (now : ℕ) → is_among u (members_of a h l) ≡ true → is_made g v (deed_at h u said now) ≡ true → IsStep g v h u
+is_step g v (Orders o) a l u said now i e = absurd cc
+is_step g v PreCommit a l u said now i e = step_none g v PreCommit u refl (alone u i) e
+is_step g v Flush a l u said now i e = step_some g v Flush u refl e
+is_step g v Hold a l u said now i e = step_some g v Hold u refl e
+is_step g v Cut a l u said now i e = step_none g v Cut u refl (alone u i) e
+is_step g v Commit a l u said now i e = step_some g v Commit u refl e
+is_step g v Release a l u said now i e = step_some g v Release u refl e
+is_step g v PostCommit a l u said now i e = step_none g v PostCommit u refl (alone u i) e
+
+-- ## no step twice
+
+once_one : (ds : List Deed) (d : Deed) → AreOnce ds → list_any (λ x. is_again d x) ds ≡ false → AreOnce (ds ++ d ∷ [])
+once_one [] d h e = (refl, tt)
+once_one (x ∷ ds) d h e =
+    let parts = neither (is_again d x) (list_any (λ y. is_again d y) ds) e in
+    (list_any-append (λ y. is_again y x) ds (d ∷ []) ∙ none (list_any (λ y. is_again y x) ds) (is_again d x) h.0 parts.0, once_one ds d h.1 parts.1)
+  where
+    neither : (a b : Bool) → (a || b) ≡ false → (a ≡ false) × (b ≡ false)
+    neither true b e = absurd cc
+    neither false b e = (refl, e)
+
+    none : (a b : Bool) → a ≡ false → b ≡ false → (a || (b || false)) ≡ false
+    none true b e f = absurd cc
+    none false true e f = absurd cc
+    none false false e f = refl
+
+-- writers make no step
+spoken_none : (g : Group) (u : ℕ) (said : Said) (now : ℕ) (d : Deed) → is_orders g ≡ true → is_again (deed_at g u said now) d ≡ false
+spoken_none (Orders o) u said now d e = refl
+spoken_none PreCommit u said now d e = absurd cc
+spoken_none Flush u said now d e = absurd cc
+spoken_none Hold u said now d e = absurd cc
+spoken_none Cut u said now d e = absurd cc
+spoken_none Commit u said now d e = absurd cc
+spoken_none Release u said now d e = absurd cc
+spoken_none PostCommit u said now d e = absurd cc
+
+both_false : (a b : Bool) → a ≡ false → b ≡ false → (a || b) ≡ false
+both_false true b e f = absurd cc
+both_false false b e f = f
+
+none_again : (p : Place) (said : Said) (now : ℕ) (us : List ℕ) (d : Deed) → is_orders p.group ≡ true → list_any (λ y. is_again y d) (map deed_in (map (at_place p said now) us)) ≡ false
+none_again p said now [] d o = refl
+none_again p said now (u ∷ us) d o = both_false (is_again (deed_at p.group u said now) d) _ (spoken_none p.group u said now d o) (none_again p said now us d o)
+
+once_spoken : (ds : List Deed) (p : Place) (said : Said) (now : ℕ) (ws : List ℕ) → is_orders p.group ≡ true → AreOnce ds → AreOnce (ds ++ map deed_in (map (at_place p said now) ws))
+once_spoken [] p said now [] o h = tt
+once_spoken [] p said now (w ∷ ws) o h = (none_again p said now ws (deed_at p.group w said now) o, once_spoken [] p said now ws o h)
+once_spoken (x ∷ ds) p said now ws o h =
+    (list_any-append (λ y. is_again y x) ds (map deed_in (map (at_place p said now) ws)) ∙ both_false (list_any (λ y. is_again y x) ds) _ h.0 (none_again p said now ws x o), once_spoken ds p said now ws o h.1)
+
+-- ## orders
+
+order_codes : (o : Order) → group_code (Orders o) ≡ order_code o
+order_codes Identify = refl
+order_codes PrepareBackup = refl
+order_codes PrepareSnapshot = refl
+order_codes Freeze = refl
+order_codes Thaw = refl
+order_codes PostSnapshot = refl
+order_codes BackupComplete = refl
+
+same_orders : (o p : Order) → same_order o p ≡ true → o ≡ p
+same_orders o p e = inner (same_group (Orders o) (Orders p) (ap (λ n. n == group_code (Orders p)) (order_codes o) ∙ ap (λ n. order_code o == n) (order_codes p) ∙ e))
+  where
+    inner : Orders o ≡ Orders p → o ≡ p
+    inner e = cc
+
+agreed_at : (h : Group) (order : Order) (w u : ℕ) (said : Said) (now : ℕ) → is_heard order w (deed_at h u said now) ≡ true → (fails_set (order_of h) && not (is_ok said)) ≡ false → fails_set (Some order) ≡ true
+    → is_agreed order w (deed_at h u said now) ≡ true
+agreed_at (Orders o) order w u said now e mild d =
+    let parts = both_parts (same_order o order) (u == w) e in
+    let decides : fails_set (Some o) ≡ true = ap (λ x. fails_set (Some x)) (same_orders o order parts.0) ∙ d in
+    both_are (same_order o order && is_ok said) (u == w) (both_are (same_order o order) (is_ok said) parts.0 (ok_of (fails_set (Some o)) (is_ok said) decides mild)) parts.1
+  where
+    ok_of : (f k : Bool) → f ≡ true → (f && not k) ≡ false → k ≡ true
+    ok_of true true e m = refl
+    ok_of true false e m = absurd cc
+    ok_of false k e m = absurd cc
+agreed_at PreCommit order w u said now e mild d = absurd cc
+agreed_at Flush order w u said now e mild d = absurd cc
+agreed_at Hold order w u said now e mild d = absurd cc
+agreed_at Cut order w u said now e mild d = absurd cc
+agreed_at Commit order w u said now e mild d = absurd cc
+agreed_at Release order w u said now e mild d = absurd cc
+agreed_at PostCommit order w u said now e mild d = absurd cc
+
+post_group : (h : Group) (w u : ℕ) (said : Said) (now : ℕ) → is_heard PostSnapshot w (deed_at h u said now) ≡ true → (h ≡ Orders PostSnapshot) × (u ≡ w)
+post_group (Orders o) w u said now e =
+    let parts = both_parts (same_order o PostSnapshot) (u == w) e in
+    (ap Orders (same_orders o PostSnapshot parts.0), equal u w parts.1)
+post_group PreCommit w u said now e = absurd cc
+post_group Flush w u said now e = absurd cc
+post_group Hold w u said now e = absurd cc
+post_group Cut w u said now e = absurd cc
+post_group Commit w u said now e = absurd cc
+post_group Release w u said now e = absurd cc
+post_group PostCommit w u said now e = absurd cc
+
+-- who was heard at Thaw and has not failed said ok
+heard_agreed : (log : List Entry) (w : ℕ) → has_failed log w ≡ false → heard Thaw w (map deed_in log) ≡ true → agreed Thaw w (map deed_in log) ≡ true
+heard_agreed [] w e f = absurd cc
+heard_agreed (x ∷ log) w e f = at_group x.place.group x.who x.said x.time e f (heard_agreed log w)
+  where
+    by_parts : (same ok own failed more agreed : Bool) → ((true && not ok && own) || failed) ≡ false → ((same && own) || more) ≡ true → (failed ≡ false → more ≡ true → agreed ≡ true) → ((same && ok && own) || agreed) ≡ true
+    by_parts true true true failed more agreed e f ih = refl
+    by_parts true false true failed more agreed e f ih = absurd cc
+    by_parts true true false failed more agreed e f ih = ih e f
+    by_parts true false false failed more agreed e f ih = ih e f
+    by_parts false true own failed more agreed e f ih = ih e f
+    by_parts false false true failed more agreed e f ih = absurd cc
+    by_parts false false false failed more agreed e f ih = ih e f
+
+    at_group : (h : Group) (u : ℕ) (said : Said) (now : ℕ) → ((is_orders h && not (is_ok said) && (u == w)) || has_failed log w) ≡ false → (is_heard Thaw w (deed_at h u said now) || heard Thaw w (map deed_in log)) ≡ true
+        → (has_failed log w ≡ false → heard Thaw w (map deed_in log) ≡ true → agreed Thaw w (map deed_in log) ≡ true) → (is_agreed Thaw w (deed_at h u said now) || agreed Thaw w (map deed_in log)) ≡ true
+    at_group (Orders o) u said now e f ih = by_parts (same_order o Thaw) (is_ok said) (u == w) (has_failed log w) (heard Thaw w (map deed_in log)) (agreed Thaw w (map deed_in log)) e f ih
+    at_group PreCommit u said now e f ih = ih e f
+    at_group Flush u said now e f ih = ih e f
+    at_group Hold u said now e f ih = ih e f
+    at_group Cut u said now e f ih = ih e f
+    at_group Commit u said now e f ih = ih e f
+    at_group Release u said now e f ih = ih e f
+    at_group PostCommit u said now e f ih = ih e f
+
+-- each member is of a level
+at_some_level : (ms : List Member) (w : ℕ) (X : Type 0) → ((l : Level) → is_among w (writers_at ms (Some l)) ≡ true → X) → is_member ms w ≡ true → X
+at_some_level [] w X f e = absurd cc
+at_some_level (m ∷ ms) w X f e = by_head (m.writer == w) refl e (λ h. at_some_level ms w X (λ l i. f l (later l (is_at (Some l) m.level) i)) h)
+  where
+    later : (l : Level) (b : Bool) → is_among w (writers_at ms (Some l)) ≡ true → is_among w (map (λ (x : Member). x.writer) (if b then m ∷ filter (λ (x : Member). is_at (Some l) x.level) ms else filter (λ (x : Member). is_at (Some l) x.level) ms)) ≡ true
+    later l true i = right_part (m.writer == w) _ i
+    later l false i = i
+
+    own : (b : Bool) → b ≡ true → (m.writer == w) ≡ true → is_among w (map (λ (x : Member). x.writer) (if b then m ∷ filter (λ (x : Member). is_at (Some m.level) x.level) ms else filter (λ (x : Member). is_at (Some m.level) x.level) ms)) ≡ true
+    own true h i = left_part (m.writer == w) _ i
+    own false h i = absurd cc
+
+    by_head : (b : Bool) → (m.writer == w) ≡ b → (b || is_member ms w) ≡ true → (is_member ms w ≡ true → X) → X
+    by_head true h e ih = f m.level (own (is_at (Some m.level) m.level) (same_number (level_code (Some m.level))) h)
+    by_head false h e ih = ih e
+
+all_among : (ms : List Member) (w : ℕ) → is_member ms w ≡ true → is_among w (writers_at ms None) ≡ true
+all_among [] w e = absurd cc
+all_among (m ∷ ms) w e = by_head (m.writer == w) e (all_among ms w)
+  where
+    by_head : (b : Bool) → (b || is_member ms w) ≡ true → (is_member ms w ≡ true → is_among w (writers_at ms None) ≡ true) → (b || is_among w (writers_at ms None)) ≡ true
+    by_head true e ih = refl
+    by_head false e ih = ih e
+
+heard_at : (a : Agenda) (o : Order) (l : Option Level) (w : ℕ) → is_among w (members_of a (Orders o) l) ≡ true → waited_for a (record { group = Orders o; level = l }) ≡ [] → heard o w (deeds_in a) ≡ true
+heard_at a o l w m e =
+    said_deed a.log (record { group = Orders o; level = l }) w (is_heard o w) (λ said now u f. both_are (same_order o o) (u == w) (same_number (order_code o)) f) (said_all a.log (record { group = Orders o; level = l }) (members_of a (Orders o) l) w e m)
+
+prepare_heard : (a : Agenda) (k : ℕ) → 0 < k → Closed a k (places Snapshot) → (w : ℕ) → is_member a.members w ≡ true → heard PrepareSnapshot w (deeds_in a) ≡ true
+prepare_heard a k l c w e = heard_at a PrepareSnapshot None w (all_among a.members w e) (c.0 l)
+
+freeze_heard : (a : Agenda) (k : ℕ) → 1 < k → Closed a k (places Snapshot) → (w : ℕ) → is_member a.members w ≡ true → heard Freeze w (deeds_in a) ≡ true
+freeze_heard a k l c w e = at_some_level a.members w (heard Freeze w (deeds_in a) ≡ true) at_level_heard e
+  where
+    at_level_heard : (x : Level) → is_among w (writers_at a.members (Some x)) ≡ true → heard Freeze w (deeds_in a) ≡ true
+    at_level_heard FrontEnd m = heard_at a Freeze (Some FrontEnd) w m (c.1.0 l)
+    at_level_heard BackEnd m = heard_at a Freeze (Some BackEnd) w m (c.1.1.0 l)
+    at_level_heard System m = heard_at a Freeze (Some System) w m (c.1.1.1.0 l)
+
+thaw_heard : (a : Agenda) (k : ℕ) → 9 < k → Closed a k (places Snapshot) → (w : ℕ) → is_member a.members w ≡ true → heard Thaw w (deeds_in a) ≡ true
+thaw_heard a k l c w e = at_some_level a.members w (heard Thaw w (deeds_in a) ≡ true) at_level_heard e
+  where
+    at_level_heard : (x : Level) → is_among w (writers_at a.members (Some x)) ≡ true → heard Thaw w (deeds_in a) ≡ true
+    at_level_heard System m = heard_at a Thaw (Some System) w m (c.1.1.1.1.1.1.1.1.1.1.1.0 l)
+    at_level_heard BackEnd m = heard_at a Thaw (Some BackEnd) w m (c.1.1.1.1.1.1.1.1.1.1.1.1.0 l)
+    at_level_heard FrontEnd m = heard_at a Thaw (Some FrontEnd) w m (c.1.1.1.1.1.1.1.1.1.1.1.1.1.0 l)
+
+-- ## one more is said
+
+abbrev is_told : Group → ℕ → Said → ℕ → Deed → Bool
+is_told g u said now d = is_again (deed_at g u said now) d
+
+waits_in : (ws : List ℕ) (a : Agenda) → Speaks a ws → (w : ℕ) → is_among w ws ≡ true → is_among w (waits_now (groups_left a)) ≡ true
+waits_in ws a (inl o) w e = subst (λ x. is_among x (waits_now (groups_left a)) ≡ true) (of_one w (subst (λ xs. is_among w xs ≡ true) o.is e)) o.waits
+  where
+    of_one : (w : ℕ) → is_among w (o.one ∷ []) ≡ true → o.one ≡ w
+    of_one w e = by_head (o.one == w) refl e
+      where
+        by_head : (b : Bool) → (o.one == w) ≡ b → (b || false) ≡ true → o.one ≡ w
+        by_head true f e = equal o.one w f
+        by_head false f e = absurd cc
+waits_in ws a (inr o) w e = subst (λ xs. is_among w xs ≡ true) o.is e
+
+-- nobody is waited for where no group is left
+none_left : (os : List Open) (ws : List ℕ) → ((w : ℕ) → is_among w ws ≡ true → is_among w (waits_now os) ≡ true) → (ws ≡ []) ⊎ (open_stage os ≡ group_stage (open_place os).group)
+none_left [] [] h = inl refl
+none_left [] (w ∷ ws) h = absurd (no_one (h w (left_part (w == w) (is_among w ws) (same_number w))))
+  where
+    no_one : is_among w [] ≡ true → ⊥
+    no_one e = cc
+none_left (o ∷ os) ws h = inr refl
+
+module _ (said : Said) (now : ℕ) (ws : List ℕ) (a : Agenda) (k : a.kind ≡ Snapshot) (who : Speaks a ws) (mild : (fails_set (order_of (open_place (groups_left a)).group) && not (is_ok said)) ≡ false) (g : Good a) where
+  abbrev more : Agenda
+  more = all_say said now ws a
+
+  abbrev os : List Open
+  os = groups_left a
+
+  abbrev p : Place
+  p = open_place os
+
+  snapshot_left : (x : Agenda) → x.kind ≡ Snapshot → groups_left x ≡ left_from x (places Snapshot)
+  snapshot_left x e = ap (λ j. left_from x (places j)) e
+
+  open_goes_up : open_stage os ≤ open_stage (groups_left more)
+  open_goes_up =
+      let up = goes_up a more 0 (places Snapshot) snapshot_from (closed_stays said now ws a) in
+      subst (λ n. n ≤ open_stage (groups_left more)) (sym (ap open_stage (snapshot_left a k))) (subst (λ n. open_stage (left_from a (places Snapshot)) ≤ n) (sym (ap open_stage (snapshot_left more k))) up)
+
+  stage_below : (ws ≡ []) ⊎ (open_stage os ≡ group_stage p.group) → Rising (map stage (deeds_in more)) × Below (open_stage (groups_left more)) (map stage (deeds_in more))
+  stage_below (inl e) =
+      let same : map stage (deeds_in a) ≡ map stage (deeds_in more) = nothing (map stage (deeds_in a)) ∙ ap (λ us. map stage (deeds_in a) ++ map (λ (w : ℕ). group_stage p.group) us) (sym e) ∙ sym (stages_more a.log p said now ws) in
+      (subst Rising same g.rising, subst (Below (open_stage (groups_left more))) same (below_more (open_stage os) (open_stage (groups_left more)) _ open_goes_up g.below))
+    where
+      nothing : (ns : List ℕ) → ns ≡ ns ++ []
+      nothing [] = refl
+      nothing (n ∷ ns) = ap (λ xs. n ∷ xs) (nothing ns)
+  stage_below (inr e) =
+      let same : map stage (deeds_in a) ++ map (λ (w : ℕ). group_stage p.group) ws ≡ map stage (deeds_in more) = sym (stages_more a.log p said now ws) in
+      let under : Below (group_stage p.group) (map stage (deeds_in a)) = subst (λ n. Below n (map stage (deeds_in a))) e g.below in
+      (subst Rising same (rising_append (map stage (deeds_in a)) (group_stage p.group) ws g.rising under),
+      subst (Below (open_stage (groups_left more))) same
+      (below_append (open_stage (groups_left more)) (map stage (deeds_in a)) ws (group_stage p.group) (below_more (open_stage os) (open_stage (groups_left more)) _ open_goes_up g.below)
+      (subst (λ n. n ≤ open_stage (groups_left more)) e open_goes_up)))
+
+  member_at : (u : ℕ) → is_among u ws ≡ true → is_among u (members_of a p.group p.level) ≡ true
+  member_at u e = waits_members a (places a.kind) u (waits_in ws a who u e)
+
+  -- what holds of the deeds so far, and of those that come
+  old_or_new : (test : Deed → Bool) (c : Bool) → list_any test (deeds_in more) ≡ true → (list_any test (deeds_in a) ≡ true → c ≡ true) → ((u : ℕ) → is_among u ws ≡ true → test (deed_at p.group u said now) ≡ true → c ≡ true) → c ≡ true
+  old_or_new test c e f h =
+      either_true (list_any test (deeds_in a)) (list_any test (map deed_in (said_at os said now ws))) c (sym (any_more test a.log (said_at os said now ws)) ∙ e) f (λ i. any_said test p said now ws (c ≡ true) h i)
+
+  still : (test : Deed → Bool) → list_any test (deeds_in a) ≡ true → list_any test (deeds_in more) ≡ true
+  still test e = any_more test a.log (said_at os said now ws) ∙ left_part (list_any test (deeds_in a)) _ e
+
+  newly : (test : Deed → Bool) (u : ℕ) → is_among u ws ≡ true → test (deed_at p.group u said now) ≡ true → list_any test (deeds_in more) ≡ true
+  newly test u e f = any_more test a.log (said_at os said now ws) ∙ right_part (list_any test (deeds_in a)) _ (told_one ws e)
+    where
+      told_one : (us : List ℕ) → is_among u us ≡ true → list_any test (map deed_in (map (at_place p said now) us)) ≡ true
+      told_one [] e = absurd cc
+      told_one (x ∷ us) e = by_head (x == u) refl e (told_one us)
+        where
+          by_head : (b : Bool) → (x == u) ≡ b → (b || is_among u us) ≡ true → (is_among u us ≡ true → list_any test (map deed_in (map (at_place p said now) us)) ≡ true) → (test (deed_at p.group x said now) || list_any test (map deed_in (map (at_place p said now) us))) ≡ true
+          by_head true i e ih = left_part (test (deed_at p.group x said now)) _ (subst (λ z. test (deed_at p.group z said now) ≡ true) (sym (equal x u i)) f)
+          by_head false i e ih = right_part (test (deed_at p.group x said now)) _ (ih e)
+
+  plain_place : is_orders p.group ≡ false → p ≡ plain p.group
+  plain_place e =
+      subst (λ xs. is_orders (open_place xs).group ≡ false → open_place xs ≡ plain (open_place xs).group) (sym (snapshot_left a k)) (open_plain a (places Snapshot) steps_plain) e
+
+  -- a new step goes into the log
+  log_new : (u : ℕ) → is_among u ws ≡ true → has_said more.log p u ≡ true
+  log_new u e =
+      list_any-append (λ (x : Entry). same_place x.place p && (x.who == u)) a.log (said_at os said now ws) ∙ right_part (has_said a.log p u) _ (said_one ws e)
+    where
+      own_place : (q : Place) → same_place q q ≡ true
+      own_place q = both_are (group_code q.group == group_code q.group) (level_code q.level == level_code q.level) (same_number (group_code q.group)) (same_number (level_code q.level))
+
+      said_one : (us : List ℕ) → is_among u us ≡ true → has_said (map (at_place p said now) us) p u ≡ true
+      said_one [] e = absurd cc
+      said_one (x ∷ us) e = by_head (x == u) e (said_one us)
+        where
+          by_head : (b : Bool) → (b || is_among u us) ≡ true → (is_among u us ≡ true → has_said (map (at_place p said now) us) p u ≡ true) → ((same_place p p && b) || has_said (map (at_place p said now) us) p u) ≡ true
+          by_head true e ih = left_part (same_place p p && true) _ (both_are (same_place p p) true (own_place p) refl)
+          by_head false e ih = right_part (same_place p p && false) _ (ih e)
+
+  logs : (h : Group) (v : Option ℕ) → made h v (deeds_in more) ≡ true → has_said more.log (plain h) (volume_number v) ≡ true
+  logs h v e =
+      old_or_new (is_made h v) (has_said more.log (plain h) (volume_number v)) e
+      (λ f. said_stays a.log (said_at os said now ws) (plain h) (volume_number v) (g.logged h v f))
+      (λ u f i.
+      let step = is_step h v p.group a p.level u said now (member_at u f) i in
+      subst (λ x. has_said more.log (plain h) x ≡ true) step.number (subst (λ (q : Place). has_said more.log q u ≡ true) (plain_place step.step ∙ ap plain step.group) (log_new u f)))
+
+  -- no step comes again
+  fresh_at : (u : ℕ) (h : Group) (v : Option ℕ) → is_among u (waits_now os) ≡ true → p.group ≡ h → is_orders h ≡ false → u ≡ volume_number v → made h v (deeds_in a) ≡ false
+  fresh_at u h v w e s n =
+      let place : p ≡ plain h = plain_place (ap is_orders e ∙ s) ∙ ap plain e in
+      let not_yet : has_said a.log (plain h) (volume_number v) ≡ false = subst (λ (q : Place). has_said a.log q (volume_number v) ≡ false) place (subst (λ x. has_said a.log p x ≡ false) n (unsaid a (places a.kind) u w)) in
+      false_of (made h v (deeds_in a)) (λ i. true_not_false (has_said a.log (plain h) (volume_number v)) (g.logged h v i) not_yet)
+
+  no_deed : (ds : List Deed) → list_any (λ (x : Deed). false) ds ≡ false
+  no_deed [] = refl
+  no_deed (d ∷ ds) = no_deed ds
+
+  fresh : (u : ℕ) (h : Group) → is_among u (waits_now os) ≡ true → is_among u (members_of a h p.level) ≡ true → p.group ≡ h → list_any (λ x. is_again (deed_at h u said now) x) (deeds_in a) ≡ false
+  fresh u (Orders o) w m e = no_deed (deeds_in a)
+  fresh u PreCommit w m e = fresh_at u PreCommit None w e refl (alone u m)
+  fresh u Flush w m e = fresh_at u Flush (Some u) w e refl refl
+  fresh u Hold w m e = fresh_at u Hold (Some u) w e refl refl
+  fresh u Cut w m e = fresh_at u Cut None w e refl (alone u m)
+  fresh u Commit w m e = fresh_at u Commit (Some u) w e refl refl
+  fresh u Release w m e = fresh_at u Release (Some u) w e refl refl
+  fresh u PostCommit w m e = fresh_at u PostCommit None w e refl (alone u m)
+
+  once_if : Speaks a ws → AreOnce (deeds_in more)
+  once_if (inl o) =
+      subst AreOnce (sym (deeds_append a.log (said_at os said now ws) ∙ ap (λ us. deeds_in a ++ map deed_in (map (at_place p said now) us)) o.is))
+      (once_one (deeds_in a) (deed_at p.group o.one said now) g.once (fresh o.one p.group o.waits (waits_members a (places a.kind) o.one o.waits) refl))
+  once_if (inr o) = subst AreOnce (sym (deeds_append a.log (said_at os said now ws))) (once_spoken (deeds_in a) p said now ws o.writers g.once)
+
+  -- consent
+  consents : (order : Order) (w : ℕ) → fails_set (Some order) ≡ true → heard order w (deeds_in more) ≡ true → agreed order w (deeds_in more) ≡ true
+  consents order w d e =
+      old_or_new (is_heard order w) (agreed order w (deeds_in more)) e
+      (λ f. still (is_agreed order w) (g.consent order w d f))
+      (λ u f i. newly (is_agreed order w) u f (agreed_at p.group order w u said now i mild d))
+
+  -- who is asked after the thaw
+  thawed_first : (w : ℕ) → heard PostSnapshot w (deeds_in more) ≡ true → agreed Thaw w (deeds_in more) ≡ true
+  thawed_first w e =
+      old_or_new (is_heard PostSnapshot w) (agreed Thaw w (deeds_in more)) e
+      (λ f. still (is_agreed Thaw w) (g.told_after w f))
+      (λ u f i.
+      let post = post_group p.group w u said now i in
+      still (is_agreed Thaw w) (thaw_at u w f post.0 post.1 (none_left os ws (waits_in ws a who))))
+    where
+      thaw_at : (u w : ℕ) → is_among u ws ≡ true → p.group ≡ Orders PostSnapshot → u ≡ w → (ws ≡ []) ⊎ (open_stage os ≡ group_stage p.group) → agreed Thaw w (deeds_in a) ≡ true
+      thaw_at u w f e s (inl n) = absurd (no_one (subst (λ xs. is_among u xs ≡ true) n f))
+        where
+          no_one : is_among u [] ≡ true → ⊥
+          no_one h = cc
+      thaw_at u w f e s (inr n) =
+          let member = subst (λ x. is_among x (members_of a (Orders PostSnapshot) p.level) ≡ true) s (subst (λ h. is_among u (members_of a h p.level) ≡ true) e (member_at u f)) in
+          let at : open_stage (left_from a (places Snapshot)) ≡ 10 = sym (ap open_stage (snapshot_left a k)) ∙ n ∙ ap group_stage e in
+          let closed = subst (λ m. Closed a m (places Snapshot)) at (closed_below a 0 (places Snapshot) snapshot_from) in
+          heard_agreed a.log w (not_true (has_failed a.log w) (passes (λ x. not (has_failed a.log x)) w (writers_at a.members p.level) member))
+          (thaw_heard a 10 (omega arith) closed w (order_member PostSnapshot a p.level w member))
+
+  says_good : Good (all_say said now ws a)
+  says_good =
+      let stages = stage_below (none_left os ws (waits_in ws a who)) in
+      record {
+        rising = stages.0;
+        below = stages.1;
+        once = once_if who;
+        logged = logs;
+        of_participants = λ order w e. old_or_new (is_heard order w) (is_member a.members w) e (g.of_participants order w) (λ u f i. heard_writer order w p.group a p.level u said now (member_at u f) i);
+        of_volumes = λ h v e. old_or_new (is_made h (Some v)) (is_among v a.volumes) e (g.of_volumes h v) (λ u f i. made_volume h v p.group a p.level u said now (member_at u f) i);
+        consent = consents;
+        told_after = thawed_first;
+      }
+
+among_kept : (test : ℕ → Bool) (x : ℕ) (xs : List ℕ) → test x ≡ true → is_among x xs ≡ true → is_among x (filter test xs) ≡ true
+among_kept test x [] e f = absurd cc
+among_kept test x (y ∷ xs) e f = by_head (test y) (y == x) refl refl f (among_kept test x xs e)
+  where
+    by_head : (b c : Bool) → test y ≡ b → (y == x) ≡ c → (c || is_among x xs) ≡ true → (is_among x xs ≡ true → is_among x (filter test xs) ≡ true) → is_among x (if b then y ∷ filter test xs else filter test xs) ≡ true
+    by_head true true g h f ih = left_part (y == x) _ h
+    by_head true false g h f ih = right_part (y == x) _ (ih f)
+    by_head false true g h f ih = absurd (true_not_false (test y) (subst (λ z. test z ≡ true) (sym (equal y x h)) e) g)
+    by_head false false g h f ih = ih f
+
+same_failed : (log : List Entry) (w : ℕ) → has_failed log w ≡ failed w (map deed_in log)
+same_failed [] w = refl
+same_failed (x ∷ log) w = at_group x.place.group x.said x.who x.time ∙ ap (λ b. is_failure w (deed_in x) || b) (same_failed log w)
+  where
+    at_group : (h : Group) (said : Said) (u now : ℕ) → ((is_orders h && not (is_ok said) && (u == w)) || has_failed log w) ≡ (is_failure w (deed_at h u said now) || has_failed log w)
+    at_group (Orders o) said u now = refl
+    at_group PreCommit said u now = refl
+    at_group Flush said u now = refl
+    at_group Hold said u now = refl
+    at_group Cut said u now = refl
+    at_group Commit said u now = refl
+    at_group Release said u now = refl
+    at_group PostCommit said u now = refl
+
+post_heard : (a : Agenda) → Closed a 11 (places Snapshot) → (w : ℕ) → is_member a.members w ≡ true → failed w (deeds_in a) ≡ false → heard PostSnapshot w (deeds_in a) ≡ true
+post_heard a c w e f =
+    heard_at a PostSnapshot None w (among_kept (λ x. not (has_failed a.log x)) w (writers_at a.members None) (ap not (same_failed a.log w ∙ f)) (all_among a.members w e)) (c.1.1.1.1.1.1.1.1.1.1.1.1.1.1.0 (omega arith))
+
+good_along : IsKeptAlong Good
+good_along = record { begins = good_unspoken; says = λ said now ws a k who mild g. says_good said now ws a k who mild g }
+
+-- ## the end
+
+none_open : (os : List Open) → is_done os ≡ true → open_stage os ≡ 11
+none_open [] e = refl
+none_open (o ∷ os) e = absurd cc
+
+-- each member of a closed group of steps has made its step
+made_all : (a : Agenda) (g : Group) (v : Option ℕ) → is_among (volume_number v) (members_of a g None) ≡ true → ((said : Said) (now u : ℕ) → (u == volume_number v) ≡ true → is_made g v (deed_at g u said now) ≡ true)
+    → waited_for a (plain g) ≡ [] → made g v (deeds_in a) ≡ true
+made_all a g v m test e = said_deed a.log (plain g) (volume_number v) (is_made g v) test (said_all a.log (plain g) (members_of a g None) (volume_number v) e m)
+
+whole_way : (a : Agenda) (participants : List Member) (volumes : List ℕ) → a.kind ≡ Snapshot → is_done (groups_left a) ≡ true → a.members ≡ participants → a.volumes ≡ volumes → Good a → IsWholeWay participants volumes (deeds_in a)
+whole_way a participants volumes k d m v g =
+    let at : open_stage (left_from a (places Snapshot)) ≡ 11 = sym (ap open_stage (ap (λ j. left_from a (places j)) k)) ∙ none_open (groups_left a) d in
+    let closed = subst (λ n. Closed a n (places Snapshot)) at (closed_below a 0 (places Snapshot) snapshot_from) in
+    let member : (w : ℕ) → is_member participants w ≡ true → is_member a.members w ≡ true = λ w e. subst (λ ms. is_member ms w ≡ true) (sym m) e in
+    let volume : (u : ℕ) → is_among u volumes ≡ true → is_among u a.volumes ≡ true = λ u e. subst (λ us. is_among u us ≡ true) (sym v) e in
+    record {
+      in_order = g.rising;
+      once = g.once;
+      prepared = λ w e. g.consent PrepareSnapshot w refl (prepare_heard a 11 (omega arith) closed w (member w e));
+      frozen = λ w e. g.consent Freeze w refl (freeze_heard a 11 (omega arith) closed w (member w e));
+      pre_commit = made_all a PreCommit None refl (λ said now u e. refl) (closed.1.1.1.1.0 (omega arith));
+      flushed = λ u e. made_all a Flush (Some u) (volume u e) (λ said now x f. f) (closed.1.1.1.1.1.0 (omega arith));
+      held = λ u e. made_all a Hold (Some u) (volume u e) (λ said now x f. f) (closed.1.1.1.1.1.1.0 (omega arith));
+      cut = made_all a Cut None refl (λ said now u e. refl) (closed.1.1.1.1.1.1.1.0 (omega arith));
+      committed = λ u e. made_all a Commit (Some u) (volume u e) (λ said now x f. f) (closed.1.1.1.1.1.1.1.1.0 (omega arith));
+      released = λ u e. made_all a Release (Some u) (volume u e) (λ said now x f. f) (closed.1.1.1.1.1.1.1.1.1.0 (omega arith));
+      post_commit = made_all a PostCommit None refl (λ said now u e. refl) (closed.1.1.1.1.1.1.1.1.1.1.0 (omega arith));
+      thawed = λ w e. thaw_heard a 11 (omega arith) closed w (member w e);
+      told_after = λ w e f. post_heard a closed w (member w e) f;
+      told_no_failed = λ w e. false_of (heard PostSnapshot w (deeds_in a)) (λ f. true_not_false (agreed Thaw w (deeds_in a)) (g.told_after w f) e);
+      of_participants = λ order w e. subst (λ ms. is_member ms w ≡ true) m (g.of_participants order w e);
+      of_volumes = λ h u e. subst (λ us. is_among u us ≡ true) v (g.of_volumes h u e);
+    }
+
+pub complete_by_the_way : (s : Plan) (so_far : List Act) (act : Act) → CompletesByTheWay s so_far act
+complete_by_the_way s so_far act r q e f h =
+    let st = state s so_far in
+    let l = last_stand Good good_along s so_far act r q e f h in
+    let set : Tied (Some l.before) st.course.members (in_progress st) = subst (λ x. Tied x st.course.members (in_progress st)) l.is (tied s so_far) in
+    let of : IsOf Snapshot l.before.volumes l.before.members st.course.members (Some r) =
+        subst (λ x. IsOf Snapshot l.before.volumes l.before.members st.course.members x) e (subst (λ j. IsOf j l.before.volumes l.before.members st.course.members (in_progress st)) l.kind set) in
+    subst (IsWholeWay st.course.members r.volumes) l.deeds_are (whole_way l.last st.course.members r.volumes l.last_kind l.done (l.members ∙ of.1) (l.volumes ∙ of.0) l.good)
