@@ -111,9 +111,10 @@ module _ (G : Agenda → Type 0) (k : IsKeptAlong G) where
 
   tells_on : (so_far news : List Deed) (said : Said) (now : ℕ) (ws : List ℕ) (a : Agenda) → Speaks a ws → (fails_set (order_of (open_place (groups_left a)).group) && not (is_ok said)) ≡ false
       → news ≡ map deed_in (said_at (groups_left a) said now ws) → Tells so_far a → Tells (so_far ++ news) (all_say said now ws a)
-  tells_on so_far news said now ws a who mild told h e =
-      (map_append a.log (said_at (groups_left a) said now ws) ∙ ap (λ ds. ds ++ map deed_in (said_at (groups_left a) said now ws)) (h e).0 ∙ ap (λ ds. so_far ++ ds) (sym told),
-      k.says said now ws a e who mild (h e).1)
+  tells_on so_far news said now ws a who mild told h e = (
+    map_append a.log (said_at (groups_left a) said now ws) ∙ ap (λ ds. ds ++ map deed_in (said_at (groups_left a) said now ws)) (h e).0 ∙ ap (λ ds. so_far ++ ds) (sym told),
+    k.says said now ws a e who mild (h e).1,
+  )
 
   tells_rests : (so_far news : List Deed) (a : Agenda) → news ≡ [] → Tells so_far a → Tells (so_far ++ news) a
   tells_rests so_far news a e h f = ((h f).0 ∙ append_nothing so_far ∙ ap (λ ds. so_far ++ ds) (sym e), (h f).1)
@@ -342,9 +343,10 @@ module _ (G : Agenda → Type 0) (k : IsKeptAlong G) where
     -- an agenda of another kind begins
     begins_other : (lane : ℕ) (o : Op) (mark : Mark) (c : Course) → is_snapshot_line (Line lane o) ≡ false → line_ticks o ≡ None → Running (Tells so_far) c.agenda → (st.course.outcome ≡ RunningSet → is_complete c.outcome ≡ true → ⊥)
         → Next (Line lane o) mark (Coded AsyncPending, followed true c st)
-    begins_other lane o mark c e f t d =
-        (quiet st so_far lane o (Coded AsyncPending, followed true c st) f (first_off (is_snapshot_line (Line lane o)) (is_pending (Coded AsyncPending)) e) (on_followed so_far true c st t),
-        λ run inc. done_followed n _ true c st inc (λ x. absurd (d run x)))
+    begins_other lane o mark c e f t d = (
+      quiet st so_far lane o (Coded AsyncPending, followed true c st) f (first_off (is_snapshot_line (Line lane o)) (is_pending (Coded AsyncPending)) e) (on_followed so_far true c st t),
+      λ run inc. done_followed n _ true c st inc (λ x. absurd (d run x)),
+    )
 
     begins_own : (lane : ℕ) (mark : Mark) (c : Course) → Running (Tells []) c.agenda → (st.course.outcome ≡ RunningSet → is_complete c.outcome ≡ true → ⊥) → Next (Line lane op.Snapshot) mark (Coded AsyncPending, followed true c st)
     begins_own lane mark c t d = (on_followed [] true c st t, λ run inc. done_followed n _ true c st inc (λ x. absurd (d run x)))
@@ -396,17 +398,19 @@ module _ (G : Agenda → Type 0) (k : IsKeptAlong G) where
 
     step_as : (f : Bool) (g : Group) (mark : Mark) → open_group (left_now st) ≡ Some g → is_working (left_now st) ≡ true → Next Provider mark (Stepped g (next_volume (left_now st)) f, stepped_as f (Some g) st)
     step_as true g mark e w =
-        let c = course_stepped false st.clock st.course in
-        (on_followed _ (runs st) c st (subst (Running (Tells (so_far ++ []))) (sym (step_fails st.clock st.course).0) tt),
-        λ run inc. done_followed n _ (runs st) c st inc (λ d. absurd (true_not_false (is_complete c.outcome) d (step_fails st.clock st.course).1)))
+        let c = course_stepped false st.clock st.course in (
+          on_followed _ (runs st) c st (subst (Running (Tells (so_far ++ []))) (sym (step_fails st.clock st.course).0) tt),
+          λ run inc. done_followed n _ (runs st) c st inc (λ d. absurd (true_not_false (is_complete c.outcome) d (step_fails st.clock st.course).1)),
+        )
     step_as false g mark e w =
         let c = course_stepped true st.clock st.course in
         let x = stepped_as false (Some g) st in
         let made : so_far ++ made_now (left_now st) st.clock (open_group (left_now st)) ≡ so_far ++ Made g (next_volume (left_now st)) x.clock ∷ [] =
-            ap (λ o. so_far ++ made_now (left_now st) st.clock o) e ∙ ap (λ t. so_far ++ Made g (next_volume (left_now st)) t ∷ []) (sym (clock-stepped_as false (Some g) st)) in
-        (subst (λ ds. Stands ds x) made (on_followed _ (runs st) c (step_made (Some g) st) (grow so_far _ st.course.agenda st.course.outcome _ _ (grows_stepped true st.clock st.course w) h)),
-        λ run inc. done_followed n _ (runs st) c (step_made (Some g) st) (incomplete_made n (Some g) st inc)
-            (λ d. subst (λ ds. IsLast G ds st.course.agenda) made (completes so_far _ st.course.agenda st.course.outcome _ _ run d (grows_stepped true st.clock st.course w) h)))
+        ap (λ o. so_far ++ made_now (left_now st) st.clock o) e ∙ ap (λ t. so_far ++ Made g (next_volume (left_now st)) t ∷ []) (sym (clock-stepped_as false (Some g) st)) in (
+          subst (λ ds. Stands ds x) made (on_followed _ (runs st) c (step_made (Some g) st) (grow so_far _ st.course.agenda st.course.outcome _ _ (grows_stepped true st.clock st.course w) h)),
+          λ run inc. done_followed n _ (runs st) c (step_made (Some g) st) (incomplete_made n (Some g) st inc)
+              (λ d. subst (λ ds. IsLast G ds st.course.agenda) made (completes so_far _ st.course.agenda st.course.outcome _ _ run d (grows_stepped true st.clock st.course w) h)),
+        )
 
     works_not : (os : List Open) → open_group os ≡ None → is_working os ≡ true → ⊥
     works_not [] e f = absurd cc

@@ -453,7 +453,7 @@ module _ (s : Plan) (st : State) (num : NumberedFrom 1 st.sets) (n v : ℕ) wher
   on_step_as false g h e =
       gone_followed n v (runs st) (course_stepped true st.clock st.course) (step_made g st) (Cause Provider (stepped_as false g st)) (made_keeps n v g st h) e
       (λ r run fails i s sets. absurd (true_not_false (has_failed (course_stepped true st.clock st.course).outcome) fails
-          (none_stepped st.clock st.course (ap has_failed (ap (λ (c : Course). c.outcome) (sym (course-made g st)) ∙ run)))))
+      (none_stepped st.clock st.course (ap has_failed (ap (λ (c : Course). c.outcome) (sym (course-made g st)) ∙ run)))))
 
   on_steps : (mark : Mark) → stands st n v ≡ true → stands (stepped mark st) n v ≡ false → Cause Provider (stepped mark st)
   unfolding stepped

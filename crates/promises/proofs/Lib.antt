@@ -4,3 +4,7 @@ pub mod Speaks
 pub mod Along
 pub mod Whole
 pub mod Images
+pub mod Failing
+pub mod Contents
+pub mod Calls
+pub mod Promises

@@ -695,11 +695,12 @@ module _ (said : Said) (now : ℕ) (ws : List ℕ) (a : Agenda) (k : a.kind ≡ 
       nothing (n ∷ ns) = ap (λ xs. n ∷ xs) (nothing ns)
   stage_below (inr e) =
       let same : map stage (deeds_in a) ++ map (λ (w : ℕ). group_stage p.group) ws ≡ map stage (deeds_in more) = sym (stages_more a.log p said now ws) in
-      let under : Below (group_stage p.group) (map stage (deeds_in a)) = subst (λ n. Below n (map stage (deeds_in a))) e g.below in
-      (subst Rising same (rising_append (map stage (deeds_in a)) (group_stage p.group) ws g.rising under),
-      subst (Below (open_stage (groups_left more))) same
-      (below_append (open_stage (groups_left more)) (map stage (deeds_in a)) ws (group_stage p.group) (below_more (open_stage os) (open_stage (groups_left more)) _ open_goes_up g.below)
-      (subst (λ n. n ≤ open_stage (groups_left more)) e open_goes_up)))
+      let under : Below (group_stage p.group) (map stage (deeds_in a)) = subst (λ n. Below n (map stage (deeds_in a))) e g.below in (
+        subst Rising same (rising_append (map stage (deeds_in a)) (group_stage p.group) ws g.rising under),
+        subst (Below (open_stage (groups_left more))) same
+            (below_append (open_stage (groups_left more)) (map stage (deeds_in a)) ws (group_stage p.group) (below_more (open_stage os) (open_stage (groups_left more)) _ open_goes_up g.below)
+            (subst (λ n. n ≤ open_stage (groups_left more)) e open_goes_up)),
+      )
 
   member_at : (u : ℕ) → is_among u ws ≡ true → is_among u (members_of a p.group p.level) ≡ true
   member_at u e = waits_members a (places a.kind) u (waits_in ws a who u e)
@@ -893,5 +894,5 @@ complete_by_the_way s so_far act r q e f h =
     let l = last_stand Good good_along s so_far act r q e f h in
     let set : Tied (Some l.before) st.course.members (in_progress st) = subst (λ x. Tied x st.course.members (in_progress st)) l.is (tied s so_far) in
     let of : IsOf Snapshot l.before.volumes l.before.members st.course.members (Some r) =
-        subst (λ x. IsOf Snapshot l.before.volumes l.before.members st.course.members x) e (subst (λ j. IsOf j l.before.volumes l.before.members st.course.members (in_progress st)) l.kind set) in
+    subst (λ x. IsOf Snapshot l.before.volumes l.before.members st.course.members x) e (subst (λ j. IsOf j l.before.volumes l.before.members st.course.members (in_progress st)) l.kind set) in
     subst (IsWholeWay st.course.members r.volumes) l.deeds_are (whole_way l.last st.course.members r.volumes l.last_kind l.done (l.members ∙ of.1) (l.volumes ∙ of.0) l.good)

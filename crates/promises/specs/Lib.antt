@@ -3,3 +3,5 @@ pub mod Gone
 pub mod Failing
 pub mod Contents
 pub mod Clock
+pub mod Calls
+pub mod Promises

@@ -1,10 +1,15 @@
 //! The promises: functions that do nothing, whose contracts are the laws.
 
 ghost use Rattle.std.specs.Prelude.{List};
+ghost use Rattle.write_history.specs.declared.move_item.Move.{Move};
 ghost use Rattle.scenario.specs.Plan.{Plan};
 ghost use Rattle.vss_model.specs.Acts.{Act};
+ghost use Rattle.promises.specs.Calls.{CallsAreOwned, WaitsAreFew, StandsQuiet, FrozenDoNotWrite};
 ghost use Rattle.promises.specs.Clock.{ClockMoves};
+ghost use Rattle.promises.specs.Contents.{ContentsStay};
+ghost use Rattle.promises.specs.Failing.{FailsForCause};
 ghost use Rattle.promises.specs.Gone.{ImagesGoForCause};
+ghost use Rattle.promises.specs.Promises.{IsAsPromised};
 ghost use Rattle.promises.specs.Way.{CompletesByTheWay};
 
 /// A set that completes has come the whole way since its `snapshot` line: PrepareSnapshot, Freeze, PreCommit, Flush, Hold, Cut,
@@ -18,7 +23,34 @@ pub fn images_go_for_cause()
     ensures { (s : Plan) (so_far : List Act) (act : Act) → ImagesGoForCause s so_far act }
 {}
 
+/// An act that gives a cause fails the set in progress in that act, and no other act fails it.
+pub fn sets_fail_for_cause()
+    ensures { (s : Plan) (so_far : List Act) (act : Act) → FailsForCause s so_far act }
+{}
+
+/// A block of a volume is changed by a write to it that no device failed, or by a revert of the volume, and by nothing else.
+pub fn contents_change_by_writes_and_reverts()
+    ensures { (s : Plan) (so_far : List Act) (act : Act) → ContentsStay s so_far act }
+{}
+
 /// A `tick` line moves the clock by its ticks, an idle stretch by its length, and nothing else moves it.
 pub fn the_clock_moves_by_ticks()
     ensures { (s : Plan) (so_far : List Act) (act : Act) → ClockMoves s so_far act }
+{}
+
+/// A session call of a lane that does not own the session is refused, and changes nothing.
+pub fn calls_are_the_owners()
+    ensures { (s : Plan) (so_far : List Act) (act : Act) → CallsAreOwned s so_far act }
+{}
+
+/// Only writes, `begin` and `await` wait; without a session no agenda runs; and no lane writes as a writer that stands frozen.
+pub fn few_lines_wait()
+    ensures waits { (s : Plan) (so_far : List Act) → WaitsAreFew s so_far }
+    ensures quiet { (s : Plan) (so_far : List Act) → StandsQuiet s so_far }
+    ensures frozen { (s : Plan) (so_far : List Act) → FrozenDoNotWrite s so_far }
+{}
+
+/// Every run is as promised: each act of a trail, and each state on its way.
+pub fn every_run_is_as_promised()
+    ensures { (s : Plan) (trail : List Move) → IsAsPromised s trail }
 {}
