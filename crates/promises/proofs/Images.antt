@@ -69,7 +69,7 @@ gone_by test n (i ∷ images) e f = by_head (i.set == n) (test i.set) refl refl 
     by_head false true g h e f ih = ih e (skipped (i.set == n) (point_in n (filter (λ i. test i.set) images)) g f)
     by_head false false g h e f ih = ih e f
 
-kept_by : (test : ℕ → Bool) (n : ℕ) (images : List Image) → is_some (point_in n (filter (λ i. test i.set) images)) ≡ true → test n ≡ true
+pub kept_by : (test : ℕ → Bool) (n : ℕ) (images : List Image) → is_some (point_in n (filter (λ i. test i.set) images)) ≡ true → test n ≡ true
 kept_by test n [] e = absurd cc
 kept_by test n (i ∷ images) e = by_head (test i.set) (i.set == n) refl refl e (kept_by test n images)
   where

@@ -2,8 +2,10 @@ pub mod ByEvent
 pub mod Clock
 pub mod Speaks
 pub mod Along
+pub mod Levels
 pub mod Whole
 pub mod Images
+pub mod Done
 pub mod Failing
 pub mod Contents
 pub mod Calls

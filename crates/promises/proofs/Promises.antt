@@ -6,6 +6,7 @@ use Rattle.promises.specs.Promises.{IsAsPromised}
 use Rattle.promises.proofs.Calls.{calls_are_owned, waits_are_few, stands_quiet, frozen_do_not_write}
 use Rattle.promises.proofs.Clock.{clock_moves}
 use Rattle.promises.proofs.Contents.{contents_stay}
+use Rattle.promises.proofs.Done.{is_done}
 use Rattle.promises.proofs.Failing.{fails_for_cause}
 use Rattle.promises.proofs.Images.{images_go_for_cause}
 use Rattle.promises.proofs.Whole.{complete_by_the_way}
@@ -16,6 +17,7 @@ as_promised s trail = record {
     completes = complete_by_the_way s so_far act;
     fails = fails_for_cause s so_far act;
     images = images_go_for_cause s so_far act;
+    done = is_done s so_far act;
     contents = contents_stay s so_far act;
     clock = clock_moves s so_far act;
     calls = calls_are_owned s so_far act;

@@ -1,10 +1,11 @@
 -- A set that completes has come the whole way: what its agenda's log keeps in order, and that nothing of it is left out.
 use Rattle.std.proofs.Common.{◌≡◌, ◌∙◌, ℕ, ◌+◌, ◌==◌, ◌≤◌, ◌<◌, List, [], ◌∷◌, ◌++◌, ◌⊎◌, Option, Some, None, refl, Bool, true, false, ap, sym, subst, inl, inr, map, filter, arith}
-use Rattle.std.specs.Prelude.{◌&&◌, ◌||◌, not, if◌then◌else◌}
+use Rattle.std.specs.Prelude.{◌&&◌, ◌||◌, not, is_some, if◌then◌else◌}
 use Rattle.std.specs.List.{list_any}
 use Rattle.std.proofs.lemmas.List.Folds.{list_any-append}
 use Rattle.vss_names.specs.declared.level.Level.{Level}
 use Rattle.vss_names.specs.declared.level.Level.TheVariants.{System, BackEnd, FrontEnd}
+use Rattle.vss_names.specs.Level.{number_of}
 use Rattle.vss_names.specs.declared.order.Order.{Order}
 use Rattle.vss_names.specs.declared.order.Order.TheVariants.{Identify, PrepareBackup, PrepareSnapshot, Freeze, Thaw, PostSnapshot, BackupComplete}
 use Rattle.writer_state.specs.declared.said.Said.{Said}
@@ -25,8 +26,9 @@ use Rattle.vss_model.proofs.HeldOfSet.{IsOf, Tied, tied}
 use Rattle.vss_model.proofs.LogRule.{unspoken}
 use Rattle.vss_model.proofs.Orderly.{true_not_false}
 use Rattle.vss_model.proofs.Spoken.{among_filter, waits_members, among_members}
-use Rattle.promises.specs.Way.{Deed, Spoke, Made, order_stage, step_stage, stage, Rising, same_volume, is_heard, is_agreed, is_made, is_again, AreOnce, is_failure, heard, agreed, failed, made, IsWholeWay, way, CompletesByTheWay}
+use Rattle.promises.specs.Way.{Deed, Spoke, Made, level_of, order_stage, step_stage, stage, Rising, same_volume, is_heard, is_agreed, is_made, is_again, AreOnce, is_failure, heard, agreed, failed, made, IsWholeWay, way, CompletesByTheWay}
 use Rattle.promises.proofs.Along.{IsKeptAlong, IsLast, last_stand}
+use Rattle.promises.proofs.Levels.{MembersOf, levels_are}
 use Rattle.promises.proofs.Speaks.{deed_at, deed_in, said_at, IsOne, IsAll, Speaks}
 
 abbrev deeds_in : Agenda → List Deed
@@ -82,29 +84,63 @@ any_said test p said now (w ∷ ws) X f e = by_head (test (deed_at p.group w sai
 
 -- ## stages
 
-abbrev group_stage : Group → ℕ
-group_stage (Orders o) = order_stage o
-group_stage PreCommit = 2
-group_stage Flush = 3
-group_stage Hold = 4
-group_stage Cut = 5
-group_stage Commit = 6
-group_stage Release = 7
-group_stage PostCommit = 8
+abbrev level_or : Option Level → Level
+level_or None = System
+level_or (Some l) = l
 
-stage_at : (g : Group) (who : ℕ) (said : Said) (now : ℕ) → stage (deed_at g who said now) ≡ group_stage g
-stage_at (Orders o) who said now = refl
-stage_at PreCommit who said now = refl
-stage_at Flush who said now = refl
-stage_at Hold who said now = refl
-stage_at Cut who said now = refl
-stage_at Commit who said now = refl
-stage_at Release who said now = refl
-stage_at PostCommit who said now = refl
+abbrev group_stage : Group → Option Level → ℕ
+group_stage (Orders o) l = order_stage o (level_or l)
+group_stage PreCommit l = 4
+group_stage Flush l = 5
+group_stage Hold l = 6
+group_stage Cut l = 7
+group_stage Commit l = 8
+group_stage Release l = 9
+group_stage PostCommit l = 10
+
+abbrev place_stage : Place → ℕ
+place_stage p = group_stage p.group p.level
+
+-- the groups that go by levels
+abbrev leveled : Group → Bool
+leveled (Orders Identify) = false
+leveled (Orders PrepareBackup) = false
+leveled (Orders PrepareSnapshot) = false
+leveled (Orders Freeze) = true
+leveled (Orders Thaw) = true
+leveled (Orders PostSnapshot) = false
+leveled (Orders BackupComplete) = false
+leveled PreCommit = false
+leveled Flush = false
+leveled Hold = false
+leveled Cut = false
+leveled Commit = false
+leveled Release = false
+leveled PostCommit = false
+
+-- in a group that goes by levels the writer is of the group's level
+abbrev IsOfLevel : Plan → Place → ℕ → Type 0
+IsOfLevel s p w = leveled p.group ≡ true → level_of s w ≡ level_or p.level
+
+stage_at : (s : Plan) (g : Group) (l : Option Level) (who : ℕ) (said : Said) (now : ℕ) → (leveled g ≡ true → level_of s who ≡ level_or l) → stage s (deed_at g who said now) ≡ group_stage g l
+stage_at s (Orders Identify) l who said now h = refl
+stage_at s (Orders PrepareBackup) l who said now h = refl
+stage_at s (Orders PrepareSnapshot) l who said now h = refl
+stage_at s (Orders Freeze) l who said now h = ap (order_stage Freeze) (h refl)
+stage_at s (Orders Thaw) l who said now h = ap (order_stage Thaw) (h refl)
+stage_at s (Orders PostSnapshot) l who said now h = refl
+stage_at s (Orders BackupComplete) l who said now h = refl
+stage_at s PreCommit l who said now h = refl
+stage_at s Flush l who said now h = refl
+stage_at s Hold l who said now h = refl
+stage_at s Cut l who said now h = refl
+stage_at s Commit l who said now h = refl
+stage_at s Release l who said now h = refl
+stage_at s PostCommit l who said now h = refl
 
 abbrev open_stage : List Open → ℕ
-open_stage [] = 11
-open_stage (o ∷ os) = group_stage o.place.group
+open_stage [] = 15
+open_stage (o ∷ os) = place_stage o.place
 
 abbrev Below : ℕ → List ℕ → Type 0
 Below m [] = Unit {0}
@@ -136,17 +172,20 @@ rising_append (n ∷ []) k [] h b = tt
 rising_append (n ∷ []) k (w ∷ ws) h b = (b.0, rising_same k (w ∷ ws))
 rising_append (n ∷ m ∷ ns) k ws h b = (h.0, rising_append (m ∷ ns) k ws h.1 b.1)
 
-stages_append : (xs ys : List Deed) → map stage (xs ++ ys) ≡ map stage xs ++ map stage ys
-stages_append [] ys = refl
-stages_append (x ∷ xs) ys = ap (λ zs. stage x ∷ zs) (stages_append xs ys)
+stages_append : (s : Plan) (xs ys : List Deed) → map (stage s) (xs ++ ys) ≡ map (stage s) xs ++ map (stage s) ys
+stages_append s [] ys = refl
+stages_append s (x ∷ xs) ys = ap (λ zs. stage s x ∷ zs) (stages_append s xs ys)
 
-stages_said : (p : Place) (said : Said) (now : ℕ) (ws : List ℕ) → map stage (map deed_in (map (at_place p said now) ws)) ≡ map (λ w. group_stage p.group) ws
-stages_said p said now [] = refl
-stages_said p said now (w ∷ ws) = ap (λ n. n ∷ map stage (map deed_in (map (at_place p said now) ws))) (stage_at p.group w said now) ∙ ap (λ ns. group_stage p.group ∷ ns) (stages_said p said now ws)
+stages_said : (s : Plan) (p : Place) (said : Said) (now : ℕ) (ws : List ℕ) → ((w : ℕ) → is_among w ws ≡ true → IsOfLevel s p w) → map (stage s) (map deed_in (map (at_place p said now) ws)) ≡ map (λ w. place_stage p) ws
+stages_said s p said now [] h = refl
+stages_said s p said now (w ∷ ws) h =
+    ap (λ n. n ∷ map (stage s) (map deed_in (map (at_place p said now) ws))) (stage_at s p.group p.level w said now (h w (left_part (w == w) (is_among w ws) (same_number w))))
+    ∙ ap (λ ns. place_stage p ∷ ns) (stages_said s p said now ws (λ u e. h u (right_part (w == u) (is_among u ws) e)))
 
-stages_more : (log : List Entry) (p : Place) (said : Said) (now : ℕ) (ws : List ℕ) → map stage (map deed_in (log ++ map (at_place p said now) ws)) ≡ map stage (map deed_in log) ++ map (λ w. group_stage p.group) ws
-stages_more log p said now ws =
-    ap (map stage) (deeds_append log (map (at_place p said now) ws)) ∙ stages_append (map deed_in log) (map deed_in (map (at_place p said now) ws)) ∙ ap (λ ns. map stage (map deed_in log) ++ ns) (stages_said p said now ws)
+stages_more : (s : Plan) (log : List Entry) (p : Place) (said : Said) (now : ℕ) (ws : List ℕ) → ((w : ℕ) → is_among w ws ≡ true → IsOfLevel s p w)
+    → map (stage s) (map deed_in (log ++ map (at_place p said now) ws)) ≡ map (stage s) (map deed_in log) ++ map (λ w. place_stage p) ws
+stages_more s log p said now ws h =
+    ap (map (stage s)) (deeds_append log (map (at_place p said now) ws)) ∙ stages_append s (map deed_in log) (map deed_in (map (at_place p said now) ws)) ∙ ap (λ ns. map (stage s) (map deed_in log) ++ ns) (stages_said s p said now ws h)
 
 -- ## groups stay closed
 
@@ -220,57 +259,57 @@ module _ (said : Said) (now : ℕ) (ws : List ℕ) (a : Agenda) where
 
 -- places whose stages do not fall, from m on
 abbrev From : ℕ → List Place → Type 0
-From m [] = m ≤ 11
-From m (p ∷ ps) = (m ≤ group_stage p.group) × From (group_stage p.group) ps
+From m [] = m ≤ 15
+From m (p ∷ ps) = (m ≤ place_stage p) × From (place_stage p) ps
 
 less_both : (a b c : ℕ) → a ≤ b → b ≤ c → a ≤ c
 less_both a b c l h = omega arith
 
 not_before : (a : Agenda) (m : ℕ) (ps : List Place) → From m ps → m ≤ open_stage (left_from a ps)
 not_before a m [] h = h
-not_before a m (p ∷ ps) h = at_group (waited_for a p) (left_from a ps) (not_before a (group_stage p.group) ps h.1)
+not_before a m (p ∷ ps) h = at_group (waited_for a p) (left_from a ps) (not_before a (place_stage p) ps h.1)
   where
-    at_group : (ws : List ℕ) (later : List Open) → group_stage p.group ≤ open_stage later → m ≤ open_stage (with_group p ws later)
-    at_group [] later l = less_both m (group_stage p.group) (open_stage later) h.0 l
+    at_group : (ws : List ℕ) (later : List Open) → place_stage p ≤ open_stage later → m ≤ open_stage (with_group p ws later)
+    at_group [] later l = less_both m (place_stage p) (open_stage later) h.0 l
     at_group (w ∷ ws) later l = h.0
 
 goes_up : (a b : Agenda) (m : ℕ) (ps : List Place) → From m ps → ((p : Place) → waited_for a p ≡ [] → waited_for b p ≡ []) → open_stage (left_from a ps) ≤ open_stage (left_from b ps)
-goes_up a b m [] h stays = no_less 11
+goes_up a b m [] h stays = no_less 15
 goes_up a b m (p ∷ ps) h stays =
-    at_group (waited_for a p) (waited_for b p) (left_from a ps) (left_from b ps) (stays p) (not_before b (group_stage p.group) ps h.1) (goes_up a b (group_stage p.group) ps h.1 stays)
+    at_group (waited_for a p) (waited_for b p) (left_from a ps) (left_from b ps) (stays p) (not_before b (place_stage p) ps h.1) (goes_up a b (place_stage p) ps h.1 stays)
   where
-    at_group : (ws us : List ℕ) (later after : List Open) → (ws ≡ [] → us ≡ []) → group_stage p.group ≤ open_stage after → open_stage later ≤ open_stage after → open_stage (with_group p ws later) ≤ open_stage (with_group p us after)
+    at_group : (ws us : List ℕ) (later after : List Open) → (ws ≡ [] → us ≡ []) → place_stage p ≤ open_stage after → open_stage later ≤ open_stage after → open_stage (with_group p ws later) ≤ open_stage (with_group p us after)
     at_group [] [] later after f l ih = ih
     at_group [] (u ∷ us) later after f l ih = absurd (none u us (f refl))
       where
         none : (u : ℕ) (us : List ℕ) → u ∷ us ≡ [] → ⊥
         none u us e = cc
     at_group (w ∷ ws) [] later after f l ih = l
-    at_group (w ∷ ws) (u ∷ us) later after f l ih = no_less (group_stage p.group)
+    at_group (w ∷ ws) (u ∷ us) later after f l ih = no_less (place_stage p)
 
 -- the groups below the open one are closed
 abbrev Closed : Agenda → ℕ → List Place → Type 0
 Closed a k [] = Unit {0}
-Closed a k (p ∷ ps) = (group_stage p.group < k → waited_for a p ≡ []) × Closed a k ps
+Closed a k (p ∷ ps) = (place_stage p < k → waited_for a p ≡ []) × Closed a k ps
 
 none_below : (a : Agenda) (m k : ℕ) (ps : List Place) → From m ps → k ≤ m → Closed a k ps
 none_below a m k [] h l = tt
 none_below a m k (p ∷ ps) h l =
-    (λ i. absurd (over m (group_stage p.group) k h.0 l i), none_below a (group_stage p.group) k ps h.1 (less_both k m (group_stage p.group) l h.0))
+    (λ i. absurd (over m (place_stage p) k h.0 l i), none_below a (place_stage p) k ps h.1 (less_both k m (place_stage p) l h.0))
   where
     over : (m g k : ℕ) → m ≤ g → k ≤ m → g < k → ⊥
     over m g k h l i = omega arith
 
 closed_below : (a : Agenda) (m : ℕ) (ps : List Place) → From m ps → Closed a (open_stage (left_from a ps)) ps
 closed_below a m [] h = tt
-closed_below a m (p ∷ ps) h = at_group (waited_for a p) (left_from a ps) refl (closed_below a (group_stage p.group) ps h.1)
+closed_below a m (p ∷ ps) h = at_group (waited_for a p) (left_from a ps) refl (closed_below a (place_stage p) ps h.1)
   where
     itself : (n : ℕ) → n < n → ⊥
     itself n l = omega arith
 
     at_group : (ws : List ℕ) (later : List Open) → waited_for a p ≡ ws → Closed a (open_stage later) ps → Closed a (open_stage (with_group p ws later)) (p ∷ ps)
     at_group [] later e c = (λ l. e, c)
-    at_group (w ∷ ws) later e c = (λ l. absurd (itself (group_stage p.group) l), none_below a (group_stage p.group) (group_stage p.group) ps h.1 (no_less (group_stage p.group)))
+    at_group (w ∷ ws) later e c = (λ l. absurd (itself (place_stage p) l), none_below a (place_stage p) (place_stage p) ps h.1 (no_less (place_stage p)))
 
 snapshot_from : From 0 (places Snapshot)
 snapshot_from = (omega arith, (omega arith, (omega arith, (omega arith, (omega arith, (omega arith, (omega arith, (omega arith, (omega arith, (omega arith, (omega arith, (omega arith, (omega arith, (omega arith, (omega arith, omega arith)))))))))))))))
@@ -343,9 +382,9 @@ abbrev volume_number : Option ℕ → ℕ
 volume_number None = 0
 volume_number (Some v) = v
 
-pub record Good (a : Agenda) : Type 0 where
-  pub rising : Rising (map stage (deeds_in a))
-  pub below : Below (open_stage (groups_left a)) (map stage (deeds_in a))
+pub record Good (s : Plan) (a : Agenda) : Type 0 where
+  pub rising : MembersOf (level_of s) a.members → Rising (map (stage s) (deeds_in a))
+  pub below : MembersOf (level_of s) a.members → Below (open_stage (groups_left a)) (map (stage s) (deeds_in a))
   pub once : AreOnce (deeds_in a)
   -- a step that was made is in the log
   pub logged : (g : Group) (v : Option ℕ) → made g v (deeds_in a) ≡ true → has_said a.log (plain g) (volume_number v) ≡ true
@@ -354,10 +393,10 @@ pub record Good (a : Agenda) : Type 0 where
   pub consent : (order : Order) (w : ℕ) → fails_set (Some order) ≡ true → heard order w (deeds_in a) ≡ true → agreed order w (deeds_in a) ≡ true
   pub told_after : (w : ℕ) → heard PostSnapshot w (deeds_in a) ≡ true → agreed Thaw w (deeds_in a) ≡ true
 
-good_unspoken : (ms : List Member) (vs : List ℕ) (now : ℕ) → Good (unspoken Snapshot ms vs now)
-good_unspoken ms vs now = record {
-  rising = tt;
-  below = tt;
+good_unspoken : (s : Plan) (ms : List Member) (vs : List ℕ) (now : ℕ) → Good s (unspoken Snapshot ms vs now)
+good_unspoken s ms vs now = record {
+  rising = λ lv. tt;
+  below = λ lv. tt;
   once = tt;
   logged = λ g v e. absurd cc;
   of_participants = λ order w e. absurd cc;
@@ -623,24 +662,76 @@ heard_at : (a : Agenda) (o : Order) (l : Option Level) (w : ℕ) → is_among w 
 heard_at a o l w m e =
     said_deed a.log (record { group = Orders o; level = l }) w (is_heard o w) (λ said now u f. both_are (same_order o o) (u == w) (same_number (order_code o)) f) (said_all a.log (record { group = Orders o; level = l }) (members_of a (Orders o) l) w e m)
 
+smaller : (a b k : ℕ) → a ≤ b → b < k → a < k
+smaller a b k l h = omega arith
+
 prepare_heard : (a : Agenda) (k : ℕ) → 0 < k → Closed a k (places Snapshot) → (w : ℕ) → is_member a.members w ≡ true → heard PrepareSnapshot w (deeds_in a) ≡ true
 prepare_heard a k l c w e = heard_at a PrepareSnapshot None w (all_among a.members w e) (c.0 l)
 
-freeze_heard : (a : Agenda) (k : ℕ) → 1 < k → Closed a k (places Snapshot) → (w : ℕ) → is_member a.members w ≡ true → heard Freeze w (deeds_in a) ≡ true
+freeze_heard : (a : Agenda) (k : ℕ) → 3 < k → Closed a k (places Snapshot) → (w : ℕ) → is_member a.members w ≡ true → heard Freeze w (deeds_in a) ≡ true
 freeze_heard a k l c w e = at_some_level a.members w (heard Freeze w (deeds_in a) ≡ true) at_level_heard e
   where
     at_level_heard : (x : Level) → is_among w (writers_at a.members (Some x)) ≡ true → heard Freeze w (deeds_in a) ≡ true
-    at_level_heard FrontEnd m = heard_at a Freeze (Some FrontEnd) w m (c.1.0 l)
-    at_level_heard BackEnd m = heard_at a Freeze (Some BackEnd) w m (c.1.1.0 l)
+    at_level_heard FrontEnd m = heard_at a Freeze (Some FrontEnd) w m (c.1.0 (smaller 1 3 k (omega arith) l))
+    at_level_heard BackEnd m = heard_at a Freeze (Some BackEnd) w m (c.1.1.0 (smaller 2 3 k (omega arith) l))
     at_level_heard System m = heard_at a Freeze (Some System) w m (c.1.1.1.0 l)
 
-thaw_heard : (a : Agenda) (k : ℕ) → 9 < k → Closed a k (places Snapshot) → (w : ℕ) → is_member a.members w ≡ true → heard Thaw w (deeds_in a) ≡ true
+thaw_heard : (a : Agenda) (k : ℕ) → 13 < k → Closed a k (places Snapshot) → (w : ℕ) → is_member a.members w ≡ true → heard Thaw w (deeds_in a) ≡ true
 thaw_heard a k l c w e = at_some_level a.members w (heard Thaw w (deeds_in a) ≡ true) at_level_heard e
   where
     at_level_heard : (x : Level) → is_among w (writers_at a.members (Some x)) ≡ true → heard Thaw w (deeds_in a) ≡ true
-    at_level_heard System m = heard_at a Thaw (Some System) w m (c.1.1.1.1.1.1.1.1.1.1.1.0 l)
-    at_level_heard BackEnd m = heard_at a Thaw (Some BackEnd) w m (c.1.1.1.1.1.1.1.1.1.1.1.1.0 l)
+    at_level_heard System m = heard_at a Thaw (Some System) w m (c.1.1.1.1.1.1.1.1.1.1.1.0 (smaller 11 13 k (omega arith) l))
+    at_level_heard BackEnd m = heard_at a Thaw (Some BackEnd) w m (c.1.1.1.1.1.1.1.1.1.1.1.1.0 (smaller 12 13 k (omega arith) l))
     at_level_heard FrontEnd m = heard_at a Thaw (Some FrontEnd) w m (c.1.1.1.1.1.1.1.1.1.1.1.1.1.0 l)
+
+-- ## levels
+
+same_levels : (x y : Level) → (number_of x == number_of y) ≡ true → x ≡ y
+same_levels System System e = refl
+same_levels BackEnd BackEnd e = refl
+same_levels FrontEnd FrontEnd e = refl
+same_levels System BackEnd e = absurd cc
+same_levels System FrontEnd e = absurd cc
+same_levels BackEnd System e = absurd cc
+same_levels BackEnd FrontEnd e = absurd cc
+same_levels FrontEnd System e = absurd cc
+same_levels FrontEnd BackEnd e = absurd cc
+
+level_among : (s : Plan) (x : Level) (ms : List Member) (w : ℕ) → MembersOf (level_of s) ms → is_among w (writers_at ms (Some x)) ≡ true → level_of s w ≡ x
+level_among s x [] w lv e = absurd cc
+level_among s x (m ∷ ms) w lv e = by_head (is_at (Some x) m.level) (m.writer == w) refl refl e (level_among s x ms w lv.1)
+  where
+    by_head : (b c : Bool) → is_at (Some x) m.level ≡ b → (m.writer == w) ≡ c → is_among w (map (λ (y : Member). y.writer) (if b then m ∷ filter (λ (y : Member). is_at (Some x) y.level) ms else filter (λ (y : Member). is_at (Some x) y.level) ms)) ≡ true
+        → (is_among w (writers_at ms (Some x)) ≡ true → level_of s w ≡ x) → level_of s w ≡ x
+    by_head false c f h e ih = ih e
+    by_head true true f h e ih = ap (level_of s) (sym (equal m.writer w h)) ∙ sym lv.0 ∙ sym (same_levels x m.level f)
+    by_head true false f h e ih = ih (other (m.writer == w) h e)
+      where
+        other : (c : Bool) → c ≡ false → (c || is_among w (writers_at ms (Some x))) ≡ true → is_among w (writers_at ms (Some x)) ≡ true
+        other true h e = absurd cc
+        other false h e = e
+
+of_group_level : (s : Plan) (a : Agenda) (g : Group) (l : Option Level) (w : ℕ) → MembersOf (level_of s) a.members → is_among w (members_of a g l) ≡ true → leveled g ≡ true → is_some l ≡ true → level_of s w ≡ level_or l
+of_group_level s a (Orders Freeze) (Some x) w lv m e f = level_among s x a.members w lv m
+of_group_level s a (Orders Thaw) (Some x) w lv m e f = level_among s x a.members w lv m
+of_group_level s a g None w lv m e f = absurd cc
+of_group_level s a g (Some x) w lv m e f = absurd cc
+
+abbrev LevelsGiven : List Place → Type 0
+LevelsGiven [] = Unit {0}
+LevelsGiven (p ∷ ps) = (leveled p.group ≡ true → is_some p.level ≡ true) × LevelsGiven ps
+
+levels_given : LevelsGiven (places Snapshot)
+levels_given = (λ e. absurd cc, (λ e. refl, (λ e. refl, (λ e. refl, (λ e. absurd cc, (λ e. absurd cc, (λ e. absurd cc, (λ e. absurd cc, (λ e. absurd cc, (λ e. absurd cc, (λ e. absurd cc, (λ e. refl, (λ e. refl, (λ e. refl, (λ e. absurd cc, tt)))))))))))))))
+
+open_leveled : (a : Agenda) (ps : List Place) → LevelsGiven ps → leveled (open_place (left_from a ps)).group ≡ true → is_some (open_place (left_from a ps)).level ≡ true
+open_leveled a [] h e = absurd cc
+open_leveled a (p ∷ ps) h e = at_group (waited_for a p) (left_from a ps) (open_leveled a ps h.1) e
+  where
+    at_group : (ws : List ℕ) (later : List Open) → (leveled (open_place later).group ≡ true → is_some (open_place later).level ≡ true) → leveled (open_place (with_group p ws later)).group ≡ true
+        → is_some (open_place (with_group p ws later)).level ≡ true
+    at_group [] later ih e = ih e
+    at_group (w ∷ ws) later ih e = h.0 e
 
 -- ## one more is said
 
@@ -659,7 +750,7 @@ waits_in ws a (inl o) w e = subst (λ x. is_among x (waits_now (groups_left a)) 
 waits_in ws a (inr o) w e = subst (λ xs. is_among w xs ≡ true) o.is e
 
 -- nobody is waited for where no group is left
-none_left : (os : List Open) (ws : List ℕ) → ((w : ℕ) → is_among w ws ≡ true → is_among w (waits_now os) ≡ true) → (ws ≡ []) ⊎ (open_stage os ≡ group_stage (open_place os).group)
+none_left : (os : List Open) (ws : List ℕ) → ((w : ℕ) → is_among w ws ≡ true → is_among w (waits_now os) ≡ true) → (ws ≡ []) ⊎ (open_stage os ≡ place_stage (open_place os))
 none_left [] [] h = inl refl
 none_left [] (w ∷ ws) h = absurd (no_one (h w (left_part (w == w) (is_among w ws) (same_number w))))
   where
@@ -667,7 +758,7 @@ none_left [] (w ∷ ws) h = absurd (no_one (h w (left_part (w == w) (is_among w 
     no_one e = cc
 none_left (o ∷ os) ws h = inr refl
 
-module _ (said : Said) (now : ℕ) (ws : List ℕ) (a : Agenda) (k : a.kind ≡ Snapshot) (who : Speaks a ws) (mild : (fails_set (order_of (open_place (groups_left a)).group) && not (is_ok said)) ≡ false) (g : Good a) where
+module _ (s : Plan) (said : Said) (now : ℕ) (ws : List ℕ) (a : Agenda) (k : a.kind ≡ Snapshot) (who : Speaks a ws) (mild : (fails_set (order_of (open_place (groups_left a)).group) && not (is_ok said)) ≡ false) (g : Good s a) where
   abbrev more : Agenda
   more = all_say said now ws a
 
@@ -685,25 +776,31 @@ module _ (said : Said) (now : ℕ) (ws : List ℕ) (a : Agenda) (k : a.kind ≡ 
       let up = goes_up a more 0 (places Snapshot) snapshot_from (closed_stays said now ws a) in
       subst (λ n. n ≤ open_stage (groups_left more)) (sym (ap open_stage (snapshot_left a k))) (subst (λ n. open_stage (left_from a (places Snapshot)) ≤ n) (sym (ap open_stage (snapshot_left more k))) up)
 
-  stage_below : (ws ≡ []) ⊎ (open_stage os ≡ group_stage p.group) → Rising (map stage (deeds_in more)) × Below (open_stage (groups_left more)) (map stage (deeds_in more))
-  stage_below (inl e) =
-      let same : map stage (deeds_in a) ≡ map stage (deeds_in more) = nothing (map stage (deeds_in a)) ∙ ap (λ us. map stage (deeds_in a) ++ map (λ (w : ℕ). group_stage p.group) us) (sym e) ∙ sym (stages_more a.log p said now ws) in
-      (subst Rising same g.rising, subst (Below (open_stage (groups_left more))) same (below_more (open_stage os) (open_stage (groups_left more)) _ open_goes_up g.below))
+  member_at : (u : ℕ) → is_among u ws ≡ true → is_among u (members_of a p.group p.level) ≡ true
+  member_at u e = waits_members a (places a.kind) u (waits_in ws a who u e)
+
+  level_given : leveled p.group ≡ true → is_some p.level ≡ true
+  level_given = subst (λ xs. leveled (open_place xs).group ≡ true → is_some (open_place xs).level ≡ true) (sym (snapshot_left a k)) (open_leveled a (places Snapshot) levels_given)
+
+  own_levels : MembersOf (level_of s) a.members → (u : ℕ) → is_among u ws ≡ true → IsOfLevel s p u
+  own_levels lv u f e = of_group_level s a p.group p.level u lv (member_at u f) e (level_given e)
+
+  stage_below : MembersOf (level_of s) a.members → (ws ≡ []) ⊎ (open_stage os ≡ place_stage p) → Rising (map (stage s) (deeds_in more)) × Below (open_stage (groups_left more)) (map (stage s) (deeds_in more))
+  stage_below lv (inl e) =
+      let same : map (stage s) (deeds_in a) ≡ map (stage s) (deeds_in more) = nothing (map (stage s) (deeds_in a)) ∙ ap (λ us. map (stage s) (deeds_in a) ++ map (λ (w : ℕ). place_stage p) us) (sym e) ∙ sym (stages_more s a.log p said now ws (own_levels lv)) in
+      (subst Rising same (g.rising lv), subst (Below (open_stage (groups_left more))) same (below_more (open_stage os) (open_stage (groups_left more)) _ open_goes_up (g.below lv)))
     where
       nothing : (ns : List ℕ) → ns ≡ ns ++ []
       nothing [] = refl
       nothing (n ∷ ns) = ap (λ xs. n ∷ xs) (nothing ns)
-  stage_below (inr e) =
-      let same : map stage (deeds_in a) ++ map (λ (w : ℕ). group_stage p.group) ws ≡ map stage (deeds_in more) = sym (stages_more a.log p said now ws) in
-      let under : Below (group_stage p.group) (map stage (deeds_in a)) = subst (λ n. Below n (map stage (deeds_in a))) e g.below in (
-        subst Rising same (rising_append (map stage (deeds_in a)) (group_stage p.group) ws g.rising under),
+  stage_below lv (inr e) =
+      let same : map (stage s) (deeds_in a) ++ map (λ (w : ℕ). place_stage p) ws ≡ map (stage s) (deeds_in more) = sym (stages_more s a.log p said now ws (own_levels lv)) in
+      let under : Below (place_stage p) (map (stage s) (deeds_in a)) = subst (λ n. Below n (map (stage s) (deeds_in a))) e (g.below lv) in (
+        subst Rising same (rising_append (map (stage s) (deeds_in a)) (place_stage p) ws (g.rising lv) under),
         subst (Below (open_stage (groups_left more))) same
-            (below_append (open_stage (groups_left more)) (map stage (deeds_in a)) ws (group_stage p.group) (below_more (open_stage os) (open_stage (groups_left more)) _ open_goes_up g.below)
+            (below_append (open_stage (groups_left more)) (map (stage s) (deeds_in a)) ws (place_stage p) (below_more (open_stage os) (open_stage (groups_left more)) _ open_goes_up (g.below lv))
             (subst (λ n. n ≤ open_stage (groups_left more)) e open_goes_up)),
       )
-
-  member_at : (u : ℕ) → is_among u ws ≡ true → is_among u (members_of a p.group p.level) ≡ true
-  member_at u e = waits_members a (places a.kind) u (waits_in ws a who u e)
 
   -- what holds of the deeds so far, and of those that come
   old_or_new : (test : Deed → Bool) (c : Bool) → list_any test (deeds_in more) ≡ true → (list_any test (deeds_in a) ≡ true → c ≡ true) → ((u : ℕ) → is_among u ws ≡ true → test (deed_at p.group u said now) ≡ true → c ≡ true) → c ≡ true
@@ -795,24 +892,24 @@ module _ (said : Said) (now : ℕ) (ws : List ℕ) (a : Agenda) (k : a.kind ≡ 
       let post = post_group p.group w u said now i in
       still (is_agreed Thaw w) (thaw_at u w f post.0 post.1 (none_left os ws (waits_in ws a who))))
     where
-      thaw_at : (u w : ℕ) → is_among u ws ≡ true → p.group ≡ Orders PostSnapshot → u ≡ w → (ws ≡ []) ⊎ (open_stage os ≡ group_stage p.group) → agreed Thaw w (deeds_in a) ≡ true
+      thaw_at : (u w : ℕ) → is_among u ws ≡ true → p.group ≡ Orders PostSnapshot → u ≡ w → (ws ≡ []) ⊎ (open_stage os ≡ place_stage p) → agreed Thaw w (deeds_in a) ≡ true
       thaw_at u w f e s (inl n) = absurd (no_one (subst (λ xs. is_among u xs ≡ true) n f))
         where
           no_one : is_among u [] ≡ true → ⊥
           no_one h = cc
       thaw_at u w f e s (inr n) =
           let member = subst (λ x. is_among x (members_of a (Orders PostSnapshot) p.level) ≡ true) s (subst (λ h. is_among u (members_of a h p.level) ≡ true) e (member_at u f)) in
-          let at : open_stage (left_from a (places Snapshot)) ≡ 10 = sym (ap open_stage (snapshot_left a k)) ∙ n ∙ ap group_stage e in
+          let at : open_stage (left_from a (places Snapshot)) ≡ 14 = sym (ap open_stage (snapshot_left a k)) ∙ n ∙ ap (λ h. group_stage h p.level) e in
           let closed = subst (λ m. Closed a m (places Snapshot)) at (closed_below a 0 (places Snapshot) snapshot_from) in
           heard_agreed a.log w (not_true (has_failed a.log w) (passes (λ x. not (has_failed a.log x)) w (writers_at a.members p.level) member))
-          (thaw_heard a 10 (omega arith) closed w (order_member PostSnapshot a p.level w member))
+          (thaw_heard a 14 (omega arith) closed w (order_member PostSnapshot a p.level w member))
 
-  says_good : Good (all_say said now ws a)
+  says_good : Good s (all_say said now ws a)
   says_good =
-      let stages = stage_below (none_left os ws (waits_in ws a who)) in
+      let stages : MembersOf (level_of s) a.members → Rising (map (stage s) (deeds_in more)) × Below (open_stage (groups_left more)) (map (stage s) (deeds_in more)) = λ lv. stage_below lv (none_left os ws (waits_in ws a who)) in
       record {
-        rising = stages.0;
-        below = stages.1;
+        rising = λ lv. (stages lv).0;
+        below = λ lv. (stages lv).1;
         once = once_if who;
         logged = logs;
         of_participants = λ order w e. old_or_new (is_heard order w) (is_member a.members w) e (g.of_participants order w) (λ u f i. heard_writer order w p.group a p.level u said now (member_at u f) i);
@@ -845,16 +942,16 @@ same_failed (x ∷ log) w = at_group x.place.group x.said x.who x.time ∙ ap (�
     at_group Release said u now = refl
     at_group PostCommit said u now = refl
 
-post_heard : (a : Agenda) → Closed a 11 (places Snapshot) → (w : ℕ) → is_member a.members w ≡ true → failed w (deeds_in a) ≡ false → heard PostSnapshot w (deeds_in a) ≡ true
+post_heard : (a : Agenda) → Closed a 15 (places Snapshot) → (w : ℕ) → is_member a.members w ≡ true → failed w (deeds_in a) ≡ false → heard PostSnapshot w (deeds_in a) ≡ true
 post_heard a c w e f =
     heard_at a PostSnapshot None w (among_kept (λ x. not (has_failed a.log x)) w (writers_at a.members None) (ap not (same_failed a.log w ∙ f)) (all_among a.members w e)) (c.1.1.1.1.1.1.1.1.1.1.1.1.1.1.0 (omega arith))
 
-good_along : IsKeptAlong Good
-good_along = record { begins = good_unspoken; says = λ said now ws a k who mild g. says_good said now ws a k who mild g }
+good_along : (s : Plan) → IsKeptAlong (Good s)
+good_along s = record { begins = good_unspoken s; says = λ said now ws a k who mild g. says_good s said now ws a k who mild g }
 
 -- ## the end
 
-none_open : (os : List Open) → is_done os ≡ true → open_stage os ≡ 11
+none_open : (os : List Open) → is_done os ≡ true → open_stage os ≡ 15
 none_open [] e = refl
 none_open (o ∷ os) e = absurd cc
 
@@ -863,17 +960,17 @@ made_all : (a : Agenda) (g : Group) (v : Option ℕ) → is_among (volume_number
     → waited_for a (plain g) ≡ [] → made g v (deeds_in a) ≡ true
 made_all a g v m test e = said_deed a.log (plain g) (volume_number v) (is_made g v) test (said_all a.log (plain g) (members_of a g None) (volume_number v) e m)
 
-whole_way : (a : Agenda) (participants : List Member) (volumes : List ℕ) → a.kind ≡ Snapshot → is_done (groups_left a) ≡ true → a.members ≡ participants → a.volumes ≡ volumes → Good a → IsWholeWay participants volumes (deeds_in a)
-whole_way a participants volumes k d m v g =
-    let at : open_stage (left_from a (places Snapshot)) ≡ 11 = sym (ap open_stage (ap (λ j. left_from a (places j)) k)) ∙ none_open (groups_left a) d in
+whole_way : (s : Plan) (a : Agenda) (participants : List Member) (volumes : List ℕ) → a.kind ≡ Snapshot → is_done (groups_left a) ≡ true → a.members ≡ participants → a.volumes ≡ volumes → MembersOf (level_of s) participants → Good s a → IsWholeWay s participants volumes (deeds_in a)
+whole_way s a participants volumes k d m v lv g =
+    let at : open_stage (left_from a (places Snapshot)) ≡ 15 = sym (ap open_stage (ap (λ j. left_from a (places j)) k)) ∙ none_open (groups_left a) d in
     let closed = subst (λ n. Closed a n (places Snapshot)) at (closed_below a 0 (places Snapshot) snapshot_from) in
     let member : (w : ℕ) → is_member participants w ≡ true → is_member a.members w ≡ true = λ w e. subst (λ ms. is_member ms w ≡ true) (sym m) e in
     let volume : (u : ℕ) → is_among u volumes ≡ true → is_among u a.volumes ≡ true = λ u e. subst (λ us. is_among u us ≡ true) (sym v) e in
     record {
-      in_order = g.rising;
+      in_order = g.rising (subst (MembersOf (level_of s)) (sym m) lv);
       once = g.once;
-      prepared = λ w e. g.consent PrepareSnapshot w refl (prepare_heard a 11 (omega arith) closed w (member w e));
-      frozen = λ w e. g.consent Freeze w refl (freeze_heard a 11 (omega arith) closed w (member w e));
+      prepared = λ w e. g.consent PrepareSnapshot w refl (prepare_heard a 15 (omega arith) closed w (member w e));
+      frozen = λ w e. g.consent Freeze w refl (freeze_heard a 15 (omega arith) closed w (member w e));
       pre_commit = made_all a PreCommit None refl (λ said now u e. refl) (closed.1.1.1.1.0 (omega arith));
       flushed = λ u e. made_all a Flush (Some u) (volume u e) (λ said now x f. f) (closed.1.1.1.1.1.0 (omega arith));
       held = λ u e. made_all a Hold (Some u) (volume u e) (λ said now x f. f) (closed.1.1.1.1.1.1.0 (omega arith));
@@ -881,7 +978,7 @@ whole_way a participants volumes k d m v g =
       committed = λ u e. made_all a Commit (Some u) (volume u e) (λ said now x f. f) (closed.1.1.1.1.1.1.1.1.0 (omega arith));
       released = λ u e. made_all a Release (Some u) (volume u e) (λ said now x f. f) (closed.1.1.1.1.1.1.1.1.1.0 (omega arith));
       post_commit = made_all a PostCommit None refl (λ said now u e. refl) (closed.1.1.1.1.1.1.1.1.1.1.0 (omega arith));
-      thawed = λ w e. thaw_heard a 11 (omega arith) closed w (member w e);
+      thawed = λ w e. thaw_heard a 15 (omega arith) closed w (member w e);
       told_after = λ w e f. post_heard a closed w (member w e) f;
       told_no_failed = λ w e. false_of (heard PostSnapshot w (deeds_in a)) (λ f. true_not_false (agreed Thaw w (deeds_in a)) (g.told_after w f) e);
       of_participants = λ order w e. subst (λ ms. is_member ms w ≡ true) m (g.of_participants order w e);
@@ -891,8 +988,8 @@ whole_way a participants volumes k d m v g =
 pub complete_by_the_way : (s : Plan) (so_far : List Act) (act : Act) → CompletesByTheWay s so_far act
 complete_by_the_way s so_far act r q e f h =
     let st = state s so_far in
-    let l = last_stand Good good_along s so_far act r q e f h in
+    let l = last_stand (Good s) (good_along s) s so_far act r q e f h in
     let set : Tied (Some l.before) st.course.members (in_progress st) = subst (λ x. Tied x st.course.members (in_progress st)) l.is (tied s so_far) in
     let of : IsOf Snapshot l.before.volumes l.before.members st.course.members (Some r) =
     subst (λ x. IsOf Snapshot l.before.volumes l.before.members st.course.members x) e (subst (λ j. IsOf j l.before.volumes l.before.members st.course.members (in_progress st)) l.kind set) in
-    subst (IsWholeWay st.course.members r.volumes) l.deeds_are (whole_way l.last st.course.members r.volumes l.last_kind l.done (l.members ∙ of.1) (l.volumes ∙ of.0) l.good)
+    subst (IsWholeWay s st.course.members r.volumes) l.deeds_are (whole_way s l.last st.course.members r.volumes l.last_kind l.done (l.members ∙ of.1) (l.volumes ∙ of.0) (levels_are s so_far) l.good)

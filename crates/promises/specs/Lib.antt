@@ -1,5 +1,6 @@
 pub mod Way
 pub mod Gone
+pub mod Done
 pub mod Failing
 pub mod Contents
 pub mod Clock

@@ -7,6 +7,7 @@ use Rattle.vss_model.specs.Trail.{acts}
 use Rattle.promises.specs.Calls.{CallsAreOwned, WaitsAreFew, StandsQuiet, FrozenDoNotWrite}
 use Rattle.promises.specs.Clock.{ClockMoves}
 use Rattle.promises.specs.Contents.{ContentsStay}
+use Rattle.promises.specs.Done.{IsDone}
 use Rattle.promises.specs.Failing.{FailsForCause}
 use Rattle.promises.specs.Gone.{ImagesGoForCause}
 use Rattle.promises.specs.Way.{CompletesByTheWay}
@@ -16,6 +17,7 @@ pub record IsActAsPromised (s : Plan) (so_far : List Act) (act : Act) : Type 0 w
   pub completes : CompletesByTheWay s so_far act
   pub fails : FailsForCause s so_far act
   pub images : ImagesGoForCause s so_far act
+  pub done : IsDone s so_far act
   pub contents : ContentsStay s so_far act
   pub clock : ClockMoves s so_far act
   pub calls : CallsAreOwned s so_far act

@@ -1,8 +1,10 @@
 -- The way to completion: what writers said and the provider made since the `snapshot` line, as the acts tell it, in order.
 -- A set completes only where that is the whole sequence of a snapshot, each part once. (The sequence is that of the SDK's
 -- overview of shadow copy creation; the order of the Thaw levels is this project's own.)
-use Rattle.std.specs.Prelude.{ℕ, ◌≡◌, ◌≤◌, ◌==◌, Bool, true, false, List, [], ◌∷◌, ◌++◌, map, fold, ◌&&◌, not, if◌then◌else◌, Option, Some, None}
+use Rattle.std.specs.Prelude.{ℕ, ◌≡◌, ◌≤◌, ◌==◌, Bool, true, false, List, [], ◌∷◌, ◌++◌, map, fold, ◌&&◌, not, if◌then◌else◌, Option, Some, None, slice_get}
 use Rattle.std.specs.List.{list_any}
+use Rattle.vss_names.specs.declared.level.Level.{Level}
+use Rattle.vss_names.specs.declared.level.Level.TheVariants.{System, BackEnd, FrontEnd}
 use Rattle.vss_names.specs.declared.order.Order.{Order}
 use Rattle.vss_names.specs.declared.order.Order.TheVariants.{Identify, PrepareBackup, PrepareSnapshot, Freeze, Thaw, PostSnapshot, BackupComplete}
 use Rattle.vss_names.specs.declared.vss_result.VssResult.{VssResult}
@@ -19,7 +21,7 @@ use Rattle.set_agenda.specs.Agenda.{same_order, group_code, is_among}
 use Rattle.set_agenda.specs.Course.{is_member}
 use Rattle.scenario.specs.declared.op.Op.{Op}
 use Rattle.scenario.specs.declared.op.Op.TheVariants.{Snapshot}
-use Rattle.scenario.specs.Plan.{Plan}
+use Rattle.scenario.specs.Plan.{Plan, WriterPlan}
 use Rattle.vss_model.specs.declared.event.Event.{Event}
 use Rattle.vss_model.specs.declared.event.Event.TheVariants.{Line, Answer as AnswerEvent, Provider, Idle}
 use Rattle.vss_model.specs.Reply.{Reply, Coded, Answered, Stepped}
@@ -95,29 +97,42 @@ way s acts = way_from s (start s) [] acts
 
 -- ## the sequence
 
-abbrev pub order_stage : Order → ℕ
-order_stage PrepareSnapshot = 0
-order_stage Freeze = 1
-order_stage Thaw = 9
-order_stage PostSnapshot = 10
-order_stage Identify = 11
-order_stage PrepareBackup = 11
-order_stage BackupComplete = 11
+abbrev pub level_in : Option WriterPlan → Level
+level_in None = System
+level_in (Some w) = w.meta.level
+
+-- the level that the scenario gives a writer
+abbrev pub level_of : Plan → ℕ → Level
+level_of s w = level_in (slice_get s.writers w)
+
+-- freeze goes from the front end down to the system, thaw from the system back up
+abbrev pub order_stage : Order → Level → ℕ
+order_stage PrepareSnapshot level = 0
+order_stage Freeze FrontEnd = 1
+order_stage Freeze BackEnd = 2
+order_stage Freeze System = 3
+order_stage Thaw System = 11
+order_stage Thaw BackEnd = 12
+order_stage Thaw FrontEnd = 13
+order_stage PostSnapshot level = 14
+order_stage Identify level = 15
+order_stage PrepareBackup level = 15
+order_stage BackupComplete level = 15
 
 abbrev pub step_stage : Group → ℕ
-step_stage PreCommit = 2
-step_stage Flush = 3
-step_stage Hold = 4
-step_stage Cut = 5
-step_stage Commit = 6
-step_stage Release = 7
-step_stage PostCommit = 8
-step_stage (Orders order) = 11
+step_stage PreCommit = 4
+step_stage Flush = 5
+step_stage Hold = 6
+step_stage Cut = 7
+step_stage Commit = 8
+step_stage Release = 9
+step_stage PostCommit = 10
+step_stage (Orders order) = 15
 
 -- where in the sequence a deed belongs
-abbrev pub stage : Deed → ℕ
-stage (Spoke order w said now) = order_stage order
-stage (Made g v now) = step_stage g
+abbrev pub stage : Plan → Deed → ℕ
+stage s (Spoke order w said now) = order_stage order (level_of s w)
+stage s (Made g v now) = step_stage g
 
 -- numbers that do not fall
 abbrev pub Rising : List ℕ → Type 0
@@ -180,8 +195,8 @@ made g v way = list_any (is_made g v) way
 -- the whole sequence, in order, and no step twice: every participant said ok to PrepareSnapshot and to Freeze; the provider made
 -- each of its steps, on each volume of the set; every participant was heard at Thaw, and at
 -- PostSnapshot those that have not failed, and nobody that has failed at Thaw; and nobody else was heard, nor was a step made on another volume
-pub record IsWholeWay (participants : List Member) (volumes : List ℕ) (way : List Deed) : Type 0 where
-  pub in_order : Rising (map stage way)
+pub record IsWholeWay (s : Plan) (participants : List Member) (volumes : List ℕ) (way : List Deed) : Type 0 where
+  pub in_order : Rising (map (stage s) way)
   pub once : AreOnce way
   pub prepared : (w : ℕ) → is_member participants w ≡ true → agreed PrepareSnapshot w way ≡ true
   pub frozen : (w : ℕ) → is_member participants w ≡ true → agreed Freeze w way ≡ true
@@ -201,4 +216,4 @@ pub record IsWholeWay (participants : List Member) (volumes : List ℕ) (way : L
 -- a set that completes in an act has come the whole way
 abbrev pub CompletesByTheWay : Plan → List Act → Act → Type 0
 CompletesByTheWay s so_far act = (r q : SetRow) → in_progress (state s so_far) ≡ Some r → row_of (after s (state s so_far) act) r.number ≡ Some q → is_complete q.result ≡ true
-    → IsWholeWay (state s so_far).course.members r.volumes (way s (so_far ++ act ∷ []))
+    → IsWholeWay s (state s so_far).course.members r.volumes (way s (so_far ++ act ∷ []))

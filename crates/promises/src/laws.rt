@@ -7,6 +7,7 @@ ghost use Rattle.vss_model.specs.Acts.{Act};
 ghost use Rattle.promises.specs.Calls.{CallsAreOwned, WaitsAreFew, StandsQuiet, FrozenDoNotWrite};
 ghost use Rattle.promises.specs.Clock.{ClockMoves};
 ghost use Rattle.promises.specs.Contents.{ContentsStay};
+ghost use Rattle.promises.specs.Done.{IsDone};
 ghost use Rattle.promises.specs.Failing.{FailsForCause};
 ghost use Rattle.promises.specs.Gone.{ImagesGoForCause};
 ghost use Rattle.promises.specs.Promises.{IsAsPromised};
@@ -26,6 +27,11 @@ pub fn images_go_for_cause()
 /// An act that gives a cause fails the set in progress in that act, and no other act fails it.
 pub fn sets_fail_for_cause()
     ensures { (s : Plan) (so_far : List Act) (act : Act) → FailsForCause s so_far act }
+{}
+
+/// After a `delete` what it names is gone, and after a revert the images of later sets on its volume are.
+pub fn what_is_asked_is_done()
+    ensures { (s : Plan) (so_far : List Act) (act : Act) → IsDone s so_far act }
 {}
 
 /// A block of a volume is changed by a write to it that no device failed, or by a revert of the volume, and by nothing else.
