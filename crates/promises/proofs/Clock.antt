@@ -142,5 +142,8 @@ clock_if : (b : Bool) (s : Plan) (st : State) (act : Act) → enabled s st act.e
 clock_if true s st act e = ap (λ (x : State). x.clock) (after_enabled s st act e) ∙ covered (Moves st) s st (moves s st) act.event act.mark e
 clock_if false s st act e = ap (λ (x : State). x.clock) (after_not_enabled s st act e) ∙ no_ticks st.clock
 
+pub clock_after : (s : Plan) (st : State) (act : Act) → (after s st act).clock ≡ st.clock + ticks_if (enabled s st act.event) st act.event
+clock_after s st act = clock_if (enabled s st act.event) s st act refl
+
 pub clock_moves : (s : Plan) (so_far : List Act) (act : Act) → ClockMoves s so_far act
-clock_moves s so_far act = clock_if (enabled s (state s so_far) act.event) s (state s so_far) act refl
+clock_moves s so_far act = clock_after s (state s so_far) act

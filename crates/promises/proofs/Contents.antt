@@ -1,7 +1,9 @@
 -- What changes the contents of a volume.
-use Rattle.std.proofs.Common.{◌≡◌, ◌∙◌, ℕ, ◌+◌, ◌==◌, zero, suc, List, [], ◌∷◌, ◌++◌, Option, Some, None, refl, Bool, true, false, ap, sym, subst, map, length, take, arith}
+use Rattle.std.proofs.Common.{◌≡◌, ◌∙◌, ℕ, ◌+◌, ◌==◌, zero, suc, List, [], ◌∷◌, ◌++◌, Option, Some, None, refl, Bool, true, false, ◌<◌, ap, sym, subst, map, length, take, arith}
 use Rattle.std.specs.Prelude.{◌&&◌, not, if◌then◌else◌, slice_get}
 use Rattle.std.proofs.Math.Seq.{take-length}
+use Rattle.block_data.specs.declared.payload.Payload.TheVariants.{Fill, Stamp}
+use Rattle.block_data.specs.PayloadBytes.{payload_bytes}
 use Rattle.block_data.specs.Runs.{zeros}
 use Rattle.vss_names.specs.declared.context.Context.{Context}
 use Rattle.vss_names.specs.declared.context.Context.TheVariants.{Backup, AppRollback, NasRollback}
@@ -24,14 +26,15 @@ use Rattle.scenario.specs.Calls.{Target, target_of}
 use Rattle.scenario.specs.Plan.{Plan, blocks_of, group_of}
 use Rattle.vss_model.specs.declared.event.Event.{Event}
 use Rattle.vss_model.specs.declared.event.Event.TheVariants.{Line, Answer as AnswerEvent, Provider, Idle}
-use Rattle.vss_model.specs.State.{State, SetRow, Kept, in_progress, left_now, history_of}
+use Rattle.vss_model.specs.State.{State, SetRow, Kept, in_progress, left_now, history_of, kept_image}
 use Rattle.vss_model.specs.Ending.{Ending, NothingEnds, AgendaEnds, SetFails, ending, images_dropped, concluded, followed, runs, failed_in, failed}
-use Rattle.vss_model.specs.Images.{Replied, cleared, going_up_to, set_loses_image, with_room_if, put, write, reverted_as}
+use Rattle.vss_model.specs.Images.{Replied, cleared, going_up_to, set_loses_image, with_room_if, put, write, revert_refusal, reverted_as, revert_to, revert}
 use Rattle.vss_model.specs.Sessions.{has_no_volume, images_released, closed}
 use Rattle.vss_model.specs.Steps.{answered, cut_if, cut_each, cut_set, step_made, is_flush, is_failed_step, stepped_as, stepped, ticked, later}
-use Rattle.vss_model.specs.Acts.{Act, enabled, idle_now, after, state}
-use Rattle.vss_model.proofs.Volumes.{at, change_other}
-use Rattle.promises.specs.Contents.{block_now, is_clean, line_changes, may_change, ContentsStay}
+use Rattle.vss_model.specs.Acts.{Act, enabled, happens, idle_now, after, state}
+use Rattle.vss_model.proofs.FewerImages.{as_many_volumes}
+use Rattle.vss_model.proofs.Volumes.{at, change_other, as_many_map, as_many_gone}
+use Rattle.promises.specs.Contents.{block_now, is_clean, line_changes, may_change, ContentsChange}
 use Rattle.promises.proofs.ByEvent.{Covers, covered, after_enabled, after_not_enabled}
 
 -- ## writes of a volume
@@ -243,5 +246,75 @@ module _ (s : Plan) (st : State) (v b : ℕ) where
   pub contents_kept : (act : Act) → may_change v b act.event act.mark ≡ false → Stays (after s st act).volumes
   contents_kept act g = keeps_if (enabled s st act.event) act refl g
 
-pub contents_stay : (s : Plan) (so_far : List Act) (act : Act) → ContentsStay s so_far act
-contents_stay s so_far act v b g = contents_kept s (state s so_far) v b act g
+-- ## what a write and a revert bring
+
+changed_here : (f : History → History) (v : ℕ) (hs : List History) → v < length hs → at (change_at v f hs) v ≡ f (at hs v)
+changed_here f v [] l = absurd (nothing v l)
+  where
+    nothing : (v : ℕ) → v < 0 → ⊥
+    nothing v l = omega arith
+changed_here f zero (h ∷ hs) l = refl
+changed_here f (suc v) (h ∷ hs) l = changed_here f v hs (below v (length hs) l)
+  where
+    below : (v n : ℕ) → suc v < suc n → v < n
+    below v n l = omega arith
+
+last_own : (b : ℕ) (before : List ℕ) (ws : List Write) (w : Write) → (w.block == b) ≡ true → last_bytes b before (ws ++ w ∷ []) ≡ w.bytes
+last_own b before [] w e = ap (λ t. if t then w.bytes else before) e
+last_own b before (x ∷ ws) w e = last_own b (if x.block == b then x.bytes else before) ws w e
+
+same_number : (a : ℕ) → (a == a) ≡ true
+same_number a = grind arith
+
+own_block : (ws : List Write) (w : Write) → content (ws ++ w ∷ []) (length (ws ++ w ∷ [])) w.block ≡ w.bytes
+own_block ws w = now_is (ws ++ w ∷ []) w.block ∙ last_own w.block zeros ws w (same_number w.block)
+
+as_many_room : (b : Bool) (x : State) → length (with_room_if b x).volumes ≡ length x.volumes
+as_many_room true x = by_set (in_progress x)
+  where
+    dropped_all : (o : Option SetRow) (hs : List History) → length (images_dropped o hs) ≡ length hs
+    dropped_all None hs = refl
+    dropped_all (Some r) hs = as_many_map (dropped r.number) hs
+
+    by_set : (o : Option SetRow) → length (failed_in o InsufficientStorage x).volumes ≡ length x.volumes
+    by_set None = refl
+    by_set (Some r) = dropped_all (in_progress x) x.volumes
+as_many_room false x = refl
+
+module _ (s : Plan) (st : State) where
+  write_brings : (v : ℕ) (w : Write) (mark : Mark) → mark ≡ Clean → v < length st.volumes → block_now (write s v w mark st).1 v w.block ≡ w.bytes
+  unfolding write
+  write_brings v w Clean e l =
+      let x = with_room_if (set_loses_image (in_progress st) st.volumes (cleared s v w.block st).volumes) (cleared s v w.block st) in
+      let many : length x.volumes ≡ length st.volumes = as_many_room (set_loses_image (in_progress st) st.volumes (cleared s v w.block st).volumes) (cleared s v w.block st) ∙ as_many_gone (going_up_to s v w.block st) (group_of s v) st.volumes in
+      ap (λ (y : History). content y.writes (length y.writes) w.block) (changed_here (written w) v x.volumes (subst (λ n. v < n) (sym many) l)) ∙ own_block (at x.volumes v).writes w
+  write_brings v w Fault e l = absurd cc
+  write_brings v w (FaultAfter k) e l = absurd cc
+
+  revert_brings : (v b : ℕ) (k : Kept) (mark : Mark) → mark ≡ Clean → v < length st.volumes → block_now (reverted_as s v k mark st).1 v b ≡ content (history_of st v).writes k.point b
+  revert_brings v b k Clean e l =
+      ap (λ (y : History). content y.writes (length y.writes) b) (changed_here (reverted k.row.number k.point) v st.volumes l) ∙ now_is (take k.point (at st.volumes v).writes) b
+  revert_brings v b k Fault e l = absurd cc
+  revert_brings v b k (FaultAfter n) e l = absurd cc
+
+  revert_is : (n v : ℕ) (k : Kept) (mark : Mark) → kept_image st n v ≡ Some k → revert_refusal v (Some k) st ≡ None → revert s n v mark st ≡ reverted_as s v k mark st
+  unfolding revert
+  revert_is n v k mark e f =
+      ap (λ o. revert_to s v (revert_refusal v o st) o mark st) e ∙ ap (λ (w : Option VssResult). revert_to s v w (Some k) mark st) f
+
+  after_line : (act : Act) (event : Event) → act.event ≡ event → enabled s st act.event ≡ true → after s st act ≡ (happens s event act.mark st).1
+  after_line act event e on = after_enabled s st act on ∙ ap (λ x. (happens s x act.mark st).1) e
+
+pub contents_change : (s : Plan) (so_far : List Act) (act : Act) → ContentsChange s so_far act
+contents_change s so_far act =
+    let st = state s so_far in
+    let many : (v : ℕ) → v < length s.volumes → v < length st.volumes = λ v l. subst (λ n. v < n) (sym (as_many_volumes s so_far)) l in
+    record {
+      stay = λ v b g. contents_kept s st v b act g;
+      filled = λ lane v b x e m on l.
+          ap (λ (y : State). block_now y v b) (after_line s st act (Line lane (op.WriteFill v b x)) e on) ∙ write_brings s st v (record { block = b; bytes = payload_bytes (Fill x) }) act.mark m (many v l);
+      stamped = λ lane v b x e m on l.
+          ap (λ (y : State). block_now y v b) (after_line s st act (Line lane (op.WriteStamp v b x)) e on) ∙ write_brings s st v (record { block = b; bytes = payload_bytes (Stamp x) }) act.mark m (many v l);
+      reverted = λ lane n v b k e m h i l.
+          ap (λ (y : State). block_now y v b) (after_line s st act (Line lane (op.Revert n v)) e (ap (enabled s st) e) ∙ ap (λ (y : Replied). y.1) (revert_is s st n v k act.mark h i)) ∙ revert_brings s st v b k act.mark m (many v l);
+    }

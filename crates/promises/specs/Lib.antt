@@ -4,5 +4,7 @@ pub mod Done
 pub mod Failing
 pub mod Contents
 pub mod Clock
+pub mod Idle
 pub mod Calls
+pub mod Sets
 pub mod Promises

@@ -6,11 +6,13 @@ ghost use Rattle.scenario.specs.Plan.{Plan};
 ghost use Rattle.vss_model.specs.Acts.{Act};
 ghost use Rattle.promises.specs.Calls.{CallsAreOwned, WaitsAreFew, StandsQuiet, FrozenDoNotWrite};
 ghost use Rattle.promises.specs.Clock.{ClockMoves};
-ghost use Rattle.promises.specs.Contents.{ContentsStay};
+ghost use Rattle.promises.specs.Contents.{ContentsChange};
 ghost use Rattle.promises.specs.Done.{IsDone};
 ghost use Rattle.promises.specs.Failing.{FailsForCause};
 ghost use Rattle.promises.specs.Gone.{ImagesGoForCause};
+ghost use Rattle.promises.specs.Idle.{IdlesShortest};
 ghost use Rattle.promises.specs.Promises.{IsAsPromised};
+ghost use Rattle.promises.specs.Sets.{VolumesAreDistinct};
 ghost use Rattle.promises.specs.Way.{CompletesByTheWay};
 
 /// A set that completes has come the whole way since its `snapshot` line: PrepareSnapshot, Freeze, PreCommit, Flush, Hold, Cut,
@@ -24,6 +26,11 @@ pub fn images_go_for_cause()
     ensures { (s : Plan) (so_far : List Act) (act : Act) → ImagesGoForCause s so_far act }
 {}
 
+/// No volume is twice in a set.
+pub fn volumes_are_once_in_a_set()
+    ensures { (s : Plan) (so_far : List Act) → VolumesAreDistinct s so_far }
+{}
+
 /// An act that gives a cause fails the set in progress in that act, and no other act fails it.
 pub fn sets_fail_for_cause()
     ensures { (s : Plan) (so_far : List Act) (act : Act) → FailsForCause s so_far act }
@@ -34,14 +41,20 @@ pub fn what_is_asked_is_done()
     ensures { (s : Plan) (so_far : List Act) (act : Act) → IsDone s so_far act }
 {}
 
-/// A block of a volume is changed by a write to it that no device failed, or by a revert of the volume, and by nothing else.
+/// A block of a volume is changed by a write to it that no device failed, which puts its bytes there, or by a revert of the volume,
+/// to what the image shows, and by nothing else.
 pub fn contents_change_by_writes_and_reverts()
-    ensures { (s : Plan) (so_far : List Act) (act : Act) → ContentsStay s so_far act }
+    ensures { (s : Plan) (so_far : List Act) (act : Act) → ContentsChange s so_far act }
 {}
 
 /// A `tick` line moves the clock by its ticks, an idle stretch by its length, and nothing else moves it.
 pub fn the_clock_moves_by_ticks()
     ensures { (s : Plan) (so_far : List Act) (act : Act) → ClockMoves s so_far act }
+{}
+
+/// An idle stretch is the shortest that spends a limit that runs.
+pub fn idle_stretches_are_shortest()
+    ensures { (s : Plan) (so_far : List Act) → IdlesShortest s so_far }
 {}
 
 /// A session call of a lane that does not own the session is refused, and changes nothing.
