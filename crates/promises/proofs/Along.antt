@@ -2,8 +2,7 @@
 -- state, and beside it the deeds since the `snapshot` line are those of the log; and a set completes only where such an agenda,
 -- with what the last act tells, has no group left.
 use Rattle.std.proofs.Common.{◌≡◌, ◌∙◌, ℕ, ◌+◌, ◌==◌, List, [], ◌∷◌, ◌++◌, ◌⊎◌, Option, Some, None, refl, Bool, true, false, ap, sym, subst, inl, inr, map, fold}
-use Rattle.std.specs.Prelude.{is_some, ◌&&◌, ◌||◌, not, if◌then◌else◌, find, length}
-use Rattle.vss_names.specs.declared.context.Context.{Context}
+use Rattle.std.specs.Prelude.{is_some, ◌&&◌, not, if◌then◌else◌, length}
 use Rattle.vss_names.specs.declared.level.Level.TheVariants.{System, BackEnd, FrontEnd}
 use Rattle.vss_names.specs.declared.order.Order.{Order}
 use Rattle.vss_names.specs.declared.order.Order.TheVariants.{PrepareSnapshot, Freeze}
@@ -24,9 +23,9 @@ use Rattle.set_agenda.specs.declared.kind.Kind.{Kind}
 use Rattle.set_agenda.specs.declared.kind.Kind.TheVariants.{Gather, Prepare, Snapshot, Complete}
 use Rattle.set_agenda.specs.declared.member.Member.{Member}
 use Rattle.set_agenda.specs.declared.place.Place.{Place}
-use Rattle.set_agenda.specs.Agenda.{Agenda, Entry, Open, order_of, plain, at_level, places, waited_for, with_group, left_from, groups_left, left, open_group, next_volume, open_place, open_order, order_now, is_done, is_working, is_snapshot, at_place, all_say}
+use Rattle.set_agenda.specs.Agenda.{Agenda, Entry, Open, order_of, plain, at_level, places, waited_for, with_group, left_from, groups_left, left, open_group, next_volume, open_place, open_order, order_now, is_done, is_working, is_snapshot, all_say}
 use Rattle.set_agenda.specs.Limits.{spent_of}
-use Rattle.set_agenda.specs.Course.{Course, posted, failed as course_failed, outcome_after, settled_if, settled_in, settled, begun, gathered, prepared, snapshot_begun, completing, change_at, answered as course_answered, stepped as course_stepped, timed as course_timed, limits_now, lost_writers, fails_set, released}
+use Rattle.set_agenda.specs.Course.{Course, posted, failed as course_failed, outcome_after, settled_if, settled_in, settled, begun, gathered, prepared, snapshot_begun, completing, change_at, stepped as course_stepped, limits_now, lost_writers, fails_set, released}
 use Rattle.component_doc.specs.Selection.{takers}
 use Rattle.requestor.specs.Session.{Session, opened}
 use Rattle.scenario.specs.declared.op.Op.{Op}
@@ -36,28 +35,27 @@ use Rattle.scenario.specs.Calls.{Target, target_of}
 use Rattle.scenario.specs.Plan.{Plan}
 use Rattle.vss_model.specs.declared.event.Event.{Event}
 use Rattle.vss_model.specs.declared.event.Event.TheVariants.{Line, Answer as AnswerEvent, Provider, Idle}
-use Rattle.vss_model.specs.Reply.{Reply, Fine, Coded, Deleted, Idled, Answered, Stepped}
+use Rattle.vss_model.specs.Reply.{Reply, Fine, Coded, Deleted, Idled, Stepped}
 use Rattle.vss_model.specs.State.{State, SetRow, Kept, start, is_complete, in_progress, row_of, row_changed, left_now}
 use Rattle.vss_model.specs.Ending.{Ending, NothingEnds, AgendaEnds, SetFails, ending, concluded, followed, runs, failed_in, failed}
 use Rattle.vss_model.specs.Images.{Replied, refused, cleared, set_loses_image, with_room_if, put, write, reverted_as}
 use Rattle.vss_model.specs.Sessions.{new_set, new_number, with_volume, has_no_volume, volumes_of, start_set, change_set, disable, is_disabled, selected, closed}
 use Rattle.vss_model.specs.Steps.{answered, with_cut, row_cut, cut_set, step_made, is_flush, is_failed_step, stepped_as, stepped, ticked, later}
 use Rattle.vss_model.specs.Facts.{has_failed}
-use Rattle.vss_model.specs.Effects.{line_ticks, ticks_of, lost, lost_after, lost_order, lost_order_if}
+use Rattle.vss_model.specs.Effects.{line_ticks, lost, lost_after, lost_order, lost_order_if}
 use Rattle.vss_model.specs.Acts.{Act, enabled, order_of_writer, answer_reply, step_reply, idle_now, happens, reply, after, state}
-use Rattle.vss_model.proofs.Appending.{state-append}
 use Rattle.vss_model.proofs.CourseCalls.{Settles}
 use Rattle.vss_model.proofs.FlushFails.{outcome_is_running}
 use Rattle.vss_model.proofs.Freed.{agenda-concluded}
-use Rattle.vss_model.proofs.LogRule.{Running, unspoken, course-step_made}
+use Rattle.vss_model.proofs.LogRule.{Running, unspoken}
 use Rattle.vss_model.proofs.OneCut.{changed_number, changed_result}
 use Rattle.vss_model.proofs.Orderly.{true_not_false}
 use Rattle.vss_model.proofs.OrderlyActs.{orderly}
 use Rattle.vss_model.proofs.Rows.{has_complete, running_incomplete, incomplete_settled, incomplete_map, incomplete_append, complete_found}
-use Rattle.promises.specs.Way.{Deed, Spoke, Made, steps_told, deeds_told, deeds_lost, deeds_of, deeds_if, deeds, is_pending, is_snapshot_line, begins_snapshot, way_after, way_from, way}
+use Rattle.promises.specs.Way.{Deed, Spoke, Made, deeds_lost, deeds_of, deeds_if, is_pending, is_snapshot_line, way_after, way_from, way}
 use Rattle.promises.proofs.ByEvent.{Covers, covered, after_enabled, after_not_enabled}
 use Rattle.promises.proofs.Clock.{clock-answered, clock-stepped_as, clock-ticked, write_ticks}
-use Rattle.promises.proofs.Speaks.{deed_in, said_at, Speaks, Says, Rests, Grows, GrowsTo, made_now, lost_told, grows_answered, grows_stepped, grows_timed}
+use Rattle.promises.proofs.Speaks.{deed_in, said_at, Speaks, Grows, made_now, lost_told, grows_answered, grows_stepped, grows_timed}
 
 pub record IsKeptAlong (G : Agenda → Type 0) : Type 0 where
   pub begins : (ms : List Member) (vs : List ℕ) (now : ℕ) → G (unspoken Snapshot ms vs now)

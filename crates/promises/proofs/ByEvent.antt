@@ -24,12 +24,12 @@ use Rattle.requestor.specs.Check.{check, check_other, check_owner, owner_only, v
 use Rattle.scenario.specs.declared.op.Op.{Op}
 use Rattle.scenario.specs.declared.op.Op.TheVariants.{WriteFill, WriteStamp, Read, ImageDigest, ImageBlock, Query, Properties, Revert, DeleteSet, DeleteImage, Tick, Begin, Disable, Gather, Component, Document, Start, Add, Prepare, Snapshot, Await, Status, Complete, Abort, End}
 use Rattle.scenario.specs.Bounds.{begins_agenda}
-use Rattle.scenario.specs.Calls.{Target, target_of}
+use Rattle.scenario.specs.Calls.{target_of}
 use Rattle.scenario.specs.declared.span.Span.{Span}
 use Rattle.scenario.specs.Plan.{Plan, token, acts_as}
 use Rattle.vss_model.specs.declared.event.Event.{Event}
 use Rattle.vss_model.specs.declared.event.Event.TheVariants.{Line, Answer as AnswerEvent, Provider, Idle}
-use Rattle.vss_model.specs.Reply.{Reply, Fine, Coded, Deleted, Idled}
+use Rattle.vss_model.specs.Reply.{Reply, Fine, Deleted, Idled}
 use Rattle.vss_model.specs.State.{State, SetRow, Kept, in_progress, left_now, is_held, kept_image, is_kept_set}
 use Rattle.vss_model.specs.Ending.{runs, failed}
 use Rattle.vss_model.specs.Images.{Replied, write, reverted_as, image_block, image_blocks, properties, count_images, delete_set, delete_kept, delete_image, revert_refusal, revert_to, revert}

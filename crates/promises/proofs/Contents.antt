@@ -1,6 +1,6 @@
 -- What changes the contents of a volume.
 use Rattle.std.proofs.Common.{◌≡◌, ◌∙◌, ℕ, ◌+◌, ◌==◌, zero, suc, List, [], ◌∷◌, ◌++◌, Option, Some, None, refl, Bool, true, false, ◌<◌, ap, sym, subst, map, length, take, arith}
-use Rattle.std.specs.Prelude.{◌&&◌, not, if◌then◌else◌, slice_get}
+use Rattle.std.specs.Prelude.{◌&&◌, if◌then◌else◌}
 use Rattle.std.proofs.Math.Seq.{take-length}
 use Rattle.block_data.specs.declared.payload.Payload.TheVariants.{Fill, Stamp}
 use Rattle.block_data.specs.PayloadBytes.{payload_bytes}
@@ -12,7 +12,7 @@ use Rattle.vss_names.specs.declared.vss_result.VssResult.TheVariants.{Insufficie
 use Rattle.writer_state.specs.declared.said.Said.{Said}
 use Rattle.write_history.specs.declared.mark.Mark.{Mark}
 use Rattle.write_history.specs.declared.mark.Mark.TheVariants.{Clean, Fault, FaultAfter}
-use Rattle.write_history.specs.History.{Write, History, after_set, last_bytes, content, dropped, written, reverted, reverted_in_part, cut as history_cut}
+use Rattle.write_history.specs.History.{Write, History, after_set, last_bytes, content, dropped, written, reverted, reverted_in_part}
 use Rattle.write_history.specs.Slots.{Placed, gone_up_to}
 use Rattle.writer_calls.specs.Script.{said_of}
 use Rattle.set_agenda.specs.declared.group.Group.{Group}
@@ -25,7 +25,7 @@ use Rattle.scenario.specs.declared.op.Op.TheVariants as op
 use Rattle.scenario.specs.Calls.{Target, target_of}
 use Rattle.scenario.specs.Plan.{Plan, blocks_of, group_of}
 use Rattle.vss_model.specs.declared.event.Event.{Event}
-use Rattle.vss_model.specs.declared.event.Event.TheVariants.{Line, Answer as AnswerEvent, Provider, Idle}
+use Rattle.vss_model.specs.declared.event.Event.TheVariants.{Line}
 use Rattle.vss_model.specs.State.{State, SetRow, Kept, in_progress, left_now, history_of, kept_image}
 use Rattle.vss_model.specs.Ending.{Ending, NothingEnds, AgendaEnds, SetFails, ending, images_dropped, concluded, followed, runs, failed_in, failed}
 use Rattle.vss_model.specs.Images.{Replied, cleared, going_up_to, set_loses_image, with_room_if, put, write, revert_refusal, reverted_as, revert_to, revert}
@@ -34,7 +34,7 @@ use Rattle.vss_model.specs.Steps.{answered, cut_if, cut_each, cut_set, step_made
 use Rattle.vss_model.specs.Acts.{Act, enabled, happens, idle_now, after, state}
 use Rattle.vss_model.proofs.FewerImages.{as_many_volumes}
 use Rattle.vss_model.proofs.Volumes.{at, change_other, as_many_map, as_many_gone}
-use Rattle.promises.specs.Contents.{block_now, is_clean, line_changes, may_change, ContentsChange}
+use Rattle.promises.specs.Contents.{block_now, is_clean, may_change, ContentsChange}
 use Rattle.promises.proofs.ByEvent.{Covers, covered, after_enabled, after_not_enabled}
 
 -- ## writes of a volume

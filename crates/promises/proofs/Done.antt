@@ -14,7 +14,6 @@ use Rattle.vss_model.specs.State.{State, Kept, has_image, is_kept_set, row_of, h
 use Rattle.vss_model.specs.Images.{Replied, count_images, delete_set, delete_kept, delete_image, revert_refusal, reverted_as, revert_to, revert}
 use Rattle.vss_model.specs.Acts.{Act, enabled, happens, after, state}
 use Rattle.vss_model.proofs.OneCut.{row_number, kept_point}
-use Rattle.vss_model.proofs.Orderly.{true_not_false}
 use Rattle.vss_model.proofs.Volumes.{at}
 use Rattle.promises.specs.Done.{reverts, IsDone}
 use Rattle.promises.specs.Gone.{stands}

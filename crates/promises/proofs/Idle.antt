@@ -1,11 +1,11 @@
 -- An idle stretch is the shortest that spends a limit that runs.
-use Rattle.std.proofs.Common.{◌≡◌, ◌∙◌, ℕ, ◌+◌, ◌<◌, ◌≤◌, List, [], ◌∷◌, Option, Some, None, refl, Bool, true, false, ap, sym, subst, fold, min, find, arith}
+use Rattle.std.proofs.Common.{◌≡◌, ℕ, ◌+◌, ◌<◌, List, [], ◌∷◌, Some, refl, Bool, true, false, fold, min, arith}
 use Rattle.std.specs.Prelude.{◌-◌, nat_lt, is_some, if◌then◌else◌}
 use Rattle.tick_limits.specs.Time.{is_spent, ticks_until}
 use Rattle.set_agenda.specs.Limits.{Running, spent_of, running_until, ticks_to_spend}
 use Rattle.set_agenda.specs.Course.{limits_now}
 use Rattle.scenario.specs.Plan.{Plan}
-use Rattle.vss_model.specs.Acts.{Act, idle_now, state}
+use Rattle.vss_model.specs.Acts.{Act, state}
 use Rattle.vss_model.proofs.Waiting.{idle_spends}
 use Rattle.promises.specs.Idle.{IdlesShortest}
 

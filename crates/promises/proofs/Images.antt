@@ -1,6 +1,6 @@
 -- Why an image goes: of each change of the volumes, which images it takes.
 use Rattle.std.proofs.Common.{◌≡◌, ◌∙◌, ℕ, ◌+◌, ◌==◌, ◌≤◌, ◌<◌, zero, suc, List, [], ◌∷◌, ◌++◌, ◌⊎◌, Option, Some, None, refl, Bool, true, false, ap, sym, subst, inl, inr, map, filter, find, length, arith}
-use Rattle.std.specs.Prelude.{◌&&◌, ◌||◌, not, nat_lt, is_some, unwrap_or, option_map, if◌then◌else◌, slice_get}
+use Rattle.std.specs.Prelude.{not, nat_lt, is_some, unwrap_or, option_map, if◌then◌else◌, slice_get}
 use Rattle.std.specs.List.{range_with_len}
 use Rattle.vss_names.specs.declared.context.Context.{Context}
 use Rattle.vss_names.specs.declared.context.Context.TheVariants.{Backup, AppRollback, NasRollback}
@@ -11,7 +11,7 @@ use Rattle.vss_names.specs.declared.vss_result.VssResult.TheVariants.{Insufficie
 use Rattle.writer_state.specs.declared.said.Said.{Said}
 use Rattle.write_history.specs.declared.mark.Mark.{Mark}
 use Rattle.write_history.specs.declared.mark.Mark.TheVariants.{Clean, Fault, FaultAfter}
-use Rattle.write_history.specs.History.{Write, Image, History, point_in, dropped, without_set, after_set, up_to_set, written, reverted, reverted_in_part, cut as history_cut}
+use Rattle.write_history.specs.History.{Write, Image, History, point_in, dropped, after_set, up_to_set, written, reverted, reverted_in_part}
 use Rattle.write_history.specs.Slots.{Placed, lacks_slot, gone_up_to, evicted_up_to}
 use Rattle.writer_calls.specs.Script.{said_of}
 use Rattle.set_agenda.specs.declared.group.Group.{Group}
@@ -42,7 +42,7 @@ use Rattle.vss_model.proofs.OrderlyActs.{orderly}
 use Rattle.vss_model.proofs.Rows.{running_found, row_running, row_settles, result-settled}
 use Rattle.vss_model.proofs.Volumes.{at, FewerIn, fewer_written, fewer_in_same, fewer_in_change, fewer_in_over}
 use Rattle.vss_model.proofs.FewerImages.{fewer_images_dropped}
-use Rattle.promises.specs.Gone.{stands, Fails, within, IsWanted, IsOfSession, LineTakes, Takes, ImagesGoForCause}
+use Rattle.promises.specs.Gone.{stands, Fails, within, IsWanted, IsOfSession, Takes, ImagesGoForCause}
 use Rattle.promises.proofs.ByEvent.{Covers, covered, after_enabled, after_not_enabled}
 
 -- ## lists of images

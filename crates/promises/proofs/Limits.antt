@@ -1,59 +1,22 @@
 -- Where more than a limit has gone by that fails the set, time fails it. The limit of held writes is said of the first Hold step.
-use Rattle.std.proofs.Common.{◌≡◌, ◌∙◌, ℕ, ◌+◌, ◌==◌, List, [], ◌∷◌, ◌++◌, Option, Some, None, refl, Bool, true, false, ap, sym, subst, map, filter, find, fold, min, arith}
+use Rattle.std.proofs.Common.{◌≡◌, ◌∙◌, ℕ, ◌+◌, List, [], ◌∷◌, ◌++◌, Option, Some, None, refl, Bool, true, false, ap, sym, subst, filter, find, fold, min, arith}
 use Rattle.std.specs.Prelude.{◌&&◌, ◌||◌, not, nat_lt, ◌-◌, option_map, if◌then◌else◌, slice_get}
 use Rattle.std.specs.List.{list_any}
-use Rattle.block_data.specs.declared.payload.Payload.TheVariants.{Fill, Stamp}
-use Rattle.block_data.specs.PayloadBytes.{payload_bytes}
 use Rattle.vss_names.specs.declared.order.Order.{Order}
 use Rattle.vss_names.specs.declared.order.Order.TheVariants.{Identify, PrepareBackup, PrepareSnapshot, Freeze, Thaw, PostSnapshot, BackupComplete}
-use Rattle.vss_names.specs.declared.set_outcome.SetOutcome.{SetOutcome}
-use Rattle.vss_names.specs.declared.set_outcome.SetOutcome.TheVariants.{Running as RunningSet, Complete as CompleteSet, Failed as FailedSet}
-use Rattle.vss_names.specs.declared.vss_result.VssResult.{VssResult}
-use Rattle.vss_names.specs.declared.vss_result.VssResult.TheVariants.{InsufficientStorage, AsyncCancelled}
-use Rattle.writer_state.specs.declared.said.Said.{Said}
 use Rattle.writer_state.specs.declared.writer_row.WriterRow.{WriterRow}
-use Rattle.writer_state.specs.WriterState.{is_ok}
-use Rattle.write_history.specs.declared.mark.Mark.{Mark}
-use Rattle.write_history.specs.declared.mark.Mark.TheVariants.{Clean, Fault, FaultAfter}
-use Rattle.write_history.specs.History.{Write}
-use Rattle.writer_calls.specs.Script.{said_of}
-use Rattle.writer_calls.specs.declared.answer.Answer.{Answer}
-use Rattle.writer_calls.specs.declared.answer.Answer.TheVariants.{Ok as AnswerOk, Veto as AnswerVeto}
 use Rattle.tick_limits.specs.Time.{answer_limit, hold_limit, default_freeze, is_spent}
 use Rattle.set_agenda.specs.declared.group.Group.{Group}
 use Rattle.set_agenda.specs.declared.group.Group.TheVariants.{Orders, PreCommit, Flush, Hold, Cut, Commit, Release, PostCommit}
 use Rattle.set_agenda.specs.declared.limit.Limit.{Limit}
 use Rattle.set_agenda.specs.declared.limit.Limit.TheVariants.{Hold as HoldLimit, Freeze as FreezeLimit, Answer as AnswerLimit}
 use Rattle.set_agenda.specs.declared.member.Member.{Member}
-use Rattle.set_agenda.specs.Agenda.{Agenda, Entry, Open, left, groups_left, order_of, open_order, open_group, order_now, waits_now, same_place}
+use Rattle.set_agenda.specs.Agenda.{Agenda, Entry, Open, left, groups_left, order_of, order_now, same_place}
 use Rattle.set_agenda.specs.Limits.{Running, last_time, opened_at, is_prepare_snapshot, freeze_opened_at, is_hold, first_time, first_hold, hold_runs, freeze_runs, answer_runs, runs_if, hold_running, running_at, running_limits, spent_of}
-use Rattle.set_agenda.specs.Course.{Course, posted, failed as course_failed, is_decisive, told, decided, answered_to, answered as course_answered, limit_of, freeze_limit, limits_now, fails_set as decides, lost, lost_decided, treated_as, treated, timed as course_timed}
-use Rattle.requestor.specs.declared.session_call.SessionCall.{SessionCall}
-use Rattle.requestor.specs.declared.session_call.SessionCall.TheVariants as call
-use Rattle.requestor.specs.declared.verdict.Verdict.TheVariants.{Go}
-use Rattle.requestor.specs.Session.{Session, makes_set}
-use Rattle.requestor.specs.Check.{check, check_other, check_owner, owner_only, verdict_of}
-use Rattle.scenario.specs.declared.op.Op.{Op}
-use Rattle.scenario.specs.declared.op.Op.TheVariants as op
-use Rattle.scenario.specs.Plan.{Plan}
-use Rattle.vss_model.specs.declared.event.Event.{Event}
-use Rattle.vss_model.specs.declared.event.Event.TheVariants.{Line, Answer as AnswerEvent, Provider, Idle}
-use Rattle.vss_model.specs.State.{State, SetRow, is_running, in_progress, row_of, left_now}
-use Rattle.vss_model.specs.Ending.{ending, row_settled, concluded, followed, runs, failed_in, failed}
-use Rattle.vss_model.specs.Images.{cleared, set_loses_image, with_room_if, with_room, put, write}
-use Rattle.vss_model.specs.Sessions.{closed, line_in, judged}
-use Rattle.vss_model.specs.Steps.{answered, ticked, later}
-use Rattle.vss_model.specs.Lines.{called, line}
-use Rattle.vss_model.specs.Acts.{Act, enabled, happens, order_of_writer, idle_now, after, state}
-use Rattle.vss_model.specs.Facts.{NumberedFrom, IsOfSession, IsOrderly, has_failed}
-use Rattle.vss_model.specs.Causes.{needs_consent, is_veto, is_refused, has_passed, last_of, holds_volumes, is_hold_step, freezes_writers, prepares_snapshot, prepares_writers, is_elsewhere, frozen_too_long, unanswered_too_long, is_fault, is_flush_step, loses_own_image, owns, line_gives_cause, gives_cause, SetsFailWithCause}
-use Rattle.vss_model.specs.Headline.{IsFailed}
-use Rattle.vss_model.proofs.Appending.{state-append}
-use Rattle.vss_model.proofs.Causes.{fail_with_cause}
-use Rattle.vss_model.proofs.FlushFails.{outcome_is_running, flush_fails}
+use Rattle.set_agenda.specs.Course.{Course, posted, failed as course_failed, limit_of, freeze_limit, limits_now, fails_set as decides, lost, lost_decided, treated_as, treated, timed as course_timed}
+use Rattle.vss_model.specs.Facts.{has_failed}
+use Rattle.vss_model.specs.Causes.{has_passed, last_of, holds_volumes, is_hold_step, freezes_writers, prepares_snapshot, prepares_writers, is_elsewhere, frozen_too_long, unanswered_too_long}
 use Rattle.vss_model.proofs.Late.{Decides}
-use Rattle.vss_model.proofs.Orderly.{true_not_false}
-use Rattle.vss_model.proofs.OrderlyActs.{orderly}
 
 -- ## a limit has gone by
 

@@ -1,36 +1,25 @@
 -- The stages of a snapshot's sequence in its agenda: groups stay closed, the stage of the open group does not fall, and what is said
 -- belongs to it.
-use Rattle.std.proofs.Common.{◌≡◌, ◌∙◌, ℕ, ◌+◌, ◌==◌, ◌≤◌, ◌<◌, List, [], ◌∷◌, ◌++◌, ◌⊎◌, Option, Some, None, refl, Bool, true, false, ap, sym, subst, inl, inr, map, filter, arith}
-use Rattle.std.specs.Prelude.{◌&&◌, ◌||◌, not, is_some, if◌then◌else◌}
+use Rattle.std.proofs.Common.{◌≡◌, ◌∙◌, ℕ, ◌==◌, ◌≤◌, ◌<◌, List, [], ◌∷◌, ◌++◌, Option, Some, None, refl, Bool, true, false, ap, sym, map, filter, arith}
+use Rattle.std.specs.Prelude.{◌&&◌, ◌||◌, not, if◌then◌else◌}
 use Rattle.std.specs.List.{list_any}
 use Rattle.std.proofs.lemmas.List.Folds.{list_any-append}
 use Rattle.vss_names.specs.declared.level.Level.{Level}
-use Rattle.vss_names.specs.declared.level.Level.TheVariants.{System, BackEnd, FrontEnd}
-use Rattle.vss_names.specs.Level.{number_of}
-use Rattle.vss_names.specs.declared.order.Order.{Order}
+use Rattle.vss_names.specs.declared.level.Level.TheVariants.{System}
 use Rattle.vss_names.specs.declared.order.Order.TheVariants.{Identify, PrepareBackup, PrepareSnapshot, Freeze, Thaw, PostSnapshot, BackupComplete}
 use Rattle.writer_state.specs.declared.said.Said.{Said}
 use Rattle.writer_state.specs.WriterState.{is_ok}
 use Rattle.set_agenda.specs.declared.group.Group.{Group}
 use Rattle.set_agenda.specs.declared.group.Group.TheVariants.{Orders, PreCommit, Flush, Hold, Cut, Commit, Release, PostCommit}
-use Rattle.set_agenda.specs.declared.kind.Kind.{Kind}
-use Rattle.set_agenda.specs.declared.kind.Kind.TheVariants.{Gather, Prepare, Snapshot, Complete}
-use Rattle.set_agenda.specs.declared.member.Member.{Member}
+use Rattle.set_agenda.specs.declared.kind.Kind.TheVariants.{Snapshot}
 use Rattle.set_agenda.specs.declared.place.Place.{Place}
-use Rattle.set_agenda.specs.Agenda.{Agenda, Entry, Open, plain, at_level, places, same_order, order_code, group_code, level_code, same_place, order_of, is_orders, has_failed, has_said, is_at, writers_at, members_of, waited_for, with_group, left_from, groups_left, open_place, is_among, waits_now, is_done, is_snapshot, at_place, all_say}
-use Rattle.set_agenda.specs.Course.{is_member, fails_set}
+use Rattle.set_agenda.specs.Agenda.{Agenda, Entry, Open, places, is_orders, has_failed, has_said, writers_at, members_of, waited_for, with_group, left_from, groups_left, is_among, at_place, all_say}
 use Rattle.scenario.specs.Plan.{Plan}
-use Rattle.vss_model.specs.State.{State, SetRow, is_complete, in_progress, row_of}
-use Rattle.vss_model.specs.Acts.{Act, after, state}
+use Rattle.vss_model.specs.Acts.{after}
 use Rattle.vss_model.proofs.CutLog.{said_stays}
-use Rattle.vss_model.proofs.HeldOfSet.{IsOf, Tied, tied}
-use Rattle.vss_model.proofs.LogRule.{unspoken}
 use Rattle.vss_model.proofs.Orderly.{true_not_false}
-use Rattle.vss_model.proofs.Spoken.{among_filter, waits_members, among_members}
-use Rattle.promises.specs.Way.{Deed, Spoke, Made, level_of, order_stage, step_stage, stage, Rising, same_volume, is_heard, is_agreed, is_made, is_again, AreOnce, is_failure, heard, agreed, failed, made, IsWholeWay, way, CompletesByTheWay}
-use Rattle.promises.proofs.Along.{IsKeptAlong, IsLast, last_stand}
-use Rattle.promises.proofs.Levels.{MembersOf, levels_are}
-use Rattle.promises.proofs.Speaks.{deed_at, deed_in, said_at, IsOne, IsAll, Speaks}
+use Rattle.promises.specs.Way.{Deed, level_of, order_stage, stage, Rising}
+use Rattle.promises.proofs.Speaks.{deed_at, deed_in, said_at}
 
 abbrev pub deeds_in : Agenda → List Deed
 deeds_in a = map deed_in a.log

@@ -4,7 +4,6 @@ use Rattle.std.specs.Prelude.{◌&&◌, ◌||◌, nat_lt, if◌then◌else◌}
 use Rattle.std.specs.List.{list_any}
 use Rattle.vss_names.specs.declared.order.Order.{Order}
 use Rattle.vss_names.specs.declared.order.Order.TheVariants.{Identify, PrepareBackup, BackupComplete}
-use Rattle.writer_state.specs.declared.said.Said.TheVariants.{Lost}
 use Rattle.tick_limits.specs.Time.{hold_limit}
 use Rattle.set_agenda.specs.declared.group.Group.{Group}
 use Rattle.set_agenda.specs.declared.group.Group.TheVariants.{Orders, PreCommit, Flush, Hold, Cut, Commit, Release, PostCommit}
@@ -20,10 +19,10 @@ use Rattle.vss_model.specs.Reply.{Reply, Answered, Stepped}
 use Rattle.vss_model.specs.State.{State, start}
 use Rattle.vss_model.specs.Acts.{Act, enabled, reply, after, state}
 use Rattle.vss_model.specs.Effects.{lost, lost_order}
-use Rattle.vss_model.specs.Causes.{has_passed, holds_volumes, is_hold_step, held_too_long, frozen_too_long, unanswered_too_long, is_late_at, is_late_in}
+use Rattle.vss_model.specs.Causes.{has_passed, holds_volumes, is_hold_step, frozen_too_long, unanswered_too_long, is_late_at, is_late_in}
 use Rattle.vss_model.proofs.LogRule.{Running}
 use Rattle.promises.specs.Clock.{ticks_if}
-use Rattle.promises.specs.Way.{Deed, Spoke, Made, steps_told, deeds_told, deeds_lost, deeds_of, deeds_if, deeds, begins_snapshot, Rising, way_after, way_from, way}
+use Rattle.promises.specs.Way.{Deed, Spoke, Made, steps_told, deeds_told, deeds_lost, deeds_if, deeds, begins_snapshot, Rising, way_after, way_from, way}
 use Rattle.promises.proofs.Along.{along}
 use Rattle.promises.proofs.Clock.{clock_after}
 use Rattle.promises.proofs.Limits.{held_since_first, passed_since, is_due_at, is_due_in}

@@ -1,5 +1,5 @@
 -- A set that completes has come the whole way: what its agenda's log keeps in order, and that nothing of it is left out.
-use Rattle.std.proofs.Common.{◌≡◌, ◌∙◌, ℕ, ◌+◌, ◌==◌, ◌≤◌, ◌<◌, List, [], ◌∷◌, ◌++◌, ◌⊎◌, Option, Some, None, refl, Bool, true, false, ap, sym, subst, inl, inr, map, filter, arith}
+use Rattle.std.proofs.Common.{◌≡◌, ◌∙◌, ℕ, ◌==◌, ◌≤◌, ◌<◌, List, [], ◌∷◌, ◌++◌, ◌⊎◌, Option, Some, None, refl, Bool, true, false, ap, sym, subst, inl, inr, map, filter, arith}
 use Rattle.std.specs.Prelude.{◌&&◌, ◌||◌, not, is_some, if◌then◌else◌}
 use Rattle.std.specs.List.{list_any}
 use Rattle.std.proofs.lemmas.List.Folds.{list_any-append}
@@ -12,24 +12,23 @@ use Rattle.writer_state.specs.declared.said.Said.{Said}
 use Rattle.writer_state.specs.WriterState.{is_ok}
 use Rattle.set_agenda.specs.declared.group.Group.{Group}
 use Rattle.set_agenda.specs.declared.group.Group.TheVariants.{Orders, PreCommit, Flush, Hold, Cut, Commit, Release, PostCommit}
-use Rattle.set_agenda.specs.declared.kind.Kind.{Kind}
-use Rattle.set_agenda.specs.declared.kind.Kind.TheVariants.{Gather, Prepare, Snapshot, Complete}
+use Rattle.set_agenda.specs.declared.kind.Kind.TheVariants.{Snapshot}
 use Rattle.set_agenda.specs.declared.member.Member.{Member}
 use Rattle.set_agenda.specs.declared.place.Place.{Place}
-use Rattle.set_agenda.specs.Agenda.{Agenda, Entry, Open, plain, at_level, places, same_order, order_code, group_code, level_code, same_place, order_of, is_orders, has_failed, has_said, is_at, writers_at, members_of, waited_for, with_group, left_from, groups_left, open_place, is_among, waits_now, is_done, is_snapshot, at_place, all_say}
+use Rattle.set_agenda.specs.Agenda.{Agenda, Entry, Open, plain, places, same_order, order_code, group_code, level_code, same_place, order_of, is_orders, has_failed, has_said, is_at, writers_at, members_of, waited_for, with_group, left_from, groups_left, open_place, is_among, waits_now, is_done, at_place, all_say}
 use Rattle.set_agenda.specs.Course.{is_member, fails_set}
 use Rattle.scenario.specs.Plan.{Plan}
-use Rattle.vss_model.specs.State.{State, SetRow, is_complete, in_progress, row_of}
-use Rattle.vss_model.specs.Acts.{Act, after, state}
+use Rattle.vss_model.specs.State.{in_progress}
+use Rattle.vss_model.specs.Acts.{Act, state}
 use Rattle.vss_model.proofs.CutLog.{said_stays}
 use Rattle.vss_model.proofs.HeldOfSet.{IsOf, Tied, tied}
 use Rattle.vss_model.proofs.LogRule.{unspoken}
 use Rattle.vss_model.proofs.Orderly.{true_not_false}
 use Rattle.vss_model.proofs.Spoken.{among_filter, waits_members, among_members}
-use Rattle.promises.specs.Way.{Deed, Spoke, Made, level_of, order_stage, step_stage, stage, Rising, same_volume, is_heard, is_agreed, is_made, is_again, AreOnce, is_failure, heard, agreed, failed, made, IsWholeWay, way, CompletesByTheWay}
-use Rattle.promises.proofs.Along.{IsKeptAlong, IsLast, last_stand}
+use Rattle.promises.specs.Way.{Deed, level_of, stage, Rising, same_volume, is_heard, is_agreed, is_made, is_again, AreOnce, is_failure, heard, agreed, failed, made, IsWholeWay, CompletesByTheWay}
+use Rattle.promises.proofs.Along.{IsKeptAlong, last_stand}
 use Rattle.promises.proofs.Levels.{MembersOf, levels_are}
-use Rattle.promises.proofs.Speaks.{deed_at, deed_in, said_at, IsOne, IsAll, Speaks}
+use Rattle.promises.proofs.Speaks.{deed_at, deed_in, said_at, Speaks}
 use Rattle.promises.proofs.Stages.{deeds_in, either_true, left_part, right_part, both_parts, both_are, false_of, equal, same_number, deeds_append, any_more, any_said, level_or, group_stage, place_stage, leveled, IsOfLevel, open_stage, Below, below_more, below_append, rising_append, stages_more, closed_stays, goes_up, Closed, closed_below, snapshot_from}
 
 -- ## who was waited for has spoken

@@ -1,7 +1,7 @@
 -- Who may call, and what waits: a session call of a lane that does not own the session is refused and changes nothing; of all
 -- lines only writes, `begin` and `await` wait; without a session no agenda runs; and while a writer stands frozen, no lane that
 -- acts as it writes. (One session at a time is this project's own.)
-use Rattle.std.specs.Prelude.{ℕ, ◌≡◌, ◌||◌, Bool, true, false, List, Option, Some, None, is_some}
+use Rattle.std.specs.Prelude.{ℕ, ◌≡◌, ◌||◌, Bool, true, false, List, Some, None, is_some}
 use Rattle.vss_names.specs.declared.vss_result.VssResult.TheVariants.{BadState}
 use Rattle.scenario.specs.declared.op.Op.{Op}
 use Rattle.scenario.specs.declared.op.Op.TheVariants.{Begin, Await}
@@ -10,7 +10,7 @@ use Rattle.scenario.specs.Calls.{Target, call_of, target_of}
 use Rattle.scenario.specs.Plan.{Plan, acts_as}
 use Rattle.vss_model.specs.declared.event.Event.TheVariants.{Line}
 use Rattle.vss_model.specs.Reply.{Coded}
-use Rattle.vss_model.specs.State.{State, is_frozen}
+use Rattle.vss_model.specs.State.{is_frozen}
 use Rattle.vss_model.specs.Ending.{runs}
 use Rattle.vss_model.specs.Acts.{Act, enabled, reply, after, state}
 use Rattle.vss_model.specs.Causes.{owns}

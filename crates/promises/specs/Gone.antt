@@ -2,11 +2,10 @@
 -- context 0 ends; or a write finds no slot left in its group, and then the images of the least sets go, no more than needed.
 -- (Which image goes where slots are wanting, the oldest first, is the SDK's; by whole sets of a group is this project's own.)
 use Rattle.std.specs.Prelude.{ℕ, ◌≡◌, ◌<◌, ◌≤◌, ◌⊎◌, Bool, true, false, List, Option, Some, None, slice_get}
-use Rattle.vss_names.specs.declared.set_outcome.SetOutcome.{SetOutcome}
 use Rattle.write_history.specs.Slots.{Placed, lacks_slot, gone_up_to}
 use Rattle.requestor.specs.Session.{Session}
 use Rattle.scenario.specs.declared.op.Op.{Op}
-use Rattle.scenario.specs.declared.op.Op.TheVariants.{WriteFill, WriteStamp, Read, ImageDigest, ImageBlock, Query, Properties, Revert, DeleteSet, DeleteImage, Tick, Begin, Disable, Gather, Component, Document, Start, Add, Prepare, Snapshot, Await, Status, Complete, Abort, End}
+use Rattle.scenario.specs.declared.op.Op.TheVariants.{WriteFill, WriteStamp, Revert, DeleteSet, DeleteImage, End}
 use Rattle.scenario.specs.Plan.{Plan, slots_of, group_of}
 use Rattle.vss_model.specs.declared.event.Event.{Event}
 use Rattle.vss_model.specs.declared.event.Event.TheVariants.{Line, Answer as AnswerEvent, Provider, Idle}

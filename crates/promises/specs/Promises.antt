@@ -1,5 +1,5 @@
 -- The promises of a run, together: what holds of each act of its trail, and of each state that it comes to. (This project's own.)
-use Rattle.std.specs.Prelude.{◌≡◌, List, [], ◌∷◌, ◌++◌}
+use Rattle.std.specs.Prelude.{◌≡◌, List, ◌∷◌, ◌++◌}
 use Rattle.write_history.specs.declared.move_item.Move.{Move}
 use Rattle.scenario.specs.Plan.{Plan}
 use Rattle.vss_model.specs.Acts.{Act}
