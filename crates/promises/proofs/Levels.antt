@@ -1,6 +1,6 @@
 -- The levels of the writers' rows and of the participants are those that the scenario gives the writers.
-use Rattle.std.proofs.Common.{◌≡◌, ◌∙◌, ℕ, ◌+◌, suc, List, [], ◌∷◌, ◌++◌, Option, Some, None, refl, Bool, true, false, ap, map, fold, arith}
-use Rattle.std.specs.Prelude.{◌&&◌, not, if◌then◌else◌, slice_get}
+use Rattle.std.proofs.Common.{◌≡◌, ◌∙◌, ℕ, ◌+◌, ◌≤◌, zero, suc, List, [], ◌∷◌, ◌++◌, Option, Some, None, refl, Bool, true, false, ap, sym, subst, map, fold, arith}
+use Rattle.std.specs.Prelude.{◌&&◌, not, if◌then◌else◌, option_map, slice_get}
 use Rattle.vss_names.specs.declared.context.Context.{Context}
 use Rattle.vss_names.specs.declared.level.Level.{Level}
 use Rattle.vss_names.specs.declared.order.Order.{Order}
@@ -22,18 +22,42 @@ use Rattle.set_agenda.specs.declared.limit.Limit.TheVariants.{Hold as HoldLimit,
 use Rattle.set_agenda.specs.declared.member.Member.{Member}
 use Rattle.set_agenda.specs.Agenda.{Agenda, groups_left, left, open_group, open_order, order_now, waits_now, is_done, is_among}
 use Rattle.set_agenda.specs.Limits.{Running as RunningLimit, spent_of}
-use Rattle.set_agenda.specs.Course.{Course, posted, rows_where, row_if, member_if, members_from, is_member, failed as course_failed, settled_if, settled_in, settled, begun, is_decisive, told, decided, answered_to, answered as course_answered, worked, stepped_as as course_stepped_as, stepped as course_stepped, limits_now, lost_to, lost, fails_set, lost_decided, treated_as, treated, timed as course_timed, released}
+use Rattle.set_agenda.specs.Course.{Course, posted, rows_where, row_if, member_if, members_from, is_member, failed as course_failed, settled_if, settled_in, settled, begun, gathered, prepared, is_decisive, told, decided, answered_to, answered as course_answered, worked, stepped_as as course_stepped_as, stepped as course_stepped, limits_now, lost_to, lost, fails_set, lost_decided, treated_as, treated, timed as course_timed, released}
 use Rattle.requestor.specs.Session.{Session}
 use Rattle.scenario.specs.Plan.{Plan, WriterPlan}
 use Rattle.vss_model.specs.State.{State, SetRow, Kept, start, row_of_writer, in_progress, left_now}
 use Rattle.vss_model.specs.Ending.{Ending, NothingEnds, AgendaEnds, SetFails, ending, concluded, followed, runs, failed_in, failed}
 use Rattle.vss_model.specs.Images.{Replied, put, reverted_as}
 use Rattle.vss_model.specs.Sessions.{begin_in, has_no_volume, closed}
-use Rattle.vss_model.specs.Steps.{answered, step_made, is_flush, is_failed_step, stepped_as, stepped, ticked, later}
+use Rattle.vss_model.specs.Steps.{answered, cut_set, step_made, is_flush, is_failed_step, stepped_as, stepped, ticked, later}
 use Rattle.vss_model.specs.Acts.{Act, after, state}
 use Rattle.vss_model.specs.Laws.{IsKeptByChanges, IsKeptByWrites}
+use Rattle.vss_model.proofs.LogRule.{course-step_made}
 use Rattle.vss_model.proofs.Rule.{on_after}
 use Rattle.promises.specs.Way.{level_in, level_of}
+
+-- members in the order of their writers, from w on, each once
+abbrev pub Ascends : ℕ → List Member → Type 0
+Ascends w [] = Unit {0}
+Ascends w (m ∷ ms) = (w ≤ m.writer) × Ascends (m.writer + 1) ms
+
+ascends_from : (w : ℕ) (ms : List Member) → Ascends (w + 1) ms → Ascends w ms
+ascends_from w [] h = tt
+ascends_from w (m ∷ ms) h = (less w m.writer h.0, h.1)
+  where
+    less : (a b : ℕ) → a + 1 ≤ b → a ≤ b
+    less a b h = omega arith
+
+ascend_of_rows : (test : ℕ → Bool) (w : ℕ) (rs : List WriterRow) → Ascends w (members_from test w rs)
+ascend_of_rows test w [] = tt
+ascend_of_rows test w (r ∷ rs) = by_test (test w) (ascend_of_rows test (w + 1) rs)
+  where
+    itself : (n : ℕ) → n ≤ n
+    itself n = omega arith
+
+    by_test : (b : Bool) → Ascends (w + 1) (members_from test (w + 1) rs) → Ascends w (member_if b w r ++ members_from test (w + 1) rs)
+    by_test true h = (itself w, h)
+    by_test false h = ascends_from w (members_from test (w + 1) rs) h
 
 module _ (l : ℕ → Level) where
   -- rows from writer w on
@@ -77,17 +101,18 @@ module _ (l : ℕ → Level) where
   pub record Leveled (c : Course) : Type 0 where
     pub rows : RowsOf 0 c.rows
     pub members : MembersOf c.members
+    pub distinct : Ascends 0 c.members
 
   lev_posted : (before c : Course) → Leveled c → Leveled (posted before c)
   unfolding posted
-  lev_posted before c h = record { rows = h.rows; members = h.members }
+  lev_posted before c h = record { rows = h.rows; members = h.members; distinct = h.distinct }
 
   lev_failed : (why : VssResult) (c : Course) → Leveled c → Leveled (course_failed why c)
   unfolding course_failed
-  lev_failed why c h = record { rows = rows_some row_aborted aborted_level (is_member c.members) 0 0 c.rows h.rows; members = h.members }
+  lev_failed why c h = record { rows = rows_some row_aborted aborted_level (is_member c.members) 0 0 c.rows h.rows; members = h.members; distinct = h.distinct }
 
   lev_settled_if : (b : Bool) (k : Kind) (c : Course) → Leveled c → Leveled (settled_if b k c)
-  lev_settled_if true k c h = record { rows = h.rows; members = h.members }
+  lev_settled_if true k c h = record { rows = h.rows; members = h.members; distinct = h.distinct }
   lev_settled_if false k c h = h
 
   lev_settled_in : (a : Option Agenda) (c : Course) → Leveled c → Leveled (settled_in a c)
@@ -100,16 +125,16 @@ module _ (l : ℕ → Level) where
 
   lev_told : (o : Order) (said : Said) (now : ℕ) (ws : List ℕ) (c : Course) → Leveled c → Leveled (told o said now ws c)
   unfolding told
-  lev_told o said now ws c h = record { rows = rows_some (row_after o said) (λ r. refl) (λ w. is_among w ws) 0 0 c.rows h.rows; members = h.members }
+  lev_told o said now ws c h = record { rows = rows_some (row_after o said) (λ r. refl) (λ w. is_among w ws) 0 0 c.rows h.rows; members = h.members; distinct = h.distinct }
 
   lev_worked : (now : ℕ) (c : Course) → Leveled c → Leveled (worked now c)
   unfolding worked
-  lev_worked now c h = record { rows = h.rows; members = h.members }
+  lev_worked now c h = record { rows = h.rows; members = h.members; distinct = h.distinct }
 
   lev_begun : (k : Kind) (ms : List Member) (vs : List ℕ) (now : ℕ) (c : Course) → Leveled c → Leveled (begun k ms vs now c)
   unfolding begun
   lev_begun k ms vs now c h =
-      lev_posted c _ (lev_settled (record c { agenda = Some (record { kind = k; members = ms; volumes = vs; begun = now; log = [] }) }) (record { rows = h.rows; members = h.members }))
+      lev_posted c _ (lev_settled (record c { agenda = Some (record { kind = k; members = ms; volumes = vs; begun = now; log = [] }) }) (record { rows = h.rows; members = h.members; distinct = h.distinct }))
 
   lev_decided : (b : Bool) (said : Said) (c : Course) → Leveled c → Leveled (decided b said c)
   lev_decided true said c h = lev_failed _ c h
@@ -151,7 +176,7 @@ module _ (l : ℕ → Level) where
 
   lev_released : (c : Course) → Leveled c → Leveled (released c)
   unfolding released
-  lev_released c h = record { rows = rows_map row_ended (λ r. refl) 0 c.rows h.rows; members = tt }
+  lev_released c h = record { rows = rows_map row_ended (λ r. refl) 0 c.rows h.rows; members = tt; distinct = tt }
 
   -- ## the state
 
@@ -205,8 +230,8 @@ module _ (l : ℕ → Level) where
     steps = λ mark st e h. on_steps mark st h;
     ticks = on_ticks;
     fails = λ why st h. on_failed_in (in_progress st) why st h;
-    gathers = λ s q st e h. on_followed true _ st (lev_begun Gather _ [] st.clock _ (record { rows = rows_map row_gathered (λ r. refl) 0 st.course.rows h.rows; members = h.members }));
-    prepares = λ s q st e h. either (has_no_volume (in_progress st)) _ _ h (on_followed true _ st (lev_begun Prepare _ [] st.clock _ (record { rows = h.rows; members = members_of_rows _ 0 st.course.rows h.rows })));
+    gathers = λ s q st e h. on_followed true _ st (lev_begun Gather _ [] st.clock _ (record { rows = rows_map row_gathered (λ r. refl) 0 st.course.rows h.rows; members = h.members; distinct = h.distinct }));
+    prepares = λ s q st e h. either (has_no_volume (in_progress st)) _ _ h (on_followed true _ st (lev_begun Prepare _ [] st.clock _ (record { rows = h.rows; members = members_of_rows _ 0 st.course.rows h.rows; distinct = ascend_of_rows _ 0 st.course.rows })));
     snapshots = λ q st e h. either (has_no_volume (in_progress st)) _ _ h (on_followed true _ st (lev_begun Snapshot st.course.members _ st.clock st.course h));
     completes = λ q st e h. on_followed true _ st (lev_begun Complete _ [] st.clock st.course h);
     clears = λ s v b st h. h;
@@ -214,7 +239,7 @@ module _ (l : ℕ → Level) where
     deletes_image = λ n v st h. h;
     begins = λ lane all c st e h. on_begin lane all c st h;
     names = λ q explicit st e h. h;
-    disables = λ w q st e h. record { rows = h.rows; members = h.members };
+    disables = λ w q st e h. record { rows = h.rows; members = h.members; distinct = h.distinct };
     starts = λ q st e f h. h;
     adds = λ v r q st e f g h. h;
     ends = λ q st e h. on_closes q (failed AsyncCancelled st) (on_failed_in (in_progress st) AsyncCancelled st h);
@@ -256,6 +281,11 @@ rows_at_start s (p ∷ ps) k e =
 none_before : (j : ℕ) → j ≡ 0 + j
 none_before j = omega arith
 
+leveled_from_start : (s : Plan) (acts : List Act) → Leveled (level_of s) (state s acts).course
+leveled_from_start s acts = on_fold (level_of s) s (start s) acts (record { rows = rows_at_start s s.writers 0 (λ j. ap (level_of s) (none_before j)); members = tt; distinct = tt })
+
 pub levels_are : (s : Plan) (acts : List Act) → MembersOf (level_of s) (state s acts).course.members
-levels_are s acts =
-    (on_fold (level_of s) s (start s) acts (record { rows = rows_at_start s s.writers 0 (λ j. ap (level_of s) (none_before j)); members = tt })).members
+levels_are s acts = (leveled_from_start s acts).members
+
+pub members_ascend : (s : Plan) (acts : List Act) → Ascends 0 (state s acts).course.members
+members_ascend s acts = (leveled_from_start s acts).distinct

@@ -1,5 +1,5 @@
 -- A set that completes has come the whole way: what its agenda's log keeps in order, and that nothing of it is left out.
-use Rattle.std.proofs.Common.{◌≡◌, ◌∙◌, ℕ, ◌==◌, ◌≤◌, ◌<◌, List, [], ◌∷◌, ◌++◌, ◌⊎◌, Option, Some, None, refl, Bool, true, false, ap, sym, subst, inl, inr, map, filter, arith}
+use Rattle.std.proofs.Common.{◌≡◌, ◌∙◌, ℕ, ◌==◌, ◌≤◌, ◌<◌, List, [], ◌∷◌, ◌++◌, ◌⊎◌, Option, Some, None, refl, Bool, true, false, ap, sym, subst, inl, inr, map, filter, arith, ◌+◌}
 use Rattle.std.specs.Prelude.{◌&&◌, ◌||◌, not, is_some, if◌then◌else◌}
 use Rattle.std.specs.List.{list_any}
 use Rattle.std.proofs.lemmas.List.Folds.{list_any-append}
@@ -15,7 +15,7 @@ use Rattle.set_agenda.specs.declared.group.Group.TheVariants.{Orders, PreCommit,
 use Rattle.set_agenda.specs.declared.kind.Kind.TheVariants.{Snapshot}
 use Rattle.set_agenda.specs.declared.member.Member.{Member}
 use Rattle.set_agenda.specs.declared.place.Place.{Place}
-use Rattle.set_agenda.specs.Agenda.{Agenda, Entry, Open, plain, places, same_order, order_code, group_code, level_code, same_place, order_of, is_orders, has_failed, has_said, is_at, writers_at, members_of, waited_for, with_group, left_from, groups_left, open_place, is_among, waits_now, is_done, at_place, all_say}
+use Rattle.set_agenda.specs.Agenda.{Agenda, Entry, Open, plain, places, same_order, order_code, group_code, level_code, same_place, order_of, is_orders, has_failed, has_said, is_at, writers_at, members_of, waited_for, with_group, left_from, groups_left, open_place, is_among, waits_now, is_done, at_place, all_say, at_level}
 use Rattle.set_agenda.specs.Course.{is_member, fails_set}
 use Rattle.scenario.specs.Plan.{Plan}
 use Rattle.vss_model.specs.State.{in_progress}
@@ -25,10 +25,10 @@ use Rattle.vss_model.proofs.HeldOfSet.{IsOf, Tied, tied}
 use Rattle.vss_model.proofs.LogRule.{unspoken}
 use Rattle.vss_model.proofs.Orderly.{true_not_false}
 use Rattle.vss_model.proofs.Spoken.{among_filter, waits_members, among_members}
-use Rattle.promises.specs.Way.{Deed, level_of, stage, Rising, same_volume, is_heard, is_agreed, is_made, is_again, AreOnce, is_failure, heard, agreed, failed, made, IsWholeWay, CompletesByTheWay}
+use Rattle.promises.specs.Way.{Deed, level_of, stage, Rising, same_volume, is_heard, is_agreed, is_made, is_again, AreOnce, is_failure, heard, agreed, failed, made, IsWholeWay, CompletesByTheWay, Spoke}
 use Rattle.promises.proofs.Along.{IsKeptAlong, last_stand}
-use Rattle.promises.proofs.Levels.{MembersOf, levels_are}
-use Rattle.promises.proofs.Speaks.{deed_at, deed_in, said_at, Speaks}
+use Rattle.promises.proofs.Levels.{Ascends, MembersOf, levels_are, members_ascend}
+use Rattle.promises.proofs.Speaks.{deed_at, deed_in, said_at, Speaks, IsOne}
 use Rattle.promises.proofs.Stages.{deeds_in, either_true, left_part, right_part, both_parts, both_are, false_of, equal, same_number, deeds_append, any_more, any_said, level_or, group_stage, place_stage, leveled, IsOfLevel, open_stage, Below, below_more, below_append, rising_append, stages_more, closed_stays, goes_up, Closed, closed_below, snapshot_from}
 
 -- ## who was waited for has spoken
@@ -93,6 +93,19 @@ said_deed (x ∷ log) p who test f e = by_head (group_code x.place.group == grou
     by_head true false c g h e ih = right_part (test (deed_in x)) _ (ih e)
     by_head false l c g h e ih = right_part (test (deed_in x)) _ (ih e)
 
+-- the place where a writer says something to an order
+abbrev order_place : Order → Level → Place
+order_place Identify l = plain (Orders Identify)
+order_place PrepareBackup l = plain (Orders PrepareBackup)
+order_place PrepareSnapshot l = plain (Orders PrepareSnapshot)
+order_place Freeze l = at_level Freeze l
+order_place Thaw l = at_level Thaw l
+order_place PostSnapshot l = plain (Orders PostSnapshot)
+order_place BackupComplete l = plain (Orders BackupComplete)
+
+abbrev place_of : Plan → Order → ℕ → Place
+place_of s order w = order_place order (level_of s w)
+
 -- ## what the log keeps
 
 abbrev volume_number : Option ℕ → ℕ
@@ -102,7 +115,9 @@ volume_number (Some v) = v
 pub record Good (s : Plan) (a : Agenda) : Type 0 where
   pub rising : MembersOf (level_of s) a.members → Rising (map (stage s) (deeds_in a))
   pub below : MembersOf (level_of s) a.members → Below (open_stage (groups_left a)) (map (stage s) (deeds_in a))
-  pub once : AreOnce (deeds_in a)
+  pub once : MembersOf (level_of s) a.members → Ascends 0 a.members → AreOnce (deeds_in a)
+  -- what a writer said is in the log
+  pub spoken : MembersOf (level_of s) a.members → (order : Order) (w : ℕ) → heard order w (deeds_in a) ≡ true → has_said a.log (place_of s order w) w ≡ true
   -- a step that was made is in the log
   pub logged : (g : Group) (v : Option ℕ) → made g v (deeds_in a) ≡ true → has_said a.log (plain g) (volume_number v) ≡ true
   pub of_participants : (order : Order) (w : ℕ) → heard order w (deeds_in a) ≡ true → is_member a.members w ≡ true
@@ -114,7 +129,8 @@ good_unspoken : (s : Plan) (ms : List Member) (vs : List ℕ) (now : ℕ) → Go
 good_unspoken s ms vs now = record {
   rising = λ lv. tt;
   below = λ lv. tt;
-  once = tt;
+  once = λ lv up. tt;
+  spoken = λ lv order w e. absurd cc;
   logged = λ g v e. absurd cc;
   of_participants = λ order w e. absurd cc;
   of_volumes = λ g v e. absurd cc;
@@ -252,30 +268,146 @@ once_one (x ∷ ds) d h e =
     none false true e f = absurd cc
     none false false e f = refl
 
--- writers make no step
-spoken_none : (g : Group) (u : ℕ) (said : Said) (now : ℕ) (d : Deed) → is_orders g ≡ true → is_again (deed_at g u said now) d ≡ false
-spoken_none (Orders o) u said now d e = refl
-spoken_none PreCommit u said now d e = absurd cc
-spoken_none Flush u said now d e = absurd cc
-spoken_none Hold u said now d e = absurd cc
-spoken_none Cut u said now d e = absurd cc
-spoken_none Commit u said now d e = absurd cc
-spoken_none Release u said now d e = absurd cc
-spoken_none PostCommit u said now d e = absurd cc
-
 both_false : (a b : Bool) → a ≡ false → b ≡ false → (a || b) ≡ false
 both_false true b e f = absurd cc
 both_false false b e f = f
 
-none_again : (p : Place) (said : Said) (now : ℕ) (us : List ℕ) (d : Deed) → is_orders p.group ≡ true → list_any (λ y. is_again y d) (map deed_in (map (at_place p said now) us)) ≡ false
-none_again p said now [] d o = refl
-none_again p said now (u ∷ us) d o = both_false (is_again (deed_at p.group u said now) d) _ (spoken_none p.group u said now d o) (none_again p said now us d o)
+-- each number once
+abbrev Apart : List ℕ → Type 0
+Apart [] = Unit {0}
+Apart (x ∷ xs) = (is_among x xs ≡ false) × Apart xs
 
-once_spoken : (ds : List Deed) (p : Place) (said : Said) (now : ℕ) (ws : List ℕ) → is_orders p.group ≡ true → AreOnce ds → AreOnce (ds ++ map deed_in (map (at_place p said now) ws))
-once_spoken [] p said now [] o h = tt
-once_spoken [] p said now (w ∷ ws) o h = (none_again p said now ws (deed_at p.group w said now) o, once_spoken [] p said now ws o h)
-once_spoken (x ∷ ds) p said now ws o h =
-    (list_any-append (λ y. is_again y x) ds (map deed_in (map (at_place p said now) ws)) ∙ both_false (list_any (λ y. is_again y x) ds) _ h.0 (none_again p said now ws x o), once_spoken ds p said now ws o h.1)
+-- what writers say that were not heard before
+unheard : (o : Order) (said : Said) (now : ℕ) (us : List ℕ) (d : Deed) → ((u : ℕ) → is_among u us ≡ true → is_heard o u d ≡ false) → list_any (λ y. is_again y d) (map (λ u. Spoke o u said now) us) ≡ false
+unheard o said now [] d h = refl
+unheard o said now (u ∷ us) d h =
+    both_false (is_heard o u d) _ (h u (left_part (u == u) (is_among u us) (same_number u))) (unheard o said now us d (λ x e. h x (right_part (u == x) (is_among x us) e)))
+
+other_writer : (o : Order) (w : ℕ) (said : Said) (now : ℕ) (us : List ℕ) → is_among w us ≡ false → (u : ℕ) → is_among u us ≡ true → is_heard o u (Spoke o w said now) ≡ false
+other_writer o w said now us e u f = by_same (w == u) refl (same_order o o)
+  where
+    by_same : (b : Bool) → (w == u) ≡ b → (c : Bool) → (c && (w == u)) ≡ false
+    by_same true g c = absurd (true_not_false (is_among u us) f (subst (λ x. is_among x us ≡ false) (equal w u g) e))
+    by_same false g true = g
+    by_same false g false = refl
+
+once_spoken : (ds : List Deed) (o : Order) (said : Said) (now : ℕ) (ws : List ℕ) → AreOnce ds → Apart ws → ((u : ℕ) → is_among u ws ≡ true → heard o u ds ≡ false) → AreOnce (ds ++ map (λ u. Spoke o u said now) ws)
+once_spoken [] o said now [] h p f = tt
+once_spoken [] o said now (w ∷ ws) h p f =
+    (unheard o said now ws (Spoke o w said now) (other_writer o w said now ws p.0), once_spoken [] o said now ws h p.1 (λ u e. refl))
+once_spoken (x ∷ ds) o said now ws h p f = (
+  list_any-append (λ y. is_again y x) ds (map (λ u. Spoke o u said now) ws)
+      ∙ both_false (list_any (λ y. is_again y x) ds) _ h.0 (unheard o said now ws x (λ u e. first_off (is_heard o u x) (heard o u ds) (f u e))),
+  once_spoken ds o said now ws h.1 p (λ u e. rest_off (is_heard o u x) (heard o u ds) (f u e)),
+)
+  where
+    first_off : (a b : Bool) → (a || b) ≡ false → a ≡ false
+    first_off true b e = absurd cc
+    first_off false b e = refl
+
+    rest_off : (a b : Bool) → (a || b) ≡ false → b ≡ false
+    rest_off true b e = absurd cc
+    rest_off false b e = e
+
+-- who is waited for is waited for once
+among_none : (test : ℕ → Bool) (x : ℕ) (xs : List ℕ) → is_among x xs ≡ false → is_among x (filter test xs) ≡ false
+among_none test x xs e = false_of (is_among x (filter test xs)) (λ f. true_not_false (is_among x xs) (among_filter test x xs f) e)
+
+apart_filter : (test : ℕ → Bool) (xs : List ℕ) → Apart xs → Apart (filter test xs)
+apart_filter test [] h = tt
+apart_filter test (x ∷ xs) h = by_head (test x) (apart_filter test xs h.1)
+  where
+    by_head : (b : Bool) → Apart (filter test xs) → Apart (if b then x ∷ filter test xs else filter test xs)
+    by_head true ih = (among_none test x xs h.0, ih)
+    by_head false ih = ih
+
+not_below : (w x : ℕ) (ms : List Member) (l : Option Level) → Ascends w ms → x < w → is_among x (writers_at ms l) ≡ false
+not_below w x [] l h i = refl
+not_below w x (m ∷ ms) l h i = by_head (is_at l m.level) (not_below (m.writer + 1) x ms l h.1 (above w x m.writer h.0 i))
+  where
+    above : (w x m : ℕ) → w ≤ m → x < w → x < m + 1
+    above w x m h i = omega arith
+
+    differs : (w x m : ℕ) → w ≤ m → x < w → (m == x) ≡ false
+    differs w x m h i = grind arith
+
+    by_head : (b : Bool) → is_among x (writers_at ms l) ≡ false → is_among x (map (λ (y : Member). y.writer) (if b then m ∷ filter (λ (y : Member). is_at l y.level) ms else filter (λ (y : Member). is_at l y.level) ms)) ≡ false
+    by_head true ih = both_false (m.writer == x) _ (differs w x m.writer h.0 i) ih
+    by_head false ih = ih
+
+apart_writers : (w : ℕ) (ms : List Member) (l : Option Level) → Ascends w ms → Apart (writers_at ms l)
+apart_writers w [] l h = tt
+apart_writers w (m ∷ ms) l h = by_head (is_at l m.level) (apart_writers (m.writer + 1) ms l h.1)
+  where
+    next : (n : ℕ) → n < n + 1
+    next n = omega arith
+
+    by_head : (b : Bool) → Apart (writers_at ms l) → Apart (map (λ (y : Member). y.writer) (if b then m ∷ filter (λ (y : Member). is_at l y.level) ms else filter (λ (y : Member). is_at l y.level) ms))
+    by_head true ih = (not_below (m.writer + 1) m.writer ms l h.1 (next m.writer), ih)
+    by_head false ih = ih
+
+apart_members : (o : Order) (a : Agenda) (l : Option Level) → Ascends 0 a.members → Apart (members_of a (Orders o) l)
+apart_members Identify a l h = apart_writers 0 a.members l h
+apart_members PrepareBackup a l h = apart_writers 0 a.members l h
+apart_members PrepareSnapshot a l h = apart_writers 0 a.members l h
+apart_members Freeze a l h = apart_writers 0 a.members l h
+apart_members Thaw a l h = apart_writers 0 a.members l h
+apart_members PostSnapshot a l h = apart_filter (λ x. not (has_failed a.log x)) (writers_at a.members l) (apart_writers 0 a.members l h)
+apart_members BackupComplete a l h = apart_writers 0 a.members l h
+
+waits_apart : (a : Agenda) (ps : List Place) (o : Order) → Ascends 0 a.members → (open_place (left_from a ps)).group ≡ Orders o → Apart (waits_now (left_from a ps))
+waits_apart a [] o h e = tt
+waits_apart a (p ∷ ps) o h e =
+    at_group (waited_for a p) (left_from a ps)
+    (λ g. apart_filter (λ x. not (has_said a.log p x)) (members_of a p.group p.level) (subst (λ x. Apart (members_of a x p.level)) (sym g) (apart_members o a p.level h))) (waits_apart a ps o h) e
+  where
+    at_group : (ws : List ℕ) (later : List Open) → (p.group ≡ Orders o → Apart ws) → ((open_place later).group ≡ Orders o → Apart (waits_now later)) → (open_place (with_group p ws later)).group ≡ Orders o → Apart (waits_now (with_group p ws later))
+    at_group [] later own ih e = ih e
+    at_group (w ∷ ws) later own ih e = own e
+
+-- the open place is the writer's
+abbrev NoneGiven : List Place → Type 0
+NoneGiven [] = Unit {0}
+NoneGiven (p ∷ ps) = (leveled p.group ≡ false → p.level ≡ None) × NoneGiven ps
+
+none_given : NoneGiven (places Snapshot)
+none_given = (λ e. refl, (λ e. absurd cc, (λ e. absurd cc, (λ e. absurd cc, (λ e. refl, (λ e. refl, (λ e. refl, (λ e. refl, (λ e. refl, (λ e. refl, (λ e. refl, (λ e. absurd cc, (λ e. absurd cc, (λ e. absurd cc, (λ e. refl, tt)))))))))))))))
+
+open_unleveled : (a : Agenda) (ps : List Place) → NoneGiven ps → leveled (open_place (left_from a ps)).group ≡ false → (open_place (left_from a ps)).level ≡ None
+open_unleveled a [] h e = refl
+open_unleveled a (p ∷ ps) h e = at_group (waited_for a p) (left_from a ps) (open_unleveled a ps h.1) e
+  where
+    at_group : (ws : List ℕ) (later : List Open) → (leveled (open_place later).group ≡ false → (open_place later).level ≡ None) → leveled (open_place (with_group p ws later)).group ≡ false → (open_place (with_group p ws later)).level ≡ None
+    at_group [] later ih e = ih e
+    at_group (w ∷ ws) later ih e = h.0 e
+
+level_some : (l : Option Level) (x : Level) → is_some l ≡ true → x ≡ level_or l → l ≡ Some x
+level_some None x e f = absurd cc
+level_some (Some y) x e f = ap Some (sym f)
+
+is_order_place : (o : Order) (x : Level) (q : Place) → q.group ≡ Orders o → (leveled q.group ≡ true → q.level ≡ Some x) → (leveled q.group ≡ false → q.level ≡ None) → q ≡ order_place o x
+is_order_place o x q e f g = both_same q (order_place o x).group (order_place o x).level (e ∙ sym (group_is o)) (level_is o e f g)
+  where
+    both_same : (q : Place) (h : Group) (l : Option Level) → q.group ≡ h → q.level ≡ l → q ≡ record { group = h; level = l }
+    both_same q h l e f = ap (λ y. record { group = y; level = q.level }) e ∙ ap (λ y. record { group = h; level = y }) f
+
+    group_is : (o : Order) → (order_place o x).group ≡ Orders o
+    group_is Identify = refl
+    group_is PrepareBackup = refl
+    group_is PrepareSnapshot = refl
+    group_is Freeze = refl
+    group_is Thaw = refl
+    group_is PostSnapshot = refl
+    group_is BackupComplete = refl
+
+    level_is : (o : Order) → q.group ≡ Orders o → (leveled q.group ≡ true → q.level ≡ Some x) → (leveled q.group ≡ false → q.level ≡ None) → q.level ≡ (order_place o x).level
+    level_is Identify e f g = g (ap leveled e)
+    level_is PrepareBackup e f g = g (ap leveled e)
+    level_is PrepareSnapshot e f g = g (ap leveled e)
+    level_is Freeze e f g = f (ap leveled e)
+    level_is Thaw e f g = f (ap leveled e)
+    level_is PostSnapshot e f g = g (ap leveled e)
+    level_is BackupComplete e f g = g (ap leveled e)
 
 -- ## orders
 
@@ -324,6 +456,18 @@ post_group Cut w u said now e = absurd cc
 post_group Commit w u said now e = absurd cc
 post_group Release w u said now e = absurd cc
 post_group PostCommit w u said now e = absurd cc
+
+heard_group : (order : Order) (h : Group) (w u : ℕ) (said : Said) (now : ℕ) → is_heard order w (deed_at h u said now) ≡ true → (h ≡ Orders order) × (u ≡ w)
+heard_group order (Orders o) w u said now e =
+    let parts = both_parts (same_order o order) (u == w) e in
+    (ap Orders (same_orders o order parts.0), equal u w parts.1)
+heard_group order PreCommit w u said now e = absurd cc
+heard_group order Flush w u said now e = absurd cc
+heard_group order Hold w u said now e = absurd cc
+heard_group order Cut w u said now e = absurd cc
+heard_group order Commit w u said now e = absurd cc
+heard_group order Release w u said now e = absurd cc
+heard_group order PostCommit w u said now e = absurd cc
 
 -- who was heard at Thaw and has not failed said ok
 heard_agreed : (log : List Entry) (w : ℕ) → has_failed log w ≡ false → heard Thaw w (map deed_in log) ≡ true → agreed Thaw w (map deed_in log) ≡ true
@@ -573,25 +717,56 @@ module _ (s : Plan) (said : Said) (now : ℕ) (ws : List ℕ) (a : Agenda) (k : 
       let not_yet : has_said a.log (plain h) (volume_number v) ≡ false = subst (λ (q : Place). has_said a.log q (volume_number v) ≡ false) place (subst (λ x. has_said a.log p x ≡ false) n (unsaid a (places a.kind) u w)) in
       false_of (made h v (deeds_in a)) (λ i. true_not_false (has_said a.log (plain h) (volume_number v)) (g.logged h v i) not_yet)
 
-  no_deed : (ds : List Deed) → list_any (λ (x : Deed). false) ds ≡ false
-  no_deed [] = refl
-  no_deed (d ∷ ds) = no_deed ds
+  writer_place : MembersOf (level_of s) a.members → (u : ℕ) (o : Order) → is_among u ws ≡ true → p.group ≡ Orders o → p ≡ place_of s o u
+  writer_place lv u o f e =
+      is_order_place o (level_of s u) p e
+      (λ d. level_some p.level (level_of s u) (level_given d) (own_levels lv u f d))
+      (λ d. subst (λ xs. leveled (open_place xs).group ≡ false → (open_place xs).level ≡ None) (sym (snapshot_left a k)) (open_unleveled a (places Snapshot) none_given) d)
 
-  fresh : (u : ℕ) (h : Group) → is_among u (waits_now os) ≡ true → is_among u (members_of a h p.level) ≡ true → p.group ≡ h → list_any (λ x. is_again (deed_at h u said now) x) (deeds_in a) ≡ false
-  fresh u (Orders o) w m e = no_deed (deeds_in a)
-  fresh u PreCommit w m e = fresh_at u PreCommit None w e refl (alone u m)
-  fresh u Flush w m e = fresh_at u Flush (Some u) w e refl refl
-  fresh u Hold w m e = fresh_at u Hold (Some u) w e refl refl
-  fresh u Cut w m e = fresh_at u Cut None w e refl (alone u m)
-  fresh u Commit w m e = fresh_at u Commit (Some u) w e refl refl
-  fresh u Release w m e = fresh_at u Release (Some u) w e refl refl
-  fresh u PostCommit w m e = fresh_at u PostCommit None w e refl (alone u m)
+  speaks_new : MembersOf (level_of s) a.members → (order : Order) (w : ℕ) → heard order w (deeds_in more) ≡ true → has_said more.log (place_of s order w) w ≡ true
+  speaks_new lv order w e =
+      old_or_new (is_heard order w) (has_said more.log (place_of s order w) w) e
+      (λ f. said_stays a.log (said_at os said now ws) (place_of s order w) w (g.spoken lv order w f))
+      (λ u f i.
+      let own = heard_group order p.group w u said now i in
+      subst (λ x. has_said more.log (place_of s order x) x ≡ true) own.1 (subst (λ (q : Place). has_said more.log q u ≡ true) (writer_place lv u order f own.0) (log_new u f)))
 
-  once_if : Speaks a ws → AreOnce (deeds_in more)
-  once_if (inl o) =
-      subst AreOnce (sym (deeds_append a.log (said_at os said now ws) ∙ ap (λ us. deeds_in a ++ map deed_in (map (at_place p said now) us)) o.is))
-      (once_one (deeds_in a) (deed_at p.group o.one said now) g.once (fresh o.one p.group o.waits (waits_members a (places a.kind) o.one o.waits) refl))
-  once_if (inr o) = subst AreOnce (sym (deeds_append a.log (said_at os said now ws))) (once_spoken (deeds_in a) p said now ws o.writers g.once)
+  not_heard : MembersOf (level_of s) a.members → (o : Order) → p.group ≡ Orders o → (u : ℕ) → is_among u ws ≡ true → heard o u (deeds_in a) ≡ false
+  not_heard lv o e u f =
+      let not_yet : has_said a.log (place_of s o u) u ≡ false = subst (λ (q : Place). has_said a.log q u ≡ false) (writer_place lv u o f e) (unsaid a (places a.kind) u (waits_in ws a who u f)) in
+      false_of (heard o u (deeds_in a)) (λ i. true_not_false (has_said a.log (place_of s o u) u) (g.spoken lv o u i) not_yet)
+
+  spoken_deeds : (o : Order) (us : List ℕ) → p.group ≡ Orders o → map (λ u. Spoke o u said now) us ≡ map deed_in (map (at_place p said now) us)
+  spoken_deeds o [] e = refl
+  spoken_deeds o (u ∷ us) e = ap (λ h. deed_at h u said now ∷ map (λ x. Spoke o x said now) us) (sym e) ∙ ap (λ ds. deed_at p.group u said now ∷ ds) (spoken_deeds o us e)
+
+  once_orders : MembersOf (level_of s) a.members → Ascends 0 a.members → (o : Order) → p.group ≡ Orders o → Apart ws → AreOnce (deeds_in more)
+  once_orders lv up o e apart =
+      subst AreOnce (sym (deeds_append a.log (said_at os said now ws) ∙ ap (λ ds. deeds_in a ++ ds) (sym (spoken_deeds o ws e))))
+      (once_spoken (deeds_in a) o said now ws (g.once lv up) apart (not_heard lv o e))
+
+  once_step : MembersOf (level_of s) a.members → Ascends 0 a.members → (o : IsOne a ws) → list_any (λ x. is_again (deed_at p.group o.one said now) x) (deeds_in a) ≡ false → AreOnce (deeds_in more)
+  once_step lv up o f =
+      subst AreOnce (sym (deeds_append a.log (said_at os said now ws) ∙ ap (λ us. deeds_in a ++ map deed_in (map (at_place p said now) us)) o.is)) (once_one (deeds_in a) (deed_at p.group o.one said now) (g.once lv up) f)
+
+  fresh_step : (u : ℕ) (h : Group) → is_orders h ≡ false → is_among u (waits_now os) ≡ true → is_among u (members_of a h p.level) ≡ true → p.group ≡ h → list_any (λ x. is_again (deed_at h u said now) x) (deeds_in a) ≡ false
+  fresh_step u (Orders o) f w m e = absurd cc
+  fresh_step u PreCommit f w m e = fresh_at u PreCommit None w e refl (alone u m)
+  fresh_step u Flush f w m e = fresh_at u Flush (Some u) w e refl refl
+  fresh_step u Hold f w m e = fresh_at u Hold (Some u) w e refl refl
+  fresh_step u Cut f w m e = fresh_at u Cut None w e refl (alone u m)
+  fresh_step u Commit f w m e = fresh_at u Commit (Some u) w e refl refl
+  fresh_step u Release f w m e = fresh_at u Release (Some u) w e refl refl
+  fresh_step u PostCommit f w m e = fresh_at u PostCommit None w e refl (alone u m)
+
+  one_apart : IsOne a ws → Apart ws
+  one_apart o = subst Apart (sym o.is) (refl, tt)
+
+  by_group : MembersOf (level_of s) a.members → Ascends 0 a.members → (h : Group) → p.group ≡ h → Speaks a ws → AreOnce (deeds_in more)
+  by_group lv up (Orders x) e (inl o) = once_orders lv up x e (one_apart o)
+  by_group lv up (Orders x) e (inr o) = once_orders lv up x e (subst Apart (sym o.is) (waits_apart a (places a.kind) x up e))
+  by_group lv up h e (inr o) = absurd (true_not_false (is_orders p.group) o.writers (ap is_orders e))
+  by_group lv up h e (inl o) = once_step lv up o (fresh_step o.one p.group (ap is_orders e) o.waits (waits_members a (places a.kind) o.one o.waits) refl)
 
   -- consent
   consents : (order : Order) (w : ℕ) → fails_set (Some order) ≡ true → heard order w (deeds_in more) ≡ true → agreed order w (deeds_in more) ≡ true
@@ -627,7 +802,8 @@ module _ (s : Plan) (said : Said) (now : ℕ) (ws : List ℕ) (a : Agenda) (k : 
       record {
         rising = λ lv. (stages lv).0;
         below = λ lv. (stages lv).1;
-        once = once_if who;
+        once = λ lv up. by_group lv up p.group refl who;
+        spoken = speaks_new;
         logged = logs;
         of_participants = λ order w e. old_or_new (is_heard order w) (is_member a.members w) e (g.of_participants order w) (λ u f i. heard_writer order w p.group a p.level u said now (member_at u f) i);
         of_volumes = λ h v e. old_or_new (is_made h (Some v)) (is_among v a.volumes) e (g.of_volumes h v) (λ u f i. made_volume h v p.group a p.level u said now (member_at u f) i);
@@ -677,15 +853,15 @@ made_all : (a : Agenda) (g : Group) (v : Option ℕ) → is_among (volume_number
     → waited_for a (plain g) ≡ [] → made g v (deeds_in a) ≡ true
 made_all a g v m test e = said_deed a.log (plain g) (volume_number v) (is_made g v) test (said_all a.log (plain g) (members_of a g None) (volume_number v) e m)
 
-whole_way : (s : Plan) (a : Agenda) (participants : List Member) (volumes : List ℕ) → a.kind ≡ Snapshot → is_done (groups_left a) ≡ true → a.members ≡ participants → a.volumes ≡ volumes → MembersOf (level_of s) participants → Good s a → IsWholeWay s participants volumes (deeds_in a)
-whole_way s a participants volumes k d m v lv g =
+whole_way : (s : Plan) (a : Agenda) (participants : List Member) (volumes : List ℕ) → a.kind ≡ Snapshot → is_done (groups_left a) ≡ true → a.members ≡ participants → a.volumes ≡ volumes → MembersOf (level_of s) participants → Ascends 0 participants → Good s a → IsWholeWay s participants volumes (deeds_in a)
+whole_way s a participants volumes k d m v lv up g =
     let at : open_stage (left_from a (places Snapshot)) ≡ 15 = sym (ap open_stage (ap (λ j. left_from a (places j)) k)) ∙ none_open (groups_left a) d in
     let closed = subst (λ n. Closed a n (places Snapshot)) at (closed_below a 0 (places Snapshot) snapshot_from) in
     let member : (w : ℕ) → is_member participants w ≡ true → is_member a.members w ≡ true = λ w e. subst (λ ms. is_member ms w ≡ true) (sym m) e in
     let volume : (u : ℕ) → is_among u volumes ≡ true → is_among u a.volumes ≡ true = λ u e. subst (λ us. is_among u us ≡ true) (sym v) e in
     record {
       in_order = g.rising (subst (MembersOf (level_of s)) (sym m) lv);
-      once = g.once;
+      once = g.once (subst (MembersOf (level_of s)) (sym m) lv) (subst (Ascends 0) (sym m) up);
       prepared = λ w e. g.consent PrepareSnapshot w refl (prepare_heard a 15 (omega arith) closed w (member w e));
       frozen = λ w e. g.consent Freeze w refl (freeze_heard a 15 (omega arith) closed w (member w e));
       pre_commit = made_all a PreCommit None refl (λ said now u e. refl) (closed.1.1.1.1.0 (omega arith));
@@ -709,4 +885,4 @@ complete_by_the_way s so_far act r q e f h =
     let set : Tied (Some l.before) st.course.members (in_progress st) = subst (λ x. Tied x st.course.members (in_progress st)) l.is (tied s so_far) in
     let of : IsOf Snapshot l.before.volumes l.before.members st.course.members (Some r) =
     subst (λ x. IsOf Snapshot l.before.volumes l.before.members st.course.members x) e (subst (λ j. IsOf j l.before.volumes l.before.members st.course.members (in_progress st)) l.kind set) in
-    subst (IsWholeWay s st.course.members r.volumes) l.deeds_are (whole_way s l.last st.course.members r.volumes l.last_kind l.done (l.members ∙ of.1) (l.volumes ∙ of.0) (levels_are s so_far) l.good)
+    subst (IsWholeWay s st.course.members r.volumes) l.deeds_are (whole_way s l.last st.course.members r.volumes l.last_kind l.done (l.members ∙ of.1) (l.volumes ∙ of.0) (levels_are s so_far) (members_ascend s so_far) l.good)

@@ -166,12 +166,12 @@ abbrev pub is_made : Group → Option ℕ → Deed → Bool
 is_made g v (Spoke o u said now) = false
 is_made g v (Made h u now) = (group_code h == group_code g) && same_volume u v
 
--- the same step
+-- of the same writer to the same order, or the same step
 abbrev pub is_again : Deed → Deed → Bool
-is_again (Spoke order w said now) d = false
+is_again (Spoke order w said now) d = is_heard order w d
 is_again (Made g v now) d = is_made g v d
 
--- no step is made twice
+-- no writer is heard twice to an order, and no step is made twice
 abbrev pub AreOnce : List Deed → Type 0
 AreOnce [] = Unit {0}
 AreOnce (d ∷ ds) = (list_any (λ e. is_again e d) ds ≡ false) × AreOnce ds
@@ -190,7 +190,7 @@ made g v way = list_any (is_made g v) way
 
 -- ## the way of a set
 
--- the whole sequence, in order, and no step twice: every participant said ok to PrepareSnapshot and to Freeze; the provider made
+-- the whole sequence, in order, and nothing twice: every participant said ok to PrepareSnapshot and to Freeze; the provider made
 -- each of its steps, on each volume of the set; every participant was heard at Thaw, and at
 -- PostSnapshot those that have not failed, and nobody that has failed at Thaw; and nobody else was heard, nor was a step made on another volume
 pub record IsWholeWay (s : Plan) (participants : List Member) (volumes : List ℕ) (way : List Deed) : Type 0 where

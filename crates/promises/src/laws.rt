@@ -16,7 +16,7 @@ ghost use Rattle.promises.specs.Sets.{VolumesAreDistinct};
 ghost use Rattle.promises.specs.Way.{CompletesByTheWay};
 
 /// A set that completes has come the whole way since its `snapshot` line: PrepareSnapshot, Freeze, PreCommit, Flush, Hold, Cut,
-/// Commit, Release, PostCommit, Thaw, PostSnapshot, in this order and no step twice.
+/// Commit, Release, PostCommit, Thaw, PostSnapshot, in this order and nothing twice.
 pub fn sets_complete_by_the_way()
     ensures { (s : Plan) (so_far : List Act) (act : Act) → CompletesByTheWay s so_far act }
 {}
