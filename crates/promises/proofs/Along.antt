@@ -1,0 +1,501 @@
+-- The rule of snapshots: a fact of a running snapshot agenda that holds where it begins, and is kept by what is said, holds in every
+-- state, and beside it the deeds since the `snapshot` line are those of the log; and a set completes only where such an agenda,
+-- with what the last act tells, has no group left.
+use Rattle.std.proofs.Common.{◌≡◌, ◌∙◌, ℕ, ◌+◌, ◌==◌, List, [], ◌∷◌, ◌++◌, ◌⊎◌, Option, Some, None, refl, Bool, true, false, ap, sym, subst, inl, inr, map, fold}
+use Rattle.std.specs.Prelude.{is_some, ◌&&◌, not, if◌then◌else◌, length}
+use Rattle.vss_names.specs.declared.level.Level.TheVariants.{System, BackEnd, FrontEnd}
+use Rattle.vss_names.specs.declared.order.Order.{Order}
+use Rattle.vss_names.specs.declared.order.Order.TheVariants.{PrepareSnapshot, Freeze}
+use Rattle.vss_names.specs.declared.set_outcome.SetOutcome.{SetOutcome}
+use Rattle.vss_names.specs.declared.set_outcome.SetOutcome.TheVariants.{Running as RunningSet, Complete as CompleteSet, Failed as FailedSet}
+use Rattle.vss_names.specs.declared.vss_result.VssResult.{VssResult}
+use Rattle.vss_names.specs.declared.vss_result.VssResult.TheVariants.{BadState, InsufficientStorage, AsyncPending, AsyncCancelled}
+use Rattle.writer_state.specs.declared.said.Said.{Said}
+use Rattle.writer_state.specs.WriterState.{is_ok}
+use Rattle.write_history.specs.declared.mark.Mark.{Mark}
+use Rattle.write_history.specs.declared.mark.Mark.TheVariants.{Clean, Fault, FaultAfter}
+use Rattle.write_history.specs.History.{Write, dropped}
+use Rattle.writer_calls.specs.declared.answer.Answer.{Answer}
+use Rattle.writer_calls.specs.Script.{said_of}
+use Rattle.set_agenda.specs.declared.group.Group.{Group}
+use Rattle.set_agenda.specs.declared.group.Group.TheVariants.{Orders, PreCommit, Flush, Hold, Cut, Commit, Release, PostCommit}
+use Rattle.set_agenda.specs.declared.kind.Kind.{Kind}
+use Rattle.set_agenda.specs.declared.kind.Kind.TheVariants.{Gather, Prepare, Snapshot, Complete}
+use Rattle.set_agenda.specs.declared.member.Member.{Member}
+use Rattle.set_agenda.specs.declared.place.Place.{Place}
+use Rattle.set_agenda.specs.Agenda.{Agenda, Entry, Open, order_of, plain, at_level, places, waited_for, with_group, left_from, groups_left, left, open_group, next_volume, open_place, open_order, order_now, is_done, is_working, is_snapshot, all_say}
+use Rattle.set_agenda.specs.Limits.{spent_of}
+use Rattle.set_agenda.specs.Course.{Course, posted, failed as course_failed, outcome_after, settled_if, settled_in, settled, begun, gathered, prepared, snapshot_begun, completing, change_at, stepped as course_stepped, limits_now, lost_writers, fails_set, released}
+use Rattle.component_doc.specs.Selection.{takers}
+use Rattle.requestor.specs.Session.{Session, opened}
+use Rattle.scenario.specs.declared.op.Op.{Op}
+use Rattle.scenario.specs.declared.op.Op.TheVariants as op
+use Rattle.scenario.specs.Bounds.{begins_agenda}
+use Rattle.scenario.specs.Calls.{Target, target_of}
+use Rattle.scenario.specs.Plan.{Plan}
+use Rattle.vss_model.specs.declared.event.Event.{Event}
+use Rattle.vss_model.specs.declared.event.Event.TheVariants.{Line, Answer as AnswerEvent, Provider, Idle}
+use Rattle.vss_model.specs.Reply.{Reply, Fine, Coded, Deleted, Idled, Stepped}
+use Rattle.vss_model.specs.State.{State, SetRow, Kept, start, is_complete, in_progress, row_of, row_changed, left_now}
+use Rattle.vss_model.specs.Ending.{Ending, NothingEnds, AgendaEnds, SetFails, ending, concluded, followed, runs, failed_in, failed}
+use Rattle.vss_model.specs.Images.{Replied, refused, cleared, set_loses_image, with_room_if, put, write, reverted_as}
+use Rattle.vss_model.specs.Sessions.{new_set, new_number, with_volume, has_no_volume, volumes_of, start_set, change_set, disable, is_disabled, selected, closed}
+use Rattle.vss_model.specs.Steps.{answered, with_cut, row_cut, cut_set, step_made, is_flush, is_failed_step, stepped_as, stepped, ticked, later}
+use Rattle.vss_model.specs.Facts.{has_failed}
+use Rattle.vss_model.specs.Effects.{line_ticks, lost, lost_after, lost_order, lost_order_if}
+use Rattle.vss_model.specs.Acts.{Act, enabled, order_of_writer, answer_reply, step_reply, idle_now, happens, reply, after, state}
+use Rattle.vss_model.proofs.CourseCalls.{Settles}
+use Rattle.vss_model.proofs.FlushFails.{outcome_is_running}
+use Rattle.vss_model.proofs.Freed.{agenda-concluded}
+use Rattle.vss_model.proofs.LogRule.{Running, unspoken}
+use Rattle.vss_model.proofs.OneCut.{changed_number, changed_result}
+use Rattle.vss_model.proofs.Orderly.{true_not_false}
+use Rattle.vss_model.proofs.OrderlyActs.{orderly}
+use Rattle.vss_model.proofs.Rows.{has_complete, running_incomplete, incomplete_settled, incomplete_map, incomplete_append, complete_found}
+use Rattle.promises.specs.Way.{Deed, Spoke, Made, deeds_lost, deeds_of, deeds_if, is_pending, is_snapshot_line, way_after, way_from, way}
+use Rattle.promises.proofs.ByEvent.{Covers, covered, after_enabled, after_not_enabled}
+use Rattle.promises.proofs.Clock.{clock-answered, clock-stepped_as, clock-ticked, write_ticks}
+use Rattle.promises.proofs.Speaks.{deed_in, said_at, Speaks, Grows, made_now, lost_told, grows_answered, grows_stepped, grows_timed}
+
+pub record IsKeptAlong (G : Agenda → Type 0) : Type 0 where
+  pub begins : (ms : List Member) (vs : List ℕ) (now : ℕ) → G (unspoken Snapshot ms vs now)
+  pub says : (said : Said) (now : ℕ) (ws : List ℕ) (a : Agenda) → a.kind ≡ Snapshot → Speaks a ws
+      → (fails_set (order_of (open_place (groups_left a)).group) && not (is_ok said)) ≡ false → G a → G (all_say said now ws a)
+
+append_nothing : (xs : List Deed) → xs ≡ xs ++ []
+append_nothing [] = refl
+append_nothing (x ∷ xs) = ap (λ ys. x ∷ ys) (append_nothing xs)
+
+map_append : (xs ys : List Entry) → map deed_in (xs ++ ys) ≡ map deed_in xs ++ map deed_in ys
+map_append [] ys = refl
+map_append (x ∷ xs) ys = ap (λ zs. deed_in x ∷ zs) (map_append xs ys)
+
+kind_of : (k : Kind) → is_snapshot k ≡ true → k ≡ Snapshot
+kind_of Gather e = absurd cc
+kind_of Prepare e = absurd cc
+kind_of Snapshot e = refl
+kind_of Complete e = absurd cc
+
+-- an agenda that completes the set is a snapshot's
+completes_snapshot : (k : Kind) (o p : SetOutcome) → o ≡ RunningSet → p ≡ outcome_after k o → is_complete p ≡ true → k ≡ Snapshot
+completes_snapshot Snapshot o p e f g = refl
+completes_snapshot Gather o p e f g = absurd (true_not_false (is_complete p) g (ap is_complete (f ∙ e)))
+completes_snapshot Prepare o p e f g = absurd (true_not_false (is_complete p) g (ap is_complete (f ∙ e)))
+completes_snapshot Complete o p e f g = absurd (true_not_false (is_complete p) g (ap is_complete (f ∙ e)))
+
+not_complete : (o : SetOutcome) → has_failed o ≡ true → is_complete o ≡ false
+not_complete RunningSet e = absurd cc
+not_complete CompleteSet e = absurd cc
+not_complete (FailedSet why) e = refl
+
+-- the last stand of a snapshot agenda: what was said is the whole way
+pub record IsLast (G : Agenda → Type 0) (so_far : List Deed) (running : Option Agenda) : Type 0 where
+  pub before : Agenda
+  pub is : running ≡ Some before
+  pub kind : before.kind ≡ Snapshot
+  pub last : Agenda
+  pub last_kind : last.kind ≡ Snapshot
+  pub members : last.members ≡ before.members
+  pub volumes : last.volumes ≡ before.volumes
+  pub done : is_done (groups_left last) ≡ true
+  pub deeds_are : map deed_in last.log ≡ so_far
+  pub good : G last
+
+module _ (G : Agenda → Type 0) (k : IsKeptAlong G) where
+  abbrev pub Tells : List Deed → Agenda → Type 0
+  Tells so_far a = a.kind ≡ Snapshot → (map deed_in a.log ≡ so_far) × G a
+
+  -- ## one call
+
+  tells_on : (so_far news : List Deed) (said : Said) (now : ℕ) (ws : List ℕ) (a : Agenda) → Speaks a ws → (fails_set (order_of (open_place (groups_left a)).group) && not (is_ok said)) ≡ false
+      → news ≡ map deed_in (said_at (groups_left a) said now ws) → Tells so_far a → Tells (so_far ++ news) (all_say said now ws a)
+  tells_on so_far news said now ws a who mild told h e = (
+    map_append a.log (said_at (groups_left a) said now ws) ∙ ap (λ ds. ds ++ map deed_in (said_at (groups_left a) said now ws)) (h e).0 ∙ ap (λ ds. so_far ++ ds) (sym told),
+    k.says said now ws a e who mild (h e).1,
+  )
+
+  tells_rests : (so_far news : List Deed) (a : Agenda) → news ≡ [] → Tells so_far a → Tells (so_far ++ news) a
+  tells_rests so_far news a e h f = ((h f).0 ∙ append_nothing so_far ∙ ap (λ ds. so_far ++ ds) (sym e), (h f).1)
+
+  settled_tells : (done : Bool) (so_far : List Deed) (a : Agenda) (o : SetOutcome) (b : Option Agenda) (p : SetOutcome) → Settles done a o b p → Tells so_far a → Running (Tells so_far) b
+  settled_tells true so_far a o b p e h = subst (Running (Tells so_far)) (sym e.0) tt
+  settled_tells false so_far a o b p e h = subst (Running (Tells so_far)) (sym e.0) h
+
+  grow : (so_far news : List Deed) (a : Option Agenda) (o : SetOutcome) (b : Option Agenda) (p : SetOutcome) → Grows a o b p news → Running (Tells so_far) a → Running (Tells (so_far ++ news)) b
+  grow so_far news None o b p c h = subst (Running (Tells (so_far ++ news))) (sym c.0) tt
+  grow so_far news (Some a) o b p (inl c) h = subst (Running (Tells (so_far ++ news))) (sym c.agenda) tt
+  grow so_far news (Some a) o b p (inr (inl c)) h = settled_tells c.done (so_far ++ news) a o b p c.settles (tells_rests so_far news a c.told h)
+  grow so_far news (Some a) o b p (inr (inr c)) h =
+      settled_tells (is_done (groups_left (all_say c.said c.now c.ws a))) (so_far ++ news) (all_say c.said c.now c.ws a) o b p c.settles (tells_on so_far news c.said c.now c.ws a c.who c.mild c.told h)
+
+  settled_last : (done : Bool) (so_far : List Deed) (before a : Agenda) (running : Option Agenda) (o : SetOutcome) (b : Option Agenda) (p : SetOutcome) → running ≡ Some before → a.kind ≡ before.kind → a.members ≡ before.members → a.volumes ≡ before.volumes
+      → (done ≡ true → is_done (groups_left a) ≡ true) → o ≡ RunningSet → is_complete p ≡ true → Settles done a o b p → Tells so_far a → IsLast G so_far running
+  settled_last false so_far before a running o b p r i m v d e f s h = absurd (true_not_false (is_complete p) f (ap is_complete (s.1 ∙ e)))
+  settled_last true so_far before a running o b p r i m v d e f s h =
+      let snapshot = completes_snapshot a.kind o p e s.1 f in
+      record { before = before; is = r; kind = sym i ∙ snapshot; last = a; last_kind = snapshot; members = m; volumes = v; done = d refl; deeds_are = (h snapshot).0; good = (h snapshot).1 }
+
+  completes : (so_far news : List Deed) (a : Option Agenda) (o : SetOutcome) (b : Option Agenda) (p : SetOutcome) → o ≡ RunningSet → is_complete p ≡ true → Grows a o b p news → Running (Tells so_far) a → IsLast G (so_far ++ news) a
+  completes so_far news None o b p e f c h = absurd (true_not_false (is_complete p) f (ap is_complete (c.1 ∙ e)))
+  completes so_far news (Some a) o b p e f (inl c) h = absurd (true_not_false (is_complete p) f (not_complete p c.failed))
+  completes so_far news (Some a) o b p e f (inr (inl c)) h =
+      settled_last c.done (so_far ++ news) a a (Some a) o b p refl refl refl refl c.is_done e f c.settles (tells_rests so_far news a c.told h)
+  completes so_far news (Some a) o b p e f (inr (inr c)) h =
+      settled_last (is_done (groups_left (all_say c.said c.now c.ws a))) (so_far ++ news) a (all_say c.said c.now c.ws a) (Some a) o b p refl refl refl refl (λ d. d) e f c.settles
+      (tells_on so_far news c.said c.now c.ws a c.who c.mild c.told h)
+
+  -- ## an agenda begins
+
+  begun_if : (done : Bool) (j : Kind) (so_far : List Deed) (c : Course) → Running (Tells so_far) c.agenda → Running (Tells so_far) (settled_if done j c).agenda
+  begun_if true j so_far c h = tt
+  begun_if false j so_far c h = h
+
+  begun_in : (a : Option Agenda) (so_far : List Deed) (c : Course) → Running (Tells so_far) c.agenda → Running (Tells so_far) (settled_in a c).agenda
+  begun_in None so_far c h = h
+  begun_in (Some a) so_far c h = begun_if (is_done (groups_left a)) a.kind so_far c h
+
+  on_begun : (j : Kind) (ms : List Member) (vs : List ℕ) (now : ℕ) (so_far : List Deed) (c : Course) → (j ≡ Snapshot → so_far ≡ []) → Running (Tells so_far) (begun j ms vs now c).agenda
+  unfolding begun posted settled
+  on_begun j ms vs now so_far c e =
+      begun_in (Some (unspoken j ms vs now)) so_far (record c { agenda = Some (unspoken j ms vs now) })
+      (λ f. (sym (e f), subst (λ x. G (unspoken x ms vs now)) (sym f) (k.begins ms vs now)))
+
+  -- ## the state
+
+  agenda-followed : (ran : Bool) (c : Course) (st : State) → (followed ran c st).course.agenda ≡ c.agenda
+  unfolding followed
+  agenda-followed ran c st = agenda-concluded (ending st.course.outcome c.outcome ran c.agenda) (record st { course = c })
+
+  abbrev Stands : List Deed → State → Type 0
+  Stands so_far st = Running (Tells so_far) st.course.agenda
+
+  on_followed : (so_far : List Deed) (ran : Bool) (c : Course) (st : State) → Running (Tells so_far) c.agenda → Stands so_far (followed ran c st)
+  on_followed so_far ran c st h = subst (Running (Tells so_far)) (sym (agenda-followed ran c st)) h
+
+  on_failed_in : (so_far : List Deed) (o : Option SetRow) (why : VssResult) (st : State) → Stands so_far st → Stands so_far (failed_in o why st)
+  unfolding course_failed
+  on_failed_in so_far None why st h = h
+  on_failed_in so_far (Some r) why st h = tt
+
+  on_room : (so_far : List Deed) (b : Bool) (x : State) → Stands so_far x → Stands so_far (with_room_if b x)
+  on_room so_far true x h = on_failed_in so_far (in_progress x) InsufficientStorage x h
+  on_room so_far false x h = h
+
+  on_put : (so_far : List Deed) (v : ℕ) (w : Write) (mark : Mark) (x : State) → Stands so_far x → Stands so_far (put v w mark x)
+  on_put so_far v w Clean x h = h
+  on_put so_far v w Fault x h = h
+  on_put so_far v w (FaultAfter n) x h = h
+
+  on_write : (so_far : List Deed) (s : Plan) (v : ℕ) (w : Write) (mark : Mark) (st : State) → Stands so_far st → Stands so_far (write s v w mark st).1
+  unfolding write
+  on_write so_far s v w mark st h = on_put so_far v w mark _ (on_room so_far (set_loses_image (in_progress st) st.volumes (cleared s v w.block st).volumes) (cleared s v w.block st) h)
+
+  on_reverts : (so_far : List Deed) (s : Plan) (v : ℕ) (x : Kept) (mark : Mark) (st : State) → Stands so_far st → Stands so_far (reverted_as s v x mark st).1
+  on_reverts so_far s v x Clean st h = h
+  on_reverts so_far s v x Fault st h = h
+  on_reverts so_far s v x (FaultAfter n) st h = h
+
+  on_closes : (so_far : List Deed) (q : Session) (st : State) → Stands so_far (closed q st)
+  unfolding closed released
+  on_closes so_far q st = tt
+
+  -- ## what an act tells
+
+  -- the way after an enabled act
+  abbrev next_way : State → List Deed → Event → Replied → List Deed
+  next_way st so_far event x = if is_snapshot_line event && is_pending x.0 then [] else so_far ++ deeds_of st event x.1.clock x.0
+
+  snapshot_begins : (lane : ℕ) (o : Op) → is_snapshot_line (Line lane o) ≡ true → begins_agenda o ≡ true
+  snapshot_begins lane op.Snapshot e = refl
+  snapshot_begins lane o e = absurd cc
+
+  write_no_snapshot : (lane : ℕ) (o : Op) (t : Target) → target_of o ≡ Some t → is_snapshot_line (Line lane o) ≡ false
+  write_no_snapshot lane (op.WriteFill v b x) t e = refl
+  write_no_snapshot lane (op.WriteStamp v b x) t e = refl
+  write_no_snapshot lane o t e = absurd cc
+
+  not_pending : (b p : Bool) → (b ≡ true → p ≡ false) → (b && p) ≡ false
+  not_pending true p f = f refl
+  not_pending false p f = refl
+
+  first_off : (b p : Bool) → b ≡ false → (b && p) ≡ false
+  first_off true p f = absurd cc
+  first_off false p f = refl
+
+  no_lost : (st : State) (lane now : ℕ) (o : Op) → line_ticks o ≡ None → deeds_lost now (lost_order st (Line lane o)) (lost st (Line lane o)) ≡ []
+  no_lost st lane now o e = ap (λ x. deeds_lost now (lost_order_if (lost_after x st) (order_now (left_now st))) (lost_after x st)) e
+
+  line_way : (so_far xs : List Deed) (b : Bool) → b ≡ false → xs ≡ [] → so_far ≡ (if b then [] else so_far ++ xs)
+  line_way so_far xs true e f = absurd cc
+  line_way so_far xs false e f = append_nothing so_far ∙ ap (λ ds. so_far ++ ds) (sym f)
+
+  quiet : (st : State) (so_far : List Deed) (lane : ℕ) (o : Op) (x : Replied) → line_ticks o ≡ None → (is_snapshot_line (Line lane o) && is_pending x.0) ≡ false → Stands so_far x.1 → Stands (next_way st so_far (Line lane o) x) x.1
+  quiet st so_far lane o x e f h =
+      subst (λ ds. Stands ds x.1) (line_way so_far (deeds_lost x.1.clock (lost_order st (Line lane o)) (lost st (Line lane o))) (is_snapshot_line (Line lane o) && is_pending x.0) f (no_lost st lane x.1.clock o e)) h
+
+  -- ## a set completes
+
+  module _ (n : ℕ) where
+    incomplete_ended : (e : Ending) (st : State) → is_complete st.course.outcome ≡ false → has_complete st.sets n ≡ false → has_complete (concluded e st).sets n ≡ false
+    incomplete_ended NothingEnds st e h = h
+    incomplete_ended AgendaEnds st e h = incomplete_settled st.course.outcome n st.sets e h
+    incomplete_ended (SetFails why) st e h = incomplete_settled st.course.outcome n st.sets e h
+
+    done_if : (b : Bool) (L : Type 0) (ran : Bool) (c : Course) (st : State) → is_complete c.outcome ≡ b → has_complete st.sets n ≡ false → (is_complete c.outcome ≡ true → L) → (has_complete (followed ran c st).sets n ≡ false) ⊎ L
+    unfolding followed
+    done_if true L ran c st e h last = inr (last e)
+    done_if false L ran c st e h last = inl (incomplete_ended (ending st.course.outcome c.outcome ran c.agenda) (record st { course = c }) e h)
+
+    done_followed : (L : Type 0) (ran : Bool) (c : Course) (st : State) → has_complete st.sets n ≡ false → (is_complete c.outcome ≡ true → L) → (has_complete (followed ran c st).sets n ≡ false) ⊎ L
+    done_followed L ran c st h last = done_if (is_complete c.outcome) L ran c st refl h last
+
+    incomplete_failed : (o : Option SetRow) (why : VssResult) (x : State) → has_complete x.sets n ≡ false → has_complete (failed_in o why x).sets n ≡ false
+    unfolding course_failed
+    incomplete_failed None why x h = h
+    incomplete_failed (Some r) why x h = incomplete_settled (FailedSet why) n x.sets refl h
+
+    incomplete_room : (b : Bool) (x : State) → has_complete x.sets n ≡ false → has_complete (with_room_if b x).sets n ≡ false
+    incomplete_room true x h = incomplete_failed (in_progress x) InsufficientStorage x h
+    incomplete_room false x h = h
+
+    incomplete_put : (v : ℕ) (w : Write) (mark : Mark) (x : State) → has_complete x.sets n ≡ false → has_complete (put v w mark x).sets n ≡ false
+    incomplete_put v w Clean x h = h
+    incomplete_put v w Fault x h = h
+    incomplete_put v w (FaultAfter k) x h = h
+
+    incomplete_write : (s : Plan) (v : ℕ) (w : Write) (mark : Mark) (st : State) → has_complete st.sets n ≡ false → has_complete (write s v w mark st).1.sets n ≡ false
+    unfolding write
+    incomplete_write s v w mark st h = incomplete_put v w mark _ (incomplete_room (set_loses_image (in_progress st) st.volumes (cleared s v w.block st).volumes) (cleared s v w.block st) h)
+
+    incomplete_revert : (s : Plan) (v : ℕ) (x : Kept) (mark : Mark) (st : State) → has_complete st.sets n ≡ false → has_complete (reverted_as s v x mark st).1.sets n ≡ false
+    incomplete_revert s v x Clean st h = h
+    incomplete_revert s v x Fault st h = h
+    incomplete_revert s v x (FaultAfter m) st h = h
+
+    incomplete_closed : (q : Session) (x : State) → has_complete x.sets n ≡ false → has_complete (closed q x).sets n ≡ false
+    unfolding closed
+    incomplete_closed q x h = h
+
+    incomplete_cut : (o : Option SetRow) (st : State) → has_complete st.sets n ≡ false → has_complete (cut_set o st).sets n ≡ false
+    incomplete_cut None st h = h
+    incomplete_cut (Some r) st h =
+        incomplete_map (row_cut r.number st.clock) (λ x. changed_number (x.number == r.number) (with_cut st.clock) x refl) (λ x. changed_result (x.number == r.number) (with_cut st.clock) x refl) n st.sets h
+
+    incomplete_made : (g : Option Group) (st : State) → has_complete st.sets n ≡ false → has_complete (step_made g st).sets n ≡ false
+    incomplete_made None st h = h
+    incomplete_made (Some (Orders o)) st h = h
+    incomplete_made (Some PreCommit) st h = h
+    incomplete_made (Some Flush) st h = h
+    incomplete_made (Some Hold) st h = h
+    incomplete_made (Some Cut) st h = incomplete_cut (in_progress st) st h
+    incomplete_made (Some Commit) st h = h
+    incomplete_made (Some Release) st h = h
+    incomplete_made (Some PostCommit) st h = h
+
+  -- an agenda that begins does not complete a set: there is a PreCommit step to make
+  past_group : (p : Place) (ws : List ℕ) (later : List Open) → is_done (with_group p ws later) ≡ true → is_done later ≡ true
+  past_group p [] later e = e
+  past_group p (w ∷ ws) later e = absurd cc
+
+  never_done : (a : Agenda) → waited_for a (plain PreCommit) ≡ 0 ∷ [] → is_done (left_from a (places Snapshot)) ≡ true → ⊥
+  never_done a e d =
+      open_step (waited_for a (plain PreCommit)) _ e
+      (past_group (at_level Freeze System) (waited_for a (at_level Freeze System)) _
+      (past_group (at_level Freeze BackEnd) (waited_for a (at_level Freeze BackEnd)) _
+      (past_group (at_level Freeze FrontEnd) (waited_for a (at_level Freeze FrontEnd)) _
+      (past_group (plain (Orders PrepareSnapshot)) (waited_for a (plain (Orders PrepareSnapshot))) _ d))))
+    where
+      open_step : (ws : List ℕ) (later : List Open) → ws ≡ 0 ∷ [] → is_done (with_group (plain PreCommit) ws later) ≡ true → ⊥
+      open_step [] later e d = cc
+      open_step (w ∷ ws) later e d = cc
+
+  begun_incomplete_if : (done : Bool) (j : Kind) (ms : List Member) (vs : List ℕ) (now : ℕ) (c : Course) → is_done (groups_left (unspoken j ms vs now)) ≡ done → c.outcome ≡ RunningSet
+      → is_complete (settled_if done j (record c { agenda = Some (unspoken j ms vs now) })).outcome ≡ true → ⊥
+  begun_incomplete_if false j ms vs now c d e f = true_not_false (is_complete c.outcome) f (ap is_complete e)
+  begun_incomplete_if true j ms vs now c d e f =
+      let snapshot = completes_snapshot j c.outcome (outcome_after j c.outcome) e refl f in
+      never_done (unspoken j ms vs now) refl (subst (λ x. is_done (left_from (unspoken j ms vs now) (places x)) ≡ true) snapshot d)
+
+  begun_incomplete : (j : Kind) (ms : List Member) (vs : List ℕ) (now : ℕ) (c : Course) → c.outcome ≡ RunningSet → is_complete (begun j ms vs now c).outcome ≡ true → ⊥
+  unfolding begun posted settled
+  begun_incomplete j ms vs now c e f = begun_incomplete_if (is_done (groups_left (unspoken j ms vs now))) j ms vs now c refl e f
+
+  -- ## every act
+
+  module _ (s : Plan) (st : State) (so_far : List Deed) (h : Stands so_far st) (n : ℕ) where
+    abbrev Completes : List Deed → State → Type 0
+    Completes ds x = st.course.outcome ≡ RunningSet → has_complete st.sets n ≡ false → (has_complete x.sets n ≡ false) ⊎ IsLast G ds st.course.agenda
+
+    abbrev Next : Event → Mark → Replied → Type 0
+    Next event mark x = Stands (next_way st so_far event x) x.1 × Completes (next_way st so_far event x) x.1
+
+    either : (event : Event) (mark : Mark) (b : Bool) (x y : Replied) → Next event mark x → Next event mark y → Next event mark (if b then x else y)
+    either event mark true x y e f = e
+    either event mark false x y e f = f
+
+    -- a line that tells nothing
+    tells_none : (lane : ℕ) (o : Op) (mark : Mark) (told : Reply) (x : State) → line_ticks o ≡ None → (is_snapshot_line (Line lane o) && is_pending told) ≡ false → Stands so_far x
+        → (has_complete st.sets n ≡ false → has_complete x.sets n ≡ false) → Next (Line lane o) mark (told, x)
+    tells_none lane o mark told x e f t inc = (quiet st so_far lane o (told, x) e f t, λ run i. inl (inc i))
+
+    -- an agenda of another kind begins
+    begins_other : (lane : ℕ) (o : Op) (mark : Mark) (c : Course) → is_snapshot_line (Line lane o) ≡ false → line_ticks o ≡ None → Running (Tells so_far) c.agenda → (st.course.outcome ≡ RunningSet → is_complete c.outcome ≡ true → ⊥)
+        → Next (Line lane o) mark (Coded AsyncPending, followed true c st)
+    begins_other lane o mark c e f t d = (
+      quiet st so_far lane o (Coded AsyncPending, followed true c st) f (first_off (is_snapshot_line (Line lane o)) (is_pending (Coded AsyncPending)) e) (on_followed so_far true c st t),
+      λ run inc. done_followed n _ true c st inc (λ x. absurd (d run x)),
+    )
+
+    begins_own : (lane : ℕ) (mark : Mark) (c : Course) → Running (Tells []) c.agenda → (st.course.outcome ≡ RunningSet → is_complete c.outcome ≡ true → ⊥) → Next (Line lane op.Snapshot) mark (Coded AsyncPending, followed true c st)
+    begins_own lane mark c t d = (on_followed [] true c st t, λ run inc. done_followed n _ true c st inc (λ x. absurd (d run x)))
+
+    line_stays : (lane : ℕ) (o : Op) (mark : Mark) (told : Reply) → line_ticks o ≡ None → (begins_agenda o ≡ true → is_pending told ≡ false) → Next (Line lane o) mark (told, st)
+    line_stays lane o mark told e f =
+        (quiet st so_far lane o (told, st) e (not_pending (is_snapshot_line (Line lane o)) (is_pending told) (λ b. f (snapshot_begins lane o b))) h, λ run inc. inl inc)
+
+    -- time
+    on_ticks : (k : ℕ) → Stands (so_far ++ lost_told (st.clock + k) (spent_of (st.clock + k) (limits_now st.course)) (left st.course.agenda)) (ticked k st)
+    unfolding ticked
+    on_ticks k = on_followed _ (runs st) _ (later k st) (grow so_far _ st.course.agenda st.course.outcome _ _ (grows_timed (st.clock + k) st.course) h)
+
+    done_ticks : (k : ℕ) → Completes (so_far ++ lost_told (st.clock + k) (spent_of (st.clock + k) (limits_now st.course)) (left st.course.agenda)) (ticked k st)
+    unfolding ticked
+    done_ticks k run inc = done_followed n _ (runs st) _ (later k st) inc (λ d. completes so_far _ st.course.agenda st.course.outcome _ _ run d (grows_timed (st.clock + k) st.course) h)
+
+    ticks_line : (lane k : ℕ) (mark : Mark) → Next (Line lane (op.Tick k)) mark (Fine, ticked k st)
+    ticks_line lane k mark = (subst (λ ds. Stands ds (ticked k st)) (lost_way k) (on_ticks k), subst (λ ds. Completes ds (ticked k st)) (lost_way k) (done_ticks k))
+      where
+        lost_way : (k : ℕ) → so_far ++ lost_told (st.clock + k) (spent_of (st.clock + k) (limits_now st.course)) (left st.course.agenda) ≡ next_way st so_far (Line lane (op.Tick k)) (Fine, ticked k st)
+        lost_way k = ap (λ now. so_far ++ deeds_lost now (lost_order_if (lost_writers (st.clock + k) st.course) (order_now (left st.course.agenda))) (lost_writers (st.clock + k) st.course)) (sym (clock-ticked k st))
+
+    idles : (mark : Mark) (told : Reply) → Next Idle mark (told, ticked (idle_now st) st)
+    idles mark told = (subst (λ ds. Stands ds (ticked (idle_now st) st)) lost_way (on_ticks (idle_now st)), subst (λ ds. Completes ds (ticked (idle_now st) st)) lost_way (done_ticks (idle_now st)))
+      where
+        lost_way : so_far ++ lost_told (st.clock + idle_now st) (spent_of (st.clock + idle_now st) (limits_now st.course)) (left st.course.agenda) ≡ next_way st so_far Idle (told, ticked (idle_now st) st)
+        lost_way = ap (λ now. so_far ++ deeds_lost now (lost_order_if (lost_writers (st.clock + idle_now st) st.course) (order_now (left st.course.agenda))) (lost_writers (st.clock + idle_now st) st.course)) (sym (clock-ticked (idle_now st) st))
+
+    -- answers
+    on_answers : (w : ℕ) (said : Said) (order : Order) → open_order (left st.course.agenda) w ≡ Some order → Stands (so_far ++ Spoke order w said st.clock ∷ []) (answered w said st)
+    unfolding answered
+    on_answers w said order e = on_followed _ (runs st) _ st (grow so_far _ st.course.agenda st.course.outcome _ _ (grows_answered w order said st.clock st.course e) h)
+
+    done_answers : (w : ℕ) (said : Said) (order : Order) → open_order (left st.course.agenda) w ≡ Some order → Completes (so_far ++ Spoke order w said st.clock ∷ []) (answered w said st)
+    unfolding answered
+    done_answers w said order e run inc = done_followed n _ (runs st) _ st inc (λ d. completes so_far _ st.course.agenda st.course.outcome _ _ run d (grows_answered w order said st.clock st.course e) h)
+
+    answers_at : (o : Option Order) (w : ℕ) (answer : Answer) (mark : Mark) → order_of_writer st w ≡ o → is_some o ≡ true → Next (AnswerEvent w answer) mark (answer_reply o answer, answered w (said_of answer) st)
+    answers_at None w answer mark e f = absurd cc
+    answers_at (Some order) w answer mark e f =
+        let now = ap (λ t. so_far ++ Spoke order w (said_of answer) t ∷ []) (sym (clock-answered w (said_of answer) st)) in
+        (subst (λ ds. Stands ds (answered w (said_of answer) st)) now (on_answers w (said_of answer) order e), subst (λ ds. Completes ds (answered w (said_of answer) st)) now (done_answers w (said_of answer) order e))
+
+    -- steps
+    step_fails : (now : ℕ) (c : Course) → ((course_stepped false now c).agenda ≡ None) × (is_complete (course_stepped false now c).outcome ≡ false)
+    unfolding posted course_failed
+    step_fails now c = (refl, refl)
+
+    step_as : (f : Bool) (g : Group) (mark : Mark) → open_group (left_now st) ≡ Some g → is_working (left_now st) ≡ true → Next Provider mark (Stepped g (next_volume (left_now st)) f, stepped_as f (Some g) st)
+    step_as true g mark e w =
+        let c = course_stepped false st.clock st.course in (
+          on_followed _ (runs st) c st (subst (Running (Tells (so_far ++ []))) (sym (step_fails st.clock st.course).0) tt),
+          λ run inc. done_followed n _ (runs st) c st inc (λ d. absurd (true_not_false (is_complete c.outcome) d (step_fails st.clock st.course).1)),
+        )
+    step_as false g mark e w =
+        let c = course_stepped true st.clock st.course in
+        let x = stepped_as false (Some g) st in
+        let made : so_far ++ made_now (left_now st) st.clock (open_group (left_now st)) ≡ so_far ++ Made g (next_volume (left_now st)) x.clock ∷ [] =
+        ap (λ o. so_far ++ made_now (left_now st) st.clock o) e ∙ ap (λ t. so_far ++ Made g (next_volume (left_now st)) t ∷ []) (sym (clock-stepped_as false (Some g) st)) in (
+          subst (λ ds. Stands ds x) made (on_followed _ (runs st) c (step_made (Some g) st) (grow so_far _ st.course.agenda st.course.outcome _ _ (grows_stepped true st.clock st.course w) h)),
+          λ run inc. done_followed n _ (runs st) c (step_made (Some g) st) (incomplete_made n (Some g) st inc)
+              (λ d. subst (λ ds. IsLast G ds st.course.agenda) made (completes so_far _ st.course.agenda st.course.outcome _ _ run d (grows_stepped true st.clock st.course w) h)),
+        )
+
+    works_not : (os : List Open) → open_group os ≡ None → is_working os ≡ true → ⊥
+    works_not [] e f = absurd cc
+    works_not (x ∷ os) e f = absurd cc
+
+    step_at : (o : Option Group) (mark : Mark) → open_group (left_now st) ≡ o → is_working (left_now st) ≡ true → Next Provider mark (step_reply o (next_volume (left_now st)) mark, stepped_as (is_failed_step (is_flush o) mark) o st)
+    step_at None mark e w = absurd (works_not (left_now st) e w)
+    step_at (Some g) mark e w = step_as (is_failed_step (is_flush (Some g)) mark) g mark e w
+
+    steps : (mark : Mark) → is_working (left_now st) ≡ true → Next Provider mark (step_reply (open_group (left_now st)) (next_volume (left_now st)) mark, stepped mark st)
+    unfolding stepped
+    steps mark w = step_at (open_group (left_now st)) mark refl w
+
+    all_next : Covers Next s st
+    all_next = record {
+      stays = λ lane o mark told e f. line_stays lane o mark told e f;
+      writes = λ lane o v w mark e f. tells_none lane o mark (write s v w mark st).0 (write s v w mark st).1 (write_ticks o _ e) (first_off (is_snapshot_line (Line lane o)) (is_pending (write s v w mark st).0) (write_no_snapshot lane o _ e)) (on_write so_far s v w mark st h) (incomplete_write n s v w mark st);
+      reverts = λ lane m v x mark e f. tells_none lane (op.Revert m v) mark (reverted_as s v x mark st).0 (reverted_as s v x mark st).1 refl refl (on_reverts so_far s v x mark st h) (incomplete_revert n s v x mark st);
+      deletes_set = λ lane m c mark e. tells_none lane (op.DeleteSet m) mark (Deleted c) (record st { volumes = map (dropped m) st.volumes }) refl refl h (λ i. i);
+      deletes_image = λ lane m v x mark e. tells_none lane (op.DeleteImage m v) mark (Deleted 1) (record st { volumes = change_at v (dropped x.row.number) st.volumes }) refl refl h (λ i. i);
+      ticks = λ lane k mark. ticks_line lane k mark;
+      begins = λ lane m all c mark e. tells_none lane (op.Begin m all) mark Fine (record st { session = Some (opened lane c all); explicit = [] }) refl refl h (λ i. i);
+      disables = λ lane w q mark g. tells_none lane (op.Disable w) mark Fine (disable w st).1 refl refl h (λ i. i);
+      gathers = λ lane q mark g. begins_other lane op.Gather mark (gathered (is_disabled s st) st.clock st.course) refl refl (on_begun Gather _ [] st.clock so_far _ (λ x. absurd cc)) (λ run. begun_incomplete Gather _ [] st.clock _ run);
+      names = λ lane w full q explicit mark g. tells_none lane (op.Component w full) mark Fine (record st { explicit = explicit }) refl refl h (λ i. i);
+      starts = λ lane q mark g e. tells_none lane op.Start mark (start_set q st).0 (start_set q st).1 refl refl h (incomplete_append st.sets (new_set (new_number st) q.context) n refl);
+      adds = λ lane v r q mark g e f. tells_none lane (op.Add v) mark Fine (change_set r.number (with_volume v) st) refl refl h (incomplete_map (row_changed r.number (with_volume v)) (λ y. changed_number (y.number == r.number) (with_volume v) y refl) (λ y. changed_result (y.number == r.number) (with_volume v) y refl) n st.sets);
+      prepares = λ lane q mark g. either (Line lane op.Prepare) mark (has_no_volume (in_progress st)) (refused BadState st) _ (line_stays lane op.Prepare mark (Coded BadState) refl (λ b. refl))
+          (begins_other lane op.Prepare mark (prepared (takers (length s.writers) (selected s q st)) st.clock st.course) refl refl (on_begun Prepare _ [] st.clock so_far _ (λ x. absurd cc)) (λ run. begun_incomplete Prepare _ [] st.clock _ run));
+      snapshots = λ lane q mark g. either (Line lane op.Snapshot) mark (has_no_volume (in_progress st)) (refused BadState st) _ (line_stays lane op.Snapshot mark (Coded BadState) refl (λ b. refl))
+          (begins_own lane mark (snapshot_begun (volumes_of (in_progress st)) st.clock st.course) (on_begun Snapshot st.course.members _ st.clock [] st.course (λ x. refl)) (λ run. begun_incomplete Snapshot st.course.members _ st.clock st.course run));
+      completes = λ lane q mark g. begins_other lane op.Complete mark (completing st.clock st.course) refl refl (on_begun Complete _ [] st.clock so_far _ (λ x. absurd cc)) (λ run. begun_incomplete Complete _ [] st.clock _ run);
+      aborts = λ lane q mark e. tells_none lane op.Abort mark Fine (failed AsyncCancelled st) refl refl (on_failed_in so_far (in_progress st) AsyncCancelled st h) (incomplete_failed n (in_progress st) AsyncCancelled st);
+      ends = λ lane q mark e. tells_none lane op.End mark Fine (closed q (failed AsyncCancelled st)) refl refl (on_closes so_far q (failed AsyncCancelled st)) (λ i. incomplete_closed n q (failed AsyncCancelled st) (incomplete_failed n (in_progress st) AsyncCancelled st i));
+      answers = λ w answer mark e. answers_at (order_of_writer st w) w answer mark refl e;
+      steps = λ mark e. steps mark e;
+      idles = λ mark e. idles mark (Idled (idle_now st));
+    }
+
+    abbrev way_if : Bool → Act → List Deed
+    way_if b act = if b && is_snapshot_line act.event && is_pending (reply s st act) then [] else so_far ++ deeds_if b s st act
+
+    next_is : (act : Act) → enabled s st act.event ≡ true → way_after s st so_far act ≡ next_way st so_far act.event (happens s act.event act.mark st)
+    next_is act e =
+        ap (λ b. way_if b act) e
+        ∙ ap (λ (x : State). if is_snapshot_line act.event && is_pending (reply s st act) then [] else so_far ++ deeds_of st act.event x.clock (reply s st act)) (after_enabled s st act e)
+
+    next_not : (act : Act) → enabled s st act.event ≡ false → way_after s st so_far act ≡ so_far
+    next_not act e = ap (λ b. way_if b act) e ∙ sym (append_nothing so_far)
+
+    abbrev pub After : List Deed → State → Type 0
+    After ds x = Stands ds x × Completes ds x
+
+    after_by : (b : Bool) (act : Act) → enabled s st act.event ≡ b → After (way_after s st so_far act) (after s st act)
+    after_by true act e =
+        let A : List Deed → State → Type 0 = λ ds x. After ds x in
+        subst (λ ds. A ds (after s st act)) (sym (next_is act e)) (subst (λ (x : State). A (next_way st so_far act.event (happens s act.event act.mark st)) x) (sym (after_enabled s st act e)) (covered Next s st all_next act.event act.mark e))
+    after_by false act e =
+        let A : List Deed → State → Type 0 = λ ds x. After ds x in
+        subst (λ ds. A ds (after s st act)) (sym (next_not act e)) (subst (λ (x : State). A so_far x) (sym (after_not_enabled s st act e)) (h, λ run inc. inl inc))
+
+    pub after_act : (act : Act) → After (way_after s st so_far act) (after s st act)
+    after_act act = after_by (enabled s st act.event) act refl
+
+  -- ## every list of acts
+
+  along_from : (s : Plan) (st : State) (so_far : List Deed) (acts : List Act) → Stands so_far st → Stands (way_from s st so_far acts) (fold (after s) st acts)
+  along_from s st so_far [] h = h
+  along_from s st so_far (act ∷ acts) h = along_from s (after s st act) (way_after s st so_far act) acts (after_act s st so_far h 0 act).0
+
+  pub along : (s : Plan) (acts : List Act) → Running (Tells (way s acts)) (state s acts).course.agenda
+  along s acts = along_from s (start s) [] acts tt
+
+  way_from-append : (s : Plan) (st : State) (so_far : List Deed) (acts : List Act) (act : Act) → way_from s st so_far (acts ++ act ∷ []) ≡ way_after s (fold (after s) st acts) (way_from s st so_far acts) act
+  way_from-append s st so_far [] act = refl
+  way_from-append s st so_far (x ∷ acts) act = way_from-append s (after s st x) (way_after s st so_far x) acts act
+
+  pub way-append : (s : Plan) (acts : List Act) (act : Act) → way s (acts ++ act ∷ []) ≡ way_after s (state s acts) (way s acts) act
+  way-append s acts act = way_from-append s (start s) [] acts act
+
+  pub last_stand : (s : Plan) (so_far : List Act) (act : Act) (r q : SetRow) → in_progress (state s so_far) ≡ Some r → row_of (after s (state s so_far) act) r.number ≡ Some q → is_complete q.result ≡ true
+      → IsLast G (way s (so_far ++ act ∷ [])) (state s so_far).course.agenda
+  last_stand s so_far act r q e f g =
+      let st = state s so_far in
+      subst (λ ds. IsLast G ds st.course.agenda) (sym (way-append s so_far act))
+      (by_cases ((after_act s st (way s so_far) (along s so_far) r.number act).1 (outcome_is_running s so_far r e) (running_incomplete st.sets r (orderly s so_far).numbered e)))
+    where
+      by_cases : (has_complete (after s (state s so_far) act).sets r.number ≡ false) ⊎ IsLast G (way_after s (state s so_far) (way s so_far) act) (state s so_far).course.agenda → IsLast G (way_after s (state s so_far) (way s so_far) act) (state s so_far).course.agenda
+      by_cases (inl i) = absurd (true_not_false (has_complete (after s (state s so_far) act).sets r.number) (complete_found 1 r.number (after s (state s so_far) act).sets q f g) i)
+      by_cases (inr i) = i

@@ -1,0 +1,154 @@
+-- Who may call, and what waits.
+use Rattle.std.proofs.Common.{◌≡◌, ◌∙◌, ℕ, ◌==◌, List, Option, Some, None, refl, Bool, true, false, ap}
+use Rattle.std.specs.Prelude.{◌&&◌, not, is_some}
+use Rattle.vss_names.specs.declared.vss_result.VssResult.TheVariants.{BadState}
+use Rattle.set_agenda.specs.Agenda.{Agenda}
+use Rattle.requestor.specs.declared.session_call.SessionCall.{SessionCall}
+use Rattle.requestor.specs.declared.session_call.SessionCall.TheVariants as call
+use Rattle.requestor.specs.declared.verdict.Verdict.{Verdict}
+use Rattle.requestor.specs.declared.verdict.Verdict.TheVariants.{Refused}
+use Rattle.requestor.specs.Session.{Session, has_writers, makes_set}
+use Rattle.requestor.specs.Check.{check, check_other, check_owner, owner_only, verdict_of, goes_beside_agenda, is_start, allows, is_await as awaits}
+use Rattle.scenario.specs.declared.op.Op.{Op}
+use Rattle.scenario.specs.declared.op.Op.TheVariants.{WriteFill, WriteStamp, Read, ImageDigest, ImageBlock, Query, Properties, Revert, DeleteSet, DeleteImage, Tick, Begin, Disable, Gather, Component, Document, Start, Add, Prepare, Snapshot, Await, Status, Complete, Abort, End}
+use Rattle.scenario.specs.Calls.{Target, target_of}
+use Rattle.scenario.specs.Plan.{Plan, acts_as}
+use Rattle.vss_model.specs.declared.event.Event.TheVariants.{Line}
+use Rattle.vss_model.specs.Reply.{Coded}
+use Rattle.vss_model.specs.State.{State, is_held, is_frozen}
+use Rattle.vss_model.specs.Ending.{runs}
+use Rattle.vss_model.specs.Sessions.{judged}
+use Rattle.vss_model.specs.Lines.{called, line}
+use Rattle.vss_model.specs.Acts.{Act, is_blocked, is_free, enabled, happens, after, state}
+use Rattle.vss_model.specs.Facts.{IsAgendaOf}
+use Rattle.vss_model.specs.Causes.{owns}
+use Rattle.vss_model.proofs.OrderlyActs.{orderly}
+use Rattle.promises.specs.Calls.{is_owners, CallsAreOwned, may_wait, WaitsAreFew, StandsQuiet, FrozenDoNotWrite}
+use Rattle.promises.proofs.ByEvent.{after_enabled, after_not_enabled}
+
+-- ## a call of another lane
+
+other_refused : (q : Option Session) (running : Bool) (lane : ℕ) (c : SessionCall) → owns q lane ≡ false → check_other q running lane c ≡ Refused BadState
+other_refused None running lane c e = refl
+other_refused (Some q) running lane c e = by_owner (q.owner == lane) e
+  where
+    by_owner : (b : Bool) → b ≡ false → owner_only b (check_owner q running c) ≡ Refused BadState
+    by_owner true f = absurd cc
+    by_owner false f = refl
+
+called_refused : (c : SessionCall) (s : Plan) (lane : ℕ) (op : Op) (st : State) → check st.session (runs st) lane c ≡ Refused BadState → called c s lane op st ≡ (Coded BadState, st)
+unfolding called
+called_refused c s lane op st e = ap (λ v. judged v s lane op st) e
+
+line_refused : (s : Plan) (lane : ℕ) (op : Op) (act : Act) (st : State) → is_owners op ≡ true → owns st.session lane ≡ false → line s lane op act.mark st ≡ (Coded BadState, st)
+line_refused s lane (Disable w) act st e f = called_refused call.Disable s lane (Disable w) st (other_refused st.session (runs st) lane call.Disable f)
+line_refused s lane Gather act st e f = called_refused call.Gather s lane Gather st (other_refused st.session (runs st) lane call.Gather f)
+line_refused s lane (Component w full) act st e f = called_refused call.Component s lane (Component w full) st (other_refused st.session (runs st) lane call.Component f)
+line_refused s lane Document act st e f = called_refused call.Document s lane Document st (other_refused st.session (runs st) lane call.Document f)
+line_refused s lane Start act st e f = called_refused call.Start s lane Start st (other_refused st.session (runs st) lane call.Start f)
+line_refused s lane (Add v) act st e f = called_refused call.Add s lane (Add v) st (other_refused st.session (runs st) lane call.Add f)
+line_refused s lane Prepare act st e f = called_refused call.Prepare s lane Prepare st (other_refused st.session (runs st) lane call.Prepare f)
+line_refused s lane Snapshot act st e f = called_refused call.Snapshot s lane Snapshot st (other_refused st.session (runs st) lane call.Snapshot f)
+line_refused s lane Await act st e f = called_refused call.Await s lane Await st (other_refused st.session (runs st) lane call.Await f)
+line_refused s lane Status act st e f = called_refused call.Status s lane Status st (other_refused st.session (runs st) lane call.Status f)
+line_refused s lane Complete act st e f = called_refused call.Complete s lane Complete st (other_refused st.session (runs st) lane call.Complete f)
+line_refused s lane Abort act st e f = called_refused call.Abort s lane Abort st (other_refused st.session (runs st) lane call.Abort f)
+line_refused s lane End act st e f = called_refused call.End s lane End st (other_refused st.session (runs st) lane call.End f)
+line_refused s lane op act st e f = absurd cc
+
+happens_refused : (s : Plan) (st : State) (act : Act) (lane : ℕ) (op : Op) → act.event ≡ Line lane op → is_owners op ≡ true → owns st.session lane ≡ false → happens s act.event act.mark st ≡ (Coded BadState, st)
+happens_refused s st act lane op e f g = ap (λ x. happens s x act.mark st) e ∙ line_refused s lane op act st f g
+
+after_refused : (b : Bool) (s : Plan) (st : State) (act : Act) → enabled s st act.event ≡ b → happens s act.event act.mark st ≡ (Coded BadState, st) → after s st act ≡ st
+after_refused true s st act e f = after_enabled s st act e ∙ ap (λ x. x.1) f
+after_refused false s st act e f = after_not_enabled s st act e
+
+pub calls_are_owned : (s : Plan) (so_far : List Act) (act : Act) → CallsAreOwned s so_far act
+calls_are_owned s so_far act lane op e f g =
+    let st = state s so_far in
+    let refused = happens_refused s st act lane op e f g in
+    (ap (λ x. x.0) refused, after_refused (enabled s st act.event) s st act refl refused)
+
+-- ## what waits
+
+goes : (b : Bool) → not b ≡ false → b ≡ true
+goes true e = refl
+goes false e = absurd cc
+
+verdict_waits : (a b c d : Bool) → is_blocked (verdict_of a b c d) ≡ true → d ≡ true
+verdict_waits true b c d e = absurd cc
+verdict_waits false true c d e = absurd cc
+verdict_waits false false false d e = absurd cc
+verdict_waits false false true true e = refl
+verdict_waits false false true false e = absurd cc
+
+owner_waits : (b : Bool) (v : Verdict) → is_blocked (owner_only b v) ≡ true → is_blocked v ≡ true
+owner_waits true v e = e
+owner_waits false v e = absurd cc
+
+first_part : (a b : Bool) → (a && b) ≡ true → a ≡ true
+first_part true b e = refl
+first_part false b e = absurd cc
+
+other_waits : (q : Option Session) (running : Bool) (lane : ℕ) (c : SessionCall) → is_blocked (check_other q running lane c) ≡ true → awaits c ≡ true
+other_waits None running lane c e = absurd cc
+other_waits (Some q) running lane c e =
+    first_part (awaits c) running
+    (verdict_waits (is_start c && makes_set q.stage) (running && not (goes_beside_agenda c)) (allows q.stage (has_writers q.context) c) (awaits c && running) (owner_waits (q.owner == lane) (check_owner q running c) e))
+
+waits_for : (s : Plan) (st : State) (lane : ℕ) (op : Op) → enabled s st (Line lane op) ≡ false → may_wait op ≡ true
+waits_for s st lane (WriteFill v b x) e = refl
+waits_for s st lane (WriteStamp v b n) e = refl
+waits_for s st lane (Read v b) e = absurd cc
+waits_for s st lane (ImageDigest n v) e = absurd cc
+waits_for s st lane (ImageBlock n v b) e = absurd cc
+waits_for s st lane (Query v) e = absurd cc
+waits_for s st lane (Properties n v) e = absurd cc
+waits_for s st lane (Revert n v) e = absurd cc
+waits_for s st lane (DeleteSet n) e = absurd cc
+waits_for s st lane (DeleteImage n v) e = absurd cc
+waits_for s st lane (Tick n) e = absurd cc
+waits_for s st lane (Begin c all) e = refl
+waits_for s st lane (Disable w) e = other_waits st.session (runs st) lane call.Disable (goes _ e)
+waits_for s st lane Gather e = other_waits st.session (runs st) lane call.Gather (goes _ e)
+waits_for s st lane (Component w full) e = other_waits st.session (runs st) lane call.Component (goes _ e)
+waits_for s st lane Document e = other_waits st.session (runs st) lane call.Document (goes _ e)
+waits_for s st lane Start e = other_waits st.session (runs st) lane call.Start (goes _ e)
+waits_for s st lane (Add v) e = other_waits st.session (runs st) lane call.Add (goes _ e)
+waits_for s st lane Prepare e = other_waits st.session (runs st) lane call.Prepare (goes _ e)
+waits_for s st lane Snapshot e = other_waits st.session (runs st) lane call.Snapshot (goes _ e)
+waits_for s st lane Await e = refl
+waits_for s st lane Status e = other_waits st.session (runs st) lane call.Status (goes _ e)
+waits_for s st lane Complete e = other_waits st.session (runs st) lane call.Complete (goes _ e)
+waits_for s st lane Abort e = other_waits st.session (runs st) lane call.Abort (goes _ e)
+waits_for s st lane End e = other_waits st.session (runs st) lane call.End (goes _ e)
+
+pub waits_are_few : (s : Plan) (so_far : List Act) → WaitsAreFew s so_far
+waits_are_few s so_far lane op e = waits_for s (state s so_far) lane op e
+
+-- ## without a session
+
+quiet_if : (a : Option Agenda) (q : Option Session) → q ≡ None → IsAgendaOf a q → is_some a ≡ false
+quiet_if None q e h = refl
+quiet_if (Some a) None e h = absurd h
+quiet_if (Some a) (Some q) e h = absurd cc
+
+pub stands_quiet : (s : Plan) (so_far : List Act) → StandsQuiet s so_far
+stands_quiet s so_far e = quiet_if (state s so_far).course.agenda (state s so_far).session e (orderly s so_far).agenda
+
+-- ## a frozen writer
+
+not_free : (s : Plan) (st : State) (lane w : ℕ) (held : Bool) → acts_as s lane ≡ Some w → is_frozen st w ≡ true → (not held && is_free st (acts_as s lane)) ≡ false
+not_free s st lane w held e f = ap (λ o. not held && is_free st o) e ∙ ap (λ b. not held && not b) f ∙ none held
+  where
+    none : (b : Bool) → (not b && false) ≡ false
+    none true = refl
+    none false = refl
+
+frozen_waits : (s : Plan) (st : State) (lane w : ℕ) (op : Op) (t : Target) → acts_as s lane ≡ Some w → is_frozen st w ≡ true → target_of op ≡ Some t → enabled s st (Line lane op) ≡ false
+frozen_waits s st lane w (WriteFill v b x) t e f g = not_free s st lane w (is_held st v) e f
+frozen_waits s st lane w (WriteStamp v b x) t e f g = not_free s st lane w (is_held st v) e f
+frozen_waits s st lane w op t e f g = absurd cc
+
+pub frozen_do_not_write : (s : Plan) (so_far : List Act) → FrozenDoNotWrite s so_far
+frozen_do_not_write s so_far lane w op t e f g = frozen_waits s (state s so_far) lane w op t e f g

@@ -1,0 +1,149 @@
+-- What moves the clock.
+use Rattle.std.proofs.Common.{◌≡◌, ◌∙◌, ℕ, ◌+◌, List, Option, Some, None, refl, Bool, true, false, sym, ap, arith}
+use Rattle.std.specs.Prelude.{if◌then◌else◌, unwrap_or}
+use Rattle.vss_names.specs.declared.vss_result.VssResult.{VssResult}
+use Rattle.vss_names.specs.declared.vss_result.VssResult.TheVariants.{InsufficientStorage, AsyncCancelled}
+use Rattle.writer_state.specs.declared.said.Said.{Said}
+use Rattle.write_history.specs.declared.mark.Mark.{Mark}
+use Rattle.write_history.specs.declared.mark.Mark.TheVariants.{Clean, Fault, FaultAfter}
+use Rattle.write_history.specs.History.{Write}
+use Rattle.writer_calls.specs.Script.{said_of}
+use Rattle.set_agenda.specs.declared.group.Group.{Group}
+use Rattle.set_agenda.specs.declared.group.Group.TheVariants.{Orders, PreCommit, Flush, Hold, Cut, Commit, Release, PostCommit}
+use Rattle.set_agenda.specs.Agenda.{open_group}
+use Rattle.set_agenda.specs.Course.{Course}
+use Rattle.requestor.specs.Session.{Session}
+use Rattle.scenario.specs.declared.op.Op.{Op}
+use Rattle.scenario.specs.declared.op.Op.TheVariants.{WriteFill, WriteStamp}
+use Rattle.scenario.specs.Calls.{Target, target_of}
+use Rattle.scenario.specs.Plan.{Plan}
+use Rattle.vss_model.specs.declared.event.Event.{Event}
+use Rattle.vss_model.specs.State.{State, SetRow, Kept, in_progress, left_now}
+use Rattle.vss_model.specs.Ending.{Ending, NothingEnds, AgendaEnds, SetFails, ending, concluded, followed, runs, failed_in, failed}
+use Rattle.vss_model.specs.Images.{Replied, cleared, set_loses_image, with_room_if, put, write, reverted_as}
+use Rattle.vss_model.specs.Sessions.{has_no_volume, closed}
+use Rattle.vss_model.specs.Steps.{answered, cut_set, step_made, is_flush, is_failed_step, stepped_as, stepped, ticked, later}
+use Rattle.vss_model.specs.Effects.{line_ticks, ticks_of}
+use Rattle.vss_model.specs.Acts.{Act, enabled, idle_now, after, state}
+use Rattle.promises.specs.Clock.{ticks_if, ClockMoves}
+use Rattle.promises.proofs.ByEvent.{Covers, covered, after_enabled, after_not_enabled}
+
+clock-concluded : (e : Ending) (st : State) → (concluded e st).clock ≡ st.clock
+clock-concluded NothingEnds st = refl
+clock-concluded AgendaEnds st = refl
+clock-concluded (SetFails why) st = refl
+
+pub clock-followed : (ran : Bool) (c : Course) (st : State) → (followed ran c st).clock ≡ st.clock
+unfolding followed
+clock-followed ran c st = clock-concluded (ending st.course.outcome c.outcome ran c.agenda) (record st { course = c })
+
+clock-failed_in : (o : Option SetRow) (why : VssResult) (st : State) → (failed_in o why st).clock ≡ st.clock
+clock-failed_in None why st = refl
+clock-failed_in (Some r) why st = refl
+
+clock-room : (b : Bool) (x : State) → (with_room_if b x).clock ≡ x.clock
+clock-room true x = clock-failed_in (in_progress x) InsufficientStorage x
+clock-room false x = refl
+
+clock-put : (v : ℕ) (w : Write) (mark : Mark) (x : State) → (put v w mark x).clock ≡ x.clock
+clock-put v w Clean x = refl
+clock-put v w Fault x = refl
+clock-put v w (FaultAfter k) x = refl
+
+clock-write : (s : Plan) (v : ℕ) (w : Write) (mark : Mark) (st : State) → (write s v w mark st).1.clock ≡ st.clock
+unfolding write
+clock-write s v w mark st = clock-put v w mark _ ∙ clock-room (set_loses_image (in_progress st) st.volumes (cleared s v w.block st).volumes) (cleared s v w.block st)
+
+clock-reverted : (s : Plan) (v : ℕ) (k : Kept) (mark : Mark) (st : State) → (reverted_as s v k mark st).1.clock ≡ st.clock
+clock-reverted s v k Clean st = refl
+clock-reverted s v k Fault st = refl
+clock-reverted s v k (FaultAfter n) st = refl
+
+clock-cut : (o : Option SetRow) (st : State) → (cut_set o st).clock ≡ st.clock
+clock-cut None st = refl
+clock-cut (Some r) st = refl
+
+clock-made : (g : Option Group) (st : State) → (step_made g st).clock ≡ st.clock
+clock-made None st = refl
+clock-made (Some (Orders o)) st = refl
+clock-made (Some PreCommit) st = refl
+clock-made (Some Flush) st = refl
+clock-made (Some Hold) st = refl
+clock-made (Some Cut) st = clock-cut (in_progress st) st
+clock-made (Some Commit) st = refl
+clock-made (Some Release) st = refl
+clock-made (Some PostCommit) st = refl
+
+pub clock-answered : (w : ℕ) (said : Said) (st : State) → (answered w said st).clock ≡ st.clock
+unfolding answered
+clock-answered w said st = clock-followed (runs st) _ st
+
+pub clock-stepped_as : (fails : Bool) (g : Option Group) (st : State) → (stepped_as fails g st).clock ≡ st.clock
+clock-stepped_as true g st = clock-followed (runs st) _ st
+clock-stepped_as false g st = clock-followed (runs st) _ (step_made g st) ∙ clock-made g st
+
+pub clock-stepped : (mark : Mark) (st : State) → (stepped mark st).clock ≡ st.clock
+unfolding stepped
+clock-stepped mark st = clock-stepped_as (is_failed_step (is_flush (open_group (left_now st))) mark) (open_group (left_now st)) st
+
+pub clock-ticked : (n : ℕ) (st : State) → (ticked n st).clock ≡ st.clock + n
+unfolding ticked
+clock-ticked n st = clock-followed (runs st) _ (later n st)
+
+clock-closed : (q : Session) (st : State) → (closed q st).clock ≡ st.clock
+unfolding closed
+clock-closed q st = refl
+
+-- a line that writes a block is no `tick` line
+pub write_ticks : (op : Op) (t : Target) → target_of op ≡ Some t → line_ticks op ≡ None
+write_ticks (WriteFill v b x) t e = refl
+write_ticks (WriteStamp v b n) t e = refl
+write_ticks op t e = absurd cc
+
+abbrev Moves : State → Event → Mark → Replied → Type 0
+Moves st event mark x = x.1.clock ≡ st.clock + unwrap_or (ticks_of st event) 0
+
+no_ticks : (n : ℕ) → n ≡ n + 0
+no_ticks n = omega arith
+
+stands_still : (st : State) (now : ℕ) (o : Option ℕ) → now ≡ st.clock → o ≡ None → now ≡ st.clock + unwrap_or o 0
+stands_still st now o e f = e ∙ no_ticks st.clock ∙ ap (λ p. st.clock + unwrap_or p 0) (sym f)
+
+module _ (s : Plan) (st : State) where
+  either : (b : Bool) (x y : Replied) → x.1.clock ≡ st.clock → y.1.clock ≡ st.clock → (if b then x else y).1.clock ≡ st.clock
+  either true x y e f = e
+  either false x y e f = f
+
+  moves : Covers (Moves st) s st
+  moves = record {
+    stays = λ lane op mark told e f. stands_still st st.clock (line_ticks op) refl e;
+    writes = λ lane op v w mark e f. stands_still st _ (line_ticks op) (clock-write s v w mark st) (write_ticks op _ e);
+    reverts = λ lane n v k mark e f. stands_still st _ None (clock-reverted s v k mark st) refl;
+    deletes_set = λ lane n c mark e. no_ticks st.clock;
+    deletes_image = λ lane n v k mark e. no_ticks st.clock;
+    ticks = λ lane n mark. clock-ticked n st;
+    begins = λ lane n all c mark e. no_ticks st.clock;
+    disables = λ lane w q mark g. no_ticks st.clock;
+    gathers = λ lane q mark g. stands_still st _ None (clock-followed true _ st) refl;
+    names = λ lane w full q explicit mark g. no_ticks st.clock;
+    starts = λ lane q mark g e. no_ticks st.clock;
+    adds = λ lane v r q mark g e f. no_ticks st.clock;
+    prepares = λ lane q mark g. stands_still st _ None (either (has_no_volume (in_progress st)) _ _ refl (clock-followed true _ st)) refl;
+    snapshots = λ lane q mark g. stands_still st _ None (either (has_no_volume (in_progress st)) _ _ refl (clock-followed true _ st)) refl;
+    completes = λ lane q mark g. stands_still st _ None (clock-followed true _ st) refl;
+    aborts = λ lane q mark e. stands_still st _ None (clock-failed_in (in_progress st) AsyncCancelled st) refl;
+    ends = λ lane q mark e. stands_still st _ None (clock-closed q (failed AsyncCancelled st) ∙ clock-failed_in (in_progress st) AsyncCancelled st) refl;
+    answers = λ w answer mark e. stands_still st _ None (clock-answered w (said_of answer) st) refl;
+    steps = λ mark e. stands_still st _ None (clock-stepped mark st) refl;
+    idles = λ mark e. clock-ticked (idle_now st) st;
+  }
+
+clock_if : (b : Bool) (s : Plan) (st : State) (act : Act) → enabled s st act.event ≡ b → (after s st act).clock ≡ st.clock + ticks_if b st act.event
+clock_if true s st act e = ap (λ (x : State). x.clock) (after_enabled s st act e) ∙ covered (Moves st) s st (moves s st) act.event act.mark e
+clock_if false s st act e = ap (λ (x : State). x.clock) (after_not_enabled s st act e) ∙ no_ticks st.clock
+
+pub clock_after : (s : Plan) (st : State) (act : Act) → (after s st act).clock ≡ st.clock + ticks_if (enabled s st act.event) st act.event
+clock_after s st act = clock_if (enabled s st act.event) s st act refl
+
+pub clock_moves : (s : Plan) (so_far : List Act) (act : Act) → ClockMoves s so_far act
+clock_moves s so_far act = clock_after s (state s so_far) act

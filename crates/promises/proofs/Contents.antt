@@ -1,0 +1,320 @@
+-- What changes the contents of a volume.
+use Rattle.std.proofs.Common.{◌≡◌, ◌∙◌, ℕ, ◌+◌, ◌==◌, zero, suc, List, [], ◌∷◌, ◌++◌, Option, Some, None, refl, Bool, true, false, ◌<◌, ap, sym, subst, map, length, take, arith}
+use Rattle.std.specs.Prelude.{◌&&◌, if◌then◌else◌}
+use Rattle.std.proofs.Math.Seq.{take-length}
+use Rattle.block_data.specs.declared.payload.Payload.TheVariants.{Fill, Stamp}
+use Rattle.block_data.specs.PayloadBytes.{payload_bytes}
+use Rattle.block_data.specs.Runs.{zeros}
+use Rattle.vss_names.specs.declared.context.Context.{Context}
+use Rattle.vss_names.specs.declared.context.Context.TheVariants.{Backup, AppRollback, NasRollback}
+use Rattle.vss_names.specs.declared.vss_result.VssResult.{VssResult}
+use Rattle.vss_names.specs.declared.vss_result.VssResult.TheVariants.{InsufficientStorage, AsyncCancelled}
+use Rattle.writer_state.specs.declared.said.Said.{Said}
+use Rattle.write_history.specs.declared.mark.Mark.{Mark}
+use Rattle.write_history.specs.declared.mark.Mark.TheVariants.{Clean, Fault, FaultAfter}
+use Rattle.write_history.specs.History.{Write, History, after_set, last_bytes, content, dropped, written, reverted, reverted_in_part}
+use Rattle.write_history.specs.Slots.{Placed, gone_up_to}
+use Rattle.writer_calls.specs.Script.{said_of}
+use Rattle.set_agenda.specs.declared.group.Group.{Group}
+use Rattle.set_agenda.specs.declared.group.Group.TheVariants.{Orders, PreCommit, Flush, Hold, Cut, Commit, Release, PostCommit}
+use Rattle.set_agenda.specs.Agenda.{is_among, open_group}
+use Rattle.set_agenda.specs.Course.{Course, answered as course_answered, stepped as course_stepped, timed as course_timed, change_at}
+use Rattle.requestor.specs.Session.{Session}
+use Rattle.scenario.specs.declared.op.Op.{Op}
+use Rattle.scenario.specs.declared.op.Op.TheVariants as op
+use Rattle.scenario.specs.Calls.{Target, target_of}
+use Rattle.scenario.specs.Plan.{Plan, blocks_of, group_of}
+use Rattle.vss_model.specs.declared.event.Event.{Event}
+use Rattle.vss_model.specs.declared.event.Event.TheVariants.{Line}
+use Rattle.vss_model.specs.State.{State, SetRow, Kept, in_progress, left_now, history_of, kept_image}
+use Rattle.vss_model.specs.Ending.{Ending, NothingEnds, AgendaEnds, SetFails, ending, images_dropped, concluded, followed, runs, failed_in, failed}
+use Rattle.vss_model.specs.Images.{Replied, cleared, going_up_to, set_loses_image, with_room_if, put, write, revert_refusal, reverted_as, revert_to, revert}
+use Rattle.vss_model.specs.Sessions.{has_no_volume, images_released, closed}
+use Rattle.vss_model.specs.Steps.{answered, cut_if, cut_each, cut_set, step_made, is_flush, is_failed_step, stepped_as, stepped, ticked, later}
+use Rattle.vss_model.specs.Acts.{Act, enabled, happens, idle_now, after, state}
+use Rattle.vss_model.proofs.FewerImages.{as_many_volumes}
+use Rattle.vss_model.proofs.Volumes.{at, change_other, as_many_map, as_many_gone}
+use Rattle.promises.specs.Contents.{block_now, is_clean, may_change, ContentsChange}
+use Rattle.promises.proofs.ByEvent.{Covers, covered, after_enabled, after_not_enabled}
+
+-- ## writes of a volume
+
+abbrev SameWrites : List History → List History → Type 0
+SameWrites hs ks = (v : ℕ) → (at ks v).writes ≡ (at hs v).writes
+
+same_map : (f : History → History) → ((h : History) → (f h).writes ≡ h.writes) → (hs : List History) → SameWrites hs (map f hs)
+same_map f e [] zero = refl
+same_map f e [] (suc v) = refl
+same_map f e (h ∷ hs) zero = e h
+same_map f e (h ∷ hs) (suc v) = same_map f e hs v
+
+same_change : (f : History → History) → ((h : History) → (f h).writes ≡ h.writes) → (u : ℕ) (hs : List History) → SameWrites hs (change_at u f hs)
+same_change f e u [] v = refl
+same_change f e zero (h ∷ hs) zero = e h
+same_change f e zero (h ∷ hs) (suc v) = refl
+same_change f e (suc u) (h ∷ hs) zero = refl
+same_change f e (suc u) (h ∷ hs) (suc v) = same_change f e u hs v
+
+same_gone : (m : ℕ) (ps : List Placed) (hs : List History) → SameWrites hs (gone_up_to m ps hs)
+same_gone m [] hs v = refl
+same_gone m (p ∷ ps) [] v = refl
+same_gone m (p ∷ ps) (h ∷ hs) zero = by_group p.within
+  where
+    by_group : (b : Bool) → (if b then record { writes = h.writes; images = after_set m h.images } else h).writes ≡ h.writes
+    by_group true = refl
+    by_group false = refl
+same_gone m (p ∷ ps) (h ∷ hs) (suc v) = same_gone m ps hs v
+
+same_cut : (n : ℕ) (vs : List ℕ) (u : ℕ) (hs : List History) → SameWrites hs (cut_each n vs u hs)
+same_cut n vs u [] v = refl
+same_cut n vs u (h ∷ hs) zero = by_set (is_among u vs)
+  where
+    by_set : (b : Bool) → (cut_if b n h).writes ≡ h.writes
+    by_set true = refl
+    by_set false = refl
+same_cut n vs u (h ∷ hs) (suc v) = same_cut n vs (u + 1) hs v
+
+same_dropped : (o : Option SetRow) (hs : List History) → SameWrites hs (images_dropped o hs)
+same_dropped None hs v = refl
+same_dropped (Some r) hs v = same_map (dropped r.number) (λ h. refl) hs v
+
+same_released : (c : Context) (set : Option ℕ) (hs : List History) → SameWrites hs (images_released c set hs)
+same_released Backup None hs v = refl
+same_released Backup (Some n) hs v = same_map (dropped n) (λ h. refl) hs v
+same_released AppRollback set hs v = refl
+same_released NasRollback set hs v = refl
+
+-- another volume is left alone
+change_elsewhere : (f : History → History) (u : ℕ) (hs : List History) (v : ℕ) → (u == v) ≡ false → at (change_at u f hs) v ≡ at hs v
+change_elsewhere f u hs v e = change_other f u hs v e
+
+-- ## one block
+
+last_other : (b : ℕ) (before : List ℕ) (ws : List Write) (w : Write) → (w.block == b) ≡ false → last_bytes b before (ws ++ w ∷ []) ≡ last_bytes b before ws
+last_other b before [] w e = ap (λ t. if t then w.bytes else before) e
+last_other b before (x ∷ ws) w e = last_other b (if x.block == b then x.bytes else before) ws w e
+
+take_whole : (ws : List Write) → take (length ws) ws ≡ ws
+take_whole ws = take-length ws
+
+now_is : (ws : List Write) (b : ℕ) → content ws (length ws) b ≡ last_bytes b zeros ws
+now_is ws b = ap (last_bytes b zeros) (take_whole ws)
+
+other_block : (ws : List Write) (w : Write) (b : ℕ) → (w.block == b) ≡ false → content (ws ++ w ∷ []) (length (ws ++ w ∷ [])) b ≡ content ws (length ws) b
+other_block ws w b e = now_is (ws ++ w ∷ []) b ∙ last_other b zeros ws w e ∙ sym (now_is ws b)
+
+-- ## every act
+
+module _ (s : Plan) (st : State) (v b : ℕ) where
+  abbrev block_in : List History → List ℕ
+  block_in hs = content (at hs v).writes (length (at hs v).writes) b
+
+  abbrev Stays : List History → Type 0
+  Stays hs = block_in hs ≡ block_in st.volumes
+
+  by_writes : (hs ks : List History) → SameWrites hs ks → block_in ks ≡ block_in hs
+  by_writes hs ks e = ap (λ ws. content ws (length ws) b) (e v)
+
+  stay_ended : (e : Ending) (x : State) → Stays x.volumes → Stays (concluded e x).volumes
+  stay_ended NothingEnds x h = h
+  stay_ended AgendaEnds x h = h
+  stay_ended (SetFails why) x h = by_writes x.volumes _ (same_dropped (in_progress x) x.volumes) ∙ h
+
+  stay_followed : (ran : Bool) (c : Course) (x : State) → Stays x.volumes → Stays (followed ran c x).volumes
+  unfolding followed
+  stay_followed ran c x h = stay_ended (ending x.course.outcome c.outcome ran c.agenda) (record x { course = c }) h
+
+  stay_failed : (o : Option SetRow) (why : VssResult) (x : State) → Stays x.volumes → Stays (failed_in o why x).volumes
+  stay_failed None why x h = h
+  stay_failed (Some r) why x h = by_writes x.volumes _ (same_dropped (in_progress x) x.volumes) ∙ h
+
+  stay_closed : (q : Session) (x : State) → Stays x.volumes → Stays (closed q x).volumes
+  unfolding closed
+  stay_closed q x h = by_writes x.volumes _ (same_released q.context q.set x.volumes) ∙ h
+
+  stay_room : (c : Bool) (x : State) → Stays x.volumes → Stays (with_room_if c x).volumes
+  stay_room true x h = stay_failed (in_progress x) InsufficientStorage x h
+  stay_room false x h = h
+
+  stay_put : (u : ℕ) (w : Write) (mark : Mark) (x : State) → (is_clean mark && (u == v) && (w.block == b)) ≡ false → Stays x.volumes → Stays (put u w mark x).volumes
+  stay_put u w Clean x e h = by_volume (u == v) refl e ∙ h
+    where
+      equal : (a c : ℕ) → (a == c) ≡ true → a ≡ c
+      equal a c e = grind arith
+
+      written_at : (u : ℕ) (hs : List History) (v : ℕ) → (w.block == b) ≡ false → content (at (change_at u (written w) hs) v).writes (length (at (change_at u (written w) hs) v).writes) b ≡ content (at hs v).writes (length (at hs v).writes) b
+      written_at u [] v e = refl
+      written_at zero (x ∷ hs) zero e = other_block x.writes w b e
+      written_at zero (x ∷ hs) (suc v) e = refl
+      written_at (suc u) (x ∷ hs) zero e = refl
+      written_at (suc u) (x ∷ hs) (suc v) e = written_at u hs v e
+
+      by_volume : (c : Bool) → (u == v) ≡ c → (true && c && (w.block == b)) ≡ false → block_in (change_at u (written w) x.volumes) ≡ block_in x.volumes
+      by_volume true f g = written_at u x.volumes v g
+      by_volume false f g = ap (λ (y : History). content y.writes (length y.writes) b) (change_elsewhere (written w) u x.volumes v f)
+  stay_put u w Fault x e h = h
+  stay_put u w (FaultAfter k) x e h = h
+
+  stay_write : (u : ℕ) (w : Write) (mark : Mark) → (is_clean mark && (u == v) && (w.block == b)) ≡ false → Stays (write s u w mark st).1.volumes
+  unfolding write
+  stay_write u w mark e =
+      stay_put u w mark _ e (stay_room (set_loses_image (in_progress st) st.volumes (cleared s u w.block st).volumes) (cleared s u w.block st) (by_writes st.volumes _ (same_gone (going_up_to s u w.block st) (group_of s u) st.volumes)))
+
+  stay_cut : (o : Option SetRow) → Stays (cut_set o st).volumes
+  stay_cut None = refl
+  stay_cut (Some r) = by_writes st.volumes _ (same_cut r.number r.volumes 0 st.volumes)
+
+  stay_made : (g : Option Group) → Stays (step_made g st).volumes
+  stay_made None = refl
+  stay_made (Some (Orders o)) = refl
+  stay_made (Some PreCommit) = refl
+  stay_made (Some Flush) = refl
+  stay_made (Some Hold) = refl
+  stay_made (Some Cut) = stay_cut (in_progress st)
+  stay_made (Some Commit) = refl
+  stay_made (Some Release) = refl
+  stay_made (Some PostCommit) = refl
+
+  stay_answers : (w : ℕ) (said : Said) → Stays (answered w said st).volumes
+  unfolding answered
+  stay_answers w said = stay_followed (runs st) (course_answered w said st.clock st.course) st refl
+
+  stay_ticks : (n : ℕ) → Stays (ticked n st).volumes
+  unfolding ticked
+  stay_ticks n = stay_followed (runs st) (course_timed (st.clock + n) st.course) (later n st) refl
+
+  stay_step_as : (f : Bool) (g : Option Group) → Stays (stepped_as f g st).volumes
+  stay_step_as true g = stay_followed (runs st) (course_stepped false st.clock st.course) st refl
+  stay_step_as false g = stay_followed (runs st) (course_stepped true st.clock st.course) (step_made g st) (stay_made g)
+
+  stay_steps : (mark : Mark) → Stays (stepped mark st).volumes
+  unfolding stepped
+  stay_steps mark = stay_step_as (is_failed_step (is_flush (open_group (left_now st))) mark) (open_group (left_now st))
+
+  stay_reverts : (u : ℕ) (k : Kept) (mark : Mark) → (u == v) ≡ false → Stays (reverted_as s u k mark st).1.volumes
+  stay_reverts u k Clean e = ap (λ (y : History). content y.writes (length y.writes) b) (change_elsewhere (reverted k.row.number k.point) u st.volumes v e)
+  stay_reverts u k Fault e = refl
+  stay_reverts u k (FaultAfter n) e = ap (λ (y : History). content y.writes (length y.writes) b) (change_elsewhere (reverted_in_part (blocks_of s u) k.row.number k.point n) u st.volumes v e)
+
+  abbrev Keeps : Event → Mark → Replied → Type 0
+  Keeps event mark x = may_change v b event mark ≡ false → Stays x.1.volumes
+
+  some_target : (x y : Target) → Some x ≡ Some y → x ≡ y
+  some_target x y e = cc
+
+  on_write : (lane : ℕ) (o : Op) (u : ℕ) (w : Write) (mark : Mark) → target_of o ≡ Some (record { volume = u; block = w.block }) → Keeps (Line lane o) mark (write s u w mark st)
+  on_write lane (op.WriteFill x y f) u w mark e g =
+      let t : record { volume = x; block = y } ≡ record { volume = u; block = w.block } = some_target _ _ e in
+      stay_write u w mark (ap (λ (z : Target). is_clean mark && (z.volume == v) && (z.block == b)) (sym t) ∙ g)
+  on_write lane (op.WriteStamp x y f) u w mark e g =
+      let t : record { volume = x; block = y } ≡ record { volume = u; block = w.block } = some_target _ _ e in
+      stay_write u w mark (ap (λ (z : Target). is_clean mark && (z.volume == v) && (z.block == b)) (sym t) ∙ g)
+  on_write lane o u w mark e g = absurd cc
+
+  either : (event : Event) (mark : Mark) (c : Bool) (x y : Replied) → Keeps event mark x → Keeps event mark y → Keeps event mark (if c then x else y)
+  either event mark true x y e f = e
+  either event mark false x y e f = f
+
+  keeps : Covers Keeps s st
+  keeps = record {
+    stays = λ lane o mark told e f g. refl;
+    writes = λ lane o u w mark e f. on_write lane o u w mark e;
+    reverts = λ lane n u k mark e f g. stay_reverts u k mark g;
+    deletes_set = λ lane n c mark e g. by_writes st.volumes _ (same_map (dropped n) (λ h. refl) st.volumes);
+    deletes_image = λ lane n u k mark e g. by_writes st.volumes _ (same_change (dropped k.row.number) (λ h. refl) u st.volumes);
+    ticks = λ lane n mark g. stay_ticks n;
+    begins = λ lane n all c mark e g. refl;
+    disables = λ lane w q mark i g. refl;
+    gathers = λ lane q mark i g. stay_followed true _ st refl;
+    names = λ lane w full q explicit mark i g. refl;
+    starts = λ lane q mark i e g. refl;
+    adds = λ lane u r q mark i e f g. refl;
+    prepares = λ lane q mark i. either (Line lane op.Prepare) mark (has_no_volume (in_progress st)) _ _ (λ g. refl) (λ g. stay_followed true _ st refl);
+    snapshots = λ lane q mark i. either (Line lane op.Snapshot) mark (has_no_volume (in_progress st)) _ _ (λ g. refl) (λ g. stay_followed true _ st refl);
+    completes = λ lane q mark i g. stay_followed true _ st refl;
+    aborts = λ lane q mark e g. stay_failed (in_progress st) AsyncCancelled st refl;
+    ends = λ lane q mark e g. stay_closed q (failed AsyncCancelled st) (stay_failed (in_progress st) AsyncCancelled st refl);
+    answers = λ w answer mark e g. stay_answers w (said_of answer);
+    steps = λ mark e g. stay_steps mark;
+    idles = λ mark e g. stay_ticks (idle_now st);
+  }
+
+  keeps_if : (c : Bool) (act : Act) → enabled s st act.event ≡ c → may_change v b act.event act.mark ≡ false → Stays (after s st act).volumes
+  keeps_if true act e g = ap (λ (x : State). block_in x.volumes) (after_enabled s st act e) ∙ covered Keeps s st keeps act.event act.mark e g
+  keeps_if false act e g = ap (λ (x : State). block_in x.volumes) (after_not_enabled s st act e)
+
+  pub contents_kept : (act : Act) → may_change v b act.event act.mark ≡ false → Stays (after s st act).volumes
+  contents_kept act g = keeps_if (enabled s st act.event) act refl g
+
+-- ## what a write and a revert bring
+
+changed_here : (f : History → History) (v : ℕ) (hs : List History) → v < length hs → at (change_at v f hs) v ≡ f (at hs v)
+changed_here f v [] l = absurd (nothing v l)
+  where
+    nothing : (v : ℕ) → v < 0 → ⊥
+    nothing v l = omega arith
+changed_here f zero (h ∷ hs) l = refl
+changed_here f (suc v) (h ∷ hs) l = changed_here f v hs (below v (length hs) l)
+  where
+    below : (v n : ℕ) → suc v < suc n → v < n
+    below v n l = omega arith
+
+last_own : (b : ℕ) (before : List ℕ) (ws : List Write) (w : Write) → (w.block == b) ≡ true → last_bytes b before (ws ++ w ∷ []) ≡ w.bytes
+last_own b before [] w e = ap (λ t. if t then w.bytes else before) e
+last_own b before (x ∷ ws) w e = last_own b (if x.block == b then x.bytes else before) ws w e
+
+same_number : (a : ℕ) → (a == a) ≡ true
+same_number a = grind arith
+
+own_block : (ws : List Write) (w : Write) → content (ws ++ w ∷ []) (length (ws ++ w ∷ [])) w.block ≡ w.bytes
+own_block ws w = now_is (ws ++ w ∷ []) w.block ∙ last_own w.block zeros ws w (same_number w.block)
+
+as_many_room : (b : Bool) (x : State) → length (with_room_if b x).volumes ≡ length x.volumes
+as_many_room true x = by_set (in_progress x)
+  where
+    dropped_all : (o : Option SetRow) (hs : List History) → length (images_dropped o hs) ≡ length hs
+    dropped_all None hs = refl
+    dropped_all (Some r) hs = as_many_map (dropped r.number) hs
+
+    by_set : (o : Option SetRow) → length (failed_in o InsufficientStorage x).volumes ≡ length x.volumes
+    by_set None = refl
+    by_set (Some r) = dropped_all (in_progress x) x.volumes
+as_many_room false x = refl
+
+module _ (s : Plan) (st : State) where
+  write_brings : (v : ℕ) (w : Write) (mark : Mark) → mark ≡ Clean → v < length st.volumes → block_now (write s v w mark st).1 v w.block ≡ w.bytes
+  unfolding write
+  write_brings v w Clean e l =
+      let x = with_room_if (set_loses_image (in_progress st) st.volumes (cleared s v w.block st).volumes) (cleared s v w.block st) in
+      let many : length x.volumes ≡ length st.volumes = as_many_room (set_loses_image (in_progress st) st.volumes (cleared s v w.block st).volumes) (cleared s v w.block st) ∙ as_many_gone (going_up_to s v w.block st) (group_of s v) st.volumes in
+      ap (λ (y : History). content y.writes (length y.writes) w.block) (changed_here (written w) v x.volumes (subst (λ n. v < n) (sym many) l)) ∙ own_block (at x.volumes v).writes w
+  write_brings v w Fault e l = absurd cc
+  write_brings v w (FaultAfter k) e l = absurd cc
+
+  revert_brings : (v b : ℕ) (k : Kept) (mark : Mark) → mark ≡ Clean → v < length st.volumes → block_now (reverted_as s v k mark st).1 v b ≡ content (history_of st v).writes k.point b
+  revert_brings v b k Clean e l =
+      ap (λ (y : History). content y.writes (length y.writes) b) (changed_here (reverted k.row.number k.point) v st.volumes l) ∙ now_is (take k.point (at st.volumes v).writes) b
+  revert_brings v b k Fault e l = absurd cc
+  revert_brings v b k (FaultAfter n) e l = absurd cc
+
+  revert_is : (n v : ℕ) (k : Kept) (mark : Mark) → kept_image st n v ≡ Some k → revert_refusal v (Some k) st ≡ None → revert s n v mark st ≡ reverted_as s v k mark st
+  unfolding revert
+  revert_is n v k mark e f =
+      ap (λ o. revert_to s v (revert_refusal v o st) o mark st) e ∙ ap (λ (w : Option VssResult). revert_to s v w (Some k) mark st) f
+
+  after_line : (act : Act) (event : Event) → act.event ≡ event → enabled s st act.event ≡ true → after s st act ≡ (happens s event act.mark st).1
+  after_line act event e on = after_enabled s st act on ∙ ap (λ x. (happens s x act.mark st).1) e
+
+pub contents_change : (s : Plan) (so_far : List Act) (act : Act) → ContentsChange s so_far act
+contents_change s so_far act =
+    let st = state s so_far in
+    let many : (v : ℕ) → v < length s.volumes → v < length st.volumes = λ v l. subst (λ n. v < n) (sym (as_many_volumes s so_far)) l in
+    record {
+      stay = λ v b g. contents_kept s st v b act g;
+      filled = λ lane v b x e m on l.
+          ap (λ (y : State). block_now y v b) (after_line s st act (Line lane (op.WriteFill v b x)) e on) ∙ write_brings s st v (record { block = b; bytes = payload_bytes (Fill x) }) act.mark m (many v l);
+      stamped = λ lane v b x e m on l.
+          ap (λ (y : State). block_now y v b) (after_line s st act (Line lane (op.WriteStamp v b x)) e on) ∙ write_brings s st v (record { block = b; bytes = payload_bytes (Stamp x) }) act.mark m (many v l);
+      reverted = λ lane n v b k e m h i l.
+          ap (λ (y : State). block_now y v b) (after_line s st act (Line lane (op.Revert n v)) e (ap (enabled s st) e) ∙ ap (λ (y : Replied). y.1) (revert_is s st n v k act.mark h i)) ∙ revert_brings s st v b k act.mark m (many v l);
+    }

@@ -1,0 +1,290 @@
+-- The levels of the writers' rows and of the participants are those that the scenario gives the writers.
+use Rattle.std.proofs.Common.{◌≡◌, ◌∙◌, ℕ, ◌+◌, ◌≤◌, suc, List, [], ◌∷◌, ◌++◌, Option, Some, None, refl, Bool, true, false, ap, map, fold, arith}
+use Rattle.std.specs.Prelude.{◌&&◌, not, if◌then◌else◌, slice_get}
+use Rattle.vss_names.specs.declared.context.Context.{Context}
+use Rattle.vss_names.specs.declared.level.Level.{Level}
+use Rattle.vss_names.specs.declared.order.Order.{Order}
+use Rattle.vss_names.specs.declared.vss_result.VssResult.{VssResult}
+use Rattle.vss_names.specs.declared.vss_result.VssResult.TheVariants.{AsyncCancelled}
+use Rattle.writer_state.specs.declared.said.Said.{Said}
+use Rattle.writer_state.specs.declared.said.Said.TheVariants.{Lost}
+use Rattle.writer_state.specs.declared.writer_row.WriterRow.{WriterRow}
+use Rattle.writer_state.specs.WriterState.{is_failed, is_ok, stable_again}
+use Rattle.writer_state.specs.WriterRow.{one_more, row_after, row_aborted, row_gathered, row_ended}
+use Rattle.write_history.specs.declared.mark.Mark.{Mark}
+use Rattle.write_history.specs.declared.mark.Mark.TheVariants.{Clean, Fault, FaultAfter}
+use Rattle.write_history.specs.History.{Write}
+use Rattle.set_agenda.specs.declared.group.Group.{Group}
+use Rattle.set_agenda.specs.declared.kind.Kind.{Kind}
+use Rattle.set_agenda.specs.declared.kind.Kind.TheVariants.{Gather, Prepare, Snapshot, Complete}
+use Rattle.set_agenda.specs.declared.limit.Limit.{Limit}
+use Rattle.set_agenda.specs.declared.limit.Limit.TheVariants.{Hold as HoldLimit, Freeze as FreezeLimit, Answer as AnswerLimit}
+use Rattle.set_agenda.specs.declared.member.Member.{Member}
+use Rattle.set_agenda.specs.Agenda.{Agenda, groups_left, left, open_group, open_order, order_now, waits_now, is_done, is_among}
+use Rattle.set_agenda.specs.Limits.{Running as RunningLimit, spent_of}
+use Rattle.set_agenda.specs.Course.{Course, posted, rows_where, row_if, member_if, members_from, is_member, failed as course_failed, settled_if, settled_in, settled, begun, is_decisive, told, decided, answered_to, answered as course_answered, worked, stepped_as as course_stepped_as, stepped as course_stepped, limits_now, lost_to, lost, fails_set, lost_decided, treated_as, treated, timed as course_timed, released}
+use Rattle.requestor.specs.Session.{Session}
+use Rattle.scenario.specs.Plan.{Plan, WriterPlan}
+use Rattle.vss_model.specs.State.{State, SetRow, Kept, start, row_of_writer, in_progress, left_now}
+use Rattle.vss_model.specs.Ending.{Ending, NothingEnds, AgendaEnds, SetFails, ending, concluded, followed, runs, failed_in, failed}
+use Rattle.vss_model.specs.Images.{Replied, put, reverted_as}
+use Rattle.vss_model.specs.Sessions.{begin_in, has_no_volume, closed}
+use Rattle.vss_model.specs.Steps.{answered, step_made, is_flush, is_failed_step, stepped_as, stepped, ticked, later}
+use Rattle.vss_model.specs.Acts.{Act, after, state}
+use Rattle.vss_model.specs.Laws.{IsKeptByChanges, IsKeptByWrites}
+use Rattle.vss_model.proofs.Rule.{on_after}
+use Rattle.promises.specs.Way.{level_in, level_of}
+
+-- members in the order of their writers, from w on, each once
+abbrev pub Ascends : ℕ → List Member → Type 0
+Ascends w [] = Unit {0}
+Ascends w (m ∷ ms) = (w ≤ m.writer) × Ascends (m.writer + 1) ms
+
+ascends_from : (w : ℕ) (ms : List Member) → Ascends (w + 1) ms → Ascends w ms
+ascends_from w [] h = tt
+ascends_from w (m ∷ ms) h = (less w m.writer h.0, h.1)
+  where
+    less : (a b : ℕ) → a + 1 ≤ b → a ≤ b
+    less a b h = omega arith
+
+ascend_of_rows : (test : ℕ → Bool) (w : ℕ) (rs : List WriterRow) → Ascends w (members_from test w rs)
+ascend_of_rows test w [] = tt
+ascend_of_rows test w (r ∷ rs) = by_test (test w) (ascend_of_rows test (w + 1) rs)
+  where
+    itself : (n : ℕ) → n ≤ n
+    itself n = omega arith
+
+    by_test : (b : Bool) → Ascends (w + 1) (members_from test (w + 1) rs) → Ascends w (member_if b w r ++ members_from test (w + 1) rs)
+    by_test true h = (itself w, h)
+    by_test false h = ascends_from w (members_from test (w + 1) rs) h
+
+module _ (l : ℕ → Level) where
+  -- rows from writer w on
+  abbrev pub RowsOf : ℕ → List WriterRow → Type 0
+  RowsOf w [] = Unit {0}
+  RowsOf w (r ∷ rs) = (r.level ≡ l w) × RowsOf (w + 1) rs
+
+  abbrev pub MembersOf : List Member → Type 0
+  MembersOf [] = Unit {0}
+  MembersOf (m ∷ ms) = (m.level ≡ l m.writer) × MembersOf ms
+
+  rows_map : (f : WriterRow → WriterRow) → ((r : WriterRow) → (f r).level ≡ r.level) → (w : ℕ) (rs : List WriterRow) → RowsOf w rs → RowsOf w (map f rs)
+  rows_map f e w [] h = tt
+  rows_map f e w (r ∷ rs) h = (e r ∙ h.0, rows_map f e (w + 1) rs h.1)
+
+  rows_some : (f : WriterRow → WriterRow) → ((r : WriterRow) → (f r).level ≡ r.level) → (test : ℕ → Bool) (w u : ℕ) (rs : List WriterRow) → RowsOf w rs → RowsOf w (rows_where f test u rs)
+  rows_some f e test w u [] h = tt
+  rows_some f e test w u (r ∷ rs) h = (by_test (test u) ∙ h.0, rows_some f e test (w + 1) (u + 1) rs h.1)
+    where
+      by_test : (b : Bool) → (row_if b f r).level ≡ r.level
+      by_test true = e r
+      by_test false = refl
+
+  members_of_rows : (test : ℕ → Bool) (w : ℕ) (rs : List WriterRow) → RowsOf w rs → MembersOf (members_from test w rs)
+  members_of_rows test w [] h = tt
+  members_of_rows test w (r ∷ rs) h = by_test (test w) (members_of_rows test (w + 1) rs h.1)
+    where
+      by_test : (b : Bool) → MembersOf (members_from test (w + 1) rs) → MembersOf (member_if b w r ++ members_from test (w + 1) rs)
+      by_test true ms = (h.0, ms)
+      by_test false ms = ms
+
+  aborted_level : (r : WriterRow) → (row_aborted r).level ≡ r.level
+  aborted_level r = by_state (is_failed r.state)
+    where
+      by_state : (b : Bool) → (if b then r else record r { state = stable_again r.state; aborts = one_more r.aborts }).level ≡ r.level
+      by_state true = refl
+      by_state false = refl
+
+  -- ## the course
+
+  pub record Leveled (c : Course) : Type 0 where
+    pub rows : RowsOf 0 c.rows
+    pub members : MembersOf c.members
+    pub distinct : Ascends 0 c.members
+
+  lev_posted : (before c : Course) → Leveled c → Leveled (posted before c)
+  unfolding posted
+  lev_posted before c h = record { rows = h.rows; members = h.members; distinct = h.distinct }
+
+  lev_failed : (why : VssResult) (c : Course) → Leveled c → Leveled (course_failed why c)
+  unfolding course_failed
+  lev_failed why c h = record { rows = rows_some row_aborted aborted_level (is_member c.members) 0 0 c.rows h.rows; members = h.members; distinct = h.distinct }
+
+  lev_settled_if : (b : Bool) (k : Kind) (c : Course) → Leveled c → Leveled (settled_if b k c)
+  lev_settled_if true k c h = record { rows = h.rows; members = h.members; distinct = h.distinct }
+  lev_settled_if false k c h = h
+
+  lev_settled_in : (a : Option Agenda) (c : Course) → Leveled c → Leveled (settled_in a c)
+  lev_settled_in None c h = h
+  lev_settled_in (Some a) c h = lev_settled_if (is_done (groups_left a)) a.kind c h
+
+  lev_settled : (c : Course) → Leveled c → Leveled (settled c)
+  unfolding settled
+  lev_settled c h = lev_settled_in c.agenda c h
+
+  lev_told : (o : Order) (said : Said) (now : ℕ) (ws : List ℕ) (c : Course) → Leveled c → Leveled (told o said now ws c)
+  unfolding told
+  lev_told o said now ws c h = record { rows = rows_some (row_after o said) (λ r. refl) (λ w. is_among w ws) 0 0 c.rows h.rows; members = h.members; distinct = h.distinct }
+
+  lev_worked : (now : ℕ) (c : Course) → Leveled c → Leveled (worked now c)
+  unfolding worked
+  lev_worked now c h = record { rows = h.rows; members = h.members; distinct = h.distinct }
+
+  lev_begun : (k : Kind) (ms : List Member) (vs : List ℕ) (now : ℕ) (c : Course) → Leveled c → Leveled (begun k ms vs now c)
+  unfolding begun
+  lev_begun k ms vs now c h =
+      lev_posted c _ (lev_settled (record c { agenda = Some (record { kind = k; members = ms; volumes = vs; begun = now; log = [] }) }) (record { rows = h.rows; members = h.members; distinct = h.distinct }))
+
+  lev_decided : (b : Bool) (said : Said) (c : Course) → Leveled c → Leveled (decided b said c)
+  lev_decided true said c h = lev_failed _ c h
+  lev_decided false said c h = lev_settled c h
+
+  lev_answered_to : (o : Option Order) (w : ℕ) (said : Said) (now : ℕ) (c : Course) → Leveled c → Leveled (answered_to o w said now c)
+  lev_answered_to None w said now c h = h
+  lev_answered_to (Some o) w said now c h = lev_decided (is_decisive o && not (is_ok said)) said (told o said now (w ∷ []) c) (lev_told o said now (w ∷ []) c h)
+
+  lev_answered : (w : ℕ) (said : Said) (now : ℕ) (c : Course) → Leveled c → Leveled (course_answered w said now c)
+  lev_answered w said now c h = lev_posted c _ (lev_answered_to (open_order (left c.agenda) w) w said now c h)
+
+  lev_stepped_as : (ok : Bool) (now : ℕ) (c : Course) → Leveled c → Leveled (course_stepped_as ok now c)
+  lev_stepped_as true now c h = lev_settled (worked now c) (lev_worked now c h)
+  lev_stepped_as false now c h = lev_failed _ c h
+
+  lev_stepped : (ok : Bool) (now : ℕ) (c : Course) → Leveled c → Leveled (course_stepped ok now c)
+  lev_stepped ok now c h = lev_posted c _ (lev_stepped_as ok now c h)
+
+  lev_lost_to : (o : Option Order) (now : ℕ) (c : Course) → Leveled c → Leveled (lost_to o now c)
+  lev_lost_to None now c h = h
+  lev_lost_to (Some o) now c h = lev_told o Lost now (waits_now (left c.agenda)) c h
+
+  lev_lost_decided : (b : Bool) (c : Course) → Leveled c → Leveled (lost_decided b c)
+  lev_lost_decided true c h = lev_failed _ c h
+  lev_lost_decided false c h = lev_settled c h
+
+  lev_treated_as : (x : Limit) (now : ℕ) (c : Course) → Leveled c → Leveled (treated_as x now c)
+  lev_treated_as HoldLimit now c h = lev_failed _ c h
+  lev_treated_as FreezeLimit now c h = lev_failed _ (lost now c) (lev_lost_to (order_now (left c.agenda)) now c h)
+  lev_treated_as AnswerLimit now c h = lev_lost_decided (fails_set (order_now (left c.agenda))) (lost now c) (lev_lost_to (order_now (left c.agenda)) now c h)
+
+  lev_treated : (o : Option RunningLimit) (now : ℕ) (c : Course) → Leveled c → Leveled (treated o now c)
+  lev_treated None now c h = h
+  lev_treated (Some x) now c h = lev_treated_as x.limit now c h
+
+  lev_timed : (now : ℕ) (c : Course) → Leveled c → Leveled (course_timed now c)
+  lev_timed now c h = lev_posted c _ (lev_treated (spent_of now (limits_now c)) now c h)
+
+  lev_released : (c : Course) → Leveled c → Leveled (released c)
+  unfolding released
+  lev_released c h = record { rows = rows_map row_ended (λ r. refl) 0 c.rows h.rows; members = tt; distinct = tt }
+
+  -- ## the state
+
+  abbrev Holds : State → Type 0
+  Holds st = Leveled st.course
+
+  on_concluded : (e : Ending) (st : State) → Holds st → Holds (concluded e st)
+  on_concluded NothingEnds st h = h
+  on_concluded AgendaEnds st h = h
+  on_concluded (SetFails why) st h = h
+
+  on_followed : (ran : Bool) (c : Course) (st : State) → Leveled c → Holds (followed ran c st)
+  unfolding followed
+  on_followed ran c st h = on_concluded (ending st.course.outcome c.outcome ran c.agenda) (record st { course = c }) h
+
+  on_answers : (w : ℕ) (said : Said) (st : State) → Holds st → Holds (answered w said st)
+  unfolding answered
+  on_answers w said st h = on_followed (runs st) _ st (lev_answered w said st.clock st.course h)
+
+  on_stepped_as : (fails : Bool) (g : Option Group) (st : State) → Holds st → Holds (stepped_as fails g st)
+  on_stepped_as true g st h = on_followed (runs st) _ st (lev_stepped false st.clock st.course h)
+  on_stepped_as false g st h = on_followed (runs st) _ (step_made g st) (lev_stepped true st.clock st.course h)
+
+  on_steps : (mark : Mark) (st : State) → Holds st → Holds (stepped mark st)
+  unfolding stepped
+  on_steps mark st h = on_stepped_as (is_failed_step (is_flush (open_group (left_now st))) mark) (open_group (left_now st)) st h
+
+  on_ticks : (n : ℕ) (st : State) → Holds st → Holds (ticked n st)
+  unfolding ticked
+  on_ticks n st h = on_followed (runs st) _ (later n st) (lev_timed (st.clock + n) st.course h)
+
+  on_failed_in : (o : Option SetRow) (why : VssResult) (st : State) → Holds st → Holds (failed_in o why st)
+  on_failed_in None why st h = h
+  on_failed_in (Some r) why st h = lev_failed why st.course h
+
+  on_begin : (lane : ℕ) (all : Bool) (c : Option Context) (st : State) → Holds st → Holds (begin_in lane all c st).1
+  on_begin lane all None st h = h
+  on_begin lane all (Some c) st h = h
+
+  either : (b : Bool) (x y : Replied) → Holds x.1 → Holds y.1 → Holds (if b then x else y).1
+  either true x y h i = h
+  either false x y h i = i
+
+  on_closes : (q : Session) (st : State) → Holds st → Holds (closed q st)
+  unfolding closed
+  on_closes q st h = lev_released st.course h
+
+  kept_by_changes : IsKeptByChanges Holds
+  kept_by_changes = record {
+    answers = λ w said st e h. on_answers w said st h;
+    steps = λ mark st e h. on_steps mark st h;
+    ticks = on_ticks;
+    fails = λ why st h. on_failed_in (in_progress st) why st h;
+    gathers = λ s q st e h. on_followed true _ st (lev_begun Gather _ [] st.clock _ (record { rows = rows_map row_gathered (λ r. refl) 0 st.course.rows h.rows; members = h.members; distinct = h.distinct }));
+    prepares = λ s q st e h. either (has_no_volume (in_progress st)) _ _ h (on_followed true _ st (lev_begun Prepare _ [] st.clock _ (record { rows = h.rows; members = members_of_rows _ 0 st.course.rows h.rows; distinct = ascend_of_rows _ 0 st.course.rows })));
+    snapshots = λ q st e h. either (has_no_volume (in_progress st)) _ _ h (on_followed true _ st (lev_begun Snapshot st.course.members _ st.clock st.course h));
+    completes = λ q st e h. on_followed true _ st (lev_begun Complete _ [] st.clock st.course h);
+    clears = λ s v b st h. h;
+    deletes_set = λ n st h. h;
+    deletes_image = λ n v st h. h;
+    begins = λ lane all c st e h. on_begin lane all c st h;
+    names = λ q explicit st e h. h;
+    disables = λ w q st e h. record { rows = h.rows; members = h.members; distinct = h.distinct };
+    starts = λ q st e f h. h;
+    adds = λ v r q st e f g h. h;
+    ends = λ q st e h. on_closes q (failed AsyncCancelled st) (on_failed_in (in_progress st) AsyncCancelled st h);
+  }
+
+  on_puts : (v : ℕ) (w : Write) (mark : Mark) (x : State) → Holds x → Holds (put v w mark x)
+  on_puts v w Clean x h = h
+  on_puts v w Fault x h = h
+  on_puts v w (FaultAfter n) x h = h
+
+  on_reverts : (s : Plan) (v : ℕ) (x : Kept) (mark : Mark) (st : State) → Holds st → Holds (reverted_as s v x mark st).1
+  on_reverts s v x Clean st h = h
+  on_reverts s v x Fault st h = h
+  on_reverts s v x (FaultAfter n) st h = h
+
+  kept_by_writes : (st : State) → IsKeptByWrites Holds st
+  kept_by_writes st = record {
+    puts = λ v e w mark x h. on_puts v w mark x h;
+    reverts = λ s n v x mark e f h. on_reverts s v x mark st h;
+  }
+
+  pub on_fold : (s : Plan) (st : State) (acts : List Act) → Holds st → Holds (fold (after s) st acts)
+  on_fold s st [] h = h
+  on_fold s st (act ∷ acts) h = on_fold s (after s st act) acts (on_after Holds kept_by_changes s st act (kept_by_writes st) h)
+
+-- ## at the start
+
+rows_at_start : (s : Plan) (ps : List WriterPlan) (k : ℕ) → ((j : ℕ) → level_in (slice_get ps j) ≡ level_of s (k + j)) → RowsOf (level_of s) k (map row_of_writer ps)
+rows_at_start s [] k e = tt
+rows_at_start s (p ∷ ps) k e =
+    (e 0 ∙ ap (level_of s) (no_more k), rows_at_start s ps (k + 1) (λ j. e (suc j) ∙ ap (level_of s) (one_more k j)))
+  where
+    no_more : (k : ℕ) → k + 0 ≡ k
+    no_more k = omega arith
+
+    one_more : (k j : ℕ) → k + suc j ≡ k + 1 + j
+    one_more k j = omega arith
+
+none_before : (j : ℕ) → j ≡ 0 + j
+none_before j = omega arith
+
+leveled_from_start : (s : Plan) (acts : List Act) → Leveled (level_of s) (state s acts).course
+leveled_from_start s acts = on_fold (level_of s) s (start s) acts (record { rows = rows_at_start s s.writers 0 (λ j. ap (level_of s) (none_before j)); members = tt; distinct = tt })
+
+pub levels_are : (s : Plan) (acts : List Act) → MembersOf (level_of s) (state s acts).course.members
+levels_are s acts = (leveled_from_start s acts).members
+
+pub members_ascend : (s : Plan) (acts : List Act) → Ascends 0 (state s acts).course.members
+members_ascend s acts = (leveled_from_start s acts).distinct

@@ -1,0 +1,17 @@
+pub mod ByEvent
+pub mod Clock
+pub mod Idle
+pub mod Speaks
+pub mod Along
+pub mod Levels
+pub mod Stages
+pub mod Whole
+pub mod Images
+pub mod Done
+pub mod Limits
+pub mod Times
+pub mod Failing
+pub mod Contents
+pub mod Calls
+pub mod Sets
+pub mod Promises

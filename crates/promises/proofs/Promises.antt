@@ -1,0 +1,28 @@
+-- The promises together.
+use Rattle.std.proofs.Common.{List}
+use Rattle.write_history.specs.declared.move_item.Move.{Move}
+use Rattle.scenario.specs.Plan.{Plan}
+use Rattle.promises.specs.Promises.{IsAsPromised}
+use Rattle.promises.proofs.Calls.{calls_are_owned, waits_are_few, stands_quiet, frozen_do_not_write}
+use Rattle.promises.proofs.Clock.{clock_moves}
+use Rattle.promises.proofs.Contents.{contents_change}
+use Rattle.promises.proofs.Done.{is_done}
+use Rattle.promises.proofs.Failing.{fails_for_cause}
+use Rattle.promises.proofs.Idle.{idles_shortest}
+use Rattle.promises.proofs.Images.{images_go_for_cause}
+use Rattle.promises.proofs.Sets.{volumes_are_distinct}
+use Rattle.promises.proofs.Whole.{complete_by_the_way}
+
+pub as_promised : (s : Plan) (trail : List Move) → IsAsPromised s trail
+as_promised s trail = record {
+  each_act = λ so_far rest act e. record {
+    completes = complete_by_the_way s so_far act;
+    fails = fails_for_cause s so_far act;
+    images = images_go_for_cause s so_far act;
+    done = is_done s so_far act;
+    contents = contents_change s so_far act;
+    clock = clock_moves s so_far act;
+    calls = calls_are_owned s so_far act;
+  };
+  each_state = λ so_far rest e. record { waits = waits_are_few s so_far; quiet = stands_quiet s so_far; frozen = frozen_do_not_write s so_far; volumes = volumes_are_distinct s so_far; idles = idles_shortest s so_far };
+}

@@ -1,0 +1,284 @@
+-- What a call does to a running agenda, with the deeds that it tells: the agenda stops and the set fails; or it rests, and nothing
+-- is told; or one member that is waited for, or all of them, say the same at the open place, and that is told.
+use Rattle.std.proofs.Common.{◌≡◌, ◌∙◌, ℕ, ◌==◌, List, [], ◌∷◌, ◌⊎◌, Option, Some, None, refl, Bool, true, false, ap, sym, subst, inl, inr, map, arith}
+use Rattle.std.specs.Prelude.{option_map, ◌&&◌, ◌||◌, not}
+use Rattle.vss_names.specs.declared.order.Order.{Order}
+use Rattle.vss_names.specs.declared.set_outcome.SetOutcome.{SetOutcome}
+use Rattle.vss_names.specs.declared.vss_result.VssResult.{VssResult}
+use Rattle.writer_state.specs.declared.said.Said.{Said}
+use Rattle.writer_state.specs.declared.said.Said.TheVariants.{Ok, Lost}
+use Rattle.writer_state.specs.WriterState.{is_ok}
+use Rattle.set_agenda.specs.declared.group.Group.{Group}
+use Rattle.set_agenda.specs.declared.group.Group.TheVariants.{Orders, PreCommit, Flush, Hold, Cut, Commit, Release, PostCommit}
+use Rattle.set_agenda.specs.declared.limit.Limit.{Limit}
+use Rattle.set_agenda.specs.declared.limit.Limit.TheVariants.{Hold as HoldLimit, Freeze as FreezeLimit, Answer as AnswerLimit}
+use Rattle.set_agenda.specs.declared.place.Place.{Place}
+use Rattle.set_agenda.specs.Agenda.{Agenda, Entry, Open, order_of, is_orders, is_over_volumes, with_group, waited_for, left_from, places, groups_left, left, open_group, open_place, is_asked, is_among, order_if, open_order, order_now, waits_now, head_or_0, next_member, volume_if, next_volume, is_done, is_working, at_place, all_say}
+use Rattle.set_agenda.specs.Limits.{Running as RunningLimit, running_limits, spent_of}
+use Rattle.set_agenda.specs.Course.{Course, posted, outcome_after, failed as course_failed, settled_if, settled_in, settled, is_decisive, told, decided, answered_to, answered as course_answered, worked, stepped_as as course_stepped_as, stepped as course_stepped, freeze_limit, limits_now, lost_at, lost_to, lost, fails_set, lost_decided, treated_as, treated, timed as course_timed}
+use Rattle.vss_model.specs.Effects.{lost_order_if}
+use Rattle.vss_model.proofs.CourseCalls.{Settles, Stops, asked_if, asked_waits}
+use Rattle.promises.specs.Way.{Deed, Spoke, Made, deeds_lost}
+
+-- ## deeds in a log
+
+abbrev pub deed_at : Group → ℕ → Said → ℕ → Deed
+deed_at (Orders order) who said now = Spoke order who said now
+deed_at PreCommit who said now = Made PreCommit None now
+deed_at Flush who said now = Made Flush (Some who) now
+deed_at Hold who said now = Made Hold (Some who) now
+deed_at Cut who said now = Made Cut None now
+deed_at Commit who said now = Made Commit (Some who) now
+deed_at Release who said now = Made Release (Some who) now
+deed_at PostCommit who said now = Made PostCommit None now
+
+abbrev pub deed_in : Entry → Deed
+deed_in e = deed_at e.place.group e.who e.said e.time
+
+abbrev pub said_at : List Open → Said → ℕ → List ℕ → List Entry
+said_at os said now ws = map (at_place (open_place os) said now) ws
+
+-- ## the three ways
+
+-- one that is waited for
+pub record IsOne (a : Agenda) (ws : List ℕ) : Type 0 where
+  pub one : ℕ
+  pub is : ws ≡ one ∷ []
+  pub waits : is_among one (waits_now (groups_left a)) ≡ true
+
+-- all writers that are waited for
+pub record IsAll (a : Agenda) (ws : List ℕ) : Type 0 where
+  pub is : ws ≡ waits_now (groups_left a)
+  pub writers : is_orders (open_place (groups_left a)).group ≡ true
+
+abbrev pub Speaks : Agenda → List ℕ → Type 0
+Speaks a ws = IsOne a ws ⊎ IsAll a ws
+
+pub record Says (a : Agenda) (o : SetOutcome) (b : Option Agenda) (p : SetOutcome) (news : List Deed) : Type 0 where
+  pub said : Said
+  pub now : ℕ
+  pub ws : List ℕ
+  pub who : Speaks a ws
+  -- a refusal that decides stops the agenda
+  pub mild : (fails_set (order_of (open_place (groups_left a)).group) && not (is_ok said)) ≡ false
+  pub told : news ≡ map deed_in (said_at (groups_left a) said now ws)
+  pub settles : Settles (is_done (groups_left (all_say said now ws a))) (all_say said now ws a) o b p
+
+pub record Rests (a : Agenda) (o : SetOutcome) (b : Option Agenda) (p : SetOutcome) (news : List Deed) : Type 0 where
+  pub done : Bool
+  pub is_done : done ≡ true → is_done (groups_left a) ≡ true
+  pub told : news ≡ []
+  pub settles : Settles done a o b p
+
+abbrev pub Grows : Option Agenda → SetOutcome → Option Agenda → SetOutcome → List Deed → Type 0
+Grows None o b p news = (b ≡ None) × (p ≡ o) × (news ≡ [])
+Grows (Some a) o b p news = Stops b p ⊎ (Rests a o b p news ⊎ Says a o b p news)
+
+abbrev pub GrowsTo : Course → Course → List Deed → Type 0
+GrowsTo c d news = Grows c.agenda c.outcome d.agenda d.outcome news
+
+-- ## settled
+
+settles_if : (done : Bool) (b : Agenda) (o : SetOutcome) (d : Course) → d.agenda ≡ Some b → d.outcome ≡ o → Settles done b o (settled_if done b.kind d).agenda (settled_if done b.kind d).outcome
+settles_if true b o d e f = (refl, ap (λ x. outcome_after b.kind x) f)
+settles_if false b o d e f = (e, f)
+
+settles_in : (x : Option Agenda) (b : Agenda) (o : SetOutcome) (d : Course) → d.agenda ≡ x → x ≡ Some b → d.outcome ≡ o → Settles (is_done (groups_left b)) b o (settled_in x d).agenda (settled_in x d).outcome
+settles_in None b o d e f g = absurd cc
+settles_in (Some y) b o d e f g =
+    let same : y ≡ b = cc in
+    subst (λ z. Settles (is_done (groups_left z)) z o (settled_in (Some y) d).agenda (settled_in (Some y) d).outcome) same (settles_if (is_done (groups_left y)) y o d e g)
+
+settles : (b : Agenda) (o : SetOutcome) (d : Course) → d.agenda ≡ Some b → d.outcome ≡ o → Settles (is_done (groups_left b)) b o (settled d).agenda (settled d).outcome
+unfolding settled
+settles b o d e f = settles_in d.agenda b o d refl e f
+
+grows_posted : (before c d : Course) (news : List Deed) → GrowsTo c d news → GrowsTo c (posted before d) news
+unfolding posted
+grows_posted before c d news h = h
+
+grows_failed : (a : Agenda) (o : SetOutcome) (why : VssResult) (d : Course) (news : List Deed) → Grows (Some a) o (course_failed why d).agenda (course_failed why d).outcome news
+unfolding course_failed
+grows_failed a o why d news = inl (record { agenda = refl; failed = refl })
+
+grows_same : (a : Option Agenda) (o : SetOutcome) → Grows a o a o []
+grows_same None o = (refl, refl, refl)
+grows_same (Some a) o = inr (inl (record { done = false; is_done = λ e. absurd cc; told = refl; settles = (refl, refl) }))
+
+along : (a : Option Agenda) (c d : Course) (news : List Deed) → c.agenda ≡ a → Grows a c.outcome d.agenda d.outcome news → GrowsTo c d news
+along a c d news e h = subst (λ x. Grows x c.outcome d.agenda d.outcome news) (sym e) h
+
+-- ## the open place
+
+group_of_order : (g : Group) (o : Order) → order_of g ≡ Some o → g ≡ Orders o
+group_of_order (Orders x) o e = cc
+group_of_order PreCommit o e = absurd cc
+group_of_order Flush o e = absurd cc
+group_of_order Hold o e = absurd cc
+group_of_order Cut o e = absurd cc
+group_of_order Commit o e = absurd cc
+group_of_order Release o e = absurd cc
+group_of_order PostCommit o e = absurd cc
+
+pub now_group : (os : List Open) (o : Order) → order_now os ≡ Some o → (open_place os).group ≡ Orders o
+now_group [] o e = absurd cc
+now_group (x ∷ os) o e = group_of_order x.place.group o e
+
+open_now : (b : Bool) (x : Option Order) (o : Order) → order_if b x ≡ Some o → x ≡ Some o
+open_now true x o e = e
+open_now false x o e = absurd cc
+
+mild_at : (g : Group) (o : Order) (said : Said) → g ≡ Orders o → (is_decisive o && not (is_ok said)) ≡ false → (fails_set (order_of g) && not (is_ok said)) ≡ false
+mild_at g o said e f = ap (λ x. fails_set (order_of x) && not (is_ok said)) e ∙ f
+
+-- ## an answer
+
+says_told : (o : Order) (said : Said) (now : ℕ) (ws : List ℕ) (news : List Deed) (a : Agenda) (c : Course) → c.agenda ≡ Some a → Speaks a ws
+    → (fails_set (order_of (open_place (groups_left a)).group) && not (is_ok said)) ≡ false → news ≡ map deed_in (said_at (groups_left a) said now ws)
+    → Grows (Some a) c.outcome (settled (told o said now ws c)).agenda (settled (told o said now ws c)).outcome news
+unfolding told
+says_told o said now ws news a c e who mild told_so =
+    inr (inr (record { said = said; now = now; ws = ws; who = who; mild = mild; told = told_so; settles = settles (all_say said now ws a) c.outcome (told o said now ws c) (ap (option_map (all_say said now ws)) e) refl }))
+
+one_spoke : (g : Group) (o : Order) (w : ℕ) (said : Said) (now : ℕ) → g ≡ Orders o → Spoke o w said now ∷ [] ≡ deed_at g w said now ∷ []
+one_spoke g o w said now e = ap (λ x. deed_at x w said now ∷ []) (sym e)
+
+grows_decided : (fails : Bool) (w : ℕ) (o : Order) (said : Said) (now : ℕ) (a : Agenda) (c : Course) → c.agenda ≡ Some a → open_order (groups_left a) w ≡ Some o → (is_decisive o && not (is_ok said)) ≡ fails
+    → Grows (Some a) c.outcome (decided fails said (told o said now (w ∷ []) c)).agenda (decided fails said (told o said now (w ∷ []) c)).outcome (Spoke o w said now ∷ [])
+grows_decided true w o said now a c e f g = grows_failed a c.outcome _ (told o said now (w ∷ []) c) _
+grows_decided false w o said now a c e f g =
+    let os = groups_left a in
+    let group = now_group os o (open_now (is_asked w os) (order_now os) o f) in
+    says_told o said now (w ∷ []) _ a c e (inl (record { one = w; is = refl; waits = (asked_waits os w (asked_if (is_asked w os) (order_now os) o f)).1 }))
+    (mild_at (open_place os).group o said group g) (one_spoke (open_place os).group o w said now group)
+
+grows_answered_at : (x : Option Agenda) (w : ℕ) (o : Order) (said : Said) (now : ℕ) (c : Course) → c.agenda ≡ x → open_order (left x) w ≡ Some o → GrowsTo c (answered_to (Some o) w said now c) (Spoke o w said now ∷ [])
+grows_answered_at None w o said now c e f = absurd (no_order (is_asked w (left None)) f)
+  where
+    no_order : (b : Bool) → order_if b None ≡ Some o → ⊥
+    no_order true e = cc
+    no_order false e = cc
+grows_answered_at (Some a) w o said now c e f = along (Some a) c (answered_to (Some o) w said now c) _ e (grows_decided (is_decisive o && not (is_ok said)) w o said now a c e f refl)
+
+pub grows_answered : (w : ℕ) (o : Order) (said : Said) (now : ℕ) (c : Course) → open_order (left c.agenda) w ≡ Some o → GrowsTo c (course_answered w said now c) (Spoke o w said now ∷ [])
+grows_answered w o said now c e =
+    grows_posted c c _ _ (subst (λ x. GrowsTo c (answered_to x w said now c) (Spoke o w said now ∷ [])) (sym e) (grows_answered_at c.agenda w o said now c refl e))
+
+-- ## a step
+
+first_among : (w : ℕ) (ws : List ℕ) → is_among w (w ∷ ws) ≡ true
+first_among w ws = own w (is_among w ws)
+  where
+    own : (a : ℕ) (b : Bool) → ((a == a) || b) ≡ true
+    own a b = grind arith
+
+head_waits : (a : Agenda) (ps : List Place) → is_working (left_from a ps) ≡ true → is_among (next_member (left_from a ps)) (waits_now (left_from a ps)) ≡ true
+head_waits a [] e = absurd cc
+head_waits a (p ∷ ps) e = at_group p (waited_for a p) (left_from a ps) (head_waits a ps) e
+  where
+    at_group : (p : Place) (ws : List ℕ) (later : List Open) → (is_working later ≡ true → is_among (next_member later) (waits_now later) ≡ true) → is_working (with_group p ws later) ≡ true
+        → is_among (next_member (with_group p ws later)) (waits_now (with_group p ws later)) ≡ true
+    at_group p [] later ih e = ih e
+    at_group p (w ∷ ws) later ih e = first_among w ws
+
+not_ok_of_ok : (b : Bool) → (b && not true) ≡ false
+not_ok_of_ok true = refl
+not_ok_of_ok false = refl
+
+abbrev pub made_now : List Open → ℕ → Option Group → List Deed
+made_now os now None = []
+made_now os now (Some g) = Made g (next_volume os) now ∷ []
+
+made_at : (g : Group) (who now : ℕ) → not (is_orders g) ≡ true → Made g (volume_if (is_over_volumes g) who) now ≡ deed_at g who Ok now
+made_at (Orders o) who now e = absurd cc
+made_at PreCommit who now e = refl
+made_at Flush who now e = refl
+made_at Hold who now e = refl
+made_at Cut who now e = refl
+made_at Commit who now e = refl
+made_at Release who now e = refl
+made_at PostCommit who now e = refl
+
+step_told : (os : List Open) (now : ℕ) → is_working os ≡ true → made_now os now (open_group os) ≡ map deed_in (said_at os Ok now (next_member os ∷ []))
+step_told [] now e = absurd cc
+step_told (x ∷ os) now e = ap (λ d. d ∷ []) (made_at x.place.group (head_or_0 x.waits) now e)
+
+says_worked : (now : ℕ) (a : Agenda) (c : Course) → c.agenda ≡ Some a → is_working (groups_left a) ≡ true
+    → Grows (Some a) c.outcome (settled (worked now c)).agenda (settled (worked now c)).outcome (made_now (groups_left a) now (open_group (groups_left a)))
+unfolding worked
+says_worked now a c e f =
+    let w = next_member (groups_left a) in
+    let b : Agenda = all_say Ok now (w ∷ []) a in
+    inr (inr (record {
+      said = Ok;
+      now = now;
+      ws = w ∷ [];
+      who = inl (record { one = w; is = refl; waits = head_waits a (places a.kind) f });
+      mild = not_ok_of_ok (fails_set (order_of (open_place (groups_left a)).group));
+      told = step_told (groups_left a) now f;
+      settles = settles b c.outcome (worked now c) (ap (λ x. option_map (all_say Ok now (next_member (left x) ∷ [])) x) e) refl;
+    }))
+
+grows_stepped_as : (ok : Bool) (x : Option Agenda) (now : ℕ) (c : Course) → c.agenda ≡ x → is_working (left x) ≡ true → GrowsTo c (course_stepped_as ok now c) (made_now (left x) now (open_group (left x)))
+grows_stepped_as ok None now c e f = absurd cc
+grows_stepped_as true (Some a) now c e f = along (Some a) c (course_stepped_as true now c) _ e (says_worked now a c e f)
+grows_stepped_as false (Some a) now c e f = along (Some a) c (course_stepped_as false now c) _ e (grows_failed a c.outcome _ c _)
+
+pub grows_stepped : (ok : Bool) (now : ℕ) (c : Course) → is_working (left c.agenda) ≡ true → GrowsTo c (course_stepped ok now c) (made_now (left c.agenda) now (open_group (left c.agenda)))
+grows_stepped ok now c f = grows_posted c c _ _ (grows_stepped_as ok c.agenda now c refl f)
+
+-- ## time
+
+abbrev pub lost_told : ℕ → Option RunningLimit → List Open → List Deed
+lost_told now l os = deeds_lost now (lost_order_if (lost_at l (order_now os) (waits_now os)) (order_now os)) (lost_at l (order_now os) (waits_now os))
+
+map_lost : (p : Place) (o : Order) (now : ℕ) (ws : List ℕ) → p.group ≡ Orders o → map (λ w. Spoke o w Lost now) ws ≡ map deed_in (map (at_place p Lost now) ws)
+map_lost p o now [] e = refl
+map_lost p o now (w ∷ ws) e =
+    ap (λ g. deed_at g w Lost now ∷ map (λ x. Spoke o x Lost now) ws) (sym e) ∙ ap (λ ds. deed_at p.group w Lost now ∷ ds) (map_lost p o now ws e)
+
+lost_are : (p : Place) (o : Order) (now : ℕ) (ws : List ℕ) → p.group ≡ Orders o → deeds_lost now (lost_order_if ws (Some o)) ws ≡ map deed_in (map (at_place p Lost now) ws)
+lost_are p o now [] e = refl
+lost_are p o now (w ∷ ws) e = map_lost p o now (w ∷ ws) e
+
+-- what is told of lost answers, by the open order
+abbrev lost_by : ℕ → Option Order → List ℕ → List Deed
+lost_by now None ws = []
+lost_by now (Some o) ws = deeds_lost now (lost_order_if ws (Some o)) ws
+
+grows_lost_to : (o : Option Order) (now : ℕ) (a : Agenda) (c : Course) → c.agenda ≡ Some a → order_now (groups_left a) ≡ o → fails_set o ≡ false
+    → Grows (Some a) c.outcome (settled (lost_to o now c)).agenda (settled (lost_to o now c)).outcome (lost_by now o (waits_now (groups_left a)))
+grows_lost_to None now a c e f g = inr (inl (record { done = is_done (groups_left a); is_done = λ h. h; told = refl; settles = settles a c.outcome c e refl }))
+grows_lost_to (Some o) now a c e f g =
+    let os = groups_left a in
+    let group = now_group os o f in
+    subst (λ ws. Grows (Some a) c.outcome (settled (told o Lost now ws c)).agenda (settled (told o Lost now ws c)).outcome (lost_by now (Some o) (waits_now os))) (ap (λ x. waits_now (left x)) (sym e))
+    (says_told o Lost now (waits_now os) _ a c e (inr (record { is = refl; writers = ap is_orders group })) (mild_at (open_place os).group o Lost group (rw g refl)) (lost_are (open_place os) o now (waits_now os) group))
+
+grows_lost_decided : (fails : Bool) (now : ℕ) (a : Agenda) (c : Course) → c.agenda ≡ Some a → fails_set (order_now (groups_left a)) ≡ fails
+    → Grows (Some a) c.outcome (lost_decided fails (lost_to (order_now (groups_left a)) now c)).agenda (lost_decided fails (lost_to (order_now (groups_left a)) now c)).outcome (lost_by now (order_now (groups_left a)) (waits_now (groups_left a)))
+grows_lost_decided true now a c e f = grows_failed a c.outcome _ (lost_to (order_now (groups_left a)) now c) _
+grows_lost_decided false now a c e f = grows_lost_to (order_now (groups_left a)) now a c e refl f
+
+grows_treated_as : (l : Limit) (now : ℕ) (a : Agenda) (c : Course) → c.agenda ≡ Some a → Grows (Some a) c.outcome (treated_as l now c).agenda (treated_as l now c).outcome (lost_by now (order_now (groups_left a)) (waits_now (groups_left a)))
+grows_treated_as HoldLimit now a c e = grows_failed a c.outcome _ c _
+grows_treated_as FreezeLimit now a c e = grows_failed a c.outcome _ (lost now c) _
+grows_treated_as AnswerLimit now a c e =
+    let R : Option Agenda → Type 0 = λ x. Grows (Some a) c.outcome (lost_decided (fails_set (order_now (left x))) (lost_to (order_now (left x)) now c)).agenda (lost_decided (fails_set (order_now (left x))) (lost_to (order_now (left x)) now c)).outcome (lost_by now (order_now (groups_left a)) (waits_now (groups_left a))) in
+    subst R (sym e) (grows_lost_decided (fails_set (order_now (groups_left a))) now a c e refl)
+
+lost_by_is : (l : RunningLimit) (now : ℕ) (o : Option Order) (ws : List ℕ) → lost_by now o ws ≡ deeds_lost now (lost_order_if (lost_at (Some l) o ws) o) (lost_at (Some l) o ws)
+lost_by_is l now None ws = refl
+lost_by_is l now (Some o) ws = refl
+
+grows_treated : (l : Option RunningLimit) (now : ℕ) (a : Agenda) (c : Course) → c.agenda ≡ Some a → Grows (Some a) c.outcome (treated l now c).agenda (treated l now c).outcome (lost_told now l (groups_left a))
+grows_treated None now a c e = subst (λ x. Grows (Some a) c.outcome x c.outcome []) (sym e) (grows_same (Some a) c.outcome)
+grows_treated (Some l) now a c e =
+    subst (λ news. Grows (Some a) c.outcome (treated_as l.limit now c).agenda (treated_as l.limit now c).outcome news) (lost_by_is l now (order_now (groups_left a)) (waits_now (groups_left a))) (grows_treated_as l.limit now a c e)
+
+grows_timed_at : (x : Option Agenda) (now : ℕ) (c : Course) → c.agenda ≡ x → GrowsTo c (treated (spent_of now (running_limits (freeze_limit c) x)) now c) (lost_told now (spent_of now (running_limits (freeze_limit c) x)) (left x))
+grows_timed_at None now c e = grows_same c.agenda c.outcome
+grows_timed_at (Some a) now c e = along (Some a) c (treated (spent_of now (running_limits (freeze_limit c) (Some a))) now c) _ e (grows_treated (spent_of now (running_limits (freeze_limit c) (Some a))) now a c e)
+
+pub grows_timed : (now : ℕ) (c : Course) → GrowsTo c (course_timed now c) (lost_told now (spent_of now (limits_now c)) (left c.agenda))
+grows_timed now c = grows_posted c c _ _ (grows_timed_at c.agenda now c refl)

@@ -1,0 +1,220 @@
+-- The times in a snapshot's log rise. So where more than a limit has gone by since some Hold step, it has since the first.
+use Rattle.std.proofs.Common.{◌≡◌, ◌∙◌, ℕ, ◌+◌, ◌≤◌, List, [], ◌∷◌, ◌++◌, Option, Some, None, refl, Bool, true, false, ap, sym, subst, map, find, fold, arith}
+use Rattle.std.specs.Prelude.{◌&&◌, ◌||◌, nat_lt, if◌then◌else◌}
+use Rattle.std.specs.List.{list_any}
+use Rattle.vss_names.specs.declared.order.Order.{Order}
+use Rattle.vss_names.specs.declared.order.Order.TheVariants.{Identify, PrepareBackup, BackupComplete}
+use Rattle.tick_limits.specs.Time.{hold_limit}
+use Rattle.set_agenda.specs.declared.group.Group.{Group}
+use Rattle.set_agenda.specs.declared.group.Group.TheVariants.{Orders, PreCommit, Flush, Hold, Cut, Commit, Release, PostCommit}
+use Rattle.set_agenda.specs.declared.kind.Kind.{Kind}
+use Rattle.set_agenda.specs.declared.kind.Kind.TheVariants.{Gather, Prepare, Snapshot, Complete}
+use Rattle.set_agenda.specs.declared.place.Place.{Place}
+use Rattle.set_agenda.specs.Agenda.{Agenda, Entry, Open, plain, places, waited_for, with_group, left_from, groups_left}
+use Rattle.set_agenda.specs.Course.{Course}
+use Rattle.scenario.specs.Plan.{Plan}
+use Rattle.vss_model.specs.declared.event.Event.{Event}
+use Rattle.vss_model.specs.declared.event.Event.TheVariants.{Line, Answer as AnswerEvent, Provider, Idle}
+use Rattle.vss_model.specs.Reply.{Reply, Answered, Stepped}
+use Rattle.vss_model.specs.State.{State, start}
+use Rattle.vss_model.specs.Acts.{Act, enabled, reply, after, state}
+use Rattle.vss_model.specs.Effects.{lost, lost_order}
+use Rattle.vss_model.specs.Causes.{has_passed, holds_volumes, is_hold_step, frozen_too_long, unanswered_too_long, is_late_at, is_late_in}
+use Rattle.vss_model.proofs.LogRule.{Running}
+use Rattle.promises.specs.Clock.{ticks_if}
+use Rattle.promises.specs.Way.{Deed, Spoke, Made, steps_told, deeds_told, deeds_lost, deeds_if, deeds, begins_snapshot, Rising, way_after, way_from, way}
+use Rattle.promises.proofs.Along.{along}
+use Rattle.promises.proofs.Clock.{clock_after}
+use Rattle.promises.proofs.Limits.{held_since_first, passed_since, is_due_at, is_due_in}
+use Rattle.promises.proofs.Speaks.{deed_at, deed_in}
+use Rattle.promises.proofs.Stages.{Below, below_more}
+use Rattle.promises.proofs.Whole.{Good, good_along}
+
+abbrev time_of : Deed → ℕ
+time_of (Spoke order w said now) = now
+time_of (Made g v now) = now
+
+entry_time : (g : Group) (e : Entry) → time_of (deed_at g e.who e.said e.time) ≡ e.time
+entry_time (Orders o) e = refl
+entry_time PreCommit e = refl
+entry_time Flush e = refl
+entry_time Hold e = refl
+entry_time Cut e = refl
+entry_time Commit e = refl
+entry_time Release e = refl
+entry_time PostCommit e = refl
+
+-- ## what one act tells
+
+abbrev AllAt : ℕ → List Deed → Type 0
+AllAt now [] = Unit {0}
+AllAt now (d ∷ ds) = (time_of d ≡ now) × AllAt now ds
+
+at_both : (now : ℕ) (xs ys : List Deed) → AllAt now xs → AllAt now ys → AllAt now (xs ++ ys)
+at_both now [] ys h i = i
+at_both now (x ∷ xs) ys h i = (h.0, at_both now xs ys h.1 i)
+
+at_steps : (now : ℕ) (g : Group) (v : Option ℕ) (fault : Bool) → AllAt now (steps_told now g v fault)
+at_steps now g v true = tt
+at_steps now g v false = (refl, tt)
+
+at_told : (now : ℕ) (event : Event) (told : Reply) → AllAt now (deeds_told now event told)
+at_told now (Line lane op) told = tt
+at_told now (AnswerEvent w answer) (Answered order a) = (refl, tt)
+at_told now (AnswerEvent w answer) told = tt
+at_told now Provider (Stepped g v fault) = at_steps now g v fault
+at_told now Provider told = tt
+at_told now Idle told = tt
+
+at_lost : (now : ℕ) (o : Option Order) (ws : List ℕ) → AllAt now (deeds_lost now o ws)
+at_lost now None ws = tt
+at_lost now (Some order) [] = tt
+at_lost now (Some order) (w ∷ ws) = (refl, at_lost now (Some order) ws)
+
+at_deeds : (b : Bool) (s : Plan) (st : State) (act : Act) → AllAt (after s st act).clock (deeds_if b s st act)
+at_deeds true s st act =
+    let now = (after s st act).clock in
+    at_both now (deeds_told now act.event (reply s st act)) (deeds_lost now (lost_order st act.event) (lost st act.event)) (at_told now act.event (reply s st act)) (at_lost now (lost_order st act.event) (lost st act.event))
+at_deeds false s st act = tt
+
+-- ## every list of acts
+
+pub record InTime (now : ℕ) (ds : List Deed) : Type 0 where
+  pub rising : Rising (map time_of ds)
+  pub below : Below now (map time_of ds)
+
+same_below : (k : ℕ) (ds : List Deed) → AllAt k ds → Below k (map time_of ds)
+same_below k [] h = tt
+same_below k (d ∷ ds) h = (at_most (time_of d) k h.0, same_below k ds h.1)
+  where
+    at_most : (a b : ℕ) → a ≡ b → a ≤ b
+    at_most a b e = omega arith
+
+same_rising : (k : ℕ) (ds : List Deed) → AllAt k ds → Rising (map time_of ds)
+same_rising k [] h = tt
+same_rising k (d ∷ []) h = tt
+same_rising k (d ∷ e ∷ ds) h = (not_more (time_of d) (time_of e) k h.0 h.1.0, same_rising k (e ∷ ds) h.1)
+  where
+    not_more : (a b k : ℕ) → a ≡ k → b ≡ k → a ≤ b
+    not_more a b k e f = omega arith
+
+rising_with : (k : ℕ) (xs ys : List Deed) → Rising (map time_of xs) → Below k (map time_of xs) → AllAt k ys → Rising (map time_of (xs ++ ys))
+rising_with k [] ys r b h = same_rising k ys h
+rising_with k (x ∷ []) [] r b h = tt
+rising_with k (x ∷ []) (y ∷ ys) r b h = (not_more (time_of x) (time_of y) k b.0 h.0, same_rising k (y ∷ ys) h)
+  where
+    not_more : (a b k : ℕ) → a ≤ k → b ≡ k → a ≤ b
+    not_more a b k e f = omega arith
+rising_with k (x ∷ z ∷ xs) ys r b h = (r.0, rising_with k (z ∷ xs) ys r.1 b.1 h)
+
+below_with : (k : ℕ) (xs ys : List Deed) → Below k (map time_of xs) → AllAt k ys → Below k (map time_of (xs ++ ys))
+below_with k [] ys b h = same_below k ys h
+below_with k (x ∷ xs) ys b h = (b.0, below_with k xs ys b.1 h)
+
+later_clock : (s : Plan) (st : State) (act : Act) → st.clock ≤ (after s st act).clock
+later_clock s st act = no_less st.clock (after s st act).clock (ticks_if (enabled s st act.event) st act.event) (clock_after s st act)
+  where
+    no_less : (a b c : ℕ) → b ≡ a + c → a ≤ b
+    no_less a b c e = omega arith
+
+in_time_after : (s : Plan) (st : State) (so_far : List Deed) (act : Act) → InTime st.clock so_far → InTime (after s st act).clock (way_after s st so_far act)
+in_time_after s st so_far act h = by_begin (begins_snapshot s st act)
+  where
+    by_begin : (b : Bool) → InTime (after s st act).clock (if b then [] else so_far ++ deeds s st act)
+    by_begin true = record { rising = tt; below = tt }
+    by_begin false =
+        let now = (after s st act).clock in
+        let under = below_more st.clock now (map time_of so_far) (later_clock s st act) h.below in
+        let new = at_deeds (enabled s st act.event) s st act in
+        record { rising = rising_with now so_far (deeds s st act) h.rising under new; below = below_with now so_far (deeds s st act) under new }
+
+in_time_from : (s : Plan) (st : State) (so_far : List Deed) (acts : List Act) → InTime st.clock so_far → InTime (fold (after s) st acts).clock (way_from s st so_far acts)
+in_time_from s st so_far [] h = h
+in_time_from s st so_far (act ∷ acts) h = in_time_from s (after s st act) (way_after s st so_far act) acts (in_time_after s st so_far act h)
+
+pub way_in_time : (s : Plan) (acts : List Act) → InTime (state s acts).clock (way s acts)
+way_in_time s acts = in_time_from s (start s) [] acts (record { rising = tt; below = tt })
+
+-- ## the first Hold step
+
+times_are : (log : List Entry) → map time_of (map deed_in log) ≡ map (λ (e : Entry). e.time) log
+times_are [] = refl
+times_are (e ∷ log) = ap (λ n. n ∷ map time_of (map deed_in log)) (entry_time e.place.group e) ∙ ap (λ ns. e.time ∷ ns) (times_are log)
+
+abbrev times : List Entry → List ℕ
+times log = map (λ (e : Entry). e.time) log
+
+-- what has gone by since a later entry has since the first
+passed_before : (limit now t : ℕ) (test : Entry → Bool) (log : List Entry) → Rising (t ∷ times log) → list_any (λ (e : Entry). test e && has_passed limit e.time now) log ≡ true → has_passed limit t now ≡ true
+passed_before limit now t test [] r e = absurd cc
+passed_before limit now t test (x ∷ log) r e = by_head (test x) (has_passed limit x.time now) refl e (passed_before limit now x.time test log r.1)
+  where
+    earlier : (l n a b : ℕ) → a ≤ b → nat_lt (b + l) n ≡ true → nat_lt (a + l) n ≡ true
+    earlier l n a b h e = grind arith
+
+    by_head : (b c : Bool) → has_passed limit x.time now ≡ c → ((b && c) || list_any (λ (e : Entry). test e && has_passed limit e.time now) log) ≡ true
+        → (list_any (λ (e : Entry). test e && has_passed limit e.time now) log ≡ true → has_passed limit x.time now ≡ true) → has_passed limit t now ≡ true
+    by_head true true f g ih = earlier limit now t x.time r.0 f
+    by_head true false f g ih = earlier limit now t x.time r.0 (ih g)
+    by_head false c f g ih = earlier limit now t x.time r.0 (ih g)
+
+first_passed : (now : ℕ) (log : List Entry) → Rising (times log) → list_any (λ (e : Entry). is_hold_step e.place.group && has_passed hold_limit e.time now) log ≡ true
+    → passed_since now (find (λ (e : Entry). is_hold_step e.place.group) log) ≡ true
+first_passed now [] r e = absurd cc
+first_passed now (x ∷ log) r e = by_head (is_hold_step x.place.group) (has_passed hold_limit x.time now) refl e (first_passed now log (rest x.time (times log) r))
+  where
+    rest : (n : ℕ) (ns : List ℕ) → Rising (n ∷ ns) → Rising ns
+    rest n [] h = tt
+    rest n (m ∷ ns) h = h.1
+
+    by_head : (b c : Bool) → has_passed hold_limit x.time now ≡ c → ((b && c) || list_any (λ (e : Entry). is_hold_step e.place.group && has_passed hold_limit e.time now) log) ≡ true
+        → (list_any (λ (e : Entry). is_hold_step e.place.group && has_passed hold_limit e.time now) log ≡ true → passed_since now (find (λ (e : Entry). is_hold_step e.place.group) log) ≡ true)
+        → passed_since now (if b then Some x else find (λ (e : Entry). is_hold_step e.place.group) log) ≡ true
+    by_head true true f g ih = f
+    by_head true false f g ih = passed_before hold_limit now x.time (λ (e : Entry). is_hold_step e.place.group) log r g
+    by_head false c f g ih = ih g
+
+-- only a snapshot holds volumes
+no_hold : (p : Place) (ws : List ℕ) → holds_volumes p.group ≡ false → (o : Open) (os : List Open) → with_group p ws [] ≡ o ∷ os → holds_volumes o.place.group ≡ true → ⊥
+no_hold p [] f o os e h = absurd cc
+no_hold p (w ∷ ws) f o os e h = differ (holds_volumes o.place.group) h (ap (λ (x : Open). holds_volumes x.place.group) (sym (first_of_lists (record { place = p; waits = w ∷ ws }) o os e)) ∙ f)
+  where
+    first_of_lists : (x o : Open) (os : List Open) → x ∷ [] ≡ o ∷ os → x ≡ o
+    first_of_lists x o os e = cc
+
+    differ : (b : Bool) → b ≡ true → b ≡ false → ⊥
+    differ b e f = cc
+
+holds_in_snapshot : (k : Kind) (a : Agenda) (o : Open) (os : List Open) → left_from a (places k) ≡ o ∷ os → holds_volumes o.place.group ≡ true → k ≡ Snapshot
+holds_in_snapshot Snapshot a o os e h = refl
+holds_in_snapshot Gather a o os e h = absurd (no_hold (plain (Orders Identify)) (waited_for a (plain (Orders Identify))) refl o os e h)
+holds_in_snapshot Prepare a o os e h = absurd (no_hold (plain (Orders PrepareBackup)) (waited_for a (plain (Orders PrepareBackup))) refl o os e h)
+holds_in_snapshot Complete a o os e h = absurd (no_hold (plain (Orders BackupComplete)) (waited_for a (plain (Orders BackupComplete))) refl o os e h)
+
+-- ## late is due
+
+due_at : (now : ℕ) (c : Course) (a : Agenda) (os : List Open) → groups_left a ≡ os → (a.kind ≡ Snapshot → Rising (times a.log)) → is_late_at now c a os ≡ true → is_due_at now c a os ≡ true
+due_at now c a [] e r h = absurd cc
+due_at now c a (o ∷ os) e r h =
+    by_parts (holds_volumes o.place.group) (list_any (λ (x : Entry). is_hold_step x.place.group && has_passed hold_limit x.time now) a.log) (held_since_first now a) (frozen_too_long now o.place.group c a) (unanswered_too_long now o.place a) refl
+    (λ f g. first_passed now a.log (r (holds_in_snapshot a.kind a o os e f)) g) h
+  where
+    by_parts : (b l p f u : Bool) → holds_volumes o.place.group ≡ b → (holds_volumes o.place.group ≡ true → l ≡ true → p ≡ true) → ((b && l) || f || u) ≡ true → ((b && p) || f || u) ≡ true
+    by_parts true true p f u i g h = rw (g i refl) refl
+    by_parts true false true f u i g h = refl
+    by_parts true false false f u i g h = h
+    by_parts false l p f u i g h = h
+
+due_in_agenda : (now : ℕ) (c : Course) (a : Option Agenda) → Running (λ (x : Agenda). x.kind ≡ Snapshot → Rising (times x.log)) a → is_late_in now c a ≡ true → is_due_in now c a ≡ true
+due_in_agenda now c None r h = absurd cc
+due_in_agenda now c (Some a) r h = due_at now c a (groups_left a) refl r h
+
+log_in_time : (s : Plan) (ds : List Deed) (a : Option Agenda) → Rising (map time_of ds) → Running (λ (x : Agenda). x.kind ≡ Snapshot → (map deed_in x.log ≡ ds) × Good s x) a → Running (λ (x : Agenda). x.kind ≡ Snapshot → Rising (times x.log)) a
+log_in_time s ds None r h = tt
+log_in_time s ds (Some a) r h = λ k. subst Rising (ap (map time_of) (sym (h k).0) ∙ times_are a.log) r
+
+-- in every state
+pub late_is_due : (s : Plan) (acts : List Act) (now : ℕ) → is_late_in now (state s acts).course (state s acts).course.agenda ≡ true → is_due_in now (state s acts).course (state s acts).course.agenda ≡ true
+late_is_due s acts now h =
+    due_in_agenda now (state s acts).course (state s acts).course.agenda
+    (log_in_time s (way s acts) (state s acts).course.agenda (way_in_time s acts).rising (along (Good s) (good_along s) s acts)) h

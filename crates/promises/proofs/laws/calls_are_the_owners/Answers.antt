@@ -1,0 +1,5 @@
+use Rattle.promises.proofs.Calls.{calls_are_owned}
+use Rattle.promises.proofs.laws.calls_are_the_owners.Goals as goal
+
+pub returns : goal.returns
+returns c = calls_are_owned

@@ -1,0 +1,50 @@
+-- What changes the contents of a volume: a write that no device failed, which puts its bytes into its block; or a revert, to what
+-- the image shows. (This project's own.)
+use Rattle.std.specs.Prelude.{ℕ, ◌≡◌, ◌<◌, ◌==◌, ◌&&◌, Bool, true, false, List, Some, None, length}
+use Rattle.block_data.specs.declared.payload.Payload.TheVariants.{Fill, Stamp}
+use Rattle.block_data.specs.PayloadBytes.{payload_bytes}
+use Rattle.write_history.specs.declared.mark.Mark.{Mark}
+use Rattle.write_history.specs.declared.mark.Mark.TheVariants.{Clean, Fault, FaultAfter}
+use Rattle.write_history.specs.History.{content}
+use Rattle.scenario.specs.declared.op.Op.{Op}
+use Rattle.scenario.specs.declared.op.Op.TheVariants.{WriteFill, WriteStamp, Revert}
+use Rattle.scenario.specs.Plan.{Plan}
+use Rattle.vss_model.specs.declared.event.Event.{Event}
+use Rattle.vss_model.specs.declared.event.Event.TheVariants.{Line, Answer as AnswerEvent, Provider, Idle}
+use Rattle.vss_model.specs.State.{State, Kept, history_of, kept_image}
+use Rattle.vss_model.specs.Images.{revert_refusal}
+use Rattle.vss_model.specs.Acts.{Act, enabled, after, state}
+
+-- block b of volume v
+abbrev pub block_now : State → ℕ → ℕ → List ℕ
+block_now st v b = content (history_of st v).writes (length (history_of st v).writes) b
+
+abbrev pub is_clean : Mark → Bool
+is_clean Clean = true
+is_clean Fault = false
+is_clean (FaultAfter k) = false
+
+-- the line, with its mark, may change block b of volume v
+abbrev pub line_changes : ℕ → ℕ → Op → Mark → Bool
+line_changes v b (WriteFill u c x) mark = is_clean mark && (u == v) && (c == b)
+line_changes v b (WriteStamp u c x) mark = is_clean mark && (u == v) && (c == b)
+line_changes v b (Revert n u) mark = u == v
+line_changes v b _ mark = false
+
+abbrev pub may_change : ℕ → ℕ → Event → Mark → Bool
+may_change v b (Line lane op) mark = line_changes v b op mark
+may_change v b (AnswerEvent w answer) mark = false
+may_change v b Provider mark = false
+may_change v b Idle mark = false
+
+pub record ContentsChange (s : Plan) (so_far : List Act) (act : Act) : Type 0 where
+  -- every other act leaves the block as it is
+  pub stay : (v b : ℕ) → may_change v b act.event act.mark ≡ false → block_now (after s (state s so_far) act) v b ≡ block_now (state s so_far) v b
+  -- a write that may come, and that no device fails, puts its bytes into the block
+  pub filled : (lane v b x : ℕ) → act.event ≡ Line lane (WriteFill v b x) → act.mark ≡ Clean → enabled s (state s so_far) act.event ≡ true → v < length s.volumes
+      → block_now (after s (state s so_far) act) v b ≡ payload_bytes (Fill x)
+  pub stamped : (lane v b x : ℕ) → act.event ≡ Line lane (WriteStamp v b x) → act.mark ≡ Clean → enabled s (state s so_far) act.event ≡ true → v < length s.volumes
+      → block_now (after s (state s so_far) act) v b ≡ payload_bytes (Stamp x)
+  -- a revert that is not refused, and that no device fails, brings every block back to what the image shows
+  pub reverted : (lane n v b : ℕ) (k : Kept) → act.event ≡ Line lane (Revert n v) → act.mark ≡ Clean → kept_image (state s so_far) n v ≡ Some k → revert_refusal v (Some k) (state s so_far) ≡ None
+      → v < length s.volumes → block_now (after s (state s so_far) act) v b ≡ content (history_of (state s so_far) v).writes k.point b

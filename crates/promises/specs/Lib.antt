@@ -1,0 +1,10 @@
+pub mod Way
+pub mod Gone
+pub mod Done
+pub mod Failing
+pub mod Contents
+pub mod Clock
+pub mod Idle
+pub mod Calls
+pub mod Sets
+pub mod Promises

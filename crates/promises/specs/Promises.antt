@@ -1,0 +1,38 @@
+-- The promises of a run, together: what holds of each act of its trail, and of each state that it comes to. (This project's own.)
+use Rattle.std.specs.Prelude.{◌≡◌, List, ◌∷◌, ◌++◌}
+use Rattle.write_history.specs.declared.move_item.Move.{Move}
+use Rattle.scenario.specs.Plan.{Plan}
+use Rattle.vss_model.specs.Acts.{Act}
+use Rattle.vss_model.specs.Trail.{acts}
+use Rattle.promises.specs.Calls.{CallsAreOwned, WaitsAreFew, StandsQuiet, FrozenDoNotWrite}
+use Rattle.promises.specs.Clock.{ClockMoves}
+use Rattle.promises.specs.Contents.{ContentsChange}
+use Rattle.promises.specs.Done.{IsDone}
+use Rattle.promises.specs.Failing.{FailsForCause}
+use Rattle.promises.specs.Gone.{ImagesGoForCause}
+use Rattle.promises.specs.Idle.{IdlesShortest}
+use Rattle.promises.specs.Sets.{VolumesAreDistinct}
+use Rattle.promises.specs.Way.{CompletesByTheWay}
+
+-- of an act that comes after these
+pub record IsActAsPromised (s : Plan) (so_far : List Act) (act : Act) : Type 0 where
+  pub completes : CompletesByTheWay s so_far act
+  pub fails : FailsForCause s so_far act
+  pub images : ImagesGoForCause s so_far act
+  pub done : IsDone s so_far act
+  pub contents : ContentsChange s so_far act
+  pub clock : ClockMoves s so_far act
+  pub calls : CallsAreOwned s so_far act
+
+-- of the state after these acts
+pub record IsStateAsPromised (s : Plan) (so_far : List Act) : Type 0 where
+  pub waits : WaitsAreFew s so_far
+  pub quiet : StandsQuiet s so_far
+  pub frozen : FrozenDoNotWrite s so_far
+  pub volumes : VolumesAreDistinct s so_far
+  pub idles : IdlesShortest s so_far
+
+-- of each act of a trail, and of each state on its way
+pub record IsAsPromised (s : Plan) (trail : List Move) : Type 0 where
+  pub each_act : (so_far rest : List Act) (act : Act) → acts s trail ≡ so_far ++ act ∷ rest → IsActAsPromised s so_far act
+  pub each_state : (so_far rest : List Act) → acts s trail ≡ so_far ++ rest → IsStateAsPromised s so_far

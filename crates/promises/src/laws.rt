@@ -1,0 +1,75 @@
+//! The promises: functions that do nothing, whose contracts are the laws.
+
+ghost use Rattle.std.specs.Prelude.{List};
+ghost use Rattle.write_history.specs.declared.move_item.Move.{Move};
+ghost use Rattle.scenario.specs.Plan.{Plan};
+ghost use Rattle.vss_model.specs.Acts.{Act};
+ghost use Rattle.promises.specs.Calls.{CallsAreOwned, WaitsAreFew, StandsQuiet, FrozenDoNotWrite};
+ghost use Rattle.promises.specs.Clock.{ClockMoves};
+ghost use Rattle.promises.specs.Contents.{ContentsChange};
+ghost use Rattle.promises.specs.Done.{IsDone};
+ghost use Rattle.promises.specs.Failing.{FailsForCause};
+ghost use Rattle.promises.specs.Gone.{ImagesGoForCause};
+ghost use Rattle.promises.specs.Idle.{IdlesShortest};
+ghost use Rattle.promises.specs.Promises.{IsAsPromised};
+ghost use Rattle.promises.specs.Sets.{VolumesAreDistinct};
+ghost use Rattle.promises.specs.Way.{CompletesByTheWay};
+
+/// A set that completes has come the whole way since its `snapshot` line: PrepareSnapshot, Freeze, PreCommit, Flush, Hold, Cut,
+/// Commit, Release, PostCommit, Thaw, PostSnapshot, in this order and nothing twice.
+pub fn sets_complete_by_the_way()
+    ensures { (s : Plan) (so_far : List Act) (act : Act) → CompletesByTheWay s so_far act }
+{}
+
+/// An image goes only where its set fails, a line takes it, or a write finds no slot left in its group.
+pub fn images_go_for_cause()
+    ensures { (s : Plan) (so_far : List Act) (act : Act) → ImagesGoForCause s so_far act }
+{}
+
+/// No volume is twice in a set.
+pub fn volumes_are_once_in_a_set()
+    ensures { (s : Plan) (so_far : List Act) → VolumesAreDistinct s so_far }
+{}
+
+/// An act that gives a cause fails the set in progress in that act, and no other act fails it.
+pub fn sets_fail_for_cause()
+    ensures { (s : Plan) (so_far : List Act) (act : Act) → FailsForCause s so_far act }
+{}
+
+/// After a `delete` what it names is gone, and after a revert the images of later sets on its volume are.
+pub fn what_is_asked_is_done()
+    ensures { (s : Plan) (so_far : List Act) (act : Act) → IsDone s so_far act }
+{}
+
+/// A block of a volume is changed by a write to it that no device failed, which puts its bytes there, or by a revert of the volume,
+/// to what the image shows, and by nothing else.
+pub fn contents_change_by_writes_and_reverts()
+    ensures { (s : Plan) (so_far : List Act) (act : Act) → ContentsChange s so_far act }
+{}
+
+/// A `tick` line moves the clock by its ticks, an idle stretch by its length, and nothing else moves it.
+pub fn the_clock_moves_by_ticks()
+    ensures { (s : Plan) (so_far : List Act) (act : Act) → ClockMoves s so_far act }
+{}
+
+/// An idle stretch is the shortest that spends a limit that runs.
+pub fn idle_stretches_are_shortest()
+    ensures { (s : Plan) (so_far : List Act) → IdlesShortest s so_far }
+{}
+
+/// A session call of a lane that does not own the session is refused, and changes nothing.
+pub fn calls_are_the_owners()
+    ensures { (s : Plan) (so_far : List Act) (act : Act) → CallsAreOwned s so_far act }
+{}
+
+/// Only writes, `begin` and `await` wait; without a session no agenda runs; and no lane writes as a writer that stands frozen.
+pub fn few_lines_wait()
+    ensures waits { (s : Plan) (so_far : List Act) → WaitsAreFew s so_far }
+    ensures quiet { (s : Plan) (so_far : List Act) → StandsQuiet s so_far }
+    ensures frozen { (s : Plan) (so_far : List Act) → FrozenDoNotWrite s so_far }
+{}
+
+/// Every run is as promised: each act of a trail, and each state on its way.
+pub fn every_run_is_as_promised()
+    ensures { (s : Plan) (trail : List Move) → IsAsPromised s trail }
+{}
