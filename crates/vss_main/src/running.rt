@@ -13,7 +13,7 @@ use std::sync::Wait;
 use std::thread::Threads;
 use volume_device::{Maker, Store};
 use vss_names::Text;
-use vss_play::{Gate, Play, PlayFault, play_in_turn};
+use vss_play::{Gate, Play, PlayFault, play_all};
 
 /// The most bytes of a scenario.
 pub const MOST_BYTES: usize = 16_777_216;
@@ -25,15 +25,21 @@ fn is_command(words: &[String]) -> bool
     words.len() == 1 && words[0].as_str() == "run"
 }
 
-/// Runs a scenario to its end over devices in memory, closes its report, and gives the devices back.
-fn report_of<M: Maker>(alloc: Global, scenario: Scenario, maker: &mut M) -> Result<Text, PlayFault>
+/// Runs a scenario to its end over devices in memory, its actors in threads, closes its report, and gives the devices back.
+fn report_of<R: Threads + Wait + Sync, M: Maker, G: Gate>(
+    rt: &R,
+    alloc: Global,
+    scenario: Scenario,
+    maker: &mut M,
+    gate: &G,
+) -> Result<Text, PlayFault>
     ensures ran { IfOk result (λ report. IsRun M.Made.told (M.tells maker.old store.Memory) (M.named maker.old) (M.named maker.new) (M.kept maker.old) (M.kept maker.new) (M.count maker.old) (M.count maker.new) scenario report.bytes) }
     ensures later { M.count maker.old ≤ M.count maker.new }
     ensures given_back { IsErrOf result PlayFault.Failed → AreGivenBack scenario (M.named maker.old) (M.named maker.new) (M.kept maker.old) (M.kept maker.new) }
     ensures rose { IsErrOf result PlayFault.Failed → Rose (M.count maker.old) (M.count maker.new) }
 {
     let play = Play::new(alloc, scenario, &Store::Memory, maker)?;
-    let Ok(played) = play_in_turn(alloc, play) else {
+    let Ok(played) = play_all(rt, alloc, play, gate) else {
         return Err(PlayFault::OutOfMemory);
     };
     played.finish(maker)
@@ -46,14 +52,17 @@ fn report_of<M: Maker>(alloc: Global, scenario: Scenario, maker: &mut M) -> Resu
 /// volume at its set's one cut, when every writer that took part stood frozen and every volume was held; and of a set that
 /// failed nothing is kept. Every other status has its cause in the words, the input, or a count of faults that rose; want of
 /// memory alone has none.
+///
+/// Each lane, each writer and the provider moves in a thread of its own, and the gate is told before and after each of its turns. The
+/// order of the moves is whichever the threads took.
 pub fn run<R: Threads + Wait + Sync, S: Source, K: Sink, M: Maker, G: Gate>(
-    _rt: &R,
+    rt: &R,
     alloc: Global,
     words: &[String],
     source: &mut S,
     sink: &mut K,
     maker: &mut M,
-    _gate: &G,
+    gate: &G,
 ) -> Status
     ensures usage { (result ≡ Status.Usage) ↔ (is_command words.now ≡ false) }
     ensures too_long { is_command words.now ≡ true → IfGave (S.left source.old) (S.left source.new) (λ n. (result ≡ Status.TooLong) ↔ (most_bytes < n)) }
@@ -104,7 +113,7 @@ pub fn run<R: Threads + Wait + Sync, S: Source, K: Sink, M: Maker, G: Gate>(
         Err(Refused::Line { line, reason }) => return Status::ScenarioRefused { line, reason },
         Err(Refused::OutOfMemory) => return Status::OutOfMemory,
     };
-    let report = match report_of(alloc, scenario, maker) {
+    let report = match report_of(rt, alloc, scenario, maker, gate) {
         Ok(report) => report,
         Err(PlayFault::Failed) => return Status::DeviceFault,
         Err(PlayFault::OutOfMemory) => return Status::OutOfMemory,

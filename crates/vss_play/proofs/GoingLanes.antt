@@ -105,7 +105,7 @@ first_more s i (suc n) =
     subst (λ (k : ℕ). going_from s (i + 1) (replicate (suc n) 0) ≡ going_from s (i + 1) (replicate n 0) + (if is_some (slice_get (lines_of s k) 0) then 1 else 0)) at (first_more s (i + 1) n) in
     omega arith
 
-pub one_lane_more : (s : Plan) (n : ℕ) (o : Option LaneLine) → o ≡ slice_get (lines_of s n) 0 → going_from s 0 (replicate (n + 1) 0) ≡ going_from s 0 (replicate n 0) + (if is_some o then 1 else 0)
+one_lane_more : (s : Plan) (n : ℕ) (o : Option LaneLine) → o ≡ slice_get (lines_of s n) 0 → going_from s 0 (replicate (n + 1) 0) ≡ going_from s 0 (replicate n 0) + (if is_some o then 1 else 0)
 one_lane_more s n o is =
     let at : 0 + n ≡ n = omega arith in
     ap (λ (k : ℕ). going_from s 0 (replicate k 0)) (add-one n) ∙ first_more s 0 n
@@ -113,6 +113,26 @@ one_lane_more s n o is =
 
 pub first_going : (s : Plan) (cursors : List ℕ) (lanes going : ℕ) → lanes ≡ length s.lanes → cursors ≡ replicate {A = ℕ} lanes 0 → going ≡ going_from s 0 (replicate (length s.lanes) 0) → going ≡ going_from s 0 cursors
 first_going s cursors lanes going many first is = is ∙ ap (λ (k : ℕ). going_from s 0 (replicate k 0)) (sym many) ∙ ap (λ (cs : List ℕ). going_from s 0 cs) (sym first)
+
+pub with_lane : (s : Plan) (n : ℕ) (o : Option LaneLine) (b : Bool) (going now : ℕ) → o ≡ slice_get (lines_of s n) 0 → is_some o ≡ b → going ≡ going_from s 0 (replicate n 0) → now ≡ going + (if b then 1 else 0) → now ≡ going_from s 0 (replicate (n + 1) 0)
+with_lane s n o b going now is e so_far more =
+    more ∙ ap (λ (k : ℕ). k + (if b then 1 else 0)) so_far ∙ ap (λ (x : Bool). going_from s 0 (replicate n 0) + (if x then 1 else 0)) (sym e) ∙ sym (one_lane_more s n o is)
+
+at_most_one : (b : Bool) → (if b then 1 else 0) ≤ 1
+at_most_one true = omega arith
+at_most_one false = omega arith
+
+at_most_all : (s : Plan) (i : ℕ) (cursors : List ℕ) → going_from s i cursors ≤ length cursors
+at_most_all s i [] = omega arith
+at_most_all s i (c ∷ cursors) = let rest = at_most_all s (i + 1) cursors in let here = at_most_one (is_some (slice_get (lines_of s i) c)) in omega arith
+
+many : (n : ℕ) → length (replicate {A = ℕ} n 0) ≡ n
+many zero = refl
+many (suc n) = ap suc (many n)
+
+-- no more of the first lanes than there are
+pub few_going : (s : Plan) (n going : ℕ) → going ≡ going_from s 0 (replicate n 0) → going ≤ n
+few_going s n going is = let all = at_most_all s 0 (replicate n 0) in let are = many n in omega arith
 
 -- ## the lane of a move
 

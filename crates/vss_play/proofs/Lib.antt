@@ -16,3 +16,5 @@ pub mod Opening
 pub mod Starting
 pub mod ClosingLines
 pub mod Ended
+pub mod Histories
+pub mod ActorLoop

@@ -3,3 +3,4 @@ pub mod Running
 pub mod Made
 pub mod Closing
 pub mod Messages
+pub mod Acting

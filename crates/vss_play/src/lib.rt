@@ -4,25 +4,35 @@
 //! Contracts see a run as its scenario, its moves and its devices. What it promises: the trail is legal, the lines are the
 //! report so far, the device of a volume holds its content where it and its area's tell, and the fault marks are at most the
 //! devices' faults. Once it is closed each area's device stands for the copies of the images, where it and its volumes' tell.
+//!
+//! A run is played to its end in turn, or by its actors in threads, as the machine of one turn whose history its trail is.
 #![tactic(auto)]
 
+mod acting;
+mod actor_loop;
 mod closing;
 mod devices;
 mod gate;
 mod groups;
 mod idle;
+mod in_threads;
 mod in_turn;
 mod moved;
 mod open_gate;
 mod play;
 mod play_fault;
 mod step_fault;
+mod stepped;
 mod turn;
 
+pub use acting::a_history_is_a_trail;
+pub use actor_loop::take_turns;
 pub use gate::Gate;
+pub use in_threads::play_all;
 pub use in_turn::play_in_turn;
 pub use moved::Moved;
 pub use open_gate::OpenGate;
 pub use play::Play;
 pub use play_fault::PlayFault;
 pub use step_fault::StepFault;
+pub use stepped::Stepped;

@@ -141,6 +141,11 @@ impl<D: Device> Play<D> {
         }
     }
 
+    /// The allocator of its memory.
+    pub(crate) fn allocator(&self) -> Global {
+        *self.cursors.allocator()
+    }
+
     /// Makes the event of an actor, where it is enabled. `line` is the number of the lane's line. Memory for the trail and
     /// the report is taken first.
     fn make(

@@ -1,0 +1,73 @@
+-- What a history of a run's entries comes to.
+use Rattle.std.proofs.Common.{◌≡◌, ℕ, ◌+◌, List, [], ◌∷◌, ◌++◌, append_assoc, refl, ap, sym, ◌∙◌, Option, subst, arith, Bool, true, false, cond}
+use Rattle.std.specs.Prelude.{Result, Ok, Err, MatchResult, IfOk, map}
+use Rattle.std.proofs.lemmas.List.{map-append, append-nil}
+use Rattle.std.proofs.lemmas.List.Sums.{sum_by-append}
+use Rattle.vss_names.specs.declared.out_of_memory.OutOfMemory.{OutOfMemory}
+use Rattle.write_history.specs.declared.actor.Actor.{Actor}
+use Rattle.write_history.specs.declared.move_item.Move.{Move}
+use Rattle.turn_cell.specs.History.{Leads}
+use Rattle.vss_model.specs.Trail.{is_fault, faults}
+use Rattle.vss_play.specs.declared.stepped.Stepped.{Stepped}
+use Rattle.vss_play.specs.declared.stepped.Stepped.TheVariants as stepped
+use Rattle.vss_play.specs.Played.{Played, IsOnward, IsPlayedOut, IsPlayedInTurn}
+use Rattle.vss_play.specs.Acting.{Turn, IsStep, mover_if, movers, IsLedBy, IsLed}
+use Rattle.vss_play.proofs.FaultMarks.{later-refl, later-trans}
+
+-- where none of these moves has a fault mark, the counts are as they were
+clean_both : (one two : List Move) (xs ys zs : List ℕ) → (faults one ≡ 0 → ys ≡ xs) → (faults two ≡ 0 → zs ≡ ys) → faults (one ++ two) ≡ 0 → zs ≡ xs
+clean_both one two xs ys zs before now e = let all = sum_by-append (λ (m : Move). cond (is_fault m.mark) 1 0) one two in now (omega arith) ∙ before (omega arith)
+
+unmarked : (b : Bool) → 0 + cond b 1 0 ≡ 0 → b ≡ false
+unmarked true e = absurd (omega arith)
+unmarked false e = refl
+
+clean_one : (m : Move) (xs ys : List ℕ) → (is_fault m.mark ≡ false → ys ≡ xs) → faults (m ∷ []) ≡ 0 → ys ≡ xs
+clean_one m xs ys now e = now (unmarked (is_fault m.mark) e)
+
+abbrev pub steps_of : {D : Type 0} → (D → Option (List (List ℕ))) → (D → ℕ) → Played D → ℕ → Actor → Stepped → Played D → Type 0
+steps_of told count before caller actor reply after = IsStep told count before actor reply after
+
+pub onward_on : {D : Type 0} (told : D → Option (List (List ℕ))) (count : D → ℕ) (p q r : Played D) → IsOnward told count p q → IsOnward told count q r → IsOnward told count p r
+onward_on told count p q r one two = record {
+  plan = two.plan ∙ one.plan;
+  rest = one.rest ++ two.rest;
+  trail = two.trail ∙ ap (λ (ms : List Move). ms ++ two.rest) one.trail ∙ append_assoc p.trail one.rest two.rest;
+  tells = two.tells ∙ one.tells;
+  later = later-trans (map count p.devices) (map count q.devices) (map count r.devices) one.later two.later;
+  clean = clean_both one.rest two.rest (map count p.devices) (map count q.devices) (map count r.devices) one.clean two.clean;
+}
+
+led_on : {D : Type 0} (told : D → Option (List (List ℕ))) (count : D → ℕ) (p q r : Played D) (xs ys : List Actor) → IsLedBy told count p xs q → IsLedBy told count q ys r → IsLedBy told count p (xs ++ ys) r
+unfolding onward_on
+led_on told count p q r xs ys one two = record {
+  onward = onward_on told count p q r one.onward two.onward;
+  by = map-append (λ (m : Move). m.actor) one.onward.rest two.onward.rest ∙ ap (λ (zs : List Actor). zs ++ map (λ (m : Move). m.actor) two.onward.rest) one.by ∙ ap (λ (zs : List Actor). xs ++ zs) two.by;
+}
+
+led_none : {D : Type 0} (told : D → Option (List (List ℕ))) (count : D → ℕ) (p q : Played D) → q ≡ p → IsLedBy told count p [] q
+led_none {D} told count p q same =
+    subst (λ (x : Played D). IsLedBy told count p [] x) (sym same) (record { onward = record { plan = refl; rest = []; trail = sym (append-nil p.trail); tells = refl; later = later-refl (map count p.devices); clean = λ e. refl }; by = refl })
+
+led_one : {D : Type 0} (told : D → Option (List (List ℕ))) (count : D → ℕ) (p q : Played D) (actor : Actor) (r : Result Stepped OutOfMemory) → MatchResult r (λ reply. IsStep told count p actor reply q) (λ _. q ≡ p) → IsLedBy told count p (mover_if actor r) q
+led_one told count p q actor (Ok stepped.Moved) h =
+    let m : Move = record { actor = actor; mark = h.mark } in
+    record {
+      onward = record { plan = h.plan; rest = m ∷ []; trail = h.trail; tells = h.tells; later = h.later; clean = clean_one m (map count p.devices) (map count q.devices) h.clean };
+      by = refl;
+    }
+led_one told count p q actor (Ok stepped.Blocked) h = led_none told count p q h.0
+led_one told count p q actor (Ok stepped.Finished) h = led_none told count p q h.0
+led_one told count p q actor (Ok stepped.TrailFull) h = led_none told count p q h.0
+led_one told count p q actor (Err e) h = led_none told count p q h
+
+-- by its entries a run goes on
+pub led : {D : Type 0} (told : D → Option (List (List ℕ))) (count : D → ℕ) (p : Played D) (es : List Turn) (q : Played D) → Leads (steps_of told count) p es q → IsLed told count p es q
+led told count p [] q same = led_none told count p q (sym same)
+led told count p (e ∷ es) q h =
+    led_on told count p h.0 q (mover_if e.call e.answer) (movers es) (led_one told count p h.0 e.call e.answer h.1) (led told count h.0 es q h.2)
+
+-- a run that went on, and was then played to its end in turn
+pub played_after : {D : Type 0} (told : D → Option (List (List ℕ))) (count : D → ℕ) (p q : Played D) → IsOnward told count p q → (r : Result (Played D) OutOfMemory) → IfOk r (IsPlayedInTurn told count q) → IfOk r (IsPlayedOut told count p)
+played_after told count p q onward (Ok last) h = record { onward = onward_on told count p q last onward h.played.onward; complete = h.played.complete }
+played_after told count p q onward (Err e) h = h

@@ -1,0 +1,107 @@
+-- A run as a machine that its actors step one at a time: what an entry of its history is, what trail a history leads to, and for what
+-- reason an actor's loop ends. (This project's own.)
+use Rattle.std.specs.Prelude.{ℕ, ◌≡◌, List, [], ◌∷◌, ◌++◌, length, map, Option, Result, Ok, Err, IsErr, ◌⊎◌}
+use Rattle.std.specs.List.{All, range_with_len}
+use Rattle.vss_names.specs.declared.out_of_memory.OutOfMemory.{OutOfMemory}
+use Rattle.write_history.specs.declared.actor.Actor.{Actor}
+use Rattle.write_history.specs.declared.actor.Actor.TheVariants.{Lane, Writer, Advance}
+use Rattle.write_history.specs.declared.move_item.Move.{Move}
+use Rattle.scenario.specs.Plan.{Plan}
+use Rattle.turn_cell.specs.declared.entry.Entry.{Entry}
+use Rattle.vss_play.specs.declared.moved.Moved.{Moved}
+use Rattle.vss_play.specs.declared.moved.Moved.TheVariants.{Moved as HasMoved, Blocked, Finished}
+use Rattle.vss_play.specs.declared.step_fault.StepFault.{StepFault}
+use Rattle.vss_play.specs.declared.step_fault.StepFault.TheVariants.{TrailFull}
+use Rattle.vss_play.specs.declared.stepped.Stepped.{Stepped}
+use Rattle.vss_play.specs.declared.stepped.Stepped.TheVariants as stepped
+use Rattle.vss_play.specs.Played.{Played, IsTurn, IsOnward}
+
+-- those who act in threads of their own: the lanes by number, the writers by number, and the provider
+abbrev pub actors_in_threads : Plan → List Actor
+actors_in_threads s = map (λ i. Lane i) (range_with_len 0 (length s.lanes)) ++ map (λ w. Writer w) (range_with_len 0 (length s.writers)) ++ Advance ∷ []
+
+-- the reply as the call by itself answers
+abbrev pub outcome_of : Stepped → Result Moved StepFault
+outcome_of stepped.Moved = Ok HasMoved
+outcome_of stepped.Blocked = Ok Blocked
+outcome_of stepped.Finished = Ok Finished
+outcome_of stepped.TrailFull = Err TrailFull
+
+-- a move of the machine
+abbrev pub IsStep : {D : Type 0} → (D → Option (List (List ℕ))) → (D → ℕ) → Played D → Actor → Stepped → Played D → Type 0
+IsStep told count before actor reply after = IsTurn told count before after actor (outcome_of reply)
+
+-- an entry of the history
+abbrev pub Turn : Type 0
+Turn = Entry Actor Stepped
+
+-- the actor of an entry by which a move was made
+abbrev pub mover_if : Actor → Result Stepped OutOfMemory → List Actor
+mover_if actor (Ok stepped.Moved) = actor ∷ []
+mover_if actor (Ok stepped.Blocked) = []
+mover_if actor (Ok stepped.Finished) = []
+mover_if actor (Ok stepped.TrailFull) = []
+mover_if actor (Err e) = []
+
+-- the actors of the entries by which a move was made, in order
+abbrev pub movers : List Turn → List Actor
+movers [] = []
+movers (e ∷ es) = mover_if e.call e.answer ++ movers es
+
+-- a run that went on by one move for each of these actors, in order
+pub record IsLedBy {D : Type 0} (told : D → Option (List (List ℕ))) (count : D → ℕ) (old : Played D) (actors : List Actor) (new : Played D) : Type 0 where
+  pub onward : IsOnward told count old new
+  pub by : map (λ (m : Move). m.actor) onward.rest ≡ actors
+
+-- a run that went on by these entries: its trail grew by one move for each entry by which a move was made, in order,
+-- with that entry's actor
+abbrev pub IsLed : {D : Type 0} → (D → Option (List (List ℕ))) → (D → ℕ) → Played D → List Turn → Played D → Type 0
+IsLed told count old entries new = IsLedBy told count old (movers entries) new
+
+-- ## an actor's loop
+
+abbrev pub IsBlocked : Turn → Type 0
+IsBlocked e = e.answer ≡ Ok stepped.Blocked
+
+-- some more entries were made, all of this actor
+pub record HasTurns (actor : Actor) (old new : List Turn) : Type 0 where
+  pub more : List Turn
+  pub is : new ≡ old ++ more
+  pub of : All (λ e. e.call ≡ actor) more
+
+-- the last of these entries answered so
+pub record EndsWith (answer : Stepped) (entries : List Turn) : Type 0 where
+  pub before : List Turn
+  pub last : Turn
+  pub is : entries ≡ before ++ last ∷ []
+  pub answered : last.answer ≡ Ok answer
+
+-- at least so many entries, the last so many of which answered Blocked
+pub record EndsBlocked (n : ℕ) (entries : List Turn) : Type 0 where
+  pub before : List Turn
+  pub last : List Turn
+  pub is : entries ≡ before ++ last
+  pub many : length last ≡ n
+  pub blocked : All IsBlocked last
+
+-- an actor left for a reason: its last entry answered Finished or TrailFull, or its last 1,000 answered Blocked
+pub record HasLeft (old new : List Turn) : Type 0 where
+  pub more : List Turn
+  pub is : new ≡ old ++ more
+  pub why : EndsWith stepped.Finished more ⊎ (EndsWith stepped.TrailFull more ⊎ EndsBlocked 1000 more)
+
+-- an actor left because memory was wanting: its last entry answered so
+pub record HasWanted (old new : List Turn) : Type 0 where
+  pub more : List Turn
+  pub is : new ≡ old ++ more
+  pub before : List Turn
+  pub last : Turn
+  pub ends : more ≡ before ++ last ∷ []
+  pub answered : IsErr last.answer
+
+-- how far the loop has come: its entries so far, the last ones of which answered Blocked
+pub record IsLooping (actor : Actor) (old new : List Turn) (blocked : ℕ) : Type 0 where
+  pub more : List Turn
+  pub is : new ≡ old ++ more
+  pub of : All (λ e. e.call ≡ actor) more
+  pub ends : EndsBlocked blocked more

@@ -1,0 +1,77 @@
+//! An actor's loop over a run that it shares with others by a turn.
+
+ghost use Rattle.std.specs.Prelude.{◌≡◌, ◌++◌, ◌∷◌, [], OnOk, OnErr};
+ghost use mathlib.Core.List.{IsPrefix};
+ghost use Rattle.turn_cell.specs.Callers.{number, seen, mine, Calls, IsSame};
+ghost use Rattle.vss_play.specs.Acting.{HasTurns, HasLeft, HasWanted};
+
+use crate::gate::Gate;
+use crate::moved::Moved;
+use crate::play::Play;
+use crate::stepped::Stepped;
+use std::sync::Wait;
+use turn_cell::{Caller, Turn};
+use volume_device::Device;
+use vss_names::OutOfMemory;
+use write_history::Actor;
+
+/// How many answers Blocked in a row an actor takes before it leaves.
+const MOST_BLOCKED: u32 = 1_000;
+
+/// One step of an actor, with the gate before it and after it. Where memory is wanting or the trail is full, `after` is not called.
+fn take_one<R: Wait, D: Device, G: Gate>(
+    rt: &R,
+    turn: &Turn<Play<D>>,
+    caller: &mut Caller<Play<D>>,
+    actor: Actor,
+    gate: &G,
+) -> Result<Stepped, OutOfMemory>
+    requires { Calls caller.old turn.now }
+    ensures seen { IsPrefix (seen caller.old) (seen caller.new) }
+    ensures mine { mine caller.new ≡ mine caller.old ++ record { caller = number caller.old; call = actor; answer = result } ∷ [] }
+    ensures same { IsSame caller.old caller.new }
+{
+    gate.before(actor);
+    let stepped = turn.call(rt, caller, actor)?.reply;
+    match stepped {
+        Stepped::Moved => gate.after(actor, Moved::Moved),
+        Stepped::Blocked => gate.after(actor, Moved::Blocked),
+        Stepped::Finished => gate.after(actor, Moved::Finished),
+        Stepped::TrailFull => {}
+    }
+    Ok(stepped)
+}
+
+/// Makes the moves of one actor over a run that it shares with others, each by one call of the turn, with `gate.before` before it
+/// and `gate.after` after it while no turn is held. It leaves once it is finished or the trail is full, or where it was blocked
+/// 1,000 times in a row; and where memory is wanting, which changes nothing of the run.
+pub fn take_turns<R: Wait, D: Device, G: Gate>(
+    rt: &R,
+    turn: &Turn<Play<D>>,
+    caller: &mut Caller<Play<D>>,
+    actor: Actor,
+    gate: &G,
+) -> Result<(), OutOfMemory>
+    requires { Calls caller.old turn.now }
+    ensures seen { IsPrefix (seen caller.old) (seen caller.new) }
+    ensures mine { HasTurns actor (mine caller.old) (mine caller.new) }
+    ensures left { OnOk result (HasLeft (mine caller.old) (mine caller.new)) }
+    ensures wanting { OnErr result (HasWanted (mine caller.old) (mine caller.new)) }
+    ensures same { IsSame caller.old caller.new }
+{
+    let mut blocked = 0u32;
+    for _ in rt.forever() {
+        match take_one(rt, turn, caller, actor, gate)? {
+            Stepped::Moved => blocked = 0,
+            Stepped::Blocked => {
+                blocked += 1;
+                if blocked == MOST_BLOCKED {
+                    return Ok(());
+                }
+            }
+            Stepped::Finished => return Ok(()),
+            Stepped::TrailFull => return Ok(()),
+        }
+    }
+    unreachable!()
+}
