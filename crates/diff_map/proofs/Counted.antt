@@ -1,8 +1,8 @@
 -- The numbers that a map keeps beside its images: where an image is cut, a slot is noted, and images go.
 use Rattle.std.proofs.Common.{ℕ, ◌≡◌, ◌≢◌, ◌+◌, ◌<◌, ◌≤◌, ◌^◌, ◌++◌, inl, inr, Bool, true, false, not, eqb, leb, ltb, List, [], ◌∷◌, length, get_or, set, map, Option, Some, None, refl, ap, sym, ◌∙◌, subst, arith, All, Contains, Vec, vec_capacity}
-use Rattle.std.specs.List.{slice_get, count_by, filter, AllPairs, AllWithin}
+use Rattle.std.specs.List.{slice_get, count_by, filter, AllPairs}
 use Rattle.std.specs.declared.alloc.Global.{Global}
-use Rattle.std.specs.Prelude.{IfSome, IsNone}
+use Rattle.std.specs.Prelude.{IfSome}
 use Rattle.std.proofs.lemmas.Bool.{cases_eq, cases_lt}
 use Rattle.std.proofs.lemmas.Bool.Decides.{nat_tests}
 use Rattle.std.proofs.lemmas.List.{get_or-map, length-append, length-map, length-set, map-append, get_or_default}

@@ -1,13 +1,13 @@
 -- How many slots hold copies for an image: by the rows, by the ordered list, and where a row changes or images go.
-use Rattle.std.proofs.Common.{ℕ, zero, suc, ◌≡◌, ◌≢◌, ◌+◌, ◌<◌, ◌≤◌, inl, inr, Bool, true, false, cond, eqb, leb, ltb, not, List, [], ◌∷◌, length, get_or, set, map, Option, Some, None, refl, ap, sym, ◌∙◌, subst, arith, All, Contains}
+use Rattle.std.proofs.Common.{ℕ, zero, suc, ◌≡◌, ◌≢◌, ◌+◌, ◌<◌, inl, inr, Bool, true, false, cond, eqb, leb, ltb, List, [], ◌∷◌, length, get_or, set, map, Option, Some, None, refl, ap, sym, ◌∙◌, arith, All}
 use Rattle.std.specs.List.{slice_get, count_by, filter}
 use Rattle.std.specs.Option.{option_and_then}
-use Rattle.std.proofs.lemmas.Bool.{cases_eq, false≢true}
+use Rattle.std.proofs.lemmas.Bool.{cases_eq}
 use Rattle.std.proofs.lemmas.Bool.Decides.{nat_tests}
 use Rattle.std.proofs.lemmas.List.{get_or-set_same, get_or-set_other, get_or_default}
 use Rattle.std.proofs.lemmas.List.Elements.{All-head, All-tail}
 use Rattle.std.proofs.lemmas.List.Sums.{sum_by-cons, sum_by-set}
-use Rattle.std.proofs.lemmas.Option.{none-some, same_Some, get_or_from_slice_get, slice_get_within}
+use Rattle.std.proofs.lemmas.Option.{none-some, get_or_from_slice_get, slice_get_within}
 use Rattle.diff_map.specs.declared.copied.Copied.{Copied}
 use Rattle.diff_map.specs.declared.entry.Entry.{Entry}
 use Rattle.diff_map.specs.declared.going.Going.TheVariants.{From, UpTo}

@@ -1,5 +1,5 @@
 -- The ordered list where copies go: a filter leaves what the settled list would have.
-use Rattle.std.proofs.Common.{ℕ, ◌≡◌, Bool, true, false, cond, not, leb, ltb, List, [], ◌∷◌, Option, Some, refl, ap, sym, ◌∙◌, arith, All}
+use Rattle.std.proofs.Common.{ℕ, ◌≡◌, Bool, true, false, cond, not, leb, ltb, List, [], ◌∷◌, Option, refl, ap, sym, ◌∙◌, arith, All}
 use Rattle.std.specs.List.{filter, filter_map, cons_option}
 use Rattle.std.specs.Option.{option_and_then, option_map}
 use Rattle.std.proofs.lemmas.Bool.Decides.{nat_tests}

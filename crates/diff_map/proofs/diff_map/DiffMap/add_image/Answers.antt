@@ -1,6 +1,5 @@
-use Rattle.std.proofs.Common.{◌≡◌, ◌<◌, ◌++◌, ◌∷◌, [], ℕ, List, Bool, cond, length, ap, sym, subst, arith, All, ◌∙◌}
+use Rattle.std.proofs.Common.{◌<◌, ◌++◌, ◌∷◌, [], Bool, cond, length, ap, sym, subst, arith, All, ◌∙◌}
 use Rattle.diff_map.specs.MapValue.{MapValue}
-use Rattle.diff_map.specs.declared.image_count.ImageCount.{ImageCount}
 use Rattle.diff_map.proofs.Counted.{KeepsCounts-cut, KeepsIndex-cut, as_many}
 use Rattle.diff_map.proofs.diff_map.DiffMap.add_image.Goals as goal
 

@@ -1,4 +1,4 @@
-use Rattle.std.proofs.Common.{◌∙◌, ltb, leb, not, ap, sym, subst, arith, rules, Contains}
+use Rattle.std.proofs.Common.{◌∙◌, ltb, leb, sym, subst, rules, Contains}
 use Rattle.std.proofs.lemmas.Fn.{filter_same}
 use Rattle.diff_map.specs.MapValue.{MapValue}
 use Rattle.diff_map.specs.declared.entry.Entry.{Entry}

@@ -1,5 +1,4 @@
-use Rattle.std.proofs.Common.{◌∙◌, ltb, leb, not, refl, Bool, true, false, ◌≡◌, ap, arith, rules}
-use Rattle.std.proofs.lemmas.Bool.Decides.{nat_tests}
+use Rattle.std.proofs.Common.{◌∙◌, ltb, rules}
 use Rattle.std.proofs.lemmas.Fn.{filter_same}
 use Rattle.diff_map.specs.declared.entry.Entry.{Entry}
 use Rattle.diff_map.specs.declared.going.Going.TheVariants.{UpTo}

@@ -1,5 +1,4 @@
-use Rattle.std.proofs.Common.{◌≡◌, ◌∙◌, ap, sym, subst, arith, Contains}
-use Rattle.diff_map.specs.Counts.{used_for}
+use Rattle.std.proofs.Common.{◌∙◌, ap, sym, subst, arith, Contains}
 use Rattle.diff_map.specs.MapValue.{MapValue}
 use Rattle.diff_map.specs.declared.image_count.ImageCount.{ImageCount}
 use Rattle.diff_map.proofs.Counted.{number_at, as_many}
