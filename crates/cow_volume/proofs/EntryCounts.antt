@@ -10,6 +10,7 @@ use Rattle.std.proofs.lemmas.Option.{none-some, same_Some}
 use Rattle.diff_area.specs.Records.{free}
 use Rattle.diff_area.specs.declared.table_record.Record.{Record}
 use Rattle.diff_map.specs.Copies.{copy_of}
+use Rattle.diff_map.specs.Counts.{is_for, used_for}
 use Rattle.diff_map.specs.Index.{IsIndex}
 use Rattle.diff_map.specs.declared.copied.Copied.{Copied}
 use Rattle.diff_map.specs.declared.entry.Entry.{Entry}
@@ -18,7 +19,7 @@ use Rattle.cow_volume.specs.Tied.{copied_for}
 use Rattle.cow_volume.specs.Changes.{is_of}
 use Rattle.cow_volume.specs.Counts.{is_on, count_on, count_of}
 use Rattle.cow_volume.specs.Followed.{record_for, followed_row, followed}
-use Rattle.cow_volume.proofs.Rows.{record_of_row, both_from}
+use Rattle.cow_volume.proofs.Rows.{copied_for-is, copied_for-none, of_volume, record_of_row, both_from}
 use Rattle.cow_volume.proofs.FollowedRows.{follows-of, follows-other}
 use Rattle.cow_volume.proofs.Passing.{passed, passed_more, passed_all, still_there, entry_at, entry_is, noted_at}
 
@@ -134,42 +135,29 @@ entries_on v entries records index =
     sym (count_all (λ e. is_on v (record_of v e.set e.block)) entries (λ i e at. is_counted v e.set e.block (record_of_row v records e.slot (copy_of e.set e.block) (noted_at v none entries records index i e at)).0))
     ∙ entries_count (is_on v) v entries records index (on_volume v) (free_is_off v)
 
-of_volume_set : (v set : ℕ) → 0 < set → (r : Record) → is_of v set r ≡ true → (nat_lt 0 r.set && (r.volume == v)) ≡ true
-of_volume_set v set some r h =
-    let a : r.volume ≡ v = grind (arith, nat_tests) in
-    let b : r.set ≡ set = grind (arith, nat_tests) in
-    let c : 0 < r.set = omega arith in
-    grind (arith, nat_tests)
+of_set : (v set : ℕ) (r : Record) → 0 < set → is_for set (copied_for v r) ≡ is_of v set r
+of_set v set r some = by_test (nat_lt 0 r.set && (r.volume == v)) refl where
+  by_other : (t : Bool) → is_of v set r ≡ t → (nat_lt 0 r.set && (r.volume == v)) ≡ false → false ≡ is_of v set r
+  by_other false e none = sym e
+  by_other true e none =
+      let a : r.volume ≡ v = grind (arith, nat_tests) in
+      let b : r.set ≡ set = grind (arith, nat_tests) in
+      let c : 0 < r.set = omega arith in
+      absurd (false≢true (sym none ∙ of_volume v r c a))
 
-free_is_not_of : (v set : ℕ) → 0 < set → is_of v set free ≡ false
-free_is_not_of v set some = by_test ((0 == v) && (0 == set)) refl where
-  by_test : (t : Bool) → ((0 == v) && (0 == set)) ≡ t → ((0 == v) && (0 == set)) ≡ false
-  by_test true h = let is : 0 ≡ set = grind (arith, nat_tests) in absurd (omega arith)
-  by_test false h = h
+  by_test : (t : Bool) → (nat_lt 0 r.set && (r.volume == v)) ≡ t → is_for set (copied_for v r) ≡ is_of v set r
+  by_test true e =
+      let both = both_from r.set v r.volume e in
+      let same : (r.volume == v) ≡ true = let w = both.1 in grind (arith, nat_tests) in
+      ap (is_for set) (copied_for-is v r both.0 both.1) ∙ sym (ap (λ (t : Bool). t && (r.set == set)) same)
+  by_test false e = ap (is_for set) (copied_for-none v r e) ∙ by_other (is_of v set r) refl e
 
-of_itself : (v set s b : ℕ) (t : Bool) → (s == set) ≡ t → is_of v set (record_of v s b) ≡ t
-of_itself v set s b true h = grind (arith, nat_tests)
-of_itself v set s b false h = by_test ((v == v) && (s == set)) refl where
-  by_test : (t : Bool) → ((v == v) && (s == set)) ≡ t → ((v == v) && (s == set)) ≡ false
-  by_test true e = let a : s ≡ set = grind (arith, nat_tests) in let b : (s == set) ≡ true = grind (arith, nat_tests) in absurd (false≢true (sym h ∙ b))
-  by_test false e = e
-
-count_as : {X : Type 0} (p q : X → Bool) (xs : List X) → ((x : X) → p x ≡ q x) → count_by p xs ≡ count_by q xs
-count_as p q [] same = refl
-count_as p q (x ∷ xs) same =
-    let a = count_cons p x xs in
-    let b = count_cons q x xs in
-    let here : of_test (p x) ≡ of_test (q x) = ap of_test (same x) in
-    let rest = count_as p q xs same in
+-- the slots that the map notes for a set are those of its records
+pub used_of : (v set : ℕ) (records : List Record) → 0 < set → used_for (map (copied_for v) records) set ≡ count_of v set records
+used_of v set [] some = refl
+used_of v set (r ∷ rs) some =
+    let a = count_cons (is_for set) (copied_for v r) (map (copied_for v) rs) in
+    let b = count_cons (is_of v set) r rs in
+    let here : of_test (is_for set (copied_for v r)) ≡ of_test (is_of v set r) = ap of_test (of_set v set r some) in
+    let rest = used_of v set rs some in
     omega arith
-
--- the entries of a set are those of its records
-pub entries_of : (v set : ℕ) (entries : List Entry) (records : List Record) → 0 < set → IsIndex entries (map (copied_for v) records) → count_by (λ (e : Entry). e.set == set) entries ≡ count_of v set records
-entries_of v set entries records some index =
-    count_as (λ (e : Entry). e.set == set) (λ (e : Entry). is_of v set (record_of v e.set e.block)) entries (λ e. sym (of_itself v set e.set e.block (e.set == set) refl))
-    ∙ entries_count (is_of v set) v entries records index (of_volume_set v set some) (free_is_not_of v set some)
-
-pub length_taken : {X : Type 0} → (i : ℕ) (xs : List X) → length (take i xs) ≤ i
-length_taken zero xs = omega arith
-length_taken (suc i) [] = omega arith
-length_taken (suc i) (x ∷ xs) = let rest = length_taken i xs in omega arith

@@ -1,23 +1,27 @@
 -- Images go up to a set so that a write has its slot.
-use Rattle.std.proofs.Common.{ℕ, zero, suc, ◌≡◌, ◌<◌, ◌≤◌, ◌+◌, ◌-◌, Bool, true, false, ◌&&◌, ◌||◌, get_or, List, [], ◌∷◌, length, map, filter, Some, slice_get, refl, sym, ap, ◌∙◌, subst, arith, inl, inr, ◌⊎◌}
-use Rattle.std.specs.Prelude.{◌==◌, nat_lt, nat_le, if◌then◌else◌}
+use Rattle.std.proofs.Common.{ℕ, zero, suc, ◌≡◌, ◌≢◌, ◌<◌, ◌≤◌, ◌+◌, ◌-◌, Bool, true, false, ◌&&◌, ◌||◌, get_or, List, [], ◌∷◌, length, map, filter, Option, Some, None, slice_get, refl, sym, ap, ◌∙◌, subst, arith, inl, inr, ◌⊎◌}
+use Rattle.std.specs.Prelude.{◌==◌, nat_lt, nat_le, if◌then◌else◌, IfSome, IsNone}
 use Rattle.std.proofs.lemmas.Bool.{false≢true, cases_lt, cases_eq, lt-ltb, le-ltb}
 use Rattle.std.proofs.lemmas.Bool.Decides.{nat_tests}
 use Rattle.std.proofs.lemmas.List.Elements.{All-contains}
-use Rattle.std.proofs.lemmas.Option.{same_Some, slice_get_within, get_or_from_slice_get}
+use Rattle.std.proofs.lemmas.Option.{none-some, same_Some, slice_get_within, get_or_from_slice_get}
 use Rattle.diff_area.specs.Records.{free, is_free, AreRecords}
 use Rattle.diff_area.specs.declared.table_record.Record.{Record}
+use Rattle.diff_map.specs.Copies.{copied_at, copy_of}
+use Rattle.diff_map.specs.Counts.{IsOldestUsed}
 use Rattle.diff_map.specs.MapValue.{newest, AreImages}
+use Rattle.diff_map.specs.declared.copied.Copied.{Copied}
 use Rattle.cow_volume.specs.Changes.{gone_row, gone_to}
 use Rattle.cow_volume.specs.Calls.{sets_in, is_among}
-use Rattle.cow_volume.specs.Room.{after, all_after, lacks_copy, lacks_slot, is_full, IsFirstToFree, IsRoomMade}
-use Rattle.cow_volume.specs.Tied.{CopiesValue, AreOfImages}
+use Rattle.cow_volume.specs.Room.{after, all_after, lacks_copy, lacks_slot, is_full, lesser, IsFirstToFree, IsOldestOn, IsRoomMade}
+use Rattle.cow_volume.specs.StandsFor.{record_of}
+use Rattle.cow_volume.specs.Tied.{CopiesValue, AreOfImages, copied_for}
 use Rattle.cow_volume.specs.CopiesAfter.{with_records, images_on, after_gone}
 use Rattle.cow_volume.proofs.Merging.{record_is}
 use Rattle.cow_volume.proofs.Evicting.{contains_among, among_contains}
-use Rattle.cow_volume.proofs.Rows.{get_inside, newest_rest}
+use Rattle.cow_volume.proofs.Rows.{copied_for-is, get_inside, newest_rest, record_of_row, row_at}
 use Rattle.cow_volume.proofs.Renewed.{get-map}
-use Rattle.cow_volume.proofs.Ties.{and_false, some_free, not_full_if}
+use Rattle.cow_volume.proofs.Ties.{and_false, some_free, full_only, not_full_if}
 use Rattle.cow_volume.proofs.Gone.{same_parts}
 
 -- ## what stays
@@ -158,44 +162,77 @@ room_made_by c v b up_to are long of within lacks first = record {
 
 -- ## the walk for it
 
--- the least set of the copies in the slots so far, or the newest image's where that is less
-pub record IsLeastSoFar (records : List Record) (sets : List ℕ) (up_to slot : ℕ) : Type 0 where
+-- the least set of the copies on the volumes so far, or the newest image's where that is less
+pub record IsLeastSoFar (records : List Record) (sets : List ℕ) (up_to u : ℕ) : Type 0 where
   pub most : up_to ≤ newest sets
-  pub least : (j : ℕ) (r : Record) → slice_get records j ≡ Some r → j < slot → up_to ≤ r.set
+  pub least : (j : ℕ) (r : Record) → slice_get records j ≡ Some r → 0 < r.set → r.volume < u → up_to ≤ r.set
   pub one : (up_to ≡ newest sets) ⊎ ((j : ℕ) × (r : Record) × (slice_get records j ≡ Some r) × (r.set ≡ up_to))
 
 pub first_none : (records : List Record) (sets : List ℕ) (n : ℕ) → n ≡ newest sets → IsLeastSoFar records sets n 0
 first_none records sets n is = record {
   most = omega arith;
-  least = λ j r at low. absurd (omega arith);
+  least = λ j r at some low. absurd (omega arith);
   one = inl is;
 }
 
--- one slot more, of a lesser set
-pub first_less : (records : List Record) (sets : List ℕ) (least slot : ℕ) (r : Record) → IsLeastSoFar records sets least slot → slice_get records slot ≡ Some r → r.set < least → IsLeastSoFar records sets r.set (slot + 1)
-first_less records sets least slot r so_far at below = record {
-  most = let most = so_far.most in omega arith;
-  least = λ j q there low. elim (cases_eq j slot) [
-    | inl same ↦ let is : q.set ≡ r.set = ap (λ (x : Record). x.set) (same_Some q r (sym there ∙ ap (λ (n : ℕ). slice_get records n) same ∙ at)) in omega arith
-    | inr other ↦ let before = so_far.least j q there (omega arith) in omega arith
-  ];
-  one = inr (slot, r, at, refl);
-}
+pub lesser_of : (set other : ℕ) → ((other < set) × (lesser set (Some other) ≡ other)) ⊎ ((set ≤ other) × (lesser set (Some other) ≡ set))
+lesser_of set other = by_test (nat_lt other set) refl where
+  by_test : (t : Bool) → nat_lt other set ≡ t → ((other < set) × (lesser set (Some other) ≡ other)) ⊎ ((set ≤ other) × (lesser set (Some other) ≡ set))
+  by_test true e = inl (grind (arith, nat_tests), ap (λ (b : Bool). if b then other else set) e)
+  by_test false e = inr (grind (arith, nat_tests), ap (λ (b : Bool). if b then other else set) e)
 
--- one slot more, of no lesser set
-pub first_stays : (records : List Record) (sets : List ℕ) (least slot : ℕ) (r : Record) → IsLeastSoFar records sets least slot → slice_get records slot ≡ Some r → least ≤ r.set → IsLeastSoFar records sets least (slot + 1)
-first_stays records sets least slot r so_far at over = record {
+-- one volume more
+pub first_more : (records : List Record) (sets : List ℕ) (least u : ℕ) (o : Option ℕ) → IsLeastSoFar records sets least u → IsOldestOn records u o → IsLeastSoFar records sets (lesser least o) (u + 1)
+first_more records sets least u None so_far none = record {
   most = so_far.most;
-  least = λ j q there low. elim (cases_eq j slot) [
-    | inl same ↦ let is : q.set ≡ r.set = ap (λ (x : Record). x.set) (same_Some q r (sym there ∙ ap (λ (n : ℕ). slice_get records n) same ∙ at)) in omega arith
-    | inr other ↦ so_far.least j q there (omega arith)
+  least = λ j r at some low. elim (cases_eq r.volume u) [
+    | inl same ↦ absurd (none j r at same some)
+    | inr other ↦ so_far.least j r at some (omega arith)
   ];
   one = so_far.one;
 }
+first_more records sets least u (Some set) so_far oldest = elim (lesser_of least set) [
+  | inl below ↦ let low = below.0 in subst (λ (n : ℕ). IsLeastSoFar records sets n (u + 1)) (sym below.1) (record {
+    most = let most = so_far.most in omega arith;
+    least = λ j r at some inside. elim (cases_eq r.volume u) [
+      | inl same ↦ oldest.oldest j r at same some
+      | inr other ↦ let before = so_far.least j r at some (omega arith) in omega arith
+    ];
+    one = inr (oldest.slot, record_of u set oldest.block, oldest.row, refl);
+  })
+  | inr above ↦ let high = above.0 in subst (λ (n : ℕ). IsLeastSoFar records sets n (u + 1)) (sym above.1) (record {
+    most = so_far.most;
+    least = λ j r at some inside. elim (cases_eq r.volume u) [
+      | inl same ↦ let from = oldest.oldest j r at same some in omega arith
+      | inr other ↦ so_far.least j r at some (omega arith)
+    ];
+    one = so_far.one;
+  })
+]
 
-pub first_all : (records : List Record) (sets : List ℕ) (least slot : ℕ) → IsLeastSoFar records sets least slot → length records ≤ slot → IsFirstToFree records sets least
-first_all records sets least slot so_far whole = record {
+-- where all slots are used, each record is of a volume
+full_used : (records : List Record) (slot : ℕ) (r : Record) → is_full records ≡ true → slice_get records slot ≡ Some r → r ≢ free
+full_used records slot r full at is =
+    let none = full_only records full in
+    let some = some_free (map is_free records) slot (get-map is_free records slot r at ∙ ap (λ (x : Record). Some (is_free x)) is) in
+    absurd (omega arith)
+
+pub first_all : (volumes : List ℕ) (records : List Record) (sets : List ℕ) (least u : ℕ) → AreRecords volumes records → is_full records ≡ true → IsLeastSoFar records sets least u → length volumes ≤ u → IsFirstToFree records sets least
+first_all volumes records sets least u are full so_far whole = record {
   most = so_far.most;
-  least = λ j r at. let inside = slice_get_within records j r at in so_far.least j r at (omega arith);
+  least = λ j r at. let used = are.each j r at (full_used records j r full at) in let inside = used.volume in so_far.least j r at used.set (omega arith);
   one = so_far.one;
 }
+
+-- ## the oldest image of a volume that has a copy
+
+pub oldest_on : (o : Option ℕ) (copies : List (Option Copied)) (records : List Record) (v : ℕ) → copies ≡ map (copied_for v) records → IfSome o (IsOldestUsed copies) → (IsNone o → (slot : ℕ) → copied_at copies slot ≡ None) → IsOldestOn records v o
+oldest_on None copies records v is found none = λ slot r at same some. none-some (copy_of r.set r.block) (sym (none refl slot) ∙ ap (λ (cs : List (Option Copied)). copied_at cs slot) is ∙ row_at v records slot r at ∙ copied_for-is v r some same)
+oldest_on (Some set) copies records v is found none =
+    let row = record_of_row v records found.slot (copy_of set found.block) (ap (λ (cs : List (Option Copied)). copied_at cs found.slot) (sym is) ∙ found.row) in
+    record {
+      slot = found.slot;
+      block = found.block;
+      row = row.1;
+      oldest = λ other r at same some. found.oldest other (copy_of r.set r.block) (ap (λ (cs : List (Option Copied)). copied_at cs other) is ∙ row_at v records other r at ∙ copied_for-is v r some same);
+    }

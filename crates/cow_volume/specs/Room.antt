@@ -1,6 +1,6 @@
 -- When a write needs a slot for a copy, and lacks it, by the records; and which images go so that it has one. (That the oldest go
 -- is the Volume Shadow Copy Service's; that those of the group's least set go together is this project's own.)
-use Rattle.std.specs.Prelude.{ℕ, ◌≡◌, ◌<◌, ◌≤◌, ◌⊎◌, Some, ◌==◌, ◌&&◌, not, Bool, true, false, List, [], ◌∷◌, length, map, filter, nat_lt, slice_get}
+use Rattle.std.specs.Prelude.{ℕ, ◌≡◌, ◌<◌, ◌≤◌, ◌⊎◌, Some, ◌==◌, ◌&&◌, not, Bool, true, false, List, [], ◌∷◌, length, map, filter, nat_lt, if◌then◌else◌, Option, None, slice_get}
 use Rattle.diff_area.specs.Records.{used_in}
 use Rattle.diff_area.specs.declared.table_record.Record.{Record}
 use Rattle.diff_map.specs.MapValue.{newest}
@@ -45,6 +45,23 @@ pub record IsFirstToFree (records : List Record) (sets : List ℕ) (up_to : ℕ)
   pub most : up_to ≤ newest sets
   pub least : (slot : ℕ) (r : Record) → slice_get records slot ≡ Some r → up_to ≤ r.set
   pub one : (up_to ≡ newest sets) ⊎ ((slot : ℕ) × (r : Record) × (slice_get records slot ≡ Some r) × (r.set ≡ up_to))
+
+-- the set is that of the oldest image of volume v that has a copy
+pub record IsOldest (records : List Record) (v set : ℕ) : Type 0 where
+  pub slot : ℕ
+  pub block : ℕ
+  pub row : slice_get records slot ≡ Some (record_of v set block)
+  pub oldest : (other : ℕ) (r : Record) → slice_get records other ≡ Some r → r.volume ≡ v → 0 < r.set → set ≤ r.set
+
+-- the same, where an image has one
+abbrev pub IsOldestOn : List Record → ℕ → Option ℕ → Type 0
+IsOldestOn records v None = (slot : ℕ) (r : Record) → slice_get records slot ≡ Some r → r.volume ≡ v → 0 < r.set → ⊥
+IsOldestOn records v (Some set) = IsOldest records v set
+
+-- the lesser of a set and of another, where there is another
+abbrev pub lesser : ℕ → Option ℕ → ℕ
+lesser set None = set
+lesser set (Some other) = if nat_lt other set then other else set
 
 -- the group without the images of the sets up to this one, and without their copies
 abbrev pub gone_group : {D : Type 0} → ℕ → GroupValue D → GroupValue D

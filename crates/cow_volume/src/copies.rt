@@ -11,7 +11,7 @@ ghost use Rattle.diff_area.specs.Records.{AreVolumes, AreRecords, free, is_free,
 ghost use Rattle.diff_area.specs.Written.{table_blocks};
 ghost use Rattle.cow_volume.specs.Changes.{IsFirstCopy, HasNoCopy};
 ghost use Rattle.cow_volume.specs.Counts.{count_on, count_of};
-ghost use Rattle.cow_volume.specs.Room.{lacks_copy, lacks_slot, is_full, IsFirstToFree, IsRoomMade};
+ghost use Rattle.cow_volume.specs.Room.{lacks_copy, lacks_slot, is_full, lesser, IsFirstToFree, IsOldestOn, IsRoomMade};
 ghost use Rattle.cow_volume.specs.Resuming.{AllHaveImages, IsResumeFault};
 ghost use Rattle.cow_volume.specs.Tied.{AreOfImages, new_map};
 ghost use Rattle.cow_volume.specs.CopiesAfter.{images_on, after_cut, after_note, after_merge, after_clear, after_gone, after_gone_on};
@@ -135,21 +135,23 @@ impl<D: Device> Copies<D> {
         entries.len() as u32
     }
 
-    /// How many slots hold copies for the image of a set on the volume, all of whose copies are looked at.
+    /// How many slots hold copies for the image of a set on the volume.
     pub(crate) fn used_of(&self, v: u32, set: u32) -> u32
         requires volume { v < length self.now.area.volumes }
-        requires above_zero { 0 < set }
+        requires image { Contains (images_on self.now v) set }
         ensures { result ≡ count_of v set self.now.area.records }
     {
-        let _facts = self.area.slots();
-        let entries = self.maps[v as usize].entries();
-        let mut used = 0;
-        for entry in entries {
-            if entry.set == set {
-                used += 1;
-            }
-        }
-        used
+        let map = &self.maps[v as usize];
+        let _facts = map.images();
+        map.used_by(set)
+    }
+
+    /// The oldest image of the volume that has a copy.
+    fn oldest_used(&self, v: u32) -> Option<u32>
+        requires { v < length self.now.area.volumes }
+        ensures { IsOldestOn self.now.area.records v result }
+    {
+        self.maps[v as usize].oldest_used()
     }
 
     /// Whether an image of the volume stands, and the newest has no copy of the block.
@@ -320,18 +322,17 @@ impl<D: Device> Copies<D> {
     }
 
     /// The least set up to which images have to go, where all slots are used, before the volume has a slot for a copy or no
-    /// image: the least that has a copy, or the volume's newest. All slots are looked at.
+    /// image: the least that has a copy, or the volume's newest. Each volume tells its oldest image that has one.
     fn first_to_free(&self, v: u32) -> u32
         requires volume { v < length self.now.area.volumes }
         requires some { 0 < length (images_on self.now v) }
+        requires full { is_full self.now.area.records ≡ true }
         ensures { IsFirstToFree self.now.area.records (images_on self.now v) result }
     {
+        let _facts = self.slots();
         let mut least = newest(self.images(v));
-        for slot in 0..self.area.slots() {
-            let row = self.area.record_at(slot);
-            if row.set < least {
-                least = row.set;
-            }
+        for u in 0..self.volumes() {
+            least = lesser(least, self.oldest_used(u));
         }
         least
     }
@@ -402,4 +403,14 @@ fn newest(images: &[u32]) -> u32
     ensures { result ≡ newest images.now }
 {
     images[images.len() - 1]
+}
+
+/// The lesser of a set and of another, where there is another.
+fn lesser(set: u32, other: Option<u32>) -> u32
+    ensures { result ≡ lesser set other }
+{
+    match other {
+        Some(other) if other < set => other,
+        _ => set,
+    }
 }

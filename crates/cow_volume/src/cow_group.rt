@@ -148,8 +148,7 @@ impl<D: Device> CowGroup<D> {
         self.copies.used_on(v)
     }
 
-    /// How many slots the image of a set uses; None where no such image stands on the volume. All copies of
-    /// the volume are looked at.
+    /// How many slots the image of a set uses; None where no such image stands on the volume.
     pub fn used_by(&self, v: u32, set: u32) -> Option<u32>
         requires { v < length self.now.area.volumes }
         ensures { (hs : List History) → StandsFor D.told self.now hs → result ≡ used_by (blocks_at self.now v) (history_at hs v).writes (history_at hs v).images set }

@@ -1,5 +1,9 @@
+pub mod Counted
+pub mod Counting
+pub mod Filtering
 pub mod Finds
 pub mod GoneUpTo
+pub mod ImagePlaces
 pub mod Images
 pub mod Kept
 pub mod Leaving

@@ -1,5 +1,6 @@
 pub mod Chains
 pub mod Copies
+pub mod Counts
 pub mod Index
 pub mod Leaving
 pub mod MapValue

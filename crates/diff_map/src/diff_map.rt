@@ -1,13 +1,16 @@
-ghost use Rattle.std.specs.Prelude.{◌≡◌, ◌≢◌, ◌<◌, ◌≤◌, ◌++◌, ◌∷◌, [], List, Option, Some, None, length, replicate, slice_get, slice_set, slice_index, filter, not, ◌==◌, nat_le, nat_lt, map, drop, All, Contains, IsTrue, IfOk, IfSome, IsNone, ◌↔◌};
+ghost use Rattle.std.specs.Prelude.{ℕ, ◌≡◌, ◌≢◌, ◌<◌, ◌≤◌, ◌++◌, ◌∷◌, [], List, Option, Some, None, length, replicate, slice_get, slice_set, slice_index, filter, not, ◌==◌, nat_le, nat_lt, map, drop, All, Contains, IsTrue, IfOk, IfSome, IsNone, ◌↔◌};
 ghost use Rattle.diff_map.specs.MapValue.{AreImages, IsMap, newest};
 ghost use Rattle.diff_map.specs.Copies.{HasCopy, AllTaken, copied_at, copy_of};
 ghost use Rattle.diff_map.specs.Chains.{IsFound, IsAbsent, KeepsFinds};
+ghost use Rattle.diff_map.specs.Counts.{IsOldestUsed, used_for};
 ghost use Rattle.diff_map.specs.Index.{IsIndex};
 ghost use Rattle.diff_map.specs.Rules.{renewed, dropped, cleared, gone, merged, next_older, GivesBack};
 
 use crate::copied::Copied;
+use crate::counts::{first_used, place_from, recount, set_used};
 use crate::entry::Entry;
 use crate::going::Going;
+use crate::image_count::ImageCount;
 use crate::index::{first_from, free_images, merge_rows, next_older, settle};
 use slot_pool::SlotPool;
 use std::alloc::Global;
@@ -23,6 +26,7 @@ pub const MOST_IMAGES: usize = 512;
 pub struct DiffMap {
     blocks: u32,
     images: Vec<u32>,
+    counts: Vec<ImageCount>,
     entries: Vec<Entry>,
     copies: Vec<Option<Copied>>,
 }
@@ -30,12 +34,13 @@ pub struct DiffMap {
 impl Model for DiffMap {
     ghost use Rattle.diff_map.specs.MapValue.{MapValue};
     ghost use Rattle.diff_map.specs.Index.{KeepsIndex};
+    ghost use Rattle.diff_map.specs.Counts.{KeepsCounts};
 
     ghost Value = { MapValue };
 
     ghost view = { λ m. record { blocks = m.blocks; images = m.images.items; copies = m.copies.items } };
 
-    ghost invariant = { λ m. KeepsIndex m.blocks m.images m.entries m.copies.items };
+    ghost invariant = { λ m. KeepsIndex m.blocks m.images m.entries m.copies.items × KeepsCounts m.images m.counts m.copies.items };
 }
 
 impl DiffMap {
@@ -47,6 +52,7 @@ impl DiffMap {
         Ok(DiffMap {
             blocks,
             images: Vec::with_capacity(alloc, MOST_IMAGES)?,
+            counts: Vec::with_capacity(alloc, MOST_IMAGES)?,
             entries: Vec::with_capacity(alloc, slots as usize)?,
             copies: vec![in alloc; None; slots as usize]?,
         })
@@ -64,7 +70,9 @@ impl DiffMap {
         ensures { IfOk result (λ m. m ≡ record { blocks = blocks; images = images.now; copies = replicate slots None }) }
     {
         let mut map = DiffMap::new(alloc, blocks, slots)?;
-        map.images.extend_from_slice(images)?;
+        for image in images {
+            map.add_image(*image);
+        }
         Ok(map)
     }
 
@@ -123,6 +131,23 @@ impl DiffMap {
         &self.entries
     }
 
+    /// How many slots hold copies for the image of `set`.
+    pub fn used_by(&self, set: u32) -> u32
+        requires { Contains self.now.images set }
+        ensures { result ≡ used_for self.now.copies set }
+    {
+        let at = place_from(&self.images, set);
+        self.counts[at].used
+    }
+
+    /// The oldest image that has a copy. It goes through the images before that alone.
+    pub fn oldest_used(&self) -> Option<u32>
+        ensures found { IfSome result (IsOldestUsed self.now.copies) }
+        ensures none { IsNone result → (slot : ℕ) → copied_at self.now.copies slot ≡ None }
+    {
+        first_used(&self.counts)
+    }
+
     /// Whether the newest image has a copy of this block.
     pub fn newest_has(&self, block: u32) -> bool
         ensures { IsTrue result ↔ HasCopy self.now.copies (newest self.now.images) block }
@@ -141,6 +166,7 @@ impl DiffMap {
         ensures { self.new ≡ record self.old { images = self.old.images ++ set ∷ [] } }
     {
         let _ = self.images.push(set);
+        let _ = self.counts.push(ImageCount { set, used: 0 });
     }
 
     /// Notes the slot for this block of the newest image.
@@ -163,9 +189,11 @@ impl DiffMap {
         requires unnoted { slice_get self.old.copies slot ≡ Some None }
         ensures { self.new ≡ record self.old { copies = slice_set self.old.copies slot (Some (copy_of set block)) } }
     {
+        let used = self.used_by(set);
         let at = first_from(&self.entries, block, set);
         let _ = self.entries.insert(at, Entry { block, set, slot });
         self.copies[slot as usize] = Some(Copied { set, block });
+        set_used(&mut self.counts, &self.images, set, used + 1);
     }
 
     /// Takes the oldest image out and gives its slots back. It walks the map's list of copies twice.
@@ -189,7 +217,8 @@ impl DiffMap {
     {
         self.images.retain(|&image| image > set);
         free_images(&self.entries, &mut self.copies, pool, Going::UpTo(set));
-        settle(&mut self.entries, &self.copies);
+        self.entries.retain(|entry| entry.set > set);
+        self.counts.retain(|count| count.set > set);
     }
 
     /// Takes the image of `set` out. The next older image gets the copies of those blocks that it lacks; the other
@@ -205,6 +234,8 @@ impl DiffMap {
         merge_rows(&self.entries, &mut self.copies, pool, set, older);
         self.images.retain(|&image| image != set);
         settle(&mut self.entries, &self.copies);
+        self.counts.retain(|count| count.set != set);
+        recount(&mut self.counts, &self.images, &self.entries, older);
     }
 
     /// Takes each image newer than `set` out and empties the image of `set`, which stays; all their slots are given
@@ -217,6 +248,8 @@ impl DiffMap {
     {
         self.images.retain(|&image| image <= set);
         free_images(&self.entries, &mut self.copies, pool, Going::From(set));
-        settle(&mut self.entries, &self.copies);
+        self.entries.retain(|entry| entry.set < set);
+        self.counts.retain(|count| count.set <= set);
+        set_used(&mut self.counts, &self.images, set, 0);
     }
 }

@@ -8,9 +8,11 @@
 #![tactic(auto)]
 
 mod copied;
+mod counts;
 mod diff_map;
 mod entry;
 mod going;
+mod image_count;
 mod index;
 
 pub use copied::Copied;

@@ -2,6 +2,6 @@ use Rattle.cow_volume.specs.CopiesAfter.{images_on}
 use Rattle.cow_volume.proofs.MakingRoom.{IsLeastSoFar}
 use Rattle.cow_volume.proofs.copies.Copies.first_to_free.Given as goal
 
--- the least set of the slots so far
-abbrev pub invariant-loop-slot : goal.invariant-loop-slot
-invariant-loop-slot g l = IsLeastSoFar l.self.area.records (images_on l.self l.v) l.least l.slot
+-- the least set of the volumes so far
+abbrev pub invariant-loop-u : goal.invariant-loop-u
+invariant-loop-u g l = IsLeastSoFar l.self.area.records (images_on l.self l.v) l.least l.u
