@@ -1,4 +1,4 @@
-//! Worked calls of what stands on devices: maps of copies, diff areas in memory and in a file, areas that are refused, and groups
+//! Worked calls of what stands on devices: maps of copies, diff areas in memory and in a file, areas that are refused or listed, and groups
 //! of copy-on-write volumes whose devices fail.
 //!
 //! They stand in a crate of their own, above all that they call: so each of those crates is proved once in a run of the gate,
@@ -11,6 +11,8 @@ mod areas;
 mod documented_area;
 #[cfg(test)]
 mod groups;
+#[cfg(test)]
+mod listings;
 #[cfg(test)]
 mod maps;
 #[cfg(test)]
