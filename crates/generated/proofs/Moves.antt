@@ -1,0 +1,289 @@
+-- One move of a legal trail without faults keeps a run on its way, and nobody idles.
+use Rattle.std.proofs.Common.{◌≡◌, ℕ, zero, suc, ◌+◌, ◌<◌, ◌≤◌, List, [], ◌∷◌, ◌++◌, Option, Some, None, refl, Bool, true, false, ap, sym, ◌∙◌, ◌==◌, subst, length, drop, arith, inl, inr}
+use Rattle.std.specs.Prelude.{is_some, nat_lt, nat_le, slice_get, ◌⊎◌, ◌&&◌, not, All}
+use Rattle.std.specs.List.{list_all, range_with_len}
+use Rattle.std.proofs.lemmas.Bool.Decides.{nat_tests}
+use Rattle.block_data.specs.declared.payload.Payload.TheVariants.{Fill, Stamp}
+use Rattle.block_data.specs.PayloadBytes.{payload_bytes}
+use Rattle.vss_names.specs.declared.order.Order.{Order}
+use Rattle.write_history.specs.declared.actor.Actor.{Actor}
+use Rattle.write_history.specs.declared.actor.Actor.TheVariants.{Lane, Writer, Advance, Idle}
+use Rattle.write_history.specs.declared.mark.Mark.{Mark}
+use Rattle.write_history.specs.declared.mark.Mark.TheVariants.{Clean}
+use Rattle.write_history.specs.declared.move_item.Move.{Move}
+use Rattle.writer_calls.specs.declared.answer.Answer.TheVariants.{Ok}
+use Rattle.writer_calls.specs.declared.scripted.Scripted.{Scripted}
+use Rattle.writer_calls.specs.Script.{scripted_answer}
+use Rattle.set_agenda.specs.Agenda.{left, next_member, is_asking, is_working}
+use Rattle.set_agenda.specs.Course.{sent}
+use Rattle.scenario.specs.declared.op.Op.{Op}
+use Rattle.scenario.specs.declared.op.Op.TheVariants.{WriteFill, WriteStamp, Read, ImageDigest, ImageBlock, Query, Properties, Revert, DeleteSet, DeleteImage, Tick, Begin, Disable, Gather, Component, Document, Start, Add, Prepare, Snapshot, Await, Status, Complete, Abort, End}
+use Rattle.scenario.specs.Plan.{Plan, LaneLine, lines_of, script_of}
+use Rattle.scenario.specs.Bounds.{IsOp}
+use Rattle.vss_model.specs.declared.event.Event.{Event}
+use Rattle.vss_model.specs.declared.event.Event.TheVariants.{Line, Answer as AnswerEvent, Provider}
+use Rattle.vss_model.specs.State.{State, history_of, left_now}
+use Rattle.vss_model.specs.Ending.{runs}
+use Rattle.vss_model.specs.Images.{cleared}
+use Rattle.vss_model.specs.Lines.{line}
+use Rattle.vss_model.specs.Acts.{Act, line_enabled, order_of_writer, enabled, happens, after_if, after, state}
+use Rattle.vss_model.specs.Trail.{Run, is_lane, cursor, next_line, line_event, answer_event, script_event, event_of, act_of, event_enabled, can_act, none_can_act, may_move}
+use Rattle.vss_model.specs.Facts.{IsOrderly}
+use Rattle.vss_model.proofs.Appending.{state-append}
+use Rattle.vss_model.proofs.GoesOn.{cursor_more, cursor_same}
+use Rattle.vss_model.proofs.OrderlyActs.{orderly}
+use Rattle.vss_model.proofs.Waiting.{agenda_goes_on}
+use Rattle.generated.specs.Asked.{Asked, AreAsked}
+use Rattle.generated.specs.Spots.{Spot, Place, Free, Stands, Waits, is_free, spot_after, completes_sets, is_full}
+use Rattle.generated.specs.Smooth.{IsSmooth, is_write}
+use Rattle.generated.proofs.Sound.{IsSound}
+use Rattle.generated.proofs.Standing.{IsAt, IsOnWay}
+use Rattle.generated.proofs.Courses.{and_first, and_second, asked_is_below}
+use Rattle.generated.proofs.Known.{IsKnown}
+use Rattle.generated.proofs.Requests.{requests}
+use Rattle.generated.proofs.Room.{few_images, none_cleared}
+use Rattle.generated.proofs.Ways.{write_at, answer_at, step_at, runs_of_asking}
+
+-- ## lists
+
+pub drop_at : (lines : List LaneLine) (n : ℕ) (l : LaneLine) → slice_get lines n ≡ Some l → drop n lines ≡ l ∷ drop (suc n) lines
+drop_at [] zero l e = absurd cc
+drop_at [] (suc n) l e = absurd cc
+drop_at (x ∷ lines) zero l e = let same : x ≡ l = cc in ap (λ y. y ∷ lines) same
+drop_at (x ∷ lines) (suc n) l e = drop_at lines n l e
+
+pub drop_none : (lines : List LaneLine) (n : ℕ) → slice_get lines n ≡ None → drop n lines ≡ []
+drop_none [] zero e = refl
+drop_none [] (suc n) e = refl
+drop_none (x ∷ lines) zero e = absurd cc
+drop_none (x ∷ lines) (suc n) e = drop_none lines n e
+
+pub all_at : (P : LaneLine → Type 0) (lines : List LaneLine) (n : ℕ) (l : LaneLine) → All P lines → slice_get lines n ≡ Some l → P l
+all_at P [] zero l h e = absurd cc
+all_at P [] (suc n) l h e = absurd cc
+all_at P (x ∷ lines) zero l h e = let same : x ≡ l = cc in subst P same (h 0 x (omega arith))
+all_at P (x ∷ lines) (suc n) l h e = all_at P lines n l (λ j d g. h (suc j) d (omega (arith, g))) e
+
+pub in_range : (p : ℕ → Bool) (a n k : ℕ) → k < n → list_all p (range_with_len a n) ≡ true → p (a + k) ≡ true
+in_range p a zero k l h = absurd (omega (arith, l))
+in_range p a (suc n) zero l h = subst (λ i. p i ≡ true) (none a) (and_first (p a) (list_all p (range_with_len (a + 1) n)) h)
+  where
+    none : (a : ℕ) → a ≡ a + 0
+    none a = omega arith
+in_range p a (suc n) (suc k) l h = subst (λ i. p i ≡ true) (shift a k) (in_range p (a + 1) n k (omega (arith, l)) (and_second (p a) (list_all p (range_with_len (a + 1) n)) h))
+  where
+    shift : (a k : ℕ) → a + 1 + k ≡ a + suc k
+    shift a k = omega arith
+
+pub below_range : (p : ℕ → Bool) (n w : ℕ) → nat_lt w n ≡ true → list_all p (range_with_len 0 n) ≡ true → p w ≡ true
+below_range p n w l h = subst (λ i. p i ≡ true) (none w) (in_range p 0 n w (is_less w n l) h)
+  where
+    none : (w : ℕ) → 0 + w ≡ w
+    none w = omega arith
+
+    is_less : (a b : ℕ) → nat_lt a b ≡ true → a < b
+    is_less a b e = grind (arith, nat_tests)
+
+-- ## the state after
+
+pub after_enabled : (s : Plan) (st : State) (event : Event) (mark : Mark) → enabled s st event ≡ true → after s st (act_of mark event) ≡ (happens s event mark st).1
+unfolding after
+after_enabled s st event mark e = ap (λ b. after_if b s st (act_of mark event)) e
+
+pub record IsReached (s : Plan) (st : State) : Type 0 where
+  pub so_far : List Act
+  pub is : st ≡ state s so_far
+
+pub orderly_now : (s : Plan) (st : State) → IsReached s st → IsOrderly st
+orderly_now s st h = subst IsOrderly (sym h.is) (orderly s h.so_far)
+
+pub orderly_next : (s : Plan) (st : State) (event : Event) (mark : Mark) → IsReached s st → enabled s st event ≡ true → IsOrderly (happens s event mark st).1
+orderly_next s st event mark h e =
+    subst IsOrderly (ap (λ x. after s x (act_of mark event)) (sym h.is) ∙ after_enabled s st event mark e)
+    (subst IsOrderly (state-append s h.so_far (act_of mark event)) (orderly s (h.so_far ++ act_of mark event ∷ [])))
+
+-- ## what an event leaves
+
+pub writes_op : (s : Plan) (n : ℕ) (lane : ℕ) (op : Op) (mark : Mark) (p : Place) (k : ℕ) (vs : List ℕ) (st : State) → IsSmooth n s → IsReached s st → is_write op ≡ true → IsOp s op → k ≤ n → IsAt s p k vs st → IsAt s p k vs (line s lane op mark st).1
+writes_op s n lane (WriteFill v b x) mark p k vs st smooth reached e o most h = write_at s p k vs v (record { block = b; bytes = payload_bytes (Fill x) }) mark st (room s n v b k st smooth reached o.1 most h.sets) h
+  where
+    room : (s : Plan) (n v b k : ℕ) (st : State) → IsSmooth n s → IsReached s st → b < Rattle.scenario.specs.Plan.blocks_of s v → k ≤ n → length st.sets ≡ k → (cleared s v b st).volumes ≡ st.volumes
+    room s n v b k st smooth reached l most sets =
+        subst (λ x. (cleared s v b x).volumes ≡ x.volumes) (sym reached.is)
+        (none_cleared s reached.so_far v b n smooth.alone smooth.room l (let e = ap (λ (x : State). length x.sets) (sym reached.is) in omega (arith, e, most, sets)))
+writes_op s n lane (WriteStamp v b x) mark p k vs st smooth reached e o most h = write_at s p k vs v (record { block = b; bytes = payload_bytes (Stamp x) }) mark st (room s n v b k st smooth reached o.1 most h.sets) h
+  where
+    room : (s : Plan) (n v b k : ℕ) (st : State) → IsSmooth n s → IsReached s st → b < Rattle.scenario.specs.Plan.blocks_of s v → k ≤ n → length st.sets ≡ k → (cleared s v b st).volumes ≡ st.volumes
+    room s n v b k st smooth reached l most sets =
+        subst (λ x. (cleared s v b x).volumes ≡ x.volumes) (sym reached.is)
+        (none_cleared s reached.so_far v b n smooth.alone smooth.room l (let e = ap (λ (x : State). length x.sets) (sym reached.is) in omega (arith, e, most, sets)))
+writes_op s n lane (Read v b) mark p k vs st smooth reached e o most h = absurd cc
+writes_op s n lane (ImageDigest m v) mark p k vs st smooth reached e o most h = absurd cc
+writes_op s n lane (ImageBlock m v b) mark p k vs st smooth reached e o most h = absurd cc
+writes_op s n lane (Query v) mark p k vs st smooth reached e o most h = absurd cc
+writes_op s n lane (Properties m v) mark p k vs st smooth reached e o most h = absurd cc
+writes_op s n lane (Revert m v) mark p k vs st smooth reached e o most h = absurd cc
+writes_op s n lane (DeleteSet m) mark p k vs st smooth reached e o most h = absurd cc
+writes_op s n lane (DeleteImage m v) mark p k vs st smooth reached e o most h = absurd cc
+writes_op s n lane (Tick t) mark p k vs st smooth reached e o most h = absurd cc
+writes_op s n lane (Begin c all) mark p k vs st smooth reached e o most h = absurd cc
+writes_op s n lane (Disable w) mark p k vs st smooth reached e o most h = absurd cc
+writes_op s n lane Gather mark p k vs st smooth reached e o most h = absurd cc
+writes_op s n lane (Component w full) mark p k vs st smooth reached e o most h = absurd cc
+writes_op s n lane Document mark p k vs st smooth reached e o most h = absurd cc
+writes_op s n lane Start mark p k vs st smooth reached e o most h = absurd cc
+writes_op s n lane (Add v) mark p k vs st smooth reached e o most h = absurd cc
+writes_op s n lane Prepare mark p k vs st smooth reached e o most h = absurd cc
+writes_op s n lane Snapshot mark p k vs st smooth reached e o most h = absurd cc
+writes_op s n lane Await mark p k vs st smooth reached e o most h = absurd cc
+writes_op s n lane Status mark p k vs st smooth reached e o most h = absurd cc
+writes_op s n lane Complete mark p k vs st smooth reached e o most h = absurd cc
+writes_op s n lane Abort mark p k vs st smooth reached e o most h = absurd cc
+writes_op s n lane End mark p k vs st smooth reached e o most h = absurd cc
+
+-- ## nobody idles
+
+pub script_of_order : (s : Plan) (r : Run) (w : ℕ) (x : Option Order) → script_of s w ≡ [] → order_of_writer r.state w ≡ x → is_some x ≡ true → event_enabled s r (script_event s r.state w x) ≡ true
+script_of_order s r w None e f g = absurd cc
+script_of_order s r w (Some o) e f g =
+    subst (λ (rows : List Scripted). event_enabled s r (answer_event w (scripted_answer rows o (sent r.state.course w o))) ≡ true) (sym e) (ap is_some f)
+
+pub writer_can : (s : Plan) (r : Run) (w : ℕ) → script_of s w ≡ [] → is_some (order_of_writer r.state w) ≡ true → can_act s r (Writer w) ≡ true
+writer_can s r w e f = script_of_order s r w (order_of_writer r.state w) e refl f
+
+pub not_both : (b : Bool) → b ≡ true → not b ≡ true → ⊥
+not_both true e f = cc
+not_both false e f = cc
+
+abbrev pub no_lane : Plan → Run → Bool
+no_lane s r = list_all (λ i. not (can_act s r (Lane i))) (range_with_len 0 (length s.lanes))
+
+abbrev pub no_writer : Plan → Run → Bool
+no_writer s r = list_all (λ w. not (can_act s r (Writer w))) (range_with_len 0 (length s.writers))
+
+pub somebody : (s : Plan) (n : ℕ) (r : Run) → IsSmooth n s → IsSound (length s.writers) r.state.course → none_can_act s r ≡ true
+    → (is_working (left_now r.state) ≡ true) ⊎ (is_some (order_of_writer r.state (next_member (left_now r.state))) ≡ true) → ⊥
+somebody s n r smooth sound none (inl works) = not_both (can_act s r Advance) works (and_second (no_lane s r && no_writer s r) (not (can_act s r Advance)) none)
+somebody s n r smooth sound none (inr order) =
+    let w = next_member (left_now r.state) in
+    not_both (can_act s r (Writer w)) (writer_can s r w (smooth.scripts w) order)
+    (below_range (λ x. not (can_act s r (Writer x))) (length s.writers) w (asked_is_below (length s.writers) w r.state.course sound order)
+    (and_second (no_lane s r) (no_writer s r) (and_first (no_lane s r && no_writer s r) (not (can_act s r Advance)) none)))
+
+pub no_idle : (s : Plan) (n : ℕ) (r : Run) → IsSmooth n s → IsReached s r.state → IsSound (length s.writers) r.state.course → is_asking (left_now r.state) ≡ true → none_can_act s r ≡ true → ⊥
+no_idle s n r smooth reached sound asks none =
+    somebody s n r smooth sound none
+    (subst (λ st. (is_working (left_now st) ≡ true) ⊎ (is_some (order_of_writer st (next_member (left_now st))) ≡ true)) (sym reached.is)
+    (agenda_goes_on s reached.so_far (subst (λ st. runs st ≡ true) reached.is (runs_of_asking r.state.course.agenda asks))))
+
+-- ## one move
+
+-- the state after an event, with where it stands
+pub record IsNext (s : Plan) (n : ℕ) (r : Run) (m : Move) (st : State) : Type 0 where
+  pub asked : List Asked
+  pub left : AreAsked s asked (drop (cursor (r.moves ++ m ∷ []) 0) (lines_of s 0))
+  pub spot : Spot
+  pub leads : completes_sets (length s.volumes) n asked (Some spot) ≡ true
+  pub at : IsAt s spot.place spot.sets spot.volumes st
+
+-- what is known of a run before a move
+pub record IsBefore (s : Plan) (n : ℕ) (r : Run) : Type 0 where
+  pub smooth : IsSmooth n s
+  pub reached : IsReached s r.state
+  pub way : IsOnWay s n r
+
+pub others_left : (s : Plan) (n : ℕ) (r : Run) (m : Move) (st : State) (way : IsOnWay s n r) → is_lane 0 m.actor ≡ false → IsAt s way.spot.place way.spot.sets way.spot.volumes st → IsNext s n r m st
+others_left s n r m st way e at = record {
+  asked = way.asked;
+  left = subst (λ k. AreAsked s way.asked (drop k (lines_of s 0))) (sym (cursor_same r.moves m 0 e)) way.left;
+  spot = way.spot;
+  leads = way.leads;
+  at = at;
+}
+
+pub nat_le_is : (a b : ℕ) → nat_le a b ≡ true → a ≤ b
+nat_le_is a b e = grind (arith, nat_tests)
+
+pub spot_few : (c n : ℕ) (asked : List Asked) (x : Spot) → completes_sets c n asked (Some x) ≡ true → x.sets ≤ n
+spot_few c n [] x e = same (is_free x.place) x.sets n e
+  where
+    same : (b : Bool) (a c : ℕ) → (b && (a == c)) ≡ true → a ≤ c
+    same true a c e = grind arith
+    same false a c e = absurd cc
+spot_few c n (a ∷ more) x e = nat_le_is x.sets n (and_first (nat_le x.sets n) (is_full c x.place x.volumes) (and_first (nat_le x.sets n && is_full c x.place x.volumes) (completes_sets c n more (spot_after x.place x.sets x.volumes a)) e))
+
+-- a set that is made has all volumes
+pub spot_full : (c n : ℕ) (asked : List Asked) (x : Spot) → completes_sets c n asked (Some x) ≡ true → is_full c x.place x.volumes ≡ true
+spot_full c n [] x e = at_home x.place x.volumes (and_first (is_free x.place) (x.sets == n) e)
+  where
+    at_home : (p : Place) (vs : List ℕ) → is_free p ≡ true → is_full c p vs ≡ true
+    at_home Free vs e = refl
+    at_home (Stands g) vs e = absurd cc
+    at_home (Waits g) vs e = absurd cc
+spot_full c n (a ∷ more) x e = and_second (nat_le x.sets n) (is_full c x.place x.volumes) (and_first (nat_le x.sets n && is_full c x.place x.volumes) (completes_sets c n more (spot_after x.place x.sets x.volumes a)) e)
+
+-- the lane that makes the sets
+pub own_line : (s : Plan) (n : ℕ) (r : Run) (m : Move) (l : LaneLine) (asked : List Asked) → IsBefore s n r → AreAsked s asked (l ∷ drop (suc (cursor r.moves 0)) (lines_of s 0)) → (spot : Spot) → completes_sets (length s.volumes) n asked (Some spot) ≡ true
+    → IsAt s spot.place spot.sets spot.volumes r.state → is_lane 0 m.actor ≡ true → line_enabled s r.state 0 l.op ≡ true → IsNext s n r m (line s 0 l.op m.mark r.state).1
+own_line s n r m l [] before left spot leads at e on = absurd left
+own_line s n r m l (a ∷ more) before left spot leads at e on =
+    let known : IsKnown n spot.sets r.state (line s 0 l.op m.mark r.state).1 = record {
+      orderly = orderly_now s r.state before.reached;
+      next_orderly = orderly_next s r.state (Line 0 l.op) m.mark before.reached on;
+      few = before.smooth.few;
+      images = subst (λ st. (v : ℕ) → length (history_of st v).images ≤ length st.sets) (sym before.reached.is) (few_images s before.reached.so_far);
+    } in
+    let to = requests s n more spot.place spot.sets spot.volumes a l.op m.mark r.state left.0 on
+    (and_second (nat_le spot.sets n && is_full (length s.volumes) spot.place spot.volumes) (completes_sets (length s.volumes) n more (spot_after spot.place spot.sets spot.volumes a)) leads) (spot_few (length s.volumes) n (a ∷ more) spot leads) at known in
+    record {
+      asked = more;
+      left = subst (λ k. AreAsked s more (drop k (lines_of s 0))) (sym (cursor_more r.moves m 0 e)) left.1;
+      spot = to.spot;
+      leads = to.leads;
+      at = to.at;
+    }
+
+unfoldable pub IsNextIf : Plan → ℕ → Run → Move → Option Event → Type 0
+IsNextIf s n r m None = ⊥
+IsNextIf s n r m (Some event) = IsNext s n r m (after s r.state (act_of m.mark event))
+
+pub by_after : (s : Plan) (n : ℕ) (r : Run) (m : Move) (event : Event) → enabled s r.state event ≡ true → IsNext s n r m (happens s event m.mark r.state).1 → IsNextIf s n r m (Some event)
+unfolding IsNextIf
+by_after s n r m event e h = subst (IsNext s n r m) (sym (after_enabled s r.state event m.mark e)) h
+
+pub other_lane : (i : ℕ) → is_lane 0 (Lane (suc i)) ≡ false
+other_lane i = grind arith
+
+pub on_lane : (s : Plan) (n : ℕ) (r : Run) (m : Move) (i : ℕ) (x : Option LaneLine) → IsBefore s n r → m.actor ≡ Lane i → next_line s r i ≡ x → event_enabled s r (line_event i x) ≡ true → IsNextIf s n r m (line_event i x)
+on_lane s n r m i None before e f on = absurd cc
+on_lane s n r m zero (Some l) before e f on =
+    by_after s n r m (Line 0 l.op) on
+    (own_line s n r m l before.way.asked before (subst (AreAsked s before.way.asked) (drop_at (lines_of s 0) (cursor r.moves 0) l f) before.way.left) before.way.spot before.way.leads before.way.at (ap (is_lane 0) e) on)
+on_lane s n r m (suc i) (Some l) before e f on =
+    let known = all_at (λ (x : LaneLine). (is_write x.op ≡ true) × IsOp s x.op) (lines_of s (suc i)) (cursor r.moves (suc i)) l (before.smooth.writes i) f in
+    let spot = before.way.spot in
+    by_after s n r m (Line (suc i) l.op) on
+    (others_left s n r m _ before.way (ap (is_lane 0) e ∙ other_lane i)
+    (writes_op s n (suc i) l.op m.mark spot.place spot.sets spot.volumes r.state before.smooth before.reached known.0 known.1 (spot_few (length s.volumes) n before.way.asked spot before.way.leads) before.way.at))
+
+pub on_writer : (s : Plan) (n : ℕ) (r : Run) (m : Move) (w : ℕ) (x : Option Order) → IsBefore s n r → m.actor ≡ Writer w → order_of_writer r.state w ≡ x → event_enabled s r (script_event s r.state w x) ≡ true → IsNextIf s n r m (script_event s r.state w x)
+on_writer s n r m w None before e f on = absurd cc
+on_writer s n r m w (Some o) before e f on =
+    let asked : is_some (order_of_writer r.state w) ≡ true = ap is_some f in
+    let spot = before.way.spot in
+    subst (λ (rows : List Scripted). IsNextIf s n r m (answer_event w (scripted_answer rows o (sent r.state.course w o)))) (sym (before.smooth.scripts w))
+    (by_after s n r m (AnswerEvent w Ok) asked
+    (others_left s n r m _ before.way (ap (is_lane 0) e)
+    (answer_at s spot.place spot.sets spot.volumes w r.state asked before.way.at (orderly_next s r.state (AnswerEvent w Ok) m.mark before.reached asked))))
+
+pub on_move : (s : Plan) (n : ℕ) (r : Run) (m : Move) (a : Actor) → IsBefore s n r → m.actor ≡ a → m.mark ≡ Clean → may_move s r a ≡ true → IsNextIf s n r m (event_of s r a)
+on_move s n r m (Lane i) before e f may = on_lane s n r m i (next_line s r i) before e refl may
+on_move s n r m (Writer w) before e f may = on_writer s n r m w (order_of_writer r.state w) before e refl may
+on_move s n r m Advance before e f may =
+    let spot = before.way.spot in
+    by_after s n r m Provider may
+    (subst (λ mark. IsNext s n r m (happens s Provider mark r.state).1) (sym f)
+    (others_left s n r m _ before.way (ap (is_lane 0) e)
+    (step_at s spot.place spot.sets spot.volumes r.state may before.way.at (orderly_next s r.state Provider Clean before.reached may))))
+on_move s n r m Idle before e f may =
+    absurd (no_idle s n r before.smooth before.reached before.way.at.sound (and_first (is_asking (left_now r.state)) (none_can_act s r) may) (and_second (is_asking (left_now r.state)) (none_can_act s r) may))

@@ -1,0 +1,113 @@
+-- Each line of the lane that makes the sets leads a state from spot to spot.
+use Rattle.std.proofs.Common.{◌≡◌, ℕ, ◌≤◌, List, [], ◌∷◌, None, true, length}
+use Rattle.write_history.specs.declared.mark.Mark.{Mark}
+use Rattle.requestor.specs.declared.stage.Stage.TheVariants.{Opened, Gathered, Started, Prepared, Done, Finished, Failed}
+use Rattle.scenario.specs.declared.op.Op.{Op}
+use Rattle.scenario.specs.Plan.{Plan}
+use Rattle.vss_model.specs.State.{State}
+use Rattle.vss_model.specs.Lines.{line}
+use Rattle.vss_model.specs.Acts.{line_enabled}
+use Rattle.generated.specs.Asked.{Asked, Begins, Gathers, Awaits, Names, Starts, Adds, Prepares, Snapshots, Completes, Ends, IsAsked}
+use Rattle.generated.specs.Spots.{Place, Free, Stands, Waits, spot_after, completes_sets}
+use Rattle.generated.proofs.Standing.{IsAt}
+use Rattle.generated.proofs.AgendaLines.{prepares, snapshots, completes, ends, awaits}
+use Rattle.generated.proofs.Known.{IsKnown, LeadsTo}
+use Rattle.generated.proofs.SetLines.{begins, gathers, names, starts, adds}
+
+-- ## all of them
+
+nothing_leads : (c n : ℕ) (more : List Asked) → completes_sets c n more None ≡ true → ⊥
+nothing_leads c n [] e = cc
+nothing_leads c n (a ∷ more) e = cc
+
+pub requests : (s : Plan) (n : ℕ) (more : List Asked) (p : Place) (k : ℕ) (vs : List ℕ) (a : Asked) (op : Op) (mark : Mark) (st : State) → IsAsked s a op → line_enabled s st 0 op ≡ true → completes_sets (length s.volumes) n more (spot_after p k vs a) ≡ true → k ≤ n → IsAt s p k vs st → IsKnown n k st (line s 0 op mark st).1 → LeadsTo s n more st (line s 0 op mark st).1
+requests s n more Free k vs Begins op mark st e on leads most h known = begins s n more k vs op mark st e on leads most h known
+requests s n more Free k vs Gathers op mark st e on leads most h known = absurd (nothing_leads (length s.volumes) n more leads)
+requests s n more Free k vs Awaits op mark st e on leads most h known = absurd (nothing_leads (length s.volumes) n more leads)
+requests s n more Free k vs (Names w) op mark st e on leads most h known = absurd (nothing_leads (length s.volumes) n more leads)
+requests s n more Free k vs Starts op mark st e on leads most h known = absurd (nothing_leads (length s.volumes) n more leads)
+requests s n more Free k vs (Adds v) op mark st e on leads most h known = absurd (nothing_leads (length s.volumes) n more leads)
+requests s n more Free k vs Prepares op mark st e on leads most h known = absurd (nothing_leads (length s.volumes) n more leads)
+requests s n more Free k vs Snapshots op mark st e on leads most h known = absurd (nothing_leads (length s.volumes) n more leads)
+requests s n more Free k vs Completes op mark st e on leads most h known = absurd (nothing_leads (length s.volumes) n more leads)
+requests s n more Free k vs Ends op mark st e on leads most h known = absurd (nothing_leads (length s.volumes) n more leads)
+requests s n more (Stands Opened) k vs Begins op mark st e on leads most h known = absurd (nothing_leads (length s.volumes) n more leads)
+requests s n more (Stands Opened) k vs Gathers op mark st e on leads most h known = gathers s n more k vs op mark st e on leads most h known
+requests s n more (Stands Opened) k vs Awaits op mark st e on leads most h known = absurd (nothing_leads (length s.volumes) n more leads)
+requests s n more (Stands Opened) k vs (Names w) op mark st e on leads most h known = absurd (nothing_leads (length s.volumes) n more leads)
+requests s n more (Stands Opened) k vs Starts op mark st e on leads most h known = absurd (nothing_leads (length s.volumes) n more leads)
+requests s n more (Stands Opened) k vs (Adds v) op mark st e on leads most h known = absurd (nothing_leads (length s.volumes) n more leads)
+requests s n more (Stands Opened) k vs Prepares op mark st e on leads most h known = absurd (nothing_leads (length s.volumes) n more leads)
+requests s n more (Stands Opened) k vs Snapshots op mark st e on leads most h known = absurd (nothing_leads (length s.volumes) n more leads)
+requests s n more (Stands Opened) k vs Completes op mark st e on leads most h known = absurd (nothing_leads (length s.volumes) n more leads)
+requests s n more (Stands Opened) k vs Ends op mark st e on leads most h known = absurd (nothing_leads (length s.volumes) n more leads)
+requests s n more (Stands Gathered) k vs Begins op mark st e on leads most h known = absurd (nothing_leads (length s.volumes) n more leads)
+requests s n more (Stands Gathered) k vs Gathers op mark st e on leads most h known = absurd (nothing_leads (length s.volumes) n more leads)
+requests s n more (Stands Gathered) k vs Awaits op mark st e on leads most h known = absurd (nothing_leads (length s.volumes) n more leads)
+requests s n more (Stands Gathered) k vs (Names w) op mark st e on leads most h known = names s n more w k vs op mark st e on leads most h known
+requests s n more (Stands Gathered) k vs Starts op mark st e on leads most h known = starts s n more k vs op mark st e on leads most h known
+requests s n more (Stands Gathered) k vs (Adds v) op mark st e on leads most h known = absurd (nothing_leads (length s.volumes) n more leads)
+requests s n more (Stands Gathered) k vs Prepares op mark st e on leads most h known = absurd (nothing_leads (length s.volumes) n more leads)
+requests s n more (Stands Gathered) k vs Snapshots op mark st e on leads most h known = absurd (nothing_leads (length s.volumes) n more leads)
+requests s n more (Stands Gathered) k vs Completes op mark st e on leads most h known = absurd (nothing_leads (length s.volumes) n more leads)
+requests s n more (Stands Gathered) k vs Ends op mark st e on leads most h known = absurd (nothing_leads (length s.volumes) n more leads)
+requests s n more (Stands Started) k vs Begins op mark st e on leads most h known = absurd (nothing_leads (length s.volumes) n more leads)
+requests s n more (Stands Started) k vs Gathers op mark st e on leads most h known = absurd (nothing_leads (length s.volumes) n more leads)
+requests s n more (Stands Started) k vs Awaits op mark st e on leads most h known = absurd (nothing_leads (length s.volumes) n more leads)
+requests s n more (Stands Started) k vs (Names w) op mark st e on leads most h known = absurd (nothing_leads (length s.volumes) n more leads)
+requests s n more (Stands Started) k vs Starts op mark st e on leads most h known = absurd (nothing_leads (length s.volumes) n more leads)
+requests s n more (Stands Started) k vs (Adds v) op mark st e on leads most h known = adds s n more v k vs op mark st e on leads most h known
+requests s n more (Stands Started) k vs Prepares op mark st e on leads most h known = prepares s n more k vs op mark st e on leads most h known
+requests s n more (Stands Started) k vs Snapshots op mark st e on leads most h known = absurd (nothing_leads (length s.volumes) n more leads)
+requests s n more (Stands Started) k vs Completes op mark st e on leads most h known = absurd (nothing_leads (length s.volumes) n more leads)
+requests s n more (Stands Started) k vs Ends op mark st e on leads most h known = absurd (nothing_leads (length s.volumes) n more leads)
+requests s n more (Stands Prepared) k vs Begins op mark st e on leads most h known = absurd (nothing_leads (length s.volumes) n more leads)
+requests s n more (Stands Prepared) k vs Gathers op mark st e on leads most h known = absurd (nothing_leads (length s.volumes) n more leads)
+requests s n more (Stands Prepared) k vs Awaits op mark st e on leads most h known = absurd (nothing_leads (length s.volumes) n more leads)
+requests s n more (Stands Prepared) k vs (Names w) op mark st e on leads most h known = absurd (nothing_leads (length s.volumes) n more leads)
+requests s n more (Stands Prepared) k vs Starts op mark st e on leads most h known = absurd (nothing_leads (length s.volumes) n more leads)
+requests s n more (Stands Prepared) k vs (Adds v) op mark st e on leads most h known = absurd (nothing_leads (length s.volumes) n more leads)
+requests s n more (Stands Prepared) k vs Prepares op mark st e on leads most h known = absurd (nothing_leads (length s.volumes) n more leads)
+requests s n more (Stands Prepared) k vs Snapshots op mark st e on leads most h known = snapshots s n more k vs op mark st e on leads most h known
+requests s n more (Stands Prepared) k vs Completes op mark st e on leads most h known = absurd (nothing_leads (length s.volumes) n more leads)
+requests s n more (Stands Prepared) k vs Ends op mark st e on leads most h known = absurd (nothing_leads (length s.volumes) n more leads)
+requests s n more (Stands Done) k vs Begins op mark st e on leads most h known = absurd (nothing_leads (length s.volumes) n more leads)
+requests s n more (Stands Done) k vs Gathers op mark st e on leads most h known = absurd (nothing_leads (length s.volumes) n more leads)
+requests s n more (Stands Done) k vs Awaits op mark st e on leads most h known = absurd (nothing_leads (length s.volumes) n more leads)
+requests s n more (Stands Done) k vs (Names w) op mark st e on leads most h known = absurd (nothing_leads (length s.volumes) n more leads)
+requests s n more (Stands Done) k vs Starts op mark st e on leads most h known = absurd (nothing_leads (length s.volumes) n more leads)
+requests s n more (Stands Done) k vs (Adds v) op mark st e on leads most h known = absurd (nothing_leads (length s.volumes) n more leads)
+requests s n more (Stands Done) k vs Prepares op mark st e on leads most h known = absurd (nothing_leads (length s.volumes) n more leads)
+requests s n more (Stands Done) k vs Snapshots op mark st e on leads most h known = absurd (nothing_leads (length s.volumes) n more leads)
+requests s n more (Stands Done) k vs Completes op mark st e on leads most h known = completes s n more k vs op mark st e on leads most h known
+requests s n more (Stands Done) k vs Ends op mark st e on leads most h known = absurd (nothing_leads (length s.volumes) n more leads)
+requests s n more (Stands Finished) k vs Begins op mark st e on leads most h known = absurd (nothing_leads (length s.volumes) n more leads)
+requests s n more (Stands Finished) k vs Gathers op mark st e on leads most h known = absurd (nothing_leads (length s.volumes) n more leads)
+requests s n more (Stands Finished) k vs Awaits op mark st e on leads most h known = absurd (nothing_leads (length s.volumes) n more leads)
+requests s n more (Stands Finished) k vs (Names w) op mark st e on leads most h known = absurd (nothing_leads (length s.volumes) n more leads)
+requests s n more (Stands Finished) k vs Starts op mark st e on leads most h known = absurd (nothing_leads (length s.volumes) n more leads)
+requests s n more (Stands Finished) k vs (Adds v) op mark st e on leads most h known = absurd (nothing_leads (length s.volumes) n more leads)
+requests s n more (Stands Finished) k vs Prepares op mark st e on leads most h known = absurd (nothing_leads (length s.volumes) n more leads)
+requests s n more (Stands Finished) k vs Snapshots op mark st e on leads most h known = absurd (nothing_leads (length s.volumes) n more leads)
+requests s n more (Stands Finished) k vs Completes op mark st e on leads most h known = absurd (nothing_leads (length s.volumes) n more leads)
+requests s n more (Stands Finished) k vs Ends op mark st e on leads most h known = ends s n more k vs op mark st e on leads most h known
+requests s n more (Stands Failed) k vs Begins op mark st e on leads most h known = absurd (nothing_leads (length s.volumes) n more leads)
+requests s n more (Stands Failed) k vs Gathers op mark st e on leads most h known = absurd (nothing_leads (length s.volumes) n more leads)
+requests s n more (Stands Failed) k vs Awaits op mark st e on leads most h known = absurd (nothing_leads (length s.volumes) n more leads)
+requests s n more (Stands Failed) k vs (Names w) op mark st e on leads most h known = absurd (nothing_leads (length s.volumes) n more leads)
+requests s n more (Stands Failed) k vs Starts op mark st e on leads most h known = absurd (nothing_leads (length s.volumes) n more leads)
+requests s n more (Stands Failed) k vs (Adds v) op mark st e on leads most h known = absurd (nothing_leads (length s.volumes) n more leads)
+requests s n more (Stands Failed) k vs Prepares op mark st e on leads most h known = absurd (nothing_leads (length s.volumes) n more leads)
+requests s n more (Stands Failed) k vs Snapshots op mark st e on leads most h known = absurd (nothing_leads (length s.volumes) n more leads)
+requests s n more (Stands Failed) k vs Completes op mark st e on leads most h known = absurd (nothing_leads (length s.volumes) n more leads)
+requests s n more (Stands Failed) k vs Ends op mark st e on leads most h known = absurd (nothing_leads (length s.volumes) n more leads)
+requests s n more (Waits g) k vs Begins op mark st e on leads most h known = absurd (nothing_leads (length s.volumes) n more leads)
+requests s n more (Waits g) k vs Gathers op mark st e on leads most h known = absurd (nothing_leads (length s.volumes) n more leads)
+requests s n more (Waits g) k vs Awaits op mark st e on leads most h known = awaits s n more g k vs op mark st e on leads most h known
+requests s n more (Waits g) k vs (Names w) op mark st e on leads most h known = absurd (nothing_leads (length s.volumes) n more leads)
+requests s n more (Waits g) k vs Starts op mark st e on leads most h known = absurd (nothing_leads (length s.volumes) n more leads)
+requests s n more (Waits g) k vs (Adds v) op mark st e on leads most h known = absurd (nothing_leads (length s.volumes) n more leads)
+requests s n more (Waits g) k vs Prepares op mark st e on leads most h known = absurd (nothing_leads (length s.volumes) n more leads)
+requests s n more (Waits g) k vs Snapshots op mark st e on leads most h known = absurd (nothing_leads (length s.volumes) n more leads)
+requests s n more (Waits g) k vs Completes op mark st e on leads most h known = absurd (nothing_leads (length s.volumes) n more leads)
+requests s n more (Waits g) k vs Ends op mark st e on leads most h known = absurd (nothing_leads (length s.volumes) n more leads)

@@ -1,0 +1,221 @@
+-- The lines that begin a session and put a set together each lead a state from spot to spot.
+use Rattle.std.proofs.Common.{◌≡◌, ℕ, ◌+◌, ◌<◌, ◌≤◌, List, [], ◌∷◌, ◌++◌, Some, None, refl, Bool, true, false, ap, sym, ◌∙◌, ◌==◌, subst, length, arith, map}
+use Rattle.std.specs.Prelude.{option_map, nat_lt, nat_le, ◌&&◌, not, if◌then◌else◌}
+use Rattle.std.proofs.lemmas.Bool.Decides.{nat_tests}
+use Rattle.vss_names.specs.declared.context.Context.TheVariants.{AppRollback}
+use Rattle.vss_names.specs.Context.{context_of_number}
+use Rattle.vss_names.specs.declared.set_outcome.SetOutcome.{SetOutcome}
+use Rattle.vss_names.specs.declared.vss_result.VssResult.{VssResult}
+use Rattle.write_history.specs.declared.mark.Mark.{Mark}
+use Rattle.set_agenda.specs.Agenda.{is_among}
+use Rattle.set_agenda.specs.Course.{gathered}
+use Rattle.component_doc.specs.Selection.{Naming, IsNotFound, IsNotSelectable, IsNamedAlready, Names as NamesPair, naming}
+use Rattle.requestor.specs.declared.session_call.SessionCall.TheVariants as call
+use Rattle.requestor.specs.declared.stage.Stage.TheVariants.{Opened, Gathered, Started}
+use Rattle.requestor.specs.Session.{context_of}
+use Rattle.requestor.specs.Check.{check}
+use Rattle.scenario.specs.declared.op.Op.{Op}
+use Rattle.scenario.specs.declared.op.Op.TheVariants.{Begin, Gather, Component, Start, Add}
+use Rattle.scenario.specs.Plan.{Plan, token}
+use Rattle.vss_model.specs.State.{State, SetRow, is_running, in_progress, history_of}
+use Rattle.vss_model.specs.Ending.{followed, runs}
+use Rattle.vss_model.specs.Sessions.{is_disabled, known_metas, volumes_of, new_set, new_number, with_volume, change_set, add_refusal, add_to, add, named_as, line_in, judged, begin_in}
+use Rattle.vss_model.specs.Lines.{called, line}
+use Rattle.vss_model.specs.Acts.{line_enabled}
+use Rattle.vss_model.specs.Facts.{has_failed, IsOrderly}
+use Rattle.vss_model.proofs.Orderly.{find-map, find-append_new}
+use Rattle.generated.specs.Asked.{Asked, Begins, Gathers, Names, Starts, Adds, IsAsked}
+use Rattle.generated.specs.Spots.{Free, Stands, Waits, spot_after, completes_sets, added}
+use Rattle.generated.proofs.CutRows.{is_cut, is_cut_or_open, IsNow, HasCuts}
+use Rattle.generated.proofs.Standing.{session_at, none_failed, IsAt}
+use Rattle.generated.proofs.Courses.{and_first, and_second, and_both, length_map, sound_gathered}
+use Rattle.generated.proofs.Cuts.{cuts_followed}
+use Rattle.generated.proofs.Known.{IsKnown, LeadsTo, goes, as_line, none_in, now_none, now_found, quiet_said, running_early, of_session, cuts_snoc, done_snoc, cuts_mapped, done_mapped, now_mapped, found_in}
+use Rattle.generated.proofs.Steps.{goes_on, followed_volumes}
+
+-- ## the lines
+
+of_nine : context_of 9 false ≡ Some AppRollback
+unfolding context_of_number
+of_nine = refl
+
+pub begins : (s : Plan) (n : ℕ) (more : List Asked) (k : ℕ) (vs : List ℕ) (op : Op) (mark : Mark) (st : State) → IsAsked s Begins op → line_enabled s st 0 op ≡ true → completes_sets (length s.volumes) n more (spot_after Free k vs Begins) ≡ true → k ≤ n → IsAt s Free k vs st → IsKnown n k st (line s 0 op mark st).1 → LeadsTo s n more st (line s 0 op mark st).1
+unfolding called
+begins s n more k vs op mark st e on leads most h known =
+    as_line s op (Begin 9 false) mark st (LeadsTo s n more st) e
+    (let is : (called (call.Begin 9 false) s 0 (Begin 9 false) st) ≡ begin_in 0 false (Some AppRollback) st
+    = ap (λ x. judged (check x (runs st) 0 (call.Begin 9 false)) s 0 (Begin 9 false) st) h.place.0 ∙ ap (λ x. line_in s 0 (Begin 9 false) x st) h.place.0 ∙ ap (λ c. begin_in 0 false c st) of_nine in
+    subst (λ y. LeadsTo s n more st y.1) (sym is)
+    (record {
+      spot = record { place = Stands Opened; sets = k; volumes = [] };
+      leads = leads;
+      at = record { sets = h.sets; fine = h.fine; sound = h.sound; place = record { stage = record { set = None; last = None; is = refl }; is_busy = h.place.1; volumes = tt } };
+      same = refl;
+      cuts = λ x. record { count = x.count; done = x.done; now = x.now };
+    }))
+
+pub gathers : (s : Plan) (n : ℕ) (more : List Asked) (k : ℕ) (vs : List ℕ) (op : Op) (mark : Mark) (st : State) → IsAsked s Gathers op → line_enabled s st 0 op ≡ true → completes_sets (length s.volumes) n more (spot_after (Stands Opened) k vs Gathers) ≡ true → k ≤ n → IsAt s (Stands Opened) k vs st → IsKnown n k st (line s 0 op mark st).1 → LeadsTo s n more st (line s 0 op mark st).1
+gathers s n more k vs op mark st e on leads most h known =
+    let q = session_at Opened h.place.stage.set h.place.stage.last in
+    let is : (line s 0 op mark st).1 ≡ followed true (gathered (is_disabled s st) st.clock st.course) st
+    = ap (λ x. (line s 0 x mark st).1) e ∙ ap (λ y. y.1) (goes call.Gather s Gather st q false h.place.stage.is h.place.is_busy refl) in
+    record {
+      spot = record { place = Waits Opened; sets = k; volumes = [] };
+      leads = leads;
+      at = subst (IsAt s (Waits Opened) k []) (sym is)
+          (goes_on s Opened k [] _ st (sound_gathered _ (is_disabled s st) st.clock st.course h.sound) h.sets h.fine h.place.stage tt (subst IsOrderly is known.next_orderly));
+      same = ap (λ (x : State). x.volumes) is ∙ followed_volumes _ _ st (sound_gathered _ (is_disabled s st) st.clock st.course h.sound);
+      cuts = λ x. subst (HasCuts s) (sym is) (cuts_followed s _ _ st (sound_gathered _ (is_disabled s st) st.clock st.course h.sound) known.orderly.newest x.count x.done (now_none (in_progress st) _ (none_in Opened st refl h.place.stage known.orderly)));
+    }
+
+pub names : (s : Plan) (n : ℕ) (more : List Asked) (w k : ℕ) (vs : List ℕ) (op : Op) (mark : Mark) (st : State) → IsAsked s (Names w) op → line_enabled s st 0 op ≡ true → completes_sets (length s.volumes) n more (spot_after (Stands Gathered) k vs (Names w)) ≡ true → k ≤ n → IsAt s (Stands Gathered) k vs st → IsKnown n k st (line s 0 op mark st).1 → LeadsTo s n more st (line s 0 op mark st).1
+names s n more w k vs op mark st e on leads most h known =
+    let q = session_at Gathered h.place.stage.set h.place.stage.last in
+    let x = naming (known_metas s st) w (token s e.full) st.explicit in
+    let is : (line s 0 op mark st).1 ≡ (named_as x st).1
+    = ap (λ x. (line s 0 x mark st).1) e.is ∙ ap (λ y. y.1) (goes call.Component s (Component w e.full) st q false h.place.stage.is h.place.is_busy refl) in
+    record {
+      spot = record { place = Stands Gathered; sets = k; volumes = [] };
+      leads = leads;
+      at = subst (IsAt s (Stands Gathered) k []) (sym is) (by_naming x);
+      same = ap (λ (x : State). x.volumes) is ∙ by_naming_volumes x;
+      cuts = λ y. subst (HasCuts s) (sym is) (by_naming_cuts x y);
+    }
+  where
+    by_naming_cuts : (x : Naming) → HasCuts s st → HasCuts s (named_as x st).1
+    by_naming_cuts IsNotFound y = y
+    by_naming_cuts IsNotSelectable y = y
+    by_naming_cuts IsNamedAlready y = y
+    by_naming_cuts (NamesPair explicit) y = record { count = y.count; done = y.done; now = y.now }
+
+    by_naming_volumes : (x : Naming) → (named_as x st).1.volumes ≡ st.volumes
+    by_naming_volumes IsNotFound = refl
+    by_naming_volumes IsNotSelectable = refl
+    by_naming_volumes IsNamedAlready = refl
+    by_naming_volumes (NamesPair explicit) = refl
+
+    by_naming : (x : Naming) → IsAt s (Stands Gathered) k [] (named_as x st).1
+    by_naming IsNotFound = record { sets = h.sets; fine = h.fine; sound = h.sound; place = record { stage = h.place.stage; is_busy = h.place.is_busy; volumes = tt } }
+    by_naming IsNotSelectable = record { sets = h.sets; fine = h.fine; sound = h.sound; place = record { stage = h.place.stage; is_busy = h.place.is_busy; volumes = tt } }
+    by_naming IsNamedAlready = record { sets = h.sets; fine = h.fine; sound = h.sound; place = record { stage = h.place.stage; is_busy = h.place.is_busy; volumes = tt } }
+    by_naming (NamesPair explicit) = record { sets = h.sets; fine = h.fine; sound = h.sound; place = record { stage = h.place.stage; is_busy = h.place.is_busy; volumes = tt } }
+
+length_snoc : {X : Type 0} (xs : List X) (x : X) → length (xs ++ x ∷ []) ≡ length xs + 1
+length_snoc [] x = refl
+length_snoc (y ∷ xs) x = let h = length_snoc xs x in omega (arith, h)
+
+fine_snoc : (rows : List SetRow) (r : SetRow) → none_failed rows ≡ true → not (has_failed r.result) ≡ true → none_failed (rows ++ r ∷ []) ≡ true
+fine_snoc [] r h e = and_both _ _ e refl
+fine_snoc (q ∷ rows) r h e = and_both _ _ (and_first (not (has_failed q.result)) (none_failed rows) h) (fine_snoc rows r (and_second (not (has_failed q.result)) (none_failed rows) h) e)
+
+pub starts : (s : Plan) (n : ℕ) (more : List Asked) (k : ℕ) (vs : List ℕ) (op : Op) (mark : Mark) (st : State) → IsAsked s Starts op → line_enabled s st 0 op ≡ true → completes_sets (length s.volumes) n more (spot_after (Stands Gathered) k vs Starts) ≡ true → k ≤ n → IsAt s (Stands Gathered) k vs st → IsKnown n k st (line s 0 op mark st).1 → LeadsTo s n more st (line s 0 op mark st).1
+starts s n more k vs op mark st e on leads most h known =
+    let q = session_at Gathered h.place.stage.set h.place.stage.last in
+    let new = new_set (new_number st) AppRollback in
+    let next : State = record st { session = Some (session_at Started (Some (new_number st)) h.place.stage.last); sets = st.sets ++ new ∷ [] } in
+    let is : (line s 0 op mark st).1 ≡ next
+    = ap (λ x. (line s 0 x mark st).1) e ∙ ap (λ y. y.1) (goes call.Start s Start st q false h.place.stage.is h.place.is_busy refl) in
+    record {
+      spot = record { place = Stands Started; sets = k + 1; volumes = [] };
+      leads = leads;
+      at = subst (IsAt s (Stands Started) (k + 1) []) (sym is)
+          (record {
+            sets = length_snoc st.sets new ∙ ap (λ m. m + 1) h.sets;
+            fine = fine_snoc st.sets new h.fine refl;
+            sound = h.sound;
+            place = record {
+              stage = record { set = Some (new_number st); last = h.place.stage.last; is = refl };
+              is_busy = h.place.is_busy;
+              volumes = ap volumes_of (find-append_new st.sets new (none_in Gathered st refl h.place.stage known.orderly) refl);
+            };
+          });
+      same = ap (λ (x : State). x.volumes) is;
+      cuts = λ x. subst (HasCuts s) (sym is) (record { count = λ v l. x.count v l ∙ sym (cuts_snoc st.sets new refl); done = done_snoc st.sets new refl x.done; now = now_found _ new st.course (find-append_new st.sets new (none_in Gathered st refl h.place.stage known.orderly) refl) (sym (quiet_said st.course.agenda st.course.outcome h.place.is_busy (running_early q st.course.outcome (in_progress st) (none_in Gathered st refl h.place.stage known.orderly) refl (of_session st Gathered h.place.stage known.orderly)))) });
+    }
+
+no_refusal : (a b c : Bool) (x y z : VssResult) → a ≡ false → b ≡ false → c ≡ false → (if a then Some x else if b then Some y else if c then Some z else None) ≡ None
+no_refusal true b c x y z e f g = absurd cc
+no_refusal false true c x y z e f g = absurd cc
+no_refusal false false true x y z e f g = absurd cc
+no_refusal false false false x y z e f g = refl
+
+not_true : (a : Bool) → not a ≡ true → a ≡ false
+not_true true e = absurd cc
+not_true false e = refl
+
+not_le : (a b : ℕ) → nat_lt b a ≡ true → nat_le a b ≡ false
+not_le a b l = grind (arith, nat_tests)
+
+lt_is : (a b : ℕ) → a < b → nat_lt a b ≡ true
+lt_is a b l = grind (arith, nat_tests)
+
+record AddsTo (v : ℕ) (c n : ℕ) (more : List Asked) (k : ℕ) (vs : List ℕ) : Type 0 where
+  new : is_among v vs ≡ false
+  few : nat_lt (length vs) 64 ≡ true
+  leads : completes_sets c n more (Some (record { place = Stands Started; sets = k; volumes = vs ++ v ∷ [] })) ≡ true
+
+adds_to : (b : Bool) (v c n : ℕ) (more : List Asked) (k : ℕ) (vs : List ℕ) → (not (is_among v vs) && nat_lt (length vs) 64) ≡ b → completes_sets c n more (added b k vs v) ≡ true → AddsTo v c n more k vs
+adds_to true v c n more k vs e leads = record {
+  new = not_true (is_among v vs) (and_first (not (is_among v vs)) (nat_lt (length vs) 64) e);
+  few = and_second (not (is_among v vs)) (nat_lt (length vs) 64) e;
+  leads = leads;
+}
+adds_to false v c n more k vs e leads = absurd (nothing more leads)
+  where
+    nothing : (more : List Asked) → completes_sets c n more None ≡ true → ⊥
+    nothing [] f = cc
+    nothing (a ∷ more) f = cc
+
+fine_mapped : (f : SetRow → SetRow) → ((r : SetRow) → (f r).result ≡ r.result) → (rows : List SetRow) → none_failed (map f rows) ≡ none_failed rows
+fine_mapped f same [] = refl
+fine_mapped f same (r ∷ rows) = ap (λ (x : SetOutcome). not (has_failed x) && none_failed (map f rows)) (same r) ∙ ap (λ b. not (has_failed r.result) && b) (fine_mapped f same rows)
+
+changed_result : (b : Bool) (v : ℕ) (r : SetRow) → (if b then with_volume v r else r).result ≡ r.result
+changed_result true v r = refl
+changed_result false v r = refl
+
+changed_cut : (b : Bool) (v : ℕ) (r : SetRow) → is_cut (if b then with_volume v r else r) ≡ is_cut r
+changed_cut true v r = refl
+changed_cut false v r = refl
+
+changed_open : (b : Bool) (v : ℕ) (r : SetRow) → is_cut_or_open (if b then with_volume v r else r) ≡ is_cut_or_open r
+changed_open true v r = refl
+changed_open false v r = refl
+
+pub adds : (s : Plan) (n : ℕ) (more : List Asked) (v k : ℕ) (vs : List ℕ) (op : Op) (mark : Mark) (st : State) → IsAsked s (Adds v) op → line_enabled s st 0 op ≡ true → completes_sets (length s.volumes) n more (spot_after (Stands Started) k vs (Adds v)) ≡ true → k ≤ n → IsAt s (Stands Started) k vs st → IsKnown n k st (line s 0 op mark st).1 → LeadsTo s n more st (line s 0 op mark st).1
+adds s n more v k vs op mark st e on leads most h known =
+    let q = session_at Started h.place.stage.set h.place.stage.last in
+    let found = found_in Started st refl h.place.stage known.orderly in
+    let r = found.row in
+    let to = adds_to (not (is_among v vs) && nat_lt (length vs) 64) v (length s.volumes) n more k vs refl leads in
+    let own : r.volumes ≡ vs = ap volumes_of (sym found.is) ∙ h.place.volumes in
+    let less = known.images v in
+    let few = known.few in
+    let sets = h.sets in
+    let free : add_refusal v r st ≡ None
+    = no_refusal _ _ _ _ _ _ (ap (is_among v) own ∙ to.new) (not_le 64 (length r.volumes) (ap (λ (us : List ℕ). nat_lt (length us) 64) own ∙ to.few))
+    (not_le 512 (length (history_of st v).images) (lt_is (length (history_of st v).images) 512 (omega (arith, less, few, sets, most)))) in
+    let is : (line s 0 op mark st).1 ≡ change_set r.number (with_volume v) st
+    = ap (λ x. (line s 0 x mark st).1) e ∙ ap (λ y. y.1) (goes call.Add s (Add v) st q false h.place.stage.is h.place.is_busy refl)
+    ∙ ap (λ x. (add v x st).1) found.is ∙ ap (λ x. (add_to v r x st).1) free in
+    record {
+      spot = record { place = Stands Started; sets = k; volumes = vs ++ v ∷ [] };
+      leads = to.leads;
+      at = subst (IsAt s (Stands Started) k (vs ++ v ∷ [])) (sym is)
+          (record {
+            sets = length_map _ st.sets ∙ h.sets;
+            fine = fine_mapped _ (λ x. changed_result (x.number == r.number) v x) st.sets ∙ h.fine;
+            sound = h.sound;
+            place = record {
+              stage = h.place.stage;
+              is_busy = h.place.is_busy;
+              volumes = ap volumes_of (find-map _ (λ x. ap is_running (changed_result (x.number == r.number) v x)) st.sets ∙ ap (option_map _) found.is)
+                  ∙ ap (λ b. (if b then with_volume v r else r).volumes) (own_number r.number) ∙ ap (λ us. us ++ v ∷ []) own;
+            };
+          });
+      same = ap (λ (x : State). x.volumes) is;
+      cuts = λ x. subst (HasCuts s) (sym is) (record { count = λ u l. x.count u l ∙ sym (cuts_mapped _ (λ y. changed_cut (y.number == r.number) v y) st.sets); done = done_mapped _ (λ y. changed_open (y.number == r.number) v y) st.sets ∙ x.done; now = subst (λ o. IsNow o st.course) (sym (find-map _ (λ y. ap is_running (changed_result (y.number == r.number) v y)) st.sets)) (now_mapped _ (in_progress st) st.course (λ y. changed_cut (y.number == r.number) v y) x.now) });
+    }
+  where
+    own_number : (a : ℕ) → (a == a) ≡ true
+    own_number a = grind arith

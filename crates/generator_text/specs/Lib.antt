@@ -1,0 +1,5 @@
+pub mod Draws
+pub mod Lines
+pub mod ScenarioText
+pub mod Contents
+pub mod Summary
