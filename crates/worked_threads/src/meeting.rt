@@ -1,0 +1,93 @@
+//! Two lanes that wait for each other.
+
+use io_edge::{MemSink, MemSource};
+use std::alloc::Global;
+use std::hint::spin_loop;
+use std::sync::atomic::AtomicBool;
+use std::sync::atomic::Ordering::SeqCst;
+use std::test::Fail;
+use volume_device::MemMaker;
+use vss_main::{Status, run};
+use vss_names::{Numbers, OutOfMemory};
+use vss_play::{Gate, Moved};
+use write_history::Actor;
+
+/// Two lanes of one write each.
+const TWO_LANES: &[u8] =
+    b"scenario 1\nvolume C 2 2\nlane a\nwrite C 0 fill 7\nlane b\nwrite C 1 fill 8\n";
+
+/// A gate in which each of two lanes raises its flag before it moves, and waits for the other's.
+#[derive(Drop)]
+struct Meeting {
+    first: AtomicBool,
+    second: AtomicBool,
+    first_met: AtomicBool,
+    second_met: AtomicBool,
+}
+
+/// Whether a flag is seen raised, for a while.
+fn seen(flag: &AtomicBool) -> bool {
+    for _ in 0..50_000_000u32 {
+        if flag.load(SeqCst) {
+            return true;
+        }
+        spin_loop();
+    }
+    false
+}
+
+impl Gate for Meeting {
+    fn before(&self, actor: Actor) {
+        match actor {
+            Actor::Lane(0) => {
+                self.first.store(true, SeqCst);
+                if seen(&self.second) {
+                    self.first_met.store(true, SeqCst);
+                }
+            }
+            Actor::Lane(1) => {
+                self.second.store(true, SeqCst);
+                if seen(&self.first) {
+                    self.second_met.store(true, SeqCst);
+                }
+            }
+            _ => {}
+        }
+    }
+
+    fn after(&self, _actor: Actor, _moved: Moved) {}
+}
+
+/// The one word `run`.
+fn run_word(alloc: Global) -> Result<Vec<String>, OutOfMemory> {
+    let mut words = Vec::new(alloc);
+    words.push(String::from_str(alloc, "run")?)?;
+    Ok(words)
+}
+
+#[test]
+fn two_lanes_meet(rt: HostRuntime) -> Result<(), Fail> {
+    let words = run_word(rt.alloc())?;
+    let meeting = Meeting {
+        first: AtomicBool::new(false),
+        second: AtomicBool::new(false),
+        first_met: AtomicBool::new(false),
+        second_met: AtomicBool::new(false),
+    };
+    let text = TWO_LANES.to_vec(rt.alloc())?;
+    let mut source = MemSource::new(text, 64, Numbers::new(rt.alloc()));
+    let mut sink = MemSink::with_room(rt.alloc(), 4096, Numbers::new(rt.alloc()))?;
+    let mut maker = MemMaker::new(rt.alloc(), Vec::new(rt.alloc()));
+    let status = run(
+        &rt,
+        rt.alloc(),
+        &words,
+        &mut source,
+        &mut sink,
+        &mut maker,
+        &meeting,
+    );
+    assert_eq!(rt; status, Status::Done);
+    assert!(rt; meeting.first_met.load(SeqCst) && meeting.second_met.load(SeqCst));
+    Ok(())
+}
