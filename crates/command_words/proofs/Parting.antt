@@ -1,15 +1,15 @@
 -- What the parser of command lines makes of at most three words, none of which begins with a hyphen: the first, the second and
 -- the third positional have one each, in order, and no word is refused.
-use Rattle.std.proofs.Common.{◌≡◌, ◌∙◌, ℕ, suc, List, [], ◌∷◌, Option, Some, None, refl, Bool, true, false, ap, ap₂, length, map, codes, arith, ◌<◌, ◌≤◌, ◌+◌}
-use Rattle.std.specs.Prelude.{◌==◌, ◌&&◌, ◌||◌, not, nat_le, slice_get, if◌then◌else◌, option_and_then, is_some, String, string_bytes}
+use Rattle.std.proofs.Common.{◌≡◌, ◌∙◌, ℕ, List, [], ◌∷◌, Some, None, refl, Bool, true, false, ap, ap₂, length, map, codes, arith, ◌<◌, ◌≤◌}
+use Rattle.std.specs.Prelude.{◌&&◌, ◌||◌, not, nat_le, slice_get, if◌then◌else◌, option_and_then, is_some, String, string_bytes}
 use Rattle.std.specs.List.{list_all}
 use Rattle.std.specs.Global.{Global}
 use Rattle.std.specs.Option.{option_map_or}
 use Rattle.std.specs.Str.{bytes_eq}
 use Rattle.std.proofs.lemmas.Bool.Decides.{nat_tests}
 use Rattle.clap.specs.Lexer.{strip_byte, long_of_rest, long_of, short_of_rest, short_of}
-use Rattle.clap.specs.Walk.{Rule, Text, Held, Step, Walk, trailing, first_of, word_met, idle, value, after_step, walked, walk_from, walk, nothing_held, finished, long_or_other, short_or_plain}
-use Rattle.clap.specs.Simple.{App, Shape, matches_of, is_simple, new_app, new_rule, with_rule, on_top, built, names_of, entered}
+use Rattle.clap.specs.Walk.{Rule, Text, Held, Step, Walk, trailing, first_of, word_met, idle, value, after_step, walked, walk_from, nothing_held, finished, long_or_other, short_or_plain}
+use Rattle.clap.specs.Simple.{App, Shape, matches_of, is_simple, new_app, new_rule, with_rule, on_top, built, entered}
 use Rattle.clap.specs.Takes.{takes, bundle_passes, turn_passes, word_passes, step_passes, walk_passes, flag_word_passes, settle_passes, default_passes, is_valid, entered_passes}
 use Rattle.command_words.specs.Command.{is_dashed, are_plain}
 

@@ -1,6 +1,6 @@
 -- The words that the program takes, and what they ask for: `run`, `run F`, `gen N`, `gen N F`. F is a folder's name and not empty;
 -- N is a number of at most four bytes, in decimal digits without a leading zero. (This project's own.)
-use Rattle.std.specs.Prelude.{ℕ, Bool, true, false, List, [], ◌∷◌, ◌==◌, ◌&&◌, not, length, nat_le, codes, bytes_eq, if◌then◌else◌, Option, Some, None, Result, Ok, Err, slice_get, option_map, option_and_then}
+use Rattle.std.specs.Prelude.{ℕ, Bool, false, List, [], ◌∷◌, ◌==◌, ◌&&◌, not, length, nat_le, codes, bytes_eq, if◌then◌else◌, Option, Some, None, Result, Ok, Err, slice_get, option_map}
 use Rattle.std.specs.List.{list_all}
 use Rattle.scenario.specs.declared.reason.Reason.{Reason}
 use Rattle.scenario.specs.Numbers.{number_in}
