@@ -29,4 +29,3 @@ closed_keeps P lines same more =
     λ t. elim t as (λ v. ends_sessions lines ≡ v → P (if v then lines else lines ++ implied_end ∷ []))
     [ true ↦ λ e. same e | false ↦ λ e. more ] in
     on (ends_sessions lines) refl
-

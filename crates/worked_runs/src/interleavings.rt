@@ -103,7 +103,10 @@ fn both_volumes_are_cut_at_one_moment_in_every_order(rt: HostRuntime) -> Result<
             for third in second..6 {
                 for fourth in third..6 {
                     let places = [PLACES[first], PLACES[second], PLACES[third], PLACES[fourth]];
-                    assert!(rt; is_cut_at_once(rt.alloc(), places)?, "{first} {second} {third} {fourth}");
+                    assert!(rt;
+                        is_cut_at_once(rt.alloc(), places)?,
+                        "{first} {second} {third} {fourth}"
+                    );
                 }
             }
         }
