@@ -76,3 +76,63 @@ fn what_fails_is_told_and_made_good_by_the_next(rt: HostRuntime) -> Result<(), F
     assert!(rt; group.sync().is_ok());
     Ok(())
 }
+
+/// A group of two volumes of four blocks over an area of two slots.
+fn two_volumes(alloc: Global) -> Result<CowGroup<MemDevice>, OutOfMemory> {
+    let first = MemDevice::new(alloc, 4)?;
+    let second = MemDevice::new(alloc, 4)?;
+    let Ok(area) = Area::open_new(alloc, MemDevice::new(alloc, 4)?, 2, &[4, 4]) else {
+        return Err(OutOfMemory);
+    };
+    CowGroup::new(alloc, vec![in alloc; first, second]?, area)
+}
+
+/// The first image is cut of both volumes.
+fn cut_both(rt: &impl Abort, group: &mut CowGroup<MemDevice>) {
+    for v in 0..2 {
+        assert!(rt; v < group.volumes());
+        assert!(rt; group.images(v).is_empty());
+        group.cut(v, 1);
+    }
+}
+
+/// A block of a volume is filled, and answers up to which set images went.
+fn fill_on(
+    rt: &impl Abort,
+    group: &mut CowGroup<MemDevice>,
+    v: u32,
+    block: u32,
+) -> Result<Written, WriteFault> {
+    assert!(rt; v < group.volumes());
+    assert!(rt; block < group.blocks(v));
+    let up_to = group.goes_up_to(v, block);
+    let written = group.write(v, block, &Payload::Fill(7));
+    assert!(rt;
+        written
+            == Ok(Written {
+                evicted_up_to: up_to
+            })
+    );
+    written
+}
+
+#[test]
+fn the_oldest_set_goes_from_both_volumes(rt: HostRuntime) -> Result<(), Fail> {
+    let mut group = two_volumes(rt.alloc())?;
+    cut_both(&rt, &mut group);
+    for (v, block, up_to) in [(0, 0, 0), (1, 0, 0), (0, 0, 0), (0, 1, 1), (1, 1, 0)] {
+        assert!(rt;
+            fill_on(&rt, &mut group, v, block)
+                == Ok(Written {
+                    evicted_up_to: up_to
+                })
+        );
+    }
+    for v in 0..2 {
+        assert!(rt; v < group.volumes());
+        assert!(rt; group.images(v).is_empty());
+        assert_eq!(rt; group.used(v), 0);
+        assert_eq!(rt; group.used_by(v, 1), None);
+    }
+    Ok(())
+}
