@@ -23,3 +23,5 @@ mod selections;
 mod states;
 #[cfg(test)]
 mod texts;
+#[cfg(test)]
+mod writer_lines;

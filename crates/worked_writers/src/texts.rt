@@ -23,7 +23,11 @@ fn refusal_of(alloc: Global, text: &[u8]) -> Result<Option<(u32, Reason)>, Fail>
 }
 
 /// The reason for which the last line is refused, after lines that are read.
-fn reason_of_last(alloc: Global, before: &str, line: &str) -> Result<Option<Reason>, Fail> {
+pub(crate) fn reason_of_last(
+    alloc: Global,
+    before: &str,
+    line: &str,
+) -> Result<Option<Reason>, Fail> {
     let mut text = before.as_bytes().to_vec(alloc)?;
     text.extend_from_slice(line.as_bytes())?;
     text.push(b'\n')?;
