@@ -1,6 +1,6 @@
 #!/usr/bin/env bash
-# Limits and a day's use, from the proved program, or the one that is named: the 65th volume of a set, the 513th image of a volume, and
-# eight lanes of writes as two writers while two sets are made over three volumes.
+# Limits and a day's use, from the proved program, or the one that is named: the 65th volume of a set, the 513th image of a volume, the most
+# lines, and eight lanes of writes as two writers while two sets are made over three volumes.
 set -u
 top="$(cd "$(dirname "$0")/.." && pwd)" || exit 70
 . "$top/tools/program.sh"
@@ -35,7 +35,16 @@ report="$(awk 'BEGIN {
 has "images of a volume" '^= set [0-9]+ complete$' 512 "$report"
 has "images of a volume" ' 3078 VSS_E_MAXIMUM_NUMBER_OF_SNAPSHOTS_REACHED$' 1 "$report"
 
-# A build without a proof is slow at digests, and leaves this out.
+# the most lines of a kind, and the line
+most_lines() {
+  local most="$1" line="$2"
+  text() { printf 'scenario 1\nlane a\n'; yes "$line" | head -n "$1"; }
+  has "$most times $line" "^end moves $most clock 0\$" 1 "$(text "$most" | "$program" run | tail -n 1)"
+  has "$((most + 1)) times $line" "^vss: line $((most + 3)): TooMany\$" 1 "$(text "$((most + 1))" | "$program" run 2>&1)"
+}
+most_lines 2000 snapshot
+
+# A build without a proof is slow at digests and at many moves, and leaves these out.
 days_use() {
   sql='{"class":"44444444-4444-4444-8444-444444444444","components":[{"name":"main","path":"","selectable":true,"type":1},{"name":"log1","path":"main","selectable":false,"type":2},{"name":"log2","path":"main","selectable":false,"type":2}],"level":2,"name":"Sql","source":1,"usage":3}'
   files='{"class":"55555555-5555-4555-8555-555555555555","components":[{"name":"home","path":"","selectable":true,"type":2}],"level":1,"name":"Files","source":3,"usage":3}'
@@ -64,7 +73,10 @@ days_use() {
 }
 case "$program" in
   *-unproved) ;;
-  *) days_use ;;
+  *)
+    days_use
+    most_lines 100000 await
+    ;;
 esac
 [ "$failed" = 0 ] && echo "limits: as promised"
 exit "$failed"

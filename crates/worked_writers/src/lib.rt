@@ -23,5 +23,3 @@ mod selections;
 mod states;
 #[cfg(test)]
 mod texts;
-#[cfg(test)]
-mod writer_lines;
