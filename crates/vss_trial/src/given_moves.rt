@@ -1,0 +1,40 @@
+//! A run whose moves are given.
+
+use crate::failing::Failing;
+use crate::letters::goes_as_told;
+use crate::trial_error::TrialError;
+use scenario::parse;
+use std::alloc::Global;
+use volume_device::{MemDevice, Store};
+use vss_main::MOST_BYTES;
+use vss_names::Text;
+use vss_play::Play;
+
+/// Makes the moves of the letters, each as it is told.
+fn make_moves(alloc: Global, play: &mut Play<MemDevice>, letters: &[u8]) -> Result<(), TrialError> {
+    let mut number = 1;
+    for letter in letters {
+        if !goes_as_told(alloc, play, *letter)? {
+            return Err(TrialError::Untold(number));
+        }
+        number = number.saturating_add(1);
+    }
+    Ok(())
+}
+
+/// The closed report of a scenario, the moves of which are those of the letters.
+pub fn report_of(
+    alloc: Global,
+    input: &[u8],
+    letters: &[u8],
+    failing: Failing,
+) -> Result<Text, TrialError> {
+    if input.len() > MOST_BYTES {
+        return Err(TrialError::Scenario);
+    }
+    let scenario = parse(alloc, input)?;
+    let mut maker = failing.maker;
+    let mut play = Play::new(alloc, scenario, &Store::Memory, &mut maker)?;
+    make_moves(alloc, &mut play, letters)?;
+    Ok(play.finish(&mut maker)?)
+}
