@@ -3,6 +3,7 @@ use Rattle.std.proofs.Common.{◌≡◌, ◌∙◌, ℕ, ◌+◌, ◌*◌, ◌<�
 use Rattle.std.specs.Prelude.{◌&&◌, not, nat_lt, nat_le, is_some, if◌then◌else◌, Result, Ok, Err}
 use Rattle.std.specs.List.{range_with_len}
 use Rattle.std.proofs.lemmas.Bool.Decides.{nat_tests}
+use Rattle.std.proofs.lemmas.List.{length-map, length_push, map_push}
 use Rattle.std.proofs.lemmas.List.FromFn.{map-range_with_len_more, length-range_with_len}
 use Rattle.writer_meta.specs.Metadata.{Meta}
 use Rattle.writer_meta.specs.Refusal.{Refusal}
@@ -37,18 +38,6 @@ start = record { volumes = 0; names = []; writers = []; metas = [] }
 -- no lane has begun
 abbrev pub no_run : Run
 no_run = record { lanes = []; lines = 0; agendas = 0 }
-
-pub map_snoc : {X Y : Type 0} (f : X → Y) (xs : List X) (x : X) → map f (xs ++ x ∷ []) ≡ map f xs ++ f x ∷ []
-map_snoc f [] x = refl
-map_snoc f (y ∷ xs) x = ap (λ ys. f y ∷ ys) (map_snoc f xs x)
-
-length_snoc : {X : Type 0} (xs : List X) (x : X) → length (xs ++ x ∷ []) ≡ length xs + 1
-length_snoc [] x = refl
-length_snoc (y ∷ xs) x = let h = length_snoc xs x in omega (arith, h)
-
-pub length_mapped : {X Y : Type 0} (f : X → Y) (xs : List X) → length xs ≡ length (map f xs)
-length_mapped f [] = refl
-length_mapped f (x ∷ xs) = let h = length_mapped f xs in omega (arith, h)
 
 no_lane : (text : List ℕ) (lanes : List LanePlan) → AreLanes text [] lanes → has_lane lanes ≡ false
 no_lane text [] h = refl
@@ -113,7 +102,7 @@ volume text rest c cs m good named free small i =
         let blocks = head_is _ _ _ _ (tail_is _ _ _ _ parts) in
         let slots = head_is _ _ _ _ (tail_is _ _ _ _ (tail_is _ _ _ _ parts)) in
         let row = own_row d first 256 1024 in
-        let count : length d.volumes ≡ m.volumes = length_mapped shape_of d.volumes ∙ ap length h.shapes ∙ sym (length_mapped own_shape (range_with_len 0 m.volumes)) ∙ length-range_with_len 0 m.volumes in
+        let count : length d.volumes ≡ m.volumes = sym (length-map d.volumes shape_of) ∙ ap length h.shapes ∙ length-map (range_with_len 0 m.volumes) own_shape ∙ length-range_with_len 0 m.volumes in
         let new : name_field text (is_some (volume_named text d.volumes (bytes_of text first))) first ≡ Ok first
         = new_name text _ first (c ∷ cs) name named (ap₂ (λ x ns. is_some (place_of x ns)) name h.names ∙ free) in
         record {
@@ -126,9 +115,9 @@ volume text rest c cs m good named free small i =
           holds = record {
             declared = record {
               opened = h.opened;
-              names = map_snoc (λ r. bytes_of text r.name) d.volumes row ∙ ap₂ (λ ns n. ns ++ n ∷ []) h.names name;
-              shapes = map_snoc shape_of d.volumes row ∙ ap₂ (λ ss g. ss ++ own_shape g ∷ []) h.shapes h.groups ∙ sym (map-range_with_len_more own_shape 0 m.volumes m.volumes (zero_plus m.volumes));
-              groups = length_snoc d.groups _ ∙ ap (λ n. n + 1) h.groups;
+              names = map_push (λ r. bytes_of text r.name) d.volumes row ∙ ap₂ (λ ns n. ns ++ n ∷ []) h.names name;
+              shapes = map_push shape_of d.volumes row ∙ ap₂ (λ ss g. ss ++ own_shape g ∷ []) h.shapes h.groups ∙ sym (map-range_with_len_more own_shape 0 m.volumes m.volumes (zero_plus m.volumes));
+              groups = length_push d.groups _ ∙ ap (λ n. n + 1) h.groups;
               size = let e = h.size in omega (arith, e);
               writers = h.writers;
               metas = h.metas;
@@ -164,7 +153,7 @@ writer text rest c cs document meta m good plain some named free small reads i =
         let name = head_is _ _ _ _ parts in
         let doc = head_is _ _ _ _ (tail_is _ _ _ _ parts) in
         let row : WriterPlan = record { name = first; meta = meta; script = [] } in
-        let count : length d.writers ≡ length m.writers = length_mapped (λ (w : WriterPlan). bytes_of text w.name) d.writers ∙ ap length h.writers in
+        let count : length d.writers ≡ length m.writers = sym (length-map d.writers (λ (w : WriterPlan). bytes_of text w.name)) ∙ ap length h.writers in
         let new : name_field text (is_some (writer_named text d.writers (bytes_of text first))) first ≡ Ok first
         = new_name text _ first (c ∷ cs) name named (ap₂ (λ x ns. is_some (place_of x ns)) name h.writers ∙ free) in
         record {
@@ -183,9 +172,9 @@ writer text rest c cs document meta m good plain some named free small reads i =
               shapes = h.shapes;
               groups = h.groups;
               size = h.size;
-              writers = map_snoc (λ (w : WriterPlan). bytes_of text w.name) d.writers row ∙ ap₂ (λ ns n. ns ++ n ∷ []) h.writers name;
-              metas = map_snoc (λ (w : WriterPlan). w.meta) d.writers row ∙ ap (λ ms. ms ++ meta ∷ []) h.metas;
-              scripts = map_snoc (λ (w : WriterPlan). w.script) d.writers row ∙ ap (λ ss. ss ++ [] ∷ []) h.scripts ∙ sym (map_snoc no_script m.metas meta);
+              writers = map_push (λ (w : WriterPlan). bytes_of text w.name) d.writers row ∙ ap₂ (λ ns n. ns ++ n ∷ []) h.writers name;
+              metas = map_push (λ (w : WriterPlan). w.meta) d.writers row ∙ ap (λ ms. ms ++ meta ∷ []) h.metas;
+              scripts = map_push (λ (w : WriterPlan). w.script) d.writers row ∙ ap (λ ss. ss ++ [] ∷ []) h.scripts ∙ sym (map_push no_script m.metas meta);
             };
             lanes = said.lanes;
             lines = said.lines;

@@ -5,6 +5,7 @@ use Rattle.std.specs.List.{flat_map, range_with_len}
 use Rattle.std.specs.Str.{bytes_eq}
 use Rattle.std.specs.Fmt.{decimal}
 use Rattle.std.proofs.lemmas.Fmt.{decimal_digit, decimal_step}
+use Rattle.std.proofs.lemmas.List.{length-map, map_push}
 use Rattle.std.proofs.lemmas.Bool.Decides.{nat_tests}
 use Rattle.scenario.specs.declared.reason.Reason.{Reason}
 use Rattle.scenario.specs.declared.reason.Reason.TheVariants.{Misplaced, UnknownName, UnknownWord, TooMany}
@@ -26,7 +27,7 @@ use Rattle.generated_reading.proofs.Reader.{Says, end_of, head_is, tail_is, Then
 use Rattle.generated_reading.proofs.Meant.{Declared, LaneMeant, begins, names_meant, lanes_names, lanes_snoc, count_new, agendas_new, Run, IsSaid, still_declared, with_meant, with_lane, into_last}
 use Rattle.generated_reading.proofs.LaneLines.{HasSpace}
 use Rattle.generated_reading.proofs.SetLines.{writer_name, all_declared}
-use Rattle.generated_reading.proofs.DeclaredLines.{map_snoc, length_mapped, new_name}
+use Rattle.generated_reading.proofs.DeclaredLines.{new_name}
 use Rattle.generated_reading.proofs.WriteLines.{writes_meant, writes_begin_none, write_lines}
 
 -- ## a lane begins
@@ -56,7 +57,7 @@ new_lane_is text m run d span name h new e =
 few_lanes : (text : List ℕ) (m : Declared) (run : Run) (d : SoFar) (span : Span) (name : List ℕ) (whom : Option ℕ) → IsSaid text m run d → IsNewLane name run
     → lane_if d span whom ≡ Ok (saying.Lane span whom)
 few_lanes text m run d span name whom h new =
-    ap (λ n. if nat_lt n 64 then Ok (saying.Lane span whom) else Err TooMany) (length_mapped (λ (l : LanePlan). bytes_of text l.name) d.lanes ∙ ap length (lanes_names text run.lanes d.lanes h.lanes))
+    ap (λ n. if nat_lt n 64 then Ok (saying.Lane span whom) else Err TooMany) (sym (length-map d.lanes (λ (l : LanePlan). bytes_of text l.name)) ∙ ap length (lanes_names text run.lanes d.lanes h.lanes))
     ∙ ap (λ b. if b then Ok (saying.Lane span whom) else Err TooMany) new.few
 
 pub free_lane : (text rest : List ℕ) (m : Declared) (run : Run) (name : List ℕ) → IsNewLane name run
@@ -231,5 +232,5 @@ writing_lanes text n [] run new few few_agendas t = t
 writing_lanes text n (i ∷ is) run new few few_agendas t =
     let first = first_of_both _ (all_new is (names_meant run.lanes ++ lane_name i ∷ [])) new in
     let rest = second_of_both _ (all_new is (names_meant run.lanes ++ lane_name i ∷ [])) new in
-    writing_lanes text n is (after_lane n run i) (ap (all_new is) (map_snoc (λ (m : LaneMeant). m.name) run.lanes (lane_meant n i)) ∙ rest) (omega (arith, few)) few_agendas
+    writing_lanes text n is (after_lane n run i) (ap (all_new is) (map_push (λ (m : LaneMeant). m.name) run.lanes (lane_meant n i)) ∙ rest) (omega (arith, few)) few_agendas
     (writing_lane text (flat_map (lane_text n) is) run n i (below i (first_of_both (nat_lt i 16) _ first)) (new_from i run (second_of_both (nat_lt i 16) _ first)) (space_for (length is) run (lane_name i) (whom_of i) few few_agendas) t)

@@ -2,6 +2,7 @@
 use Rattle.std.proofs.Common.{◌≡◌, ◌∙◌, ℕ, zero, suc, ◌+◌, ◌*◌, Bool, true, false, List, [], ◌∷◌, ◌++◌, length, map, Option, Some, None, refl, ap, ap₂, arith, append_assoc, append-nil, codes, ◌<◌}
 use Rattle.std.specs.Prelude.{◌&&◌, ◌||◌, not, cond, count_by, slice_get}
 use Rattle.std.specs.List.{range_with_len, list_any}
+use Rattle.std.proofs.lemmas.List.{length_push}
 use Rattle.std.proofs.lemmas.List.Sums.{sum_by-cons, sum_by_push}
 use Rattle.writer_calls.specs.declared.scripted.Scripted.{Scripted}
 use Rattle.writer_meta.specs.Metadata.{Meta}
@@ -189,10 +190,6 @@ lane_lines text (m ∷ ms) (l ∷ ls) (suc i) h e = lane_lines text ms ls i h.1 
 
 -- ## counts
 
-length_snoc : {X : Type 0} (xs : List X) (x : X) → length (xs ++ x ∷ []) ≡ length xs + 1
-length_snoc [] x = refl
-length_snoc (y ∷ xs) x = let h = length_snoc xs x in omega (arith, h)
-
 count_cons : (l : LanePlan) (lanes : List LanePlan) → line_count (l ∷ lanes) ≡ length l.lines + line_count lanes
 count_cons l lanes = sum_by-cons (λ (n : ℕ). n) (length l.lines) (map (λ (m : LanePlan). length m.lines) lanes)
 
@@ -204,7 +201,7 @@ count_with x [] e = absurd (omega (arith, e))
 count_with x (l ∷ []) e =
     let more = count_cons (record l { lines = l.lines ++ x ∷ [] }) [] in
     let before = count_cons l [] in
-    let one = length_snoc l.lines x in
+    let one = length_push l.lines x in
     omega (arith, more, before, one)
 count_with x (l ∷ next ∷ lanes) e =
     let more = count_cons l (with_line x (next ∷ lanes)) in
