@@ -11,7 +11,12 @@ pub mod Done
 pub mod Limits
 pub mod Times
 pub mod Failing
+pub mod Restored
 pub mod Contents
 pub mod Calls
 pub mod Sets
+pub mod Replies
+pub mod Within
+pub mod Rows
+pub mod ContextZero
 pub mod Promises

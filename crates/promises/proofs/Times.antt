@@ -185,7 +185,7 @@ no_hold p (w ∷ ws) f o os e h = differ (holds_volumes o.place.group) h (ap (λ
     differ : (b : Bool) → b ≡ true → b ≡ false → ⊥
     differ b e f = cc
 
-holds_in_snapshot : (k : Kind) (a : Agenda) (o : Open) (os : List Open) → left_from a (places k) ≡ o ∷ os → holds_volumes o.place.group ≡ true → k ≡ Snapshot
+pub holds_in_snapshot : (k : Kind) (a : Agenda) (o : Open) (os : List Open) → left_from a (places k) ≡ o ∷ os → holds_volumes o.place.group ≡ true → k ≡ Snapshot
 holds_in_snapshot Snapshot a o os e h = refl
 holds_in_snapshot Gather a o os e h = absurd (no_hold (plain (Orders Identify)) (waited_for a (plain (Orders Identify))) refl o os e h)
 holds_in_snapshot Prepare a o os e h = absurd (no_hold (plain (Orders PrepareBackup)) (waited_for a (plain (Orders PrepareBackup))) refl o os e h)

@@ -77,7 +77,7 @@ decoded Commit = refl
 decoded Release = refl
 decoded PostCommit = refl
 
-same_group : (g h : Group) → (group_code g == group_code h) ≡ true → g ≡ h
+pub same_group : (g h : Group) → (group_code g == group_code h) ≡ true → g ≡ h
 same_group g h e = sym (decoded g) ∙ ap decode (equal (group_code g) (group_code h) e) ∙ decoded h
 
 -- what was said at a place is a deed of it
@@ -599,7 +599,7 @@ open_leveled a (p ∷ ps) h e = at_group (waited_for a p) (left_from a ps) (open
 abbrev is_told : Group → ℕ → Said → ℕ → Deed → Bool
 is_told g u said now d = is_again (deed_at g u said now) d
 
-waits_in : (ws : List ℕ) (a : Agenda) → Speaks a ws → (w : ℕ) → is_among w ws ≡ true → is_among w (waits_now (groups_left a)) ≡ true
+pub waits_in : (ws : List ℕ) (a : Agenda) → Speaks a ws → (w : ℕ) → is_among w ws ≡ true → is_among w (waits_now (groups_left a)) ≡ true
 waits_in ws a (inl o) w e = subst (λ x. is_among x (waits_now (groups_left a)) ≡ true) (of_one w (subst (λ xs. is_among w xs ≡ true) o.is e)) o.waits
   where
     of_one : (w : ℕ) → is_among w (o.one ∷ []) ≡ true → o.one ≡ w
