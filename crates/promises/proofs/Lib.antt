@@ -5,6 +5,9 @@ pub mod Speaks
 pub mod Along
 pub mod Levels
 pub mod Stages
+pub mod Heard
+pub mod Once
+pub mod Orders
 pub mod Whole
 pub mod Images
 pub mod Done
@@ -16,7 +19,11 @@ pub mod Contents
 pub mod Calls
 pub mod Sets
 pub mod Replies
+pub mod NotSpent
+pub mod OpenGroup
+pub mod OneMore
 pub mod Within
 pub mod Rows
+pub mod Contexts
 pub mod ContextZero
 pub mod Promises

@@ -28,7 +28,8 @@ use Rattle.promises.proofs.Clock.{clock_after}
 use Rattle.promises.proofs.Limits.{held_since_first, passed_since, is_due_at, is_due_in}
 use Rattle.promises.proofs.Speaks.{deed_at, deed_in}
 use Rattle.promises.proofs.Stages.{Below, below_more}
-use Rattle.promises.proofs.Whole.{Good, good_along}
+use Rattle.promises.proofs.Heard.{Good}
+use Rattle.promises.proofs.Whole.{good_along}
 
 abbrev time_of : Deed → ℕ
 time_of (Spoke order w said now) = now
