@@ -63,7 +63,7 @@ clock-cut : (o : Option SetRow) (st : State) → (cut_set o st).clock ≡ st.clo
 clock-cut None st = refl
 clock-cut (Some r) st = refl
 
-clock-made : (g : Option Group) (st : State) → (step_made g st).clock ≡ st.clock
+pub clock-made : (g : Option Group) (st : State) → (step_made g st).clock ≡ st.clock
 clock-made None st = refl
 clock-made (Some (Orders o)) st = refl
 clock-made (Some PreCommit) st = refl

@@ -12,7 +12,7 @@ use Rattle.vss_names.specs.declared.vss_result.VssResult.TheVariants.{Insufficie
 use Rattle.writer_state.specs.declared.said.Said.{Said}
 use Rattle.write_history.specs.declared.mark.Mark.{Mark}
 use Rattle.write_history.specs.declared.mark.Mark.TheVariants.{Clean, Fault, FaultAfter}
-use Rattle.write_history.specs.History.{Write, History, after_set, last_bytes, content, dropped, written, reverted, reverted_in_part}
+use Rattle.write_history.specs.History.{Write, History, after_set, last_bytes, content, dropped, written, to_restore, reverted, reverted_in_part}
 use Rattle.write_history.specs.Slots.{Placed, gone_up_to}
 use Rattle.writer_calls.specs.Script.{said_of}
 use Rattle.set_agenda.specs.declared.group.Group.{Group}
@@ -36,6 +36,7 @@ use Rattle.vss_model.proofs.FewerImages.{as_many_volumes}
 use Rattle.vss_model.proofs.Volumes.{at, change_other, as_many_map, as_many_gone}
 use Rattle.promises.specs.Contents.{block_now, is_clean, may_change, ContentsChange}
 use Rattle.promises.proofs.ByEvent.{Covers, covered, after_enabled, after_not_enabled}
+use Rattle.promises.proofs.Restored.{some_restored}
 
 -- ## writes of a volume
 
@@ -297,6 +298,17 @@ module _ (s : Plan) (st : State) where
   revert_brings v b k Fault e l = absurd cc
   revert_brings v b k (FaultAfter n) e l = absurd cc
 
+  stop_brings : (v b j : ℕ) (k : Kept) (mark : Mark) → mark ≡ FaultAfter j → v < length st.volumes
+      → block_now (reverted_as s v k mark st).1 v b ≡ (if is_among b (take j (to_restore (blocks_of s v) (history_of st v).writes k.point)) then content (history_of st v).writes k.point b else block_now st v b)
+  stop_brings v b j k Clean e l = absurd cc
+  stop_brings v b j k Fault e l = absurd cc
+  stop_brings v b j k (FaultAfter n) e l =
+      ap (λ (y : History). content y.writes (length y.writes) b) (changed_here (reverted_in_part (blocks_of s v) k.row.number k.point n) v st.volumes l)
+      ∙ ap (λ i. content (reverted_in_part (blocks_of s v) k.row.number k.point i (at st.volumes v)).writes (length (reverted_in_part (blocks_of s v) k.row.number k.point i (at st.volumes v)).writes) b) (same_count n j e) ∙ some_restored (at st.volumes v).writes k.point b (take j (to_restore (blocks_of s v) (at st.volumes v).writes k.point))
+    where
+      same_count : (i m : ℕ) → FaultAfter i ≡ FaultAfter m → i ≡ m
+      same_count i m e = cc
+
   revert_is : (n v : ℕ) (k : Kept) (mark : Mark) → kept_image st n v ≡ Some k → revert_refusal v (Some k) st ≡ None → revert s n v mark st ≡ reverted_as s v k mark st
   unfolding revert
   revert_is n v k mark e f =
@@ -317,4 +329,6 @@ contents_change s so_far act =
           ap (λ (y : State). block_now y v b) (after_line s st act (Line lane (op.WriteStamp v b x)) e on) ∙ write_brings s st v (record { block = b; bytes = payload_bytes (Stamp x) }) act.mark m (many v l);
       reverted = λ lane n v b k e m h i l.
           ap (λ (y : State). block_now y v b) (after_line s st act (Line lane (op.Revert n v)) e (ap (enabled s st) e) ∙ ap (λ (y : Replied). y.1) (revert_is s st n v k act.mark h i)) ∙ revert_brings s st v b k act.mark m (many v l);
+      stopped = λ lane n v b j k e m h i l.
+          ap (λ (y : State). block_now y v b) (after_line s st act (Line lane (op.Revert n v)) e (ap (enabled s st) e) ∙ ap (λ (y : Replied). y.1) (revert_is s st n v k act.mark h i)) ∙ stop_brings s st v b j k act.mark m (many v l);
     }

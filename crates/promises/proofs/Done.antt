@@ -30,7 +30,7 @@ no_image : (n v : ℕ) → has_image n (at [] v) ≡ true → ⊥
 no_image n zero e = cc
 no_image n (suc v) e = cc
 
-kept_map : (f : History → History) (n : ℕ) (hs : List History) (v : ℕ) → has_image n (at (map f hs) v) ≡ true → has_image n (f (at hs v)) ≡ true
+pub kept_map : (f : History → History) (n : ℕ) (hs : List History) (v : ℕ) → has_image n (at (map f hs) v) ≡ true → has_image n (f (at hs v)) ≡ true
 kept_map f n [] v e = absurd (no_image n v e)
 kept_map f n (h ∷ hs) zero e = e
 kept_map f n (h ∷ hs) (suc v) e = kept_map f n hs v e
@@ -50,7 +50,7 @@ itself n e = differs (n == n) (own n) e
     differs true e f = cc
     differs false e f = cc
 
-dropped_gone : (n : ℕ) (h : History) → has_image n (dropped n h) ≡ true → ⊥
+pub dropped_gone : (n : ℕ) (h : History) → has_image n (dropped n h) ≡ true → ⊥
 dropped_gone n h e = itself n (kept_by (λ k. not (k == n)) n h.images e)
 
 newer_gone : (n m : ℕ) (images : List Image) → n < m → is_some (point_in m (up_to_set n images)) ≡ true → ⊥

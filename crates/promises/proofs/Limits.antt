@@ -53,7 +53,7 @@ treated_fails AnswerLimit now c d = by_order (decides (order_now (left c.agenda)
     by_order false e = absurd cc
 
 -- the tables of the causes
-same_hold : (g : Group) → holds_volumes g ≡ hold_runs g
+pub same_hold : (g : Group) → holds_volumes g ≡ hold_runs g
 same_hold (Orders o) = refl
 same_hold PreCommit = refl
 same_hold Flush = refl
@@ -156,12 +156,12 @@ not_is : (b : Bool) → not b ≡ (if b then false else true)
 not_is true = refl
 not_is false = refl
 
-freeze_since : (a : Agenda) → last_of (λ e. prepares_snapshot e.place.group) a ≡ freeze_opened_at a
+pub freeze_since : (a : Agenda) → last_of (λ e. prepares_snapshot e.place.group) a ≡ freeze_opened_at a
 freeze_since a =
     sym (last_time_is (λ e. is_prepare_snapshot e.place.group) a.begun a.log
     ∙ fold_along (λ e. is_prepare_snapshot e.place.group) (λ e. prepares_snapshot e.place.group) (λ e. same_prepare e.place.group) a.begun a.log)
 
-answer_since : (a : Agenda) (o : Open) → last_of (is_elsewhere o.place) a ≡ opened_at a o
+pub answer_since : (a : Agenda) (o : Open) → last_of (is_elsewhere o.place) a ≡ opened_at a o
 answer_since a o =
     sym (last_time_is (λ e. not (same_place e.place o.place)) a.begun a.log
     ∙ fold_along (λ e. not (same_place e.place o.place)) (is_elsewhere o.place) (λ e. not_is (same_place e.place o.place)) a.begun a.log)
@@ -190,7 +190,7 @@ finds_one now false x since ticks e f = absurd cc
 finds_one now true x since ticks e f = record { one = record { limit = x; since = since; ticks = ticks }; is = rw f refl; limit = refl }
 
 -- the first limit of the list that is spent is one of these
-first_found : (now : ℕ) (xs ys : List Running) (l : Running) → spent_of now xs ≡ Some l → spent_of now (xs ++ ys) ≡ Some l
+pub first_found : (now : ℕ) (xs ys : List Running) (l : Running) → spent_of now xs ≡ Some l → spent_of now (xs ++ ys) ≡ Some l
 first_found now [] ys l e = absurd cc
 first_found now (x ∷ xs) ys l e = by_test (is_spent now x.since x.ticks) e (first_found now xs ys l)
   where
@@ -198,7 +198,7 @@ first_found now (x ∷ xs) ys l e = by_test (is_spent now x.since x.ticks) e (fi
     by_test true e ih = e
     by_test false e ih = ih e
 
-later_found : (now : ℕ) (xs ys : List Running) → spent_of now xs ≡ None → spent_of now (xs ++ ys) ≡ spent_of now ys
+pub later_found : (now : ℕ) (xs ys : List Running) → spent_of now xs ≡ None → spent_of now (xs ++ ys) ≡ spent_of now ys
 later_found now [] ys e = refl
 later_found now (x ∷ xs) ys e = by_test (is_spent now x.since x.ticks) e (later_found now xs ys)
   where
@@ -206,11 +206,11 @@ later_found now (x ∷ xs) ys e = by_test (is_spent now x.since x.ticks) e (late
     by_test true e ih = absurd cc
     by_test false e ih = ih e
 
-none_and_some : {X : Type 0} (o : Option Running) (l : Running) → o ≡ None → o ≡ Some l → X
+pub none_and_some : {X : Type 0} (o : Option Running) (l : Running) → o ≡ None → o ≡ Some l → X
 none_and_some None l e f = absurd cc
 none_and_some (Some x) l e f = absurd cc
 
-limit_found : (now : ℕ) (b : Bool) (x : Limit) (since ticks : ℕ) (l : Running) → spent_of now (runs_if b x since ticks) ≡ Some l → l.limit ≡ x
+pub limit_found : (now : ℕ) (b : Bool) (x : Limit) (since ticks : ℕ) (l : Running) → spent_of now (runs_if b x since ticks) ≡ Some l → l.limit ≡ x
 limit_found now false x since ticks l e = absurd cc
 limit_found now true x since ticks l e = by_test (is_spent now since ticks) e
   where
@@ -221,7 +221,7 @@ limit_found now true x since ticks l e = by_test (is_spent now since ticks) e
     by_test true f = ap (λ (y : Running). y.limit) (sym (some_same (record { limit = x; since = since; ticks = ticks }) l f))
     by_test false f = absurd cc
 
-hold_found : (now : ℕ) (g : Group) (o : Option ℕ) (l : Running) → spent_of now (hold_running g o) ≡ Some l → l.limit ≡ HoldLimit
+pub hold_found : (now : ℕ) (g : Group) (o : Option ℕ) (l : Running) → spent_of now (hold_running g o) ≡ Some l → l.limit ≡ HoldLimit
 hold_found now g None l e = absurd cc
 hold_found now g (Some since) l e = limit_found now (hold_runs g) HoldLimit since hold_limit l e
 
@@ -284,10 +284,10 @@ answer_finds now a o e =
 
 -- ## the spent limit fails the set
 
-record Spends (now : ℕ) (ls : List Running) (o : Option Order) : Type 0 where
-  one : Running
-  is : spent_of now ls ≡ Some one
-  fails : Decides one.limit o
+pub record Spends (now : ℕ) (ls : List Running) (o : Option Order) : Type 0 where
+  pub one : Running
+  pub is : spent_of now ls ≡ Some one
+  pub fails : Decides one.limit o
 
 spends_hold : (now : ℕ) (ls : List Running) (o : Option Order) (l : Running) → spent_of now ls ≡ Some l → l.limit ≡ HoldLimit → Spends now ls o
 spends_hold now ls o l e f = record { one = l; is = e; fails = subst (λ x. Decides x o) (sym f) tt }
@@ -334,7 +334,7 @@ due_left : (now : ℕ) (c : Course) (a : Agenda) (os : List Open) → is_due_at 
 due_left now c a [] e = absurd cc
 due_left now c a (o ∷ os) e = due_open now c a o os e
 
-due_in : (now : ℕ) (c : Course) (a : Option Agenda) → is_due_in now c a ≡ true → Spends now (running_limits (freeze_limit c) a) (order_now (left a))
+pub due_in : (now : ℕ) (c : Course) (a : Option Agenda) → is_due_in now c a ≡ true → Spends now (running_limits (freeze_limit c) a) (order_now (left a))
 due_in now c None e = absurd cc
 due_in now c (Some a) e = due_left now c a (groups_left a) e
 

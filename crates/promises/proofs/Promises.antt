@@ -6,12 +6,16 @@ use Rattle.promises.specs.Promises.{IsAsPromised}
 use Rattle.promises.proofs.Calls.{calls_are_owned, waits_are_few, stands_quiet, frozen_do_not_write}
 use Rattle.promises.proofs.Clock.{clock_moves}
 use Rattle.promises.proofs.Contents.{contents_change}
+use Rattle.promises.proofs.ContextZero.{backups_end}
 use Rattle.promises.proofs.Done.{is_done}
 use Rattle.promises.proofs.Failing.{fails_for_cause}
 use Rattle.promises.proofs.Idle.{idles_shortest}
 use Rattle.promises.proofs.Images.{images_go_for_cause}
+use Rattle.promises.proofs.Replies.{replies_tell}
+use Rattle.promises.proofs.Rows.{rows_tell}
 use Rattle.promises.proofs.Sets.{volumes_are_distinct}
 use Rattle.promises.proofs.Whole.{complete_by_the_way}
+use Rattle.promises.proofs.Within.{stands_within_limits}
 
 pub as_promised : (s : Plan) (trail : List Move) → IsAsPromised s trail
 as_promised s trail = record {
@@ -23,6 +27,8 @@ as_promised s trail = record {
     contents = contents_change s so_far act;
     clock = clock_moves s so_far act;
     calls = calls_are_owned s so_far act;
+    replies = replies_tell s so_far act;
+    rows = rows_tell s so_far act;
   };
-  each_state = λ so_far rest e. record { waits = waits_are_few s so_far; quiet = stands_quiet s so_far; frozen = frozen_do_not_write s so_far; volumes = volumes_are_distinct s so_far; idles = idles_shortest s so_far };
+  each_state = λ so_far rest e. record { waits = waits_are_few s so_far; quiet = stands_quiet s so_far; frozen = frozen_do_not_write s so_far; volumes = volumes_are_distinct s so_far; idles = idles_shortest s so_far; limits = stands_within_limits s so_far; backups = backups_end s so_far };
 }

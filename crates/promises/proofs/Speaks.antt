@@ -172,7 +172,7 @@ first_among w ws = own w (is_among w ws)
     own : (a : ℕ) (b : Bool) → ((a == a) || b) ≡ true
     own a b = grind arith
 
-head_waits : (a : Agenda) (ps : List Place) → is_working (left_from a ps) ≡ true → is_among (next_member (left_from a ps)) (waits_now (left_from a ps)) ≡ true
+pub head_waits : (a : Agenda) (ps : List Place) → is_working (left_from a ps) ≡ true → is_among (next_member (left_from a ps)) (waits_now (left_from a ps)) ≡ true
 head_waits a [] e = absurd cc
 head_waits a (p ∷ ps) e = at_group p (waited_for a p) (left_from a ps) (head_waits a ps) e
   where

@@ -28,7 +28,8 @@ use Rattle.promises.proofs.Clock.{clock_after}
 use Rattle.promises.proofs.Limits.{held_since_first, passed_since, is_due_at, is_due_in}
 use Rattle.promises.proofs.Speaks.{deed_at, deed_in}
 use Rattle.promises.proofs.Stages.{Below, below_more}
-use Rattle.promises.proofs.Whole.{Good, good_along}
+use Rattle.promises.proofs.Heard.{Good}
+use Rattle.promises.proofs.Whole.{good_along}
 
 abbrev time_of : Deed → ℕ
 time_of (Spoke order w said now) = now
@@ -185,7 +186,7 @@ no_hold p (w ∷ ws) f o os e h = differ (holds_volumes o.place.group) h (ap (λ
     differ : (b : Bool) → b ≡ true → b ≡ false → ⊥
     differ b e f = cc
 
-holds_in_snapshot : (k : Kind) (a : Agenda) (o : Open) (os : List Open) → left_from a (places k) ≡ o ∷ os → holds_volumes o.place.group ≡ true → k ≡ Snapshot
+pub holds_in_snapshot : (k : Kind) (a : Agenda) (o : Open) (os : List Open) → left_from a (places k) ≡ o ∷ os → holds_volumes o.place.group ≡ true → k ≡ Snapshot
 holds_in_snapshot Snapshot a o os e h = refl
 holds_in_snapshot Gather a o os e h = absurd (no_hold (plain (Orders Identify)) (waited_for a (plain (Orders Identify))) refl o os e h)
 holds_in_snapshot Prepare a o os e h = absurd (no_hold (plain (Orders PrepareBackup)) (waited_for a (plain (Orders PrepareBackup))) refl o os e h)

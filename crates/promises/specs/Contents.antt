@@ -1,14 +1,15 @@
 -- What changes the contents of a volume: a write that no device failed, which puts its bytes into its block; or a revert, to what
 -- the image shows. (This project's own.)
-use Rattle.std.specs.Prelude.{ℕ, ◌≡◌, ◌<◌, ◌==◌, ◌&&◌, Bool, true, false, List, Some, None, length}
+use Rattle.std.specs.Prelude.{ℕ, ◌≡◌, ◌<◌, ◌==◌, ◌&&◌, if◌then◌else◌, Bool, true, false, List, Some, None, length, take}
 use Rattle.block_data.specs.declared.payload.Payload.TheVariants.{Fill, Stamp}
 use Rattle.block_data.specs.PayloadBytes.{payload_bytes}
 use Rattle.write_history.specs.declared.mark.Mark.{Mark}
 use Rattle.write_history.specs.declared.mark.Mark.TheVariants.{Clean, Fault, FaultAfter}
-use Rattle.write_history.specs.History.{content}
+use Rattle.write_history.specs.History.{content, to_restore}
+use Rattle.set_agenda.specs.Agenda.{is_among}
 use Rattle.scenario.specs.declared.op.Op.{Op}
 use Rattle.scenario.specs.declared.op.Op.TheVariants.{WriteFill, WriteStamp, Revert}
-use Rattle.scenario.specs.Plan.{Plan}
+use Rattle.scenario.specs.Plan.{Plan, blocks_of}
 use Rattle.vss_model.specs.declared.event.Event.{Event}
 use Rattle.vss_model.specs.declared.event.Event.TheVariants.{Line, Answer as AnswerEvent, Provider, Idle}
 use Rattle.vss_model.specs.State.{State, Kept, history_of, kept_image}
@@ -48,3 +49,8 @@ pub record ContentsChange (s : Plan) (so_far : List Act) (act : Act) : Type 0 wh
   -- a revert that is not refused, and that no device fails, brings every block back to what the image shows
   pub reverted : (lane n v b : ℕ) (k : Kept) → act.event ≡ Line lane (Revert n v) → act.mark ≡ Clean → kept_image (state s so_far) n v ≡ Some k → revert_refusal v (Some k) (state s so_far) ≡ None
       → v < length s.volumes → block_now (after s (state s so_far) act) v b ≡ content (history_of (state s so_far) v).writes k.point b
+  -- one that a device fails after j blocks has brought back the first j of those that were written since, and no other block
+  pub stopped : (lane n v b j : ℕ) (k : Kept) → act.event ≡ Line lane (Revert n v) → act.mark ≡ FaultAfter j → kept_image (state s so_far) n v ≡ Some k → revert_refusal v (Some k) (state s so_far) ≡ None
+      → v < length s.volumes
+      → block_now (after s (state s so_far) act) v b
+      ≡ (if is_among b (take j (to_restore (blocks_of s v) (history_of (state s so_far) v).writes k.point)) then content (history_of (state s so_far) v).writes k.point b else block_now (state s so_far) v b)

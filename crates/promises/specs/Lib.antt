@@ -7,4 +7,8 @@ pub mod Clock
 pub mod Idle
 pub mod Calls
 pub mod Sets
+pub mod Replies
+pub mod Within
+pub mod Rows
+pub mod ContextZero
 pub mod Promises

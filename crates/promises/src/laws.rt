@@ -7,13 +7,17 @@ ghost use Rattle.vss_model.specs.Acts.{Act};
 ghost use Rattle.promises.specs.Calls.{CallsAreOwned, WaitsAreFew, StandsQuiet, FrozenDoNotWrite};
 ghost use Rattle.promises.specs.Clock.{ClockMoves};
 ghost use Rattle.promises.specs.Contents.{ContentsChange};
+ghost use Rattle.promises.specs.ContextZero.{BackupsEnd};
 ghost use Rattle.promises.specs.Done.{IsDone};
 ghost use Rattle.promises.specs.Failing.{FailsForCause};
 ghost use Rattle.promises.specs.Gone.{ImagesGoForCause};
 ghost use Rattle.promises.specs.Idle.{IdlesShortest};
 ghost use Rattle.promises.specs.Promises.{IsAsPromised};
+ghost use Rattle.promises.specs.Replies.{RepliesTell};
+ghost use Rattle.promises.specs.Rows.{RowsTell};
 ghost use Rattle.promises.specs.Sets.{VolumesAreDistinct};
 ghost use Rattle.promises.specs.Way.{CompletesByTheWay};
+ghost use Rattle.promises.specs.Within.{StandsWithinLimits};
 
 /// A set that completes has come the whole way since its `snapshot` line: PrepareSnapshot, Freeze, PreCommit, Flush, Hold, Cut,
 /// Commit, Release, PostCommit, Thaw, PostSnapshot, in this order and nothing twice.
@@ -67,6 +71,27 @@ pub fn few_lines_wait()
     ensures waits { (s : Plan) (so_far : List Act) → WaitsAreFew s so_far }
     ensures quiet { (s : Plan) (so_far : List Act) → StandsQuiet s so_far }
     ensures frozen { (s : Plan) (so_far : List Act) → FrozenDoNotWrite s so_far }
+{}
+
+/// `read` tells a block as it is, `image` one or all as they were at the set's cut, and `query` exactly the sets that are kept.
+pub fn replies_tell_what_stands()
+    ensures { (s : Plan) (so_far : List Act) (act : Act) → RepliesTell s so_far act }
+{}
+
+/// A writer's row says what it said last, in the act of its answer, or that its answer was lost.
+pub fn rows_say_what_was_said()
+    ensures { (s : Plan) (so_far : List Act) (act : Act) → RowsTell s so_far act }
+{}
+
+/// After no act is anything late for which a set would fail: no volume is held for more than 10,000 ticks, no freeze limit is
+/// outrun before PostCommit, and no answer to PrepareBackup or PrepareSnapshot is missing for more than 300,000.
+pub fn nothing_stands_late()
+    ensures { (s : Plan) (so_far : List Act) → StandsWithinLimits s so_far }
+{}
+
+/// An image of context 0 stands only while the session stands that has made its set.
+pub fn backups_end_with_their_session()
+    ensures { (s : Plan) (so_far : List Act) → BackupsEnd s so_far }
 {}
 
 /// Every run is as promised: each act of a trail, and each state on its way.

@@ -1,0 +1,279 @@
+-- An image of context 0 stands only while its session does.
+use Rattle.std.proofs.Common.{◌≡◌, ◌∙◌, ℕ, ◌+◌, ◌==◌, zero, suc, List, [], ◌∷◌, ◌++◌, Option, Some, None, refl, Bool, true, false, ap, sym, subst, map, find, fold, length, arith}
+use Rattle.std.specs.Prelude.{◌&&◌, ◌||◌, is_some, option_map, if◌then◌else◌}
+use Rattle.vss_names.specs.declared.context.Context.{Context}
+use Rattle.vss_names.specs.declared.context.Context.TheVariants.{Backup, AppRollback, NasRollback}
+use Rattle.vss_names.specs.declared.vss_result.VssResult.{VssResult}
+use Rattle.vss_names.specs.declared.vss_result.VssResult.TheVariants.{AsyncCancelled}
+use Rattle.writer_state.specs.declared.said.Said.{Said}
+use Rattle.write_history.specs.declared.mark.Mark.{Mark}
+use Rattle.write_history.specs.declared.mark.Mark.TheVariants.{Clean, Fault, FaultAfter}
+use Rattle.write_history.specs.History.{Write, dropped}
+use Rattle.writer_calls.specs.Script.{said_of}
+use Rattle.set_agenda.specs.Agenda.{open_group}
+use Rattle.set_agenda.specs.declared.group.Group.{Group}
+use Rattle.set_agenda.specs.declared.group.Group.TheVariants.{Orders, PreCommit, Flush, Hold, Cut, Commit, Release, PostCommit}
+use Rattle.set_agenda.specs.Course.{answered as course_answered, stepped as course_stepped, timed as course_timed}
+use Rattle.requestor.specs.declared.session_call.SessionCall.TheVariants as call
+use Rattle.requestor.specs.declared.stage.Stage.{Stage}
+use Rattle.requestor.specs.declared.stage.Stage.TheVariants.{Opened, Gathered, Started, Prepared, Done, Finished, Failed}
+use Rattle.requestor.specs.Session.{Session, has_writers, opened, started}
+use Rattle.requestor.specs.Check.{is_stage}
+use Rattle.scenario.specs.declared.op.Op.TheVariants as op
+use Rattle.scenario.specs.Plan.{Plan}
+use Rattle.vss_model.specs.declared.event.Event.{Event}
+use Rattle.vss_model.specs.declared.event.Event.TheVariants.{Line}
+use Rattle.vss_model.specs.State.{State, SetRow, Kept, start, in_progress, row_changed, left_now, has_image}
+use Rattle.vss_model.specs.Ending.{followed, runs, failed}
+use Rattle.vss_model.specs.Images.{Replied, is_backup, cleared, set_loses_image, write, reverted_as}
+use Rattle.vss_model.specs.Sessions.{new_set, new_number, with_volume, start_set, has_no_volume, images_released, closed}
+use Rattle.vss_model.specs.Steps.{answered, cut_set, step_made, is_flush, is_failed_step, stepped_as, stepped, ticked, later}
+use Rattle.vss_model.specs.Facts.{NumberedFrom, IsOfSession as IsSessionOfSet, is_early}
+use Rattle.vss_model.specs.Laws.{LetsGo}
+use Rattle.vss_model.specs.Cut.{is_provider, is_cut_group}
+use Rattle.vss_model.specs.Acts.{Act, enabled, idle_now, after, state}
+use Rattle.vss_model.proofs.Appending.{state-append}
+use Rattle.vss_model.proofs.CutStep.{after_cut}
+use Rattle.vss_model.proofs.FewerImages.{fewer_after, fewer_followed}
+use Rattle.vss_model.proofs.Orderly.{true_not_false}
+use Rattle.vss_model.proofs.OrderlyActs.{orderly}
+use Rattle.vss_model.proofs.Volumes.{at}
+use Rattle.promises.specs.Gone.{stands}
+use Rattle.promises.specs.ContextZero.{BackupsEnd}
+use Rattle.promises.proofs.ByEvent.{Covers, covered, after_enabled, after_not_enabled}
+use Rattle.promises.proofs.Done.{kept_map, dropped_gone}
+use Rattle.promises.proofs.Stages.{both_parts}
+use Rattle.promises.proofs.Contexts.{context_in, context_map, changed_number, changed_context, context_other, context_new, HasMade, Owned, NoMore, Relates, relates_same, relates_over, relates_followed, relates_failed, relates_room, relates_put, owned_by, cut_contexts, owned_cut}
+
+-- ## a new set
+
+starts_early : (stage : Stage) (writers : Bool) → (if writers then is_stage stage Gathered else is_stage stage Opened) ≡ true → is_early stage ≡ true
+starts_early Opened w e = refl
+starts_early Gathered w e = refl
+starts_early Started true e = absurd cc
+starts_early Started false e = absurd cc
+starts_early Prepared true e = absurd cc
+starts_early Prepared false e = absurd cc
+starts_early Done true e = absurd cc
+starts_early Done false e = absurd cc
+starts_early Finished true e = absurd cc
+starts_early Finished false e = absurd cc
+starts_early Failed true e = absurd cc
+starts_early Failed false e = absurd cc
+
+owned_start : (q : Session) (st : State) → LetsGo call.Start q st → NumberedFrom 1 st.sets → Owned st → Owned (start_set q st).1
+owned_start q st g num h = record {
+  own = λ n v c i. by_number n v (new_number st == n) refl c i;
+  same = λ p n e f. let here = of_new p n e f in
+      subst (λ m. context_in (st.sets ++ new_set (new_number st) q.context ∷ []) m ≡ Some p.context) (here.0)
+      (context_new 1 st.sets (new_set (new_number st) q.context) num refl ∙ ap Some here.1);
+  early = λ p e f. absurd (not_early p e f);
+}
+  where
+    equal : (a b : ℕ) → (a == b) ≡ true → a ≡ b
+    equal a b e = grind arith
+
+    some_same : (x y : Session) → Some x ≡ Some y → x ≡ y
+    some_same x y e = cc
+
+    some_number : (x y : ℕ) → Some x ≡ Some y → x ≡ y
+    some_number x y e = cc
+
+    none_some : {X : Type 0} (o : Option ℕ) (n : ℕ) → o ≡ None → o ≡ Some n → X
+    none_some o n e f = absurd cc
+
+    of_new : (p : Session) (n : ℕ) → Some (started (new_number st) q) ≡ Some p → p.set ≡ Some n → (new_number st ≡ n) × (q.context ≡ p.context)
+    of_new p n e f = (some_number (new_number st) n (ap (λ (y : Session). y.set) (some_same (started (new_number st) q) p e) ∙ f), ap (λ (y : Session). y.context) (some_same (started (new_number st) q) p e))
+
+    not_early : (p : Session) → Some (started (new_number st) q) ≡ Some p → is_early p.stage ≡ true → ⊥
+    not_early p e f = true_not_false (is_early p.stage) f (ap (λ (y : Session). is_early y.stage) (sym (some_same (started (new_number st) q) p e)))
+
+    by_number : (n v : ℕ) (b : Bool) → (new_number st == n) ≡ b → context_in (st.sets ++ new_set (new_number st) q.context ∷ []) n ≡ Some Backup → stands st n v ≡ true → HasMade (Some (started (new_number st) q)) n
+    by_number n v true e c i = record { session = started (new_number st) q; is = refl; set = ap Some (equal (new_number st) n e) }
+    by_number n v false e c i =
+        let made = h.own n v (sym (context_other st.sets (new_set (new_number st) q.context) n e) ∙ c) i in
+        let same = some_same made.session q (sym made.is ∙ g.stands) in
+        none_some q.set n (h.early q g.stands (starts_early q.stage (has_writers q.context) g.allowed)) (ap (λ (y : Session). y.set) (sym same) ∙ made.set)
+
+-- ## every act
+
+module _ (s : Plan) (st : State) (num : NumberedFrom 1 st.sets) (h : Owned st) where
+  abbrev Next : Event → Mark → Replied → Type 0
+  Next event mark x = NoMore st x.1 → Owned x.1
+
+  by : (x : State) → Relates st.sets st.session x → NoMore st x → Owned x
+  by x r img = owned_by st x r img h
+
+  related_write : (v : ℕ) (w : Write) (mark : Mark) → Relates st.sets st.session (write s v w mark st).1
+  unfolding write
+  related_write v w mark = relates_put v w mark st.sets st.session _ (relates_room (set_loses_image (in_progress st) st.volumes (cleared s v w.block st).volumes) (cleared s v w.block st))
+
+  related_revert : (v : ℕ) (k : Kept) (mark : Mark) → Relates st.sets st.session (reverted_as s v k mark st).1
+  related_revert v k Clean = relates_same st.sets _ (λ n. refl)
+  related_revert v k Fault = relates_same st.sets _ (λ n. refl)
+  related_revert v k (FaultAfter n) = relates_same st.sets _ (λ n. refl)
+
+  related_answer : (w : ℕ) (said : Said) → Relates st.sets st.session (answered w said st)
+  unfolding answered
+  related_answer w said = relates_followed (runs st) (course_answered w said st.clock st.course) st
+
+  related_tick : (n : ℕ) → Relates st.sets st.session (ticked n st)
+  unfolding ticked
+  related_tick n = relates_followed (runs st) (course_timed (st.clock + n) st.course) (later n st)
+
+  made_contexts : (g : Option Group) (n : ℕ) → context_in (step_made g st).sets n ≡ context_in st.sets n
+  made_contexts None n = refl
+  made_contexts (Some (Orders o)) n = refl
+  made_contexts (Some PreCommit) n = refl
+  made_contexts (Some Flush) n = refl
+  made_contexts (Some Hold) n = refl
+  made_contexts (Some Cut) n = cut_contexts (in_progress st) st n
+  made_contexts (Some Commit) n = refl
+  made_contexts (Some Release) n = refl
+  made_contexts (Some PostCommit) n = refl
+
+  cut_session : (o : Option SetRow) → (cut_set o st).session ≡ st.session
+  cut_session None = refl
+  cut_session (Some r) = refl
+
+  made_session : (g : Option Group) → (step_made g st).session ≡ st.session
+  made_session None = refl
+  made_session (Some (Orders o)) = refl
+  made_session (Some PreCommit) = refl
+  made_session (Some Flush) = refl
+  made_session (Some Hold) = refl
+  made_session (Some Cut) = cut_session (in_progress st)
+  made_session (Some Commit) = refl
+  made_session (Some Release) = refl
+  made_session (Some PostCommit) = refl
+
+  related_step_as : (b : Bool) (g : Option Group) → Relates st.sets st.session (stepped_as b g st)
+  related_step_as true g = relates_followed (runs st) (course_stepped false st.clock st.course) st
+  related_step_as false g =
+      subst (λ p. Relates st.sets p (followed (runs st) (course_stepped true st.clock st.course) (step_made g st))) (made_session g)
+      (relates_over st.sets (step_made g st).sets (step_made g st).session _ (made_contexts g) (relates_followed (runs st) (course_stepped true st.clock st.course) (step_made g st)))
+
+  related_step : (mark : Mark) → Relates st.sets st.session (stepped mark st)
+  unfolding stepped
+  related_step mark = related_step_as (is_failed_step (is_flush (open_group (left_now st))) mark) (open_group (left_now st))
+
+  -- the session ends, and takes its images along
+  none_left : (q : Session) (x : State) (n v : ℕ) → q.context ≡ Backup → q.set ≡ Some n → stands (closed q x) n v ≡ true → ⊥
+  unfolding closed
+  none_left q x n v e f g =
+      dropped_gone n (at x.volumes v) (kept_map (dropped n) n x.volumes v (ap (λ hs. has_image n (at hs v)) (sym (ap (λ c. images_released c q.set x.volumes) e ∙ ap (λ k. images_released Backup k x.volumes) f)) ∙ g))
+
+  closed_sets : (q : Session) (x : State) → (closed q x).sets ≡ x.sets
+  unfolding closed
+  closed_sets q x = refl
+
+  closed_session : (q : Session) (x : State) → (closed q x).session ≡ None
+  unfolding closed
+  closed_session q x = refl
+
+  on_end : (q : Session) (why : VssResult) → st.session ≡ Some q → NoMore st (closed q (failed why st)) → Owned (closed q (failed why st))
+  on_end q why e img = record {
+    own = λ n v c g. absurd (gone n v c g);
+    same = λ p n f g. none_some _ p (closed_session q (failed why st)) f;
+    early = λ p f g. none_some _ p (closed_session q (failed why st)) f;
+  }
+    where
+      none_some : {X : Type 0} (o : Option Session) (p : Session) → o ≡ None → o ≡ Some p → X
+      none_some o p e f = absurd cc
+
+      some_same : (x y : Session) → Some x ≡ Some y → x ≡ y
+      some_same x y e = cc
+
+      some_context : (x y : Context) → Some x ≡ Some y → y ≡ x
+      some_context x y e = cc
+
+      gone : (n v : ℕ) → context_in (closed q (failed why st)).sets n ≡ Some Backup → stands (closed q (failed why st)) n v ≡ true → ⊥
+      gone n v c g =
+          let con : context_in st.sets n ≡ Some Backup = sym ((relates_failed (in_progress st) why st).contexts n) ∙ sym (ap (λ rows. context_in rows n) (closed_sets q (failed why st))) ∙ c in
+          let made = h.own n v con (img n v g) in
+          let set : q.set ≡ Some n = ap (λ (y : Session). y.set) (some_same q made.session (sym e ∙ made.is)) ∙ made.set in
+          none_left q (failed why st) n v (some_context Backup q.context (sym con ∙ h.same q n e set)) set g
+
+  on_begin : (q : Session) (x : State) → st.session ≡ None → q.set ≡ None → x.sets ≡ st.sets → x.session ≡ Some q → NoMore st x → Owned x
+  on_begin q x e f sets ses img = record {
+    own = λ n v c g. let made = h.own n v (ap (λ rows. context_in rows n) (sym sets) ∙ c) (img n v g) in none_some st.session made.session e made.is;
+    same = λ p n i j. none_set p n (sym (ap (λ (y : Session). y.set) (some_same q p (sym ses ∙ i))) ∙ f) j;
+    early = λ p i j. sym (ap (λ (y : Session). y.set) (some_same q p (sym ses ∙ i))) ∙ f;
+  }
+    where
+      none_some : {X : Type 0} (o : Option Session) (p : Session) → o ≡ None → o ≡ Some p → X
+      none_some o p e f = absurd cc
+
+      none_set : {X : Type 0} (p : Session) (n : ℕ) → p.set ≡ None → p.set ≡ Some n → X
+      none_set p n e f = absurd cc
+
+      some_same : (x y : Session) → Some x ≡ Some y → x ≡ y
+      some_same x y e = cc
+
+  either : (event : Event) (mark : Mark) (b : Bool) (x y : Replied) → Next event mark x → Next event mark y → Next event mark (if b then x else y)
+  either event mark true x y d e = d
+  either event mark false x y d e = e
+
+  owned_next : Covers Next s st
+  owned_next = record {
+    stays = λ lane o mark told e f img. h;
+    writes = λ lane o v w mark e f. by _ (related_write v w mark);
+    reverts = λ lane n v k mark e f. by _ (related_revert v k mark);
+    deletes_set = λ lane n c mark e. by _ (relates_same st.sets _ (λ m. refl));
+    deletes_image = λ lane n v k mark e. by _ (relates_same st.sets _ (λ m. refl));
+    ticks = λ lane n mark. by _ (related_tick n);
+    begins = λ lane n all c mark e. on_begin (opened lane c all) _ e refl refl refl;
+    disables = λ lane w q mark g. by _ (relates_same st.sets _ (λ m. refl));
+    gathers = λ lane q mark g. by _ (relates_followed true _ st);
+    names = λ lane w full q explicit mark g. by _ (relates_same st.sets _ (λ m. refl));
+    starts = λ lane q mark g e img. owned_start q st g num h;
+    adds = λ lane v r q mark g e f. by _ (relates_same st.sets _ (context_map (row_changed r.number (with_volume v)) (λ x. changed_number r.number (with_volume v) x refl) (λ x. changed_context r.number (with_volume v) x refl) st.sets));
+    prepares = λ lane q mark g. either (Line lane op.Prepare) mark (has_no_volume (in_progress st)) _ _ (λ img. h) (by _ (relates_followed true _ st));
+    snapshots = λ lane q mark g. either (Line lane op.Snapshot) mark (has_no_volume (in_progress st)) _ _ (λ img. h) (by _ (relates_followed true _ st));
+    completes = λ lane q mark g. by _ (relates_followed true _ st);
+    aborts = λ lane q mark e. by _ (relates_failed (in_progress st) AsyncCancelled st);
+    ends = λ lane q mark e. on_end q AsyncCancelled e;
+    answers = λ w answer mark e. by _ (related_answer w (said_of answer));
+    steps = λ mark e. by _ (related_step mark);
+    idles = λ mark e. by _ (related_tick (idle_now st));
+  }
+
+  owned_if : (b : Bool) (act : Act) → enabled s st act.event ≡ b → NoMore st (after s st act) → Owned (after s st act)
+  owned_if true act e img =
+      let next = after_enabled s st act e in
+      subst Owned (sym next) (covered Next s st owned_next act.event act.mark e (subst (NoMore st) next img))
+  owned_if false act e img = subst Owned (sym (after_not_enabled s st act e)) h
+
+  owned_after : (b : Bool) (act : Act) → (is_provider act.event && is_cut_group (open_group (left_now st))) ≡ b → IsSessionOfSet st.session st.course.outcome (in_progress st) → Owned (after s st act)
+  owned_after false act e k = owned_if (enabled s st act.event) act refl (λ n v g. ((fewer_after s st act e).each v).sets n g)
+  owned_after true act e k =
+      let parts = both_parts (is_provider act.event) (is_cut_group (open_group (left_now st))) e in
+      let x = cut_set (in_progress st) st in
+      subst Owned (sym (after_cut s st act parts.0 parts.1))
+      (owned_by x _ (relates_followed (runs st) (course_stepped true st.clock st.course) x) (λ n v g. ((fewer_followed (runs st) (course_stepped true st.clock st.course) x).each v).sets n g) (owned_cut (in_progress st) st refl k h))
+
+owned_from : (s : Plan) (so_far acts : List Act) → Owned (state s so_far) → Owned (fold (after s) (state s so_far) acts)
+owned_from s so_far [] h = h
+owned_from s so_far (act ∷ acts) h =
+    let i = orderly s so_far in
+    let next : Owned (state s (so_far ++ act ∷ [])) = subst Owned (sym (state-append s so_far act)) (owned_after s (state s so_far) i.numbered h _ act refl i.session) in
+    subst (λ (x : State). Owned (fold (after s) x acts)) (state-append s so_far act) (owned_from s (so_far ++ act ∷ []) acts next)
+
+start_owned : (s : Plan) → Owned (start s)
+start_owned s = record { own = λ n v c g. absurd cc; same = λ q n e f. absurd cc; early = λ q e f. absurd cc }
+
+pub backups_end : (s : Plan) (so_far : List Act) → BackupsEnd s so_far
+backups_end s so_far n v r e b g =
+    let st = state s so_far in
+    let h : Owned st = owned_from s [] so_far (start_owned s) in
+    let con : context_in st.sets n ≡ Some Backup = ap (option_map (λ (x : SetRow). x.context)) e ∙ ap Some (backup r.context b) in
+    let made = h.own n v con g in
+    record { session = made.session; is = made.is; context = ap is_backup (some_context Backup made.session.context (sym con ∙ h.same made.session n made.is made.set)); set = made.set }
+  where
+    backup : (c : Context) → is_backup c ≡ true → c ≡ Backup
+    backup Backup e = refl
+    backup AppRollback e = absurd cc
+    backup NasRollback e = absurd cc
+
+    some_context : (x y : Context) → Some x ≡ Some y → y ≡ x
+    some_context x y e = cc

@@ -1,0 +1,241 @@
+-- What keeps the context of a set, and whose session it is.
+use Rattle.std.proofs.Common.{◌≡◌, ◌∙◌, ℕ, ◌+◌, ◌==◌, zero, suc, List, [], ◌∷◌, ◌++◌, Option, Some, None, refl, Bool, true, false, ap, sym, subst, map, find, fold, length, arith}
+use Rattle.std.specs.Prelude.{◌&&◌, ◌||◌, is_some, option_map, if◌then◌else◌}
+use Rattle.vss_names.specs.declared.context.Context.{Context}
+use Rattle.vss_names.specs.declared.context.Context.TheVariants.{Backup, AppRollback, NasRollback}
+use Rattle.vss_names.specs.declared.set_outcome.SetOutcome.{SetOutcome}
+use Rattle.vss_names.specs.declared.vss_result.VssResult.{VssResult}
+use Rattle.vss_names.specs.declared.vss_result.VssResult.TheVariants.{InsufficientStorage}
+use Rattle.write_history.specs.declared.mark.Mark.{Mark}
+use Rattle.write_history.specs.declared.mark.Mark.TheVariants.{Clean, Fault, FaultAfter}
+use Rattle.write_history.specs.History.{Write, Image, History, point_in}
+use Rattle.set_agenda.specs.Agenda.{is_among}
+use Rattle.set_agenda.specs.Course.{Course}
+use Rattle.requestor.specs.declared.session_call.SessionCall.TheVariants as call
+use Rattle.requestor.specs.declared.stage.Stage.{Stage}
+use Rattle.requestor.specs.declared.stage.Stage.TheVariants.{Opened, Gathered, Started, Prepared, Done, Finished, Failed}
+use Rattle.requestor.specs.Session.{Session, stage_after, agenda_ended, set_failed}
+use Rattle.scenario.specs.declared.op.Op.TheVariants as op
+use Rattle.vss_model.specs.State.{State, SetRow, in_progress, row_changed, has_image}
+use Rattle.vss_model.specs.Ending.{Ending, NothingEnds, AgendaEnds, SetFails, ending, row_settled, concluded, followed, failed_in}
+use Rattle.vss_model.specs.Images.{with_room_if, put}
+use Rattle.vss_model.specs.Steps.{cut_if, cut_each, with_cut, row_cut, cut_set}
+use Rattle.vss_model.specs.Facts.{NumberedFrom, IsOfSession as IsSessionOfSet, is_early}
+use Rattle.vss_model.proofs.Volumes.{at}
+use Rattle.promises.specs.Gone.{stands}
+
+-- ## the context of a set
+
+abbrev pub context_in : List SetRow → ℕ → Option Context
+context_in rows n = option_map (λ (r : SetRow). r.context) (find (λ (r : SetRow). r.number == n) rows)
+
+pub context_map : (f : SetRow → SetRow) → ((r : SetRow) → (f r).number ≡ r.number) → ((r : SetRow) → (f r).context ≡ r.context) → (rows : List SetRow) (n : ℕ) → context_in (map f rows) n ≡ context_in rows n
+context_map f num con [] n = refl
+context_map f num con (r ∷ rows) n = by_head (r.number == n) ((f r).number == n) (ap (λ k. k == n) (num r)) (context_map f num con rows n)
+  where
+    by_head : (b c : Bool) → c ≡ b → context_in (map f rows) n ≡ context_in rows n
+        → option_map (λ (x : SetRow). x.context) (if c then Some (f r) else find (λ (x : SetRow). x.number == n) (map f rows)) ≡ option_map (λ (x : SetRow). x.context) (if b then Some r else find (λ (x : SetRow). x.number == n) rows)
+    by_head true true e ih = ap Some (con r)
+    by_head true false e ih = absurd cc
+    by_head false true e ih = absurd cc
+    by_head false false e ih = ih
+
+pub settled_number : (o : SetOutcome) (r : SetRow) → (row_settled o r).number ≡ r.number
+settled_number o r = by_running _
+  where
+    by_running : (b : Bool) → (if b then record r { result = o } else r).number ≡ r.number
+    by_running true = refl
+    by_running false = refl
+
+pub settled_context : (o : SetOutcome) (r : SetRow) → (row_settled o r).context ≡ r.context
+settled_context o r = by_running _
+  where
+    by_running : (b : Bool) → (if b then record r { result = o } else r).context ≡ r.context
+    by_running true = refl
+    by_running false = refl
+
+pub changed_number : (n : ℕ) (f : SetRow → SetRow) (r : SetRow) → (f r).number ≡ r.number → (row_changed n f r).number ≡ r.number
+changed_number n f r e = by_number (r.number == n)
+  where
+    by_number : (b : Bool) → (if b then f r else r).number ≡ r.number
+    by_number true = e
+    by_number false = refl
+
+pub changed_context : (n : ℕ) (f : SetRow → SetRow) (r : SetRow) → (f r).context ≡ r.context → (row_changed n f r).context ≡ r.context
+changed_context n f r e = by_number (r.number == n)
+  where
+    by_number : (b : Bool) → (if b then f r else r).context ≡ r.context
+    by_number true = e
+    by_number false = refl
+
+pub context_other : (rows : List SetRow) (r : SetRow) (n : ℕ) → (r.number == n) ≡ false → context_in (rows ++ r ∷ []) n ≡ context_in rows n
+context_other [] r n e = ap (λ b. option_map (λ (x : SetRow). x.context) (if b then Some r else None)) e
+context_other (q ∷ rows) r n e = by_head (q.number == n) (context_other rows r n e)
+  where
+    by_head : (b : Bool) → context_in (rows ++ r ∷ []) n ≡ context_in rows n
+        → option_map (λ (x : SetRow). x.context) (if b then Some q else find (λ (x : SetRow). x.number == n) (rows ++ r ∷ [])) ≡ option_map (λ (x : SetRow). x.context) (if b then Some q else find (λ (x : SetRow). x.number == n) rows)
+    by_head true ih = refl
+    by_head false ih = ih
+
+pub context_new : (k : ℕ) (rows : List SetRow) (r : SetRow) → NumberedFrom k rows → r.number ≡ length rows + k → context_in (rows ++ r ∷ []) r.number ≡ Some r.context
+context_new k [] r h e = ap (λ b. option_map (λ (x : SetRow). x.context) (if b then Some r else None)) (own r.number)
+  where
+    own : (a : ℕ) → (a == a) ≡ true
+    own a = grind arith
+context_new k (q ∷ rows) r h e = by_head (q.number == r.number) (less q.number k r.number (length rows) h.0 e) (context_new (k + 1) rows r h.1 (next r.number (length rows) k e))
+  where
+    less : (a k n len : ℕ) → a ≡ k → n ≡ suc len + k → (a == n) ≡ false
+    less a k n len e f = grind arith
+
+    next : (n len k : ℕ) → n ≡ suc len + k → n ≡ len + (k + 1)
+    next n len k e = omega arith
+
+    by_head : (b : Bool) → b ≡ false → context_in (rows ++ r ∷ []) r.number ≡ Some r.context → option_map (λ (x : SetRow). x.context) (if b then Some q else find (λ (x : SetRow). x.number == r.number) (rows ++ r ∷ [])) ≡ Some r.context
+    by_head true f ih = absurd cc
+    by_head false f ih = ih
+
+-- ## what is kept
+
+pub record HasMade (q : Option Session) (n : ℕ) : Type 0 where
+  pub session : Session
+  pub is : q ≡ Some session
+  pub set : session.set ≡ Some n
+
+pub record Owned (x : State) : Type 0 where
+  pub own : (n v : ℕ) → context_in x.sets n ≡ Some Backup → stands x n v ≡ true → HasMade x.session n
+  pub same : (q : Session) (n : ℕ) → x.session ≡ Some q → q.set ≡ Some n → context_in x.sets n ≡ Some q.context
+  pub early : (q : Session) → x.session ≡ Some q → is_early q.stage ≡ true → q.set ≡ None
+
+abbrev pub NoMore : State → State → Type 0
+NoMore x next = (n v : ℕ) → stands next n v ≡ true → stands x n v ≡ true
+
+-- what an act makes of the session
+pub record Keeps (f : Session → Session) : Type 0 where
+  pub set : (q : Session) → (f q).set ≡ q.set
+  pub context : (q : Session) → (f q).context ≡ q.context
+  pub early : (q : Session) → is_early (f q).stage ≡ true → is_early q.stage ≡ true
+
+pub session_was : (f : Session → Session) (o : Option Session) (q : Session) (X : Type 0) → option_map f o ≡ Some q → ((p : Session) → o ≡ Some p → f p ≡ q → X) → X
+session_was f None q X e g = absurd cc
+session_was f (Some p) q X e g = g p refl (some_same (f p) q e)
+  where
+    some_same : (x y : Session) → Some x ≡ Some y → x ≡ y
+    some_same x y e = cc
+
+pub owned_still : (f : Session → Session) → Keeps f → (x next : State) → ((n : ℕ) → context_in next.sets n ≡ context_in x.sets n) → next.session ≡ option_map f x.session → NoMore x next → Owned x → Owned next
+owned_still f k x next con ses img h = record {
+  own = λ n v e g. let made = h.own n v (sym (con n) ∙ e) (img n v g) in
+      record { session = f made.session; is = ses ∙ ap (option_map f) made.is; set = k.set made.session ∙ made.set };
+  same = λ q n e g. session_was f x.session q (context_in next.sets n ≡ Some q.context) (sym ses ∙ e)
+      (λ p i j. con n ∙ h.same p n i (sym (k.set p) ∙ ap (λ (y : Session). y.set) j ∙ g) ∙ ap Some (sym (k.context p) ∙ ap (λ (y : Session). y.context) j));
+  early = λ q e g. session_was f x.session q (q.set ≡ None) (sym ses ∙ e)
+      (λ p i j. sym (ap (λ (y : Session). y.set) j) ∙ k.set p ∙ h.early p i (k.early p (ap (λ (y : Session). is_early y.stage) j ∙ g)));
+}
+
+pub as_it_is : Keeps (λ q. q)
+as_it_is = record { set = λ q. refl; context = λ q. refl; early = λ q e. e }
+
+pub unchanged : (o : Option Session) → o ≡ option_map (λ q. q) o
+unchanged None = refl
+unchanged (Some q) = refl
+
+pub late_after : (c : Context) (stage : Stage) → is_early (stage_after c stage) ≡ true → is_early stage ≡ true
+late_after c Opened e = refl
+late_after c Gathered e = refl
+late_after Backup Started e = absurd cc
+late_after AppRollback Started e = absurd cc
+late_after NasRollback Started e = absurd cc
+late_after c Prepared e = absurd cc
+late_after c Done e = absurd cc
+late_after c Finished e = absurd cc
+late_after c Failed e = absurd cc
+
+pub at_end : Keeps agenda_ended
+at_end = record { set = λ q. refl; context = λ q. refl; early = λ q e. late_after q.context q.stage e }
+
+pub at_failure : (why : VssResult) → Keeps (set_failed why)
+at_failure why = record { set = λ q. refl; context = λ q. refl; early = λ q e. absurd cc }
+
+-- the sets keep their contexts, and the session its own
+pub record Relates (rows : List SetRow) (session : Option Session) (next : State) : Type 0 where
+  pub change : Session → Session
+  pub keeps : Keeps change
+  pub contexts : (n : ℕ) → context_in next.sets n ≡ context_in rows n
+  pub is : next.session ≡ option_map change session
+
+pub relates_same : (rows : List SetRow) (next : State) → ((n : ℕ) → context_in next.sets n ≡ context_in rows n) → Relates rows next.session next
+relates_same rows next e = record { change = λ q. q; keeps = as_it_is; contexts = e; is = unchanged next.session }
+
+pub relates_over : (rows more : List SetRow) (session : Option Session) (next : State) → ((n : ℕ) → context_in more n ≡ context_in rows n) → Relates more session next → Relates rows session next
+relates_over rows more session next e h = record { change = h.change; keeps = h.keeps; contexts = λ n. h.contexts n ∙ e n; is = h.is }
+
+pub settled_contexts : (o : SetOutcome) (rows : List SetRow) (n : ℕ) → context_in (map (row_settled o) rows) n ≡ context_in rows n
+settled_contexts o rows n = context_map (row_settled o) (settled_number o) (settled_context o) rows n
+
+pub relates_ended : (e : Ending) (x : State) → Relates x.sets x.session (concluded e x)
+relates_ended NothingEnds x = relates_same x.sets x (λ n. refl)
+relates_ended AgendaEnds x = record { change = agenda_ended; keeps = at_end; contexts = settled_contexts x.course.outcome x.sets; is = refl }
+relates_ended (SetFails why) x = record { change = set_failed why; keeps = at_failure why; contexts = settled_contexts x.course.outcome x.sets; is = refl }
+
+pub relates_followed : (ran : Bool) (c : Course) (x : State) → Relates x.sets x.session (followed ran c x)
+unfolding followed
+relates_followed ran c x = relates_ended (ending x.course.outcome c.outcome ran c.agenda) (record x { course = c })
+
+pub relates_failed : (o : Option SetRow) (why : VssResult) (x : State) → Relates x.sets x.session (failed_in o why x)
+relates_failed None why x = relates_same x.sets x (λ n. refl)
+relates_failed (Some r) why x = record { change = set_failed why; keeps = at_failure why; contexts = settled_contexts _ x.sets; is = refl }
+
+pub relates_room : (b : Bool) (x : State) → Relates x.sets x.session (with_room_if b x)
+relates_room true x = relates_failed (in_progress x) InsufficientStorage x
+relates_room false x = relates_same x.sets x (λ n. refl)
+
+pub relates_put : (v : ℕ) (w : Write) (mark : Mark) (rows : List SetRow) (session : Option Session) (x : State) → Relates rows session x → Relates rows session (put v w mark x)
+relates_put v w Clean rows session x h = record { change = h.change; keeps = h.keeps; contexts = h.contexts; is = h.is }
+relates_put v w Fault rows session x h = h
+relates_put v w (FaultAfter k) rows session x h = h
+
+pub owned_by : (x next : State) → Relates x.sets x.session next → NoMore x next → Owned x → Owned next
+owned_by x next r img h = owned_still r.change r.keeps x next r.contexts r.is img h
+
+-- ## the cut
+
+pub cut_images : (m n : ℕ) (vs : List ℕ) (u : ℕ) (hs : List History) (v : ℕ) → (m == n) ≡ false → has_image n (at (cut_each m vs u hs) v) ≡ true → has_image n (at hs v) ≡ true
+cut_images m n vs u [] v e h = h
+cut_images m n vs u (x ∷ hs) zero e h = by_set (is_among u vs) h
+  where
+    other : (images : List Image) (p : ℕ) → is_some (point_in n (images ++ record { set = m; point = p } ∷ [])) ≡ true → is_some (point_in n images) ≡ true
+    other [] p h = ap (λ b. is_some (if b then Some p else None)) (sym e) ∙ h
+    other (i ∷ images) p h = by_head (i.set == n) h (other images p)
+      where
+        by_head : (b : Bool) → is_some (if b then Some i.point else point_in n (images ++ record { set = m; point = p } ∷ [])) ≡ true → (is_some (point_in n (images ++ record { set = m; point = p } ∷ [])) ≡ true → is_some (point_in n images) ≡ true)
+            → is_some (if b then Some i.point else point_in n images) ≡ true
+        by_head true h ih = refl
+        by_head false h ih = ih h
+
+    by_set : (b : Bool) → has_image n (cut_if b m x) ≡ true → has_image n x ≡ true
+    by_set true h = other x.images (length x.writes) h
+    by_set false h = h
+cut_images m n vs u (x ∷ hs) (suc v) e h = cut_images m n vs (u + 1) hs v e h
+
+pub cut_contexts : (o : Option SetRow) (st : State) (n : ℕ) → context_in (cut_set o st).sets n ≡ context_in st.sets n
+cut_contexts None st n = refl
+cut_contexts (Some r) st n = context_map (row_cut r.number st.clock) (λ q. changed_number r.number (with_cut st.clock) q refl) (λ q. changed_context r.number (with_cut st.clock) q refl) st.sets n
+
+pub made_by : (p : Option Session) (o : SetOutcome) (r : SetRow) → IsSessionOfSet p o (Some r) → HasMade p r.number
+made_by None o r h = absurd h
+made_by (Some q) o r h = record { session = q; is = refl; set = h.1 }
+
+pub owned_cut : (o : Option SetRow) (st : State) → in_progress st ≡ o → IsSessionOfSet st.session st.course.outcome (in_progress st) → Owned st → Owned (cut_set o st)
+owned_cut None st e k h = h
+owned_cut (Some r) st e k h = record {
+  own = λ n v c g. by_number n v (r.number == n) refl (sym (cut_contexts (Some r) st n) ∙ c) g;
+  same = λ q n f g. cut_contexts (Some r) st n ∙ h.same q n f g;
+  early = h.early;
+}
+  where
+    equal : (a b : ℕ) → (a == b) ≡ true → a ≡ b
+    equal a b e = grind arith
+
+    by_number : (n v : ℕ) (b : Bool) → (r.number == n) ≡ b → context_in st.sets n ≡ Some Backup → stands (cut_set (Some r) st) n v ≡ true → HasMade st.session n
+    by_number n v true i c g = subst (HasMade st.session) (equal r.number n i) (made_by st.session st.course.outcome r (subst (IsSessionOfSet st.session st.course.outcome) e k))
+    by_number n v false i c g = h.own n v c (cut_images r.number n r.volumes 0 st.volumes v i g)

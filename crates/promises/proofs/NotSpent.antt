@@ -1,0 +1,243 @@
+-- Limits that are not spent, and the stages in which they run.
+use Rattle.std.proofs.Common.{◌≡◌, ◌∙◌, ℕ, ◌+◌, ◌==◌, ◌≤◌, zero, suc, List, [], ◌∷◌, ◌++◌, ◌⊎◌, Option, Some, None, refl, Bool, true, false, ap, sym, subst, inl, inr, map, filter, fold, min, arith}
+use Rattle.std.specs.Prelude.{◌&&◌, ◌||◌, not, nat_lt, ◌-◌, option_map, if◌then◌else◌, slice_get}
+use Rattle.vss_names.specs.declared.level.Level.{Level}
+use Rattle.vss_names.specs.declared.level.Level.TheVariants.{System, BackEnd, FrontEnd}
+use Rattle.vss_names.specs.declared.order.Order.{Order}
+use Rattle.vss_names.specs.declared.order.Order.TheVariants.{Identify, PrepareBackup, PrepareSnapshot, Freeze, Thaw, PostSnapshot, BackupComplete}
+use Rattle.tick_limits.specs.Time.{hold_limit, is_spent}
+use Rattle.set_agenda.specs.declared.group.Group.{Group}
+use Rattle.set_agenda.specs.declared.group.Group.TheVariants.{Orders, PreCommit, Flush, Hold, Cut, Commit, Release, PostCommit}
+use Rattle.set_agenda.specs.declared.limit.Limit.{Limit}
+use Rattle.set_agenda.specs.declared.limit.Limit.TheVariants.{Hold as HoldLimit}
+use Rattle.set_agenda.specs.Limits.{Running as RunningLimit, is_prepare_snapshot, is_hold, hold_runs, freeze_runs, runs_if, hold_running, spent_of}
+use Rattle.set_agenda.specs.Course.{is_decisive}
+use Rattle.vss_model.specs.Causes.{holds_volumes, freezes_writers, prepares_writers}
+use Rattle.promises.proofs.Limits.{later_found}
+use Rattle.promises.proofs.Stages.{group_stage, less_both}
+
+-- ## limits that are not spent
+
+pub at_once : (now since limit : ℕ) → since ≡ now → is_spent now since limit ≡ false
+at_once now since limit e = over limit now since e
+  where
+    over : (l n t : ℕ) → t ≡ n → nat_lt l (n - t) ≡ false
+    over l n t e = grind arith
+
+pub none_both : (now : ℕ) (xs ys : List RunningLimit) → spent_of now xs ≡ None → spent_of now ys ≡ None → spent_of now (xs ++ ys) ≡ None
+none_both now xs ys e f = later_found now xs ys e ∙ f
+
+pub none_first : (now : ℕ) (xs ys : List RunningLimit) → spent_of now (xs ++ ys) ≡ None → spent_of now xs ≡ None
+none_first now [] ys e = refl
+none_first now (x ∷ xs) ys e = by_test (is_spent now x.since x.ticks) e (none_first now xs ys)
+  where
+    by_test : (b : Bool) → (if b then Some x else spent_of now (xs ++ ys)) ≡ None → (spent_of now (xs ++ ys) ≡ None → spent_of now xs ≡ None) → (if b then Some x else spent_of now xs) ≡ None
+    by_test true e ih = absurd cc
+    by_test false e ih = ih e
+
+pub none_second : (now : ℕ) (xs ys : List RunningLimit) → spent_of now (xs ++ ys) ≡ None → spent_of now ys ≡ None
+none_second now [] ys e = e
+none_second now (x ∷ xs) ys e = by_test (is_spent now x.since x.ticks) e (none_second now xs ys)
+  where
+    by_test : (b : Bool) → (if b then Some x else spent_of now (xs ++ ys)) ≡ None → (spent_of now (xs ++ ys) ≡ None → spent_of now ys ≡ None) → spent_of now ys ≡ None
+    by_test true e ih = absurd cc
+    by_test false e ih = ih e
+
+abbrev pub one_limit : Limit → ℕ → ℕ → RunningLimit
+one_limit x since ticks = record { limit = x; since = since; ticks = ticks }
+
+pub unspent_if : (b : Bool) (x : Limit) (since ticks now : ℕ) → (b ≡ true → is_spent now since ticks ≡ false) → spent_of now (runs_if b x since ticks) ≡ None
+unspent_if false x since ticks now h = refl
+unspent_if true x since ticks now h = by_test (is_spent now since ticks) (h refl)
+  where
+    by_test : (b : Bool) → b ≡ false → (if b then Some (one_limit x since ticks) else None) ≡ None
+    by_test true e = absurd cc
+    by_test false e = refl
+
+pub is_unspent : (b : Bool) (x : Limit) (since ticks now : ℕ) → spent_of now (runs_if b x since ticks) ≡ None → b ≡ true → is_spent now since ticks ≡ false
+is_unspent false x since ticks now e f = absurd cc
+is_unspent true x since ticks now e f = by_test (is_spent now since ticks) e
+  where
+    by_test : (b : Bool) → (if b then Some (one_limit x since ticks) else None) ≡ None → b ≡ false
+    by_test true e = absurd cc
+    by_test false e = refl
+
+pub unspent_hold : (now : ℕ) (g : Group) (o : Option ℕ) → ((since : ℕ) → o ≡ Some since → hold_runs g ≡ true → is_spent now since hold_limit ≡ false) → spent_of now (hold_running g o) ≡ None
+unspent_hold now g None h = refl
+unspent_hold now g (Some since) h = unspent_if (hold_runs g) HoldLimit since hold_limit now (h since refl)
+
+-- ## groups
+
+-- a limit of these loses the writers, and the set goes on
+abbrev pub is_mild : Group → Bool
+is_mild (Orders Identify) = true
+is_mild (Orders PrepareBackup) = false
+is_mild (Orders PrepareSnapshot) = false
+is_mild (Orders Freeze) = false
+is_mild (Orders Thaw) = true
+is_mild (Orders PostSnapshot) = true
+is_mild (Orders BackupComplete) = true
+is_mild PreCommit = false
+is_mild Flush = false
+is_mild Hold = false
+is_mild Cut = false
+is_mild Commit = false
+is_mild Release = false
+is_mild PostCommit = false
+
+pub mild_order : (o : Order) → is_decisive o ≡ false → is_mild (Orders o) ≡ true
+mild_order Identify e = refl
+mild_order PrepareBackup e = absurd cc
+mild_order PrepareSnapshot e = absurd cc
+mild_order Freeze e = absurd cc
+mild_order Thaw e = refl
+mild_order PostSnapshot e = refl
+mild_order BackupComplete e = refl
+
+pub record RunsNone (g : Group) : Type 0 where
+  pub holds : holds_volumes g ≡ false
+  pub freezes : freezes_writers g ≡ false
+  pub prepares : prepares_writers g ≡ false
+
+pub mild_runs : (g : Group) → is_mild g ≡ true → RunsNone g
+mild_runs (Orders Identify) e = record { holds = refl; freezes = refl; prepares = refl }
+mild_runs (Orders PrepareBackup) e = absurd cc
+mild_runs (Orders PrepareSnapshot) e = absurd cc
+mild_runs (Orders Freeze) e = absurd cc
+mild_runs (Orders Thaw) e = record { holds = refl; freezes = refl; prepares = refl }
+mild_runs (Orders PostSnapshot) e = record { holds = refl; freezes = refl; prepares = refl }
+mild_runs (Orders BackupComplete) e = record { holds = refl; freezes = refl; prepares = refl }
+mild_runs PreCommit e = absurd cc
+mild_runs Flush e = absurd cc
+mild_runs Hold e = absurd cc
+mild_runs Cut e = absurd cc
+mild_runs Commit e = absurd cc
+mild_runs Release e = absurd cc
+mild_runs PostCommit e = absurd cc
+
+pub all_off : (a b c x y z : Bool) → a ≡ false → b ≡ false → c ≡ false → ((a && x) || (b && y) || (c && z)) ≡ false
+all_off true b c x y z e f g = absurd cc
+all_off false true c x y z e f g = absurd cc
+all_off false false true x y z e f g = absurd cc
+all_off false false false x y z e f g = refl
+
+-- ## stages
+
+pub freeze_low : (x : Level) → group_stage (Orders Freeze) (Some x) ≤ 5
+freeze_low System = omega arith
+freeze_low BackEnd = omega arith
+freeze_low FrontEnd = omega arith
+
+pub thaw_high : (x : Level) → 11 ≤ group_stage (Orders Thaw) (Some x)
+thaw_high System = omega arith
+thaw_high BackEnd = omega arith
+thaw_high FrontEnd = omega arith
+
+pub freeze_at : (l : Option Level) → group_stage (Orders Freeze) l ≤ 5
+freeze_at None = omega arith
+freeze_at (Some x) = freeze_low x
+
+pub thaw_at : (l : Option Level) → 11 ≤ group_stage (Orders Thaw) l
+thaw_at None = omega arith
+thaw_at (Some x) = thaw_high x
+
+pub apart : (n m k : ℕ) → n ≤ m → m + 1 ≤ k → k ≤ n → ⊥
+apart n m k h i j = omega arith
+
+pub hold_six : (g : Group) (l : Option Level) → is_hold g ≡ true → 6 ≤ group_stage g l
+hold_six Hold l e = omega arith
+hold_six g l e = absurd cc
+
+pub hold_nine : (g : Group) (l : Option Level) → hold_runs g ≡ true → group_stage g l ≤ 9
+hold_nine (Orders o) l e = absurd cc
+hold_nine PreCommit l e = absurd cc
+hold_nine Flush l e = absurd cc
+hold_nine Hold l e = omega arith
+hold_nine Cut l e = omega arith
+hold_nine Commit l e = omega arith
+hold_nine Release l e = omega arith
+hold_nine PostCommit l e = absurd cc
+
+pub hold_between : (g : Group) (l : Option Level) → 6 ≤ group_stage g l → group_stage g l ≤ 9 → hold_runs g ≡ true
+hold_between (Orders Identify) l h i = absurd (apart 15 9 15 i (omega arith) (omega arith))
+hold_between (Orders PrepareBackup) l h i = absurd (apart 15 9 15 i (omega arith) (omega arith))
+hold_between (Orders PrepareSnapshot) l h i = absurd (apart 0 5 6 (omega arith) (omega arith) h)
+hold_between (Orders Freeze) l h i = absurd (apart (group_stage (Orders Freeze) l) 5 6 (freeze_at l) (omega arith) h)
+hold_between (Orders Thaw) l h i = absurd (apart (group_stage (Orders Thaw) l) 9 11 i (omega arith) (thaw_at l))
+hold_between (Orders PostSnapshot) l h i = absurd (apart 14 9 14 i (omega arith) (omega arith))
+hold_between (Orders BackupComplete) l h i = absurd (apart 15 9 15 i (omega arith) (omega arith))
+hold_between PreCommit l h i = absurd (apart 4 5 6 (omega arith) (omega arith) h)
+hold_between Flush l h i = absurd (apart 5 5 6 (omega arith) (omega arith) h)
+hold_between Hold l h i = refl
+hold_between Cut l h i = refl
+hold_between Commit l h i = refl
+hold_between Release l h i = refl
+hold_between PostCommit l h i = absurd (apart 10 9 10 i (omega arith) (omega arith))
+
+pub freeze_ten : (g : Group) (l : Option Level) → freeze_runs g ≡ true → group_stage g l ≤ 10
+freeze_ten (Orders Identify) l e = absurd cc
+freeze_ten (Orders PrepareBackup) l e = absurd cc
+freeze_ten (Orders PrepareSnapshot) l e = absurd cc
+freeze_ten (Orders Freeze) l e = less_both (group_stage (Orders Freeze) l) 5 10 (freeze_at l) (omega arith)
+freeze_ten (Orders Thaw) l e = absurd cc
+freeze_ten (Orders PostSnapshot) l e = absurd cc
+freeze_ten (Orders BackupComplete) l e = absurd cc
+freeze_ten PreCommit l e = omega arith
+freeze_ten Flush l e = omega arith
+freeze_ten Hold l e = omega arith
+freeze_ten Cut l e = omega arith
+freeze_ten Commit l e = omega arith
+freeze_ten Release l e = omega arith
+freeze_ten PostCommit l e = omega arith
+
+pub freeze_between : (g : Group) (l : Option Level) → is_prepare_snapshot g ≡ false → group_stage g l ≤ 10 → freeze_runs g ≡ true
+freeze_between (Orders Identify) l h i = absurd (apart 15 10 15 i (omega arith) (omega arith))
+freeze_between (Orders PrepareBackup) l h i = absurd (apart 15 10 15 i (omega arith) (omega arith))
+freeze_between (Orders PrepareSnapshot) l h i = absurd cc
+freeze_between (Orders Freeze) l h i = refl
+freeze_between (Orders Thaw) l h i = absurd (apart (group_stage (Orders Thaw) l) 10 11 i (omega arith) (thaw_at l))
+freeze_between (Orders PostSnapshot) l h i = absurd (apart 14 10 14 i (omega arith) (omega arith))
+freeze_between (Orders BackupComplete) l h i = absurd (apart 15 10 15 i (omega arith) (omega arith))
+freeze_between PreCommit l h i = refl
+freeze_between Flush l h i = refl
+freeze_between Hold l h i = refl
+freeze_between Cut l h i = refl
+freeze_between Commit l h i = refl
+freeze_between Release l h i = refl
+freeze_between PostCommit l h i = refl
+
+pub mild_high : (g : Group) (l : Option Level) → is_mild g ≡ true → 11 ≤ group_stage g l
+mild_high (Orders Identify) l e = omega arith
+mild_high (Orders PrepareBackup) l e = absurd cc
+mild_high (Orders PrepareSnapshot) l e = absurd cc
+mild_high (Orders Freeze) l e = absurd cc
+mild_high (Orders Thaw) l e = thaw_at l
+mild_high (Orders PostSnapshot) l e = omega arith
+mild_high (Orders BackupComplete) l e = omega arith
+mild_high PreCommit l e = absurd cc
+mild_high Flush l e = absurd cc
+mild_high Hold l e = absurd cc
+mild_high Cut l e = absurd cc
+mild_high Commit l e = absurd cc
+mild_high Release l e = absurd cc
+mild_high PostCommit l e = absurd cc
+
+abbrev pub is_backup_order : Group → Bool
+is_backup_order (Orders PrepareBackup) = true
+is_backup_order _ = false
+
+pub high_mild : (g : Group) (l : Option Level) → not (is_backup_order g) ≡ true → 11 ≤ group_stage g l → is_mild g ≡ true
+high_mild (Orders Identify) l h i = refl
+high_mild (Orders PrepareBackup) l h i = absurd cc
+high_mild (Orders PrepareSnapshot) l h i = absurd (apart 0 10 11 (omega arith) (omega arith) i)
+high_mild (Orders Freeze) l h i = absurd (apart (group_stage (Orders Freeze) l) 5 11 (freeze_at l) (omega arith) i)
+high_mild (Orders Thaw) l h i = refl
+high_mild (Orders PostSnapshot) l h i = refl
+high_mild (Orders BackupComplete) l h i = refl
+high_mild PreCommit l h i = absurd (apart 4 10 11 (omega arith) (omega arith) i)
+high_mild Flush l h i = absurd (apart 5 10 11 (omega arith) (omega arith) i)
+high_mild Hold l h i = absurd (apart 6 10 11 (omega arith) (omega arith) i)
+high_mild Cut l h i = absurd (apart 7 10 11 (omega arith) (omega arith) i)
+high_mild Commit l h i = absurd (apart 8 10 11 (omega arith) (omega arith) i)
+high_mild Release l h i = absurd (apart 9 10 11 (omega arith) (omega arith) i)
+high_mild PostCommit l h i = absurd (apart 10 10 11 (omega arith) (omega arith) i)

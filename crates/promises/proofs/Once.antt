@@ -1,0 +1,179 @@
+-- No step is made twice, and nobody is heard twice to an order.
+use Rattle.std.proofs.Common.{◌≡◌, ◌∙◌, ℕ, ◌==◌, ◌≤◌, ◌<◌, List, [], ◌∷◌, ◌++◌, ◌⊎◌, Option, Some, None, refl, Bool, true, false, ap, sym, subst, inl, inr, map, filter, arith, ◌+◌}
+use Rattle.std.specs.Prelude.{◌&&◌, ◌||◌, not, is_some, if◌then◌else◌}
+use Rattle.std.specs.List.{list_any}
+use Rattle.std.proofs.lemmas.List.Folds.{list_any-append}
+use Rattle.vss_names.specs.declared.level.Level.{Level}
+use Rattle.vss_names.specs.declared.order.Order.{Order}
+use Rattle.vss_names.specs.declared.order.Order.TheVariants.{Identify, PrepareBackup, PrepareSnapshot, Freeze, Thaw, PostSnapshot, BackupComplete}
+use Rattle.writer_state.specs.declared.said.Said.{Said}
+use Rattle.set_agenda.specs.declared.group.Group.{Group}
+use Rattle.set_agenda.specs.declared.group.Group.TheVariants.{Orders}
+use Rattle.set_agenda.specs.declared.kind.Kind.TheVariants.{Snapshot}
+use Rattle.set_agenda.specs.declared.member.Member.{Member}
+use Rattle.set_agenda.specs.declared.place.Place.{Place}
+use Rattle.set_agenda.specs.Agenda.{Agenda, Open, places, same_order, has_failed, has_said, is_at, writers_at, members_of, waited_for, with_group, left_from, open_place, is_among, waits_now}
+use Rattle.vss_model.proofs.Orderly.{true_not_false}
+use Rattle.vss_model.proofs.Spoken.{among_filter}
+use Rattle.promises.specs.Way.{Deed, is_heard, is_again, AreOnce, heard, Spoke}
+use Rattle.promises.proofs.Levels.{Ascends}
+use Rattle.promises.proofs.Stages.{left_part, right_part, false_of, equal, same_number, level_or, leveled}
+use Rattle.promises.proofs.Heard.{order_place}
+
+-- ## no step twice
+
+pub once_one : (ds : List Deed) (d : Deed) → AreOnce ds → list_any (λ x. is_again d x) ds ≡ false → AreOnce (ds ++ d ∷ [])
+once_one [] d h e = (refl, tt)
+once_one (x ∷ ds) d h e =
+    let parts = neither (is_again d x) (list_any (λ y. is_again d y) ds) e in
+    (list_any-append (λ y. is_again y x) ds (d ∷ []) ∙ none (list_any (λ y. is_again y x) ds) (is_again d x) h.0 parts.0, once_one ds d h.1 parts.1)
+  where
+    neither : (a b : Bool) → (a || b) ≡ false → (a ≡ false) × (b ≡ false)
+    neither true b e = absurd cc
+    neither false b e = (refl, e)
+
+    none : (a b : Bool) → a ≡ false → b ≡ false → (a || (b || false)) ≡ false
+    none true b e f = absurd cc
+    none false true e f = absurd cc
+    none false false e f = refl
+
+pub both_false : (a b : Bool) → a ≡ false → b ≡ false → (a || b) ≡ false
+both_false true b e f = absurd cc
+both_false false b e f = f
+
+-- each number once
+abbrev pub Apart : List ℕ → Type 0
+Apart [] = Unit {0}
+Apart (x ∷ xs) = (is_among x xs ≡ false) × Apart xs
+
+-- what writers say that were not heard before
+pub unheard : (o : Order) (said : Said) (now : ℕ) (us : List ℕ) (d : Deed) → ((u : ℕ) → is_among u us ≡ true → is_heard o u d ≡ false) → list_any (λ y. is_again y d) (map (λ u. Spoke o u said now) us) ≡ false
+unheard o said now [] d h = refl
+unheard o said now (u ∷ us) d h =
+    both_false (is_heard o u d) _ (h u (left_part (u == u) (is_among u us) (same_number u))) (unheard o said now us d (λ x e. h x (right_part (u == x) (is_among x us) e)))
+
+pub other_writer : (o : Order) (w : ℕ) (said : Said) (now : ℕ) (us : List ℕ) → is_among w us ≡ false → (u : ℕ) → is_among u us ≡ true → is_heard o u (Spoke o w said now) ≡ false
+other_writer o w said now us e u f = by_same (w == u) refl (same_order o o)
+  where
+    by_same : (b : Bool) → (w == u) ≡ b → (c : Bool) → (c && (w == u)) ≡ false
+    by_same true g c = absurd (true_not_false (is_among u us) f (subst (λ x. is_among x us ≡ false) (equal w u g) e))
+    by_same false g true = g
+    by_same false g false = refl
+
+pub once_spoken : (ds : List Deed) (o : Order) (said : Said) (now : ℕ) (ws : List ℕ) → AreOnce ds → Apart ws → ((u : ℕ) → is_among u ws ≡ true → heard o u ds ≡ false) → AreOnce (ds ++ map (λ u. Spoke o u said now) ws)
+once_spoken [] o said now [] h p f = tt
+once_spoken [] o said now (w ∷ ws) h p f =
+    (unheard o said now ws (Spoke o w said now) (other_writer o w said now ws p.0), once_spoken [] o said now ws h p.1 (λ u e. refl))
+once_spoken (x ∷ ds) o said now ws h p f = (
+  list_any-append (λ y. is_again y x) ds (map (λ u. Spoke o u said now) ws)
+      ∙ both_false (list_any (λ y. is_again y x) ds) _ h.0 (unheard o said now ws x (λ u e. first_off (is_heard o u x) (heard o u ds) (f u e))),
+  once_spoken ds o said now ws h.1 p (λ u e. rest_off (is_heard o u x) (heard o u ds) (f u e)),
+)
+  where
+    first_off : (a b : Bool) → (a || b) ≡ false → a ≡ false
+    first_off true b e = absurd cc
+    first_off false b e = refl
+
+    rest_off : (a b : Bool) → (a || b) ≡ false → b ≡ false
+    rest_off true b e = absurd cc
+    rest_off false b e = e
+
+-- who is waited for is waited for once
+pub among_none : (test : ℕ → Bool) (x : ℕ) (xs : List ℕ) → is_among x xs ≡ false → is_among x (filter test xs) ≡ false
+among_none test x xs e = false_of (is_among x (filter test xs)) (λ f. true_not_false (is_among x xs) (among_filter test x xs f) e)
+
+pub apart_filter : (test : ℕ → Bool) (xs : List ℕ) → Apart xs → Apart (filter test xs)
+apart_filter test [] h = tt
+apart_filter test (x ∷ xs) h = by_head (test x) (apart_filter test xs h.1)
+  where
+    by_head : (b : Bool) → Apart (filter test xs) → Apart (if b then x ∷ filter test xs else filter test xs)
+    by_head true ih = (among_none test x xs h.0, ih)
+    by_head false ih = ih
+
+pub not_below : (w x : ℕ) (ms : List Member) (l : Option Level) → Ascends w ms → x < w → is_among x (writers_at ms l) ≡ false
+not_below w x [] l h i = refl
+not_below w x (m ∷ ms) l h i = by_head (is_at l m.level) (not_below (m.writer + 1) x ms l h.1 (above w x m.writer h.0 i))
+  where
+    above : (w x m : ℕ) → w ≤ m → x < w → x < m + 1
+    above w x m h i = omega arith
+
+    differs : (w x m : ℕ) → w ≤ m → x < w → (m == x) ≡ false
+    differs w x m h i = grind arith
+
+    by_head : (b : Bool) → is_among x (writers_at ms l) ≡ false → is_among x (map (λ (y : Member). y.writer) (if b then m ∷ filter (λ (y : Member). is_at l y.level) ms else filter (λ (y : Member). is_at l y.level) ms)) ≡ false
+    by_head true ih = both_false (m.writer == x) _ (differs w x m.writer h.0 i) ih
+    by_head false ih = ih
+
+pub apart_writers : (w : ℕ) (ms : List Member) (l : Option Level) → Ascends w ms → Apart (writers_at ms l)
+apart_writers w [] l h = tt
+apart_writers w (m ∷ ms) l h = by_head (is_at l m.level) (apart_writers (m.writer + 1) ms l h.1)
+  where
+    next : (n : ℕ) → n < n + 1
+    next n = omega arith
+
+    by_head : (b : Bool) → Apart (writers_at ms l) → Apart (map (λ (y : Member). y.writer) (if b then m ∷ filter (λ (y : Member). is_at l y.level) ms else filter (λ (y : Member). is_at l y.level) ms))
+    by_head true ih = (not_below (m.writer + 1) m.writer ms l h.1 (next m.writer), ih)
+    by_head false ih = ih
+
+pub apart_members : (o : Order) (a : Agenda) (l : Option Level) → Ascends 0 a.members → Apart (members_of a (Orders o) l)
+apart_members Identify a l h = apart_writers 0 a.members l h
+apart_members PrepareBackup a l h = apart_writers 0 a.members l h
+apart_members PrepareSnapshot a l h = apart_writers 0 a.members l h
+apart_members Freeze a l h = apart_writers 0 a.members l h
+apart_members Thaw a l h = apart_writers 0 a.members l h
+apart_members PostSnapshot a l h = apart_filter (λ x. not (has_failed a.log x)) (writers_at a.members l) (apart_writers 0 a.members l h)
+apart_members BackupComplete a l h = apart_writers 0 a.members l h
+
+pub waits_apart : (a : Agenda) (ps : List Place) (o : Order) → Ascends 0 a.members → (open_place (left_from a ps)).group ≡ Orders o → Apart (waits_now (left_from a ps))
+waits_apart a [] o h e = tt
+waits_apart a (p ∷ ps) o h e =
+    at_group (waited_for a p) (left_from a ps)
+    (λ g. apart_filter (λ x. not (has_said a.log p x)) (members_of a p.group p.level) (subst (λ x. Apart (members_of a x p.level)) (sym g) (apart_members o a p.level h))) (waits_apart a ps o h) e
+  where
+    at_group : (ws : List ℕ) (later : List Open) → (p.group ≡ Orders o → Apart ws) → ((open_place later).group ≡ Orders o → Apart (waits_now later)) → (open_place (with_group p ws later)).group ≡ Orders o → Apart (waits_now (with_group p ws later))
+    at_group [] later own ih e = ih e
+    at_group (w ∷ ws) later own ih e = own e
+
+-- the open place is the writer's
+abbrev pub NoneGiven : List Place → Type 0
+NoneGiven [] = Unit {0}
+NoneGiven (p ∷ ps) = (leveled p.group ≡ false → p.level ≡ None) × NoneGiven ps
+
+pub none_given : NoneGiven (places Snapshot)
+none_given = (λ e. refl, (λ e. absurd cc, (λ e. absurd cc, (λ e. absurd cc, (λ e. refl, (λ e. refl, (λ e. refl, (λ e. refl, (λ e. refl, (λ e. refl, (λ e. refl, (λ e. absurd cc, (λ e. absurd cc, (λ e. absurd cc, (λ e. refl, tt)))))))))))))))
+
+pub open_unleveled : (a : Agenda) (ps : List Place) → NoneGiven ps → leveled (open_place (left_from a ps)).group ≡ false → (open_place (left_from a ps)).level ≡ None
+open_unleveled a [] h e = refl
+open_unleveled a (p ∷ ps) h e = at_group (waited_for a p) (left_from a ps) (open_unleveled a ps h.1) e
+  where
+    at_group : (ws : List ℕ) (later : List Open) → (leveled (open_place later).group ≡ false → (open_place later).level ≡ None) → leveled (open_place (with_group p ws later)).group ≡ false → (open_place (with_group p ws later)).level ≡ None
+    at_group [] later ih e = ih e
+    at_group (w ∷ ws) later ih e = h.0 e
+
+pub level_some : (l : Option Level) (x : Level) → is_some l ≡ true → x ≡ level_or l → l ≡ Some x
+level_some None x e f = absurd cc
+level_some (Some y) x e f = ap Some (sym f)
+
+pub is_order_place : (o : Order) (x : Level) (q : Place) → q.group ≡ Orders o → (leveled q.group ≡ true → q.level ≡ Some x) → (leveled q.group ≡ false → q.level ≡ None) → q ≡ order_place o x
+is_order_place o x q e f g = both_same q (order_place o x).group (order_place o x).level (e ∙ sym (group_is o)) (level_is o e f g)
+  where
+    both_same : (q : Place) (h : Group) (l : Option Level) → q.group ≡ h → q.level ≡ l → q ≡ record { group = h; level = l }
+    both_same q h l e f = ap (λ y. record { group = y; level = q.level }) e ∙ ap (λ y. record { group = h; level = y }) f
+
+    group_is : (o : Order) → (order_place o x).group ≡ Orders o
+    group_is Identify = refl
+    group_is PrepareBackup = refl
+    group_is PrepareSnapshot = refl
+    group_is Freeze = refl
+    group_is Thaw = refl
+    group_is PostSnapshot = refl
+    group_is BackupComplete = refl
+
+    level_is : (o : Order) → q.group ≡ Orders o → (leveled q.group ≡ true → q.level ≡ Some x) → (leveled q.group ≡ false → q.level ≡ None) → q.level ≡ (order_place o x).level
+    level_is Identify e f g = g (ap leveled e)
+    level_is PrepareBackup e f g = g (ap leveled e)
+    level_is PrepareSnapshot e f g = g (ap leveled e)
+    level_is Freeze e f g = f (ap leveled e)
+    level_is Thaw e f g = f (ap leveled e)
+    level_is PostSnapshot e f g = g (ap leveled e)
+    level_is BackupComplete e f g = g (ap leveled e)

@@ -1,0 +1,128 @@
+-- Replies tell what stands.
+use Rattle.std.proofs.Common.{◌≡◌, ◌∙◌, ℕ, ◌==◌, List, [], ◌∷◌, Option, Some, None, refl, Bool, true, false, ap, sym, subst, map, filter, length, arith}
+use Rattle.std.specs.Prelude.{◌&&◌, ◌||◌, is_some, if◌then◌else◌}
+use Rattle.std.specs.List.{range_with_len}
+use Rattle.vss_names.specs.declared.vss_result.VssResult.TheVariants.{ObjectNotFound}
+use Rattle.write_history.specs.declared.mark.Mark.{Mark}
+use Rattle.write_history.specs.declared.mark.Mark.TheVariants.{Clean}
+use Rattle.write_history.specs.History.{Image, content, contents, point_in, sets_of}
+use Rattle.set_agenda.specs.Agenda.{is_among}
+use Rattle.scenario.specs.declared.op.Op.{Op}
+use Rattle.scenario.specs.declared.op.Op.TheVariants.{Read, ImageDigest, ImageBlock, Query}
+use Rattle.scenario.specs.Plan.{Plan, blocks_of}
+use Rattle.vss_model.specs.declared.event.Event.TheVariants.{Line}
+use Rattle.vss_model.specs.Reply.{Reply, Coded, BlockOf, BlocksOf, KeptSets}
+use Rattle.vss_model.specs.State.{State, SetRow, Kept, history_of, is_kept_set, kept, kept_at, kept_if, kept_of, kept_image, is_complete, row_of}
+use Rattle.vss_model.specs.Images.{image_block, image_blocks}
+use Rattle.vss_model.specs.Lines.{line}
+use Rattle.vss_model.specs.Acts.{Act, happens, reply, state}
+use Rattle.vss_model.specs.Headline.{ReadsAsAtTheCut}
+use Rattle.vss_model.proofs.Headline.{keeps_promises}
+use Rattle.promises.specs.Contents.{block_now}
+use Rattle.promises.specs.Gone.{stands}
+use Rattle.promises.specs.Replies.{TellsTheCut, ListsKept, RepliesTell}
+
+-- ## the point of a kept image
+
+point_at : (r : SetRow) (o : Option ℕ) (k : Kept) → kept_at r o ≡ Some k → o ≡ Some k.point
+point_at r None k e = absurd cc
+point_at r (Some p) k e = ap (λ (x : Kept). Some x.point) (some_same (record { row = r; point = p }) k e)
+  where
+    some_same : (x y : Kept) → Some x ≡ Some y → x ≡ y
+    some_same x y e = cc
+
+point_if : (b : Bool) (r : SetRow) (o : Option ℕ) (k : Kept) → kept_if b r o ≡ Some k → o ≡ Some k.point
+point_if true r o k e = point_at r o k e
+point_if false r o k e = absurd cc
+
+point_of : (row : Option SetRow) (o : Option ℕ) (k : Kept) → kept_of row o ≡ Some k → o ≡ Some k.point
+point_of None o k e = absurd cc
+point_of (Some r) o k e = point_if (is_complete r.result) r o k e
+
+-- a kept image reads as the volume at the cut
+at_the_cut : (s : Plan) (so_far : List Act) (n v : ℕ) (k : Kept) → kept_image (state s so_far) n v ≡ Some k → ReadsAsAtTheCut s so_far n v k.point
+at_the_cut s so_far n v k e = (keeps_promises s so_far).images n v k.point (point_of (row_of (state s so_far) n) (point_in n (history_of (state s so_far) v).images) k e)
+
+map_along : {X : Type 0} (f g : ℕ → X) → ((n : ℕ) → f n ≡ g n) → (ns : List ℕ) → map f ns ≡ map g ns
+map_along f g e [] = refl
+map_along f g e (n ∷ ns) = ap (λ x. x ∷ map f ns) (e n) ∙ ap (λ xs. g n ∷ xs) (map_along f g e ns)
+
+-- ## the sets that are listed
+
+listed : (st : State) (n : ℕ) (images : List Image) → is_among n (sets_of (filter (λ i. is_kept_set st i.set) images)) ≡ (is_kept_set st n && is_some (point_in n images))
+listed st n [] = none (is_kept_set st n)
+  where
+    none : (b : Bool) → false ≡ (b && false)
+    none true = refl
+    none false = refl
+listed st n (i ∷ images) = by_head (i.set == n) (is_kept_set st i.set) (is_kept_set st n) refl refl refl (listed st n images)
+  where
+    equal : (a b : ℕ) → (a == b) ≡ true → a ≡ b
+    equal a b e = grind arith
+
+    among : (c : Bool) (rest : List ℕ) → (i.set == n) ≡ c → is_among n (i.set ∷ rest) ≡ (c || is_among n rest)
+    among c rest e = ap (λ x. x || is_among n rest) e
+
+    point : (c : Bool) → (i.set == n) ≡ c → is_some (point_in n (i ∷ images)) ≡ (c || is_some (point_in n images))
+    point true e = ap (λ x. is_some (if x then Some i.point else point_in n images)) e
+    point false e = ap (λ x. is_some (if x then Some i.point else point_in n images)) e
+
+    by_head : (c d b : Bool) → (i.set == n) ≡ c → is_kept_set st i.set ≡ d → is_kept_set st n ≡ b → is_among n (sets_of (filter (λ j. is_kept_set st j.set) images)) ≡ (is_kept_set st n && is_some (point_in n images))
+        → is_among n (sets_of (if is_kept_set st i.set then i ∷ filter (λ j. is_kept_set st j.set) images else filter (λ j. is_kept_set st j.set) images)) ≡ (is_kept_set st n && is_some (point_in n (i ∷ images)))
+    by_head true true b e f g ih =
+        let kept_too : is_kept_set st n ≡ true = ap (is_kept_set st) (sym (equal i.set n e)) ∙ f in
+        rw f (rw kept_too (among true (sets_of (filter (λ j. is_kept_set st j.set) images)) e ∙ sym (point true e)))
+    by_head true false b e f g ih =
+        let not_kept : is_kept_set st n ≡ false = ap (is_kept_set st) (sym (equal i.set n e)) ∙ f in
+        rw f (ih ∙ rw not_kept refl)
+    by_head false true b e f g ih =
+        rw f (among false (sets_of (filter (λ j. is_kept_set st j.set) images)) e ∙ ih ∙ ap (λ x. is_kept_set st n && x) (sym (point false e)))
+    by_head false false b e f g ih = rw f (ih ∙ ap (λ x. is_kept_set st n && x) (sym (point false e)))
+
+-- ## every reply
+
+module _ (s : Plan) (so_far : List Act) (act : Act) where
+  abbrev st : State
+  st = state s so_far
+
+  told : (lane : ℕ) (op : Op) (mark : Mark) → act.event ≡ Line lane op → act.mark ≡ mark → reply s st act ≡ (line s lane op mark st).0
+  told lane op mark e f = ap (λ x. (happens s x act.mark st).0) e ∙ ap (λ m. (line s lane op m st).0) f
+
+  block_told : (lane n v b : ℕ) (o : Option Kept) → kept_image st n v ≡ o → is_some o ≡ true → act.event ≡ Line lane (ImageBlock n v b) → act.mark ≡ Clean
+      → TellsTheCut s so_far n (reply s st act) (λ before. BlockOf v (block_now (state s before) v b))
+  block_told lane n v b None e f g h = absurd cc
+  block_told lane n v b (Some k) e f g h =
+      let cut = at_the_cut s so_far n v k e in
+      record {
+        before = cut.before;
+        is_cut = cut.is_cut;
+        tells = told lane (ImageBlock n v b) Clean g h ∙ ap (λ o. (image_block v b o Clean st).0) e ∙ ap (BlockOf v) (cut.reads b);
+      }
+
+  image_told : (lane n v : ℕ) (o : Option Kept) → kept_image st n v ≡ o → is_some o ≡ true → act.event ≡ Line lane (ImageDigest n v) → act.mark ≡ Clean
+      → TellsTheCut s so_far n (reply s st act) (λ before. BlocksOf v (map (block_now (state s before) v) (range_with_len 0 (blocks_of s v))))
+  image_told lane n v None e f g h = absurd cc
+  image_told lane n v (Some k) e f g h =
+      let cut = at_the_cut s so_far n v k e in
+      record {
+        before = cut.before;
+        is_cut = cut.is_cut;
+        tells = told lane (ImageDigest n v) Clean g h ∙ ap (λ o. (image_blocks s v o Clean st).0) e
+            ∙ ap (BlocksOf v) (map_along (content (history_of st v).writes k.point) (block_now (state s cut.before) v) cut.reads (range_with_len 0 (blocks_of s v)));
+      }
+
+pub replies_tell : (s : Plan) (so_far : List Act) (act : Act) → RepliesTell s so_far act
+replies_tell s so_far act =
+    let st = state s so_far in
+    record {
+      block = λ lane v b e f. told s so_far act lane (Read v b) Clean e f;
+      image_block = λ lane n v b e f g. block_told s so_far act lane n v b (kept_image st n v) refl g e f;
+      image = λ lane n v e f g. image_told s so_far act lane n v (kept_image st n v) refl g e f;
+      no_block = λ lane n v b e f. told s so_far act lane (ImageBlock n v b) act.mark e refl ∙ ap (λ o. (image_block v b o act.mark st).0) f;
+      no_image = λ lane n v e f. told s so_far act lane (ImageDigest n v) act.mark e refl ∙ ap (λ o. (image_blocks s v o act.mark st).0) f;
+      sets = λ lane v e. record {
+        sets = sets_of (kept st (history_of st v));
+        tells = told s so_far act lane (Query v) act.mark e refl;
+        exactly = λ n. listed st n (history_of st v).images;
+      };
+    }

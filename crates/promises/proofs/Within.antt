@@ -1,0 +1,364 @@
+-- No limit that would fail the set is outrun as the clock stands.
+use Rattle.std.proofs.Common.{◌≡◌, ◌∙◌, ℕ, ◌+◌, ◌==◌, ◌≤◌, zero, suc, List, [], ◌∷◌, ◌++◌, ◌⊎◌, Option, Some, None, refl, Bool, true, false, ap, sym, subst, inl, inr, map, filter, fold, min, arith}
+use Rattle.std.specs.Prelude.{◌&&◌, ◌||◌, not, nat_lt, ◌-◌, option_map, if◌then◌else◌, slice_get}
+use Rattle.vss_names.specs.declared.order.Order.{Order}
+use Rattle.vss_names.specs.declared.vss_result.VssResult.{VssResult}
+use Rattle.vss_names.specs.declared.vss_result.VssResult.TheVariants.{InsufficientStorage, AsyncCancelled}
+use Rattle.writer_state.specs.declared.said.Said.{Said}
+use Rattle.writer_state.specs.declared.said.Said.TheVariants.{Ok, Lost}
+use Rattle.writer_state.specs.declared.writer_row.WriterRow.{WriterRow}
+use Rattle.writer_state.specs.WriterState.{is_ok}
+use Rattle.writer_state.specs.WriterRow.{row_after}
+use Rattle.tick_limits.specs.Time.{answer_limit, default_freeze}
+use Rattle.write_history.specs.declared.mark.Mark.{Mark}
+use Rattle.write_history.specs.declared.mark.Mark.TheVariants.{Clean, Fault, FaultAfter}
+use Rattle.write_history.specs.History.{Write}
+use Rattle.writer_calls.specs.Script.{said_of}
+use Rattle.set_agenda.specs.declared.group.Group.{Group}
+use Rattle.set_agenda.specs.declared.group.Group.TheVariants.{Orders, PreCommit, Flush, Hold, Cut, Commit, Release, PostCommit}
+use Rattle.set_agenda.specs.declared.kind.Kind.{Kind}
+use Rattle.set_agenda.specs.declared.limit.Limit.{Limit}
+use Rattle.set_agenda.specs.declared.limit.Limit.TheVariants.{Hold as HoldLimit, Freeze as FreezeLimit, Answer as AnswerLimit}
+use Rattle.set_agenda.specs.declared.member.Member.{Member}
+use Rattle.set_agenda.specs.Agenda.{Agenda, Open, places, order_of, is_orders, groups_left, left, open_place, open_group, waits_now, order_now, is_among, is_asked, open_order, is_working, next_member, is_done, all_say}
+use Rattle.set_agenda.specs.Limits.{Running as RunningLimit, opened_at, freeze_opened_at, first_hold, freeze_runs, answer_runs, runs_if, hold_running, running_at, running_limits, spent_of}
+use Rattle.set_agenda.specs.Course.{Course, posted, failed as course_failed, rows_where, row_if, limit_of, freeze_limit, limits_now, settled_if, settled_in, settled, begun, told, is_decisive, decided, answered_to, answered as course_answered, worked, stepped as course_stepped, lost_to, lost, fails_set, lost_decided, treated_as, treated, timed as course_timed, released}
+use Rattle.requestor.specs.Session.{Session}
+use Rattle.scenario.specs.Plan.{Plan}
+use Rattle.vss_model.specs.declared.event.Event.{Event}
+use Rattle.vss_model.specs.State.{State, SetRow, Kept, start, in_progress, left_now}
+use Rattle.vss_model.specs.Ending.{Ending, NothingEnds, AgendaEnds, SetFails, ending, concluded, followed, runs, failed_in, failed}
+use Rattle.vss_model.specs.Images.{Replied, cleared, set_loses_image, with_room_if, put, write, reverted_as}
+use Rattle.vss_model.specs.Sessions.{has_no_volume, closed}
+use Rattle.vss_model.specs.Steps.{answered, step_made, is_flush, is_failed_step, stepped_as, stepped, ticked, later}
+use Rattle.vss_model.specs.Acts.{Act, enabled, idle_now, after, state}
+use Rattle.vss_model.specs.Causes.{is_late_at, is_late_in}
+use Rattle.vss_model.proofs.CourseCalls.{asked_if, asked_waits}
+use Rattle.vss_model.proofs.LogRule.{Running, unspoken}
+use Rattle.vss_model.proofs.Orderly.{true_not_false}
+use Rattle.promises.specs.Within.{StandsWithinLimits}
+use Rattle.promises.proofs.ByEvent.{Covers, covered, after_enabled, after_not_enabled}
+use Rattle.promises.proofs.Clock.{clock-made}
+use Rattle.promises.proofs.Limits.{is_due_in, due_in, later_found, first_found, hold_found, limit_found, none_and_some}
+use Rattle.promises.proofs.Speaks.{Speaks, now_group, head_waits}
+use Rattle.promises.proofs.Stages.{false_of}
+use Rattle.promises.proofs.Times.{late_is_due}
+use Rattle.promises.proofs.NotSpent.{at_once, none_both, unspent_if, is_mild, mild_order, mild_runs, all_off}
+use Rattle.promises.proofs.OneMore.{Ordered, Unspent, InTime, said_in_time}
+
+-- ## the course
+
+abbrev Keeps : ℕ → Course → Type 0
+Keeps now c = Running (InTime now (freeze_limit c)) c.agenda
+
+keeps_failed : (now : ℕ) (why : VssResult) (c : Course) → Keeps now (course_failed why c)
+unfolding course_failed
+keeps_failed now why c = tt
+
+keeps_posted : (now : ℕ) (prior c : Course) → Keeps now c → Keeps now (posted prior c)
+unfolding posted
+keeps_posted now prior c h = h
+
+keeps_settled_if : (now : ℕ) (b : Bool) (k : Kind) (c : Course) → Keeps now c → Keeps now (settled_if b k c)
+keeps_settled_if now true k c h = tt
+keeps_settled_if now false k c h = h
+
+keeps_settled_in : (now : ℕ) (o : Option Agenda) (c : Course) → Keeps now c → Keeps now (settled_in o c)
+keeps_settled_in now None c h = h
+keeps_settled_in now (Some a) c h = keeps_settled_if now (is_done (groups_left a)) a.kind c h
+
+keeps_settled : (now : ℕ) (c : Course) → Keeps now c → Keeps now (settled c)
+unfolding settled
+keeps_settled now c h = keeps_settled_in now c.agenda c h
+
+-- what is said leaves time-outs as they are
+limit_stays : (o : Order) (said : Said) (test : ℕ → Bool) (k : ℕ) (rows : List WriterRow) (w : ℕ) → limit_of (slice_get (rows_where (row_after o said) test k rows) w) ≡ limit_of (slice_get rows w)
+limit_stays o said test k [] w = refl
+limit_stays o said test k (r ∷ rows) zero = by_test (test k)
+  where
+    by_test : (b : Bool) → (row_if b (row_after o said) r).limit ≡ r.limit
+    by_test true = refl
+    by_test false = refl
+limit_stays o said test k (r ∷ rows) (suc w) = limit_stays o said test (k + 1) rows w
+
+least_stays : (rows newer : List WriterRow) → ((w : ℕ) → limit_of (slice_get newer w) ≡ limit_of (slice_get rows w)) → (least : ℕ) (ms : List Member) → fold (λ l (m : Member). min l (limit_of (slice_get rows m.writer))) least ms ≡ fold (λ l (m : Member). min l (limit_of (slice_get newer m.writer))) least ms
+least_stays rows newer same least [] = refl
+least_stays rows newer same least (m ∷ ms) =
+    least_stays rows newer same (min least (limit_of (slice_get rows m.writer))) ms
+    ∙ ap (λ n. fold (λ l (x : Member). min l (limit_of (slice_get newer x.writer))) (min least n) ms) (sym (same m.writer))
+
+-- who speaks, and what holds before
+abbrev MaySay : ℕ → ℕ → List ℕ → Option Agenda → Type 0
+MaySay now f ws None = Unit {0}
+MaySay now f ws (Some a) = Speaks a ws × Unspent now f a × Ordered a
+
+says_at : (now f : ℕ) (said : Said) (ws : List ℕ) (x : Option Agenda) → MaySay now f ws x → Running (InTime now f) (option_map (all_say said now ws) x)
+says_at now f said ws None h = tt
+says_at now f said ws (Some a) h = said_in_time now f said ws a h.0 h.1 h.2
+
+keeps_told : (o : Order) (said : Said) (now : ℕ) (ws : List ℕ) (c : Course) → MaySay now (freeze_limit c) ws c.agenda → Keeps now (told o said now ws c)
+unfolding told
+keeps_told o said now ws c h =
+    subst (λ f. Running (InTime now f) (option_map (all_say said now ws) c.agenda))
+    (least_stays c.rows (rows_where (row_after o said) (λ w. is_among w ws) 0 c.rows) (limit_stays o said (λ w. is_among w ws) 0 c.rows) default_freeze c.members)
+    (says_at now (freeze_limit c) said ws c.agenda h)
+
+one_may : (now f w : ℕ) (x : Option Agenda) (o : Order) → open_order (left x) w ≡ Some o → Running (InTime now f) x → MaySay now f (w ∷ []) x
+one_may now f w None o e h = tt
+one_may now f w (Some a) o e h =
+    (inl (record { one = w; is = refl; waits = (asked_waits (groups_left a) w (asked_if (is_asked w (groups_left a)) (order_now (groups_left a)) o e)).1 }), h.unspent, h.ordered)
+
+keeps_decided : (now : ℕ) (b : Bool) (said : Said) (c : Course) → Keeps now c → Keeps now (decided b said c)
+keeps_decided now true said c h = keeps_failed now _ c
+keeps_decided now false said c h = keeps_settled now c h
+
+keeps_answered_to : (x : Option Order) (w : ℕ) (said : Said) (now : ℕ) (c : Course) → open_order (left c.agenda) w ≡ x → Keeps now c → Keeps now (answered_to x w said now c)
+keeps_answered_to None w said now c e h = h
+keeps_answered_to (Some o) w said now c e h = keeps_decided now (is_decisive o && not (is_ok said)) said _ (keeps_told o said now (w ∷ []) c (one_may now (freeze_limit c) w c.agenda o e h))
+
+keeps_answered : (w : ℕ) (said : Said) (now : ℕ) (c : Course) → Keeps now c → Keeps now (course_answered w said now c)
+keeps_answered w said now c h = keeps_posted now c _ (keeps_answered_to (open_order (left c.agenda) w) w said now c refl h)
+
+step_may : (now f : ℕ) (x : Option Agenda) → is_working (left x) ≡ true → Running (InTime now f) x → MaySay now f (next_member (left x) ∷ []) x
+step_may now f None e h = tt
+step_may now f (Some a) e h = (inl (record { one = next_member (groups_left a); is = refl; waits = head_waits a (places a.kind) e }), h.unspent, h.ordered)
+
+keeps_worked : (now : ℕ) (c : Course) → is_working (left c.agenda) ≡ true → Keeps now c → Keeps now (worked now c)
+unfolding worked
+keeps_worked now c e h = says_at now (freeze_limit c) Ok (next_member (left c.agenda) ∷ []) c.agenda (step_may now (freeze_limit c) c.agenda e h)
+
+keeps_stepped : (ok : Bool) (now : ℕ) (c : Course) → is_working (left c.agenda) ≡ true → Keeps now c → Keeps now (course_stepped ok now c)
+keeps_stepped true now c e h = keeps_posted now c _ (keeps_settled now (worked now c) (keeps_worked now c e h))
+keeps_stepped false now c e h = keeps_posted now c _ (keeps_failed now _ c)
+
+-- ## time
+
+in_order : (now f : ℕ) (x : Option Agenda) → Running (InTime now f) x → Running Ordered x
+in_order now f None h = tt
+in_order now f (Some a) h = h.ordered
+
+goes_by : (now f : ℕ) (x : Option Agenda) → spent_of now (running_limits f x) ≡ None → Running Ordered x → Running (InTime now f) x
+goes_by now f None e h = tt
+goes_by now f (Some a) e h = record { unspent = λ m. e; ordered = h }
+
+-- where the answer limit is spent, writers are asked
+module _ (now f : ℕ) (a : Agenda) (o : Open) where
+  abbrev hold_now : List RunningLimit
+  hold_now = hold_running o.place.group (first_hold a.log)
+
+  abbrev freeze_now : List RunningLimit
+  freeze_now = runs_if (freeze_runs o.place.group) FreezeLimit (freeze_opened_at a) f
+
+  abbrev answer_now : List RunningLimit
+  answer_now = runs_if (answer_runs o.place.group) AnswerLimit (opened_at a o) answer_limit
+
+  some_limit : (x y : RunningLimit) → Some x ≡ Some y → x ≡ y
+  some_limit x y e = cc
+
+  not_hold : HoldLimit ≡ AnswerLimit → ⊥
+  not_hold e = cc
+
+  not_freeze : FreezeLimit ≡ AnswerLimit → ⊥
+  not_freeze e = cc
+
+  runs_it : (b : Bool) (x : Limit) (since ticks : ℕ) (l : RunningLimit) → spent_of now (runs_if b x since ticks) ≡ Some l → b ≡ true
+  runs_it true x since ticks l e = refl
+  runs_it false x since ticks l e = absurd cc
+
+  by_limits : (l : RunningLimit) → spent_of now (hold_now ++ freeze_now ++ answer_now) ≡ Some l → l.limit ≡ AnswerLimit → (h g : Option RunningLimit) → spent_of now hold_now ≡ h → spent_of now freeze_now ≡ g → answer_runs o.place.group ≡ true
+  by_limits l e k (Some x) g i j =
+      let same = some_limit x l (sym (first_found now (hold_now ++ freeze_now) answer_now x (first_found now hold_now freeze_now x i)) ∙ e) in
+      absurd (not_hold (sym (hold_found now o.place.group (first_hold a.log) x i) ∙ ap (λ (y : RunningLimit). y.limit) same ∙ k))
+  by_limits l e k None (Some x) i j =
+      let same = some_limit x l (sym (first_found now (hold_now ++ freeze_now) answer_now x (later_found now hold_now freeze_now i ∙ j)) ∙ e) in
+      absurd (not_freeze (sym (limit_found now (freeze_runs o.place.group) FreezeLimit (freeze_opened_at a) f x j) ∙ ap (λ (y : RunningLimit). y.limit) same ∙ k))
+  by_limits l e k None None i j =
+      runs_it (answer_runs o.place.group) AnswerLimit (opened_at a o) answer_limit l (sym (later_found now (hold_now ++ freeze_now) answer_now (later_found now hold_now freeze_now i ∙ j)) ∙ e)
+
+  asks : (os : List Open) (l : RunningLimit) → spent_of now (running_at f a (o ∷ os)) ≡ Some l → l.limit ≡ AnswerLimit → answer_runs o.place.group ≡ true
+  asks os l e k = by_limits l e k (spent_of now hold_now) (spent_of now freeze_now) refl refl
+
+answers_order : (g : Group) → answer_runs g ≡ true → order_of g ≡ None → ⊥
+answers_order (Orders o) e f = cc
+answers_order PreCommit e f = cc
+answers_order Flush e f = cc
+answers_order Hold e f = cc
+answers_order Cut e f = cc
+answers_order Commit e f = cc
+answers_order Release e f = cc
+answers_order PostCommit e f = cc
+
+nobody_asked : (now f : ℕ) (x : Option Agenda) (l : RunningLimit) → spent_of now (running_limits f x) ≡ Some l → l.limit ≡ AnswerLimit → order_now (left x) ≡ None → ⊥
+nobody_asked now f None l e k i = none_and_some None l refl e
+nobody_asked now f (Some a) l e k i = at_list (groups_left a) e i
+  where
+    at_list : (os : List Open) → spent_of now (running_at f a os) ≡ Some l → order_now os ≡ None → ⊥
+    at_list [] e i = none_and_some None l refl e
+    at_list (o ∷ os) e i = answers_order o.place.group (asks now f a o os l e k) i
+
+all_may : (now f : ℕ) (x : Option Agenda) (o : Order) → order_now (left x) ≡ Some o → is_decisive o ≡ false → Running Ordered x → MaySay now f (waits_now (left x)) x
+all_may now f None o e d h = tt
+all_may now f (Some a) o e d h =
+    let group = now_group (groups_left a) o e in (
+      inr (record { is = refl; writers = ap is_orders group }),
+      (λ m. absurd (true_not_false (is_mild (open_place (groups_left a)).group) (ap is_mild group ∙ mild_order o d) m)),
+      h,
+    )
+
+keeps_lost_to : (now : ℕ) (c : Course) (l : RunningLimit) (x : Option Order) → order_now (left c.agenda) ≡ x → fails_set x ≡ false → spent_of now (limits_now c) ≡ Some l → l.limit ≡ AnswerLimit → Running Ordered c.agenda → Keeps now (lost_to x now c)
+keeps_lost_to now c l None i d e k h = absurd (nobody_asked now (freeze_limit c) c.agenda l e k i)
+keeps_lost_to now c l (Some o) i d e k h = keeps_told o Lost now (waits_now (left c.agenda)) c (all_may now (freeze_limit c) c.agenda o i d h)
+
+keeps_lost : (b : Bool) (now : ℕ) (c : Course) (l : RunningLimit) → fails_set (order_now (left c.agenda)) ≡ b → spent_of now (limits_now c) ≡ Some l → l.limit ≡ AnswerLimit → Running Ordered c.agenda → Keeps now (lost_decided b (lost now c))
+keeps_lost true now c l d e k h = keeps_failed now _ (lost now c)
+keeps_lost false now c l d e k h = keeps_settled now (lost now c) (keeps_lost_to now c l (order_now (left c.agenda)) refl d e k h)
+
+keeps_treated_as : (x : Limit) (now : ℕ) (c : Course) (l : RunningLimit) → spent_of now (limits_now c) ≡ Some l → l.limit ≡ x → Running Ordered c.agenda → Keeps now (treated_as x now c)
+keeps_treated_as HoldLimit now c l e k h = keeps_failed now _ c
+keeps_treated_as FreezeLimit now c l e k h = keeps_failed now _ (lost now c)
+keeps_treated_as AnswerLimit now c l e k h = keeps_lost (fails_set (order_now (left c.agenda))) now c l refl e k h
+
+keeps_treated : (o : Option RunningLimit) (now : ℕ) (c : Course) → spent_of now (limits_now c) ≡ o → Running Ordered c.agenda → Keeps now (treated o now c)
+keeps_treated None now c e h = goes_by now (freeze_limit c) c.agenda e h
+keeps_treated (Some l) now c e h = keeps_treated_as l.limit now c l e refl h
+
+keeps_timed : (now : ℕ) (c : Course) → Running Ordered c.agenda → Keeps now (course_timed now c)
+keeps_timed now c h = keeps_posted now c _ (keeps_treated (spent_of now (limits_now c)) now c refl h)
+
+-- ## an agenda begins
+
+new_agenda : (k : Kind) (ms : List Member) (vs : List ℕ) (now f : ℕ) (os : List Open) → spent_of now (running_at f (unspoken k ms vs now) os) ≡ None
+new_agenda k ms vs now f [] = refl
+new_agenda k ms vs now f (o ∷ os) =
+    none_both now (runs_if (freeze_runs o.place.group) FreezeLimit now f) (runs_if (answer_runs o.place.group) AnswerLimit now answer_limit)
+    (unspent_if (freeze_runs o.place.group) FreezeLimit now f now (λ e. at_once now now f refl))
+    (unspent_if (answer_runs o.place.group) AnswerLimit now answer_limit now (λ e. at_once now now answer_limit refl))
+
+keeps_begun : (k : Kind) (ms : List Member) (vs : List ℕ) (now : ℕ) (c : Course) → Keeps now (begun k ms vs now c)
+unfolding begun
+keeps_begun k ms vs now c =
+    keeps_posted now c _ (keeps_settled now (record c { agenda = Some (unspoken k ms vs now) })
+    (record { unspent = λ m. new_agenda k ms vs now (freeze_limit c) (groups_left (unspoken k ms vs now)); ordered = λ e f. absurd cc }))
+
+-- ## every act
+
+abbrev InTimeNow : State → Type 0
+InTimeNow st = Keeps st.clock st.course
+
+ended_in_time : (e : Ending) (x : State) → InTimeNow x → InTimeNow (concluded e x)
+ended_in_time NothingEnds x h = h
+ended_in_time AgendaEnds x h = h
+ended_in_time (SetFails why) x h = h
+
+followed_in_time : (ran : Bool) (c : Course) (x : State) → Keeps x.clock c → InTimeNow (followed ran c x)
+unfolding followed
+followed_in_time ran c x h = ended_in_time (ending x.course.outcome c.outcome ran c.agenda) (record x { course = c }) h
+
+failed_in_time : (o : Option SetRow) (why : VssResult) (x : State) → InTimeNow x → InTimeNow (failed_in o why x)
+failed_in_time None why x h = h
+failed_in_time (Some r) why x h = keeps_failed x.clock why x.course
+
+room_in_time : (b : Bool) (x : State) → InTimeNow x → InTimeNow (with_room_if b x)
+room_in_time true x h = failed_in_time (in_progress x) InsufficientStorage x h
+room_in_time false x h = h
+
+put_in_time : (v : ℕ) (w : Write) (mark : Mark) (x : State) → InTimeNow x → InTimeNow (put v w mark x)
+put_in_time v w Clean x h = h
+put_in_time v w Fault x h = h
+put_in_time v w (FaultAfter k) x h = h
+
+module _ (s : Plan) (st : State) (h : InTimeNow st) where
+  on_write : (v : ℕ) (w : Write) (mark : Mark) → InTimeNow (write s v w mark st).1
+  unfolding write
+  on_write v w mark = put_in_time v w mark _ (room_in_time (set_loses_image (in_progress st) st.volumes (cleared s v w.block st).volumes) (cleared s v w.block st) h)
+
+  on_revert : (v : ℕ) (k : Kept) (mark : Mark) → InTimeNow (reverted_as s v k mark st).1
+  on_revert v k Clean = h
+  on_revert v k Fault = h
+  on_revert v k (FaultAfter n) = h
+
+  on_close : (q : Session) (x : State) → InTimeNow (closed q x)
+  unfolding closed released
+  on_close q x = tt
+
+  on_answer : (w : ℕ) (said : Said) → InTimeNow (answered w said st)
+  unfolding answered
+  on_answer w said = followed_in_time (runs st) (course_answered w said st.clock st.course) st (keeps_answered w said st.clock st.course h)
+
+  on_tick : (n : ℕ) → InTimeNow (ticked n st)
+  unfolding ticked
+  on_tick n = followed_in_time (runs st) (course_timed (st.clock + n) st.course) (later n st) (keeps_timed (st.clock + n) st.course (in_order st.clock (freeze_limit st.course) st.course.agenda h))
+
+  on_step_as : (b : Bool) (g : Option Group) → is_working (left_now st) ≡ true → InTimeNow (stepped_as b g st)
+  on_step_as true g e = followed_in_time (runs st) (course_stepped false st.clock st.course) st (keeps_stepped false st.clock st.course e h)
+  on_step_as false g e =
+      followed_in_time (runs st) (course_stepped true st.clock st.course) (step_made g st)
+      (subst (λ n. Keeps n (course_stepped true st.clock st.course)) (sym (clock-made g st)) (keeps_stepped true st.clock st.course e h))
+
+  on_step : (mark : Mark) → is_working (left_now st) ≡ true → InTimeNow (stepped mark st)
+  unfolding stepped
+  on_step mark e = on_step_as (is_failed_step (is_flush (open_group (left_now st))) mark) (open_group (left_now st)) e
+
+  abbrev Next : Event → Mark → Replied → Type 0
+  Next event mark x = InTimeNow x.1
+
+  either : (b : Bool) (x y : Replied) → InTimeNow x.1 → InTimeNow y.1 → InTimeNow (if b then x else y).1
+  either true x y d e = d
+  either false x y d e = e
+
+  in_time : Covers Next s st
+  in_time = record {
+    stays = λ lane o mark told e f. h;
+    writes = λ lane o v w mark e f. on_write v w mark;
+    reverts = λ lane n v k mark e f. on_revert v k mark;
+    deletes_set = λ lane n c mark e. h;
+    deletes_image = λ lane n v k mark e. h;
+    ticks = λ lane n mark. on_tick n;
+    begins = λ lane n all c mark e. h;
+    disables = λ lane w q mark g. h;
+    gathers = λ lane q mark g. followed_in_time true _ st (keeps_begun _ _ _ st.clock _);
+    names = λ lane w full q explicit mark g. h;
+    starts = λ lane q mark g e. h;
+    adds = λ lane v r q mark g e f. h;
+    prepares = λ lane q mark g. either (has_no_volume (in_progress st)) _ _ h (followed_in_time true _ st (keeps_begun _ _ _ st.clock _));
+    snapshots = λ lane q mark g. either (has_no_volume (in_progress st)) _ _ h (followed_in_time true _ st (keeps_begun _ _ _ st.clock _));
+    completes = λ lane q mark g. followed_in_time true _ st (keeps_begun _ _ _ st.clock _);
+    aborts = λ lane q mark e. failed_in_time (in_progress st) AsyncCancelled st h;
+    ends = λ lane q mark e. on_close q (failed AsyncCancelled st);
+    answers = λ w answer mark e. on_answer w (said_of answer);
+    steps = λ mark e. on_step mark e;
+    idles = λ mark e. on_tick (idle_now st);
+  }
+
+  in_time_if : (b : Bool) (act : Act) → enabled s st act.event ≡ b → InTimeNow (after s st act)
+  in_time_if true act e = subst InTimeNow (sym (after_enabled s st act e)) (covered Next s st in_time act.event act.mark e)
+  in_time_if false act e = subst InTimeNow (sym (after_not_enabled s st act e)) h
+
+in_time_from : (s : Plan) (st : State) (acts : List Act) → InTimeNow st → InTimeNow (fold (after s) st acts)
+in_time_from s st [] h = h
+in_time_from s st (act ∷ acts) h = in_time_from s (after s st act) acts (in_time_if s st h (enabled s st act.event) act refl)
+
+-- ## nothing is late
+
+not_late_at : (now : ℕ) (c : Course) (a : Agenda) (os : List Open) → groups_left a ≡ os → InTime now (freeze_limit c) a → (is_late_at now c a os ≡ true → is_due_in now c (Some a) ≡ true) → is_late_at now c a os ≡ false
+not_late_at now c a [] g h due = refl
+not_late_at now c a (o ∷ os) g h due = by_mild (is_mild o.place.group) refl
+  where
+    by_mild : (b : Bool) → is_mild o.place.group ≡ b → is_late_at now c a (o ∷ os) ≡ false
+    by_mild true e = let off = mild_runs o.place.group e in all_off _ _ _ _ _ _ off.holds off.freezes off.prepares
+    by_mild false e =
+        false_of _ (λ late.
+        let spends = due_in now c (Some a) (due late) in
+        none_and_some _ spends.one (h.unspent (ap (λ xs. is_mild (open_place xs).group) g ∙ e)) spends.is)
+
+not_late : (now : ℕ) (c : Course) (x : Option Agenda) → Running (InTime now (freeze_limit c)) x → (is_late_in now c x ≡ true → is_due_in now c x ≡ true) → is_late_in now c x ≡ false
+not_late now c None h due = refl
+not_late now c (Some a) h due = not_late_at now c a (groups_left a) refl h due
+
+pub stands_within_limits : (s : Plan) (so_far : List Act) → StandsWithinLimits s so_far
+stands_within_limits s so_far =
+    let st = state s so_far in
+    subst (λ n. is_late_in n st.course st.course.agenda ≡ false) (no_more st.clock) (not_late st.clock st.course st.course.agenda (in_time_from s (start s) so_far tt) (late_is_due s so_far st.clock))
+  where
+    no_more : (n : ℕ) → n ≡ n + 0
+    no_more n = omega arith
