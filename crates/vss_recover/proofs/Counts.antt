@@ -1,6 +1,6 @@
 -- How many slots of the overlay are used: as many as there are pairs of a standing image and a block of it that a recovery write names.
-use Rattle.std.proofs.Common.{◌≡◌, ◌≢◌, ◌<◌, ◌≤◌, ◌+◌, ℕ, List, [], ◌∷◌, ◌++◌, length, map, refl, ap, sym, subst, ◌∙◌, arith, Bool, true, false, not, ◌&&◌, ◌||◌, Option, Some, None, inl, inr, IsPermutation}
-use Rattle.std.specs.Prelude.{filter, slice_get, slice_index, count_by, if◌then◌else◌, ◌==◌, nat_lt}
+use Rattle.std.proofs.Common.{◌≡◌, ◌≢◌, ◌<◌, ℕ, List, [], ◌∷◌, ◌++◌, length, map, refl, ap, sym, subst, ◌∙◌, arith, Bool, true, false, not, ◌&&◌, ◌||◌, Option, Some, inl, inr}
+use Rattle.std.specs.Prelude.{filter, slice_get, slice_index, ◌==◌, nat_lt}
 use Rattle.std.specs.List.{range_with_len}
 use Rattle.std.proofs.lemmas.List.{length-map, length-append}
 use Rattle.std.proofs.lemmas.List.Sums.{length-filter}

@@ -1,6 +1,6 @@
 -- What the calls come to, from what the calls that they are made of come to.
-use Rattle.std.proofs.Common.{◌≡◌, ◌<◌, ◌≤◌, ◌∙◌, ◌++◌, length-append, ℕ, zero, suc, List, [], ◌∷◌, ◌-◌, ◌+◌, Bool, true, false, Option, Some, None, refl, ap, sym, subst, arith, vec_capacity, Vec, length, slice_index_or, filter, take}
-use Rattle.std.specs.Prelude.{Result, Ok, Err, OnOk, IfSome, slice_get, if◌then◌else◌, ◌==◌, ◌||◌}
+use Rattle.std.proofs.Common.{◌≡◌, ◌<◌, ◌≤◌, ◌∙◌, ◌++◌, length-append, ℕ, zero, suc, List, [], ◌∷◌, ◌-◌, ◌+◌, Bool, true, false, Option, Some, refl, ap, sym, subst, arith, vec_capacity, Vec, length, slice_index_or, filter, take}
+use Rattle.std.specs.Prelude.{Result, Ok, Err, OnOk, IfSome, slice_get, if◌then◌else◌}
 use Rattle.std.specs.declared.alloc.Global.{Global}
 use Rattle.std.proofs.lemmas.Option.{get_or_from_slice_get}
 use Rattle.cow_volume.specs.Calls.{is_among}

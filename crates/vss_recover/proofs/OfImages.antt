@@ -1,14 +1,12 @@
 -- What is said of images is said of those that stand: after a step too.
-use Rattle.std.proofs.Common.{◌≡◌, ◌<◌, ◌-◌, ℕ, zero, suc, List, [], ◌∷◌, ◌++◌, length, map, refl, ap, sym, subst, ◌∙◌, arith, Bool, true, false, Option, Some, None, All, cond}
+use Rattle.std.proofs.Common.{◌≡◌, ℕ, zero, suc, List, [], ◌∷◌, ◌++◌, refl, ap, sym, subst, ◌∙◌, arith, Bool, true, false, Option, Some, None, All}
 use Rattle.std.specs.Prelude.{◌==◌, ◌||◌, if◌then◌else◌, filter, slice_get}
-use Rattle.std.proofs.lemmas.List.{map-append}
 use Rattle.std.proofs.lemmas.List.Elements.{All-head, All-tail, All-cons, All-filter, filter_passes}
 use Rattle.std.proofs.lemmas.List.Folds.{list_any-append}
 use Rattle.write_history.specs.History.{History, Image, sets_of}
 use Rattle.cow_volume.specs.Calls.{is_among}
-use Rattle.cow_volume.proofs.Group.{same_number, number_is}
-use Rattle.vss_recover.specs.Recoveries.{Recovery, Recovering, IsOfImages, kept, kept_window, kept_final, changed, with_final, opened, recovered_by, closed}
-use Rattle.vss_recover.specs.Steps.{IsNewest}
+use Rattle.cow_volume.proofs.Group.{number_is}
+use Rattle.vss_recover.specs.Recoveries.{Recovery, Recovering, IsOfImages, kept_window, changed, opened, recovered_by, closed}
 
 -- ## sets among others
 

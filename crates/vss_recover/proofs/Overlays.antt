@@ -1,18 +1,16 @@
 -- What an overlay has after a block was put into it, and after images went.
-use Rattle.std.proofs.Common.{◌≡◌, ◌≢◌, ◌<◌, ◌+◌, ◌⊎◌, ℕ, zero, suc, List, [], ◌∷◌, ◌++◌, length, map, refl, ap, sym, subst, ◌∙◌, arith, Bool, true, false, Option, Some, None, inl, inr}
-use Rattle.std.specs.Prelude.{◌==◌, if◌then◌else◌, IfSome, slice_get, slice_set, option_map}
+use Rattle.std.proofs.Common.{◌≡◌, ◌≢◌, ◌<◌, ◌+◌, ◌⊎◌, ℕ, zero, suc, List, [], ◌∷◌, ◌++◌, length, refl, ap, sym, subst, ◌∙◌, arith, Bool, true, false, Option, Some, None, inl, inr}
+use Rattle.std.specs.Prelude.{◌==◌, if◌then◌else◌, IfSome, slice_get, slice_set}
 use Rattle.std.proofs.lemmas.List.{length-map}
-use Rattle.std.proofs.lemmas.Option.{slice_get_within}
 use Rattle.write_history.specs.History.{Write, last_bytes, names}
 use Rattle.diff_area.specs.Places.{place_of_slot, table_for}
 use Rattle.diff_area.specs.Records.{free, AreRecords}
 use Rattle.diff_area.specs.declared.table_record.Record.{Record}
 use Rattle.cow_volume.specs.StandsFor.{record_of}
 use Rattle.cow_volume.specs.Calls.{is_among}
-use Rattle.cow_volume.specs.Changes.{has_record}
 use Rattle.cow_volume.specs.Steps.{put}
 use Rattle.cow_volume.proofs.Group.{slice_get-set_same, slice_get-set_other, length-slice_set, slice_get_map, same_number, other_number}
-use Rattle.cow_volume.proofs.Merging.{found_record, has_found}
+use Rattle.cow_volume.proofs.Merging.{has_found}
 use Rattle.cow_volume.proofs.Rows.{map-from}
 use Rattle.vss_recover.specs.Recoveries.{Recovery, recovered, kept}
 use Rattle.vss_recover.specs.OverlayCalls.{IsChosen, kept_record, kept_records}

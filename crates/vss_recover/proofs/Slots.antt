@@ -1,7 +1,6 @@
 -- What is put into a slot of an overlay.
 use Rattle.std.proofs.Common.{◌≡◌, ◌≤◌, ℕ, List, map, refl, ap, sym, subst, ◌∙◌, arith, Bool, true, false, not, ◌&&◌, Option, Some, None, inl, inr, length}
 use Rattle.std.specs.Prelude.{slice_get, slice_set, is_some, option_map, Result, Ok, Err}
-use Rattle.vss_names.specs.Faults.{Rose}
 use Rattle.slot_pool.specs.Slots.{free_count}
 use Rattle.diff_area.specs.AreaValue.{AreaValue, KeepsTable}
 use Rattle.diff_area.specs.Places.{place_of_slot}
@@ -18,7 +17,7 @@ use Rattle.cow_volume.proofs.Group.{slice_get_map}
 use Rattle.cow_volume.proofs.Merging.{has_found}
 use Rattle.cow_volume.proofs.Ties.{some_free, not_full_if}
 use Rattle.vss_recover.specs.declared.recover_fault.RecoverFault.{RecoverFault}
-use Rattle.vss_recover.specs.OverlayCalls.{IsChosen, IsPut, IsPutIn, IsWrittenIn, IsWrittenTo, KeepsRecords, lacks_room}
+use Rattle.vss_recover.specs.OverlayCalls.{IsChosen, IsPut, IsWrittenIn, IsWrittenTo, KeepsRecords, lacks_room}
 
 -- ## there is room
 

@@ -1,20 +1,20 @@
 -- For which histories with recovery writes a volume stands after its calls.
-use Rattle.std.proofs.Common.{◌≡◌, ◌<◌, ◌≤◌, ◌⊎◌, ℕ, zero, suc, List, [], ◌∷◌, ◌++◌, length, map, refl, ap, sym, subst, ◌∙◌, arith, Bool, true, false, Option, Some, None, All, inl, inr}
-use Rattle.std.specs.Prelude.{slice_get, filter, IfSome, ◌&&◌, is_some, if◌then◌else◌, nat_lt, ◌==◌, ◌||◌}
+use Rattle.std.proofs.Common.{◌≡◌, ◌<◌, ℕ, zero, suc, List, [], ◌∷◌, refl, ap, sym, subst, ◌∙◌, arith, Bool, true, false, Option, All}
+use Rattle.std.specs.Prelude.{if◌then◌else◌, ◌==◌, ◌||◌}
 use Rattle.std.proofs.lemmas.List.Elements.{All-head, All-tail}
 use Rattle.std.proofs.lemmas.Bool.{lt-ltb}
-use Rattle.write_history.specs.History.{History, Write, Image, sets_of, after_set, written, point_in}
+use Rattle.write_history.specs.History.{History, Image, sets_of, after_set}
 use Rattle.diff_area.specs.AreaValue.{AreaValue}
 use Rattle.diff_area.specs.declared.table_record.Record.{Record}
 use Rattle.cow_volume.specs.GroupValue.{GroupValue}
-use Rattle.cow_volume.specs.StandsFor.{told_in, IsVolume, StandsFor as GroupStandsFor}
-use Rattle.cow_volume.specs.Calls.{is_among, sets_in, blocks_in, history_at, IsKept, IsQuiet}
-use Rattle.cow_volume.specs.OneVolume.{StandsForOne, blocks_of, image_sets, without_up_to, tells}
+use Rattle.cow_volume.specs.StandsFor.{told_in, IsVolume}
+use Rattle.cow_volume.specs.Calls.{is_among, sets_in, blocks_in}
+use Rattle.cow_volume.specs.OneVolume.{StandsForOne, blocks_of, image_sets, without_up_to}
 use Rattle.cow_volume.proofs.Group.{place_at, same_number}
-use Rattle.vss_recover.specs.Recoveries.{Recovery, Recovering, IsOfImages, unrecovered, kept, kept_window, kept_final, changed}
-use Rattle.vss_recover.specs.OverlayCalls.{kept_records, KeepsRecords}
+use Rattle.vss_recover.specs.Recoveries.{Recovery, Recovering, IsOfImages, kept, kept_window, kept_final, changed}
+use Rattle.vss_recover.specs.OverlayCalls.{kept_records}
 use Rattle.vss_recover.specs.RecoverValue.{RecoverValue, StandsFor, IsOverlay}
-use Rattle.vss_recover.specs.Calls.{IsSettled, IsBeside, IsSettledUpTo}
+use Rattle.vss_recover.specs.Calls.{IsSettled, IsSettledUpTo}
 use Rattle.vss_recover.proofs.Recovered.{filter-all}
 use Rattle.vss_recover.proofs.Overlays.{keep_overlay}
 use Rattle.vss_recover.proofs.OfImages.{of_changed, window_stays}

@@ -2,14 +2,13 @@
 use Rattle.std.proofs.Common.{◌≡◌, ℕ, List, [], ◌∷◌, ◌++◌, refl, ap, sym, subst, ◌∙◌, Bool, true, false, Option, Some, None}
 use Rattle.std.specs.Prelude.{◌==◌, if◌then◌else◌, length, ◌-◌}
 use Rattle.std.proofs.lemmas.List.{map-append}
-use Rattle.write_history.specs.History.{History, Write, Image, sets_of, written, cut, dropped, reverted, reverted_in_part, without_set, after_set, up_to_set}
+use Rattle.write_history.specs.History.{History, Write, Image, sets_of, written, cut, dropped, reverted, reverted_in_part}
 use Rattle.cow_volume.specs.Calls.{is_among}
 use Rattle.cow_volume.specs.OneVolume.{without_up_to}
 use Rattle.cow_volume.proofs.Group.{same_number}
 use Rattle.vss_recover.specs.declared.claim.Claim.{Claim}
-use Rattle.vss_recover.specs.Claims.{owner_of}
-use Rattle.vss_recover.specs.Recoveries.{Recovery, Recovering, IsOfImages, recovered, kept, kept_window, changed, opened, recovered_by, closed}
-use Rattle.vss_recover.specs.Steps.{Step, IsAllowed, AreAllowed, after, after_all, made_since_cut, last_window, IsMadeIn, of_volume}
+use Rattle.vss_recover.specs.Recoveries.{Recovery, Recovering, IsOfImages, recovered, changed, opened, recovered_by, closed}
+use Rattle.vss_recover.specs.Steps.{Step, AreAllowed, after, after_all, made_since_cut, last_window, IsMadeIn, of_volume}
 use Rattle.vss_recover.specs.Steps.Step.{Wrote, Evicted, Cut, Dropped, Reverted, RevertedInPart, Opened, Recovered, Closed}
 use Rattle.vss_recover.proofs.Recovered.{recovered-push, recovered-kept, none_recovered}
 use Rattle.vss_recover.proofs.OfImages.{among_at, among_filter, among_less, window_kept, of_changed, of_more, of_opened, of_recovered, of_closed}

@@ -1,6 +1,6 @@
 -- The calls as steps: what a volume stands for after each of them.
-use Rattle.std.proofs.Common.{◌≡◌, ◌≢◌, ◌<◌, ◌≤◌, ◌+◌, ◌-◌, ◌⊎◌, ℕ, zero, suc, List, [], ◌∷◌, ◌++◌, length, map, replicate, refl, ap, sym, subst, ◌∙◌, arith, Bool, true, false, not, ◌&&◌, Option, Some, None, All, inl, inr}
-use Rattle.std.specs.Prelude.{slice_get, slice_set, filter, IfSome, is_some, if◌then◌else◌, ◌==◌, ◌||◌, Result, Ok, Err}
+use Rattle.std.proofs.Common.{◌≡◌, ◌<◌, ◌-◌, ℕ, zero, suc, List, [], ◌∷◌, ◌++◌, length, replicate, refl, ap, sym, subst, ◌∙◌, arith, Bool, true, false, not, ◌&&◌, Option, Some, None, All}
+use Rattle.std.specs.Prelude.{slice_get, slice_set, IfSome, is_some, if◌then◌else◌, ◌==◌, ◌||◌, Ok}
 use Rattle.std.proofs.lemmas.List.Elements.{All-head, All-tail}
 use Rattle.std.proofs.lemmas.Option.{slice_get_within}
 use Rattle.volume_device.specs.Blocks.{AreBlocks}
@@ -14,22 +14,21 @@ use Rattle.cow_volume.specs.StandsFor.{record_of}
 use Rattle.cow_volume.specs.Calls.{is_among, blocks_in}
 use Rattle.cow_volume.specs.Changes.{has_record}
 use Rattle.cow_volume.specs.Room.{is_full}
-use Rattle.cow_volume.specs.Steps.{put}
-use Rattle.cow_volume.specs.OneVolume.{StandsForOne, blocks_of, image_sets, tells, without_up_to, IsOneWritten, IsOneUnwritten, IsOneDropped, IsOneRevert, IsOneReverted, IsOneRevertedInPart, IsOneShown}
-use Rattle.cow_volume.proofs.Group.{same_number, number_is, number_is_other}
+use Rattle.cow_volume.specs.OneVolume.{StandsForOne, blocks_of, image_sets, tells, IsOneWritten, IsOneUnwritten, IsOneDropped, IsOneReverted, IsOneRevertedInPart, IsOneShown}
+use Rattle.cow_volume.proofs.Group.{number_is_other}
 use Rattle.cow_volume.proofs.Writing.{slot_room}
 use Rattle.vss_recover.specs.declared.claim.Claim.{Claim}
 use Rattle.vss_recover.specs.Claims.{AreWithin, AreApart, owner_of}
-use Rattle.vss_recover.specs.Recoveries.{Recovery, Recovering, IsOfImages, unrecovered, recovered, shown, blocks_recovered, all_recovered, with_final, kept_window, kept_final, changed, opened, recovered_by, closed}
-use Rattle.vss_recover.specs.OverlayCalls.{count_in, lacks_room, IsChosen, IsPutIn}
-use Rattle.vss_recover.specs.RecoverValue.{RecoverValue, StandsFor, IsOverlay, all_tell}
-use Rattle.vss_recover.specs.Steps.{Step, IsNewest, IsAllowed, after}
+use Rattle.vss_recover.specs.Recoveries.{Recovery, Recovering, IsOfImages, unrecovered, recovered, blocks_recovered, all_recovered, with_final, closed}
+use Rattle.vss_recover.specs.OverlayCalls.{count_in, lacks_room, IsPutIn}
+use Rattle.vss_recover.specs.RecoverValue.{RecoverValue, StandsFor, IsOverlay}
+use Rattle.vss_recover.specs.Steps.{IsNewest, IsAllowed, after}
 use Rattle.vss_recover.specs.Steps.Step.{Wrote, Evicted, Cut, Dropped, Reverted, RevertedInPart, Opened, Recovered, Closed}
 use Rattle.vss_recover.specs.Calls.{IsStep, IsSettled, IsBeside, IsSettledUpTo, IsShown}
 use Rattle.vss_recover.proofs.Recovered.{last_if_named, last_if_unnamed, none_recovered}
 use Rattle.vss_recover.proofs.Overlays.{set_one, put_overlay}
 use Rattle.vss_recover.proofs.OfImages.{among_at, of_more, of_opened, of_recovered, of_closed}
-use Rattle.vss_recover.proofs.Standing.{one_of_it, sets_are, above_zero, beside_stands, quiet_stands, settled_stands, settled_up_to_stands}
+use Rattle.vss_recover.proofs.Standing.{one_of_it, sets_are, above_zero, beside_stands, settled_stands, settled_up_to_stands}
 use Rattle.cow_volume.proofs.Members.{AreApart as AreApartList}
 use Rattle.vss_recover.proofs.Counts.{counted_in, counted_all, apart_sets, among_has, has_slot}
 

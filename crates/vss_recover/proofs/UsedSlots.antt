@@ -1,5 +1,5 @@
 -- The ordered list of the used slots of an overlay: what is found in it, a slot that is noted, and images that go.
-use Rattle.std.proofs.Common.{◌≡◌, ◌≢◌, ◌<◌, ◌≤◌, ◌+◌, ◌^◌, ◌⊎◌, ℕ, zero, suc, List, [], ◌∷◌, length, map, take, replicate, get_or, refl, ap, sym, subst, ◌∙◌, arith, Bool, true, false, cond, not, Option, Some, None, inl, inr, All, Vec, vec_capacity}
+use Rattle.std.proofs.Common.{◌≡◌, ◌<◌, ◌≤◌, ◌+◌, ◌^◌, ◌⊎◌, ℕ, zero, suc, List, [], ◌∷◌, length, map, take, replicate, get_or, refl, ap, sym, subst, ◌∙◌, arith, Bool, true, false, cond, not, Option, Some, None, inl, inr, All, Vec, vec_capacity}
 use Rattle.std.specs.List.{AllWithin, filter, filter_map, cons_option, insert}
 use Rattle.std.specs.Option.{option_and_then, option_map}
 use Rattle.std.specs.Prelude.{slice_get, slice_set, count_by, if◌then◌else◌, nat_lt, ◌==◌, ◌&&◌}
@@ -9,13 +9,13 @@ use Rattle.std.proofs.lemmas.Bool.Decides.{nat_tests}
 use Rattle.std.proofs.lemmas.List.{map-set, length-map, length-set}
 use Rattle.std.proofs.lemmas.List.Elements.{All-head, All-tail}
 use Rattle.std.proofs.lemmas.List.Sums.{sum_by-cons}
-use Rattle.std.proofs.lemmas.Option.{cond_some, none-some, slice_get_within}
+use Rattle.std.proofs.lemmas.Option.{cond_some}
 use Rattle.slot_pool.specs.Slots.{IsTaken}
 use Rattle.diff_area.specs.AreaValue.{AreaValue}
 use Rattle.diff_area.specs.Records.{free, is_free, AreRecords}
 use Rattle.diff_area.specs.declared.table_record.Record.{Record}
 use Rattle.diff_map.specs.Copies.{copied_at, copy_of, HasCopy}
-use Rattle.diff_map.specs.Index.{IsInOrder, IsIndex, IsNoted, place, place_of}
+use Rattle.diff_map.specs.Index.{IsIndex, IsNoted, place, place_of}
 use Rattle.diff_map.specs.Leaving.{entry_now}
 use Rattle.diff_map.specs.Rules.{renewed}
 use Rattle.diff_map.specs.declared.copied.Copied.{Copied}

@@ -1,10 +1,10 @@
 -- A volume with recovery writes in its parts.
-use Rattle.std.proofs.Common.{◌≡◌, ℕ, zero, suc, List, Option}
+use Rattle.std.proofs.Common.{ℕ, zero, suc, List, Option}
 use Rattle.diff_area.specs.AreaValue.{AreaValue}
 use Rattle.cow_volume.specs.GroupValue.{GroupValue}
 use Rattle.vss_recover.specs.declared.claim.Claim.{Claim}
 use Rattle.vss_recover.specs.RecoverValue.{RecoverValue}
-use Rattle.vss_recover.specs.Calls.{IsBeside, IsSettled, IsSettledUpTo}
+use Rattle.vss_recover.specs.Calls.{IsSettled, IsSettledUpTo}
 
 abbrev pub value_of : {D : Type 0} → GroupValue D → AreaValue D → Option ℕ → List Claim → List ℕ → RecoverValue D
 value_of volume overlay window claims final = record { volume = volume; overlay = overlay; window = window; claims = claims; final = final }

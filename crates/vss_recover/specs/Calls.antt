@@ -2,14 +2,11 @@
 -- the window and the final sets what stays and what goes. (This project's own.)
 use Rattle.std.specs.Prelude.{ℕ, ◌≡◌, ◌<◌, ◌≤◌, ◌⊎◌, zero, suc, Bool, true, false, List, length, Option, Some, None, Result, Ok, Err}
 use Rattle.vss_names.specs.Faults.{Rose}
-use Rattle.write_history.specs.History.{Write, point_in, names}
-use Rattle.cow_volume.specs.GroupValue.{GroupValue}
+use Rattle.write_history.specs.History.{point_in}
 use Rattle.cow_volume.specs.Calls.{IsQuiet, IsUnfailed, VolumeRose, AreaRose, IsSameDevice, is_among}
-use Rattle.cow_volume.specs.Room.{is_full}
-use Rattle.cow_volume.specs.OneVolume.{blocks_of, image_sets, IsOneRevert, IsOneDropped}
+use Rattle.cow_volume.specs.OneVolume.{blocks_of, image_sets, IsOneRevert}
 use Rattle.cow_volume.specs.declared.image_fault.ImageFault.{ImageFault}
 use Rattle.cow_volume.specs.declared.image_fault.ImageFault.TheVariants.{NoSuchImage, NoSuchBlock, Volume, Area}
-use Rattle.cow_volume.specs.declared.revert_fault.RevertFault.{RevertFault}
 use Rattle.cow_volume.specs.declared.revert_fault.RevertFault.TheVariants.{NoSuchImage as NoImage, Fault}
 use Rattle.vss_recover.specs.declared.claim.Claim.{Claim}
 use Rattle.vss_recover.specs.declared.open_fault.OpenFault.{OpenFault}
@@ -19,7 +16,7 @@ use Rattle.vss_recover.specs.declared.recover_fault.RecoverFault.TheVariants.{No
 use Rattle.vss_recover.specs.declared.recover_revert.RecoverRevert.{RecoverRevert}
 use Rattle.vss_recover.specs.declared.recover_revert.RecoverRevert.TheVariants.{Recovered, Other}
 use Rattle.vss_recover.specs.Claims.{AreWithin, AreApart, IsFirstOut, IsFirstOverlap, owner_of}
-use Rattle.vss_recover.specs.Recoveries.{Recovering, recovered, shown, kept_window, kept_final, with_final}
+use Rattle.vss_recover.specs.Recoveries.{Recovering, shown, kept_window, kept_final, with_final}
 use Rattle.vss_recover.specs.Steps.{Step, IsNewest, IsAllowed, after}
 use Rattle.vss_recover.specs.Steps.Step.{Closed, Reverted, RevertedInPart}
 use Rattle.vss_recover.specs.OverlayCalls.{count_in, lacks_room, kept_records, KeepsRecords}

@@ -1,7 +1,7 @@
 -- What a contract sees of a volume whose new images writers may change, and the histories with recovery writes that it stands for. The
 -- overlay is to the recovery writes what the diff area is to the effective writes: a record stands for each block of an image that a
 -- recovery write names, and for no other, and its slot holds what the last of them wrote. (This project's own.)
-use Rattle.std.specs.Prelude.{ℕ, ◌≡◌, ◌<◌, Bool, true, false, List, [], ◌∷◌, length, Option, Some, None, IfSome, slice_get, is_some, ◌&&◌}
+use Rattle.std.specs.Prelude.{ℕ, ◌≡◌, ◌<◌, Bool, true, List, [], length, Option, Some, IfSome, slice_get, is_some, ◌&&◌}
 use Rattle.write_history.specs.History.{last_bytes, names}
 use Rattle.diff_area.specs.AreaValue.{AreaValue}
 use Rattle.diff_area.specs.Places.{place_of_slot}

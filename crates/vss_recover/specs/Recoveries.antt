@@ -1,8 +1,8 @@
 -- A volume history with recovery writes. In the window between the last two steps of a snapshot a writer changes its own blocks of
 -- the new image; the volume's history stays as it is, and the changes are a list beside it. (The window between PreFinalCommit and
 -- PostFinalCommit is the SDK's; the list is this project's own.)
-use Rattle.std.specs.Prelude.{ℕ, ◌≡◌, ◌+◌, Bool, true, List, [], ◌∷◌, ◌++◌, length, filter, All, Option, Some, None, ◌==◌, ◌||◌, if◌then◌else◌}
-use Rattle.write_history.specs.History.{History, Write, content, last_bytes, names, blocks_named, sets_of}
+use Rattle.std.specs.Prelude.{ℕ, ◌≡◌, ◌+◌, true, List, [], ◌∷◌, ◌++◌, length, filter, All, Option, Some, None, ◌==◌, ◌||◌, if◌then◌else◌}
+use Rattle.write_history.specs.History.{History, Write, content, last_bytes, blocks_named, sets_of}
 use Rattle.cow_volume.specs.Calls.{is_among}
 use Rattle.vss_recover.specs.declared.claim.Claim.{Claim}
 

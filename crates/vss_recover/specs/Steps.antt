@@ -1,7 +1,7 @@
 -- The calls that change something, as steps of a volume history with recovery writes; which steps may be taken; and what a list of
 -- steps says by itself of the recovery writes and the window. (This project's own.)
 use Rattle.std.specs.Prelude.{ℕ, ◌≡◌, ◌<◌, ◌-◌, Bool, true, false, List, [], ◌∷◌, ◌++◌, filter, length, Option, Some, None, slice_get, ◌==◌, if◌then◌else◌}
-use Rattle.write_history.specs.History.{History, Write, point_in, sets_of, written, cut, dropped, reverted, reverted_in_part}
+use Rattle.write_history.specs.History.{Write, point_in, sets_of, written, cut, dropped, reverted, reverted_in_part}
 use Rattle.cow_volume.specs.Calls.{is_among}
 use Rattle.cow_volume.specs.OneVolume.{without_up_to}
 use Rattle.vss_recover.specs.declared.claim.Claim.{Claim}

@@ -1,4 +1,4 @@
-use Rattle.std.proofs.Common.{◌≡◌, ◌∙◌, sym, ap, get_or, true, false, map, List, Bool}
+use Rattle.std.proofs.Common.{◌∙◌, sym, ap, get_or, true, map, List, Bool}
 use Rattle.std.specs.Prelude.{slice_set}
 use Rattle.std.proofs.lemmas.List.{map-set}
 use Rattle.diff_area.specs.AreaValue.{AreaValue}

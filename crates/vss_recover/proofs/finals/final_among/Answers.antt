@@ -1,4 +1,4 @@
-use Rattle.std.proofs.Common.{◌≡◌, ◌<◌, ◌≤◌, ◌∙◌, ◌+◌, ◌++◌, ◌∷◌, [], List, ℕ, Bool, true, false, ap, sym, arith, length, take, vec_capacity, slice_index_or}
+use Rattle.std.proofs.Common.{◌<◌, ◌∙◌, ◌++◌, ◌∷◌, [], List, ℕ, Bool, ap, sym, arith, length, take, slice_index_or}
 use Rattle.std.specs.Prelude.{◌==◌, ◌||◌, filter, if◌then◌else◌}
 use Rattle.cow_volume.specs.Calls.{is_among}
 use Rattle.vss_recover.proofs.Glue.{filter_take, element_at, long_one_more}

@@ -1,5 +1,4 @@
-use Rattle.std.proofs.Common.{◌≡◌, ◌<◌, ◌∙◌, ap, sym, arith, length, refl, true}
-use Rattle.std.specs.Prelude.{◌==◌, ◌&&◌}
+use Rattle.std.proofs.Common.{◌<◌, ◌∙◌, ap, sym, arith, length}
 use Rattle.std.proofs.lemmas.Bool.{false≢true}
 use Rattle.std.proofs.lemmas.List.{get_or_read}
 use Rattle.diff_map.specs.declared.entry.Entry.{Entry}

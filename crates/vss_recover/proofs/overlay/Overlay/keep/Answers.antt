@@ -1,4 +1,4 @@
-use Rattle.std.proofs.Common.{◌≡◌, ◌∙◌, ap, map, rules, sym}
+use Rattle.std.proofs.Common.{◌∙◌, ap, map, rules}
 use Rattle.std.proofs.lemmas.Fn.{filter_same}
 use Rattle.diff_area.specs.AreaValue.{AreaValue}
 use Rattle.diff_area.specs.Records.{is_free}

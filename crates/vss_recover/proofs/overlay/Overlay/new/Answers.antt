@@ -1,4 +1,4 @@
-use Rattle.std.proofs.Common.{◌≡◌, ◌≤◌, ◌∙◌, ap, replicate, length, true, arith}
+use Rattle.std.proofs.Common.{◌∙◌, ap, replicate, true, arith}
 use Rattle.vss_recover.proofs.UsedSlots.{overlay_new}
 use Rattle.vss_recover.proofs.overlay.Overlay.new.Goals as goal
 

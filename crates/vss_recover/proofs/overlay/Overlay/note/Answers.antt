@@ -1,4 +1,4 @@
-use Rattle.std.proofs.Common.{◌≡◌, ◌<◌, ◌∙◌, Bool, cond, ap, sym, subst, arith, refl}
+use Rattle.std.proofs.Common.{◌∙◌, Bool, cond, ap, arith}
 use Rattle.std.specs.List.{insert}
 use Rattle.std.proofs.lemmas.Option.{slice_get_within}
 use Rattle.diff_area.specs.Records.{free}

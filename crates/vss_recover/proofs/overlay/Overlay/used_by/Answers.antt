@@ -1,4 +1,4 @@
-use Rattle.std.proofs.Common.{◌≡◌, ◌∙◌, arith}
+use Rattle.std.proofs.Common.{◌∙◌, arith}
 use Rattle.std.proofs.lemmas.List.Sums.{count_by-le-length}
 use Rattle.vss_recover.specs.OverlayCalls.{is_block_of}
 use Rattle.vss_recover.proofs.UsedSlots.{entries_counted}

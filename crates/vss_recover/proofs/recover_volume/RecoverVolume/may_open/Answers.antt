@@ -1,4 +1,4 @@
-use Rattle.std.proofs.Common.{◌≡◌, ◌<◌, ◌-◌, ◌∙◌, ℕ, Bool, true, false, ap, sym, subst, arith, length, slice_index_or}
+use Rattle.std.proofs.Common.{◌≡◌, ◌<◌, ◌∙◌, true, ap, sym, subst, arith}
 use Rattle.cow_volume.specs.Calls.{is_among}
 use Rattle.cow_volume.specs.OneVolume.{image_sets}
 use Rattle.vss_recover.specs.Steps.{IsNewest}

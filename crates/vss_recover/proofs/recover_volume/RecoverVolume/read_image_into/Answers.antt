@@ -1,6 +1,4 @@
-use Rattle.std.proofs.Common.{◌≡◌, ◌<◌, ◌≤◌, ◌∙◌, refl, arith, sym, subst}
-use Rattle.std.specs.Prelude.{OnOk}
-use Rattle.vss_recover.specs.Calls.{IsShown}
+use Rattle.std.proofs.Common.{refl, arith}
 use Rattle.vss_recover.proofs.Values.{value_of}
 use Rattle.vss_recover.proofs.Glue.{blocks_kept, below_if_ok}
 use Rattle.vss_recover.proofs.Standing.{quiet_stands}

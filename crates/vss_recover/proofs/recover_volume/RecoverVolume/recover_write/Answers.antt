@@ -1,4 +1,4 @@
-use Rattle.std.proofs.Common.{◌≡◌, ◌<◌, ◌≤◌, ◌∙◌, Some, sym, arith, rules, refl}
+use Rattle.std.proofs.Common.{◌≡◌, ◌<◌, Some, arith, rules, refl}
 use Rattle.block_data.specs.PayloadBytes.{payload_bytes}
 use Rattle.vss_recover.proofs.Values.{value_of}
 use Rattle.cow_volume.specs.OneVolume.{blocks_of}
