@@ -1,0 +1,11 @@
+pub mod Recovered
+pub mod Overlays
+pub mod OfImages
+pub mod StepByStep
+pub mod Standing
+pub mod Counts
+pub mod Slots
+pub mod Values
+pub mod Glue
+pub mod Taken
+pub mod UsedSlots

@@ -1,0 +1,121 @@
+-- What is said of images is said of those that stand: after a step too.
+use Rattle.std.proofs.Common.{◌≡◌, ℕ, zero, suc, List, [], ◌∷◌, ◌++◌, refl, ap, sym, subst, ◌∙◌, arith, Bool, true, false, Option, Some, None, All}
+use Rattle.std.specs.Prelude.{◌==◌, ◌||◌, if◌then◌else◌, filter, slice_get}
+use Rattle.std.proofs.lemmas.List.Elements.{All-head, All-tail, All-cons, All-filter, filter_passes}
+use Rattle.std.proofs.lemmas.List.Folds.{list_any-append}
+use Rattle.write_history.specs.History.{History, Image, sets_of}
+use Rattle.cow_volume.specs.Calls.{is_among}
+use Rattle.cow_volume.proofs.Group.{number_is}
+use Rattle.vss_recover.specs.Recoveries.{Recovery, Recovering, IsOfImages, kept_window, changed, opened, recovered_by, closed}
+
+-- ## sets among others
+
+or_left : (a b : Bool) → a ≡ true → (a || b) ≡ true
+or_left true b e = refl
+or_left false b e = cc
+
+or_right : (a b : Bool) → b ≡ true → (a || b) ≡ true
+or_right true b e = refl
+or_right false b e = e
+
+or_rest : (t a b : Bool) → (t || a) ≡ true → (a ≡ true → b ≡ true) → (t || b) ≡ true
+or_rest true a b e rest = refl
+or_rest false a b e rest = rest e
+
+pub among_head : (s : ℕ) (sets : List ℕ) → is_among s (s ∷ sets) ≡ true
+among_head s sets = or_left (s == s) (is_among s sets) (number_is s)
+
+pub among_tail : (s x : ℕ) (sets : List ℕ) → is_among s sets ≡ true → is_among s (x ∷ sets) ≡ true
+among_tail s x sets e = or_right (x == s) (is_among s sets) e
+
+pub among_at : (sets : List ℕ) (k s : ℕ) → slice_get sets k ≡ Some s → is_among s sets ≡ true
+among_at [] k s e = cc
+among_at (x ∷ sets) zero s e = (let same : x ≡ s = cc in ap (λ y. is_among y (x ∷ sets)) (sym same) ∙ among_head x sets)
+among_at (x ∷ sets) (suc k) s e = among_tail s x sets (among_at sets k s e)
+
+pub among_push : (a s : ℕ) (sets : List ℕ) → is_among a (sets ++ s ∷ []) ≡ (is_among a sets || ((s == a) || false))
+among_push a s sets = list_any-append (λ x. x == a) sets (s ∷ [])
+
+pub among_more : (a s : ℕ) (sets : List ℕ) → is_among a sets ≡ true → is_among a (sets ++ s ∷ []) ≡ true
+among_more a s sets e = among_push a s sets ∙ or_left (is_among a sets) ((s == a) || false) e
+
+pub among_less : (a s : ℕ) (sets : List ℕ) → (s == a) ≡ false → is_among a (sets ++ s ∷ []) ≡ true → is_among a sets ≡ true
+among_less a s sets other e = by_test (is_among a sets) (ap (λ (t : Bool). is_among a sets || (t || false)) (sym other) ∙ sym (among_push a s sets) ∙ e) where
+  by_test : (t : Bool) → (t || (false || false)) ≡ true → t ≡ true
+  by_test true f = refl
+  by_test false f = f
+
+pub among_filter : (p : Image → Bool) (images : List Image) (s : ℕ) → is_among s (sets_of (filter p images)) ≡ true → is_among s (sets_of images) ≡ true
+among_filter p [] s e = e
+among_filter p (i ∷ images) s e = by_test (p i) e (λ f. among_filter p images s f) where
+  by_test : (t : Bool) → is_among s (sets_of (if t then i ∷ filter p images else filter p images)) ≡ true → (is_among s (sets_of (filter p images)) ≡ true → is_among s (sets_of images) ≡ true) → is_among s (sets_of (i ∷ images)) ≡ true
+  by_test true f rest = or_rest (i.set == s) (is_among s (sets_of (filter p images))) (is_among s (sets_of images)) f rest
+  by_test false f rest = among_tail s i.set (sets_of images) (rest f)
+
+all_none : {X : Type 0} (P : X → Type 0) → All P []
+all_none P = λ k d l. absurd (omega arith)
+
+all_in : (ys xs : List ℕ) → ((s : ℕ) → is_among s xs ≡ true → is_among s ys ≡ true) → All (λ s. is_among s ys ≡ true) xs
+all_in ys [] f = all_none (λ s. is_among s ys ≡ true)
+all_in ys (x ∷ xs) f = All-cons (λ s. is_among s ys ≡ true) x xs (f x (among_head x xs)) (all_in ys xs (λ s e. f s (among_tail s x xs e)))
+
+all_map : {X : Type 0} (P Q : X → Type 0) (xs : List X) → ((x : X) → P x → Q x) → All P xs → All Q xs
+all_map P Q [] f all = all_none Q
+all_map P Q (x ∷ xs) f all = All-cons Q x xs (f x (All-head P x xs all)) (all_map P Q xs f (All-tail P x xs all))
+
+all_push : {X : Type 0} (P : X → Type 0) (xs : List X) (y : X) → All P xs → P y → All P (xs ++ y ∷ [])
+all_push P [] y all h = All-cons P y [] h (all_none P)
+all_push P (x ∷ xs) y all h = All-cons P x (xs ++ y ∷ []) (All-head P x xs all) (all_push P xs y (All-tail P x xs all) h)
+
+-- ## the window
+
+pub window_kept : (sets : List ℕ) (o : Option ℕ) (set : ℕ) → kept_window sets o ≡ Some set → (o ≡ Some set) × (is_among set sets ≡ true)
+window_kept sets None set e = cc
+window_kept sets (Some s) set e = by_test (is_among s sets) refl e where
+  by_test : (t : Bool) → is_among s sets ≡ t → (if t then Some s else None) ≡ Some set → (Some s ≡ Some set) × (is_among set sets ≡ true)
+  by_test true f g = (g, (let same : s ≡ set = cc in ap (λ x. is_among x sets) (sym same) ∙ f))
+  by_test false f g = cc
+
+pub window_stays : (sets : List ℕ) (o : Option ℕ) → ((set : ℕ) → o ≡ Some set → is_among set sets ≡ true) → kept_window sets o ≡ o
+window_stays sets None h = refl
+window_stays sets (Some s) h = ap (λ (t : Bool). if t then Some s else None) (h s refl)
+
+-- ## after a step
+
+pub of_changed : (v : History) (h : Recovering) → IsOfImages (sets_of v.images) (changed v h)
+of_changed v h = record {
+  recoveries = filter_passes (λ (r : Recovery). is_among r.set (sets_of v.images)) h.recoveries;
+  window = λ set e. (window_kept (sets_of v.images) h.window set e).1;
+  final = filter_passes (λ s. is_among s (sets_of v.images)) h.final;
+}
+
+-- a set more
+pub of_more : (sets : List ℕ) (s : ℕ) (h k : Recovering) → k.recoveries ≡ h.recoveries → k.window ≡ h.window → k.final ≡ h.final → IsOfImages sets h → IsOfImages (sets ++ s ∷ []) k
+of_more sets s h k a b c is = record {
+  recoveries = subst (λ (rs : List Recovery). All (λ (r : Recovery). is_among r.set (sets ++ s ∷ []) ≡ true) rs) (sym a)
+      (all_map (λ (r : Recovery). is_among r.set sets ≡ true) (λ (r : Recovery). is_among r.set (sets ++ s ∷ []) ≡ true) h.recoveries (λ r e. among_more r.set s sets e) is.recoveries);
+  window = λ set e. among_more set s sets (is.window set (sym b ∙ e));
+  final = subst (λ (xs : List ℕ). All (λ x. is_among x (sets ++ s ∷ []) ≡ true) xs) (sym c)
+      (all_map (λ x. is_among x sets ≡ true) (λ x. is_among x (sets ++ s ∷ []) ≡ true) h.final (λ x e. among_more x s sets e) is.final);
+}
+
+pub of_opened : (sets : List ℕ) (set : ℕ) (claims : List _) (h : Recovering) → is_among set sets ≡ true → IsOfImages sets h → IsOfImages sets (opened set claims h)
+of_opened sets set claims h among is = record {
+  recoveries = is.recoveries;
+  window = λ s e. (let same : set ≡ s = cc in ap (λ x. is_among x sets) (sym same) ∙ among);
+  final = is.final;
+}
+
+pub of_recovered : (sets : List ℕ) (r : Recovery) (h : Recovering) → h.window ≡ Some r.set → IsOfImages sets h → IsOfImages sets (recovered_by r h)
+of_recovered sets r h open_is is = record {
+  recoveries = all_push (λ (q : Recovery). is_among q.set sets ≡ true) h.recoveries r is.recoveries (is.window r.set open_is);
+  window = is.window;
+  final = is.final;
+}
+
+pub of_closed : (set : ℕ) (h : Recovering) → IsOfImages (sets_of h.volume.images) h → IsOfImages (sets_of h.volume.images) (closed set h)
+of_closed set h is = record {
+  recoveries = is.recoveries;
+  window = λ s e. cc;
+  final = All-filter (λ s. (s == set) || is_among s h.final) (λ s. is_among s (sets_of h.volume.images) ≡ true) (sets_of h.volume.images) (all_in (sets_of h.volume.images) (sets_of h.volume.images) (λ s e. e));
+}

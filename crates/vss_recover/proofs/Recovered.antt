@@ -1,0 +1,129 @@
+-- What the recovery writes of an image are after one more, and after images went.
+use Rattle.std.proofs.Common.{◌≡◌, ◌⊎◌, ℕ, List, [], ◌∷◌, ◌++◌, refl, ap, sym, ◌∙◌, Bool, true, false, inl, inr, All}
+use Rattle.std.specs.Prelude.{◌==◌, ◌||◌, if◌then◌else◌, filter}
+use Rattle.std.proofs.lemmas.List.Elements.{All-head, All-tail}
+use Rattle.write_history.specs.History.{Write, last_bytes, names}
+use Rattle.cow_volume.specs.Calls.{is_among}
+use Rattle.cow_volume.proofs.Group.{same_number, other_number, number_is, number_is_other}
+use Rattle.vss_recover.specs.Recoveries.{Recovery, recovered, kept}
+
+-- ## two pairs of numbers are the same or not
+
+pub pair_or : (s t a b : ℕ) → ((s ≡ t) × (a ≡ b)) ⊎ (s ≡ t → a ≡ b → ⊥)
+pair_or s t a b = by_tests (s == t) refl (a == b) refl where
+  by_tests : (p : Bool) → (s == t) ≡ p → (q : Bool) → (a == b) ≡ q → ((s ≡ t) × (a ≡ b)) ⊎ (s ≡ t → a ≡ b → ⊥)
+  by_tests true e true f = inl (same_number s t e, same_number a b f)
+  by_tests true e false f = inr (λ g h. other_number a b f h)
+  by_tests false e q f = inr (λ g h. other_number s t e g)
+
+-- ## the last bytes of a block
+
+pub last-push : (b : ℕ) (x : List ℕ) (ws : List Write) (w : Write) → last_bytes b x (ws ++ w ∷ []) ≡ (if w.block == b then w.bytes else last_bytes b x ws)
+last-push b x [] w = refl
+last-push b x (v ∷ ws) w = last-push b (if v.block == b then v.bytes else x) ws w
+
+pub last_if_named : (b : ℕ) (x y : List ℕ) (ws : List Write) → names ws b ≡ true → last_bytes b x ws ≡ last_bytes b y ws
+last_if_named b x y [] e = cc
+last_if_named b x y (w ∷ ws) e = by_test (w.block == b) e (λ f. last_if_named b x y ws f) where
+  by_test : (t : Bool) → (t || names ws b) ≡ true → (names ws b ≡ true → last_bytes b x ws ≡ last_bytes b y ws) → last_bytes b (if t then w.bytes else x) ws ≡ last_bytes b (if t then w.bytes else y) ws
+  by_test true f rest = refl
+  by_test false f rest = rest f
+
+pub last_if_unnamed : (b : ℕ) (x : List ℕ) (ws : List Write) → names ws b ≡ false → last_bytes b x ws ≡ x
+last_if_unnamed b x [] e = refl
+last_if_unnamed b x (w ∷ ws) e = by_test (w.block == b) e (λ f. last_if_unnamed b x ws f) where
+  by_test : (t : Bool) → (t || names ws b) ≡ false → (names ws b ≡ false → last_bytes b x ws ≡ x) → last_bytes b (if t then w.bytes else x) ws ≡ x
+  by_test true f rest = cc
+  by_test false f rest = rest f
+
+pub names-push_own : (ws : List Write) (w : Write) → names (ws ++ w ∷ []) w.block ≡ true
+names-push_own [] w = ap (λ (t : Bool). t || false) (number_is w.block)
+names-push_own (v ∷ ws) w = by_test (v.block == w.block) (names-push_own ws w) where
+  by_test : (t : Bool) → names (ws ++ w ∷ []) w.block ≡ true → (t || names (ws ++ w ∷ []) w.block) ≡ true
+  by_test true e = refl
+  by_test false e = e
+
+pub names-push_other : (b : ℕ) (ws : List Write) (w : Write) → (w.block == b) ≡ false → names (ws ++ w ∷ []) b ≡ names ws b
+names-push_other b [] w e = ap (λ (t : Bool). t || false) e
+names-push_other b (v ∷ ws) w e = ap (λ (t : Bool). (v.block == b) || t) (names-push_other b ws w e)
+
+-- ## one recovery write more
+
+push_if : (t u : Bool) (w v : Write) (xs ys : List Write) → ys ≡ (if u then xs ++ v ∷ [] else xs) → (if t then w ∷ ys else ys) ≡ (if u then (if t then w ∷ xs else xs) ++ v ∷ [] else (if t then w ∷ xs else xs))
+push_if true true w v xs ys e = ap (λ zs. w ∷ zs) e
+push_if true false w v xs ys e = ap (λ zs. w ∷ zs) e
+push_if false true w v xs ys e = e
+push_if false false w v xs ys e = e
+
+pub recovered-push : (set : ℕ) (rs : List Recovery) (r : Recovery) → recovered set (rs ++ r ∷ []) ≡ (if r.set == set then recovered set rs ++ r.write ∷ [] else recovered set rs)
+recovered-push set [] r = refl
+recovered-push set (q ∷ rs) r = push_if (q.set == set) (r.set == set) q.write r.write (recovered set rs) (recovered set (rs ++ r ∷ [])) (recovered-push set rs r)
+
+pub recovered-push_own : (rs : List Recovery) (r : Recovery) → recovered r.set (rs ++ r ∷ []) ≡ recovered r.set rs ++ r.write ∷ []
+recovered-push_own rs r = recovered-push r.set rs r ∙ ap (λ (t : Bool). if t then recovered r.set rs ++ r.write ∷ [] else recovered r.set rs) (number_is r.set)
+
+pub recovered-push_other : (set : ℕ) (rs : List Recovery) (r : Recovery) → (r.set == set) ≡ false → recovered set (rs ++ r ∷ []) ≡ recovered set rs
+recovered-push_other set rs r e = recovered-push set rs r ∙ ap (λ (t : Bool). if t then recovered set rs ++ r.write ∷ [] else recovered set rs) e
+
+-- its own block is named, and has its bytes
+pub own_named : (rs : List Recovery) (r : Recovery) → names (recovered r.set (rs ++ r ∷ [])) r.write.block ≡ true
+own_named rs r = ap (λ (ws : List Write). names ws r.write.block) (recovered-push_own rs r) ∙ names-push_own (recovered r.set rs) r.write
+
+pub own_bytes : (rs : List Recovery) (r : Recovery) (x : List ℕ) → last_bytes r.write.block x (recovered r.set (rs ++ r ∷ [])) ≡ r.write.bytes
+own_bytes rs r x = ap (λ (ws : List Write). last_bytes r.write.block x ws) (recovered-push_own rs r) ∙ last-push r.write.block x (recovered r.set rs) r.write
+    ∙ ap (λ (t : Bool). if t then r.write.bytes else last_bytes r.write.block x (recovered r.set rs)) (number_is r.write.block)
+
+-- each other block is named and has the bytes as before
+pub record Others (set b : ℕ) (rs : List Recovery) (r : Recovery) : Type 0 where
+  pub named : names (recovered set (rs ++ r ∷ [])) b ≡ names (recovered set rs) b
+  pub bytes : (x : List ℕ) → last_bytes b x (recovered set (rs ++ r ∷ [])) ≡ last_bytes b x (recovered set rs)
+
+pub others_same : (set b : ℕ) (rs : List Recovery) (r : Recovery) → (set ≡ r.set → b ≡ r.write.block → ⊥) → Others set b rs r
+others_same set b rs r apart = by_test (r.set == set) refl where
+  by_test : (t : Bool) → (r.set == set) ≡ t → Others set b rs r
+  by_test true e =
+      let same = same_number r.set set e in
+      let off : (r.write.block == b) ≡ false = number_is_other r.write.block b (λ f. apart (sym same) (sym f)) in
+      let is : recovered set (rs ++ r ∷ []) ≡ recovered set rs ++ r.write ∷ [] = recovered-push set rs r ∙ ap (λ (t : Bool). if t then recovered set rs ++ r.write ∷ [] else recovered set rs) e in
+      record {
+        named = ap (λ (ws : List Write). names ws b) is ∙ names-push_other b (recovered set rs) r.write off;
+        bytes = λ x. ap (λ (ws : List Write). last_bytes b x ws) is ∙ last-push b x (recovered set rs) r.write ∙ ap (λ (t : Bool). if t then r.write.bytes else last_bytes b x (recovered set rs)) off;
+      }
+  by_test false e =
+      let is = recovered-push_other set rs r e in
+      record { named = ap (λ (ws : List Write). names ws b) is; bytes = λ x. ap (λ (ws : List Write). last_bytes b x ws) is }
+
+-- ## images that go
+
+not_both : (sets : List ℕ) (a b : ℕ) → is_among a sets ≡ true → is_among b sets ≡ false → (a == b) ≡ false
+not_both sets a b e f = number_is_other a b (λ same. (let g : is_among a sets ≡ is_among b sets = ap (λ s. is_among s sets) same in absurd cc))
+
+recovered_other : (set : ℕ) (q : Recovery) (rs : List Recovery) → (q.set == set) ≡ false → recovered set (q ∷ rs) ≡ recovered set rs
+recovered_other set q rs e = ap (λ (t : Bool). if t then q.write ∷ recovered set rs else recovered set rs) e
+
+pub recovered-kept : (sets : List ℕ) (set : ℕ) (rs : List Recovery) → is_among set sets ≡ true → recovered set (kept sets rs) ≡ recovered set rs
+recovered-kept sets set [] e = refl
+recovered-kept sets set (q ∷ rs) e = by_test (is_among q.set sets) refl (recovered-kept sets set rs e) where
+  by_test : (t : Bool) → is_among q.set sets ≡ t → recovered set (kept sets rs) ≡ recovered set rs → recovered set (if t then q ∷ kept sets rs else kept sets rs) ≡ recovered set (q ∷ rs)
+  by_test true f rest = ap (λ (ws : List Write). if q.set == set then q.write ∷ ws else ws) rest
+  by_test false f rest = rest ∙ sym (recovered_other set q rs (number_is_other q.set set (λ same. (let g : is_among q.set sets ≡ is_among set sets = ap (λ s. is_among s sets) same in absurd cc))))
+
+pub recovered-gone : (sets : List ℕ) (set : ℕ) (rs : List Recovery) → is_among set sets ≡ false → recovered set (kept sets rs) ≡ []
+recovered-gone sets set [] e = refl
+recovered-gone sets set (q ∷ rs) e = by_test (is_among q.set sets) refl (recovered-gone sets set rs e) where
+  by_test : (t : Bool) → is_among q.set sets ≡ t → recovered set (kept sets rs) ≡ [] → recovered set (if t then q ∷ kept sets rs else kept sets rs) ≡ []
+  by_test true f rest = recovered_other set q (kept sets rs) (not_both sets q.set set f e) ∙ rest
+  by_test false f rest = rest
+
+pub none_recovered : (sets : List ℕ) (set : ℕ) (rs : List Recovery) → All (λ (r : Recovery). is_among r.set sets ≡ true) rs → is_among set sets ≡ false → recovered set rs ≡ []
+none_recovered sets set [] all e = refl
+none_recovered sets set (q ∷ rs) all e =
+    recovered_other set q rs (not_both sets q.set set (All-head (λ (r : Recovery). is_among r.set sets ≡ true) q rs all) e)
+    ∙ none_recovered sets set rs (All-tail (λ (r : Recovery). is_among r.set sets ≡ true) q rs all) e
+
+-- nothing goes where all is of these images
+pub filter-all : {X : Type 0} (p : X → Bool) (xs : List X) → All (λ x. p x ≡ true) xs → filter p xs ≡ xs
+filter-all p [] all = refl
+filter-all p (x ∷ xs) all =
+    ap (λ (t : Bool). if t then x ∷ filter p xs else filter p xs) (All-head (λ x. p x ≡ true) x xs all)
+    ∙ ap (λ ys. x ∷ ys) (filter-all p xs (All-tail (λ x. p x ≡ true) x xs all))

@@ -1,0 +1,6 @@
+use Rattle.vss_recover.specs.Claims.{AreApartBelow}
+use Rattle.vss_recover.proofs.claims.first_overlap.Given as goal
+
+-- those so far are apart
+abbrev pub invariant-loop-second : goal.invariant-loop-second
+invariant-loop-second l = AreApartBelow l.claims l.second

@@ -1,0 +1,18 @@
+use Rattle.std.proofs.Common.{ltb, arith, rules}
+use Rattle.std.proofs.lemmas.List.Sorted.{IsPartitionedBy-ltb, IsPartitionPoint-from_clause}
+use Rattle.std.proofs.lemmas.Bool.Decides.{nat_tests}
+use Rattle.diff_map.specs.Index.{place, place_of}
+use Rattle.diff_map.proofs.Places.{rising}
+use Rattle.vss_recover.proofs.entries.place_from.Goals as goal
+
+pub returns-clause-before : goal.returns-clause-before
+returns-clause-before c =
+    let key = place_of c.args.block c.args.set in
+    let point = IsPartitionPoint-from_clause (λ e. ltb (place e) key) _ _ c.partition_point.ensures.partitioned (IsPartitionedBy-ltb place _ key (rising _ c.requires)) (λ a r q k. search rules) in
+    λ k d low high. let h = point.0 k d low high in grind (arith, nat_tests)
+
+pub returns-clause-onward : goal.returns-clause-onward
+returns-clause-onward c =
+    let key = place_of c.args.block c.args.set in
+    let point = IsPartitionPoint-from_clause (λ e. ltb (place e) key) _ _ c.partition_point.ensures.partitioned (IsPartitionedBy-ltb place _ key (rising _ c.requires)) (λ a r q k. search rules) in
+    λ k d low high. let h = point.1 k d low high in grind (arith, nat_tests)

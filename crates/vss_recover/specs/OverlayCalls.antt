@@ -1,0 +1,75 @@
+-- What the calls on an overlay leave: its records, and what its device tells. (This project's own.)
+use Rattle.std.specs.Prelude.{ℕ, ◌≡◌, ◌⊎◌, Bool, true, false, List, length, map, Option, Some, slice_get, slice_set, count_by, nat_lt, ◌==◌, ◌&&◌, not, if◌then◌else◌, Result, Ok, Err}
+use Rattle.vss_names.specs.Faults.{Rose}
+use Rattle.diff_area.specs.AreaValue.{AreaValue}
+use Rattle.diff_area.specs.Places.{place_of_slot}
+use Rattle.diff_area.specs.Records.{free}
+use Rattle.diff_area.specs.declared.table_record.Record.{Record}
+use Rattle.cow_volume.specs.StandsFor.{record_of}
+use Rattle.cow_volume.specs.Calls.{is_among, IsSameDevice}
+use Rattle.cow_volume.specs.Changes.{has_record}
+use Rattle.cow_volume.specs.Room.{is_full}
+use Rattle.cow_volume.specs.Steps.{put}
+use Rattle.vss_recover.specs.declared.recover_fault.RecoverFault.{RecoverFault}
+use Rattle.vss_recover.specs.declared.recover_fault.RecoverFault.TheVariants.{NotOpen, NoSuchBlock, NotOwner, Full, Area}
+
+-- the record is of a block of the image of a set
+abbrev pub is_block_of : ℕ → Record → Bool
+is_block_of set r = nat_lt 0 r.set && (r.set == set)
+
+-- how many are
+abbrev pub count_in : ℕ → List Record → ℕ
+count_in set records = count_by (is_block_of set) records
+
+-- block b of the image of a set has no slot, and no slot is free
+abbrev pub lacks_room : List Record → ℕ → ℕ → Bool
+lacks_room records set b = not (has_record records (record_of 0 set b)) && is_full records
+
+-- the record stays where its image is one of these
+abbrev pub kept_record : List ℕ → Record → Record
+kept_record sets r = if is_among r.set sets then r else free
+
+abbrev pub kept_records : List ℕ → List Record → List Record
+kept_records sets records = map (kept_record sets) records
+
+-- the device was called, and the records are as they were
+pub record KeepsRecords {D : Type 0} (told : D → Option (List (List ℕ))) (size count : D → ℕ) (lending : D → Bool) (old new : AreaValue D) : Type 0 where
+  pub volumes : new.volumes ≡ old.volumes
+  pub records : new.records ≡ old.records
+  pub device : IsSameDevice told size count lending old.device new.device
+  pub slots : told new.device ≡ told old.device
+
+-- bytes were written into a slot
+pub record IsWrittenTo {D : Type 0} (told : D → Option (List (List ℕ))) (size count : D → ℕ) (lending : D → Bool) (old new : AreaValue D) (slot : ℕ) (bytes : List ℕ) : Type 0 where
+  pub volumes : new.volumes ≡ old.volumes
+  pub records : new.records ≡ old.records
+  pub device : IsSameDevice told size count lending old.device new.device
+  pub slots : told new.device ≡ put (place_of_slot (length old.records) slot) bytes (told old.device)
+  pub unfailed : count new.device ≡ count old.device
+
+-- or the device failed
+abbrev pub IsWrittenIn : {D : Type 0} → (D → Option (List (List ℕ))) → (D → ℕ) → (D → ℕ) → (D → Bool) → AreaValue D → AreaValue D → ℕ → List ℕ → Result Unit RecoverFault → Type 0
+IsWrittenIn told size count lending old new slot bytes (Ok done) = IsWrittenTo told size count lending old new slot bytes
+IsWrittenIn told size count lending old new slot bytes (Err fault) = (fault ≡ Area) × KeepsRecords told size count lending old new × Rose (count old.device) (count new.device)
+
+-- the slot has this record, or it is free and none has
+abbrev pub IsChosen : List Record → Record → ℕ → Type 0
+IsChosen records r slot = (slice_get records slot ≡ Some r) ⊎ ((slice_get records slot ≡ Some free) × (has_record records r ≡ false))
+
+-- the slot that block b of the image of a set has, or one that was free and is the block's now, has these bytes
+pub record IsPutIn {D : Type 0} (told : D → Option (List (List ℕ))) (size count : D → ℕ) (lending : D → Bool) (old new : AreaValue D) (set b : ℕ) (bytes : List ℕ) : Type 0 where
+  pub slot : ℕ
+  pub was : IsChosen old.records (record_of 0 set b) slot
+  pub volumes : new.volumes ≡ old.volumes
+  pub records : new.records ≡ slice_set old.records slot (record_of 0 set b)
+  pub device : IsSameDevice told size count lending old.device new.device
+  pub slots : told new.device ≡ put (place_of_slot (length old.records) slot) bytes (told old.device)
+  pub unfailed : count new.device ≡ count old.device
+
+abbrev pub IsPut : {D : Type 0} → (D → Option (List (List ℕ))) → (D → ℕ) → (D → ℕ) → (D → Bool) → AreaValue D → AreaValue D → ℕ → ℕ → List ℕ → Result Unit RecoverFault → Type 0
+IsPut told size count lending old new set b bytes (Ok done) = (lacks_room old.records set b ≡ false) × IsPutIn told size count lending old new set b bytes
+IsPut told size count lending old new set b bytes (Err NotOpen) = ⊥
+IsPut told size count lending old new set b bytes (Err NoSuchBlock) = ⊥
+IsPut told size count lending old new set b bytes (Err (NotOwner owner)) = ⊥
+IsPut told size count lending old new set b bytes (Err Full) = (lacks_room old.records set b ≡ true) × (new ≡ old)
+IsPut told size count lending old new set b bytes (Err Area) = (lacks_room old.records set b ≡ false) × KeepsRecords told size count lending old new × Rose (count old.device) (count new.device)

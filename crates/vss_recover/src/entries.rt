@@ -1,0 +1,82 @@
+//! The ordered list of the used slots of an overlay: what is found in it, and which slots are given back.
+
+ghost use Rattle.std.specs.Prelude.{◌≡◌, ◌≤◌, ◌<◌, ◌==◌, ◌&&◌, ◌^◌, not, length, map, count_by};
+ghost use Rattle.std.specs.List.{AllWithin};
+ghost use Rattle.diff_area.specs.Records.{AreRecords, is_free};
+ghost use Rattle.diff_map.specs.Index.{IsInOrder, IsIndex, place, place_of};
+ghost use Rattle.cow_volume.specs.Calls.{is_among};
+ghost use Rattle.cow_volume.specs.CopiesAfter.{with_records};
+ghost use Rattle.cow_volume.specs.Tied.{copied_for};
+ghost use Rattle.vss_recover.specs.OverlayCalls.{kept_records};
+
+use diff_area::Area;
+use diff_map::Entry;
+use slot_pool::SlotPool;
+use volume_device::Device;
+
+/// The place of the first entry of this block from this set on, or of the one that would follow it. A binary search.
+pub(crate) fn place_from(entries: &[Entry], block: u32, set: u32) -> usize
+    requires { IsInOrder entries.now }
+    ensures within { result ≤ length entries.now }
+    ensures before { AllWithin (λ e. place e < place_of block set) entries.now 0 result }
+    ensures onward { AllWithin (λ e. place_of block set ≤ place e) entries.now result (length entries.now) }
+{
+    entries.partition_point(|entry| entry.is_before(block, set))
+}
+
+/// Whether the entry is that of this block of the image of this set.
+pub(crate) fn is_at(entry: Entry, block: u32, set: u32) -> bool
+    ensures { result ≡ ((entry.block == block) && (entry.set == set)) }
+{
+    entry.block == block && entry.set == set
+}
+
+/// How many entries are of the image of a set.
+pub(crate) fn entries_of(entries: &[Entry], set: u32) -> u32
+    requires { count_by (λ e. e.set == set) entries.now < 2 ^ 32 }
+    ensures { result ≡ count_by (λ e. e.set == set) entries.now }
+{
+    let mut used = 0;
+    for entry in entries {
+        if entry.set == set {
+            used += 1;
+        }
+    }
+    used
+}
+
+/// Frees the slots of the images that are not among these. `entries` are all used slots, and stay as they are.
+pub(crate) fn free_gone<D: Device>(
+    area: &mut Area<D>,
+    pool: &mut SlotPool,
+    entries: &[Entry],
+    images: &[u32],
+)
+    requires one { length area.old.volumes ≡ 1 }
+    requires records { AreRecords area.old.volumes area.old.records }
+    requires index { IsIndex entries.now (map (copied_for 0) area.old.records) }
+    requires pool { pool.old ≡ map is_free area.old.records }
+    ensures area { area.new ≡ with_records (kept_records images.now area.old.records) area.old }
+    ensures pool { pool.new ≡ map is_free area.new.records }
+{
+    for entry in entries {
+        if is_gone(images, entry.set) {
+            area.clear_record(entry.slot);
+            pool.give(entry.slot);
+        }
+    }
+}
+
+/// Whether none of these images is of the set.
+fn is_gone(images: &[u32], set: u32) -> bool
+    ensures { result ≡ not (is_among set images.now) }
+{
+    !is_one_of(images, set)
+}
+
+/// Whether one of these images is of the set.
+pub(crate) fn is_one_of(images: &[u32], set: u32) -> bool
+    ensures { result ≡ is_among set images.now }
+{
+    images.iter().any(|image| *image == set)
+}

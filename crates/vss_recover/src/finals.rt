@@ -1,0 +1,67 @@
+//! What is kept beside a volume: the claims of its window, the window where its image stands, and the sets of the final images.
+
+ghost use Rattle.std.specs.Prelude.{◌≡◌, ◌<◌, ◌≤◌, ◌++◌, ◌∷◌, ◌||◌, ◌==◌, [], length, vec_capacity};
+ghost use Rattle.cow_volume.specs.Calls.{is_among};
+ghost use Rattle.vss_recover.specs.Recoveries.{kept_window, with_final};
+
+use crate::claim::Claim;
+use crate::entries::is_one_of;
+
+/// The most images that a volume has.
+pub(crate) const MOST_IMAGES: usize = 512;
+
+/// The most claims of a window.
+pub(crate) const MOST_CLAIMS: usize = 64;
+
+/// The window, where it is that of one of these images.
+pub(crate) fn kept_window(images: &[u32], window: Option<u32>) -> Option<u32>
+    ensures { result ≡ kept_window images.now window }
+{
+    let set = window?;
+    if is_one_of(images, set) {
+        Some(set)
+    } else {
+        None
+    }
+}
+
+/// Gathers those of these images that are final, and that of a set.
+pub(crate) fn final_among(images: &[u32], set: u32, finals: &[u32], out: &mut Vec<u32>)
+    requires few { length images.now ≤ MOST_IMAGES }
+    requires room { MOST_IMAGES ≤ vec_capacity out.old }
+    ensures finals { out.new.items ≡ with_final set images.now finals.now }
+    ensures room { vec_capacity out.old ≤ vec_capacity out.new }
+{
+    out.clear();
+    for image in images {
+        if is_final(*image, set, finals) {
+            push_within(out, *image);
+        }
+    }
+}
+
+/// Whether an image is final, or is that of a set.
+fn is_final(image: u32, set: u32, finals: &[u32]) -> bool
+    ensures { result ≡ ((image == set) || is_among image finals.now) }
+{
+    image == set || is_one_of(finals, image)
+}
+
+/// Appends a number to those that there is room for.
+fn push_within(numbers: &mut Vec<u32>, number: u32)
+    requires { length numbers.old.items < vec_capacity numbers.old }
+    ensures items { numbers.new.items ≡ numbers.old.items ++ number ∷ [] }
+    ensures room { vec_capacity numbers.old ≤ vec_capacity numbers.new }
+{
+    let _ = numbers.push(number);
+}
+
+/// Takes these claims in place of those before.
+pub(crate) fn take_claims(claims: &mut Vec<Claim>, others: &[Claim])
+    requires { length others.now ≤ vec_capacity claims.old }
+    ensures items { claims.new.items ≡ others.now }
+    ensures room { vec_capacity claims.old ≤ vec_capacity claims.new }
+{
+    claims.clear();
+    let _ = claims.extend_from_slice(others);
+}

@@ -1,0 +1,25 @@
+//! What holds of every list of calls that change something: functions that do nothing, whose contracts are the laws.
+
+ghost use Rattle.std.specs.Prelude.{◌≡◌, ◌<◌, ◌++◌, ◌∷◌, ℕ, true, List, Some, None};
+ghost use Rattle.write_history.specs.History.{sets_of};
+ghost use Rattle.cow_volume.specs.Calls.{is_among};
+ghost use Rattle.vss_recover.specs.Claims.{owner_of};
+ghost use Rattle.vss_recover.specs.Recoveries.{Recovery, Recovering, IsOfImages, recovered};
+ghost use Rattle.vss_recover.specs.Steps.{Step, AreAllowed, after_all, made_since_cut, last_window, of_volume, IsMadeIn};
+
+/// The recovery writes that an image shows are those that the calls since its cut made of it, in their order. Where no cut of it is
+/// among the calls, those that it had come first.
+pub fn images_show_what_was_made_since_the_cut()
+    ensures { (n set : ℕ) (h : Recovering) (steps : List Step) → IsOfImages (sets_of h.volume.images) h → AreAllowed n h steps → is_among set (sets_of (after_all n h steps).volume.images) ≡ true
+        → recovered set (after_all n h steps).recoveries ≡ made_since_cut set (recovered set h.recoveries) steps }
+{}
+
+/// Each recovery write was made in the window of its image, by the writer whose claim for that window has its block.
+pub fn recoveries_are_made_in_the_window()
+    ensures { (n : ℕ) (h : Recovering) (before later : List Step) (r : Recovery) → h.window ≡ None → AreAllowed n h (before ++ Step.Recovered r ∷ later) → IsMadeIn (last_window None before) r }
+{}
+
+/// The volume's history and its images, and so the slots that they use, are those without any window or recovery write.
+pub fn recoveries_leave_the_volume()
+    ensures { (n : ℕ) (h : Recovering) (steps : List Step) → (after_all n h steps).volume ≡ (after_all n h (of_volume steps)).volume }
+{}
