@@ -1,13 +1,13 @@
 //! Volumes behind locks of their own, with one journal.
 //!
-//! Each volume has a lock, and the journal another, so that writers of different volumes do not wait for one another, and yet all
-//! images of a cut belong to one moment. All promises stand on functions that are lent what the locks keep: a `Shard` (a volume, the
-//! list of its entries and the points of its images) and the `Journal` (all entries in one order, and the recorded cuts). A cut goes
-//! in three steps: `collect` holds each shard and notes how long its list is, `record_cut` compares these numbers with the journal
-//! and stores them, `give_back` makes the image and lets the shard go. Callers take the locks, a shard's before the journal's; no
-//! order of locks is proved, and nothing is promised of waiting. What each type keeps (`specs/Shards.antt`, `specs/Journals.antt`)
-//! is known wherever a lock is taken. The law of the crate is in `laws`: the images of one recorded cut are the volumes after one
-//! and the same beginning of the journal.
+//! Each volume has a lock, and the journal another, and all images of a cut belong to one moment. A write is made under both locks,
+//! so that writes do not run side by side; whatever else is done to a volume needs its own lock alone. All promises stand on
+//! functions that are lent what the locks keep: a `Shard` (a volume, the list of its entries and the points of its images) and the
+//! `Journal` (all entries in one order, and the recorded cuts). A cut goes in three steps: `collect` holds each shard and notes how
+//! long its list is, `record_cut` compares these numbers with the journal and stores them, `give_back` makes the image and lets the
+//! shard go. Callers take the locks, a shard's before the journal's; no order of locks is proved, and nothing is promised of waiting.
+//! What each type keeps (`specs/Shards.antt`, `specs/Journals.antt`) is known wherever a lock is taken. The law of the crate is in
+//! `laws`: the images of one recorded cut are the volumes after one and the same beginning of the journal.
 #![tactic(auto)]
 
 mod collect_fault;
