@@ -1,0 +1,133 @@
+-- What the calls on a shard, a draft and the journal come to. (This project's own.)
+use Rattle.std.specs.Prelude.{ℕ, ◌≡◌, ◌<◌, ◌≤◌, ◌+◌, ◌⊎◌, ◌++◌, List, [], ◌∷◌, length, Bool, true, Option, Some, None, is_some, Result, Ok, Err}
+use Rattle.write_history.specs.History.{Image, after_set}
+use Rattle.cow_volume.specs.GroupValue.{GroupValue}
+use Rattle.cow_volume.specs.OneVolume.{blocks_of, IsOneWritten, IsOneUnwritten}
+use Rattle.cow_volume.specs.declared.cause.Cause.{Cause}
+use Rattle.cow_volume.specs.declared.cause.Cause.TheVariants.{NoSuchBlock as NoBlockCause, Volume as VolumeCause, Area as AreaCause}
+use Rattle.cow_volume.specs.declared.write_fault.WriteFault.{WriteFault}
+use Rattle.vss_shards.specs.declared.small.Small.{Small}
+use Rattle.vss_shards.specs.declared.entry.Entry.{Entry}
+use Rattle.vss_shards.specs.declared.part.Part.{Part}
+use Rattle.vss_shards.specs.declared.shard_fault.ShardFault.{ShardFault}
+use Rattle.vss_shards.specs.declared.shard_fault.ShardFault.TheVariants.{Held, NoSuchBlock, Full, OutOfMemory, Volume, Area}
+use Rattle.vss_shards.specs.declared.collect_fault.CollectFault.{CollectFault}
+use Rattle.vss_shards.specs.declared.collect_fault.CollectFault.TheVariants.{Held as HeldAlready, Full as NoRoom, OutOfMemory as NoMemory}
+use Rattle.vss_shards.specs.declared.record_fault.RecordFault.{RecordFault}
+use Rattle.vss_shards.specs.declared.record_fault.RecordFault.TheVariants.{Full as FullOfCuts, Differs, OutOfMemory as NoMemoryForCut}
+use Rattle.vss_shards.specs.Entries.{write_of, most_entries}
+use Rattle.vss_shards.specs.Shards.{ShardValue, shard_value, most_images}
+use Rattle.vss_shards.specs.Journals.{JournalValue, Cut, most_cuts, first_off}
+use Rattle.vss_shards.specs.Drafts.{DraftValue, IsTakenOut}
+
+-- ## write_on
+
+-- the entry of a write of this shard
+abbrev pub entry_of : {D : Type 0} → ShardValue D → ℕ → Small → Entry
+entry_of s block payload = record { volume = s.number; block = block; payload = payload }
+
+-- the shard may be written at this block
+pub record MayBeWritten {D : Type 0} (s : ShardValue D) (block : ℕ) : Type 0 where
+  pub free : s.held ≡ None
+  pub in_range : block < blocks_of s.volume
+
+-- neither list is full
+abbrev pub HaveRoom : {D : Type 0} → ShardValue D → JournalValue → Type 0
+HaveRoom s j = (length s.entries < most_entries) × (length j.entries < most_entries)
+
+-- what is in the way of a write: the first cause that stands
+abbrev pub IsAllowed : {D : Type 0} → ShardValue D → JournalValue → ℕ → Result Unit ShardFault → Type 0
+IsAllowed s j block (Ok done) = MayBeWritten s block × HaveRoom s j
+IsAllowed s j block (Err Held) = is_some s.held ≡ true
+IsAllowed s j block (Err NoSuchBlock) = (s.held ≡ None) × (blocks_of s.volume ≤ block)
+IsAllowed s j block (Err Full) = MayBeWritten s block × ((length s.entries ≡ most_entries) ⊎ (length j.entries ≡ most_entries))
+IsAllowed s j block (Err OutOfMemory) = ⊥
+IsAllowed s j block (Err Volume) = ⊥
+IsAllowed s j block (Err Area) = ⊥
+
+-- why a shard was not written, as the volume's fault has it
+abbrev pub fault_from : Cause → ShardFault
+fault_from NoBlockCause = NoSuchBlock
+fault_from VolumeCause = Volume
+fault_from AreaCause = Area
+
+-- images up to this number went; the list has these entries
+abbrev pub after_write : {D : Type 0} → ShardValue D → GroupValue D → ℕ → List Entry → ShardValue D
+after_write s volume up_to entries = shard_value s.number volume entries (after_set up_to s.images) s.last s.held
+
+-- the entry was written, and is the last one of the list and of the journal
+pub record IsEntered {D : Type 0} (told : D → Option (List (List ℕ))) (size count : D → ℕ) (lending : D → Bool) (old new : ShardValue D) (journal_old journal_new : JournalValue) (e : Entry) (answer : ℕ) : Type 0 where
+  pub may : MayBeWritten old e.block
+  pub room : HaveRoom old journal_old
+  -- up to which number images went, which the definition of slots decides
+  pub up_to : ℕ
+  pub written : IsOneWritten told size count lending old.volume new.volume (write_of e) up_to
+  pub shard : new ≡ after_write old new.volume up_to (old.entries ++ e ∷ [])
+  pub journal : journal_new ≡ record { entries = journal_old.entries ++ e ∷ []; cuts = journal_old.cuts }
+  pub answered : answer ≡ length journal_old.entries + 1
+
+-- a device failed: images went all the same, and nothing else changed
+pub record IsNotEntered {D : Type 0} (told : D → Option (List (List ℕ))) (size count : D → ℕ) (lending : D → Bool) (old new : ShardValue D) (journal_old journal_new : JournalValue) (block : ℕ) (cause : Cause) : Type 0 where
+  pub may : MayBeWritten old block
+  pub room : HaveRoom old journal_old
+  pub fault : WriteFault
+  pub because : fault.cause ≡ cause
+  pub unwritten : IsOneUnwritten told size count lending old.volume new.volume block fault
+  pub shard : new ≡ after_write old new.volume fault.evicted_up_to old.entries
+  pub journal : journal_new ≡ journal_old
+
+abbrev pub IsWriteOn : {D : Type 0} → (D → Option (List (List ℕ))) → (D → ℕ) → (D → ℕ) → (D → Bool) → ShardValue D → ShardValue D → JournalValue → JournalValue → ℕ → Small → Result ℕ ShardFault → Type 0
+IsWriteOn told size count lending old new jold jnew block payload (Ok answer) = IsEntered told size count lending old new jold jnew (entry_of old block payload) answer
+IsWriteOn told size count lending old new jold jnew block payload (Err Held) = IsAllowed old jold block (Err Held) × (new ≡ old) × (jnew ≡ jold)
+IsWriteOn told size count lending old new jold jnew block payload (Err NoSuchBlock) = IsAllowed old jold block (Err NoSuchBlock) × (new ≡ old) × (jnew ≡ jold)
+IsWriteOn told size count lending old new jold jnew block payload (Err Full) = IsAllowed old jold block (Err Full) × (new ≡ old) × (jnew ≡ jold)
+IsWriteOn told size count lending old new jold jnew block payload (Err OutOfMemory) = MayBeWritten old block × HaveRoom old jold × (new ≡ old) × (jnew ≡ jold)
+IsWriteOn told size count lending old new jold jnew block payload (Err Volume) = IsNotEntered told size count lending old new jold jnew block VolumeCause
+IsWriteOn told size count lending old new jold jnew block payload (Err Area) = IsNotEntered told size count lending old new jold jnew block AreaCause
+
+-- ## collect
+
+-- the part of a cut that a shard comes to now: its next image, and the length of its list
+abbrev pub part_now : {D : Type 0} → ShardValue D → Part
+part_now s = record { volume = s.number; image = s.last + 1; count = length s.entries }
+
+abbrev pub IsCollected : {D : Type 0} → ShardValue D → ShardValue D → DraftValue → DraftValue → Result Unit CollectFault → Type 0
+IsCollected old new dold dnew (Ok done) = (old.held ≡ None) × (length old.images < most_images) × (old.last < 4294967295)
+    × (new ≡ shard_value old.number old.volume old.entries old.images (old.last + 1) (Some (part_now old)))
+    × (dnew ≡ record { parts = dold.parts ++ part_now old ∷ []; recorded = dold.recorded })
+IsCollected old new dold dnew (Err HeldAlready) = (is_some old.held ≡ true) × (new ≡ old) × (dnew ≡ dold)
+IsCollected old new dold dnew (Err NoRoom) = (old.held ≡ None) × ((length old.images ≡ most_images) ⊎ (old.last ≡ 4294967295)) × (new ≡ old) × (dnew ≡ dold)
+IsCollected old new dold dnew (Err NoMemory) = (old.held ≡ None) × (length old.images < most_images) × (old.last < 4294967295) × (new ≡ old) × (dnew ≡ dold)
+
+-- ## record_cut
+
+-- the cut that a draft comes to now
+abbrev pub cut_now : JournalValue → DraftValue → Cut
+cut_now j draft = record { at = length j.entries; parts = draft.parts }
+
+abbrev pub IsRecorded : JournalValue → JournalValue → DraftValue → DraftValue → Result ℕ RecordFault → Type 0
+IsRecorded jold jnew dold dnew (Ok number) = (length jold.cuts < most_cuts) × (first_off jold.entries dold.parts ≡ None)
+    × (number ≡ length jold.cuts + 1)
+    × (jnew ≡ record { entries = jold.entries; cuts = jold.cuts ++ cut_now jold dold ∷ [] })
+    × (dnew ≡ record { parts = dold.parts; recorded = Some number })
+IsRecorded jold jnew dold dnew (Err FullOfCuts) = (length jold.cuts ≡ most_cuts) × (jnew ≡ jold) × (dnew ≡ dold)
+IsRecorded jold jnew dold dnew (Err (Differs v listed journalled)) = (length jold.cuts < most_cuts)
+    × (first_off jold.entries dold.parts ≡ Some (Differs v listed journalled)) × (jnew ≡ jold) × (dnew ≡ dold)
+IsRecorded jold jnew dold dnew (Err NoMemoryForCut) = (length jold.cuts < most_cuts) × (first_off jold.entries dold.parts ≡ None) × (jnew ≡ jold) × (dnew ≡ dold)
+
+-- ## give_back
+
+-- with the image of a part, where the cut was recorded
+abbrev pub images_after : Option ℕ → Part → List Image → List Image
+images_after None p images = images
+images_after (Some number) p images = images ++ record { set = p.image; point = p.count } ∷ []
+
+-- the shard is held no longer, and has the image of its part where the draft's cut was recorded; no device was touched
+pub record IsGivenBack {D : Type 0} (old new : ShardValue D) (draft_old draft_new : DraftValue) : Type 0 where
+  pub part : Part
+  pub held_for : old.held ≡ Some part
+  pub shard : new ≡ shard_value old.number new.volume old.entries (images_after draft_old.recorded part old.images) old.last None
+  pub devices : new.volume.devices ≡ old.volume.devices
+  pub area : new.volume.area ≡ old.volume.area
+  pub parts : IsTakenOut part draft_old.parts draft_new.parts
+  pub recorded : draft_new.recorded ≡ draft_old.recorded

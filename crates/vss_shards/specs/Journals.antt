@@ -1,0 +1,43 @@
+-- The journal of several volumes: all entries in one order, and the cuts that were recorded. A recorded cut is of one moment: each
+-- of its parts has the number of entries of its volume that the journal had then. (This project's own.)
+use Rattle.std.specs.Prelude.{ℕ, ◌≡◌, ◌<◌, ◌≤◌, List, [], ◌∷◌, length, take, ◌==◌, if◌then◌else◌, Option, Some, None, slice_get, All}
+use Rattle.vss_shards.specs.declared.entry.Entry.{Entry}
+use Rattle.vss_shards.specs.declared.part.Part.{Part}
+use Rattle.vss_shards.specs.declared.record_fault.RecordFault.{RecordFault}
+use Rattle.vss_shards.specs.declared.record_fault.RecordFault.TheVariants.{Differs}
+use Rattle.vss_shards.specs.Entries.{count_of, most_entries, most_volumes}
+
+pub record Cut : Type 0 where
+  -- how many entries the journal had
+  pub at : ℕ
+  pub parts : List Part
+
+-- what a contract sees of a journal
+pub record JournalValue : Type 0 where
+  pub entries : List Entry
+  pub cuts : List Cut
+
+-- how many cuts a journal may have
+abbrev pub most_cuts : ℕ
+most_cuts = 65536
+
+-- the parts of a cut have the numbers of entries that the first so many entries have
+pub record IsMoment (entries : List Entry) (cut : Cut) : Type 0 where
+  pub within : cut.at ≤ length entries
+  pub counts : All (λ (p : Part). p.count ≡ count_of (take cut.at entries) p.volume) cut.parts
+
+pub record IsJournal (j : JournalValue) : Type 0 where
+  pub few : length j.entries ≤ most_entries
+  pub few_cuts : length j.cuts ≤ most_cuts
+  pub moments : All (IsMoment j.entries) j.cuts
+
+-- there is a count for each volume that may be, its number of entries
+pub record AreCounts (counts : List ℕ) (entries : List Entry) : Type 0 where
+  pub all : length counts ≡ most_volumes
+  pub each : (v : ℕ) → v < most_volumes → slice_get counts v ≡ Some (count_of entries v)
+
+-- the first part whose count is not the journal's, with both numbers
+abbrev pub first_off : List Entry → List Part → Option RecordFault
+first_off entries [] = None
+first_off entries (p ∷ parts) =
+    if p.count == count_of entries p.volume then first_off entries parts else Some (Differs p.volume p.count (count_of entries p.volume))

@@ -1,0 +1,9 @@
+pub mod Entries
+pub mod Shards
+pub mod Journals
+pub mod Drafts
+pub mod Calls
+pub mod Reads
+pub mod Gathered
+pub mod GoingOn
+pub mod OneMoment
