@@ -1,6 +1,6 @@
 -- What keeps the context of a set, and whose session it is.
-use Rattle.std.proofs.Common.{◌≡◌, ◌∙◌, ℕ, ◌+◌, ◌==◌, zero, suc, List, [], ◌∷◌, ◌++◌, Option, Some, None, refl, Bool, true, false, ap, sym, subst, map, find, fold, length, arith}
-use Rattle.std.specs.Prelude.{◌&&◌, ◌||◌, is_some, option_map, if◌then◌else◌}
+use Rattle.std.proofs.Common.{◌≡◌, ◌∙◌, ℕ, ◌+◌, ◌==◌, zero, suc, List, [], ◌∷◌, ◌++◌, Option, Some, None, refl, Bool, true, false, ap, sym, subst, map, find, length, arith}
+use Rattle.std.specs.Prelude.{is_some, option_map, if◌then◌else◌}
 use Rattle.vss_names.specs.declared.context.Context.{Context}
 use Rattle.vss_names.specs.declared.context.Context.TheVariants.{Backup, AppRollback, NasRollback}
 use Rattle.vss_names.specs.declared.set_outcome.SetOutcome.{SetOutcome}
@@ -11,11 +11,9 @@ use Rattle.write_history.specs.declared.mark.Mark.TheVariants.{Clean, Fault, Fau
 use Rattle.write_history.specs.History.{Write, Image, History, point_in}
 use Rattle.set_agenda.specs.Agenda.{is_among}
 use Rattle.set_agenda.specs.Course.{Course}
-use Rattle.requestor.specs.declared.session_call.SessionCall.TheVariants as call
 use Rattle.requestor.specs.declared.stage.Stage.{Stage}
 use Rattle.requestor.specs.declared.stage.Stage.TheVariants.{Opened, Gathered, Started, Prepared, Done, Finished, Failed}
 use Rattle.requestor.specs.Session.{Session, stage_after, agenda_ended, set_failed}
-use Rattle.scenario.specs.declared.op.Op.TheVariants as op
 use Rattle.vss_model.specs.State.{State, SetRow, in_progress, row_changed, has_image}
 use Rattle.vss_model.specs.Ending.{Ending, NothingEnds, AgendaEnds, SetFails, ending, row_settled, concluded, followed, failed_in}
 use Rattle.vss_model.specs.Images.{with_room_if, put}

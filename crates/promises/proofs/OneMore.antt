@@ -1,6 +1,6 @@
 -- One more is said: it leaves no limit outrun.
-use Rattle.std.proofs.Common.{◌≡◌, ◌∙◌, ℕ, ◌+◌, ◌==◌, ◌≤◌, zero, suc, List, [], ◌∷◌, ◌++◌, ◌⊎◌, Option, Some, None, refl, Bool, true, false, ap, sym, subst, inl, inr, map, filter, fold, min, arith}
-use Rattle.std.specs.Prelude.{◌&&◌, ◌||◌, not, nat_lt, ◌-◌, option_map, if◌then◌else◌, slice_get}
+use Rattle.std.proofs.Common.{◌≡◌, ◌∙◌, ℕ, ◌==◌, ◌≤◌, List, [], ◌∷◌, ◌++◌, Option, Some, None, refl, Bool, true, false, ap, sym, subst, map, filter}
+use Rattle.std.specs.Prelude.{◌&&◌, ◌||◌, not}
 use Rattle.std.proofs.lemmas.List.Folds.{list_any-append}
 use Rattle.writer_state.specs.declared.said.Said.{Said}
 use Rattle.tick_limits.specs.Time.{answer_limit, hold_limit, is_spent}
@@ -11,8 +11,6 @@ use Rattle.set_agenda.specs.declared.limit.Limit.TheVariants.{Hold as HoldLimit,
 use Rattle.set_agenda.specs.declared.place.Place.{Place}
 use Rattle.set_agenda.specs.Agenda.{Agenda, Entry, Open, places, group_code, level_code, same_place, left_from, groups_left, open_place, at_place, all_say}
 use Rattle.set_agenda.specs.Limits.{Running as RunningLimit, last_time, opened_at, is_prepare_snapshot, freeze_opened_at, is_hold, first_hold, hold_runs, freeze_runs, answer_runs, runs_if, hold_running, running_at, spent_of}
-use Rattle.set_agenda.specs.Course.{begun}
-use Rattle.vss_model.specs.Ending.{followed}
 use Rattle.vss_model.proofs.Orderly.{true_not_false}
 use Rattle.promises.proofs.Speaks.{Speaks}
 use Rattle.promises.proofs.Stages.{both_parts, equal, group_stage, open_stage, less_both, closed_stays, goes_up, snapshot_from}

@@ -1,6 +1,6 @@
 -- The open group, and what it adds to the log.
-use Rattle.std.proofs.Common.{◌≡◌, ◌∙◌, ℕ, ◌+◌, ◌==◌, ◌≤◌, zero, suc, List, [], ◌∷◌, ◌++◌, ◌⊎◌, Option, Some, None, refl, Bool, true, false, ap, sym, subst, inl, inr, map, filter, fold, min, arith}
-use Rattle.std.specs.Prelude.{◌&&◌, ◌||◌, not, nat_lt, ◌-◌, option_map, if◌then◌else◌, slice_get}
+use Rattle.std.proofs.Common.{◌≡◌, ◌∙◌, ℕ, List, [], ◌∷◌, ◌++◌, Some, None, refl, Bool, true, false, ap, sym, subst, inl, inr, map, filter}
+use Rattle.std.specs.Prelude.{◌&&◌, ◌||◌, if◌then◌else◌}
 use Rattle.std.specs.List.{list_any}
 use Rattle.writer_state.specs.declared.said.Said.{Said}
 use Rattle.set_agenda.specs.declared.kind.Kind.{Kind}

@@ -1,17 +1,16 @@
 -- Replies tell what stands.
-use Rattle.std.proofs.Common.{◌≡◌, ◌∙◌, ℕ, ◌==◌, List, [], ◌∷◌, Option, Some, None, refl, Bool, true, false, ap, sym, subst, map, filter, length, arith}
+use Rattle.std.proofs.Common.{◌≡◌, ◌∙◌, ℕ, ◌==◌, List, [], ◌∷◌, Option, Some, None, refl, Bool, true, false, ap, sym, map, filter, arith}
 use Rattle.std.specs.Prelude.{◌&&◌, ◌||◌, is_some, if◌then◌else◌}
 use Rattle.std.specs.List.{range_with_len}
-use Rattle.vss_names.specs.declared.vss_result.VssResult.TheVariants.{ObjectNotFound}
 use Rattle.write_history.specs.declared.mark.Mark.{Mark}
 use Rattle.write_history.specs.declared.mark.Mark.TheVariants.{Clean}
-use Rattle.write_history.specs.History.{Image, content, contents, point_in, sets_of}
+use Rattle.write_history.specs.History.{Image, content, point_in, sets_of}
 use Rattle.set_agenda.specs.Agenda.{is_among}
 use Rattle.scenario.specs.declared.op.Op.{Op}
 use Rattle.scenario.specs.declared.op.Op.TheVariants.{Read, ImageDigest, ImageBlock, Query}
 use Rattle.scenario.specs.Plan.{Plan, blocks_of}
 use Rattle.vss_model.specs.declared.event.Event.TheVariants.{Line}
-use Rattle.vss_model.specs.Reply.{Reply, Coded, BlockOf, BlocksOf, KeptSets}
+use Rattle.vss_model.specs.Reply.{BlockOf, BlocksOf}
 use Rattle.vss_model.specs.State.{State, SetRow, Kept, history_of, is_kept_set, kept, kept_at, kept_if, kept_of, kept_image, is_complete, row_of}
 use Rattle.vss_model.specs.Images.{image_block, image_blocks}
 use Rattle.vss_model.specs.Lines.{line}
@@ -19,8 +18,7 @@ use Rattle.vss_model.specs.Acts.{Act, happens, reply, state}
 use Rattle.vss_model.specs.Headline.{ReadsAsAtTheCut}
 use Rattle.vss_model.proofs.Headline.{keeps_promises}
 use Rattle.promises.specs.Contents.{block_now}
-use Rattle.promises.specs.Gone.{stands}
-use Rattle.promises.specs.Replies.{TellsTheCut, ListsKept, RepliesTell}
+use Rattle.promises.specs.Replies.{TellsTheCut, RepliesTell}
 
 -- ## the point of a kept image
 

@@ -10,7 +10,6 @@ use Rattle.writer_state.specs.WriterRow.{row_after, row_aborted, one_more}
 use Rattle.writer_state.specs.WriterState.{is_failed, is_ok, failed_at, state_after, stable_again}
 use Rattle.tick_limits.specs.Time.{answer_limit, hold_limit}
 use Rattle.write_history.specs.declared.mark.Mark.{Mark}
-use Rattle.writer_calls.specs.declared.answer.Answer.{Answer}
 use Rattle.writer_calls.specs.Script.{said_of}
 use Rattle.set_agenda.specs.declared.kind.Kind.{Kind}
 use Rattle.set_agenda.specs.declared.group.Group.{Group}
@@ -27,7 +26,7 @@ use Rattle.vss_model.specs.declared.event.Event.TheVariants.{Line, Answer as Ans
 use Rattle.vss_model.specs.State.{State, left_now}
 use Rattle.vss_model.specs.Ending.{Ending, NothingEnds, AgendaEnds, SetFails, ending, concluded, followed, runs}
 use Rattle.vss_model.specs.Steps.{answered, ticked, later}
-use Rattle.vss_model.specs.Acts.{Act, enabled, order_of_writer, idle_now, happens, after, state}
+use Rattle.vss_model.specs.Acts.{Act, enabled, order_of_writer, idle_now, happens, state}
 use Rattle.vss_model.specs.Effects.{lost as lost_by, lost_order_if}
 use Rattle.promises.specs.Rows.{RowSays, RowsTell}
 use Rattle.promises.proofs.ByEvent.{after_enabled}
