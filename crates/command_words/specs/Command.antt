@@ -1,4 +1,4 @@
--- The words that the program takes, and what they ask for: `run`, `run F`, `gen N`, `gen N F`. F is a folder's name and not empty;
+-- The words that the program takes, and what they ask for: `run`, `run F`, `gen N`, `gen N F`, `inspect`. F is a folder's name and not empty;
 -- N is a number of at most four bytes, in decimal digits without a leading zero. (This project's own.)
 use Rattle.std.specs.Prelude.{ℕ, Bool, false, List, [], ◌∷◌, ◌==◌, ◌&&◌, not, length, nat_le, codes, bytes_eq, if◌then◌else◌, Option, Some, None, Result, Ok, Err, slice_get, option_map}
 use Rattle.std.specs.List.{list_all}
@@ -6,7 +6,7 @@ use Rattle.scenario.specs.declared.reason.Reason.{Reason}
 use Rattle.scenario.specs.Numbers.{number_in}
 use Rattle.command_words.specs.declared.command.Command.{Command}
 use Rattle.command_words.specs.declared.task.Task.{Task}
-use Rattle.command_words.specs.declared.task.Task.TheVariants.{Run, Generate}
+use Rattle.command_words.specs.declared.task.Task.TheVariants.{Run, Generate, Inspect}
 
 -- what a command asks for; without a folder the devices are in memory
 pub record Asked : Type 0 where
@@ -59,11 +59,17 @@ generate_in (Some n) folder = with_folder (Generate n) (folder_of folder)
 abbrev pub generate_with : Option (List ℕ) → Option (List ℕ) → Option Asked
 generate_with number folder = generate_in (number_of number) folder
 
+-- the word `inspect`, behind which there is none
+abbrev pub inspect_with : Option (List ℕ) → Option Asked
+inspect_with None = Some (record { task = Inspect; folder = None })
+inspect_with (Some more) = None
+
 abbrev pub meant : Option (List ℕ) → Option (List ℕ) → Option (List ℕ) → Option Asked
 meant None second third = None
 meant (Some word) second third =
     if bytes_eq word (codes "run") then run_with second third
     else if bytes_eq word (codes "gen") then generate_with second third
+    else if bytes_eq word (codes "inspect") then inspect_with second
     else None
 
 -- what the words ask for, where they are a command

@@ -2,7 +2,7 @@
 
 ghost use Rattle.std.specs.Prelude.{◌≡◌, not, map, string_bytes, option_map, IfOk};
 ghost use Rattle.std.specs.List.{list_all};
-ghost use Rattle.command_words.specs.Command.{shown, is_dashed, are_plain, folder_of, number_of, with_folder, run_with, generate_with, meant, command};
+ghost use Rattle.command_words.specs.Command.{shown, is_dashed, are_plain, folder_of, number_of, with_folder, run_with, generate_with, inspect_with, meant, command};
 
 use crate::command::Command;
 use crate::parts::{Parts, parts_of};
@@ -81,6 +81,16 @@ fn generate_with<'a>(number: Option<&'a str>, folder: Option<&'a str>) -> Option
     }
 }
 
+/// What `inspect` and the word after it ask for.
+fn inspect_with<'a>(more: Option<&'a str>) -> Option<Command<'a>>
+    ensures { option_map shown result ≡ inspect_with (option_map (λ s. s.now) more.entry) }
+{
+    match more {
+        None => with_folder(Task::Inspect, None),
+        Some(_) => None,
+    }
+}
+
 /// What these words ask for, in order.
 fn meant<'a>(parts: Parts<'a>) -> Option<Command<'a>>
     ensures { option_map shown result ≡ meant (option_map (λ s. s.now) parts.entry.first) (option_map (λ s. s.now) parts.entry.second) (option_map (λ s. s.now) parts.entry.third) }
@@ -89,11 +99,12 @@ fn meant<'a>(parts: Parts<'a>) -> Option<Command<'a>>
         None => None,
         Some("run") => run_with(parts.second, parts.third),
         Some("gen") => generate_with(parts.second, parts.third),
+        Some("inspect") => inspect_with(parts.second),
         Some(_) => None,
     }
 }
 
-/// What the words ask for: `run`, `run F`, `gen N` or `gen N F`. None exactly where they are no command.
+/// What the words ask for: `run`, `run F`, `gen N`, `gen N F` or `inspect`. None exactly where they are no command.
 pub fn command_of<'a>(
     alloc: Global,
     words: &'a [String],

@@ -5,4 +5,6 @@ pub enum Task {
     Run,
     /// Run the generated scenario of a number.
     Generate { number: u32 },
+    /// List an area from the standard input.
+    Inspect,
 }

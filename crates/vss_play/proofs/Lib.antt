@@ -18,3 +18,4 @@ pub mod ClosingLines
 pub mod Ended
 pub mod Histories
 pub mod ActorLoop
+pub mod Digesting

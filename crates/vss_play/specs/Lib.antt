@@ -4,3 +4,4 @@ pub mod Made
 pub mod Closing
 pub mod Messages
 pub mod Acting
+pub mod Digested

@@ -12,6 +12,7 @@ mod acting;
 mod actor_loop;
 mod closing;
 mod devices;
+mod digests;
 mod gate;
 mod groups;
 mod idle;

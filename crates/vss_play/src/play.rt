@@ -1,13 +1,15 @@
-ghost use Rattle.std.specs.Prelude.{◌≡◌, ◌+◌, ◌≤◌, ◌++◌, ◌⊎◌, Some, false, length, map, OnOk, OnErr, IfOk, IsErrOf, option_map};
+ghost use Rattle.std.specs.Prelude.{◌≡◌, ◌+◌, ◌≤◌, ◌++◌, ◌⊎◌, Some, false, length, map, OnOk, OnErr, IfOk, IsErr, IsErrOf, option_map};
 ghost use Rattle.vss_names.specs.Faults.{Rose, all_counted};
 ghost use Rattle.vss_report.specs.Report.{IsReportSoFar};
 ghost use Rattle.vss_model.specs.Trail.{event_of};
 ghost use Rattle.vss_report.specs.ToldLines.{IsLineOf};
+ghost use Rattle.vss_play.specs.Digested.{AreDigests};
 ghost use Rattle.vss_play.specs.Running.{MayIfCan};
-ghost use Rattle.vss_play.specs.Played.{run_of, is_finished, tells_in, IsKept, IsTurn, IsFresh, IsUndone, IsDropped, IsQuietPlay, IsClosed, IsEnded, AnyRose, AreNamed, device_names};
+ghost use Rattle.vss_play.specs.Played.{run_of, is_finished, tells_in, IsKept, IsTurn, IsFresh, IsUndone, IsDropped, IsQuietPlay, IsClosed, IsEnded, AnyRose, AreNamed, AreasHold, device_names};
 
 use crate::closing::close_all;
 use crate::devices::{give_all, make_devices};
+use crate::digests::digest_all;
 use crate::groups::open_groups;
 use crate::idle::{may_idle, next_answer};
 use crate::moved::Moved;
@@ -23,7 +25,7 @@ use std::marker::Model;
 use volume_device::{Device, Maker, Store};
 use vss_model::Event;
 use vss_model::laws::turns_come_to_an_end;
-use vss_names::Text;
+use vss_names::{Failed, Text};
 use vss_report::MOST_BYTES;
 use vss_world::{Reply, World};
 use write_history::{Actor, Move, Trail, TrailFault};
@@ -245,6 +247,24 @@ impl<D: Device> Play<D> {
                 out.truncate(before);
                 return Err(fault);
             }
+            Ok(()) => {}
+        }
+        Ok(())
+    }
+
+    /// Writes each group's area to its device, and gives the SHA-256 of all blocks of each volume, in order of the volumes.
+    pub fn digests(&mut self, out: &mut [[u8; 32]]) -> Result<(), Failed>
+        requires many { length out.old ≡ length self.old.plan.volumes }
+        ensures digests { OnOk result (AreDigests (tells_in D.told self.new) self.new.plan self.new.trail out.new) }
+        ensures areas { OnOk result (AreasHold D.told self.new.plan self.new.trail self.new.devices) }
+        ensures quiet { IsQuietPlay D.told D.count self.old self.new }
+        ensures kept { IsKept D.told D.count self.new }
+        ensures unfailed { OnOk result (map D.count self.new.devices ≡ map D.count self.old.devices) }
+        ensures rose { IsErr result → AnyRose (map D.count self.old.devices) (map D.count self.new.devices) }
+    {
+        turns_come_to_an_end();
+        match digest_all(&self.scenario, &self.trail, &mut self.world, out) {
+            Err(Failed) => return Err(Failed),
             Ok(()) => {}
         }
         Ok(())

@@ -1,0 +1,8 @@
+use Rattle.std.proofs.Common.{refl, ◌∙◌}
+use Rattle.vss_play.proofs.Areas.{areas_quiet, ending_quiet, ending_trans, still_ending}
+use Rattle.vss_play.proofs.ClosingLines.{any_earlier}
+use Rattle.vss_play.proofs.Digesting.{digests_told}
+use Rattle.vss_play.proofs.digests.digest_all.Goals as goal
+
+pub returns-clause-areas : goal.returns-clause-areas
+returns-clause-areas g c = areas_quiet g.D.Device.told g.D.Device.count c.sync_groups.new.world c.digest_volumes.new.world c.args.scenario.now c.args.trail.now.moves c.digest_volumes.ensures.quiet c.in-Ok.ensures.areas

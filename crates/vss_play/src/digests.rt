@@ -1,0 +1,66 @@
+//! The digests of the volumes at the end of a run.
+
+ghost use Rattle.std.specs.Prelude.{◌≡◌, length, map, OnOk, IsErr};
+ghost use Rattle.vss_world.specs.Devices.{tells_of};
+ghost use Rattle.vss_world.specs.Quiet.{IsQuiet};
+ghost use Rattle.vss_play.specs.Played.{AnyRose, AreasHold};
+ghost use Rattle.vss_play.specs.Closing.{StandsAfter, IsEnding};
+ghost use Rattle.vss_play.specs.Digested.{AreDigests};
+
+use crate::closing::sync_groups;
+use crate::play_fault::PlayFault;
+use scenario::Scenario;
+use volume_device::Device;
+use vss_names::Failed;
+use vss_world::World;
+use write_history::Trail;
+
+/// Digests each volume, in order.
+fn digest_volumes<D: Device>(
+    scenario: &Scenario,
+    trail: &Trail,
+    world: &mut World<D>,
+    out: &mut [[u8; 32]],
+) -> Result<(), Failed>
+    requires many { length out.old ≡ length scenario.now.volumes }
+    requires stands { StandsAfter D.told world.old scenario.now trail.now.moves }
+    ensures digests { OnOk result (AreDigests (tells_of D.told scenario.now world.old.devices) scenario.now trail.now.moves out.new) }
+    ensures quiet { IsQuiet D.told D.count world.old world.new scenario.now }
+    ensures same { OnOk result (map D.count world.new.devices ≡ map D.count world.old.devices) }
+    ensures rose { IsErr result → AnyRose (map D.count world.old.devices) (map D.count world.new.devices) }
+{
+    for volume in 0..scenario.volumes() {
+        match world.digest(scenario, volume) {
+            Ok(digest) => out[volume as usize] = digest,
+            Err(Failed) => return Err(Failed),
+        }
+    }
+    Ok(())
+}
+
+/// Writes each group's area to its device, and then digests each volume, in order.
+pub fn digest_all<D: Device>(
+    scenario: &Scenario,
+    trail: &Trail,
+    world: &mut World<D>,
+    out: &mut [[u8; 32]],
+) -> Result<(), Failed>
+    requires many { length out.old ≡ length scenario.now.volumes }
+    requires stands { StandsAfter D.told world.old scenario.now trail.now.moves }
+    ensures digests { OnOk result (AreDigests (tells_of D.told scenario.now world.old.devices) scenario.now trail.now.moves out.new) }
+    ensures areas { OnOk result (AreasHold D.told scenario.now trail.now.moves world.new.devices) }
+    ensures ending { IsEnding D.told D.count world.old world.new scenario.now }
+    ensures same { OnOk result (map D.count world.new.devices ≡ map D.count world.old.devices) }
+    ensures rose { IsErr result → AnyRose (map D.count world.old.devices) (map D.count world.new.devices) }
+{
+    match sync_groups(scenario, trail, world) {
+        Ok(()) => {}
+        Err(PlayFault::Failed) => return Err(Failed),
+        Err(PlayFault::OutOfMemory) => unreachable!(),
+    }
+    match digest_volumes(scenario, trail, world, out) {
+        Ok(()) => {}
+        Err(Failed) => return Err(Failed),
+    }
+    Ok(())
+}
