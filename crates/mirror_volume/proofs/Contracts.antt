@@ -49,11 +49,12 @@ module _ {D : Type 0} (told : D → Option (List (List ℕ))) (size count : D �
   quiet_rose old new is rose = all_rose (count old.primary) (count new.primary) (map (λ m. count m.device) old.mirrors) (map (λ m. count m.device) new.mirrors) is.primary.later
       (subst (λ (ms : List (Mirror D)). AllLater (map (λ m. count m.device) old.mirrors) (map (λ m. count m.device) ms)) (sym is.mirrors) (later_itself (map (λ m. count m.device) old.mirrors))) (inl rose)
 
-  pub quiet_same : (old new : MirrorValue D) → IsQuiet told size count old new → IsSame (tells told) (λ v. size v.primary) (faults_of count) old new
+  pub quiet_same : (old new : MirrorValue D) → IsQuiet told size count old new → IsSame (tells told) (λ v. size v.primary) (λ v. None) (faults_of count) old new
   quiet_same old new is = record {
     tells_is = ap (λ (t : Option (List (List ℕ))). is_some t && list_all (λ m. is_some (told m.device)) new.mirrors) is.primary.told_is
         ∙ ap (λ (ms : List (Mirror D)). is_some (told old.primary) && list_all (λ m. is_some (told m.device)) ms) is.mirrors;
     size_is = is.primary.size_is;
+    slots_is = refl;
     later = quiet_later old new is;
   }
 
@@ -61,20 +62,21 @@ module _ {D : Type 0} (told : D → Option (List (List ℕ))) (size count : D �
   quiet_ready old new is = inl (let same = ap (λ (ms : List (Mirror D)). count_by is_ready ms) is.mirrors in omega arith)
 
   -- nothing changed
-  pub itself_same : (v new : MirrorValue D) → new ≡ v → IsSame (tells told) (λ v. size v.primary) (faults_of count) v new
-  itself_same v new same = record { tells_is = ap (tells told) same; size_is = ap (λ (x : MirrorValue D). size x.primary) same; later = (let e = ap (faults_of count) same in omega arith) }
+  pub itself_same : (v new : MirrorValue D) → new ≡ v → IsSame (tells told) (λ v. size v.primary) (λ v. None) (faults_of count) v new
+  itself_same v new same = record { tells_is = ap (tells told) same; size_is = ap (λ (x : MirrorValue D). size x.primary) same; slots_is = refl; later = (let e = ap (faults_of count) same in omega arith) }
 
   pub itself_ready : (v new : MirrorValue D) → new ≡ v → IsNoLessReady ready_count (faults_of count) v new
   itself_ready v new same = inl (let e = ap ready_count same in omega arith)
 
   -- ## writes
 
-  written_same : (old new : MirrorValue D) (w : Write) → IsWritten told size count old new w → IsSame (tells told) (λ v. size v.primary) (faults_of count) old new
+  written_same : (old new : MirrorValue D) (w : Write) → IsWritten told size count old new w → IsSame (tells told) (λ v. size v.primary) (λ v. None) (faults_of count) old new
   written_same old new w is = record {
     tells_is = ap (λ (t : Option (List (List ℕ))). is_some t && list_all (λ m. is_some (told m.device)) new.mirrors) is.told_is
         ∙ ap (λ (t : Bool). t && list_all (λ m. is_some (told m.device)) new.mirrors) (put_tells (told old.primary) w.block w.bytes)
         ∙ ap (λ (t : Bool). is_some (told old.primary) && t) (tells_followed told size count w.block w.bytes old.mirrors new.mirrors is.mirrors);
     size_is = is.size_is;
+    slots_is = refl;
     later = all_later (count old.primary) (count new.primary) (map (λ m. count m.device) old.mirrors) (map (λ m. count m.device) new.mirrors) (let same = is.unfailed in omega arith)
         (all_later_followed told size count w.block w.bytes old.mirrors new.mirrors is.mirrors);
   }
@@ -86,7 +88,7 @@ module _ {D : Type 0} (told : D → Option (List (List ℕ))) (size count : D �
         (all_later_followed told size count w.block w.bytes old.mirrors new.mirrors is.mirrors) (inr rose))
   ]
 
-  pub write_same : (old new : MirrorValue D) (w : Write) (result : Result Written WriteFault) → IsWrite told size count old new w result → IsSame (tells told) (λ v. size v.primary) (faults_of count) old new
+  pub write_same : (old new : MirrorValue D) (w : Write) (result : Result Written WriteFault) → IsWrite told size count old new w result → IsSame (tells told) (λ v. size v.primary) (λ v. None) (faults_of count) old new
   write_same old new w (Ok done) is = written_same old new w is.1
   write_same old new w (Err fault) is = quiet_same old new is.2
 
@@ -105,20 +107,22 @@ module _ {D : Type 0} (told : D → Option (List (List ℕ))) (size count : D �
       ap (λ (n : ℕ). without_up_to n h) none ∙ ap (λ is. let g : History = record { writes = h.writes; images = is } in g) (none_gone h.images (λ set among. stood.above_zero set (ap (is_among set) stood.sets ∙ among)))
 
   pub write_is : (old new : MirrorValue D) (w : Write) (result : Result Written WriteFault) → IsWrite told size count old new w result
-      → ((h : History) → StandsFor told size old h → StandsFor told size new (after_write w result h)) → contract.IsWrite (StandsFor told size) (λ v. size v.primary) (faults_of count) old new w result
+      → ((h : History) → StandsFor told size old h → StandsFor told size new (after_write w result h)) → contract.IsWrite (StandsFor told size) (λ v. size v.primary) (λ v. None) (faults_of count) old new w result
   write_is old new w (Ok done) is stands = record {
     in_range = is.1.in_range;
+    evicted = λ h stood. is.0;
     stands_for = λ h stood. subst (λ (g : History). StandsFor told size new (written w g)) (sym (none_evicted old h done.evicted_up_to stood is.0)) (stands h stood);
   }
   write_is old new w (Err fault) is stands = record {
     cause = block_cause old new w.block fault.cause is.1 is.2;
+    evicted = λ low h stood. is.0;
     none = λ past. is.0;
     stands_for = λ h stood. subst (λ (g : History). StandsFor told size new g) (sym (none_evicted old h fault.evicted_up_to stood is.0)) (stands h stood);
   }
 
   -- ## reads
 
-  pub read_same : (old new : MirrorValue D) (b : ℕ) (bytes : List ℕ) (result : Result Unit Cause) → IsRead told size count old new b bytes result → IsSame (tells told) (λ v. size v.primary) (faults_of count) old new
+  pub read_same : (old new : MirrorValue D) (b : ℕ) (bytes : List ℕ) (result : Result Unit Cause) → IsRead told size count old new b bytes result → IsSame (tells told) (λ v. size v.primary) (λ v. None) (faults_of count) old new
   read_same old new b bytes (Ok done) is = quiet_same old new is.2
   read_same old new b bytes (Err cause) is = quiet_same old new is.1
 
@@ -150,12 +154,13 @@ module _ {D : Type 0} (told : D → Option (List (List ℕ))) (size count : D �
       (sym (ap (map (λ x. count x.device)) is.mirrors ∙ map-slice_set (λ x. count x.device) old.mirrors k (record { device = is.after; holds = m.holds; stale = m.stale })))
       (rose_set (map (λ x. count x.device) old.mirrors) k (count m.device) (count is.after) (slice_get_map (λ (x : Mirror D). count x.device) old.mirrors k m is.was) rose)))
 
-  called_same : (old new : MirrorValue D) (k : ℕ) (m : Mirror D) → IsQuietOn told size count old new k m → IsSame (tells told) (λ v. size v.primary) (faults_of count) old new
+  called_same : (old new : MirrorValue D) (k : ℕ) (m : Mirror D) → IsQuietOn told size count old new k m → IsSame (tells told) (λ v. size v.primary) (λ v. None) (faults_of count) old new
   called_same old new k m is = record {
     tells_is = ap (λ (d : D). is_some (told d) && list_all (λ x. is_some (told x.device)) new.mirrors) is.primary
         ∙ ap (λ (t : Bool). is_some (told old.primary) && t) (ap (list_all (λ x. is_some (told x.device))) is.mirrors
         ∙ tells_set (λ x. is_some (told x.device)) old.mirrors k m (record { device = is.after; holds = m.holds; stale = m.stale }) is.was (ap (λ (t : Option (List (List ℕ))). is_some t) is.device.told_is));
     size_is = ap size is.primary;
+    slots_is = refl;
     later = all_later (count old.primary) (count new.primary) (map (λ x. count x.device) old.mirrors) (map (λ x. count x.device) new.mirrors) (let same = ap count is.primary in omega arith) (called_later old new k m is);
   }
 
@@ -163,7 +168,7 @@ module _ {D : Type 0} (told : D → Option (List (List ℕ))) (size count : D �
   called_ready old new k m is =
       inl (subst (λ (ms : List (Mirror D)). count_by is_ready old.mirrors ≤ count_by is_ready ms) (sym is.mirrors) (ready_set old.mirrors k m (record { device = is.after; holds = m.holds; stale = m.stale }) is.was (λ r. r)))
 
-  pub image_same : (old new : MirrorValue D) (set b : ℕ) (bytes : List ℕ) (result : Result Unit ImageFault) → IsImageRead told size count old new set b bytes result → IsSame (tells told) (λ v. size v.primary) (faults_of count) old new
+  pub image_same : (old new : MirrorValue D) (set b : ℕ) (bytes : List ℕ) (result : Result Unit ImageFault) → IsImageRead told size count old new set b bytes result → IsSame (tells told) (λ v. size v.primary) (λ v. None) (faults_of count) old new
   image_same old new set b bytes (Ok done) is = called_same old new is.0.place is.0.mirror is.0.quiet
   image_same old new set b bytes (Err NoSuchImage) is = itself_same old new is.1
   image_same old new set b bytes (Err NoBlock) is = itself_same old new is.2
@@ -195,18 +200,19 @@ module _ {D : Type 0} (told : D → Option (List (List ℕ))) (size count : D �
   -- ## images
 
   moved_same : (old new : MirrorValue D) (k : ℕ) (m next : Mirror D) → new.primary ≡ old.primary → slice_get old.mirrors k ≡ Some m → next.device ≡ m.device → new.mirrors ≡ slice_set old.mirrors k next
-      → IsSame (tells told) (λ v. size v.primary) (faults_of count) old new
+      → IsSame (tells told) (λ v. size v.primary) (λ v. None) (faults_of count) old new
   moved_same old new k m next primary was device mirrors = record {
     tells_is = ap (λ (d : D). is_some (told d) && list_all (λ x. is_some (told x.device)) new.mirrors) primary
         ∙ ap (λ (t : Bool). is_some (told old.primary) && t) (ap (list_all (λ x. is_some (told x.device))) mirrors ∙ tells_set (λ x. is_some (told x.device)) old.mirrors k m next was (ap (λ (d : D). is_some (told d)) device));
     size_is = ap size primary;
+    slots_is = refl;
     later = all_later (count old.primary) (count new.primary) (map (λ x. count x.device) old.mirrors) (map (λ x. count x.device) new.mirrors) (let same = ap count primary in omega arith)
         (subst (λ (cs : List ℕ). AllLater (map (λ x. count x.device) old.mirrors) cs)
         (sym (ap (map (λ x. count x.device)) mirrors ∙ map-slice_set (λ x. count x.device) old.mirrors k next))
         (later_set (map (λ x. count x.device) old.mirrors) k (count m.device) (count next.device) (slice_get_map (λ (x : Mirror D). count x.device) old.mirrors k m was) (let same = ap count device in omega arith)));
   }
 
-  pub cut_same : {E : Type 0} (old new : MirrorValue D) (set : ℕ) (result : Result Unit E) → IsCut old new set result → IsSame (tells told) (λ v. size v.primary) (faults_of count) old new
+  pub cut_same : {E : Type 0} (old new : MirrorValue D) (set : ℕ) (result : Result Unit E) → IsCut old new set result → IsSame (tells told) (λ v. size v.primary) (λ v. None) (faults_of count) old new
   cut_same old new set (Ok done) is = moved_same old new is.place is.split.mirror (record { device = is.split.mirror.device; holds = Some set; stale = is.split.mirror.stale }) is.primary is.split.was refl is.mirrors
   cut_same old new set (Err refused) is = itself_same old new is.1
 
@@ -218,7 +224,7 @@ module _ {D : Type 0} (told : D → Option (List (List ℕ))) (size count : D �
   )
   cut_is old new set (Err refused) is stands = is
 
-  pub drop_same : (old new : MirrorValue D) (set : ℕ) (result : Result Unit ImageFault) → IsDropped old new set result → IsSame (tells told) (λ v. size v.primary) (faults_of count) old new
+  pub drop_same : (old new : MirrorValue D) (set : ℕ) (result : Result Unit ImageFault) → IsDropped old new set result → IsSame (tells told) (λ v. size v.primary) (λ v. None) (faults_of count) old new
   drop_same old new set (Ok done) is = moved_same old new is.1.place is.1.mirror (record { device = is.1.mirror.device; holds = None; stale = is.1.mirror.stale }) is.1.primary is.1.was refl is.1.mirrors
   drop_same old new set (Err fault) is = itself_same old new is.2
 

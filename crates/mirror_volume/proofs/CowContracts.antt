@@ -4,10 +4,11 @@ use Rattle.std.specs.Prelude.{slice_get, ◌&&◌, map, is_some, Result, Ok, Err
 use Rattle.std.specs.List.{list_all}
 use Rattle.std.proofs.lemmas.Option.{same_Some}
 use Rattle.vss_names.specs.Faults.{Rose}
-use Rattle.write_history.specs.History.{Write}
-use Rattle.cow_volume.specs.GroupValue.{GroupValue}
+use Rattle.write_history.specs.History.{History, Write}
+use Rattle.write_history.specs.Slots.{evicted_up_to}
+use Rattle.cow_volume.specs.GroupValue.{GroupValue, placed}
 use Rattle.cow_volume.specs.Calls.{IsKept, IsQuiet, VolumeRose, AreaRose, HasCauseAt, blocks_in, is_among}
-use Rattle.cow_volume.specs.OneVolume.{StandsForOne, blocks_of, image_sets, tells, IsOneWrite, IsOneNow, IsOneShown, HasOneCause, HasOneImageCause, IsOneDropped}
+use Rattle.cow_volume.specs.OneVolume.{StandsForOne, blocks_of, image_sets, tells, IsEvictedOne, IsOneWrite, IsOneNow, IsOneShown, HasOneCause, HasOneImageCause, IsOneDropped}
 use Rattle.cow_volume.specs.declared.cause.Cause.{Cause}
 use Rattle.cow_volume.specs.declared.cause.Cause.TheVariants.{NoSuchBlock, Volume, Area}
 use Rattle.cow_volume.specs.declared.written.Written.{Written}
@@ -15,7 +16,7 @@ use Rattle.cow_volume.specs.declared.write_fault.WriteFault.{WriteFault}
 use Rattle.cow_volume.specs.declared.image_fault.ImageFault.{ImageFault}
 use Rattle.cow_volume.specs.declared.image_fault.ImageFault.TheVariants.{NoSuchImage, NoSuchBlock as NoBlock, Volume as VolumeFailed, Area as AreaFailed}
 use Rattle.mirror_volume.specs.Contract as contract
-use Rattle.mirror_volume.specs.CowFaults.{faults_of}
+use Rattle.mirror_volume.specs.CowFaults.{faults_of, slots_of}
 use Rattle.mirror_volume.proofs.Ready.{AllLater, AnyRose, all_later, all_rose}
 
 -- ## the devices of two states, one by one
@@ -42,15 +43,22 @@ one_rose count (x ∷ old) (y ∷ new) zero d e at also rose =
     inl (subst (λ z. Rose (count z) (count y)) (sym first) (subst (λ z. Rose (count d) (count z)) (sym second) rose))
 one_rose count (x ∷ old) (y ∷ new) (suc v) d e at also rose = inr (one_rose count old new v d e at also rose)
 
+-- one volume is the whole list
+one_listed : (ns : List ℕ) → length ns ≡ 1 → ns ≡ blocks_in (slice_get ns 0) ∷ []
+one_listed [] one = absurd (omega arith)
+one_listed (n ∷ []) one = refl
+one_listed (n ∷ m ∷ ns) one = absurd (omega arith)
+
 module _ {D : Type 0} (told : D → Option (List (List ℕ))) (size count : D → ℕ) (lending : D → Bool) where
   later : (old new : GroupValue D) → IsKept told size count lending old new → AllLater (map count old.devices) (map count new.devices)
   later old new kept = each_later count old.devices new.devices kept.devices (λ v d e at also. (kept.each v d e at also).later)
 
-  pub kept_same : (old new : GroupValue D) → IsKept told size count lending old new → contract.IsSame (λ v. tells told v) (λ v. blocks_of v) (λ v. faults_of count v) old new
+  pub kept_same : (old new : GroupValue D) → IsKept told size count lending old new → contract.IsSame (λ v. tells told v) (λ v. blocks_of v) (λ v. slots_of v) (λ v. faults_of count v) old new
   kept_same old new kept = record {
     tells_is = ap (λ (t : Bool). t && is_some (told new.area.device)) (each_tells (λ d. is_some (told d)) old.devices new.devices kept.devices (λ v d e at also. (kept.each v d e at also).tells))
         ∙ ap (λ (t : Bool). list_all (λ d. is_some (told d)) old.devices && t) kept.area.tells;
     size_is = ap (λ (ns : List ℕ). blocks_in (slice_get ns 0)) kept.volumes;
+    slots_is = ap (λ (n : ℕ). Some n) kept.slots;
     later = all_later (count old.area.device) (count new.area.device) (map count old.devices) (map count new.devices) kept.area.later (later old new kept);
   }
 
@@ -69,12 +77,16 @@ module _ {D : Type 0} (told : D → Option (List (List ℕ))) (size count : D �
 
   -- ## the calls
 
-  pub write_is : (old new : GroupValue D) (w : Write) (result : Result Written WriteFault) → IsOneWrite told size count lending old new w result
-      → contract.IsWrite (λ v h. StandsForOne told v h) (λ v. blocks_of v) (λ v. faults_of count v) old new w result
-  write_is old new w (Ok done) is = record { in_range = is.in_range; stands_for = is.stands }
-  write_is old new w (Err fault) is = record { cause = block_cause old new w.block fault.cause is.kept is.cause; none = is.none; stands_for = is.stands }
+  evicted_is : (old : GroupValue D) (b up_to : ℕ) → ((h : History) → StandsForOne told old h → IsEvictedOne old b h up_to) → contract.IsEvicted (λ v h. StandsForOne told v h) (λ v. blocks_of v) (λ v. slots_of v) old b up_to
+  evicted_is old b up_to is = λ h stood sets most.
+      is h stood sets most ∙ ap (λ (ns : List ℕ). evicted_up_to sets (length old.area.records) (placed ns) 0 b (h ∷ [])) (one_listed old.area.volumes (sym stood.histories))
 
-  pub write_same : (old new : GroupValue D) (w : Write) (result : Result Written WriteFault) → IsOneWrite told size count lending old new w result → contract.IsSame (λ v. tells told v) (λ v. blocks_of v) (λ v. faults_of count v) old new
+  pub write_is : (old new : GroupValue D) (w : Write) (result : Result Written WriteFault) → IsOneWrite told size count lending old new w result
+      → contract.IsWrite (λ v h. StandsForOne told v h) (λ v. blocks_of v) (λ v. slots_of v) (λ v. faults_of count v) old new w result
+  write_is old new w (Ok done) is = record { in_range = is.in_range; evicted = evicted_is old w.block done.evicted_up_to is.evicted; stands_for = is.stands }
+  write_is old new w (Err fault) is = record { cause = block_cause old new w.block fault.cause is.kept is.cause; evicted = λ low. evicted_is old w.block fault.evicted_up_to (is.evicted low); none = is.none; stands_for = is.stands }
+
+  pub write_same : (old new : GroupValue D) (w : Write) (result : Result Written WriteFault) → IsOneWrite told size count lending old new w result → contract.IsSame (λ v. tells told v) (λ v. blocks_of v) (λ v. slots_of v) (λ v. faults_of count v) old new
   write_same old new w (Ok done) is = kept_same old new is.kept
   write_same old new w (Err fault) is = kept_same old new is.kept
 
@@ -96,10 +108,11 @@ module _ {D : Type 0} (told : D → Option (List (List ℕ))) (size count : D �
   drop_is old new set (Ok done) is = (is.0, is.1.stands)
   drop_is old new set (Err fault) is = is
 
-  pub drop_same : (old new : GroupValue D) (set : ℕ) (result : Result Unit ImageFault) → IsOneDropped told size count lending old new set result → contract.IsSame (λ v. tells told v) (λ v. blocks_of v) (λ v. faults_of count v) old new
+  pub drop_same : (old new : GroupValue D) (set : ℕ) (result : Result Unit ImageFault) → IsOneDropped told size count lending old new set result → contract.IsSame (λ v. tells told v) (λ v. blocks_of v) (λ v. slots_of v) (λ v. faults_of count v) old new
   drop_same old new set (Ok done) is = kept_same old new is.1.kept
   drop_same old new set (Err fault) is = record {
     tells_is = ap (tells told) is.2;
     size_is = ap (λ (v : GroupValue D). blocks_of v) is.2;
+    slots_is = ap (λ (v : GroupValue D). slots_of v) is.2;
     later = (let e = ap (faults_of count) is.2 in omega arith);
   }

@@ -1,11 +1,11 @@
 -- What a volume with images has said to the first commands of a list.
-use Rattle.std.proofs.Common.{◌≡◌, ℕ, zero, suc, ◌+◌, ◌<◌, ◌≤◌, List, [], ◌∷◌, ◌++◌, length, take, drop, refl, ap, sym, ◌∙◌, arith, Bool, Some, subst, get_or}
+use Rattle.std.proofs.Common.{◌≡◌, ℕ, zero, suc, ◌+◌, ◌<◌, ◌≤◌, List, [], ◌∷◌, ◌++◌, length, take, drop, refl, ap, sym, ◌∙◌, arith, Bool, Option, Some, subst, get_or}
 use Rattle.std.specs.Prelude.{slice_get}
 use Rattle.std.proofs.lemmas.List.{take_all, length-append}
 use Rattle.write_history.specs.History.{History, sets_of}
 use Rattle.mirror_volume.specs.declared.command.Command.{Command}
 use Rattle.mirror_volume.specs.declared.said.Said.{Said}
-use Rattle.mirror_volume.specs.Replies.{IsAllowed, MayBeGiven, after, after_all, IsRun, IsStep}
+use Rattle.mirror_volume.specs.Replies.{Kind, kind_of, IsAllowed, MayBeGiven, after, after_all, IsRun, IsStep}
 use Rattle.mirror_volume.proofs.Runs.{after_all-more, run-more}
 use Rattle.mirror_volume.proofs.Giving.{given_first, given_rest}
 
@@ -30,44 +30,55 @@ long_take [] k x at = cc
 long_take (y ∷ xs) zero x at = refl
 long_take (y ∷ xs) (suc k) x at = ap suc (long_take xs k x at)
 
+abbrev kind_with : ℕ → ℕ → Option ℕ → Kind
+kind_with per n slots = record { blocks = n; slots = slots; per_cut = per }
+
+same_kind : (per n m : ℕ) (slots also : Option ℕ) → n ≡ m → slots ≡ also → kind_with per n slots ≡ kind_with per m also
+same_kind per n m slots also same such = ap (λ (k : ℕ). kind_with per k slots) same ∙ ap (λ (o : Option ℕ). kind_with per m o) such
+
 -- the first k commands were given, and this was said to them
-pub record HaveSaid {V : Type 0} (stands : V → History → Type 0) (tells : V → Bool) (size ready count : V → ℕ) (sets : V → List ℕ) (per : ℕ) (first now : V) (commands : List Command) (k : ℕ) (said : List Said) : Type 0 where
+pub record HaveSaid {V : Type 0} (stands : V → History → Type 0) (tells : V → Bool) (size : V → ℕ) (slots : V → Option ℕ) (ready count : V → ℕ) (sets : V → List ℕ) (per : ℕ) (first now : V) (commands : List Command) (k : ℕ) (said : List Said) : Type 0 where
   pub long : length said ≡ k
   pub tells_is : tells now ≡ tells first
   pub size_is : size now ≡ size first
-  pub run : (h : History) → stands first h → IsRun per (tells first) h (ready first) (count first) (take k commands) said (ready now) (count now)
+  pub slots_is : slots now ≡ slots first
+  pub run : (h : History) → stands first h → IsRun (kind_of size slots per first) (tells first) h (ready first) (count first) (take k commands) said (ready now) (count now)
   pub stands_now : (h : History) → stands first h → stands now (after_all h (take k commands) said)
   pub allowed : MayBeGiven (size first) (sets now) (drop k commands)
 
-module _ {V : Type 0} (stands : V → History → Type 0) (tells : V → Bool) (size ready count : V → ℕ) (sets : V → List ℕ) (per : ℕ) where
-  pub none_said : (first : V) (commands : List Command) → MayBeGiven (size first) (sets first) commands → HaveSaid stands tells size ready count sets per first first commands 0 []
+module _ {V : Type 0} (stands : V → History → Type 0) (tells : V → Bool) (size : V → ℕ) (slots : V → Option ℕ) (ready count : V → ℕ) (sets : V → List ℕ) (per : ℕ) where
+  pub none_said : (first : V) (commands : List Command) → MayBeGiven (size first) (sets first) commands → HaveSaid stands tells size slots ready count sets per first first commands 0 []
   none_said first commands may = record {
     long = refl;
     tells_is = refl;
     size_is = refl;
+    slots_is = refl;
     run = λ h stood. (refl, refl);
     stands_now = λ h stood. stood;
     allowed = may;
   }
 
-  pub may_give : (first now : V) (commands : List Command) (k : ℕ) (said : List Said) (c : Command) → HaveSaid stands tells size ready count sets per first now commands k said → slice_get commands k ≡ Some c → IsAllowed (size now) (sets now) c
+  pub may_give : (first now : V) (commands : List Command) (k : ℕ) (said : List Said) (c : Command) → HaveSaid stands tells size slots ready count sets per first now commands k said → slice_get commands k ≡ Some c → IsAllowed (size now) (sets now) c
   may_give first now commands k said c have at =
       subst (λ (n : ℕ). IsAllowed n (sets now) c) (sym have.size_is) (given_first (size first) c (drop (k + 1) commands) (sets now) (subst (λ (cs : List Command). MayBeGiven (size first) (sets now) cs) (drop_one commands k c at) have.allowed))
 
   pub one_said : (first now next : V) (commands : List Command) (k : ℕ) (said : List Said) (c : Command) (s : Said) (h0 : History) → stands first h0 → ((v : V) (h : History) → stands v h → sets v ≡ sets_of h.images)
-      → HaveSaid stands tells size ready count sets per first now commands k said → slice_get commands k ≡ Some c
-      → ((h : History) → stands now h → IsStep per (tells now) h c s (ready now) (count now) (ready next) (count next)) → ((h : History) → stands now h → stands next (after h c s)) → tells next ≡ tells now → size next ≡ size now
-      → HaveSaid stands tells size ready count sets per first next commands (k + 1) (said ++ s ∷ [])
-  one_said first now next commands k said c s h0 stood are have at step after_is tell sized =
+      → HaveSaid stands tells size slots ready count sets per first now commands k said → slice_get commands k ≡ Some c
+      → ((h : History) → stands now h → IsStep (kind_of size slots per now) (tells now) h c s (ready now) (count now) (ready next) (count next)) → ((h : History) → stands now h → stands next (after h c s)) → tells next ≡ tells now → size next ≡ size now → slots next ≡ slots now
+      → HaveSaid stands tells size slots ready count sets per first next commands (k + 1) (said ++ s ∷ [])
+  one_said first now next commands k said c s h0 stood are have at step after_is tell sized slotted =
       let more = take_one commands k c at in
       let long : length said ≡ length (take k commands) = have.long ∙ sym (long_take commands k c at) in
       record {
         long = length-append said (s ∷ []) ∙ ap (λ (n : ℕ). n + 1) have.long;
         tells_is = tell ∙ have.tells_is;
         size_is = sized ∙ have.size_is;
-        run = λ h is. subst (λ (cs : List Command). IsRun per (tells first) h (ready first) (count first) cs (said ++ s ∷ []) (ready next) (count next)) (sym more)
-            (run-more per (tells first) h (ready first) (count first) (ready now) (count now) (ready next) (count next) (take k commands) said c s (have.run h is)
-            (subst (λ (t : Bool). IsStep per t (after_all h (take k commands) said) c s (ready now) (count now) (ready next) (count next)) have.tells_is (step (after_all h (take k commands) said) (have.stands_now h is))));
+        slots_is = slotted ∙ have.slots_is;
+        run = λ h is. subst (λ (cs : List Command). IsRun (kind_of size slots per first) (tells first) h (ready first) (count first) cs (said ++ s ∷ []) (ready next) (count next)) (sym more)
+            (run-more (kind_of size slots per first) (tells first) h (ready first) (count first) (ready now) (count now) (ready next) (count next) (take k commands) said c s (have.run h is)
+            (subst (λ (t : Bool). IsStep (kind_of size slots per first) t (after_all h (take k commands) said) c s (ready now) (count now) (ready next) (count next)) have.tells_is
+            (subst (λ (kind : Kind). IsStep kind (tells now) (after_all h (take k commands) said) c s (ready now) (count now) (ready next) (count next)) (same_kind per (size now) (size first) (slots now) (slots first) have.size_is have.slots_is)
+            (step (after_all h (take k commands) said) (have.stands_now h is)))));
         stands_now = λ h is. subst (λ (cs : List Command). stands next (after_all h cs (said ++ s ∷ []))) (sym more)
             (subst (λ (g : History). stands next g) (sym (after_all-more h (take k commands) said c s long)) (after_is (after_all h (take k commands) said) (have.stands_now h is)));
         allowed =
@@ -79,11 +90,11 @@ module _ {V : Type 0} (stands : V → History → Type 0) (tells : V → Bool) (
             (subst (λ (cs : List Command). MayBeGiven (size first) (sets now) cs) (drop_one commands k c at) have.allowed)));
       }
 
-  pub all_said : (first now : V) (commands : List Command) (k : ℕ) (said : List Said) → HaveSaid stands tells size ready count sets per first now commands k said → length commands ≤ k
-      → ((h : History) → stands first h → IsRun per (tells first) h (ready first) (count first) commands said (ready now) (count now))
-  all_said first now commands k said have all = λ h is. subst (λ (cs : List Command). IsRun per (tells first) h (ready first) (count first) cs said (ready now) (count now)) (take_all k commands all) (have.run h is)
+  pub all_said : (first now : V) (commands : List Command) (k : ℕ) (said : List Said) → HaveSaid stands tells size slots ready count sets per first now commands k said → length commands ≤ k
+      → ((h : History) → stands first h → IsRun (kind_of size slots per first) (tells first) h (ready first) (count first) commands said (ready now) (count now))
+  all_said first now commands k said have all = λ h is. subst (λ (cs : List Command). IsRun (kind_of size slots per first) (tells first) h (ready first) (count first) cs said (ready now) (count now)) (take_all k commands all) (have.run h is)
 
-  pub all_stands : (first now : V) (commands : List Command) (k : ℕ) (said : List Said) → HaveSaid stands tells size ready count sets per first now commands k said → length commands ≤ k
+  pub all_stands : (first now : V) (commands : List Command) (k : ℕ) (said : List Said) → HaveSaid stands tells size slots ready count sets per first now commands k said → length commands ≤ k
       → ((h : History) → stands first h → stands now (after_all h commands said))
   all_stands first now commands k said have all = λ h is. subst (λ (cs : List Command). stands now (after_all h cs said)) (take_all k commands all) (have.stands_now h is)
 

@@ -9,7 +9,7 @@ use Rattle.mirror_volume.specs.declared.command.Command.{Command}
 use Rattle.mirror_volume.specs.declared.command.Command.TheVariants.{Write, Read, Cut, Image, Drop}
 use Rattle.mirror_volume.specs.declared.said.Said.{Said}
 use Rattle.mirror_volume.specs.declared.said.Said.TheVariants.{Ok, Wrote, Bytes, NoSuchImage, NoMirror, Fault}
-use Rattle.mirror_volume.specs.Replies.{after, after_all, IsWriteReply, IsReadReply, IsCutReply, IsImageReply, IsDropReply, IsReply, used_up, IsStep, IsRun, image_reply, drop_reply, reply_of, replies_of, is_plain, are_plain, used_by_all}
+use Rattle.mirror_volume.specs.Replies.{Kind, after, after_all, IsWriteReply, IsReadReply, IsCutReply, IsImageReply, IsDropReply, IsReply, used_up, IsStep, IsRun, image_reply, drop_reply, reply_of, replies_of, is_plain, are_plain, used_by_all}
 
 -- ## one command more
 
@@ -19,26 +19,26 @@ after_all-more h [] (t ∷ said) c s long = absurd (omega arith)
 after_all-more h (d ∷ commands) [] c s long = absurd (omega arith)
 after_all-more h (d ∷ commands) (t ∷ said) c s long = after_all-more (after h d t) commands said c s (omega arith)
 
-pub run-more : (per : ℕ) (tells : Bool) (h : History) (ready count mid_ready mid_count now_ready now_count : ℕ) (commands : List Command) (said : List Said) (c : Command) (s : Said)
-    → IsRun per tells h ready count commands said mid_ready mid_count → IsStep per tells (after_all h commands said) c s mid_ready mid_count now_ready now_count
-    → IsRun per tells h ready count (commands ++ c ∷ []) (said ++ s ∷ []) now_ready now_count
-run-more per tells h ready count mid_ready mid_count now_ready now_count [] [] c s run step =
-    let from : IsStep per tells h c s ready count now_ready now_count = subst (λ (r : ℕ). IsStep per tells h c s r count now_ready now_count) run.0 (subst (λ (k : ℕ). IsStep per tells h c s mid_ready k now_ready now_count) run.1 step) in
+pub run-more : (kind : Kind) (tells : Bool) (h : History) (ready count mid_ready mid_count now_ready now_count : ℕ) (commands : List Command) (said : List Said) (c : Command) (s : Said)
+    → IsRun kind tells h ready count commands said mid_ready mid_count → IsStep kind tells (after_all h commands said) c s mid_ready mid_count now_ready now_count
+    → IsRun kind tells h ready count (commands ++ c ∷ []) (said ++ s ∷ []) now_ready now_count
+run-more kind tells h ready count mid_ready mid_count now_ready now_count [] [] c s run step =
+    let from : IsStep kind tells h c s ready count now_ready now_count = subst (λ (r : ℕ). IsStep kind tells h c s r count now_ready now_count) run.0 (subst (λ (k : ℕ). IsStep kind tells h c s mid_ready k now_ready now_count) run.1 step) in
     (now_ready, now_count, from, (refl, refl))
-run-more per tells h ready count mid_ready mid_count now_ready now_count [] (t ∷ said) c s run step = absurd run
-run-more per tells h ready count mid_ready mid_count now_ready now_count (d ∷ commands) [] c s run step = absurd run
-run-more per tells h ready count mid_ready mid_count now_ready now_count (d ∷ commands) (t ∷ said) c s run step =
-    (run.0, run.1, run.2, run-more per tells (after h d t) run.0 run.1 mid_ready mid_count now_ready now_count commands said c s run.3 step)
+run-more kind tells h ready count mid_ready mid_count now_ready now_count [] (t ∷ said) c s run step = absurd run
+run-more kind tells h ready count mid_ready mid_count now_ready now_count (d ∷ commands) [] c s run step = absurd run
+run-more kind tells h ready count mid_ready mid_count now_ready now_count (d ∷ commands) (t ∷ said) c s run step =
+    (run.0, run.1, run.2, run-more kind tells (after h d t) run.0 run.1 mid_ready mid_count now_ready now_count commands said c s run.3 step)
 
 -- ## the definition's replies
 
-write_plain : (rose : Type 0) (s : Said) → IsWriteReply rose s → is_plain s ≡ true → s ≡ Wrote 0
-write_plain rose (Wrote m) is plain = ap Wrote (same_number m 0 plain)
-write_plain rose (Fault m) is plain = cc
-write_plain rose Ok is plain = absurd is
-write_plain rose (Bytes d) is plain = absurd is
-write_plain rose NoSuchImage is plain = absurd is
-write_plain rose NoMirror is plain = absurd is
+write_plain : (kind : Kind) (h : History) (b : ℕ) (rose : Type 0) (s : Said) → IsWriteReply kind h b rose s → is_plain s ≡ true → s ≡ Wrote 0
+write_plain kind h b rose (Wrote m) is plain = ap Wrote (same_number m 0 plain)
+write_plain kind h b rose (Fault m) is plain = cc
+write_plain kind h b rose Ok is plain = absurd is
+write_plain kind h b rose (Bytes d) is plain = absurd is
+write_plain kind h b rose NoSuchImage is plain = absurd is
+write_plain kind h b rose NoMirror is plain = absurd is
 
 read_plain : (bytes : List ℕ) (rose : Type 0) (s : Said) → IsReadReply true bytes rose s → is_plain s ≡ true → s ≡ Bytes (sha256 bytes)
 read_plain bytes rose (Bytes d) is plain = ap Bytes (is refl)
@@ -64,12 +64,12 @@ drop_plain : (at : Option ℕ) (s : Said) → IsDropReply at s → s ≡ drop_re
 drop_plain (Some p) s is = is
 drop_plain None s is = is
 
-reply_plain : (h : History) (ready : ℕ) (rose : Type 0) (c : Command) (s : Said) → IsReply true h ready rose c s → is_plain s ≡ true → s ≡ reply_of h c
-reply_plain h ready rose (Write b x) s is plain = write_plain rose s is plain
-reply_plain h ready rose (Read b) s is plain = read_plain (content h.writes (length h.writes) b) rose s is plain
-reply_plain h ready rose (Cut set) s is plain = cut_plain ready s is plain
-reply_plain h ready rose (Image set b) s is plain = image_plain h b (point_in set h.images) rose s is plain
-reply_plain h ready rose (Drop set) s is plain = drop_plain (point_in set h.images) s is
+reply_plain : (kind : Kind) (h : History) (ready : ℕ) (rose : Type 0) (c : Command) (s : Said) → IsReply kind true h ready rose c s → is_plain s ≡ true → s ≡ reply_of h c
+reply_plain kind h ready rose (Write b x) s is plain = write_plain kind h b rose s is plain
+reply_plain kind h ready rose (Read b) s is plain = read_plain (content h.writes (length h.writes) b) rose s is plain
+reply_plain kind h ready rose (Cut set) s is plain = cut_plain ready s is plain
+reply_plain kind h ready rose (Image set b) s is plain = image_plain h b (point_in set h.images) rose s is plain
+reply_plain kind h ready rose (Drop set) s is plain = drop_plain (point_in set h.images) s is
 
 and_first : (s t : Bool) → (s && t) ≡ true → s ≡ true
 and_first true t e = refl
@@ -80,13 +80,13 @@ and_second true t e = e
 and_second false t e = cc
 
 -- where no device failed, no image was evicted and no cut refused, each reply is the definition's
-pub plain_replies : (per : ℕ) (h : History) (ready count now_ready now_count : ℕ) (commands : List Command) (said : List Said) → IsRun per true h ready count commands said now_ready now_count → are_plain said ≡ true → said ≡ replies_of h commands
-plain_replies per h ready count now_ready now_count [] [] run plain = refl
-plain_replies per h ready count now_ready now_count [] (s ∷ said) run plain = absurd run
-plain_replies per h ready count now_ready now_count (c ∷ commands) [] run plain = absurd run
-plain_replies per h ready count now_ready now_count (c ∷ commands) (s ∷ said) run plain =
-    let same = reply_plain h ready (Rose count run.1) c s run.2.reply (and_first (is_plain s) (are_plain said) plain) in
-    let rest = plain_replies per (after h c s) run.0 run.1 now_ready now_count commands said run.3 (and_second (is_plain s) (are_plain said) plain) in
+pub plain_replies : (kind : Kind) (h : History) (ready count now_ready now_count : ℕ) (commands : List Command) (said : List Said) → IsRun kind true h ready count commands said now_ready now_count → are_plain said ≡ true → said ≡ replies_of h commands
+plain_replies kind h ready count now_ready now_count [] [] run plain = refl
+plain_replies kind h ready count now_ready now_count [] (s ∷ said) run plain = absurd run
+plain_replies kind h ready count now_ready now_count (c ∷ commands) [] run plain = absurd run
+plain_replies kind h ready count now_ready now_count (c ∷ commands) (s ∷ said) run plain =
+    let same = reply_plain kind h ready (Rose count run.1) c s run.2.reply (and_first (is_plain s) (are_plain said) plain) in
+    let rest = plain_replies kind (after h c s) run.0 run.1 now_ready now_count commands said run.3 (and_second (is_plain s) (are_plain said) plain) in
     ap (λ t. t ∷ said) same ∙ ap (λ ts. reply_of h c ∷ ts) (rest ∙ ap (λ (t : Said). replies_of (after h c t) commands) same)
 
 -- ## cuts that are used up
@@ -98,24 +98,24 @@ later_rose a b c m (inr top) l = by_test (c == b) refl where
   by_test true e = inr (same_number c b e ∙ top)
   by_test false e = let other = other_number c b e in inl (omega arith)
 
-pub run_later : (per : ℕ) (tells : Bool) (h : History) (ready count now_ready now_count : ℕ) (commands : List Command) (said : List Said) → IsRun per tells h ready count commands said now_ready now_count → count ≤ now_count
-run_later per tells h ready count now_ready now_count [] [] run = let same = run.1 in omega arith
-run_later per tells h ready count now_ready now_count [] (s ∷ said) run = absurd run
-run_later per tells h ready count now_ready now_count (c ∷ commands) [] run = absurd run
-run_later per tells h ready count now_ready now_count (c ∷ commands) (s ∷ said) run =
-    let rest = run_later per tells (after h c s) run.0 run.1 now_ready now_count commands said run.3 in let first = run.2.later in omega arith
+pub run_later : (kind : Kind) (tells : Bool) (h : History) (ready count now_ready now_count : ℕ) (commands : List Command) (said : List Said) → IsRun kind tells h ready count commands said now_ready now_count → count ≤ now_count
+run_later kind tells h ready count now_ready now_count [] [] run = let same = run.1 in omega arith
+run_later kind tells h ready count now_ready now_count [] (s ∷ said) run = absurd run
+run_later kind tells h ready count now_ready now_count (c ∷ commands) [] run = absurd run
+run_later kind tells h ready count now_ready now_count (c ∷ commands) (s ∷ said) run =
+    let rest = run_later kind tells (after h c s) run.0 run.1 now_ready now_count commands said run.3 in let first = run.2.later in omega arith
 
 -- a run leaves a volume ready for no fewer cuts than it began with, but for those that were used up; or a count rose
-pub spent : (per : ℕ) (tells : Bool) (h : History) (ready count now_ready now_count : ℕ) (commands : List Command) (said : List Said) → IsRun per tells h ready count commands said now_ready now_count
-    → (ready ≤ now_ready + used_by_all per commands said) ⊎ Rose count now_count
-spent per tells h ready count now_ready now_count [] [] run = inl (let same = run.0 in omega arith)
-spent per tells h ready count now_ready now_count [] (s ∷ said) run = absurd run
-spent per tells h ready count now_ready now_count (c ∷ commands) [] run = absurd run
-spent per tells h ready count now_ready now_count (c ∷ commands) (s ∷ said) run =
-    by_both run.2.ready_is (spent per tells (after h c s) run.0 run.1 now_ready now_count commands said run.3) where
-      by_both : (ready ≤ run.0 + used_up per c s) ⊎ Rose count run.1 → (run.0 ≤ now_ready + used_by_all per commands said) ⊎ Rose run.1 now_count → (ready ≤ now_ready + (used_up per c s + used_by_all per commands said)) ⊎ Rose count now_count
+pub spent : (kind : Kind) (tells : Bool) (h : History) (ready count now_ready now_count : ℕ) (commands : List Command) (said : List Said) → IsRun kind tells h ready count commands said now_ready now_count
+    → (ready ≤ now_ready + used_by_all kind.per_cut commands said) ⊎ Rose count now_count
+spent kind tells h ready count now_ready now_count [] [] run = inl (let same = run.0 in omega arith)
+spent kind tells h ready count now_ready now_count [] (s ∷ said) run = absurd run
+spent kind tells h ready count now_ready now_count (c ∷ commands) [] run = absurd run
+spent kind tells h ready count now_ready now_count (c ∷ commands) (s ∷ said) run =
+    by_both run.2.ready_is (spent kind tells (after h c s) run.0 run.1 now_ready now_count commands said run.3) where
+      by_both : (ready ≤ run.0 + used_up kind.per_cut c s) ⊎ Rose count run.1 → (run.0 ≤ now_ready + used_by_all kind.per_cut commands said) ⊎ Rose run.1 now_count → (ready ≤ now_ready + (used_up kind.per_cut c s + used_by_all kind.per_cut commands said)) ⊎ Rose count now_count
       by_both (inl first) (inl rest) = inl (omega arith)
-      by_both (inr first) rest = inr (later_rose count run.1 now_count run.2.later first (run_later per tells (after h c s) run.0 run.1 now_ready now_count commands said run.3))
+      by_both (inr first) rest = inr (later_rose count run.1 now_count run.2.later first (run_later kind tells (after h c s) run.0 run.1 now_ready now_count commands said run.3))
       by_both (inl first) (inr rest) = inr (earlier_rose rest) where
         earlier_rose : Rose run.1 now_count → Rose count now_count
         earlier_rose (inl less) = inl (let low = run.2.later in omega arith)

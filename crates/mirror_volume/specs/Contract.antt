@@ -1,10 +1,12 @@
 -- What every volume with images promises of its calls, whatever holds its blocks: a relation to a volume history, and four numbers
--- that contracts see beside it: its blocks, the sets of its images, the cuts that it is ready for, and its count of faults. (This
--- project's own.)
-use Rattle.std.specs.Prelude.{ℕ, ◌≡◌, ◌<◌, ◌≤◌, ◌+◌, ◌⊎◌, Bool, true, false, List, length, Some, Result, Ok, Err}
+-- that contracts see beside it: its blocks, the sets of its images, the cuts that it is ready for, and its count of faults; and the
+-- slots for the copies that its images need, by which images go for a write. (This project's own.)
+use Rattle.std.specs.Prelude.{ℕ, ◌≡◌, ◌<◌, ◌≤◌, ◌+◌, ◌⊎◌, Bool, true, false, List, [], ◌∷◌, length, is_some, Option, Some, None, Result, Ok, Err}
 use Rattle.vss_names.specs.Faults.{Rose}
 use Rattle.write_history.specs.History.{History, Write, content, point_in, written, dropped, cut}
+use Rattle.write_history.specs.Slots.{evicted_up_to}
 use Rattle.cow_volume.specs.Calls.{is_among}
+use Rattle.cow_volume.specs.GroupValue.{placed}
 use Rattle.cow_volume.specs.OneVolume.{without_up_to}
 use Rattle.cow_volume.specs.declared.cause.Cause.{Cause}
 use Rattle.cow_volume.specs.declared.cause.Cause.TheVariants.{NoSuchBlock, Volume, Area}
@@ -15,10 +17,11 @@ use Rattle.cow_volume.specs.declared.image_fault.ImageFault.TheVariants.{NoSuchI
 
 -- ## what every call keeps
 
--- whether it tells and how many blocks it has never changes; its count does not fall
-pub record IsSame {V : Type 0} (tells : V → Bool) (size count : V → ℕ) (old new : V) : Type 0 where
+-- whether it tells, how many blocks it has and how many slots there are never changes; its count does not fall
+pub record IsSame {V : Type 0} (tells : V → Bool) (size : V → ℕ) (slots : V → Option ℕ) (count : V → ℕ) (old new : V) : Type 0 where
   pub tells_is : tells new ≡ tells old
   pub size_is : size new ≡ size old
+  pub slots_is : slots new ≡ slots old
   pub later : count old ≤ count new
 
 -- it is ready for no fewer cuts, or its count rose
@@ -31,9 +34,20 @@ StandsAfter stands old new f = (h : History) → stands old h → stands new (f 
 
 -- ## writes
 
--- the images up to a set are gone, and there is one more effective write
-pub record IsWritten {V : Type 0} (stands : V → History → Type 0) (size : V → ℕ) (old new : V) (w : Write) (up_to : ℕ) : Type 0 where
+-- the images up to a set go for a write of block b of a volume of n blocks: as the definition of slots has it, where there are so many
+-- for copies; none where the images need no copies
+abbrev pub IsEvictedIn : Option ℕ → ℕ → ℕ → History → ℕ → Type 0
+IsEvictedIn None n b h up_to = up_to ≡ 0
+IsEvictedIn (Some slots) n b h up_to = (sets : ℕ) → ((set : ℕ) → is_some (point_in set h.images) ≡ true → set ≤ sets) → up_to ≡ evicted_up_to sets slots (placed (n ∷ [])) 0 b (h ∷ [])
+
+-- likewise, for each history that the volume stands for
+abbrev pub IsEvicted : {V : Type 0} → (V → History → Type 0) → (V → ℕ) → (V → Option ℕ) → V → ℕ → ℕ → Type 0
+IsEvicted stands size slots v b up_to = (h : History) → stands v h → IsEvictedIn (slots v) (size v) b h up_to
+
+-- the images up to a set are gone, as the definition has it, and there is one more effective write
+pub record IsWritten {V : Type 0} (stands : V → History → Type 0) (size : V → ℕ) (slots : V → Option ℕ) (old new : V) (w : Write) (up_to : ℕ) : Type 0 where
   pub in_range : w.block < size old
+  pub evicted : IsEvicted stands size slots old w.block up_to
   pub stands_for : StandsAfter stands old new (λ h. written w (without_up_to up_to h))
 
 -- why a call on block b failed: just where there is no such block, or only where the count rose
@@ -43,14 +57,15 @@ HasBlockCause size count b old new Volume = (b < size old) × Rose (count old) (
 HasBlockCause size count b old new Area = (b < size old) × Rose (count old) (count new)
 
 -- the images that went are gone all the same, and nothing else changed
-pub record IsUnwritten {V : Type 0} (stands : V → History → Type 0) (size count : V → ℕ) (old new : V) (b : ℕ) (fault : WriteFault) : Type 0 where
+pub record IsUnwritten {V : Type 0} (stands : V → History → Type 0) (size : V → ℕ) (slots : V → Option ℕ) (count : V → ℕ) (old new : V) (b : ℕ) (fault : WriteFault) : Type 0 where
   pub cause : HasBlockCause size count b old new fault.cause
+  pub evicted : b < size old → IsEvicted stands size slots old b fault.evicted_up_to
   pub none : size old ≤ b → fault.evicted_up_to ≡ 0
   pub stands_for : StandsAfter stands old new (without_up_to fault.evicted_up_to)
 
-abbrev pub IsWrite : {V : Type 0} → (V → History → Type 0) → (V → ℕ) → (V → ℕ) → V → V → Write → Result Written WriteFault → Type 0
-IsWrite stands size count old new w (Ok done) = IsWritten stands size old new w done.evicted_up_to
-IsWrite stands size count old new w (Err fault) = IsUnwritten stands size count old new w.block fault
+abbrev pub IsWrite : {V : Type 0} → (V → History → Type 0) → (V → ℕ) → (V → Option ℕ) → (V → ℕ) → V → V → Write → Result Written WriteFault → Type 0
+IsWrite stands size slots count old new w (Ok done) = IsWritten stands size slots old new w done.evicted_up_to
+IsWrite stands size slots count old new w (Err fault) = IsUnwritten stands size slots count old new w.block fault
 
 -- ## reads
 

@@ -1,5 +1,5 @@
 -- A copy-on-write volume, as one of the volumes with images. (This project's own.)
-use Rattle.std.specs.Prelude.{ℕ, ◌≡◌, ◌<◌, List, [], ◌∷◌, map, Option, length}
+use Rattle.std.specs.Prelude.{ℕ, ◌≡◌, ◌<◌, List, [], ◌∷◌, map, Option, Some, length}
 use Rattle.std.proofs.Common.{◌∙◌, ap, arith}
 use Rattle.vss_names.specs.Faults.{all_counted}
 use Rattle.write_history.specs.History.{History, sets_of}
@@ -11,6 +11,10 @@ use Rattle.cow_volume.proofs.Group.{place_at}
 -- the counts of its devices together
 abbrev pub faults_of : {D : Type 0} → (D → ℕ) → GroupValue D → ℕ
 faults_of count volume = all_counted (count volume.area.device) (map count volume.devices)
+
+-- the slots for the copies of its images
+abbrev pub slots_of : {D : Type 0} → GroupValue D → Option ℕ
+slots_of volume = Some (length volume.area.records)
 
 -- its sets are those of the images of its history
 pub image_sets_are : {D : Type 0} → (told : D → Option (List (List ℕ))) (volume : GroupValue D) (h : History) → StandsForOne told volume h → image_sets volume ≡ sets_of h.images

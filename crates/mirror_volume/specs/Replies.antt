@@ -8,6 +8,7 @@ use Rattle.block_data.specs.Runs.{run_of}
 use Rattle.block_data.specs.declared.block_buf.TheConstants.{BLOCK}
 use Rattle.write_history.specs.History.{History, Write as Written, content, point_in, written, dropped, cut}
 use Rattle.cow_volume.specs.OneVolume.{without_up_to}
+use Rattle.mirror_volume.specs.Contract.{IsEvictedIn}
 use Rattle.mirror_volume.specs.declared.command.Command.{Command}
 use Rattle.mirror_volume.specs.declared.command.Command.TheVariants.{Write, Read, Cut, Image, Drop}
 use Rattle.mirror_volume.specs.declared.said.Said.{Said}
@@ -74,11 +75,21 @@ after_all h (c ∷ commands) (s ∷ said) = after_all (after h c s) commands sai
 
 -- ## what is said to one command
 
--- to a write; `rose` says that the count of faults rose
-abbrev pub IsWriteReply : Type 0 → Said → Type 0
-IsWriteReply rose (Wrote up_to) = Unit {0}
-IsWriteReply rose (Fault up_to) = rose
-IsWriteReply rose _ = ⊥
+-- what of a volume never changes: its number of blocks, the slots for the copies that its images need (none where they need no copies),
+-- and how many of the cuts that it is ready for one cut uses up, at most
+pub record Kind : Type 0 where
+  pub blocks : ℕ
+  pub slots : Option ℕ
+  pub per_cut : ℕ
+
+abbrev pub kind_of : {V : Type 0} → (V → ℕ) → (V → Option ℕ) → ℕ → V → Kind
+kind_of size slots per_cut v = record { blocks = size v; slots = slots v; per_cut = per_cut }
+
+-- to a write of block b, for which images go; `rose` says that the count of faults rose
+abbrev pub IsWriteReply : Kind → History → ℕ → Type 0 → Said → Type 0
+IsWriteReply kind h b rose (Wrote up_to) = IsEvictedIn kind.slots kind.blocks b h up_to
+IsWriteReply kind h b rose (Fault up_to) = IsEvictedIn kind.slots kind.blocks b h up_to × rose
+IsWriteReply kind h b rose _ = ⊥
 
 -- to a read of these bytes, which are known where the volume tells
 abbrev pub IsReadReply : Bool → List ℕ → Type 0 → Said → Type 0
@@ -102,12 +113,12 @@ abbrev pub IsDropReply : Option ℕ → Said → Type 0
 IsDropReply (Some p) said = said ≡ Ok
 IsDropReply None said = said ≡ NoSuchImage
 
-abbrev pub IsReply : Bool → History → ℕ → Type 0 → Command → Said → Type 0
-IsReply tells h ready rose (Write b x) said = IsWriteReply rose said
-IsReply tells h ready rose (Read b) said = IsReadReply tells (content h.writes (length h.writes) b) rose said
-IsReply tells h ready rose (Cut set) said = IsCutReply ready said
-IsReply tells h ready rose (Image set b) said = IsImageReply tells h b (point_in set h.images) rose said
-IsReply tells h ready rose (Drop set) said = IsDropReply (point_in set h.images) said
+abbrev pub IsReply : Kind → Bool → History → ℕ → Type 0 → Command → Said → Type 0
+IsReply kind tells h ready rose (Write b x) said = IsWriteReply kind h b rose said
+IsReply kind tells h ready rose (Read b) said = IsReadReply tells (content h.writes (length h.writes) b) rose said
+IsReply kind tells h ready rose (Cut set) said = IsCutReply ready said
+IsReply kind tells h ready rose (Image set b) said = IsImageReply tells h b (point_in set h.images) rose said
+IsReply kind tells h ready rose (Drop set) said = IsDropReply (point_in set h.images) said
 
 -- how many of the cuts that a volume is ready for a command uses up, at most
 abbrev pub used_up : ℕ → Command → Said → ℕ
@@ -115,19 +126,19 @@ used_up per_cut (Cut set) Ok = per_cut
 used_up per_cut c said = 0
 
 -- the volume went from being ready for so many cuts, with this count of faults, to these
-pub record IsStep (per_cut : ℕ) (tells : Bool) (h : History) (c : Command) (said : Said) (ready count now_ready now_count : ℕ) : Type 0 where
-  pub reply : IsReply tells h ready (Rose count now_count) c said
+pub record IsStep (kind : Kind) (tells : Bool) (h : History) (c : Command) (said : Said) (ready count now_ready now_count : ℕ) : Type 0 where
+  pub reply : IsReply kind tells h ready (Rose count now_count) c said
   pub later : count ≤ now_count
-  pub ready_is : (ready ≤ now_ready + used_up per_cut c said) ⊎ Rose count now_count
+  pub ready_is : (ready ≤ now_ready + used_up kind.per_cut c said) ⊎ Rose count now_count
 
 -- ## what is said to a list of commands
 
-abbrev pub IsRun : ℕ → Bool → History → ℕ → ℕ → List Command → List Said → ℕ → ℕ → Type 0
-IsRun per_cut tells h ready count [] [] now_ready now_count = (now_ready ≡ ready) × (now_count ≡ count)
-IsRun per_cut tells h ready count [] (s ∷ said) now_ready now_count = ⊥
-IsRun per_cut tells h ready count (c ∷ commands) [] now_ready now_count = ⊥
-IsRun per_cut tells h ready count (c ∷ commands) (s ∷ said) now_ready now_count =
-    (then_ready : ℕ) × (then_count : ℕ) × IsStep per_cut tells h c s ready count then_ready then_count × IsRun per_cut tells (after h c s) then_ready then_count commands said now_ready now_count
+abbrev pub IsRun : Kind → Bool → History → ℕ → ℕ → List Command → List Said → ℕ → ℕ → Type 0
+IsRun kind tells h ready count [] [] now_ready now_count = (now_ready ≡ ready) × (now_count ≡ count)
+IsRun kind tells h ready count [] (s ∷ said) now_ready now_count = ⊥
+IsRun kind tells h ready count (c ∷ commands) [] now_ready now_count = ⊥
+IsRun kind tells h ready count (c ∷ commands) (s ∷ said) now_ready now_count =
+    (then_ready : ℕ) × (then_count : ℕ) × IsStep kind tells h c s ready count then_ready then_count × IsRun kind tells (after h c s) then_ready then_count commands said now_ready now_count
 
 -- ## the definition's replies
 

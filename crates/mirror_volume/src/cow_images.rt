@@ -1,7 +1,7 @@
 //! A copy-on-write volume is a volume with images. It is ready for a cut at any time.
 
 ghost use Rattle.cow_volume.specs.OneVolume.{StandsForOne, blocks_of, image_sets, tells};
-ghost use Rattle.mirror_volume.specs.CowFaults.{faults_of, image_sets_are};
+ghost use Rattle.mirror_volume.specs.CowFaults.{faults_of, image_sets_are, slots_of};
 
 use crate::image_volume::ImageVolume;
 use crate::no_mirror::NoMirror;
@@ -15,6 +15,8 @@ impl<D: Device> ImageVolume for CowVolume<D> {
     ghost tells = { λ v. tells D.told v };
 
     ghost size = { λ v. blocks_of v };
+
+    ghost slots = { λ v. slots_of v };
 
     ghost sets = { λ v. image_sets v };
 

@@ -1,4 +1,4 @@
-ghost use Rattle.std.specs.Prelude.{◌≡◌, ◌<◌, ℕ, Bool, List, length, All, OnErr};
+ghost use Rattle.std.specs.Prelude.{◌≡◌, ◌<◌, ℕ, Bool, List, Option, length, All, OnErr};
 ghost use Rattle.block_data.specs.PayloadBytes.{payload_bytes};
 ghost use Rattle.write_history.specs.History.{History, sets_of};
 ghost use Rattle.mirror_volume.specs.Contract.{IsSame, IsNoLessReady, StandsStill, IsWrite, IsRead, IsImageRead, IsDropped, IsCut};
@@ -17,6 +17,10 @@ pub trait ImageVolume {
 
     /// How many blocks it has, which never changes.
     ghost size: { Self → ℕ };
+
+    /// How many slots there are for the copies that its images need, which never changes; None where they need none. Where a write
+    /// lacks a slot, images go.
+    ghost slots: { Self → Option ℕ };
 
     /// The sets of its images, the oldest first.
     ghost sets: { Self → List ℕ };
@@ -41,10 +45,10 @@ pub trait ImageVolume {
     fn ready(&self) -> u32
         ensures { result ≡ ready_for self.now };
 
-    /// Writes a block. The images of the sets up to the number that is answered go.
+    /// Writes a block. The images of the sets up to the number that is answered go, as the definition of slots has it.
     fn write(&mut self, block: u32, payload: &Payload) -> Result<Written, WriteFault>
-        ensures write { IsWrite stands size count self.old self.new (record { block = block; bytes = payload_bytes payload.now }) result }
-        ensures same { IsSame tells size count self.old self.new }
+        ensures write { IsWrite stands size slots count self.old self.new (record { block = block; bytes = payload_bytes payload.now }) result }
+        ensures same { IsSame tells size slots count self.old self.new }
         ensures ready { IsNoLessReady ready_for count self.old self.new };
 
     /// Reads a block as it is into `out`, which after a failed read holds any bytes.
@@ -52,7 +56,7 @@ pub trait ImageVolume {
         requires { length out.old ≡ BLOCK }
         ensures read { IsRead stands tells size count self.old self.new block out.new result }
         ensures stands_for { StandsStill stands self.old self.new }
-        ensures same { IsSame tells size count self.old self.new }
+        ensures same { IsSame tells size slots count self.old self.new }
         ensures ready { IsNoLessReady ready_for count self.old self.new };
 
     /// Reads a block as the image of a set shows it into `out`, which after a failed read holds any bytes.
@@ -60,13 +64,13 @@ pub trait ImageVolume {
         requires { length out.old ≡ BLOCK }
         ensures read { IsImageRead stands tells size sets count self.old self.new set block out.new result }
         ensures stands_for { StandsStill stands self.old self.new }
-        ensures same { IsSame tells size count self.old self.new }
+        ensures same { IsSame tells size slots count self.old self.new }
         ensures ready { IsNoLessReady ready_for count self.old self.new };
 
     /// The image of a set goes.
     fn drop_image(&mut self, set: u32) -> Result<(), ImageFault>
         ensures dropped { IsDropped stands sets self.old self.new set result }
-        ensures same { IsSame tells size count self.old self.new }
+        ensures same { IsSame tells size slots count self.old self.new }
         ensures ready { IsNoLessReady ready_for count self.old self.new };
 
     /// An image is cut, the newest.
@@ -75,7 +79,7 @@ pub trait ImageVolume {
         requires above_zero { 0 < set }
         requires newest { All (λ s. s < set) (sets self.old) }
         ensures cut { IsCut stands ready_for per_cut self.old self.new set result }
-        ensures same { IsSame tells size count self.old self.new };
+        ensures same { IsSame tells size slots count self.old self.new };
 
     /// The sets are those of the images of each history that it stands for.
     ghost sets_are: { (v : Self) (h : History) → stands v h → sets v ≡ sets_of h.images };

@@ -8,7 +8,7 @@ ghost use Rattle.mirror_volume.specs.declared.command.Command.{Command};
 ghost use Rattle.mirror_volume.specs.declared.said.Said.{Said};
 ghost use Rattle.mirror_volume.specs.declared.synced.Synced.{Synced};
 ghost use Rattle.mirror_volume.specs.declared.sync_fault.SyncFault.{SyncFault};
-ghost use Rattle.mirror_volume.specs.Replies.{IsRun, are_plain, replies_of, used_by_all};
+ghost use Rattle.mirror_volume.specs.Replies.{Kind, IsRun, are_plain, replies_of, used_by_all};
 ghost use Rattle.mirror_volume.specs.Mirrors.{MirrorValue};
 ghost use Rattle.mirror_volume.specs.Resync.{AreSynced, copied_by, stale_at};
 
@@ -17,20 +17,20 @@ use volume_device::Device;
 /// Where a volume tells, and no device failed, no image was evicted and no cut was refused, what it said is what the definitions say:
 /// it depends on the history and the commands alone.
 pub fn plain_replies_are_the_definitions()
-    ensures { (per ready count now_ready now_count : ℕ) (h : History) (commands : List Command) (said : List Said) → IsRun per true h ready count commands said now_ready now_count → are_plain said ≡ true → said ≡ replies_of h commands }
+    ensures { (kind : Kind) (ready count now_ready now_count : ℕ) (h : History) (commands : List Command) (said : List Said) → IsRun kind true h ready count commands said now_ready now_count → are_plain said ≡ true → said ≡ replies_of h commands }
 {}
 
 /// So two volumes that stand for one history say the same, whatever holds their blocks.
 pub fn two_volumes_reply_alike()
-    ensures { (per other ready count now_ready now_count ready_too count_too now_ready_too now_count_too : ℕ) (h : History) (commands : List Command) (said also : List Said)
-        → IsRun per true h ready count commands said now_ready now_count → IsRun other true h ready_too count_too commands also now_ready_too now_count_too
+    ensures { (kind other : Kind) (ready count now_ready now_count ready_too count_too now_ready_too now_count_too : ℕ) (h : History) (commands : List Command) (said also : List Said)
+        → IsRun kind true h ready count commands said now_ready now_count → IsRun other true h ready_too count_too commands also now_ready_too now_count_too
         → are_plain said ≡ true → are_plain also ≡ true → said ≡ also }
 {}
 
 /// A volume is ready for no fewer cuts after a run than before, but for those that its cuts used up; or a device failed.
 pub fn cuts_are_refused_for_a_cause()
-    ensures { (per ready count now_ready now_count : ℕ) (tells : Bool) (h : History) (commands : List Command) (said : List Said) → IsRun per tells h ready count commands said now_ready now_count
-        → (ready ≤ now_ready + used_by_all per commands said) ⊎ Rose count now_count }
+    ensures { (kind : Kind) (ready count now_ready now_count : ℕ) (tells : Bool) (h : History) (commands : List Command) (said : List Said) → IsRun kind tells h ready count commands said now_ready now_count
+        → (ready ≤ now_ready + used_by_all kind.per_cut commands said) ⊎ Rose count now_count }
 {}
 
 /// A mirror is in step after as many steps that copied a block as it had stale blocks, with no other call between.

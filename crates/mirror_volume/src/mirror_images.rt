@@ -1,5 +1,6 @@
 //! A volume with mirrors is a volume with images.
 
+ghost use Rattle.std.specs.Prelude.{None};
 ghost use Rattle.mirror_volume.specs.Mirrors.{StandsFor, faults_of, ready_count, tells};
 
 use crate::image_volume::ImageVolume;
@@ -15,6 +16,8 @@ impl<D: Device> ImageVolume for MirrorVolume<D> {
     ghost tells = { λ v. tells D.told v };
 
     ghost size = { λ v. D.size v.primary };
+
+    ghost slots = { λ v. None };
 
     ghost sets = { λ v. v.images };
 

@@ -3,4 +3,5 @@ pub mod Back
 pub mod Groups
 pub mod Loops
 pub mod Numbers
+pub mod ResumedLists
 pub mod Steps

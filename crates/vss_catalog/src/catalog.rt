@@ -1,13 +1,15 @@
-ghost use Rattle.std.specs.Prelude.{◌≡◌, ◌<◌, ◌≤◌, ◌==◌, ◌&&◌, length, slice_get, Some, Ok, IfOk, IfErr, IsTrue, List};
+ghost use Rattle.std.specs.Prelude.{◌≡◌, ◌<◌, ◌≤◌, ◌==◌, ◌&&◌, length, slice_get, Some, Ok, IfOk, IfErr, IsTrue, List, All};
 ghost use Rattle.diff_area.specs.Records.{AreVolumes};
+ghost use Rattle.diff_map.specs.MapValue.{AreImages};
 ghost use Rattle.vss_catalog.specs.Allowed.{IsCatalog};
-ghost use Rattle.vss_catalog.specs.Entries.{EntryValue};
+ghost use Rattle.vss_catalog.specs.Entries.{EntryValue, lists_of};
 ghost use Rattle.vss_catalog.specs.Group.{are_names_for, entries_of};
 ghost use Rattle.vss_catalog.specs.Reading.{catalog_in, Tells};
 ghost use Rattle.vss_catalog.specs.Written.{bytes_of};
 
 use crate::catalog_fault::CatalogFault;
 use crate::entry::Entry;
+use crate::lists::copied_lists;
 use crate::names::{are_names, name_at};
 use crate::reading::{MAGIC, body_in, sealed_in};
 use crate::writing::{push_entries, push_number};
@@ -88,6 +90,15 @@ impl Catalog {
         let digest = digest(text.bytes());
         text.add(digest.as_slice())?;
         Ok(text)
+    }
+
+    /// Copies of the lists of the images, one for each volume, as `CowGroup::resume` takes them.
+    #[tactic(auto, using(crate::proofs::ResumedLists::catalog_lists))]
+    pub fn lists(&self, alloc: Global) -> Result<Vec<Numbers>, OutOfMemory>
+        ensures lists { IfOk result (λ lists. lists.items ≡ lists_of self.now) }
+        ensures rise { IsCatalog self.now → IfOk result (λ lists. All AreImages lists.items) }
+    {
+        copied_lists(alloc, &self.entries)
     }
 
     /// How many volumes the group has.

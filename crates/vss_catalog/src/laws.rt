@@ -2,7 +2,7 @@
 
 ghost use Rattle.std.specs.Prelude.{◌≡◌, ℕ, List, Ok, IsTrue};
 ghost use Rattle.vss_catalog.specs.Allowed.{IsCatalog, AreBytes};
-ghost use Rattle.vss_catalog.specs.Entries.{EntryValue};
+ghost use Rattle.vss_catalog.specs.Entries.{EntryValue, lists_of};
 ghost use Rattle.vss_catalog.specs.Group.{are_names_for, entries_of};
 ghost use Rattle.vss_catalog.specs.Reading.{catalog_in};
 ghost use Rattle.vss_catalog.specs.Written.{bytes_of};
@@ -26,6 +26,13 @@ pub fn what_is_read_is_written_again()
 pub fn the_catalog_of_a_group_is_read_back<D: Device>(names: &[Text], group: &CowGroup<D>)
     requires { IsTrue (are_names_for group.now names.now) }
     ensures { catalog_in (bytes_of (entries_of group.now names.now)) ≡ Ok (entries_of group.now names.now) }
+{
+    let _facts = group.volumes();
+}
+
+/// The lists of a group's catalog are the group's own, so that it is taken up again with them (`cow_volume::laws`).
+pub fn the_lists_of_a_group_are_its_own<D: Device>(names: &[Text], group: &CowGroup<D>)
+    ensures { lists_of (entries_of group.now names.now) ≡ group.now.images }
 {
     let _facts = group.volumes();
 }

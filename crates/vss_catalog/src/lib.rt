@@ -14,6 +14,7 @@ mod catalog_fault;
 mod entry;
 pub mod laws;
 mod limits;
+mod lists;
 mod names;
 mod reading;
 mod writing;

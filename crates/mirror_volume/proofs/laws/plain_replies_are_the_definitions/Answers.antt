@@ -2,4 +2,4 @@ use Rattle.mirror_volume.proofs.Runs.{plain_replies}
 use Rattle.mirror_volume.proofs.laws.plain_replies_are_the_definitions.Goals as goal
 
 pub returns : goal.returns
-returns c = λ per ready count now_ready now_count h commands said run plain. plain_replies per h ready count now_ready now_count commands said run plain
+returns c = λ kind ready count now_ready now_count h commands said run plain. plain_replies kind h ready count now_ready now_count commands said run plain
