@@ -1,0 +1,11 @@
+pub mod Documents
+pub mod Words
+pub mod Reader
+pub mod Meant
+pub mod LaneLines
+pub mod SetLines
+pub mod DeclaredLines
+pub mod WriteLines
+pub mod Lanes
+pub mod Generated
+pub mod Short
