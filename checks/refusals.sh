@@ -24,12 +24,17 @@ refuses() {
 
 refuses 2 "vss: usage" "scenario 1\n"
 refuses 2 "vss: usage" "scenario 1\n" run -x
-refuses 2 "vss: usage" "scenario 1\n" gen 7
+refuses 2 "vss: usage" "scenario 1\n" gen 07
 refuses 3 "vss: line 1: Empty" "" run
 refuses 3 "vss: line 4: OutOfRange" "scenario 1\nvolume C 4 4\nlane a\nwrite C 4 fill 1\n" run
 refuses 3 "vss: line 2: NoNewline" "scenario 1\nvolume C 4 4" run
 refuses 3 "vss: line 3: Empty" "# nothing\n\n" run
 refuses 3 "vss: line 3: UnknownName" "scenario 1\nvolume C 4 4\nlane a as sql\n" run
 refuses 3 "vss: line 2: BadDocument" "scenario 1\nwriter sql {}\n" run
+refuses 2 "vss: usage" "" inspect area
+refuses 9 "vss: area header Magic 0" "" inspect
+refuses 9 "vss: area header Magic 1852138355" "scenario 1\n" inspect
+refuses 9 "vss: area header Layout 3" "VSSAREA1\003\000\000\000" inspect
+refuses 9 "vss: area header Slots 2" "VSSAREA1\002\000\000\000\002\000\000\000" inspect
 [ "$failed" = 0 ] && echo "refusals: as written"
 exit "$failed"

@@ -1,40 +1,83 @@
 #!/usr/bin/env bash
-# What ./vss takes for wrong words is what the program, the proved one or the one that is named, answers so; and a link to ./vss
-# is ./vss.
+# Which words are a command, of the program, the proved one or the one that is named; that ./vss takes none of them for wrong words; and
+# that a link to ./vss is ./vss.
 set -u
 top="$(cd "$(dirname "$0")/.." && pwd)" || exit 70
 . "$top/tools/program.sh"
 program="$(program_to_check "$@")" || exit 1
+program="$(readlink -f "$program")"
 failed=0
+room="$(mktemp -d)"
+trap 'rm -rf "$room"' EXIT
+cd "$room" || exit 70
 
-# holds what ./vss takes the words for against what the program answers
+# holds what the program and ./vss take the words for against what they are
 holds() {
-  local said status is_usage=no is_wrong=no
-  said="$(printf 'scenario 1\n' | "$program" "$@" 2>&1)"
+  local is="$1" said status
+  shift
+  said="$(printf 'scenario 1\n' | "$program" "$@" 2>&1 > /dev/null)"
   status=$?
-  [ "$status" = 2 ] && [ "$said" = "vss: usage" ] && is_usage=yes
-  is_wrong_command "$@" && is_wrong=yes
-  if [ "$is_wrong" = yes ] && [ "$is_usage" = no ] || [ "$*" = run ] && [ "$is_wrong" = yes ]; then
-    echo "words: \`vss $*\` is refused by ./vss ($is_wrong) and by the program ($is_usage)" >&2
+  if [ "$is" = command ] && { [ "$status" = 2 ] || is_wrong_command "$@"; } ||
+    [ "$is" = wrong ] && { [ "$status" != 2 ] || [ "$said" != "vss: usage" ]; }; then
+    echo "words: \`vss $*\` is $is, and ended with $status and \"$said\"" >&2
     failed=1
   fi
 }
 
-holds
-holds ""
-holds run
-holds RUN
-holds " run"
-holds run run
-holds run -x
-holds gen 7
-holds -h
-holds --help
-holds "r$(printf '\303\274')n"
-holds "$(printf '\377')"
+# a folder that is not there is a folder's name all the same
+holds command run
+holds command run disks
+holds command run gen
+holds command run run
+holds command run inspect
+holds command run " "
+holds command run a-b
+holds command run 7
+holds command gen 0 disks
+holds command gen 7 disks
+holds command gen 10 gen
+holds command gen 4294967295 disks
+holds command gen 7 " "
+holds command gen 7 7
+holds command inspect
 
-room="$(mktemp -d)"
-trap 'rm -rf "$room"' EXIT
+holds wrong
+holds wrong ""
+holds wrong Run
+holds wrong RUN
+holds wrong "run "
+holds wrong " run"
+holds wrong runs
+holds wrong run ""
+holds wrong run -x
+holds wrong run disks more
+holds wrong run disks ""
+holds wrong gen
+holds wrong gen ""
+holds wrong gen 07
+holds wrong gen 00
+holds wrong gen +7
+holds wrong gen -7
+holds wrong gen "7 "
+holds wrong gen 0x7
+holds wrong gen seven
+holds wrong gen 4294967296
+holds wrong gen 42949672950
+holds wrong gen 7 ""
+holds wrong gen 7 -x
+holds wrong gen 7 disks more
+holds wrong Inspect
+holds wrong inspect ""
+holds wrong inspect area
+holds wrong inspect -x
+holds wrong -h
+holds wrong --help
+holds wrong --version
+holds wrong --
+holds wrong -
+holds wrong "r$(printf '\303\274')n"
+holds wrong "$(printf '\377')"
+
 ln -s "$top/vss" "$room/link"
 "$room/link" gen > "$room/out" 2> "$room/err" < /dev/null
 status=$?

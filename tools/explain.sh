@@ -9,17 +9,25 @@ explain() {
     2) explain_words "$@" ;;
     3) explain_refusal "$line" ;;
     4) echo "     the standard input could not be read to its end; nothing was run" ;;
-    5) echo "     the standard output took only a first part of the report: is the disk full, or a pipe closed?" ;;
-    6) echo "     a device could not be made or closed: in a folder, is the disk full, or a file of that name there already?" ;;
+    5) echo "     the standard output took only a first part of the text: is the disk full, or a pipe closed?" ;;
+    6)
+      echo "     a device could not be made or closed: in a folder, is the disk full, or a file of that name there already?"
+      if [ "$1" = run ] && [ -f "${2-}" ]; then echo "     the scenario is read from the standard input, and behind run stands a folder: ./vss run < $2"; fi
+      ;;
     7) echo "     memory was refused; a run takes up to 2 GiB for its volumes and areas, and its report" ;;
-    8) echo "     a scenario has 16,777,216 bytes at most" ;;
+    8) echo "     a scenario has 16,777,216 bytes at most, an area 1,074,806,784" ;;
+    9) echo "     the input is no diff area: docs/FORMATS.md says what its header and its records have to be" ;;
   esac
 }
 
 explain_words() {
-  echo "     usage: ./vss run < FILE      (FILE has a scenario; its report goes to the standard output)"
-  if [ "$#" = 2 ] && [ "$1" = run ] && [ -f "$2" ]; then
-    echo "     the scenario is read from the standard input: ./vss run < $2"
+  echo "     usage: ./vss run < FILE         (FILE has a scenario; its report goes to the standard output)"
+  echo "            ./vss run FOLDER < FILE  (the same, with the devices as new files in FOLDER)"
+  echo "            ./vss gen N              (runs the generated scenario of the number N; its summary goes to the standard output)"
+  echo "            ./vss gen N FOLDER       (the same, with the devices as new files in FOLDER)"
+  echo "            ./vss inspect < FILE     (FILE is a diff area; its listing goes to the standard output)"
+  if [ "$#" = 2 ] && [ "$1" = inspect ] && [ -f "$2" ]; then
+    echo "     the area is read from the standard input: ./vss inspect < $2"
   fi
 }
 

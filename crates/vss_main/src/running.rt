@@ -1,57 +1,82 @@
-ghost use Rattle.std.specs.Prelude.{◌≡◌, ◌<◌, ◌≤◌, ◌↔◌, IfOk, IsErrOf, true, false};
-ghost use Rattle.vss_names.specs.Faults.{Rose};
+ghost use Rattle.std.specs.Prelude.{◌≡◌, ◌<◌, ◌≤◌, ◌↔◌, None, option_map};
 ghost use Rattle.io_edge.specs.Streams.{IfGave};
-ghost use Rattle.volume_device.specs.declared.store.Store.TheVariants as store;
-ghost use Rattle.vss_main.specs.Command.{is_command, most_bytes};
-ghost use Rattle.vss_main.specs.TopCall.{IsRun, AreGivenBack, IsStatus, IsAnswered};
+ghost use Rattle.vss_main.specs.Command.{asked_by, most_for_task, most_bytes_for};
+ghost use Rattle.vss_main.specs.Tasks.{IsTask, IsTaskWhereItCan, IsAnswer, IsAnsweredWhereItCan, IsUsageOrWantsMemory};
 
+use crate::generating::run_generated;
+use crate::inspecting::status_of;
+use crate::reporting::run_input;
 use crate::status::Status;
-use io_edge::{ReadError, Sink, Source, read_all, write_all};
-use scenario::{Refused, Scenario, parse};
+use area_listing::inspect;
+use command_words::{Command, Task, command_of};
+use io_edge::{Sink, Source};
 use std::alloc::Global;
 use std::sync::Wait;
 use std::thread::Threads;
-use volume_device::{Maker, Store};
-use vss_names::Text;
-use vss_play::{Gate, Play, PlayFault, play_all};
+use volume_device::Maker;
+use vss_names::OutOfMemory;
+use vss_play::Gate;
 
-/// The most bytes of a scenario.
-pub const MOST_BYTES: usize = 16_777_216;
-
-/// Whether the words are a command.
-fn is_command(words: &[String]) -> bool
-    ensures { result ≡ is_command words.now }
-{
-    words.len() == 1 && words[0].as_str() == "run"
-}
-
-/// Runs a scenario to its end over devices in memory, its actors in threads, closes its report, and gives the devices back.
-fn report_of<R: Threads + Wait + Sync, M: Maker, G: Gate>(
+/// Does what a command asks for.
+fn run_task<R: Threads + Wait + Sync, S: Source, K: Sink, M: Maker, G: Gate>(
     rt: &R,
     alloc: Global,
-    scenario: Scenario,
+    command: Command<'_>,
+    source: &mut S,
+    sink: &mut K,
     maker: &mut M,
     gate: &G,
-) -> Result<Text, PlayFault>
-    ensures ran { IfOk result (λ report. IsRun M.Made.told (M.tells maker.old store.Memory) (M.named maker.old) (M.named maker.new) (M.kept maker.old) (M.kept maker.new) (M.count maker.old) (M.count maker.new) scenario report.bytes) }
-    ensures later { M.count maker.old ≤ M.count maker.new }
-    ensures given_back { IsErrOf result PlayFault.Failed → AreGivenBack scenario (M.named maker.old) (M.named maker.new) (M.kept maker.old) (M.kept maker.new) }
-    ensures rose { IsErrOf result PlayFault.Failed → Rose (M.count maker.old) (M.count maker.new) }
+) -> Status
+    ensures too_long { IfGave (S.left source.old) (S.left source.new) (λ n. (result ≡ Status.TooLong) ↔ (most_for_task command.entry.task < n)) }
+    ensures task { IsTask M.Made.told (λ store. M.tells maker.old store) (option_map (λ s. s.now) command.entry.folder) command.entry.task (record {
+      left_first = S.left source.old;
+      left_last = S.left source.new;
+      reads_first = S.count source.old;
+      reads_last = S.count source.new;
+      taken_first = K.taken sink.old;
+      taken_last = K.taken sink.new;
+      writes_first = K.count sink.old;
+      writes_last = K.count sink.new;
+      named_first = M.named maker.old;
+      named_last = M.named maker.new;
+      kept_first = M.kept maker.old;
+      kept_last = M.kept maker.new;
+      count_first = M.count maker.old;
+      count_last = M.count maker.new;
+    }) result }
+    ensures answered { IsTaskWhereItCan command.entry.task (record {
+      left_first = S.left source.old;
+      left_last = S.left source.new;
+      reads_first = S.count source.old;
+      reads_last = S.count source.new;
+      taken_first = K.taken sink.old;
+      taken_last = K.taken sink.new;
+      writes_first = K.count sink.old;
+      writes_last = K.count sink.new;
+      named_first = M.named maker.old;
+      named_last = M.named maker.new;
+      kept_first = M.kept maker.old;
+      kept_last = M.kept maker.new;
+      count_first = M.count maker.old;
+      count_last = M.count maker.new;
+    }) result }
 {
-    let play = Play::new(alloc, scenario, &Store::Memory, maker)?;
-    let Ok(played) = play_all(rt, alloc, play, gate) else {
-        return Err(PlayFault::OutOfMemory);
-    };
-    played.finish(maker)
+    match command.task {
+        Task::Run => run_input(rt, alloc, command.folder, source, sink, maker, gate),
+        Task::Generate { number } => {
+            run_generated(rt, alloc, number, command.folder, sink, maker, gate)
+        }
+        Task::Inspect => status_of(inspect(alloc, source, sink)),
+    }
 }
 
-/// Reads a scenario, runs it, and writes its report. In order: the words, reading, the scenario, the devices, the run, the
-/// closing lines, giving the devices back, writing.
+/// Does what the words ask for. In order: the words, reading, the scenario, the devices, the run, the closing lines, giving the devices
+/// back, writing.
 ///
-/// At `Done` the bytes written are the report of the run's own legal and complete trail; each kept image of it reads as its
+/// For `run`, at `Done` the bytes written are the report of the run's own legal and complete trail; each kept image of it reads as its
 /// volume at its set's one cut, when every writer that took part stood frozen and every volume was held; and of a set that
-/// failed nothing is kept. Every other status has its cause in the words, the input, or a count of faults that rose; want of
-/// memory alone has none.
+/// failed nothing is kept. For `gen` they are the summary of the number, and for `inspect` the listing of the area that was read. Every
+/// other status has its cause in the words, the input, or a count of faults that rose; want of memory alone has none.
 ///
 /// Each lane, each writer and the provider moves in a thread of its own, and the gate is told before and after each of its turns. The
 /// order of the moves is whichever the threads took.
@@ -64,9 +89,10 @@ pub fn run<R: Threads + Wait + Sync, S: Source, K: Sink, M: Maker, G: Gate>(
     maker: &mut M,
     gate: &G,
 ) -> Status
-    ensures usage { (result ≡ Status.Usage) ↔ (is_command words.now ≡ false) }
-    ensures too_long { is_command words.now ≡ true → IfGave (S.left source.old) (S.left source.new) (λ n. (result ≡ Status.TooLong) ↔ (most_bytes < n)) }
-    ensures status { IsStatus M.Made.told (M.tells maker.old store.Memory) (record {
+    ensures usage { result ≡ Status.Usage → asked_by words.now ≡ None }
+    ensures refused { asked_by words.now ≡ None → IsUsageOrWantsMemory result }
+    ensures too_long { IfGave (S.left source.old) (S.left source.new) (λ n. (result ≡ Status.TooLong) ↔ (most_bytes_for (asked_by words.now) < n)) }
+    ensures status { IsAnswer M.Made.told (λ store. M.tells maker.old store) (asked_by words.now) (record {
       left_first = S.left source.old;
       left_last = S.left source.new;
       reads_first = S.count source.old;
@@ -82,7 +108,7 @@ pub fn run<R: Threads + Wait + Sync, S: Source, K: Sink, M: Maker, G: Gate>(
       count_first = M.count maker.old;
       count_last = M.count maker.new;
     }) result }
-    ensures answered { IsAnswered words.now (record {
+    ensures answered { IsAnsweredWhereItCan (asked_by words.now) (record {
       left_first = S.left source.old;
       left_last = S.left source.new;
       reads_first = S.count source.old;
@@ -99,27 +125,9 @@ pub fn run<R: Threads + Wait + Sync, S: Source, K: Sink, M: Maker, G: Gate>(
       count_last = M.count maker.new;
     }) result }
 {
-    if !is_command(words) {
-        return Status::Usage;
-    }
-    let text = match read_all(alloc, source, MOST_BYTES) {
-        Ok(text) => text,
-        Err(ReadError::Failed) => return Status::ReadFault,
-        Err(ReadError::OutOfMemory) => return Status::OutOfMemory,
-        Err(ReadError::TooLong) => return Status::TooLong,
-    };
-    let scenario = match parse(alloc, text.bytes()) {
-        Ok(scenario) => scenario,
-        Err(Refused::Line { line, reason }) => return Status::ScenarioRefused { line, reason },
-        Err(Refused::OutOfMemory) => return Status::OutOfMemory,
-    };
-    let report = match report_of(rt, alloc, scenario, maker, gate) {
-        Ok(report) => report,
-        Err(PlayFault::Failed) => return Status::DeviceFault,
-        Err(PlayFault::OutOfMemory) => return Status::OutOfMemory,
-    };
-    match write_all(sink, report.bytes()) {
-        Ok(()) => Status::Done,
-        Err(_) => Status::WriteFault,
+    match command_of(alloc, words) {
+        Err(OutOfMemory) => Status::OutOfMemory,
+        Ok(None) => Status::Usage,
+        Ok(Some(command)) => run_task(rt, alloc, command, source, sink, maker, gate),
     }
 }

@@ -1,4 +1,5 @@
 use crate::{Status, run};
+use diff_area::{AreaFault, HeaderField};
 use io_edge::{MemSink, MemSource};
 use scenario::Reason;
 use std::alloc::Global;
@@ -35,12 +36,30 @@ fn maker_of(
     Ok(MemMaker::new(alloc, plan))
 }
 
-/// The one word `run`.
-fn run_word(alloc: Global) -> Result<Vec<String>, OutOfMemory> {
+/// One word.
+fn one_word(alloc: Global, word: &str) -> Result<Vec<String>, OutOfMemory> {
     let mut words = Vec::new(alloc);
-    words.push(String::from_str(alloc, "run")?)?;
+    words.push(String::from_str(alloc, word)?)?;
     Ok(words)
 }
+
+/// The one word `run`.
+fn run_word(alloc: Global) -> Result<Vec<String>, OutOfMemory> {
+    one_word(alloc, "run")
+}
+
+/// An area of 2 slots for a volume of 4 blocks. Slot 1, full of nines, is that of block 2 for set 3.
+fn area_bytes(alloc: Global) -> Result<Vec<u8>, OutOfMemory> {
+    let mut bytes = b"VSSAREA1\x02\0\0\0\x02\0\0\0\x01\0\0\0\x01\0\0\0\x04\0\0\0".to_vec(alloc)?;
+    bytes.resize(16400, 0)?;
+    bytes.extend_from_slice(b"\x03\0\0\0\x02\0\0\0")?;
+    bytes.resize(49152, 0)?;
+    bytes.resize(65536, 9)?;
+    Ok(bytes)
+}
+
+const AREA_LISTING: &[u8] =
+    b"area layout 2 slots 2 used 1\nvolume 0 blocks 4\nslot 1 set 3 volume 0 block 2 cf606a7d35c98e2effc07a6477adc0adb4fe90931f6932be10d0302190e8b627\nend\n";
 
 #[test]
 fn an_image_shows_the_old_block_whatever_device_it_is(rt: HostRuntime) -> Result<(), Fail> {
@@ -106,6 +125,36 @@ fn each_failing_edge_has_its_status(rt: HostRuntime) -> Result<(), Fail> {
 }
 
 #[test]
+fn an_area_is_listed_or_refused(rt: HostRuntime) -> Result<(), Fail> {
+    let alloc = rt.alloc();
+    let words = one_word(alloc, "inspect")?;
+    let no_letters = Status::AreaRefused(AreaFault::BadHeader {
+        field: HeaderField::Magic,
+        found: 0,
+    });
+    for (bytes, want, listing) in [
+        (area_bytes(alloc)?, Status::Done, AREA_LISTING),
+        (Vec::new(alloc), no_letters, b"".as_slice()),
+    ] {
+        let mut source = MemSource::new(bytes, 1000, Numbers::new(alloc));
+        let mut sink = MemSink::with_room(alloc, 4096, Numbers::new(alloc))?;
+        let mut maker = maker_of(alloc, false, &[], &[])?;
+        let status = run(
+            &rt,
+            alloc,
+            &words,
+            &mut source,
+            &mut sink,
+            &mut maker,
+            &OpenGate,
+        );
+        assert_eq!(rt; status, want);
+        assert_eq!(rt; sink.taken(), listing);
+    }
+    Ok(())
+}
+
+#[test]
 fn statuses_are_printed_in_one_line(rt: HostRuntime) -> Result<(), Fail> {
     let refused = Status::ScenarioRefused {
         line: 4,
@@ -119,6 +168,22 @@ fn statuses_are_printed_in_one_line(rt: HostRuntime) -> Result<(), Fail> {
         (Status::DeviceFault, "device fault"),
         (Status::OutOfMemory, "out of memory"),
         (Status::TooLong, "input too long"),
+        (
+            Status::AreaRefused(AreaFault::BadHeader {
+                field: HeaderField::Slots,
+                found: 70000,
+            }),
+            "area header Slots 70000",
+        ),
+        (
+            Status::AreaRefused(AreaFault::BadRecord {
+                slot: 1,
+                set: 3,
+                block: 4,
+                volume: 0,
+            }),
+            "area record 1",
+        ),
     ] {
         assert_eq!(rt; status.to_string(rt.alloc())?.as_str(), text);
     }

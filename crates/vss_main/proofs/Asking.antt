@@ -1,0 +1,95 @@
+-- What is known of every task: want of memory is an answer before anything is touched, and the words of a task are no wrong words.
+use Rattle.std.proofs.Common.{◌≡◌, ℕ, ◌-◌, ◌<◌, ◌≤◌, List, length, refl, sym, ◌∙◌, arith, Bool, Option, Some, None, subst}
+use Rattle.std.specs.Prelude.{◌↔◌, IfSome}
+use Rattle.io_edge.specs.Streams.{IfGave}
+use Rattle.volume_device.specs.declared.store.Store.{Store}
+use Rattle.area_listing.specs.declared.inspection.Inspection.{Inspection}
+use Rattle.area_listing.specs.declared.inspection.Inspection.TheVariants as ended
+use Rattle.command_words.specs.Command.{Asked}
+use Rattle.command_words.specs.declared.task.Task.{Task}
+use Rattle.command_words.specs.declared.task.Task.TheVariants.{Run, Generate, Inspect}
+use Rattle.vss_main.specs.Command.{most_bytes_for, most_for_task}
+use Rattle.vss_main.specs.Inspected.{status_of}
+use Rattle.vss_main.specs.Tasks.{IsTask, IsTaskWhereItCan, IsAnswer, IsAnsweredWhereItCan}
+use Rattle.vss_main.specs.TopCall.{Around, IsUntouched}
+use Rattle.vss_main.specs.declared.status.Status.{Status}
+use Rattle.vss_main.specs.declared.status.Status.TheVariants.{Usage, OutOfMemory, TooLong}
+
+no_less : (a b : ℕ) → b ≡ a → a ≤ b
+no_less a b e = omega arith
+
+untouched : {D : Type 0} (told : D → Option (List (List ℕ))) (tells : Store → Bool) (folder : Option (List ℕ)) (task : Task) (a : Around D) → IsUntouched a → IsTask told tells folder task a OutOfMemory
+untouched told tells folder Run a h = record { reads = h.reads; later = no_less a.count_first a.count_last h.unmade.count; unwritten = h.unwritten }
+untouched told tells folder (Generate n) a h = (
+  record { left = h.left; reads = h.reads },
+  record { later = no_less a.count_first a.count_last h.unmade.count; nothing = record { taken = h.unwritten.taken; writes = h.unwritten.writes } },
+)
+untouched told tells folder Inspect a h = record {
+  ended = ended.OutOfMemory;
+  status_is = refl;
+  inspected = record { reads = h.reads; silent = record { taken = h.unwritten.taken; writes = h.unwritten.writes } };
+  complete = λ bytes had few area none. tt;
+  unmade = h.unmade;
+}
+
+pub wants_memory : {D : Type 0} (told : D → Option (List (List ℕ))) (tells : Store → Bool) (asked : Option Asked) (a : Around D) → IsUntouched a → IsAnswer told tells asked a OutOfMemory
+wants_memory told tells None a h = (tt, h)
+wants_memory told tells (Some asked) a h = untouched told tells asked.folder asked.task a h
+
+task_wants : {D : Type 0} (task : Task) (a : Around D) → IsTaskWhereItCan task a OutOfMemory
+task_wants Run a = λ bytes s had few read none. tt
+task_wants (Generate n) a = λ none. tt
+task_wants Inspect a = tt
+
+pub memory_where_it_can : {D : Type 0} (asked : Option Asked) (a : Around D) → IsAnsweredWhereItCan asked a OutOfMemory
+memory_where_it_can None a = tt
+memory_where_it_can (Some asked) a = task_wants asked.task a
+
+not_usage : (e : Inspection) → Usage ≡ status_of e → ⊥
+not_usage ended.Listed h = cc
+not_usage (ended.Refused why) h = cc
+not_usage ended.ReadFault h = cc
+not_usage ended.WriteFault h = cc
+not_usage ended.TooLong h = cc
+not_usage ended.OutOfMemory h = cc
+
+no_usage : {D : Type 0} (told : D → Option (List (List ℕ))) (tells : Store → Bool) (folder : Option (List ℕ)) (task : Task) (a : Around D) → IsTask told tells folder task a Usage → ⊥
+no_usage told tells folder Run a h = h
+no_usage told tells folder (Generate n) a h = h.1
+no_usage told tells folder Inspect a h = not_usage h.ended h.status_is
+
+pub never_usage : {D : Type 0} (told : D → Option (List (List ℕ))) (tells : Store → Bool) (folder : Option (List ℕ)) (task : Task) (a : Around D) (status : Status) → IsTask told tells folder task a status → status ≡ Usage → ⊥
+never_usage told tells folder task a status h e = no_usage told tells folder task a (subst (λ (x : Status). IsTask told tells folder task a x) e h)
+
+-- nothing was read
+pub nothing_given : (left : Option (List ℕ)) (most : ℕ) (A : Type 0) → (A → ⊥) → IfGave left left (λ n. A ↔ (most < n))
+nothing_given None most A never = tt
+nothing_given (Some bytes) most A never = (λ a. absurd (never a), λ l. absurd (none (length bytes) l))
+  where
+    none : (n : ℕ) → most < n - n → ⊥
+    none n l = omega arith
+
+-- ## by the words
+
+pub answer_by : {D : Type 0} (told : D → Option (List (List ℕ))) (tells : Store → Bool) (asked : Option Asked) (given : Asked) (a : Around D) (status : Status) → Some given ≡ asked → IsTask told tells given.folder given.task a status → IsAnswer told tells asked a status
+answer_by told tells asked given a status e h = subst (λ (o : Option Asked). IsAnswer told tells o a status) e h
+
+pub where_by : {D : Type 0} (asked : Option Asked) (given : Asked) (a : Around D) (status : Status) → Some given ≡ asked → IsTaskWhereItCan given.task a status → IsAnsweredWhereItCan asked a status
+where_by asked given a status e h = subst (λ (o : Option Asked). IsAnsweredWhereItCan o a status) e h
+
+pub most_by : (before after : Option (List ℕ)) (A : Type 0) (asked : Option Asked) (given : Asked) → Some given ≡ asked → IfGave before after (λ n. A ↔ (most_for_task given.task < n)) → IfGave before after (λ n. A ↔ (most_bytes_for asked < n))
+most_by before after A asked given e h = subst (λ (o : Option Asked). IfGave before after (λ n. A ↔ (most_bytes_for o < n))) e h
+
+pub none_by : (A : Type 0) (asked : Option Asked) (given : Asked) → Some given ≡ asked → asked ≡ None → A
+none_by A asked given e none = absurd cc
+
+-- ## by the task
+
+pub task_as : {D : Type 0} (told : D → Option (List (List ℕ))) (tells : Store → Bool) (folder : Option (List ℕ)) (task other : Task) (a : Around D) (status : Status) → task ≡ other → IsTask told tells folder other a status → IsTask told tells folder task a status
+task_as told tells folder task other a status e h = subst (λ (t : Task). IsTask told tells folder t a status) (sym e) h
+
+pub where_as : {D : Type 0} (task other : Task) (a : Around D) (status : Status) → task ≡ other → IsTaskWhereItCan other a status → IsTaskWhereItCan task a status
+where_as task other a status e h = subst (λ (t : Task). IsTaskWhereItCan t a status) (sym e) h
+
+pub most_as : (before after : Option (List ℕ)) (A : Type 0) (task other : Task) → task ≡ other → IfGave before after (λ n. A ↔ (most_for_task other < n)) → IfGave before after (λ n. A ↔ (most_for_task task < n))
+most_as before after A task other e h = subst (λ (t : Task). IfGave before after (λ n. A ↔ (most_for_task t < n))) (sym e) h

@@ -1,0 +1,42 @@
+-- What the top call promises, by what the words ask for. (This project's own.)
+use Rattle.std.specs.Prelude.{ℕ, ◌≡◌, Bool, List, Option, Some, None}
+use Rattle.volume_device.specs.declared.store.Store.{Store}
+use Rattle.command_words.specs.Command.{Asked}
+use Rattle.command_words.specs.declared.task.Task.{Task}
+use Rattle.command_words.specs.declared.task.Task.TheVariants.{Run, Generate, Inspect}
+use Rattle.vss_main.specs.Generated.{IsGeneration, IsSummedWhereItCan, sink_and_maker}
+use Rattle.vss_main.specs.Inspected.{IsListing}
+use Rattle.vss_main.specs.TopCall.{Around, IsUntouched, IsStatus, IsRunWhereItCan}
+use Rattle.vss_main.specs.declared.status.Status.{Status}
+use Rattle.vss_main.specs.declared.status.Status.TheVariants.{Usage, OutOfMemory}
+
+-- the source was left alone
+pub record IsUnread {D : Type 0} (a : Around D) : Type 0 where
+  pub left : a.left_last ≡ a.left_first
+  pub reads : a.reads_last ≡ a.reads_first
+
+abbrev pub IsUsageOrWantsMemory : Status → Type 0
+IsUsageOrWantsMemory Usage = Unit {0}
+IsUsageOrWantsMemory OutOfMemory = Unit {0}
+IsUsageOrWantsMemory _ = ⊥
+
+-- a task was done, or ended with another status for its cause
+abbrev pub IsTask : {D : Type 0} → (D → Option (List (List ℕ))) → (Store → Bool) → Option (List ℕ) → Task → Around D → Status → Type 0
+IsTask told tells folder Run a status = IsStatus told tells folder a status
+IsTask told tells folder (Generate n) a status = IsUnread a × IsGeneration told tells folder n (sink_and_maker a) status
+IsTask told tells folder Inspect a status = IsListing a status
+
+-- where the words are no command, nothing is read, made or written
+abbrev pub IsAnswer : {D : Type 0} → (D → Option (List (List ℕ))) → (Store → Bool) → Option Asked → Around D → Status → Type 0
+IsAnswer told tells None a status = IsUsageOrWantsMemory status × IsUntouched a
+IsAnswer told tells (Some asked) a status = IsTask told tells asked.folder asked.task a status
+
+-- where no count rises
+abbrev pub IsTaskWhereItCan : {D : Type 0} → Task → Around D → Status → Type 0
+IsTaskWhereItCan Run a status = IsRunWhereItCan a status
+IsTaskWhereItCan (Generate n) a status = IsSummedWhereItCan (sink_and_maker a) status
+IsTaskWhereItCan Inspect a status = Unit {0}
+
+abbrev pub IsAnsweredWhereItCan : {D : Type 0} → Option Asked → Around D → Status → Type 0
+IsAnsweredWhereItCan None a status = Unit {0}
+IsAnsweredWhereItCan (Some asked) a status = IsTaskWhereItCan asked.task a status
