@@ -1,7 +1,7 @@
 #!/usr/bin/env bash
 # Two hundred runs of a scenario whose lanes are active at the same time, from the proved program, or the one that is named: each report has
 # each lane line once, in order, and they are not all alike. That each is the report of its own legal and complete trail is proved (`run`,
-# clause `task`).
+# clause `status`).
 set -u
 top="$(cd "$(dirname "$0")/.." && pwd)" || exit 70
 . "$top/tools/program.sh"
