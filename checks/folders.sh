@@ -39,15 +39,21 @@ echo mine > "$room/half/C.area"
 status=$?
 [ "$status" = 6 ] && [ "$(cat "$room/half/C.area")" = mine ] || fail "an area's file that was there is overwritten, or the status is $status"
 
-# the generated scenario: what its summary says of a volume is said of the volume's file
-mkdir "$room/generated"
-"$program" gen 7 "$room/generated" > "$room/summary" || fail "gen 7 in a folder ended with $?"
-cmp -s "$room/summary" examples/generated_7.summary || fail "gen 7 in a folder has another summary"
-for volume in 0 1 2 3 4 5 6 7; do
-  digest="$(sha256sum < "$room/generated/v$volume.vol" | cut -d ' ' -f 1)"
-  grep -qx "volume v$volume $digest" examples/generated_7.summary || fail "the file of volume v$volume has another digest than the summary"
-done
-"$program" gen 7 > "$room/summary" || fail "gen 7 in memory ended with $?"
-cmp -s "$room/summary" examples/generated_7.summary || fail "gen 7 in memory has another summary"
+# The generated scenario: what its summary says of a volume is said of the volume's file. A build without a proof is slow at digests, and leaves it out.
+generated() {
+  mkdir "$room/generated"
+  "$program" gen 7 "$room/generated" > "$room/summary" || fail "gen 7 in a folder ended with $?"
+  cmp -s "$room/summary" examples/generated_7.summary || fail "gen 7 in a folder has another summary"
+  for volume in 0 1 2 3 4 5 6 7; do
+    digest="$(sha256sum < "$room/generated/v$volume.vol" | cut -d ' ' -f 1)"
+    grep -qx "volume v$volume $digest" examples/generated_7.summary || fail "the file of volume v$volume has another digest than the summary"
+  done
+  "$program" gen 7 > "$room/summary" || fail "gen 7 in memory ended with $?"
+  cmp -s "$room/summary" examples/generated_7.summary || fail "gen 7 in memory has another summary"
+}
+case "$program" in
+  *-unproved) ;;
+  *) generated ;;
+esac
 [ "$failed" = 0 ] && echo "folders: as written"
 exit "$failed"

@@ -71,9 +71,14 @@ if [ "$status" != 3 ] || [ -s "$room/out" ] || ! grep -qx 'vss: line 4: OutOfRan
   echo "messages: ./vss ended with $status and said: $(cat "$room/err")" >&2
   failed=1
 fi
-"$top/vss" run "$room/bad" > "$room/out" 2> "$room/err"
-if [ "$?" != 2 ] || [ -s "$room/out" ] || ! grep -qF "./vss run < $room/bad" "$room/err"; then
+"$top/vss" run "$room/bad" < "$room/bad" > "$room/out" 2> "$room/err"
+if [ "$?" != 3 ] || [ -s "$room/out" ] || ! grep -qF "./vss run < $room/bad" "$room/err"; then
   echo "messages: of the words \`run FILE\` ./vss said: $(cat "$room/err")" >&2
+  failed=1
+fi
+"$top/vss" run "$room/none" < "$top/examples/first.scenario" > "$room/out" 2> "$room/err"
+if [ "$?" != 6 ] || [ -s "$room/out" ] || ! grep -qx 'vss: device fault' "$room/err" || ! grep -qF "mkdir $room/none" "$room/err"; then
+  echo "messages: of a folder that is not there ./vss said: $(cat "$room/err")" >&2
   failed=1
 fi
 if ! "$top/vss" run < "$top/examples/first.scenario" 2> /dev/null | cmp -s - "$top/examples/first.report"; then

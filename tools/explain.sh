@@ -10,14 +10,26 @@ explain() {
     3) explain_refusal "$line" ;;
     4) echo "     the standard input could not be read to its end; nothing was run" ;;
     5) echo "     the standard output took only a first part of the text: is the disk full, or a pipe closed?" ;;
-    6)
-      echo "     a device could not be made or closed: in a folder, is the disk full, or a file of that name there already?"
-      if [ "$1" = run ] && [ -f "${2-}" ]; then echo "     the scenario is read from the standard input, and behind run stands a folder: ./vss run < $2"; fi
-      ;;
+    6) echo "     a device could not be made or closed: in a folder, is the disk full, or a file of that name there already?" ;;
     7) echo "     memory was refused; a run takes up to 2 GiB for its volumes and areas, and its report" ;;
     8) echo "     a scenario has 16,777,216 bytes at most, an area 1,074,806,784" ;;
     9) echo "     the input is no diff area: docs/FORMATS.md says what its header and its records have to be" ;;
   esac
+}
+
+# Says before the program waits for its input that a file is no folder, and a folder that is not there.
+explain_folder() {
+  local folder
+  case "$1" in
+    run) folder="${2-}" ;;
+    gen) folder="${3-}" ;;
+    *) return 0 ;;
+  esac
+  if [ "$1" = run ] && [ -f "$folder" ]; then
+    echo "     the scenario is read from the standard input, and behind run stands a folder: ./vss run < $folder"
+  elif [ -n "$folder" ] && [ ! -d "$folder" ]; then
+    echo "     there is no folder $folder; mkdir $folder makes it"
+  fi
 }
 
 explain_words() {
