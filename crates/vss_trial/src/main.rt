@@ -66,8 +66,12 @@ fn tell(rt: &HostRuntime, called: &Called) -> Result<(), TrialError> {
     Ok(())
 }
 
-fn is_of_moves(words: &[String]) -> bool {
-    words.len() == 2 && words[0].as_str() == "moves"
+/// The letters of the moves that are asked for; none where the words are for the service.
+fn letters_of(words: &[String]) -> Option<&str> {
+    if words.len() == 2 && words[0].as_str() == "moves" {
+        return Some(words[1].as_str());
+    }
+    None
 }
 
 fn fail(rt: &HostRuntime, error: TrialError) -> ExitCode {
@@ -99,8 +103,8 @@ fn main(rt: HostRuntime) -> ExitCode {
         Ok(prepared) => prepared,
         Err(error) => return fail(&rt, error),
     };
-    if is_of_moves(&words) {
-        return match write_moves(&rt, words[1].as_str(), failing, &input) {
+    if let Some(letters) = letters_of(&words) {
+        return match write_moves(&rt, letters, failing, &input) {
             Ok(()) => ExitCode::SUCCESS,
             Err(error) => fail(&rt, error),
         };
