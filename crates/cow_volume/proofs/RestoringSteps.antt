@@ -340,6 +340,7 @@ reverted_all {D = D} told size count lending devices after old mid now v set res
       (changed_at-twice v (reverted set p) (with_up_to set) hs ∙ changed_at-agree v (λ h. reverted set p (with_up_to set h)) (reverted set p) hs (λ h at. reverted_from set p h))
       end;
   unfailed = record { devices = unfailed.devices; area = unfailed.area ∙ ap count gone.device };
+  slots = done.slots ∙ ap told gone.device;
 }
 
 -- a device failed
@@ -366,6 +367,7 @@ reverted_some {D = D} told size count lending devices after old mid now v set re
             ∙ changed_at-agree v (λ h. reverted_in_part (blocks_at (group_of devices mid) v) set p restored (with_up_to set h)) (reverted_in_part (blocks_at (group_of devices mid) v) set p restored) hs
             (λ h at. reverted_in_part_from (blocks_at (group_of devices mid) v) set p restored h))
             (done.stands (changed_at v (with_up_to set) hs) p newer.stands newer.point));
+        slots = done.slots ∙ ap told gone.device;
       },
       device_rose_further told size count lending (group_of devices old) (group_of devices mid) (group_of after now) v cause kept (record { devices = refl; area = ap count gone.device }) stopped.rose,
     )

@@ -166,20 +166,22 @@ IsDropped told size count lending old new v set (Err fault) = (fault ≡ NoSuchI
 
 -- ## revert
 
--- volume v was brought back to the image of a set
+-- volume v was brought back to the image of a set; no slot's bytes changed
 pub record IsReverted {D : Type 0} (told : D → Option (List (List ℕ))) (size count : D → ℕ) (lending : D → Bool) (old new : GroupValue D) (v set : ℕ) : Type 0 where
   pub image : is_among set (sets_at old v) ≡ true
   pub kept : IsKept told size count lending old new
   pub stands : (hs : List History) (p : ℕ) → StandsFor told old hs → point_in set (history_at hs v).images ≡ Some p → StandsFor told new (changed_at v (reverted set p) hs)
   pub unfailed : IsUnfailed count old new
+  pub slots : told new.area.device ≡ told old.area.device
 
--- a device failed after so many blocks were restored, in ascending order: fewer than there are to restore
+-- a device failed after so many blocks were restored, in ascending order: fewer than there are to restore; no slot's bytes changed
 pub record IsRevertedInPart {D : Type 0} (told : D → Option (List (List ℕ))) (size count : D → ℕ) (lending : D → Bool) (old new : GroupValue D) (v set restored : ℕ) : Type 0 where
   pub image : is_among set (sets_at old v) ≡ true
   pub kept : IsKept told size count lending old new
   pub fewer : (hs : List History) (p : ℕ) → StandsFor told old hs → point_in set (history_at hs v).images ≡ Some p → restored < length (to_restore (blocks_at old v) (history_at hs v).writes p)
   pub stands : (hs : List History) (p : ℕ) → StandsFor told old hs → point_in set (history_at hs v).images ≡ Some p
       → StandsFor told new (changed_at v (reverted_in_part (blocks_at old v) set p restored) hs)
+  pub slots : told new.area.device ≡ told old.area.device
 
 -- a device failed: the volume's, or the area's
 abbrev pub DeviceRose : {D : Type 0} → (D → ℕ) → ℕ → GroupValue D → GroupValue D → Cause → Type 0
