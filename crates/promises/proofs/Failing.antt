@@ -56,7 +56,7 @@ unfolding course_failed
 decided_fails true said c e = refl
 decided_fails false said c e = absurd cc
 
-same_consent : (o : Order) → needs_consent o ≡ is_decisive o
+pub same_consent : (o : Order) → needs_consent o ≡ is_decisive o
 same_consent Identify = refl
 same_consent PrepareBackup = refl
 same_consent PrepareSnapshot = refl
@@ -65,7 +65,7 @@ same_consent Thaw = refl
 same_consent PostSnapshot = refl
 same_consent BackupComplete = refl
 
-same_veto : (answer : Answer) → is_veto answer ≡ not (is_ok (said_of answer))
+pub same_veto : (answer : Answer) → is_veto answer ≡ not (is_ok (said_of answer))
 same_veto AnswerOk = refl
 same_veto (AnswerVeto error) = refl
 
@@ -75,7 +75,7 @@ refused_to (Some o) w answer now c e =
     decided_fails (is_decisive o && not (is_ok (said_of answer))) (said_of answer) _
     (ap (λ b. b && not (is_ok (said_of answer))) (sym (same_consent o)) ∙ ap (λ b. needs_consent o && b) (sym (same_veto answer)) ∙ e)
 
-refused_fails : (w : ℕ) (answer : Answer) (now : ℕ) (c : Course) → is_refused (open_order (left c.agenda) w) answer ≡ true → has_failed (course_answered w (said_of answer) now c).outcome ≡ true
+pub refused_fails : (w : ℕ) (answer : Answer) (now : ℕ) (c : Course) → is_refused (open_order (left c.agenda) w) answer ≡ true → has_failed (course_answered w (said_of answer) now c).outcome ≡ true
 refused_fails w answer now c e = posted_fails c _ (refused_to (open_order (left c.agenda) w) w answer now c e)
 
 -- ## the state
@@ -88,11 +88,11 @@ module _ (s : Plan) (st : State) (r : SetRow) (e : in_progress st ≡ Some r) (n
   ended_sets CompleteSet p ran a x f g = absurd cc
   ended_sets (FailedSet why) p ran a x f g = absurd cc
 
-  followed_sets : (ran : Bool) (c : Course) (x : State) → x.course.outcome ≡ RunningSet → has_failed c.outcome ≡ true → (followed ran c x).sets ≡ map (row_settled c.outcome) x.sets
+  pub followed_sets : (ran : Bool) (c : Course) (x : State) → x.course.outcome ≡ RunningSet → has_failed c.outcome ≡ true → (followed ran c x).sets ≡ map (row_settled c.outcome) x.sets
   unfolding followed
   followed_sets ran c x f g = ended_sets x.course.outcome c.outcome ran c.agenda (record x { course = c }) f g
 
-  falls : (x : State) (p : SetOutcome) → x.sets ≡ map (row_settled p) st.sets → has_failed p ≡ true → IsFailed x r.number
+  pub falls : (x : State) (p : SetOutcome) → x.sets ≡ map (row_settled p) st.sets → has_failed p ≡ true → IsFailed x r.number
   falls x p f g = (fails_as st x r p r.number e num f g refl).failed
 
   answer_fails : (w : ℕ) (answer : Answer) → is_refused (order_of_writer st w) answer ≡ true → IsFailed (answered w (said_of answer) st) r.number
@@ -114,10 +114,10 @@ module _ (s : Plan) (st : State) (r : SetRow) (e : in_progress st ≡ Some r) (n
   failed_sets None why x f = absurd cc
   failed_sets (Some q) why x f = refl
 
-  failed_fails : (why : VssResult) → IsFailed (failed why st) r.number
+  pub failed_fails : (why : VssResult) → IsFailed (failed why st) r.number
   failed_fails why = falls (failed why st) (FailedSet why) (failed_sets (in_progress st) why st e) refl
 
-  closed_fails : (q : Session) (why : VssResult) → IsFailed (closed q (failed why st)) r.number
+  pub closed_fails : (q : Session) (why : VssResult) → IsFailed (closed q (failed why st)) r.number
   unfolding closed
   closed_fails q why = falls (closed q (failed why st)) (FailedSet why) (failed_sets (in_progress st) why st e) refl
 
@@ -130,7 +130,7 @@ module _ (s : Plan) (st : State) (r : SetRow) (e : in_progress st ≡ Some r) (n
   room_sets false x f g = absurd cc
   room_sets true x f g = failed_sets (in_progress x) InsufficientStorage x (ap (find (λ (q : SetRow). is_running q.result)) f ∙ e) ∙ ap (map (row_settled (FailedSet InsufficientStorage))) f
 
-  write_fails : (v : ℕ) (w : Write) (mark : Mark) → loses_own_image s st v w.block ≡ true → IsFailed (write s v w mark st).1 r.number
+  pub write_fails : (v : ℕ) (w : Write) (mark : Mark) → loses_own_image s st v w.block ≡ true → IsFailed (write s v w mark st).1 r.number
   unfolding write
   write_fails v w mark f =
       falls (put v w mark (with_room s v w.block st)) (FailedSet InsufficientStorage) (put_sets v w mark (with_room s v w.block st) ∙ room_sets (set_loses_image (in_progress st) st.volumes (cleared s v w.block st).volumes) (cleared s v w.block st) refl f) refl

@@ -166,7 +166,7 @@ answer_since a o =
     sym (last_time_is (λ e. not (same_place e.place o.place)) a.begun a.log
     ∙ fold_along (λ e. not (same_place e.place o.place)) (is_elsewhere o.place) (λ e. not_is (same_place e.place o.place)) a.begun a.log)
 
-passed_spent : (now since limit : ℕ) → has_passed limit since now ≡ true → is_spent now since limit ≡ true
+pub passed_spent : (now since limit : ℕ) → has_passed limit since now ≡ true → is_spent now since limit ≡ true
 passed_spent now since limit e = over (nat_lt (since + limit) now) limit now since refl e
   where
     over : (b : Bool) (l n t : ℕ) → nat_lt (t + l) n ≡ b → b ≡ true → nat_lt l (n - t) ≡ true

@@ -1,6 +1,6 @@
 -- Limits that are not spent, and the stages in which they run.
 use Rattle.std.proofs.Common.{◌≡◌, ◌∙◌, ℕ, ◌+◌, ◌≤◌, List, [], ◌∷◌, ◌++◌, Option, Some, None, refl, Bool, true, false, arith}
-use Rattle.std.specs.Prelude.{◌&&◌, ◌||◌, not, nat_lt, ◌-◌, if◌then◌else◌}
+use Rattle.std.specs.Prelude.{not, nat_lt, ◌-◌, if◌then◌else◌}
 use Rattle.vss_names.specs.declared.level.Level.{Level}
 use Rattle.vss_names.specs.declared.level.Level.TheVariants.{System, BackEnd, FrontEnd}
 use Rattle.vss_names.specs.declared.order.Order.{Order}
@@ -12,7 +12,6 @@ use Rattle.set_agenda.specs.declared.limit.Limit.{Limit}
 use Rattle.set_agenda.specs.declared.limit.Limit.TheVariants.{Hold as HoldLimit}
 use Rattle.set_agenda.specs.Limits.{Running as RunningLimit, is_prepare_snapshot, is_hold, hold_runs, freeze_runs, runs_if, hold_running, spent_of}
 use Rattle.set_agenda.specs.Course.{is_decisive}
-use Rattle.vss_model.specs.Causes.{holds_volumes, freezes_writers, prepares_writers}
 use Rattle.promises.proofs.Limits.{later_found}
 use Rattle.promises.proofs.Stages.{group_stage, less_both}
 
@@ -93,33 +92,6 @@ mild_order Freeze e = absurd cc
 mild_order Thaw e = refl
 mild_order PostSnapshot e = refl
 mild_order BackupComplete e = refl
-
-pub record RunsNone (g : Group) : Type 0 where
-  pub holds : holds_volumes g ≡ false
-  pub freezes : freezes_writers g ≡ false
-  pub prepares : prepares_writers g ≡ false
-
-pub mild_runs : (g : Group) → is_mild g ≡ true → RunsNone g
-mild_runs (Orders Identify) e = record { holds = refl; freezes = refl; prepares = refl }
-mild_runs (Orders PrepareBackup) e = absurd cc
-mild_runs (Orders PrepareSnapshot) e = absurd cc
-mild_runs (Orders Freeze) e = absurd cc
-mild_runs (Orders Thaw) e = record { holds = refl; freezes = refl; prepares = refl }
-mild_runs (Orders PostSnapshot) e = record { holds = refl; freezes = refl; prepares = refl }
-mild_runs (Orders BackupComplete) e = record { holds = refl; freezes = refl; prepares = refl }
-mild_runs PreCommit e = absurd cc
-mild_runs Flush e = absurd cc
-mild_runs Hold e = absurd cc
-mild_runs Cut e = absurd cc
-mild_runs Commit e = absurd cc
-mild_runs Release e = absurd cc
-mild_runs PostCommit e = absurd cc
-
-pub all_off : (a b c x y z : Bool) → a ≡ false → b ≡ false → c ≡ false → ((a && x) || (b && y) || (c && z)) ≡ false
-all_off true b c x y z e f g = absurd cc
-all_off false true c x y z e f g = absurd cc
-all_off false false true x y z e f g = absurd cc
-all_off false false false x y z e f g = refl
 
 -- ## stages
 

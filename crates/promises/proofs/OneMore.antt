@@ -11,7 +11,6 @@ use Rattle.set_agenda.specs.declared.limit.Limit.TheVariants.{Hold as HoldLimit,
 use Rattle.set_agenda.specs.declared.place.Place.{Place}
 use Rattle.set_agenda.specs.Agenda.{Agenda, Entry, Open, places, group_code, level_code, same_place, left_from, groups_left, open_place, at_place, all_say}
 use Rattle.set_agenda.specs.Limits.{Running as RunningLimit, last_time, opened_at, is_prepare_snapshot, freeze_opened_at, is_hold, first_hold, hold_runs, freeze_runs, answer_runs, runs_if, hold_running, running_at, spent_of}
-use Rattle.vss_model.proofs.Orderly.{true_not_false}
 use Rattle.promises.proofs.Speaks.{Speaks}
 use Rattle.promises.proofs.Stages.{both_parts, equal, group_stage, open_stage, less_both, closed_stays, goes_up, snapshot_from}
 use Rattle.promises.proofs.Heard.{same_group}
@@ -24,13 +23,13 @@ abbrev pub Ordered : Agenda → Type 0
 Ordered a = a.kind ≡ Snapshot → has_hold a.log ≡ true → 6 ≤ open_stage (groups_left a)
 
 abbrev pub Unspent : ℕ → ℕ → Agenda → Type 0
-Unspent now f a = is_mild (open_place (groups_left a)).group ≡ false → spent_of now (running_at f a (groups_left a)) ≡ None
+Unspent now f a = spent_of now (running_at f a (groups_left a)) ≡ None
 
 pub record InTime (now f : ℕ) (a : Agenda) : Type 0 where
   pub unspent : Unspent now f a
   pub ordered : Ordered a
 
-module _ (now f : ℕ) (said : Said) (ws : List ℕ) (a : Agenda) (who : Speaks a ws) (old : Unspent now f a) (order : Ordered a) where
+module _ (now : ℕ) (said : Said) (ws : List ℕ) (a : Agenda) (who : Speaks a ws) (order : Ordered a) where
   abbrev pub more : Agenda
   more = all_say said now ws a
 
@@ -60,7 +59,7 @@ module _ (now f : ℕ) (said : Said) (ws : List ℕ) (a : Agenda) (who : Speaks 
   stage_is : open_stage (groups_left a) ≡ group_stage shown.place.group shown.place.level
   stage_is = ap open_stage now_open.is
 
-  ordered_more : Ordered more
+  pub ordered_more : Ordered more
   ordered_more k e = by_old (has_hold a.log) refl (sym (list_any-append (λ (x : Entry). is_hold x.place.group) a.log (map (at_place p said now) ws)) ∙ e)
     where
       by_old : (b : Bool) → has_hold a.log ≡ b → (has_hold a.log || has_hold (map (at_place p said now) ws)) ≡ true → 6 ≤ open_stage (groups_left more)
@@ -75,7 +74,7 @@ module _ (now f : ℕ) (said : Said) (ws : List ℕ) (a : Agenda) (who : Speaks 
           second false c e f = f
 
   -- a mild group is followed by mild ones alone
-  mild_stays : (k : Kind) → a.kind ≡ k → is_mild p.group ≡ true → (x : Open) (xs : List Open) → groups_left more ≡ x ∷ xs → is_mild x.place.group ≡ true
+  pub mild_stays : (k : Kind) → a.kind ≡ k → is_mild p.group ≡ true → (x : Open) (xs : List Open) → groups_left more ≡ x ∷ xs → is_mild x.place.group ≡ true
   mild_stays Gather e m x xs g = in_kind (λ q. is_mild q.group) Gather more x xs e refl g
   mild_stays Complete e m x xs g = in_kind (λ q. is_mild q.group) Complete more x xs e refl g
   mild_stays Prepare e m x xs g =
@@ -89,7 +88,7 @@ module _ (now f : ℕ) (said : Said) (ws : List ℕ) (a : Agenda) (who : Speaks 
       let higher = less_both 11 (open_stage (groups_left a)) (open_stage (groups_left more)) (subst (λ n. 11 ≤ n) (sym stage_is) high) (up e) in
       high_mild x.place.group x.place.level (in_kind (λ q. not (is_backup_order q.group)) Snapshot more x xs e refl g) (subst (λ ys. 11 ≤ open_stage ys) g higher)
 
-  module _ (mild : is_mild p.group ≡ false) (x : Open) (xs : List Open) (g : groups_left more ≡ x ∷ xs) where
+  module _ (f : ℕ) (old : Unspent now f a) (x : Open) (xs : List Open) (g : groups_left more ≡ x ∷ xs) where
     abbrev pub H : List RunningLimit
     H = hold_running shown.place.group (first_hold a.log)
 
@@ -100,7 +99,7 @@ module _ (now f : ℕ) (said : Said) (ws : List ℕ) (a : Agenda) (who : Speaks 
     A = runs_if (answer_runs shown.place.group) AnswerLimit (opened_at a shown) answer_limit
 
     pub before : spent_of now (H ++ F ++ A) ≡ None
-    before = subst (λ os. spent_of now (running_at f a os) ≡ None) now_open.is (old mild)
+    before = subst (λ os. spent_of now (running_at f a os) ≡ None) now_open.is old
 
     not_in : (test : Group → Bool) (k : Kind) → a.kind ≡ k → every (λ q. not (test q.group)) (places k) ≡ true → test x.place.group ≡ true → ⊥
     not_in test k e h i = both (test x.place.group) i (in_kind (λ q. not (test q.group)) k more x xs e h g)
@@ -178,10 +177,9 @@ module _ (now f : ℕ) (said : Said) (ws : List ℕ) (a : Agenda) (who : Speaks 
         none_both now (hold_running x.place.group (first_hold more.log) ++ runs_if (freeze_runs x.place.group) FreezeLimit (freeze_opened_at more) f) (runs_if (answer_runs x.place.group) AnswerLimit (opened_at more x) answer_limit)
         (none_both now (hold_running x.place.group (first_hold more.log)) (runs_if (freeze_runs x.place.group) FreezeLimit (freeze_opened_at more) f) hold_part freeze_part) answer_part
 
-  unspent_at : (b : Bool) (os : List Open) → is_mild p.group ≡ b → groups_left more ≡ os → is_mild (open_place os).group ≡ false → spent_of now (running_at f more os) ≡ None
-  unspent_at b [] e g m = refl
-  unspent_at true (x ∷ xs) e g m = absurd (true_not_false (is_mild x.place.group) (mild_stays a.kind refl e x xs g) m)
-  unspent_at false (x ∷ xs) e g m = parts e x xs g
+  unspent_at : (f : ℕ) → Unspent now f a → (os : List Open) → groups_left more ≡ os → spent_of now (running_at f more os) ≡ None
+  unspent_at f old [] g = refl
+  unspent_at f old (x ∷ xs) g = parts f old x xs g
 
-  pub said_in_time : InTime now f more
-  said_in_time = record { unspent = λ m. unspent_at (is_mild p.group) (groups_left more) refl refl m; ordered = ordered_more }
+  pub said_in_time : (f : ℕ) → Unspent now f a → InTime now f more
+  said_in_time f old = record { unspent = unspent_at f old (groups_left more) refl; ordered = ordered_more }

@@ -1,5 +1,5 @@
 -- No limit that would fail the set is outrun as the clock stands.
-use Rattle.std.proofs.Common.{◌≡◌, ◌∙◌, ℕ, ◌+◌, zero, suc, List, [], ◌∷◌, ◌++◌, Option, Some, None, refl, Bool, true, false, ap, sym, subst, inl, inr, fold, min, arith}
+use Rattle.std.proofs.Common.{◌≡◌, ◌∙◌, ℕ, ◌+◌, zero, suc, List, [], ◌∷◌, ◌++◌, Option, Some, None, refl, Bool, true, false, ap, sym, subst, inl, fold, min, arith}
 use Rattle.std.specs.Prelude.{◌&&◌, not, option_map, if◌then◌else◌, slice_get}
 use Rattle.vss_names.specs.declared.order.Order.{Order}
 use Rattle.vss_names.specs.declared.vss_result.VssResult.{VssResult}
@@ -20,7 +20,7 @@ use Rattle.set_agenda.specs.declared.kind.Kind.{Kind}
 use Rattle.set_agenda.specs.declared.limit.Limit.{Limit}
 use Rattle.set_agenda.specs.declared.limit.Limit.TheVariants.{Hold as HoldLimit, Freeze as FreezeLimit, Answer as AnswerLimit}
 use Rattle.set_agenda.specs.declared.member.Member.{Member}
-use Rattle.set_agenda.specs.Agenda.{Agenda, Open, places, order_of, is_orders, groups_left, left, open_place, open_group, waits_now, order_now, is_among, is_asked, open_order, is_working, next_member, is_done, all_say}
+use Rattle.set_agenda.specs.Agenda.{Agenda, Open, places, order_of, is_orders, groups_left, left, open_group, waits_now, order_now, is_among, is_asked, open_order, is_working, next_member, is_done, all_say}
 use Rattle.set_agenda.specs.Limits.{Running as RunningLimit, opened_at, freeze_opened_at, first_hold, freeze_runs, answer_runs, runs_if, hold_running, running_at, running_limits, spent_of}
 use Rattle.set_agenda.specs.Course.{Course, posted, failed as course_failed, rows_where, row_if, limit_of, freeze_limit, limits_now, settled_if, settled_in, settled, begun, told, is_decisive, decided, answered_to, answered as course_answered, worked, stepped as course_stepped, lost_to, lost, fails_set, lost_decided, treated_as, treated, timed as course_timed, released}
 use Rattle.requestor.specs.Session.{Session}
@@ -32,10 +32,9 @@ use Rattle.vss_model.specs.Images.{Replied, cleared, set_loses_image, with_room_
 use Rattle.vss_model.specs.Sessions.{has_no_volume, closed}
 use Rattle.vss_model.specs.Steps.{answered, step_made, is_flush, is_failed_step, stepped_as, stepped, ticked, later}
 use Rattle.vss_model.specs.Acts.{Act, enabled, idle_now, after, state}
-use Rattle.vss_model.specs.Causes.{is_late_at, is_late_in}
+use Rattle.vss_model.specs.Causes.{is_late_in}
 use Rattle.vss_model.proofs.CourseCalls.{asked_if, asked_waits}
 use Rattle.vss_model.proofs.LogRule.{Running, unspoken}
-use Rattle.vss_model.proofs.Orderly.{true_not_false}
 use Rattle.promises.specs.Within.{StandsWithinLimits}
 use Rattle.promises.proofs.ByEvent.{Covers, covered, after_enabled, after_not_enabled}
 use Rattle.promises.proofs.Clock.{clock-made}
@@ -43,7 +42,8 @@ use Rattle.promises.proofs.Limits.{is_due_in, due_in, later_found, first_found, 
 use Rattle.promises.proofs.Speaks.{Speaks, now_group, head_waits}
 use Rattle.promises.proofs.Stages.{false_of}
 use Rattle.promises.proofs.Times.{late_is_due}
-use Rattle.promises.proofs.NotSpent.{at_once, none_both, unspent_if, is_mild, mild_order, mild_runs, all_off}
+use Rattle.promises.proofs.NotSpent.{at_once, none_both, unspent_if, is_mild, mild_order}
+use Rattle.promises.proofs.AllLost.{lost_in_time}
 use Rattle.promises.proofs.OneMore.{Ordered, Unspent, InTime, said_in_time}
 
 -- ## the course
@@ -94,14 +94,14 @@ MaySay now f ws (Some a) = Speaks a ws × Unspent now f a × Ordered a
 
 says_at : (now f : ℕ) (said : Said) (ws : List ℕ) (x : Option Agenda) → MaySay now f ws x → Running (InTime now f) (option_map (all_say said now ws) x)
 says_at now f said ws None h = tt
-says_at now f said ws (Some a) h = said_in_time now f said ws a h.0 h.1 h.2
+says_at now f said ws (Some a) h = said_in_time now said ws a h.0 h.2 f h.1
 
-keeps_told : (o : Order) (said : Said) (now : ℕ) (ws : List ℕ) (c : Course) → MaySay now (freeze_limit c) ws c.agenda → Keeps now (told o said now ws c)
+keeps_told : (o : Order) (said : Said) (now : ℕ) (ws : List ℕ) (c : Course) → Running (InTime now (freeze_limit c)) (option_map (all_say said now ws) c.agenda) → Keeps now (told o said now ws c)
 unfolding told
 keeps_told o said now ws c h =
     subst (λ f. Running (InTime now f) (option_map (all_say said now ws) c.agenda))
     (least_stays c.rows (rows_where (row_after o said) (λ w. is_among w ws) 0 c.rows) (limit_stays o said (λ w. is_among w ws) 0 c.rows) default_freeze c.members)
-    (says_at now (freeze_limit c) said ws c.agenda h)
+    h
 
 one_may : (now f w : ℕ) (x : Option Agenda) (o : Order) → open_order (left x) w ≡ Some o → Running (InTime now f) x → MaySay now f (w ∷ []) x
 one_may now f w None o e h = tt
@@ -114,7 +114,7 @@ keeps_decided now false said c h = keeps_settled now c h
 
 keeps_answered_to : (x : Option Order) (w : ℕ) (said : Said) (now : ℕ) (c : Course) → open_order (left c.agenda) w ≡ x → Keeps now c → Keeps now (answered_to x w said now c)
 keeps_answered_to None w said now c e h = h
-keeps_answered_to (Some o) w said now c e h = keeps_decided now (is_decisive o && not (is_ok said)) said _ (keeps_told o said now (w ∷ []) c (one_may now (freeze_limit c) w c.agenda o e h))
+keeps_answered_to (Some o) w said now c e h = keeps_decided now (is_decisive o && not (is_ok said)) said _ (keeps_told o said now (w ∷ []) c (says_at now (freeze_limit c) said (w ∷ []) c.agenda (one_may now (freeze_limit c) w c.agenda o e h)))
 
 keeps_answered : (w : ℕ) (said : Said) (now : ℕ) (c : Course) → Keeps now c → Keeps now (course_answered w said now c)
 keeps_answered w said now c h = keeps_posted now c _ (keeps_answered_to (open_order (left c.agenda) w) w said now c refl h)
@@ -139,7 +139,7 @@ in_order now f (Some a) h = h.ordered
 
 goes_by : (now f : ℕ) (x : Option Agenda) → spent_of now (running_limits f x) ≡ None → Running Ordered x → Running (InTime now f) x
 goes_by now f None e h = tt
-goes_by now f (Some a) e h = record { unspent = λ m. e; ordered = h }
+goes_by now f (Some a) e h = record { unspent = e; ordered = h }
 
 -- where the answer limit is spent, writers are asked
 module _ (now f : ℕ) (a : Agenda) (o : Open) where
@@ -196,18 +196,15 @@ nobody_asked now f (Some a) l e k i = at_list (groups_left a) e i
     at_list [] e i = none_and_some None l refl e
     at_list (o ∷ os) e i = answers_order o.place.group (asks now f a o os l e k) i
 
-all_may : (now f : ℕ) (x : Option Agenda) (o : Order) → order_now (left x) ≡ Some o → is_decisive o ≡ false → Running Ordered x → MaySay now f (waits_now (left x)) x
-all_may now f None o e d h = tt
-all_may now f (Some a) o e d h =
-    let group = now_group (groups_left a) o e in (
-      inr (record { is = refl; writers = ap is_orders group }),
-      (λ m. absurd (true_not_false (is_mild (open_place (groups_left a)).group) (ap is_mild group ∙ mild_order o d) m)),
-      h,
-    )
+all_lost : (now f : ℕ) (x : Option Agenda) (o : Order) → order_now (left x) ≡ Some o → is_decisive o ≡ false → Running Ordered x → Running (InTime now f) (option_map (all_say Lost now (waits_now (left x))) x)
+all_lost now f None o e d h = tt
+all_lost now f (Some a) o e d h =
+    let group = now_group (groups_left a) o e in
+    lost_in_time now a (ap is_orders group) h (ap is_mild group ∙ mild_order o d) f
 
 keeps_lost_to : (now : ℕ) (c : Course) (l : RunningLimit) (x : Option Order) → order_now (left c.agenda) ≡ x → fails_set x ≡ false → spent_of now (limits_now c) ≡ Some l → l.limit ≡ AnswerLimit → Running Ordered c.agenda → Keeps now (lost_to x now c)
 keeps_lost_to now c l None i d e k h = absurd (nobody_asked now (freeze_limit c) c.agenda l e k i)
-keeps_lost_to now c l (Some o) i d e k h = keeps_told o Lost now (waits_now (left c.agenda)) c (all_may now (freeze_limit c) c.agenda o i d h)
+keeps_lost_to now c l (Some o) i d e k h = keeps_told o Lost now (waits_now (left c.agenda)) c (all_lost now (freeze_limit c) c.agenda o i d h)
 
 keeps_lost : (b : Bool) (now : ℕ) (c : Course) (l : RunningLimit) → fails_set (order_now (left c.agenda)) ≡ b → spent_of now (limits_now c) ≡ Some l → l.limit ≡ AnswerLimit → Running Ordered c.agenda → Keeps now (lost_decided b (lost now c))
 keeps_lost true now c l d e k h = keeps_failed now _ (lost now c)
@@ -238,7 +235,7 @@ keeps_begun : (k : Kind) (ms : List Member) (vs : List ℕ) (now : ℕ) (c : Cou
 unfolding begun
 keeps_begun k ms vs now c =
     keeps_posted now c _ (keeps_settled now (record c { agenda = Some (unspoken k ms vs now) })
-    (record { unspent = λ m. new_agenda k ms vs now (freeze_limit c) (groups_left (unspoken k ms vs now)); ordered = λ e f. absurd cc }))
+    (record { unspent = new_agenda k ms vs now (freeze_limit c) (groups_left (unspoken k ms vs now)); ordered = λ e f. absurd cc }))
 
 -- ## every act
 
@@ -340,25 +337,18 @@ in_time_from s st (act ∷ acts) h = in_time_from s (after s st act) acts (in_ti
 
 -- ## nothing is late
 
-not_late_at : (now : ℕ) (c : Course) (a : Agenda) (os : List Open) → groups_left a ≡ os → InTime now (freeze_limit c) a → (is_late_at now c a os ≡ true → is_due_in now c (Some a) ≡ true) → is_late_at now c a os ≡ false
-not_late_at now c a [] g h due = refl
-not_late_at now c a (o ∷ os) g h due = by_mild (is_mild o.place.group) refl
-  where
-    by_mild : (b : Bool) → is_mild o.place.group ≡ b → is_late_at now c a (o ∷ os) ≡ false
-    by_mild true e = let off = mild_runs o.place.group e in all_off _ _ _ _ _ _ off.holds off.freezes off.prepares
-    by_mild false e =
-        false_of _ (λ late.
-        let spends = due_in now c (Some a) (due late) in
-        none_and_some _ spends.one (h.unspent (ap (λ xs. is_mild (open_place xs).group) g ∙ e)) spends.is)
+-- no limit that runs is spent
+pub none_spent : (s : Plan) (so_far : List Act) → Running (InTime (state s so_far).clock (freeze_limit (state s so_far).course)) (state s so_far).course.agenda
+none_spent s so_far = in_time_from s (start s) so_far tt
 
 not_late : (now : ℕ) (c : Course) (x : Option Agenda) → Running (InTime now (freeze_limit c)) x → (is_late_in now c x ≡ true → is_due_in now c x ≡ true) → is_late_in now c x ≡ false
 not_late now c None h due = refl
-not_late now c (Some a) h due = not_late_at now c a (groups_left a) refl h due
+not_late now c (Some a) h due = false_of _ (λ late. let spends = due_in now c (Some a) (due late) in none_and_some _ spends.one h.unspent spends.is)
 
 pub stands_within_limits : (s : Plan) (so_far : List Act) → StandsWithinLimits s so_far
 stands_within_limits s so_far =
     let st = state s so_far in
-    subst (λ n. is_late_in n st.course st.course.agenda ≡ false) (no_more st.clock) (not_late st.clock st.course st.course.agenda (in_time_from s (start s) so_far tt) (late_is_due s so_far st.clock))
+    subst (λ n. is_late_in n st.course st.course.agenda ≡ false) (no_more st.clock) (not_late st.clock st.course st.course.agenda (none_spent s so_far) (late_is_due s so_far st.clock))
   where
     no_more : (n : ℕ) → n ≡ n + 0
     no_more n = omega arith

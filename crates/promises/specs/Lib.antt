@@ -9,6 +9,12 @@ pub mod Calls
 pub mod Sets
 pub mod Replies
 pub mod Within
+pub mod Unanswered
 pub mod Rows
 pub mod ContextZero
+pub mod Slots
+pub mod Completing
+pub mod Telling
+pub mod Copies
+pub mod Accepted
 pub mod Promises

@@ -4,10 +4,13 @@ use Rattle.write_history.specs.declared.move_item.Move.{Move}
 use Rattle.scenario.specs.Plan.{Plan}
 use Rattle.vss_model.specs.Acts.{Act}
 use Rattle.vss_model.specs.Trail.{acts}
+use Rattle.promises.specs.Accepted.{AcceptsOwner}
 use Rattle.promises.specs.Calls.{CallsAreOwned, WaitsAreFew, StandsQuiet, FrozenDoNotWrite}
 use Rattle.promises.specs.Clock.{ClockMoves}
+use Rattle.promises.specs.Completing.{CompletesUnfailed}
 use Rattle.promises.specs.Contents.{ContentsChange}
 use Rattle.promises.specs.ContextZero.{BackupsEnd}
+use Rattle.promises.specs.Copies.{CopiesHold}
 use Rattle.promises.specs.Done.{IsDone}
 use Rattle.promises.specs.Failing.{FailsForCause}
 use Rattle.promises.specs.Gone.{ImagesGoForCause}
@@ -15,6 +18,9 @@ use Rattle.promises.specs.Idle.{IdlesShortest}
 use Rattle.promises.specs.Replies.{RepliesTell}
 use Rattle.promises.specs.Rows.{RowsTell}
 use Rattle.promises.specs.Sets.{VolumesAreDistinct}
+use Rattle.promises.specs.Slots.{SlotsSuffice}
+use Rattle.promises.specs.Telling.{TellsFailure}
+use Rattle.promises.specs.Unanswered.{OrdersEnd}
 use Rattle.promises.specs.Way.{CompletesByTheWay}
 use Rattle.promises.specs.Within.{StandsWithinLimits}
 
@@ -27,8 +33,10 @@ pub record IsActAsPromised (s : Plan) (so_far : List Act) (act : Act) : Type 0 w
   pub contents : ContentsChange s so_far act
   pub clock : ClockMoves s so_far act
   pub calls : CallsAreOwned s so_far act
+  pub accepts : AcceptsOwner s so_far act
   pub replies : RepliesTell s so_far act
   pub rows : RowsTell s so_far act
+  pub tells : TellsFailure s so_far act
 
 -- of the state after these acts
 pub record IsStateAsPromised (s : Plan) (so_far : List Act) : Type 0 where
@@ -38,7 +46,11 @@ pub record IsStateAsPromised (s : Plan) (so_far : List Act) : Type 0 where
   pub volumes : VolumesAreDistinct s so_far
   pub idles : IdlesShortest s so_far
   pub limits : StandsWithinLimits s so_far
+  pub orders : OrdersEnd s so_far
+  pub completing : CompletesUnfailed s so_far
   pub backups : BackupsEnd s so_far
+  pub slots : SlotsSuffice s so_far
+  pub copies : CopiesHold s so_far
 
 -- of each act of a trail, and of each state on its way
 pub record IsAsPromised (s : Plan) (trail : List Move) : Type 0 where

@@ -4,10 +4,13 @@ ghost use Rattle.std.specs.Prelude.{List};
 ghost use Rattle.write_history.specs.declared.move_item.Move.{Move};
 ghost use Rattle.scenario.specs.Plan.{Plan};
 ghost use Rattle.vss_model.specs.Acts.{Act};
+ghost use Rattle.promises.specs.Accepted.{AcceptsOwner};
 ghost use Rattle.promises.specs.Calls.{CallsAreOwned, WaitsAreFew, StandsQuiet, FrozenDoNotWrite};
 ghost use Rattle.promises.specs.Clock.{ClockMoves};
+ghost use Rattle.promises.specs.Completing.{CompletesUnfailed};
 ghost use Rattle.promises.specs.Contents.{ContentsChange};
 ghost use Rattle.promises.specs.ContextZero.{BackupsEnd};
+ghost use Rattle.promises.specs.Copies.{CopiesHold};
 ghost use Rattle.promises.specs.Done.{IsDone};
 ghost use Rattle.promises.specs.Failing.{FailsForCause};
 ghost use Rattle.promises.specs.Gone.{ImagesGoForCause};
@@ -16,6 +19,9 @@ ghost use Rattle.promises.specs.Promises.{IsAsPromised};
 ghost use Rattle.promises.specs.Replies.{RepliesTell};
 ghost use Rattle.promises.specs.Rows.{RowsTell};
 ghost use Rattle.promises.specs.Sets.{VolumesAreDistinct};
+ghost use Rattle.promises.specs.Slots.{SlotsSuffice};
+ghost use Rattle.promises.specs.Telling.{TellsFailure};
+ghost use Rattle.promises.specs.Unanswered.{OrdersEnd};
 ghost use Rattle.promises.specs.Way.{CompletesByTheWay};
 ghost use Rattle.promises.specs.Within.{StandsWithinLimits};
 
@@ -28,6 +34,21 @@ pub fn sets_complete_by_the_way()
 /// An image goes only where its set fails, a line takes it, or a write finds no slot left in its group.
 pub fn images_go_for_cause()
     ensures { (s : Plan) (so_far : List Act) (act : Act) → ImagesGoForCause s so_far act }
+{}
+
+/// A copy that an area keeps holds its block as it was at the one cut of its set.
+pub fn copies_hold_the_cut()
+    ensures { (s : Plan) (so_far : List Act) → CopiesHold s so_far }
+{}
+
+/// BackupComplete goes to no writer that has failed.
+pub fn no_failed_writer_is_told_of_completion()
+    ensures { (s : Plan) (so_far : List Act) → CompletesUnfailed s so_far }
+{}
+
+/// The images of a group never use more slots than the group has.
+pub fn images_fit_their_slots()
+    ensures { (s : Plan) (so_far : List Act) → SlotsSuffice s so_far }
 {}
 
 /// No volume is twice in a set.
@@ -66,6 +87,11 @@ pub fn calls_are_the_owners()
     ensures { (s : Plan) (so_far : List Act) (act : Act) → CallsAreOwned s so_far act }
 {}
 
+/// In its stage and below its maxima the owner's call is accepted.
+pub fn owners_are_accepted_in_their_stage()
+    ensures { (s : Plan) (so_far : List Act) (act : Act) → AcceptsOwner s so_far act }
+{}
+
 /// Only writes, `begin` and `await` wait; without a session no agenda runs; and no lane writes as a writer that stands frozen.
 pub fn few_lines_wait()
     ensures waits { (s : Plan) (so_far : List Act) → WaitsAreFew s so_far }
@@ -83,10 +109,20 @@ pub fn rows_say_what_was_said()
     ensures { (s : Plan) (so_far : List Act) (act : Act) → RowsTell s so_far act }
 {}
 
+/// A set that fails tells each participant once that has not failed, and nobody else.
+pub fn failing_sets_tell_their_writers()
+    ensures { (s : Plan) (so_far : List Act) (act : Act) → TellsFailure s so_far act }
+{}
+
 /// After no act is anything late for which a set would fail: no volume is held for more than 10,000 ticks, no freeze limit is
 /// outrun before PostCommit, and no answer to PrepareBackup or PrepareSnapshot is missing for more than 300,000.
 pub fn nothing_stands_late()
     ensures { (s : Plan) (so_far : List Act) → StandsWithinLimits s so_far }
+{}
+
+/// After no act has an order of Identify, Thaw, PostSnapshot or BackupComplete been open for more than 300,000 ticks.
+pub fn no_order_stays_open()
+    ensures { (s : Plan) (so_far : List Act) → OrdersEnd s so_far }
 {}
 
 /// An image of context 0 stands only while the session stands that has made its set.

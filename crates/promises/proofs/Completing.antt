@@ -1,0 +1,298 @@
+-- BackupComplete goes to no writer that has failed.
+use Rattle.std.proofs.Common.{◌≡◌, ◌∙◌, ℕ, ◌+◌, ◌==◌, zero, suc, List, [], ◌∷◌, Option, Some, None, refl, Bool, true, false, ap, sym, subst, filter, fold, arith}
+use Rattle.std.specs.Prelude.{◌&&◌, ◌||◌, not, option_map, if◌then◌else◌, slice_get}
+use Rattle.vss_names.specs.declared.order.Order.{Order}
+use Rattle.vss_names.specs.declared.order.Order.TheVariants.{BackupComplete}
+use Rattle.vss_names.specs.declared.vss_result.VssResult.{VssResult}
+use Rattle.vss_names.specs.declared.vss_result.VssResult.TheVariants.{InsufficientStorage, AsyncCancelled}
+use Rattle.vss_names.specs.declared.writer_state.WriterState.{WriterState}
+use Rattle.vss_names.specs.declared.writer_state.WriterState.TheVariants.{Unknown, Stable, WaitingForFreeze, WaitingForThaw, WaitingForPostSnapshot, WaitingForBackupComplete, FailedAtIdentify, FailedAtPrepareBackup, FailedAtPrepareSnapshot, FailedAtFreeze, FailedAtThaw, FailedAtPostSnapshot, FailedAtBackupComplete, FailedAtPreRestore, FailedAtPostRestore, FailedAtBackupShutdown}
+use Rattle.writer_state.specs.declared.said.Said.{Said}
+use Rattle.writer_state.specs.declared.said.Said.TheVariants.{Ok, Lost}
+use Rattle.writer_state.specs.declared.writer_row.WriterRow.{WriterRow}
+use Rattle.writer_state.specs.WriterState.{is_ok, is_failed}
+use Rattle.writer_state.specs.WriterRow.{row_after}
+use Rattle.write_history.specs.declared.mark.Mark.{Mark}
+use Rattle.write_history.specs.declared.mark.Mark.TheVariants.{Clean, Fault, FaultAfter}
+use Rattle.write_history.specs.History.{Write}
+use Rattle.writer_calls.specs.Script.{said_of}
+use Rattle.set_agenda.specs.declared.group.Group.{Group}
+use Rattle.set_agenda.specs.declared.kind.Kind.{Kind}
+use Rattle.set_agenda.specs.declared.kind.Kind.TheVariants.{Gather, Prepare, Snapshot, Complete}
+use Rattle.set_agenda.specs.declared.limit.Limit.{Limit}
+use Rattle.set_agenda.specs.declared.limit.Limit.TheVariants.{Hold as HoldLimit, Freeze as FreezeLimit, Answer as AnswerLimit}
+use Rattle.set_agenda.specs.declared.member.Member.{Member}
+use Rattle.set_agenda.specs.Agenda.{Agenda, open_group, places, has_said, waited_for, with_group, groups_left, left, is_asked, is_among, order_now, open_order, next_member, is_done, all_say, writers_at}
+use Rattle.set_agenda.specs.Limits.{Running as RunningLimit, spent_of}
+use Rattle.set_agenda.specs.Course.{Course, posted, failed as course_failed, rows_where, row_if, has_row_failed, row_failed, settled_if, settled_in, settled, begun, told, is_decisive, decided, answered_to, answered as course_answered, worked, stepped as course_stepped, lost_to, lost, fails_set, lost_decided, treated_as, treated, timed as course_timed, limits_now, released}
+use Rattle.requestor.specs.Session.{Session}
+use Rattle.scenario.specs.Plan.{Plan}
+use Rattle.vss_model.specs.declared.event.Event.{Event}
+use Rattle.vss_model.specs.State.{State, SetRow, Kept, start, in_progress, left_now}
+use Rattle.vss_model.specs.Ending.{Ending, NothingEnds, AgendaEnds, SetFails, ending, concluded, followed, runs, failed_in, failed}
+use Rattle.vss_model.specs.Images.{Replied, cleared, set_loses_image, with_room_if, put, write, reverted_as}
+use Rattle.vss_model.specs.Sessions.{has_no_volume, closed}
+use Rattle.vss_model.specs.Steps.{answered, step_made, is_flush, is_failed_step, stepped_as, stepped, ticked, later}
+use Rattle.vss_model.specs.Acts.{Act, enabled, idle_now, after}
+use Rattle.vss_model.proofs.CourseCalls.{asked_if}
+use Rattle.vss_model.proofs.LogRule.{unspoken}
+use Rattle.promises.specs.Completing.{StandsWell, CompletesUnfailed}
+use Rattle.promises.proofs.ByEvent.{Covers, covered, after_enabled, after_not_enabled}
+use Rattle.promises.proofs.LastOrder.{is_last_order, among_all, last_place, not_in_kind, still_open}
+use Rattle.promises.proofs.OpenGroup.{every}
+
+-- ## the course
+
+abbrev Unfailed : List WriterRow → Option Agenda → Type 0
+Unfailed rows x = (w : ℕ) → open_order (left x) w ≡ Some BackupComplete → has_row_failed rows w ≡ false
+
+abbrev Well : Course → Type 0
+Well c = Unfailed c.rows c.agenda
+
+nobody : (rows : List WriterRow) → Unfailed rows None
+nobody rows w e = absurd cc
+
+well_failed : (why : VssResult) (c : Course) → Well (course_failed why c)
+unfolding course_failed
+well_failed why c = nobody (course_failed why c).rows
+
+well_posted : (prior c : Course) → Well c → Well (posted prior c)
+unfolding posted
+well_posted prior c h = h
+
+well_settled_if : (b : Bool) (k : Kind) (c : Course) → Well c → Well (settled_if b k c)
+well_settled_if true k c h = nobody c.rows
+well_settled_if false k c h = h
+
+well_settled_in : (x : Option Agenda) (c : Course) → Well c → Well (settled_in x c)
+well_settled_in None c h = h
+well_settled_in (Some a) c h = well_settled_if (is_done (groups_left a)) a.kind c h
+
+well_settled : (c : Course) → Well c → Well (settled c)
+unfolding settled
+well_settled c h = well_settled_in c.agenda c h
+
+-- a row that is not of these
+row_stays : (f : WriterRow → WriterRow) (test : ℕ → Bool) (k : ℕ) (rows : List WriterRow) (w : ℕ) → test (k + w) ≡ false → slice_get (rows_where f test k rows) w ≡ slice_get rows w
+row_stays f test k [] w e = refl
+row_stays f test k (r ∷ rows) zero e = ap (λ b. Some (row_if b f r)) (ap test (none_more k) ∙ e)
+  where
+    none_more : (n : ℕ) → n ≡ n + 0
+    none_more n = omega arith
+row_stays f test k (r ∷ rows) (suc w) e = row_stays f test (k + 1) rows w (ap test (shift k w) ∙ e)
+  where
+    shift : (a b : ℕ) → a + 1 + b ≡ a + suc b
+    shift a b = omega arith
+
+well_said : (o : Order) (said : Said) (now : ℕ) (ws : List ℕ) (rows : List WriterRow) (x : Option Agenda) → Unfailed rows x → Unfailed (rows_where (row_after o said) (λ w. is_among w ws) 0 rows) (option_map (all_say said now ws) x)
+well_said o said now ws rows None h w e = nobody (rows_where (row_after o said) (λ w. is_among w ws) 0 rows) w e
+well_said o said now ws rows (Some a) h w e =
+    let was = still_open a.kind said now ws a w refl e in
+    ap row_failed (row_stays (row_after o said) (λ x. is_among x ws) 0 rows w (ap (λ x. is_among x ws) (none_less w) ∙ was.1)) ∙ h w was.0
+  where
+    none_less : (n : ℕ) → 0 + n ≡ n
+    none_less n = omega arith
+
+well_told : (o : Order) (said : Said) (now : ℕ) (ws : List ℕ) (c : Course) → Well c → Well (told o said now ws c)
+unfolding told
+well_told o said now ws c h = well_said o said now ws c.rows c.agenda h
+
+well_decided : (b : Bool) (said : Said) (c : Course) → Well c → Well (decided b said c)
+well_decided true said c h = well_failed _ c
+well_decided false said c h = well_settled c h
+
+well_answered_to : (x : Option Order) (w : ℕ) (said : Said) (now : ℕ) (c : Course) → Well c → Well (answered_to x w said now c)
+well_answered_to None w said now c h = h
+well_answered_to (Some o) w said now c h = well_decided (is_decisive o && not (is_ok said)) said (told o said now (w ∷ []) c) (well_told o said now (w ∷ []) c h)
+
+well_answered : (w : ℕ) (said : Said) (now : ℕ) (c : Course) → Well c → Well (course_answered w said now c)
+well_answered w said now c h = well_posted c _ (well_answered_to (open_order (left c.agenda) w) w said now c h)
+
+well_made : (now : ℕ) (ws : List ℕ) (rows : List WriterRow) (x : Option Agenda) → Unfailed rows x → Unfailed rows (option_map (all_say Ok now ws) x)
+well_made now ws rows None h w e = nobody rows w e
+well_made now ws rows (Some a) h w e = h w (still_open a.kind Ok now ws a w refl e).0
+
+well_worked : (now : ℕ) (c : Course) → Well c → Well (worked now c)
+unfolding worked
+well_worked now c h = well_made now (next_member (left c.agenda) ∷ []) c.rows c.agenda h
+
+well_stepped : (ok : Bool) (now : ℕ) (c : Course) → Well c → Well (course_stepped ok now c)
+well_stepped true now c h = well_posted c _ (well_settled (worked now c) (well_worked now c h))
+well_stepped false now c h = well_posted c _ (well_failed _ c)
+
+well_lost_to : (x : Option Order) (now : ℕ) (c : Course) → Well c → Well (lost_to x now c)
+well_lost_to None now c h = h
+well_lost_to (Some o) now c h = well_told o Lost now _ c h
+
+well_lost_decided : (b : Bool) (c : Course) → Well c → Well (lost_decided b c)
+well_lost_decided true c h = well_failed _ c
+well_lost_decided false c h = well_settled c h
+
+well_treated_as : (l : Limit) (now : ℕ) (c : Course) → Well c → Well (treated_as l now c)
+well_treated_as HoldLimit now c h = well_failed _ c
+well_treated_as FreezeLimit now c h = well_failed _ (lost now c)
+well_treated_as AnswerLimit now c h = well_lost_decided (fails_set (order_now (left c.agenda))) (lost now c) (well_lost_to (order_now (left c.agenda)) now c h)
+
+well_treated : (x : Option RunningLimit) (now : ℕ) (c : Course) → Well c → Well (treated x now c)
+well_treated None now c h = h
+well_treated (Some l) now c h = well_treated_as l.limit now c h
+
+well_timed : (now : ℕ) (c : Course) → Well c → Well (course_timed now c)
+well_timed now c h = well_posted c _ (well_treated (spent_of now (limits_now c)) now c h)
+
+-- ## an agenda begins
+
+well_begun_as : (k : Kind) (ms : List Member) (vs : List ℕ) (now : ℕ) (c : Course) → Unfailed c.rows (Some (unspoken k ms vs now)) → Well (begun k ms vs now c)
+unfolding begun
+well_begun_as k ms vs now c h = well_posted c _ (well_settled (record c { agenda = Some (unspoken k ms vs now) }) h)
+
+well_begun : (k : Kind) (ms : List Member) (vs : List ℕ) (now : ℕ) (c : Course) → every (λ q. not (is_last_order q.group)) (places k) ≡ true → Well (begun k ms vs now c)
+well_begun k ms vs now c h = well_begun_as k ms vs now c (λ w e. absurd (not_in_kind k (unspoken k ms vs now) w refl h e))
+
+unfailed_member : (rows : List WriterRow) (w : ℕ) (ms : List Member) → is_among w (writers_at (filter (λ (m : Member). not (has_row_failed rows m.writer)) ms) None) ≡ true → has_row_failed rows w ≡ false
+unfailed_member rows w [] e = absurd cc
+unfailed_member rows w (m ∷ ms) e = by_test (has_row_failed rows m.writer) refl e (unfailed_member rows w ms)
+  where
+    equal_number : (a b : ℕ) → (a == b) ≡ true → a ≡ b
+    equal_number a b e = grind arith
+
+    by_head : (c : Bool) → (m.writer == w) ≡ c → has_row_failed rows m.writer ≡ false → (c || is_among w (writers_at (filter (λ (x : Member). not (has_row_failed rows x.writer)) ms) None)) ≡ true
+        → (is_among w (writers_at (filter (λ (x : Member). not (has_row_failed rows x.writer)) ms) None) ≡ true → has_row_failed rows w ≡ false) → has_row_failed rows w ≡ false
+    by_head true f g e ih = subst (λ x. has_row_failed rows x ≡ false) (equal_number m.writer w f) g
+    by_head false f g e ih = ih e
+
+    by_test : (b : Bool) → has_row_failed rows m.writer ≡ b → is_among w (writers_at (if not b then m ∷ filter (λ (x : Member). not (has_row_failed rows x.writer)) ms else filter (λ (x : Member). not (has_row_failed rows x.writer)) ms) None) ≡ true
+        → (is_among w (writers_at (filter (λ (x : Member). not (has_row_failed rows x.writer)) ms) None) ≡ true → has_row_failed rows w ≡ false) → has_row_failed rows w ≡ false
+    by_test true f e ih = ih e
+    by_test false f e ih = by_head (m.writer == w) refl f e ih
+
+waiting_there : (waits : List ℕ) (w : ℕ) → is_asked w (with_group last_place waits []) ≡ true → is_among w waits ≡ true
+waiting_there [] w e = absurd cc
+waiting_there (x ∷ xs) w e = e
+
+well_completing : (ms : List Member) (now : ℕ) (c : Course) → Well (begun Complete (filter (λ (m : Member). not (has_row_failed c.rows m.writer)) ms) [] now c)
+well_completing ms now c =
+    let asked = filter (λ (m : Member). not (has_row_failed c.rows m.writer)) ms in
+    well_begun_as Complete asked [] now c
+    (λ w e.
+    unfailed_member c.rows w ms
+    (among_all (λ who. not (has_said [] last_place who)) w (writers_at (filter (λ (m : Member). not (has_row_failed c.rows m.writer)) ms) None)
+    (waiting_there (waited_for (unspoken Complete (filter (λ (m : Member). not (has_row_failed c.rows m.writer)) ms) [] now) last_place) w
+    (asked_if (is_asked w (groups_left (unspoken Complete (filter (λ (m : Member). not (has_row_failed c.rows m.writer)) ms) [] now))) (order_now (groups_left (unspoken Complete (filter (λ (m : Member). not (has_row_failed c.rows m.writer)) ms) [] now))) BackupComplete e))))
+
+-- ## every act
+
+abbrev WellNow : State → Type 0
+WellNow st = Well st.course
+
+well_ended : (e : Ending) (x : State) → WellNow x → WellNow (concluded e x)
+well_ended NothingEnds x h = h
+well_ended AgendaEnds x h = h
+well_ended (SetFails why) x h = h
+
+well_followed : (ran : Bool) (c : Course) (x : State) → Well c → WellNow (followed ran c x)
+unfolding followed
+well_followed ran c x h = well_ended (ending x.course.outcome c.outcome ran c.agenda) (record x { course = c }) h
+
+well_failed_in : (o : Option SetRow) (why : VssResult) (x : State) → WellNow x → WellNow (failed_in o why x)
+well_failed_in None why x h = h
+well_failed_in (Some r) why x h = well_failed why x.course
+
+well_room : (b : Bool) (x : State) → WellNow x → WellNow (with_room_if b x)
+well_room true x h = well_failed_in (in_progress x) InsufficientStorage x h
+well_room false x h = h
+
+well_put : (v : ℕ) (w : Write) (mark : Mark) (x : State) → WellNow x → WellNow (put v w mark x)
+well_put v w Clean x h = h
+well_put v w Fault x h = h
+well_put v w (FaultAfter k) x h = h
+
+module _ (s : Plan) (st : State) (h : WellNow st) where
+  on_write : (v : ℕ) (w : Write) (mark : Mark) → WellNow (write s v w mark st).1
+  unfolding write
+  on_write v w mark = well_put v w mark _ (well_room (set_loses_image (in_progress st) st.volumes (cleared s v w.block st).volumes) (cleared s v w.block st) h)
+
+  on_revert : (v : ℕ) (k : Kept) (mark : Mark) → WellNow (reverted_as s v k mark st).1
+  on_revert v k Clean = h
+  on_revert v k Fault = h
+  on_revert v k (FaultAfter n) = h
+
+  on_close : (q : Session) (x : State) → WellNow (closed q x)
+  unfolding closed released
+  on_close q x = nobody (closed q x).course.rows
+
+  on_answer : (w : ℕ) (said : Said) → WellNow (answered w said st)
+  unfolding answered
+  on_answer w said = well_followed (runs st) (course_answered w said st.clock st.course) st (well_answered w said st.clock st.course h)
+
+  on_tick : (n : ℕ) → WellNow (ticked n st)
+  unfolding ticked
+  on_tick n = well_followed (runs st) (course_timed (st.clock + n) st.course) (later n st) (well_timed (st.clock + n) st.course h)
+
+  on_step_as : (b : Bool) (g : Option Group) → WellNow (stepped_as b g st)
+  on_step_as true g = well_followed (runs st) (course_stepped false st.clock st.course) st (well_stepped false st.clock st.course h)
+  on_step_as false g = well_followed (runs st) (course_stepped true st.clock st.course) (step_made g st) (well_stepped true st.clock st.course h)
+
+  on_step : (mark : Mark) → WellNow (stepped mark st)
+  unfolding stepped
+  on_step mark = on_step_as (is_failed_step (is_flush (open_group (left_now st))) mark) (open_group (left_now st))
+
+  abbrev Next : Event → Mark → Replied → Type 0
+  Next event mark x = WellNow x.1
+
+  either : (b : Bool) (x y : Replied) → WellNow x.1 → WellNow y.1 → WellNow (if b then x else y).1
+  either true x y d e = d
+  either false x y d e = e
+
+  well : Covers Next s st
+  well = record {
+    stays = λ lane o mark told e f. h;
+    writes = λ lane o v w mark e f. on_write v w mark;
+    reverts = λ lane n v k mark e f. on_revert v k mark;
+    deletes_set = λ lane n c mark e. h;
+    deletes_image = λ lane n v k mark e. h;
+    ticks = λ lane n mark. on_tick n;
+    begins = λ lane n all c mark e. h;
+    disables = λ lane w q mark g. h;
+    gathers = λ lane q mark g. well_followed true _ st (well_begun Gather _ _ st.clock _ refl);
+    names = λ lane w full q explicit mark g. h;
+    starts = λ lane q mark g e. h;
+    adds = λ lane v r q mark g e f. h;
+    prepares = λ lane q mark g. either (has_no_volume (in_progress st)) _ _ h (well_followed true _ st (well_begun Prepare _ _ st.clock _ refl));
+    snapshots = λ lane q mark g. either (has_no_volume (in_progress st)) _ _ h (well_followed true _ st (well_begun Snapshot _ _ st.clock _ refl));
+    completes = λ lane q mark g. well_followed true _ st (well_completing st.course.members st.clock st.course);
+    aborts = λ lane q mark e. well_failed_in (in_progress st) AsyncCancelled st h;
+    ends = λ lane q mark e. on_close q (failed AsyncCancelled st);
+    answers = λ w answer mark e. on_answer w (said_of answer);
+    steps = λ mark e. on_step mark;
+    idles = λ mark e. on_tick (idle_now st);
+  }
+
+  well_if : (b : Bool) (act : Act) → enabled s st act.event ≡ b → WellNow (after s st act)
+  well_if true act e = subst WellNow (sym (after_enabled s st act e)) (covered Next s st well act.event act.mark e)
+  well_if false act e = subst WellNow (sym (after_not_enabled s st act e)) h
+
+well_from : (s : Plan) (st : State) (acts : List Act) → WellNow st → WellNow (fold (after s) st acts)
+well_from s st [] h = h
+well_from s st (act ∷ acts) h = well_from s (after s st act) acts (well_if s st h (enabled s st act.event) act refl)
+
+stands_well : (state : WriterState) → is_failed state ≡ false → StandsWell state
+stands_well Unknown e = tt
+stands_well Stable e = tt
+stands_well WaitingForFreeze e = tt
+stands_well WaitingForThaw e = tt
+stands_well WaitingForPostSnapshot e = tt
+stands_well WaitingForBackupComplete e = tt
+stands_well FailedAtIdentify e = absurd cc
+stands_well FailedAtPrepareBackup e = absurd cc
+stands_well FailedAtPrepareSnapshot e = absurd cc
+stands_well FailedAtFreeze e = absurd cc
+stands_well FailedAtThaw e = absurd cc
+stands_well FailedAtPostSnapshot e = absurd cc
+stands_well FailedAtBackupComplete e = absurd cc
+stands_well FailedAtPreRestore e = absurd cc
+stands_well FailedAtPostRestore e = absurd cc
+stands_well FailedAtBackupShutdown e = absurd cc
+
+pub completes_unfailed : (s : Plan) (so_far : List Act) → CompletesUnfailed s so_far
+completes_unfailed s so_far w row e f = stands_well row.state (ap row_failed (sym f) ∙ well_from s (start s) so_far (nobody (start s).course.rows) w e)

@@ -1,0 +1,116 @@
+-- Each copy holds its block as it was at the cut of its set.
+use Rattle.std.proofs.Common.{◌≡◌, ◌∙◌, ℕ, ◌+◌, ◌==◌, ◌<◌, suc, List, [], ◌∷◌, ◌++◌, Option, Some, None, refl, Bool, true, false, ap, map, length, arith}
+use Rattle.std.specs.Prelude.{if◌then◌else◌, is_some, slice_get, All}
+use Rattle.std.proofs.lemmas.List.Elements.{All-nil, All-cons, All-append}
+use Rattle.write_history.specs.History.{Write, Image, History, content, point_in, AreLater, AreInTime}
+use Rattle.write_history.specs.Slots.{Placed, Copy, copy_of, named, copies_of, copies_from, copies}
+use Rattle.scenario.specs.Plan.{Plan, group_of}
+use Rattle.vss_model.specs.State.{history_of}
+use Rattle.vss_model.specs.Acts.{Act, state}
+use Rattle.vss_model.specs.Cut.{cut, IsShownAt}
+use Rattle.vss_model.proofs.OneCut.{image_shown, image_reads, images_in_time}
+use Rattle.vss_model.proofs.Volumes.{at}
+use Rattle.promises.specs.Copies.{HoldsTheCut, CopiesHold}
+use Rattle.promises.specs.Gone.{within}
+
+-- ## the copies of a volume
+
+-- the copy is of one of these images, and holds its block as it was at the image's point
+record IsOfImage (ws : List Write) (images : List Image) (c : Copy) : Type 0 where
+  point : ℕ
+  is : point_in c.set images ≡ Some point
+  holds : c.bytes ≡ content ws point c.block
+
+own_number : (a : ℕ) → (a == a) ≡ true
+own_number a = grind arith
+
+first_point : (b : Bool) (p : ℕ) (o : Option ℕ) → b ≡ true → (if b then Some p else o) ≡ Some p
+first_point true p o e = refl
+first_point false p o e = absurd cc
+
+later_point : (b : Bool) (p : ℕ) (o : Option ℕ) → b ≡ false → (if b then Some p else o) ≡ o
+later_point true p o e = absurd cc
+later_point false p o e = refl
+
+-- a later image is of a later set
+later_set : (i : Image) (m p : ℕ) (images : List Image) → AreLater i images → point_in m images ≡ Some p → (i.set == m) ≡ false
+later_set i m p [] h e = absurd cc
+later_set i m p (j ∷ images) h e = by_head (j.set == m) refl e (later_set i m p images h.2)
+  where
+    differs : (a b m : ℕ) → a < b → (b == m) ≡ true → (a == m) ≡ false
+    differs a b m l e = grind arith
+
+    by_head : (b : Bool) → (j.set == m) ≡ b → (if b then Some j.point else point_in m images) ≡ Some p → (point_in m images ≡ Some p → (i.set == m) ≡ false) → (i.set == m) ≡ false
+    by_head true f e ih = differs i.set j.set m h.0 f
+    by_head false f e ih = ih e
+
+own_copies : (u : ℕ) (ws : List Write) (i : Image) (newer : List Image) (bs : List ℕ) → All (IsOfImage ws (i ∷ newer)) (map (copy_of u ws i) bs)
+own_copies u ws i newer [] = All-nil (IsOfImage ws (i ∷ newer))
+own_copies u ws i newer (b ∷ bs) =
+    All-cons (IsOfImage ws (i ∷ newer)) (copy_of u ws i b) (map (copy_of u ws i) bs)
+    (record { point = i.point; is = first_point (i.set == i.set) i.point (point_in i.set newer) (own_number i.set); holds = refl })
+    (own_copies u ws i newer bs)
+
+all_along : (P Q : Copy → Type 0) (cs : List Copy) → ((c : Copy) → P c → Q c) → All P cs → All Q cs
+all_along P Q cs f h k d l = f _ (h k d l)
+
+copies_in : (u n most : ℕ) (ws : List Write) (images : List Image) → AreInTime most images → All (IsOfImage ws images) (copies_of u n ws images)
+copies_in u n most ws [] t = All-nil (IsOfImage ws [])
+copies_in u n most ws (i ∷ newer) t =
+    All-append (IsOfImage ws (i ∷ newer)) (map (copy_of u ws i) (named n ws i newer)) (copies_of u n ws newer) (own_copies u ws i newer (named n ws i newer))
+    (all_along (IsOfImage ws newer) (IsOfImage ws (i ∷ newer)) (copies_of u n ws newer)
+    (λ c h. record { point = h.point; is = later_point (i.set == c.set) i.point (point_in c.set newer) (later_set i c.set h.point newer t.1 h.is) ∙ h.is; holds = h.holds }) (copies_in u n most ws newer t.2))
+
+-- ## the copies of a group
+
+record IsInGroup (ps : List Placed) (hs : List History) (c : Copy) : Type 0 where
+  volume : ℕ
+  of_group : within (slice_get ps volume) ≡ true
+  image : IsOfImage (at hs volume).writes (at hs volume).images c
+
+abbrev InTimeAll : List History → Type 0
+InTimeAll hs = (v : ℕ) → AreInTime (length (at hs v).writes) (at hs v).images
+
+one_later : (p : Placed) (ps : List Placed) (h : History) (hs : List History) (c : Copy) → IsInGroup ps hs c → IsInGroup (p ∷ ps) (h ∷ hs) c
+one_later p ps h hs c i = record { volume = suc i.volume; of_group = i.of_group; image = i.image }
+
+in_group : (u : ℕ) (ps : List Placed) (hs : List History) → InTimeAll hs → All (IsInGroup ps hs) (copies_from u ps hs)
+in_group u [] hs t = All-nil (IsInGroup [] hs)
+in_group u (p ∷ ps) [] t = All-nil (IsInGroup (p ∷ ps) [])
+in_group u (p ∷ ps) (h ∷ hs) t = by_group p.within refl (in_group (u + 1) ps hs (λ v. t (suc v))) (in_group u ps hs (λ v. t (suc v)))
+  where
+    by_group : (b : Bool) → p.within ≡ b → All (IsInGroup ps hs) (copies_from (u + 1) ps hs) → All (IsInGroup ps hs) (copies_from u ps hs)
+        → All (IsInGroup (p ∷ ps) (h ∷ hs)) (if b then copies_of u p.blocks h.writes h.images ++ copies_from (u + 1) ps hs else copies_from u ps hs)
+    by_group true e next same =
+        All-append (IsInGroup (p ∷ ps) (h ∷ hs)) (copies_of u p.blocks h.writes h.images) (copies_from (u + 1) ps hs)
+        (all_along (IsOfImage h.writes h.images) (IsInGroup (p ∷ ps) (h ∷ hs)) (copies_of u p.blocks h.writes h.images) (λ c i. record { volume = 0; of_group = e; image = i }) (copies_in u p.blocks (length h.writes) h.writes h.images (t 0)))
+        (all_along (IsInGroup ps hs) (IsInGroup (p ∷ ps) (h ∷ hs)) (copies_from (u + 1) ps hs) (one_later p ps h hs) next)
+    by_group false e next same = all_along (IsInGroup ps hs) (IsInGroup (p ∷ ps) (h ∷ hs)) (copies_from u ps hs) (one_later p ps h hs) same
+
+-- ## the cut
+
+record HasCut (s : Plan) (n : ℕ) (so_far : List Act) : Type 0 where
+  before : List Act
+  is : cut s n so_far ≡ Some before
+
+was_cut : (s : Plan) (so_far : List Act) (n v p : ℕ) (ws : List Write) (o : Option (List Act)) → cut s n so_far ≡ o → IsShownAt s v p ws o → HasCut s n so_far
+was_cut s so_far n v p ws None e h = absurd h
+was_cut s so_far n v p ws (Some before) e h = record { before = before; is = e }
+
+shows_cut : (s : Plan) (so_far : List Act) (ps : List Placed) (c : Copy) → IsInGroup ps (state s so_far).volumes c → HoldsTheCut s so_far ps c
+shows_cut s so_far ps c i =
+    let ws = (history_of (state s so_far) i.volume).writes in
+    let has = was_cut s so_far c.set i.volume i.image.point ws (cut s c.set so_far) refl (image_shown s so_far c.set i.volume i.image.point i.image.is) in
+    record {
+      volume = i.volume;
+      of_group = i.of_group;
+      stands_there = ap is_some i.image.is;
+      before = has.before;
+      is_cut = has.is;
+      holds = i.image.holds ∙ image_reads s so_far has.before c.set i.volume i.image.point c.block i.image.is has.is;
+    }
+
+pub copies_hold : (s : Plan) (so_far : List Act) → CopiesHold s so_far
+copies_hold s so_far v =
+    all_along (IsInGroup (group_of s v) (state s so_far).volumes) (HoldsTheCut s so_far (group_of s v)) (copies (group_of s v) (state s so_far).volumes) (shows_cut s so_far (group_of s v))
+    (in_group 0 (group_of s v) (state s so_far).volumes (images_in_time s so_far))

@@ -1,0 +1,223 @@
+-- How many blocks writes name, and which parts of them name no more.
+use Rattle.std.proofs.Common.{◌≡◌, ◌∙◌, ℕ, ◌+◌, ◌-◌, ◌==◌, ◌≤◌, ◌<◌, zero, suc, List, [], ◌∷◌, ◌++◌, ◌⊎◌, refl, Bool, true, false, ap, sym, subst, inl, inr, map, filter, length, take, drop, arith}
+use Rattle.std.specs.Prelude.{◌||◌, if◌then◌else◌, slice_range}
+use Rattle.std.specs.List.{range_with_len}
+use Rattle.std.proofs.lemmas.List.{drop-append-le, take-append-le, length-drop}
+use Rattle.std.proofs.lemmas.List.Folds.{list_any-append}
+use Rattle.write_history.specs.History.{Write, names, blocks_named, to_restore, restoring}
+
+-- whatever these writes name, those do
+abbrev pub NameNoMore : List Write → List Write → Type 0
+NameNoMore xs ys = (b : ℕ) → names xs b ≡ true → names ys b ≡ true
+
+-- ## counted
+
+pub at_most_itself : (n : ℕ) → n ≤ n
+at_most_itself n = omega arith
+
+fewer_pass : (f g : ℕ → Bool) → ((b : ℕ) → f b ≡ true → g b ≡ true) → (bs : List ℕ) → length (filter f bs) ≤ length (filter g bs)
+fewer_pass f g h [] = omega arith
+fewer_pass f g h (b ∷ bs) = by_tests (f b) (g b) (h b) (fewer_pass f g h bs)
+  where
+    both : (m n : ℕ) → m ≤ n → suc m ≤ suc n
+    both m n l = omega arith
+
+    more : (m n : ℕ) → m ≤ n → m ≤ suc n
+    more m n l = omega arith
+
+    not_so : (true ≡ true → false ≡ true) → ⊥
+    not_so e = let f = e refl in cc
+
+    by_tests : (p q : Bool) → (p ≡ true → q ≡ true) → length (filter f bs) ≤ length (filter g bs) → length (if p then b ∷ filter f bs else filter f bs) ≤ length (if q then b ∷ filter g bs else filter g bs)
+    by_tests true true e l = both (length (filter f bs)) (length (filter g bs)) l
+    by_tests true false e l = absurd (not_so e)
+    by_tests false true e l = more (length (filter f bs)) (length (filter g bs)) l
+    by_tests false false e l = l
+
+passed_by_either : (f g h : ℕ → Bool) → ((b : ℕ) → f b ≡ (g b || h b)) → (bs : List ℕ) → length (filter f bs) ≤ length (filter g bs) + length (filter h bs)
+passed_by_either f g h e [] = omega arith
+passed_by_either f g h e (b ∷ bs) = by_tests (f b) (g b) (h b) (e b) (passed_by_either f g h e bs)
+  where
+    step : (p q r : Bool) → p ≡ (q || r) → (x y z : ℕ) → x ≤ y + z → (if p then suc x else x) ≤ (if q then suc y else y) + (if r then suc z else z)
+    step true true true i x y z l = omega arith
+    step true true false i x y z l = omega arith
+    step true false true i x y z l = omega arith
+    step true false false i x y z l = absurd cc
+    step false true r i x y z l = absurd cc
+    step false false true i x y z l = absurd cc
+    step false false false i x y z l = l
+
+    long : (t : Bool) (xs : List ℕ) → length (if t then b ∷ xs else xs) ≡ (if t then suc (length xs) else length xs)
+    long true xs = refl
+    long false xs = refl
+
+    along : (x y z a b c : ℕ) → x ≡ a → y ≡ b → z ≡ c → a ≤ b + c → x ≤ y + z
+    along x y z a b c i j k l = omega arith
+
+    by_tests : (p q r : Bool) → p ≡ (q || r) → length (filter f bs) ≤ length (filter g bs) + length (filter h bs)
+        → length (if p then b ∷ filter f bs else filter f bs) ≤ length (if q then b ∷ filter g bs else filter g bs) + length (if r then b ∷ filter h bs else filter h bs)
+    by_tests p q r i l =
+        along _ _ _ _ _ _ (long p (filter f bs)) (long q (filter g bs)) (long r (filter h bs)) (step p q r i (length (filter f bs)) (length (filter g bs)) (length (filter h bs)) l)
+
+pub named_no_more : (n : ℕ) (xs ys : List Write) → NameNoMore xs ys → length (blocks_named n xs) ≤ length (blocks_named n ys)
+named_no_more n xs ys h = fewer_pass (names xs) (names ys) h (range_with_len 0 n)
+
+-- two parts name together no more than each by itself
+pub named_in_parts : (n : ℕ) (xs ys : List Write) → length (blocks_named n (xs ++ ys)) ≤ length (blocks_named n xs) + length (blocks_named n ys)
+named_in_parts n xs ys = passed_by_either (names (xs ++ ys)) (names xs) (names ys) (λ b. list_any-append (λ (w : Write). w.block == b) xs ys) (range_with_len 0 n)
+
+pub named_by_none : (n : ℕ) → length (blocks_named n []) ≡ 0
+named_by_none n = over (range_with_len 0 n)
+  where
+    over : (bs : List ℕ) → length (filter (names []) bs) ≡ 0
+    over [] = refl
+    over (b ∷ bs) = over bs
+
+abbrev is_block : ℕ → ℕ → Bool
+is_block c b = (c == b) || false
+
+-- one write names one block
+pub named_by_one : (n : ℕ) (w : Write) → length (blocks_named n (w ∷ [])) ≤ 1
+named_by_one n w = over 0 n
+  where
+    none_past : (a n : ℕ) → w.block < a → length (filter (is_block w.block) (range_with_len a n)) ≡ 0
+    none_past a zero l = refl
+    none_past a (suc n) l = by_test (is_block w.block a) (not_it w.block a l) (none_past (a + 1) n (more w.block a l))
+      where
+        not_it : (c a : ℕ) → c < a → ((c == a) || false) ≡ false
+        not_it c a l = grind arith
+
+        more : (c a : ℕ) → c < a → c < a + 1
+        more c a l = omega arith
+
+        by_test : (t : Bool) → t ≡ false → length (filter (is_block w.block) (range_with_len (a + 1) n)) ≡ 0 → length (if t then a ∷ filter (is_block w.block) (range_with_len (a + 1) n) else filter (is_block w.block) (range_with_len (a + 1) n)) ≡ 0
+        by_test true e h = absurd cc
+        by_test false e h = h
+
+    over : (a n : ℕ) → length (filter (is_block w.block) (range_with_len a n)) ≤ 1
+    over a zero = omega arith
+    over a (suc n) = by_test (is_block w.block a) refl (over (a + 1) n)
+      where
+        next : (c a : ℕ) → ((c == a) || false) ≡ true → c < a + 1
+        next c a e = grind arith
+
+        one : (k : ℕ) → k ≡ 0 → suc k ≤ 1
+        one k e = omega arith
+
+        by_test : (t : Bool) → is_block w.block a ≡ t → length (filter (is_block w.block) (range_with_len (a + 1) n)) ≤ 1 → length (if t then a ∷ filter (is_block w.block) (range_with_len (a + 1) n) else filter (is_block w.block) (range_with_len (a + 1) n)) ≤ 1
+        by_test true e h = one (length (filter (is_block w.block) (range_with_len (a + 1) n))) (none_past (a + 1) n (next w.block a e))
+        by_test false e h = h
+
+-- ## parts of writes
+
+pub either : (a b : Bool) → (a || b) ≡ true → (a ≡ true) ⊎ (b ≡ true)
+either true b e = inl refl
+either false b e = inr e
+
+pub first_of : (a b : Bool) → a ≡ true → (a || b) ≡ true
+first_of true b e = refl
+first_of false b e = absurd cc
+
+pub second_of : (a b : Bool) → b ≡ true → (a || b) ≡ true
+second_of true b e = refl
+second_of false b e = e
+
+-- with one more write before both
+with_head : (w : Write) (xs ys : List Write) → NameNoMore xs ys → NameNoMore (w ∷ xs) (w ∷ ys)
+with_head w xs ys h b e = by_test (w.block == b) e
+  where
+    by_test : (t : Bool) → (t || names xs b) ≡ true → (t || names ys b) ≡ true
+    by_test true f = refl
+    by_test false f = h b f
+
+no_names : (b : ℕ) (X : Type 0) → names [] b ≡ true → X
+no_names b X e = absurd cc
+
+-- the writes up to a point
+pub first_no_more : (k : ℕ) (xs : List Write) → NameNoMore (take k xs) xs
+first_no_more zero xs b e = no_names b _ e
+first_no_more (suc k) [] b e = e
+first_no_more (suc k) (w ∷ xs) b e = with_head w (take k xs) xs (first_no_more k xs) b e
+
+both_first : (k p : ℕ) (xs : List Write) → NameNoMore (take k (take p xs)) (take k xs)
+both_first zero p xs b e = e
+both_first (suc k) zero xs b e = no_names b _ e
+both_first (suc k) (suc p) [] b e = e
+both_first (suc k) (suc p) (w ∷ xs) b e = with_head w (take k (take p xs)) (take k xs) (both_first k p xs) b e
+
+pub inner_no_more : (a k p : ℕ) (ws : List Write) → NameNoMore (take k (drop a (take p ws))) (take k (drop a ws))
+inner_no_more zero k p ws b e = both_first k p ws b e
+inner_no_more (suc a) k zero ws b e = no_names b _ (first_no_more k [] b e)
+inner_no_more (suc a) k (suc p) [] b e = e
+inner_no_more (suc a) k (suc p) (w ∷ ws) b e = inner_no_more a k p ws b e
+
+pub later_no_more : (a p : ℕ) (ws : List Write) → NameNoMore (drop a (take p ws)) (drop a ws)
+later_no_more zero p ws b e = first_no_more p ws b e
+later_no_more (suc a) zero ws b e = no_names b _ e
+later_no_more (suc a) (suc p) [] b e = e
+later_no_more (suc a) (suc p) (w ∷ ws) b e = later_no_more a p ws b e
+
+-- the writes since a later point
+pub since_later : (a p : ℕ) (ws : List Write) → a ≤ p → NameNoMore (drop p ws) (drop a ws)
+since_later zero zero ws l b e = e
+since_later zero (suc p) [] l b e = e
+since_later zero (suc p) (w ∷ ws) l b e = second_of (w.block == b) (names ws b) (since_later zero p ws (omega arith) b e)
+since_later (suc a) zero ws l b e = absurd (omega arith)
+since_later (suc a) (suc p) [] l b e = e
+since_later (suc a) (suc p) (w ∷ ws) l b e = since_later a p ws (omega arith) b e
+
+-- further writes are not of a part before them
+pub inner_append : (a b : ℕ) (ws more : List Write) → a ≤ b → b ≤ length ws → slice_range (ws ++ more) a b ≡ slice_range ws a b
+inner_append a b ws more l h =
+    ap (take (b - a)) (drop-append-le a ws more (less a b (length ws) l h))
+    ∙ take-append-le (b - a) (drop a ws) more (subst (λ n. b - a ≤ n) (sym (length-drop a ws)) (less_both a b (length ws) l h))
+  where
+    less : (a b c : ℕ) → a ≤ b → b ≤ c → a ≤ c
+    less a b c l h = omega arith
+
+    less_both : (a b c : ℕ) → a ≤ b → b ≤ c → b - a ≤ c - a
+    less_both a b c l h = omega arith
+
+-- ## blocks that are restored
+
+abbrev AllNamed : List Write → List ℕ → Type 0
+AllNamed ws [] = Unit {0}
+AllNamed ws (b ∷ bs) = (names ws b ≡ true) × AllNamed ws bs
+
+named_filter : (ws : List Write) (bs : List ℕ) → AllNamed ws (filter (names ws) bs)
+named_filter ws [] = tt
+named_filter ws (b ∷ bs) = by_test (names ws b) refl (named_filter ws bs)
+  where
+    by_test : (t : Bool) → names ws b ≡ t → AllNamed ws (filter (names ws) bs) → AllNamed ws (if t then b ∷ filter (names ws) bs else filter (names ws) bs)
+    by_test true e h = (e, h)
+    by_test false e h = h
+
+named_first : (ws : List Write) (k : ℕ) (bs : List ℕ) → AllNamed ws bs → AllNamed ws (take k bs)
+named_first ws zero bs h = tt
+named_first ws (suc k) [] h = tt
+named_first ws (suc k) (b ∷ bs) h = (h.0, named_first ws k bs h.1)
+
+restored_named : (ws since : List Write) (p : ℕ) (bs : List ℕ) → AllNamed since bs → NameNoMore (map (restoring ws p) bs) since
+restored_named ws since p [] h b e = no_names b _ e
+restored_named ws since p (c ∷ bs) h b e = by_test (c == b) refl e (restored_named ws since p bs h.1 b)
+  where
+    equal : (a b : ℕ) → (a == b) ≡ true → a ≡ b
+    equal a b e = grind arith
+
+    by_test : (t : Bool) → (c == b) ≡ t → (t || names (map (restoring ws p) bs) b) ≡ true → (names (map (restoring ws p) bs) b ≡ true → names since b ≡ true) → names since b ≡ true
+    by_test true f g ih = subst (λ x. names since x ≡ true) (equal c b f) h.0
+    by_test false f g ih = ih g
+
+abbrev restored : ℕ → ℕ → ℕ → List Write → List Write
+restored n p k ws = map (restoring ws p) (take k (to_restore n ws p))
+
+-- blocks that were named since a point, restored, are named no more since any point before it
+pub restored_no_more : (n p k a : ℕ) (ws : List Write) → a ≤ p → p ≤ length ws → NameNoMore (drop a (ws ++ map (restoring ws p) (take k (to_restore n ws p)))) (drop a ws)
+restored_no_more n p k a ws l h b e = by_part (either _ _ (sym (list_any-append (λ (w : Write). w.block == b) (drop a ws) (restored n p k ws)) ∙ ap (λ xs. names xs b) (sym (drop-append-le a ws (restored n p k ws) (less a p (length ws) l h))) ∙ e))
+  where
+    less : (a b c : ℕ) → a ≤ b → b ≤ c → a ≤ c
+    less a b c l h = omega arith
+
+    by_part : (names (drop a ws) b ≡ true) ⊎ (names (restored n p k ws) b ≡ true) → names (drop a ws) b ≡ true
+    by_part (inl f) = f
+    by_part (inr f) = since_later a p ws l b (restored_named ws (drop p ws) p (take k (to_restore n ws p)) (named_first (drop p ws) k (to_restore n ws p) (named_filter (drop p ws) (range_with_len 0 n))) b f)

@@ -1,0 +1,303 @@
+-- Images never use more slots than their group has: of each change of the volumes, that it leaves it so.
+use Rattle.std.proofs.Common.{◌≡◌, ◌∙◌, ℕ, ◌+◌, ◌==◌, ◌≤◌, ◌<◌, List, [], ◌∷◌, ◌++◌, Option, Some, None, refl, Bool, true, false, ap, sym, subst, map, fold, length, arith}
+use Rattle.std.specs.Prelude.{if◌then◌else◌, slice_get, option_map}
+use Rattle.std.proofs.lemmas.Option.{slice_get_within, get_or_from_slice_get, slice_get-map}
+use Rattle.vss_names.specs.declared.vss_result.VssResult.{VssResult}
+use Rattle.vss_names.specs.declared.vss_result.VssResult.TheVariants.{InsufficientStorage, AsyncCancelled}
+use Rattle.writer_state.specs.declared.said.Said.{Said}
+use Rattle.write_history.specs.declared.mark.Mark.{Mark}
+use Rattle.write_history.specs.declared.mark.Mark.TheVariants.{Clean, Fault, FaultAfter}
+use Rattle.write_history.specs.History.{Write, History, fresh, point_in, written, reverted, reverted_in_part, AreInTime}
+use Rattle.write_history.specs.Slots.{Placed, group_used, used, needs_slot}
+use Rattle.writer_calls.specs.Script.{said_of}
+use Rattle.set_agenda.specs.declared.group.Group.{Group}
+use Rattle.set_agenda.specs.declared.group.Group.TheVariants.{Orders, PreCommit, Flush, Hold, Cut, Commit, Release, PostCommit}
+use Rattle.set_agenda.specs.Agenda.{open_group}
+use Rattle.set_agenda.specs.Course.{Course, answered as course_answered, stepped as course_stepped, timed as course_timed, change_at}
+use Rattle.requestor.specs.Session.{Session}
+use Rattle.scenario.specs.declared.volume_row.VolumeRow.{VolumeRow}
+use Rattle.scenario.specs.Bounds.{IsPlan, group_slots}
+use Rattle.scenario.specs.Plan.{Plan, slots_in, slots_of, placed, placed_in, group_of, blocks_of}
+use Rattle.vss_model.specs.declared.event.Event.{Event}
+use Rattle.vss_model.specs.State.{State, SetRow, Kept, in_progress, row_of, left_now, history_of, kept_image}
+use Rattle.vss_model.specs.Ending.{Ending, NothingEnds, AgendaEnds, SetFails, ending, concluded, followed, runs, failed_in, failed}
+use Rattle.vss_model.specs.Images.{Replied, going_up_to, cleared, set_loses_image, with_room_if, put, write, reverted_as}
+use Rattle.vss_model.specs.Sessions.{has_no_volume, closed}
+use Rattle.vss_model.specs.Steps.{answered, cut_set, step_made, is_flush, is_failed_step, stepped_as, stepped, ticked, later}
+use Rattle.vss_model.specs.Acts.{Act, enabled, idle_now, after, state}
+use Rattle.vss_model.proofs.Appending.{state-append}
+use Rattle.vss_model.proofs.NewestImage.{UpTo, images_up_to}
+use Rattle.vss_model.proofs.OneCut.{kept_point, row_number, images_in_time}
+use Rattle.vss_model.proofs.OrderlyActs.{orderly}
+use Rattle.vss_model.proofs.Volumes.{at, as_many_change}
+use Rattle.promises.specs.Gone.{within}
+use Rattle.promises.specs.Slots.{SlotsSuffice}
+use Rattle.promises.proofs.ByEvent.{Covers, covered, after_enabled, after_not_enabled}
+use Rattle.promises.proofs.GroupUsed.{group_less, group_other, group_more, changed_uses, enough_goes, one_left}
+use Rattle.promises.proofs.Shrinks.{InTime, used_in, LessIn, less_in_same, less_in_over, less_in_map, less_in_change, less_in_gone, less_images_dropped, less_released, UsesNoMore, uses_less, uses_over, uses_cut}
+use Rattle.promises.proofs.Used.{rising, one_if, written_used, reverted_used, restored_used}
+
+chain : (a b c : ℕ) → a ≤ b → b ≤ c → a ≤ c
+chain a b c l h = omega arith
+
+-- ## the groups of a plan
+
+volume_in : (s : Plan) (v : ℕ) (r : VolumeRow) → IsPlan s → slice_get s.volumes v ≡ Some r → r.slots ≡ group_slots (slice_get s.groups r.group)
+volume_in s v r plan e = subst (λ (x : VolumeRow). x.slots ≡ group_slots (slice_get s.groups x.group)) (get_or_from_slice_get s.volumes v r r e) (plan.grouped.rows v r (slice_get_within s.volumes v r e)).slots
+
+-- each volume of a group names the same volumes and the same slots
+same_slots : (s : Plan) (v u : ℕ) (r q : VolumeRow) → IsPlan s → slice_get s.volumes v ≡ Some r → slice_get s.volumes u ≡ Some q → q.group ≡ r.group → slots_of s u ≡ slots_of s v
+same_slots s v u r q plan e f g = ap slots_in f ∙ volume_in s u q plan f ∙ ap (λ k. group_slots (slice_get s.groups k)) g ∙ sym (volume_in s v r plan e) ∙ sym (ap slots_in e)
+
+same_group : (s : Plan) (v u : ℕ) (r q : VolumeRow) → slice_get s.volumes v ≡ Some r → slice_get s.volumes u ≡ Some q → q.group ≡ r.group → group_of s u ≡ group_of s v
+same_group s v u r q e f g = ap (placed_in s.volumes) f ∙ ap (λ k. map (placed k) s.volumes) g ∙ sym (ap (placed_in s.volumes) e)
+
+-- whether volume u is of the group of a volume
+within_placed : (k : ℕ) (rows : List VolumeRow) (u : ℕ) → within (slice_get (map (placed k) rows) u) ≡ within (option_map (placed k) (slice_get rows u))
+within_placed k rows u = ap within (slice_get-map (placed k) rows u)
+
+-- ## each change
+
+module _ (s : Plan) (plan : IsPlan s) (st : State) (time : (v : ℕ) → AreInTime (length (at st.volumes v).writes) (at st.volumes v).images) (up : (v : ℕ) → UpTo (length st.sets) (at st.volumes v).images) where
+  abbrev Fit : List History → Type 0
+  Fit hs = (v : ℕ) → group_used (group_of s v) hs ≤ slots_of s v
+
+  in_time : (v : ℕ) → InTime (at st.volumes v)
+  in_time v = rising (length (at st.volumes v).writes) (at st.volumes v).images (time v)
+
+  module _ (fit : Fit st.volumes) where
+    by_uses : (hs : List History) → UsesNoMore st.volumes hs → Fit hs
+    by_uses hs h v = chain _ _ _ (group_less (group_of s v) st.volumes hs (λ u n. h.uses u n (in_time u)) h.as_many) (fit v)
+
+    by_less : (hs : List History) → LessIn st.volumes hs → Fit hs
+    by_less hs h = by_uses hs (uses_less st.volumes hs h)
+
+    -- ## what ends
+
+    less_ended : (e : Ending) (x : State) → LessIn x.volumes (concluded e x).volumes
+    less_ended NothingEnds x = less_in_same x.volumes
+    less_ended AgendaEnds x = less_in_same x.volumes
+    less_ended (SetFails why) x = less_images_dropped (in_progress x) x.volumes
+
+    less_followed : (ran : Bool) (c : Course) (x : State) → LessIn x.volumes (followed ran c x).volumes
+    unfolding followed
+    less_followed ran c x = less_ended (ending x.course.outcome c.outcome ran c.agenda) (record x { course = c })
+
+    less_failed : (o : Option SetRow) (why : VssResult) (x : State) → LessIn x.volumes (failed_in o why x).volumes
+    less_failed None why x = less_in_same x.volumes
+    less_failed (Some r) why x = less_images_dropped (in_progress x) x.volumes
+
+    -- ## a write
+
+    less_room : (b : Bool) (x : State) → LessIn x.volumes (with_room_if b x).volumes
+    less_room true x = less_failed (in_progress x) InsufficientStorage x
+    less_room false x = less_in_same x.volumes
+
+    module _ (v : ℕ) (w : Write) where
+      abbrev roomy : State
+      roomy = cleared s v w.block st
+
+      less_roomy : LessIn st.volumes roomy.volumes
+      less_roomy = less_in_gone (going_up_to s v w.block st) (group_of s v) st.volumes
+
+      -- one slot is left where the write needs it
+      room : (b : Bool) → within (slice_get (group_of s v) v) ≡ true → needs_slot (at (with_room_if b roomy).volumes v).writes (at (with_room_if b roomy).volumes v).images w.block ≡ true
+          → group_used (group_of s v) (with_room_if b roomy).volumes < slots_of s v
+      room b e n =
+          let less = less_room b roomy in
+          let before = (less.each v ((less_roomy.each v (in_time v)).in_time)).needs w.block n in
+          let one = one_left (slots_of s v) (group_of s v) v w.block roomy.volumes (enough_goes (length st.sets) (slots_of s v) (group_of s v) v w.block st.volumes e (up v)) (by_less roomy.volumes less_roomy v) before in
+          under _ _ _ (group_less (group_of s v) roomy.volumes (with_room_if b roomy).volumes (λ x m. (less.each x ((less_roomy.each x (in_time x)).in_time)).uses m) less.as_many) one
+        where
+          under : (a b c : ℕ) → a ≤ b → b < c → a < c
+          under a b c l h = omega arith
+
+      less_all : (b : Bool) → LessIn st.volumes (with_room_if b roomy).volumes
+      less_all b = less_in_over st.volumes roomy.volumes (with_room_if b roomy).volumes less_roomy (less_room b roomy)
+
+      fit_room : (b : Bool) → Fit (with_room_if b roomy).volumes
+      fit_room b = by_less (with_room_if b roomy).volumes (less_all b)
+
+      -- the write itself, in its own group
+      own_fits : (b t : Bool) → within (slice_get (group_of s v) v) ≡ true → needs_slot (at (with_room_if b roomy).volumes v).writes (at (with_room_if b roomy).volumes v).images w.block ≡ t
+          → group_used (group_of s v) (change_at v (written w) (with_room_if b roomy).volumes) ≤ slots_of s v
+      own_fits b t e n =
+          let h = at (with_room_if b roomy).volumes v in
+          let now = ((less_all b).each v (in_time v)).in_time in
+          by_needs t n (group_more (written w) v (one_if (needs_slot h.writes h.images w.block)) (group_of s v) (with_room_if b roomy).volumes (λ m. written_used m 0 h.writes w h.images now))
+        where
+          one_more : (a b c : ℕ) → a ≤ b + 1 → b < c → a ≤ c
+          one_more a b c l h = omega arith
+
+          none_more : (a b c : ℕ) → a ≤ b + 0 → b ≤ c → a ≤ c
+          none_more a b c l h = omega arith
+
+          by_needs : (u : Bool) → needs_slot (at (with_room_if b roomy).volumes v).writes (at (with_room_if b roomy).volumes v).images w.block ≡ u
+              → group_used (group_of s v) (change_at v (written w) (with_room_if b roomy).volumes) ≤ group_used (group_of s v) (with_room_if b roomy).volumes + one_if (needs_slot (at (with_room_if b roomy).volumes v).writes (at (with_room_if b roomy).volumes v).images w.block)
+              → group_used (group_of s v) (change_at v (written w) (with_room_if b roomy).volumes) ≤ slots_of s v
+          by_needs true f l = one_more _ _ _ (subst (λ u. group_used (group_of s v) (change_at v (written w) (with_room_if b roomy).volumes) ≤ group_used (group_of s v) (with_room_if b roomy).volumes + one_if u) f l) (room b e f)
+          by_needs false f l = none_more _ _ _ (subst (λ u. group_used (group_of s v) (change_at v (written w) (with_room_if b roomy).volumes) ≤ group_used (group_of s v) (with_room_if b roomy).volumes + one_if u) f l) (fit_room b v)
+
+      within_own : (q : VolumeRow) → slice_get s.volumes v ≡ Some q → within (slice_get (group_of s v) v) ≡ true
+      within_own q f = ap (λ o. within (slice_get (placed_in s.volumes o) v)) f ∙ within_placed q.group s.volumes v ∙ ap (λ o. within (option_map (placed q.group) o)) f ∙ own q.group
+        where
+          own : (a : ℕ) → (a == a) ≡ true
+          own a = grind arith
+
+      -- in any group
+      put_fits : (b t : Bool) (x : ℕ) (r q : VolumeRow) → slice_get s.volumes x ≡ Some r → slice_get s.volumes v ≡ Some q → (q.group == r.group) ≡ t → group_used (group_of s x) (change_at v (written w) (with_room_if b roomy).volumes) ≤ slots_of s x
+      put_fits b true x r q e f g =
+          let same = equal q.group r.group g in
+          let here = own_fits b (needs_slot (at (with_room_if b roomy).volumes v).writes (at (with_room_if b roomy).volumes v).images w.block) (within_own q f) refl in
+          subst (λ n. group_used (group_of s x) (change_at v (written w) (with_room_if b roomy).volumes) ≤ n) (same_slots s x v r q plan e f same)
+          (subst (λ ps. group_used ps (change_at v (written w) (with_room_if b roomy).volumes) ≤ slots_of s v) (same_group s x v r q e f same) here)
+        where
+          equal : (a b : ℕ) → (a == b) ≡ true → a ≡ b
+          equal a b e = grind arith
+      put_fits b false x r q e f g =
+          subst (λ n. n ≤ slots_of s x) (sym (group_other (written w) v (group_of s x) (with_room_if b roomy).volumes
+          (ap (λ o. within (slice_get (placed_in s.volumes o) v)) e ∙ within_placed r.group s.volumes v ∙ ap (λ o. within (option_map (placed r.group) o)) f ∙ g)))
+          (fit_room b x)
+
+      fit_put_at : (b : Bool) (x : ℕ) (o p : Option VolumeRow) → slice_get s.volumes x ≡ o → slice_get s.volumes v ≡ p → group_used (group_of s x) (change_at v (written w) (with_room_if b roomy).volumes) ≤ slots_of s x
+      fit_put_at b x None p e f = subst (λ ps. group_used ps (change_at v (written w) (with_room_if b roomy).volumes) ≤ slots_of s x) (sym (ap (placed_in s.volumes) e)) (none_used (slots_of s x))
+        where
+          none_used : (n : ℕ) → 0 ≤ n
+          none_used n = omega arith
+      fit_put_at b x (Some r) None e f =
+          subst (λ n. n ≤ slots_of s x) (sym (group_other (written w) v (group_of s x) (with_room_if b roomy).volumes
+          (ap (λ o. within (slice_get (placed_in s.volumes o) v)) e ∙ within_placed r.group s.volumes v ∙ ap (λ o. within (option_map (placed r.group) o)) f)))
+          (fit_room b x)
+      fit_put_at b x (Some r) (Some q) e f = put_fits b (q.group == r.group) x r q e f refl
+
+      fit_put : (b : Bool) (mark : Mark) → Fit (put v w mark (with_room_if b roomy)).volumes
+      fit_put b Clean x = fit_put_at b x (slice_get s.volumes x) (slice_get s.volumes v) refl refl
+      fit_put b Fault x = fit_room b x
+      fit_put b (FaultAfter k) x = fit_room b x
+
+    fit_write : (v : ℕ) (w : Write) (mark : Mark) → Fit (write s v w mark st).1.volumes
+    unfolding write
+    fit_write v w mark = fit_put v w (set_loses_image (in_progress st) st.volumes (cleared s v w.block st).volumes) mark
+
+    -- ## a revert
+
+    fit_changed : (f : History → History) (v : ℕ) → ((n : ℕ) → used_in n (f (at st.volumes v)) ≤ used_in n (at st.volumes v)) → Fit (change_at v f st.volumes)
+    fit_changed f v g x = chain _ _ _ (group_less (group_of s x) st.volumes (change_at v f st.volumes) (changed_uses f v st.volumes g) (as_many_change f v st.volumes)) (fit x)
+
+    point_of : (n v : ℕ) (k : Kept) → kept_image st n v ≡ Some k → point_in k.row.number (at st.volumes v).images ≡ Some k.point
+    point_of n v k e =
+        let parts = kept_point n (row_of st n) (point_in n (history_of st v).images) k (λ r f. row_number n st.sets r f) e in
+        subst (λ m. point_in m (at st.volumes v).images ≡ Some k.point) (sym parts.0) parts.1
+
+    fit_revert : (n v : ℕ) (k : Kept) (mark : Mark) → kept_image st n v ≡ Some k → Fit (reverted_as s v k mark st).1.volumes
+    fit_revert n v k Clean e = fit_changed (reverted k.row.number k.point) v (λ m. reverted_used m k.row.number k.point (at st.volumes v).writes (at st.volumes v).images (time v) (point_of n v k e))
+    fit_revert n v k Fault e = fit
+    fit_revert n v k (FaultAfter j) e =
+        fit_changed (reverted_in_part (blocks_of s v) k.row.number k.point j) v (λ m. restored_used (blocks_of s v) j m k.row.number k.point (at st.volumes v).writes (at st.volumes v).images (time v) (point_of n v k e))
+
+    -- ## answers, steps, time
+
+    fit_answer : (w : ℕ) (said : Said) → Fit (answered w said st).volumes
+    unfolding answered
+    fit_answer w said = by_less _ (less_followed (runs st) (course_answered w said st.clock st.course) st)
+
+    fit_tick : (n : ℕ) → Fit (ticked n st).volumes
+    unfolding ticked
+    fit_tick n = by_less _ (less_followed (runs st) (course_timed (st.clock + n) st.course) (later n st))
+
+    uses_same : UsesNoMore st.volumes st.volumes
+    uses_same = uses_less st.volumes st.volumes (less_in_same st.volumes)
+
+    uses_cut_set : (o : Option SetRow) → UsesNoMore st.volumes (cut_set o st).volumes
+    uses_cut_set None = uses_same
+    uses_cut_set (Some r) = uses_cut r.number r.volumes 0 st.volumes
+
+    uses_made : (g : Option Group) → UsesNoMore st.volumes (step_made g st).volumes
+    uses_made None = uses_same
+    uses_made (Some (Orders o)) = uses_same
+    uses_made (Some PreCommit) = uses_same
+    uses_made (Some Flush) = uses_same
+    uses_made (Some Hold) = uses_same
+    uses_made (Some Cut) = uses_cut_set (in_progress st)
+    uses_made (Some Commit) = uses_same
+    uses_made (Some Release) = uses_same
+    uses_made (Some PostCommit) = uses_same
+
+    fit_step_as : (b : Bool) (g : Option Group) → Fit (stepped_as b g st).volumes
+    fit_step_as true g = by_less _ (less_followed (runs st) (course_stepped false st.clock st.course) st)
+    fit_step_as false g =
+        by_uses _ (uses_over st.volumes (step_made g st).volumes _ (uses_made g) (uses_less (step_made g st).volumes _ (less_followed (runs st) (course_stepped true st.clock st.course) (step_made g st))))
+
+    fit_step : (mark : Mark) → Fit (stepped mark st).volumes
+    unfolding stepped
+    fit_step mark = fit_step_as (is_failed_step (is_flush (open_group (left_now st))) mark) (open_group (left_now st))
+
+    -- ## the session ends
+
+    fit_end : (q : Session) (why : VssResult) → Fit (closed q (failed why st)).volumes
+    unfolding closed
+    fit_end q why = by_less _ (less_in_over st.volumes (failed why st).volumes _ (less_failed (in_progress st) why st) (less_released q.context q.set (failed why st).volumes))
+
+    abbrev Next : Event → Mark → Replied → Type 0
+    Next event mark x = Fit x.1.volumes
+
+    either : (b : Bool) (x y : Replied) → Fit x.1.volumes → Fit y.1.volumes → Fit (if b then x else y).1.volumes
+    either true x y d e = d
+    either false x y d e = e
+
+    fits : Covers Next s st
+    fits = record {
+      stays = λ lane o mark told e f. fit;
+      writes = λ lane o v w mark e f. fit_write v w mark;
+      reverts = λ lane n v k mark e f. fit_revert n v k mark e;
+      deletes_set = λ lane n c mark e. by_less _ (less_in_map n st.volumes);
+      deletes_image = λ lane n v k mark e. by_less _ (less_in_change k.row.number v st.volumes);
+      ticks = λ lane n mark. fit_tick n;
+      begins = λ lane n all c mark e. fit;
+      disables = λ lane w q mark g. fit;
+      gathers = λ lane q mark g. by_less _ (less_followed true _ st);
+      names = λ lane w full q explicit mark g. fit;
+      starts = λ lane q mark g e. fit;
+      adds = λ lane v r q mark g e f. fit;
+      prepares = λ lane q mark g. either (has_no_volume (in_progress st)) _ _ fit (by_less _ (less_followed true _ st));
+      snapshots = λ lane q mark g. either (has_no_volume (in_progress st)) _ _ fit (by_less _ (less_followed true _ st));
+      completes = λ lane q mark g. by_less _ (less_followed true _ st);
+      aborts = λ lane q mark e. by_less _ (less_failed (in_progress st) AsyncCancelled st);
+      ends = λ lane q mark e. fit_end q AsyncCancelled;
+      answers = λ w answer mark e. fit_answer w (said_of answer);
+      steps = λ mark e. fit_step mark;
+      idles = λ mark e. fit_tick (idle_now st);
+    }
+
+    fit_if : (b : Bool) (act : Act) → enabled s st act.event ≡ b → Fit (after s st act).volumes
+    fit_if true act e = subst (λ (x : State). Fit x.volumes) (sym (after_enabled s st act e)) (covered Next s st fits act.event act.mark e)
+    fit_if false act e = subst (λ (x : State). Fit x.volumes) (sym (after_not_enabled s st act e)) fit
+
+-- ## every act
+
+abbrev FitAt : Plan → State → Type 0
+FitAt s x = (v : ℕ) → group_used (group_of s v) x.volumes ≤ slots_of s v
+
+fit_from : (s : Plan) (plan : IsPlan s) (so_far acts : List Act) → FitAt s (state s so_far) → FitAt s (fold (after s) (state s so_far) acts)
+fit_from s plan so_far [] h = h
+fit_from s plan so_far (act ∷ acts) h =
+    let st = state s so_far in
+    let o = orderly s so_far in
+    let next : FitAt s (state s (so_far ++ act ∷ [])) =
+    subst (FitAt s) (sym (state-append s so_far act)) (fit_if s plan st (images_in_time s so_far) (λ v. images_up_to st.sets st.volumes v o.numbered o.live) h (enabled s st act.event) act refl) in
+    subst (λ (x : State). FitAt s (fold (after s) x acts)) (state-append s so_far act) (fit_from s plan (so_far ++ act ∷ []) acts next)
+
+none_yet : (ps : List Placed) (rows : List VolumeRow) → group_used ps (map (λ _. fresh) rows) ≡ 0
+none_yet [] rows = refl
+none_yet (p ∷ ps) [] = refl
+none_yet (p ∷ ps) (r ∷ rows) = by_group p.within (none_yet ps rows)
+  where
+    by_group : (b : Bool) → group_used ps (map (λ _. fresh) rows) ≡ 0 → (if b then used p.blocks [] [] else 0) + group_used ps (map (λ _. fresh) rows) ≡ 0
+    by_group true e = ap (λ n. 0 + n) e
+    by_group false e = ap (λ n. 0 + n) e
+
+pub slots_suffice : (s : Plan) (so_far : List Act) → SlotsSuffice s so_far
+slots_suffice s so_far plan = fit_from s plan [] so_far (λ v. none_used (group_used (group_of s v) (map (λ _. fresh) s.volumes)) (slots_of s v) (none_yet (group_of s v) s.volumes))
+  where
+    none_used : (m n : ℕ) → m ≡ 0 → m ≤ n
+    none_used m n e = omega arith

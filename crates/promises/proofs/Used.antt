@@ -1,0 +1,270 @@
+-- How many slots the images of a volume use: where images go, no more; where one is cut, as many; where a write comes, at most one
+-- more, and that where it needs a slot; where the volume is reverted, no more.
+use Rattle.std.proofs.Common.{◌≡◌, ◌∙◌, ℕ, ◌+◌, ◌-◌, ◌==◌, ◌≤◌, ◌<◌, zero, suc, List, [], ◌∷◌, ◌++◌, ◌⊎◌, Some, refl, Bool, true, false, ap, sym, subst, inl, inr, map, filter, length, take, drop, arith}
+use Rattle.std.specs.Prelude.{◌||◌, not, nat_lt, if◌then◌else◌, slice_range}
+use Rattle.std.proofs.Math.Seq.{take-add, drop-nil}
+use Rattle.std.proofs.lemmas.List.{drop-append-le, take-append-drop, drop_all, take_all, length-drop}
+use Rattle.std.proofs.lemmas.List.Folds.{list_any-append}
+use Rattle.write_history.specs.History.{Write, Image, point_in, up_to_set, AreLater, AreInTime, names, blocks_named, to_restore, restoring}
+use Rattle.write_history.specs.Slots.{writes_since, used, needs_slot}
+use Rattle.promises.proofs.Named.{NameNoMore, at_most_itself, either, named_no_more, named_in_parts, named_by_none, named_by_one, inner_no_more, later_no_more, since_later, inner_append, restored_no_more}
+
+-- ## points that rise
+
+-- from one point on, and up to another
+abbrev pub Rising : ℕ → ℕ → List Image → Type 0
+Rising from most [] = from ≤ most
+Rising from most (i ∷ images) = (from ≤ i.point) × Rising i.point most images
+
+chain : (a b c : ℕ) → a ≤ b → b ≤ c → a ≤ c
+chain a b c l h = omega arith
+
+pub rising_most : (from most : ℕ) (images : List Image) → Rising from most images → from ≤ most
+rising_most from most [] h = h
+rising_most from most (i ∷ images) h = chain from i.point most h.0 (rising_most i.point most images h.1)
+
+pub rising_from : (a from most : ℕ) (images : List Image) → a ≤ from → Rising from most images → Rising a most images
+rising_from a from most [] l h = chain a from most l h
+rising_from a from most (i ∷ images) l h = (chain a from i.point l h.0, h.1)
+
+pub rising_to : (from most more : ℕ) (images : List Image) → most ≤ more → Rising from most images → Rising from more images
+rising_to from most more [] l h = chain from most more h l
+rising_to from most more (i ∷ images) l h = (h.0, rising_to i.point most more images l h.1)
+
+pub rising_fewer : (test : Image → Bool) (from most : ℕ) (images : List Image) → Rising from most images → Rising from most (filter test images)
+rising_fewer test from most [] h = h
+rising_fewer test from most (i ∷ images) h = by_test (test i) (rising_fewer test i.point most images h.1)
+  where
+    by_test : (b : Bool) → Rising i.point most (filter test images) → Rising from most (if b then i ∷ filter test images else filter test images)
+    by_test true ih = (h.0, ih)
+    by_test false ih = rising_from from i.point most (filter test images) h.0 ih
+
+pub rising_cut : (n from most : ℕ) (images : List Image) → Rising from most images → Rising from most (images ++ record { set = n; point = most } ∷ [])
+rising_cut n from most [] h = (h, at_most_itself most)
+rising_cut n from most (i ∷ images) h = (h.0, rising_cut n i.point most images h.1)
+
+pub rising_later : (i : Image) (most : ℕ) (images : List Image) → i.point ≤ most → AreLater i images → AreInTime most images → Rising i.point most images
+rising_later i most [] l h t = l
+rising_later i most (j ∷ images) l h t = (h.1, rising_later j most images t.0 t.1 t.2)
+
+pub rising : (most : ℕ) (images : List Image) → AreInTime most images → Rising 0 most images
+rising most [] t = omega arith
+rising most (i ∷ images) t = (omega arith, rising_later i most images t.0 t.1 t.2)
+
+-- ## images go
+
+split_inner : (p q r : ℕ) (ws : List Write) → p ≤ q → q ≤ r → take (r - p) (drop p ws) ≡ take (q - p) (drop p ws) ++ take (r - q) (drop (q - p) (drop p ws))
+split_inner p q r ws l h = ap (λ n. take n (drop p ws)) (parts p q r l h) ∙ take-add (q - p) (r - q) (drop p ws)
+  where
+    parts : (p q r : ℕ) → p ≤ q → q ≤ r → r - p ≡ (q - p) + (r - q)
+    parts p q r l h = omega arith
+
+drop_twice : (p q : ℕ) (ws : List Write) → p ≤ q → drop (q - p) (drop p ws) ≡ drop q ws
+drop_twice zero q ws l = ap (λ n. drop n ws) (none_less q)
+  where
+    none_less : (q : ℕ) → q - 0 ≡ q
+    none_less q = omega arith
+drop_twice (suc p) zero ws l = absurd (omega arith)
+drop_twice (suc p) (suc q) [] l = drop-nil (suc q - suc p)
+drop_twice (suc p) (suc q) (w ∷ ws) l = ap (λ n. drop n (drop p ws)) (one_less p q) ∙ drop_twice p q ws (omega arith)
+  where
+    one_less : (p q : ℕ) → suc q - suc p ≡ q - p
+    one_less p q = omega arith
+
+-- the writes since one point are those up to a later one, and those since that
+since_in_parts : (ws : List Write) (p q : ℕ) (newer : List Image) → p ≤ q → Rising q (length ws) newer → writes_since ws p newer ≡ slice_range ws p q ++ writes_since ws q newer
+since_in_parts ws p q [] l h = sym (take-append-drop (q - p) (drop p ws)) ∙ ap (λ xs. slice_range ws p q ++ xs) (drop_twice p q ws l)
+since_in_parts ws p q (j ∷ newer) l h = split_inner p q j.point ws l h.0 ∙ ap (λ xs. slice_range ws p q ++ take (j.point - q) xs) (drop_twice p q ws l)
+
+-- the slots of an image with this point, and of these newer ones
+abbrev used_from : ℕ → List Write → ℕ → List Image → ℕ
+used_from n ws p newer = length (blocks_named n (writes_since ws p newer)) + used n ws newer
+
+fewer_from : (test : Image → Bool) (n : ℕ) (ws : List Write) (p : ℕ) (newer : List Image) → Rising p (length ws) newer → used_from n ws p (filter test newer) ≤ used_from n ws p newer
+fewer_from test n ws p [] h = at_most_itself (used_from n ws p [])
+fewer_from test n ws p (i ∷ newer) h = by_test (test i) (fewer_from test n ws i.point newer h.1) (fewer_from test n ws p newer (rising_from p i.point (length ws) newer h.0 h.1))
+  where
+    add : (a x y : ℕ) → x ≤ y → a + x ≤ a + y
+    add a x y l = omega arith
+
+    over : (x whole a b u : ℕ) → x ≤ whole + u → whole ≤ a + b → x ≤ a + (b + u)
+    over x whole a b u l h = omega arith
+
+    by_test : (b : Bool) → used_from n ws i.point (filter test newer) ≤ used_from n ws i.point newer → used_from n ws p (filter test newer) ≤ used_from n ws p newer
+        → used_from n ws p (if b then i ∷ filter test newer else filter test newer) ≤ used_from n ws p (i ∷ newer)
+    by_test true ih from = add (length (blocks_named n (slice_range ws p i.point))) (used_from n ws i.point (filter test newer)) (used_from n ws i.point newer) ih
+    by_test false ih from =
+        over (used_from n ws p (filter test newer)) (length (blocks_named n (writes_since ws p newer))) (length (blocks_named n (slice_range ws p i.point))) (length (blocks_named n (writes_since ws i.point newer))) (used n ws newer)
+        from
+        (subst (λ xs. length (blocks_named n xs) ≤ length (blocks_named n (slice_range ws p i.point)) + length (blocks_named n (writes_since ws i.point newer))) (sym (since_in_parts ws p i.point newer h.0 h.1))
+        (named_in_parts n (slice_range ws p i.point) (writes_since ws i.point newer)))
+
+-- fewer images use no more slots
+pub fewer_used : (test : Image → Bool) (n from : ℕ) (ws : List Write) (images : List Image) → Rising from (length ws) images → used n ws (filter test images) ≤ used n ws images
+fewer_used test n from ws [] h = omega arith
+fewer_used test n from ws (i ∷ images) h = by_test (test i) (fewer_used test n i.point ws images h.1)
+  where
+    more : (x u a : ℕ) → x ≤ u → x ≤ a + u
+    more x u a l = omega arith
+
+    by_test : (b : Bool) → used n ws (filter test images) ≤ used n ws images → used n ws (if b then i ∷ filter test images else filter test images) ≤ used n ws (i ∷ images)
+    by_test true ih = fewer_from test n ws i.point images h.1
+    by_test false ih = more (used n ws (filter test images)) (used n ws images) (length (blocks_named n (writes_since ws i.point images))) ih
+
+-- a block that is not named since one point needs a slot, where no newer image has a greater point
+needs_from : (b : ℕ) (ws : List Write) (i : Image) (newer : List Image) → Rising i.point (length ws) newer → names (drop i.point ws) b ≡ false → needs_slot ws (i ∷ newer) b ≡ true
+needs_from b ws i [] h e = ap not e
+needs_from b ws i (j ∷ newer) h e = needs_from b ws j newer h.1 (none_later (names (drop j.point ws) b) refl)
+  where
+    none_later : (t : Bool) → names (drop j.point ws) b ≡ t → t ≡ false
+    none_later true f = cc_of (names (drop i.point ws) b) (since_later i.point j.point ws h.0 b f) e
+      where
+        cc_of : (u : Bool) → u ≡ true → u ≡ false → true ≡ false
+        cc_of u f g = cc
+    none_later false f = refl
+
+-- where a write needs a slot with fewer images, it needs one with all
+pub fewer_need : (test : Image → Bool) (b from : ℕ) (ws : List Write) (images : List Image) → Rising from (length ws) images → needs_slot ws (filter test images) b ≡ true → needs_slot ws images b ≡ true
+fewer_need test b from ws [] h e = e
+fewer_need test b from ws (i ∷ images) h e = by_test (test i) e (fewer_need test b i.point ws images h.1)
+  where
+    not_true : (t : Bool) → not t ≡ true → t ≡ false
+    not_true true f = absurd cc
+    not_true false f = refl
+
+    with_one : (newer : List Image) → needs_slot ws newer b ≡ true → needs_slot ws (i ∷ newer) b ≡ true
+    with_one [] f = absurd cc
+    with_one (j ∷ newer) f = f
+
+    at_least : (newer : List Image) → (needs_slot ws newer b ≡ true → needs_slot ws images b ≡ true) → needs_slot ws (i ∷ newer) b ≡ true → needs_slot ws (i ∷ images) b ≡ true
+    at_least [] ih f = needs_from b ws i images h.1 (not_true (names (drop i.point ws) b) f)
+    at_least (j ∷ newer) ih f = with_one images (ih f)
+
+    by_test : (t : Bool) → needs_slot ws (if t then i ∷ filter test images else filter test images) b ≡ true → (needs_slot ws (filter test images) b ≡ true → needs_slot ws images b ≡ true) → needs_slot ws (i ∷ images) b ≡ true
+    by_test true f ih = at_least (filter test images) ih f
+    by_test false f ih = with_one images (ih f)
+
+-- ## an image is cut
+
+up_to_end : (p : ℕ) (ws : List Write) → slice_range ws p (length ws) ≡ drop p ws
+up_to_end p ws = take_all (length ws - p) (drop p ws) (subst (λ n. n ≤ length ws - p) (sym (length-drop p ws)) (at_most_itself (length ws - p)))
+
+-- an image that is cut uses no slot
+pub cut_used : (m n : ℕ) (ws : List Write) (images : List Image) → used n ws (images ++ record { set = m; point = length ws } ∷ []) ≡ used n ws images
+cut_used m n ws [] = ap (λ xs. length (blocks_named n xs) + 0) (drop_all (length ws) ws (at_most_itself (length ws))) ∙ ap (λ k. k + 0) (named_by_none n)
+cut_used m n ws (i ∷ []) = ap (λ xs. length (blocks_named n xs) + used n ws (record { set = m; point = length ws } ∷ [])) (up_to_end i.point ws) ∙ ap (λ k. length (blocks_named n (drop i.point ws)) + k) (cut_used m n ws [])
+cut_used m n ws (i ∷ j ∷ images) = ap (λ k. length (blocks_named n (slice_range ws i.point j.point)) + k) (cut_used m n ws (j ∷ images))
+
+-- ## a write
+
+abbrev pub one_if : Bool → ℕ
+one_if b = if b then 1 else 0
+
+-- the newest image gets the block, unless it has it
+newest_gains : (n p : ℕ) (ws : List Write) (w : Write) → p ≤ length ws → length (blocks_named n (drop p (ws ++ w ∷ []))) ≤ length (blocks_named n (drop p ws)) + one_if (not (names (drop p ws) w.block))
+newest_gains n p ws w l = subst (λ xs. length (blocks_named n xs) ≤ length (blocks_named n (drop p ws)) + one_if (not (names (drop p ws) w.block))) (sym (drop-append-le p ws (w ∷ []) l)) (by_named (names (drop p ws) w.block) refl)
+  where
+    none_more : (x y : ℕ) → x ≤ y → x ≤ y + 0
+    none_more x y l = omega arith
+
+    one_more : (x y z : ℕ) → x ≤ y + z → z ≤ 1 → x ≤ y + 1
+    one_more x y z l h = omega arith
+
+    same_block : (a b : ℕ) → ((a == b) || false) ≡ true → a ≡ b
+    same_block a b e = grind arith
+
+    named_before : (b : ℕ) → names (drop p ws) w.block ≡ true → (names (drop p ws) b ≡ true) ⊎ (names (w ∷ []) b ≡ true) → names (drop p ws) b ≡ true
+    named_before b e (inl f) = f
+    named_before b e (inr f) = subst (λ x. names (drop p ws) x ≡ true) (same_block w.block b f) e
+
+    by_named : (t : Bool) → names (drop p ws) w.block ≡ t → length (blocks_named n (drop p ws ++ w ∷ [])) ≤ length (blocks_named n (drop p ws)) + one_if (not t)
+    by_named true e =
+        none_more _ _ (named_no_more n (drop p ws ++ w ∷ []) (drop p ws) (λ b f. named_before b e (either _ _ (sym (list_any-append (λ (x : Write). x.block == b) (drop p ws) (w ∷ [])) ∙ f))))
+    by_named false e = one_more _ _ _ (named_in_parts n (drop p ws) (w ∷ [])) (named_by_one n w)
+
+pub written_used : (n from : ℕ) (ws : List Write) (w : Write) (images : List Image) → Rising from (length ws) images → used n (ws ++ w ∷ []) images ≤ used n ws images + one_if (needs_slot ws images w.block)
+written_used n from ws w [] h = omega arith
+written_used n from ws w (i ∷ []) h = last _ _ _ (newest_gains n i.point ws w h.1)
+  where
+    last : (x y z : ℕ) → x ≤ y + z → x + 0 ≤ (y + 0) + z
+    last x y z l = omega arith
+written_used n from ws w (i ∷ j ∷ images) h =
+    inner _ _ _ _ _ (ap (λ xs. length (blocks_named n xs)) (inner_append i.point j.point ws (w ∷ []) h.1.0 (rising_most j.point (length ws) images h.1.1))) (written_used n i.point ws w (j ∷ images) h.1)
+  where
+    inner : (a b x y z : ℕ) → a ≡ b → x ≤ y + z → a + x ≤ (b + y) + z
+    inner a b x y z e l = omega arith
+
+-- ## a revert
+
+-- other writes that name no more between and since these points
+less_used : (n : ℕ) (ws ys : List Write) (from most : ℕ) (images : List Image) → Rising from most images → ((a : ℕ) → a ≤ most → NameNoMore (drop a ys) (drop a ws))
+    → ((a b : ℕ) → a ≤ b → b ≤ most → NameNoMore (slice_range ys a b) (slice_range ws a b)) → used n ys images ≤ used n ws images
+less_used n ws ys from most [] h last inner = omega arith
+less_used n ws ys from most (i ∷ []) h last inner = same _ _ (named_no_more n (drop i.point ys) (drop i.point ws) (last i.point h.1))
+  where
+    same : (x y : ℕ) → x ≤ y → x + 0 ≤ y + 0
+    same x y l = omega arith
+less_used n ws ys from most (i ∷ j ∷ images) h last inner =
+    both _ _ _ _ (named_no_more n (slice_range ys i.point j.point) (slice_range ws i.point j.point) (inner i.point j.point h.1.0 (rising_most j.point most images h.1.1))) (less_used n ws ys i.point most (j ∷ images) h.1 last inner)
+  where
+    both : (a b x y : ℕ) → a ≤ b → x ≤ y → a + x ≤ b + y
+    both a b x y l h = omega arith
+
+-- the images up to one rise to its point
+pub rising_up_to : (m p most from : ℕ) (images : List Image) → Rising from most images → AreInTime most images → point_in m images ≡ Some p → Rising from p (up_to_set m images)
+rising_up_to m p most from [] h t e = absurd cc
+rising_up_to m p most from (i ∷ images) h t e = by_test (i.set == m) (not (nat_lt m i.set)) refl refl e (rising_up_to m p most i.point images h.1 t.2)
+  where
+    some_same : (a b : ℕ) → Some a ≡ Some b → a ≡ b
+    some_same a b e = cc
+
+    none_later : (js : List Image) → AreLater i js → (i.set == m) ≡ true → up_to_set m js ≡ []
+    none_later [] l f = refl
+    none_later (j ∷ js) l f = by_less (not (nat_lt m j.set)) (past i.set m j.set f l.0) (none_later js l.2 f)
+      where
+        past : (a m b : ℕ) → (a == m) ≡ true → a < b → not (nat_lt m b) ≡ false
+        past a m b e l = grind arith
+
+        by_less : (t : Bool) → t ≡ false → up_to_set m js ≡ [] → (if t then j ∷ up_to_set m js else up_to_set m js) ≡ []
+        by_less true g ih = absurd cc
+        by_less false g ih = ih
+
+    is_kept : (a m : ℕ) → (a == m) ≡ true → not (nat_lt m a) ≡ true
+    is_kept a m e = grind arith
+
+    differ : (u : Bool) → u ≡ true → u ≡ false → ⊥
+    differ u e f = cc
+
+    by_test : (t u : Bool) → (i.set == m) ≡ t → not (nat_lt m i.set) ≡ u → (if t then Some i.point else point_in m images) ≡ Some p → (point_in m images ≡ Some p → Rising i.point p (up_to_set m images)) → Rising from p (if u then i ∷ up_to_set m images else up_to_set m images)
+    by_test true true f g e ih = (h.0, subst (Rising i.point p) (sym (none_later images t.1 f)) (subst (λ q. i.point ≤ q) (some_same i.point p e) (at_most_itself i.point)))
+    by_test true false f g e ih = absurd (differ (not (nat_lt m i.set)) (is_kept i.set m f) g)
+    by_test false true f g e ih = (h.0, ih e)
+    by_test false false f g e ih = rising_from from i.point p (up_to_set m images) h.0 (ih e)
+
+pub reverted_used : (n m p : ℕ) (ws : List Write) (images : List Image) → AreInTime (length ws) images → point_in m images ≡ Some p → used n (take p ws) (up_to_set m images) ≤ used n ws images
+reverted_used n m p ws images t e =
+    let rise = rising (length ws) images t in
+    chain _ _ _ (less_used n ws (take p ws) 0 p (up_to_set m images) (rising_up_to m p (length ws) 0 images rise t e) (λ a l. later_no_more a p ws) (λ a b l h. inner_no_more a (b - a) p ws))
+    (fewer_used (λ (i : Image). not (nat_lt m i.set)) n 0 ws images rise)
+
+-- a point is not past the end
+point_most : (m p most : ℕ) (images : List Image) → AreInTime most images → point_in m images ≡ Some p → p ≤ most
+point_most m p most [] t e = absurd cc
+point_most m p most (i ∷ images) t e = by_test (i.set == m) e (point_most m p most images t.2)
+  where
+    some_same : (a b : ℕ) → Some a ≡ Some b → a ≡ b
+    some_same a b e = cc
+
+    by_test : (b : Bool) → (if b then Some i.point else point_in m images) ≡ Some p → (point_in m images ≡ Some p → p ≤ most) → p ≤ most
+    by_test true f ih = subst (λ q. q ≤ most) (some_same i.point p f) t.0
+    by_test false f ih = ih f
+
+pub restored_used : (blocks k n m p : ℕ) (ws : List Write) (images : List Image) → AreInTime (length ws) images → point_in m images ≡ Some p
+    → used n (ws ++ map (restoring ws p) (take k (to_restore blocks ws p))) (up_to_set m images) ≤ used n ws images
+restored_used blocks k n m p ws images t e =
+    let rise = rising (length ws) images t in
+    let most = point_most m p (length ws) images t e in
+    let more : List Write = map (restoring ws p) (take k (to_restore blocks ws p)) in
+    chain _ _ _ (less_used n ws (ws ++ more) 0 p (up_to_set m images) (rising_up_to m p (length ws) 0 images rise t e) (λ a l. restored_no_more blocks p k a ws l most)
+    (λ a b l h c f. subst (λ xs. names xs c ≡ true) (inner_append a b ws more l (chain b p (length ws) h most)) f))
+    (fewer_used (λ (i : Image). not (nat_lt m i.set)) n 0 ws images rise)
