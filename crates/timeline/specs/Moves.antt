@@ -1,6 +1,6 @@
 -- Which lines a report has, as a picture reads them: a move's line begins with its number; another begins with one of six words. A
 -- text is read as a report where each of its lines is one of these; else its first line that is none is told. (This project's own.)
-use Rattle.std.specs.Prelude.{ℕ, ◌≡◌, ◌+◌, Bool, true, false, List, [], ◌∷◌, Option, Some, None, nat_eq, nat_le, ◌&&◌, ◌||◌, codes, map, if◌then◌else◌}
+use Rattle.std.specs.Prelude.{ℕ, ◌≡◌, ◌+◌, Bool, false, List, [], ◌∷◌, Option, Some, None, nat_eq, nat_le, ◌&&◌, ◌||◌, codes, map, if◌then◌else◌}
 use Rattle.std.specs.List.{starts_with}
 use Rattle.std.specs.Str.{bytes_eq}
 use Rattle.std.specs.Str.Lines.{lines}
