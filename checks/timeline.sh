@@ -16,6 +16,7 @@ fi
 programs=("$proved")
 [ -x "$proved.by-rattle" ] && programs+=("$proved.by-rattle")
 cd "$top" || exit 70
+scenarios=(examples/*.scenario)
 failed=0
 room="$(mktemp -d)"
 trap 'rm -rf "$room"' EXIT
@@ -44,11 +45,13 @@ answers() {
   shift 3
   said="$("$program" "$@" 2>&1 > "$room/out" < "$room/in")"
   status=$?
-  [ "$status" = "$wanted" ] && [ "$said" = "$line" ] && [ ! -s "$room/out" ] || fail "\`vss_timeline $*\`: status $status, $said"
+  if [ "$status" != "$wanted" ] || [ "$said" != "$line" ] || [ -s "$room/out" ]; then
+    fail "\`vss_timeline $*\`: status $status, $said"
+  fi
 }
 
 for program in "${programs[@]}"; do
-  for scenario in examples/*.scenario; do
+  for scenario in "${scenarios[@]}"; do
     draws "$program" "$scenario"
   done
   "$program" examples/database_and_log.scenario examples/database_and_log.report | cmp -s - docs/pictures/database_and_log.svg ||
@@ -89,5 +92,5 @@ for words in "" --text; do
   # shellcheck disable=SC2086
   timeout 30 "$proved" $words < "$room/long.report" > "$room/long" || fail "a report of 200,000 moves is not drawn in 30 seconds"
 done
-[ "$failed" = 0 ] && echo "timeline: $(ls examples/*.scenario | wc -l) examples are drawn, by ${#programs[@]} builds"
+[ "$failed" = 0 ] && echo "timeline: ${#scenarios[@]} examples are drawn, by ${#programs[@]} builds"
 exit "$failed"
