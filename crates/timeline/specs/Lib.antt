@@ -1,0 +1,5 @@
+pub mod Drawn
+pub mod Ended
+pub mod Escaped
+pub mod Moves
+pub mod Narrow
