@@ -16,43 +16,24 @@
 //! It is a program for the checks, and promises nothing of its own.
 #![tactic(auto)]
 
+mod lines;
 mod making;
 mod trial;
 mod trial_error;
 mod words;
 
+use lines::take_all;
 use std::process::ExitCode;
 use trial::Trial;
 use trial_error::TrialError;
 
-/// Takes a line: makes its call, and prints the reply.
-fn take_line(rt: &HostRuntime, trial: &mut Option<Trial>, line: &str) -> Result<(), TrialError> {
-    let words: Vec<&str> = line.split_whitespace().collect(rt.alloc())?;
-    if words.is_empty() || words[0].starts_with('#') {
-        return Ok(());
-    }
-    if words[0] == "volume" {
-        *trial = Some(Trial::new(rt.alloc(), &words[1..])?);
-        println!(rt; "Ok(())")?;
-        return Ok(());
-    }
-    match trial {
-        None => Err(TrialError::Words),
-        Some(trial) => trial.call(rt, &words),
-    }
-}
-
-/// Takes all lines, in order.
-fn take_lines(rt: &HostRuntime) -> Result<(), TrialError> {
-    let mut trial = None;
-    for line in rt.lines(rt.alloc()) {
-        take_line(rt, &mut trial, line?.as_str())?;
-    }
-    Ok(())
+/// Takes all lines of the standard input, on a volume of one block at first.
+fn take_input(rt: &HostRuntime) -> Result<(), TrialError> {
+    take_all(rt, &mut Trial::new(rt.alloc(), &["1", "0", "0"])?)
 }
 
 fn main(rt: HostRuntime) -> ExitCode {
-    match take_lines(&rt) {
+    match take_input(&rt) {
         Ok(()) => ExitCode::SUCCESS,
         Err(error) => {
             let _ = eprintln!(rt; "recover_trial: {error}");

@@ -1,3 +1,4 @@
+use crate::lines::TakesLines;
 use crate::making::volume_of;
 use crate::trial_error::TrialError;
 use crate::words::{claims_of, number_of, payload_of};
@@ -29,8 +30,8 @@ impl Trial {
         })
     }
 
-    /// Makes the call of these words, and prints its reply.
-    pub fn call(&mut self, rt: &HostRuntime, words: &[&str]) -> Result<(), TrialError> {
+    /// Makes the call of these words that goes to the volume itself or to an image, and prints its reply.
+    fn call(&mut self, rt: &HostRuntime, words: &[&str]) -> Result<(), TrialError> {
         match *words {
             ["read", block] => self.read(rt, number_of(block)?),
             ["image", set, block] => self.read_image(rt, number_of(set)?, number_of(block)?),
@@ -41,11 +42,18 @@ impl Trial {
                 let payload = payload_of(kind, number)?;
                 tell(rt, &self.volume.write(number_of(block)?, &payload))
             }
+            _ => self.call_in_window(rt, words),
+        }
+    }
+
+    /// Makes the call of these words that goes to the window, and prints its reply.
+    fn call_in_window(&mut self, rt: &HostRuntime, words: &[&str]) -> Result<(), TrialError> {
+        match *words {
             ["recover", set, writer, block, kind, number] => {
                 let (set, writer) = (number_of(set)?, number_of(writer)?);
                 let (block, payload) = (number_of(block)?, payload_of(kind, number)?);
-                let answer = self.volume.recover_write(set, writer, block, &payload);
-                tell(rt, &answer)
+                let reply = self.volume.recover_write(set, writer, block, &payload);
+                tell(rt, &reply)
             }
             ["post_final"] => tell(rt, &self.volume.post_final()),
             ["pre_final", set, ..] => self.open(rt, number_of(set)?, &words[2..]),
@@ -99,6 +107,17 @@ impl Trial {
             Ok(()) => tell_bytes(rt, self.block.bytes()),
             Err(fault) => tell(rt, &Err::<(), _>(fault)),
         }
+    }
+}
+
+impl TakesLines for Trial {
+    /// Makes the call of a line, or a new volume, and prints the reply.
+    fn take(&mut self, rt: &HostRuntime, words: &[&str]) -> Result<(), TrialError> {
+        if words.is_empty() || words[0] != "volume" {
+            return self.call(rt, words);
+        }
+        self.volume = volume_of(rt.alloc(), &words[1..])?;
+        tell(rt, &Ok::<(), ()>(()))
     }
 }
 
