@@ -1,0 +1,139 @@
+"""Runs of the program for the scripts beside this one: many, without a shell, some side by side, each with bounds of memory and time."""
+import multiprocessing
+import os
+import resource
+import signal
+import tempfile
+
+TOP = os.path.dirname(os.path.dirname(os.path.dirname(os.path.realpath(__file__))))
+PROVED = f"{TOP}/crates/vss/out/vss"
+TRIAL = f"{TOP}/crates/vss_trial/out/vss_trial"
+
+
+class Hung(Exception):
+    """A run did not end in time."""
+
+
+class Ended:
+    """How a run ended: its status, or the signal that stopped it below 0; what it wrote; its highest memory in KiB; its seconds of processor."""
+
+    def __init__(self, status, out, err, usage):
+        self.status = status
+        self.out = out
+        self.err = err
+        self.kib = usage.ru_maxrss
+        self.seconds = usage.ru_utime + usage.ru_stime
+
+    def __str__(self):
+        return f"status {self.status}, {len(self.out)} bytes, {self.err.decode(errors='replace').strip()!r}"
+
+
+def on_alarm(_signal, _frame):
+    raise Hung
+
+
+def contents(handle):
+    size = os.lseek(handle, 0, os.SEEK_END)
+    return os.pread(handle, size, 0)
+
+
+class Runner:
+    """Runs programs one after another in a folder of its own, with a bound on the addresses that one may take."""
+
+    def __init__(self, most_bytes=None, seconds=60):
+        self.seconds = seconds
+        self.room = tempfile.mkdtemp(prefix="hostile-", dir="/dev/shm" if os.path.isdir("/dev/shm") else None)
+        self.handles = [os.open(f"{self.room}/{name}", os.O_RDWR | os.O_CREAT) for name in ("in", "out", "err")]
+        signal.signal(signal.SIGALRM, on_alarm)
+        if most_bytes:
+            resource.setrlimit(resource.RLIMIT_AS, (most_bytes, resource.RLIM_INFINITY))
+
+    def run(self, argv, text, env=None):
+        """Returns how the run over this input ended; a run that does not end in time is stopped, and has status -9."""
+        for handle, bytes_in in zip(self.handles, (text, b"", b"")):
+            os.ftruncate(handle, 0)
+            os.pwrite(handle, bytes_in, 0)
+            os.lseek(handle, 0, os.SEEK_SET)
+        actions = [(os.POSIX_SPAWN_DUP2, handle, number) for number, handle in enumerate(self.handles)]
+        child = os.posix_spawn(argv[0], argv, os.environ if env is None else env, file_actions=actions)
+        signal.setitimer(signal.ITIMER_REAL, self.seconds)
+        try:
+            _, status, usage = os.wait4(child, 0)
+        except Hung:
+            os.kill(child, signal.SIGKILL)
+            _, status, usage = os.wait4(child, 0)
+        signal.setitimer(signal.ITIMER_REAL, 0)
+        return Ended(os.waitstatus_to_exitcode(status), contents(self.handles[1]), contents(self.handles[2]), usage)
+
+    def close(self):
+        for handle, name in zip(self.handles, ("in", "out", "err")):
+            os.close(handle)
+            os.unlink(f"{self.room}/{name}")
+        os.rmdir(self.room)
+
+
+def work_through(make_worker, tasks, done):
+    """The loop of one lane. It ends with None, also where something is wrong with the script."""
+    try:
+        worker = make_worker()
+        for task in iter(tasks.get, None):
+            done.put(worker.work(task))
+        worker.close()
+    finally:
+        done.put(None)
+
+
+def in_lanes(make_worker, tasks, lanes):
+    """Gives what the workers make of the tasks, as it comes. A worker has `work` and `close`."""
+    waiting, done = multiprocessing.Queue(), multiprocessing.Queue()
+    for task in [*tasks, *[None] * lanes]:
+        waiting.put(task)
+    workers = [multiprocessing.Process(target=work_through, args=(make_worker, waiting, done)) for _ in range(lanes)]
+    for worker in workers:
+        worker.start()
+    left = lanes
+    while left:
+        made = done.get()
+        if made is None:
+            left -= 1
+        else:
+            yield made
+    for worker in workers:
+        worker.join()
+        if worker.exitcode:
+            raise SystemExit("a lane of this script did not go to its end")
+
+
+def lane_numbers(report):
+    """Returns for each lane's name the numbers of the lines that the report has for it, in order, or None where the moves are not numbered from 1 on."""
+    numbers, count = {}, 0
+    for line in report.split(b"\n")[1:]:
+        words = line.split(b" ")
+        if words[0] == b"end":
+            return numbers
+        if words[0] == b"=":
+            continue
+        count += 1
+        if words[0] != b"%d" % count:
+            return None
+        if words[1] == b"lane":
+            numbers.setdefault(words[2], []).append(int(words[3]))
+    return None
+
+
+def letters_of(report, lanes, writers):
+    """Returns the letters of the moves of a report, or of its first lines, as vss_trial takes them."""
+    letters = []
+    for line in report.split(b"\n")[1:]:
+        words = line.split(b" ")
+        if words[0] == b"end":
+            break
+        if words[0] in (b"=", b""):
+            continue
+        if words[1] == b"lane":
+            letters.append("abcdefgh"[lanes.index(words[2])])
+        elif words[1] == b"writer":
+            letters.append("0123456789"[writers.index(words[2])])
+        else:
+            letters.append("p" if words[1] == b"provider" else "i")
+    return "".join(letters)
