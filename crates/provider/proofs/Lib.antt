@@ -12,6 +12,7 @@ pub mod CutAll
 pub mod Refused
 pub mod Stepped
 pub mod Hashed
+pub mod LentRows
 pub mod Digested
 pub mod Fresh
 pub mod Ended

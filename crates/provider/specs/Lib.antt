@@ -5,3 +5,4 @@ pub mod Preparing
 pub mod Ending
 pub mod GroupCalls
 pub mod Hashing
+pub mod Lending

@@ -3,7 +3,7 @@
 //! This is the room that alone knows groups. Contracts see a `Provider` as its groups, in their order, with the number and the volumes
 //! of the set that is being prepared; `specs/Groups.antt` says for which histories, one for each volume of the scenario, the groups
 //! stand together, and each call for which they stand afterwards. A fault is told with the device that failed: a volume's own, or that
-//! of the diff area of its group. All memory is taken by `new`.
+//! of the diff area of its group. All memory but that of `digests` is taken by `new`.
 #![tactic(auto)]
 
 mod cutting;
@@ -13,6 +13,7 @@ mod dropping;
 mod ending;
 mod hashing;
 mod image_fault;
+mod lending;
 mod looking;
 mod making;
 mod place;

@@ -1,4 +1,4 @@
-ghost use Rattle.std.specs.Prelude.{◌≡◌, ◌≢◌, ◌<◌, ◌≤◌, ℕ, [], true, false, length, map, slice_get, Some, is_some, IfOk, IfErr, IfSome, OnOk};
+ghost use Rattle.std.specs.Prelude.{◌≡◌, ◌≢◌, ◌<◌, ◌≤◌, ℕ, [], true, false, length, map, slice_get, Some, is_some, IfOk, IfErr, IfSome, OnOk, All};
 ghost use Rattle.hex.specs.Hex.{IsBytes};
 ghost use Rattle.block_data.specs.PayloadBytes.{payload_bytes};
 ghost use Rattle.write_history.specs.History.{fresh, sets_of};
@@ -13,6 +13,7 @@ ghost use Rattle.provider.specs.Groups.{AreFresh, AreGroups, AreWhole, HasGroups
 ghost use Rattle.provider.specs.Devices.{AreKept, devices_of, volume_place, HasCause, fault_of};
 ghost use Rattle.provider.specs.Calls.{AreWithout, GoUpTo, HasImage, HasImageCause, IsDigestNow, IsDigestShown, IsDropped, IsNow, IsPut, IsQuiet, IsRevert, IsShown, outcome_of};
 ghost use Rattle.provider.specs.Preparing.{CanCut, HasJoined, HasStepCause, LastsAt, refusal, refused_as, step_taken};
+ghost use Rattle.provider.specs.Lending.{IsDigestedAt};
 ghost use Rattle.provider.specs.Ending.{AreLasting, HasSyncCause, IsSynced};
 
 use crate::device_fault::DeviceFault;
@@ -20,6 +21,7 @@ use crate::digesting::{digest_image_in, digest_in};
 use crate::dropping::{drop_image_in, drop_set_in};
 use crate::ending::{list_devices, sync_in};
 use crate::image_fault::ImageFault;
+use crate::lending::digests_in;
 use crate::looking::{has_image_in, images_in, used_all_in, used_by_in, used_in};
 use crate::making::device_count;
 use crate::preparing::{MOST_VOLUMES, refusal};
@@ -31,12 +33,14 @@ use crate::stepping::step_in;
 use crate::writing::{goes_up_to_in, write_in};
 use block_data::{BLOCK, BlockBuf, Payload};
 use cow_volume::CowGroup;
+use lent_digests::{Digested, DigestsOf};
 use scenario::Scenario;
 use set_agenda::Group;
 use std::alloc::Global;
 use std::marker::Model;
+use std::thread::Threads;
 use volume_device::Device;
-use vss_names::VssResult;
+use vss_names::{OutOfMemory, VssResult};
 
 /// Groups of volumes over devices, with the set that is being prepared.
 #[derive(Drop)]
@@ -176,6 +180,22 @@ impl<D: Device> Provider<D> {
         ensures set { self.new ≡ record self.old { groups = self.new.groups } }
     {
         digest_image_in(&mut self.groups, &mut self.block, scenario, set, volume)
+    }
+
+    /// The digests of all volumes, in order, each followed by those of its images where those are wanted, the oldest first, where devices
+    /// lend: computed side by side, in as many threads as there are processors. Memory is taken for the time of the call, 16 bytes for
+    /// each block.
+    pub fn digests<R: Threads + Sync>(
+        &self,
+        rt: &R,
+        alloc: Global,
+        scenario: &Scenario,
+        wanted: DigestsOf,
+    ) -> Result<Vec<Digested>, OutOfMemory>
+        requires { HasGroups scenario.now self.now.groups }
+        ensures { IfOk result (λ rows. All (IsDigestedAt D.told scenario.now self.now.groups) rows.items) }
+    {
+        digests_in(rt, alloc, &self.groups, scenario, wanted)
     }
 
     /// Lends a block as the image of a set shows it, in place. None where the device that has it does not lend. The error is

@@ -53,7 +53,11 @@ fn has_a_mark(trail: &Trail) -> bool
 
 /// The digests of the volumes at the end of a run, whose areas are written and whose devices are given back. It failed where a device
 /// could not be written or read, or a move has a fault mark.
-fn digests_of<M: Maker>(played: Play<M::Made>, maker: &mut M) -> Result<[[u8; 32]; 8], PlayFault>
+fn digests_of<R: Threads + Sync, M: Maker>(
+    rt: &R,
+    played: Play<M::Made>,
+    maker: &mut M,
+) -> Result<[[u8; 32]; 8], PlayFault>
     requires eight { length played.plan.volumes ≡ 8 }
     ensures digested { IsDigested M.Made.told M.Made.count played (M.places maker.old) (M.kept maker.old) (M.kept maker.new) (M.count maker.old) (M.count maker.new) result }
     ensures named { M.named maker.new ≡ M.named maker.old }
@@ -62,7 +66,7 @@ fn digests_of<M: Maker>(played: Play<M::Made>, maker: &mut M) -> Result<[[u8; 32
 {
     let mut play = played;
     let mut digests = [[0; 32]; 8];
-    match play.digests(&mut digests) {
+    match play.digests(rt, &mut digests) {
         Ok(()) => {}
         Err(Failed) => {
             play.give_back(maker);
@@ -98,7 +102,7 @@ fn summary_of_run<R: Threads + Wait + Sync, M: Maker, G: Gate>(
     let Ok(played) = play_all(rt, alloc, play, gate) else {
         return Err(PlayFault::OutOfMemory);
     };
-    let digests = digests_of(played, maker)?;
+    let digests = digests_of(rt, played, maker)?;
     match summary_of(alloc, number, &digests) {
         Ok(text) => Ok(text),
         Err(OutOfMemory) => Err(PlayFault::OutOfMemory),

@@ -38,7 +38,7 @@ fn report_of<R: Threads + Wait + Sync, M: Maker, G: Gate>(
     let Ok(played) = play_all(rt, alloc, play, gate) else {
         return Err(PlayFault::OutOfMemory);
     };
-    played.finish(maker)
+    played.finish(rt, maker)
 }
 
 /// Reads a scenario, runs it, and writes its report.

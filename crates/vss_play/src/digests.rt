@@ -4,33 +4,37 @@ ghost use Rattle.std.specs.Prelude.{◌≡◌, length, map, OnOk, IsErr};
 ghost use Rattle.vss_world.specs.Devices.{tells_of};
 ghost use Rattle.vss_world.specs.Quiet.{IsQuiet};
 ghost use Rattle.vss_play.specs.Played.{AnyRose, AreasHold};
-ghost use Rattle.vss_play.specs.Closing.{StandsAfter, IsEnding};
+ghost use Rattle.vss_play.specs.Closing.{AreReady, StandsAfter, IsEnding};
 ghost use Rattle.vss_play.specs.Digested.{AreDigests};
 
 use crate::closing::sync_groups;
+use crate::end_digests::digest_volume;
 use crate::play_fault::PlayFault;
+use lent_digests::ReadyDigests;
 use scenario::Scenario;
 use volume_device::Device;
 use vss_names::Failed;
 use vss_world::World;
 use write_history::Trail;
 
-/// Digests each volume, in order.
+/// Digests each volume, in order, with the digests that are ready in that order.
 fn digest_volumes<D: Device>(
     scenario: &Scenario,
     trail: &Trail,
     world: &mut World<D>,
+    ready: &mut ReadyDigests,
     out: &mut [[u8; 32]],
 ) -> Result<(), Failed>
     requires many { length out.old ≡ length scenario.now.volumes }
     requires stands { StandsAfter D.told world.old scenario.now trail.now.moves }
+    requires ready { AreReady (tells_of D.told scenario.now world.old.devices) scenario.now trail.now.moves ready.old.rows.items }
     ensures digests { OnOk result (AreDigests (tells_of D.told scenario.now world.old.devices) scenario.now trail.now.moves out.new) }
     ensures quiet { IsQuiet D.told D.count world.old world.new scenario.now }
     ensures same { OnOk result (map D.count world.new.devices ≡ map D.count world.old.devices) }
     ensures rose { IsErr result → AnyRose (map D.count world.old.devices) (map D.count world.new.devices) }
 {
     for volume in 0..scenario.volumes() {
-        match world.digest(scenario, volume) {
+        match digest_volume(scenario, trail, world, ready, volume) {
             Ok(digest) => out[volume as usize] = digest,
             Err(Failed) => return Err(Failed),
         }
@@ -38,15 +42,17 @@ fn digest_volumes<D: Device>(
     Ok(())
 }
 
-/// Writes each group's area to its device, and then digests each volume, in order.
+/// Writes each group's area to its device, and then digests each volume, in order, with the digests that are ready in that order.
 pub fn digest_all<D: Device>(
     scenario: &Scenario,
     trail: &Trail,
     world: &mut World<D>,
+    ready: &mut ReadyDigests,
     out: &mut [[u8; 32]],
 ) -> Result<(), Failed>
     requires many { length out.old ≡ length scenario.now.volumes }
     requires stands { StandsAfter D.told world.old scenario.now trail.now.moves }
+    requires ready { AreReady (tells_of D.told scenario.now world.old.devices) scenario.now trail.now.moves ready.old.rows.items }
     ensures digests { OnOk result (AreDigests (tells_of D.told scenario.now world.old.devices) scenario.now trail.now.moves out.new) }
     ensures areas { OnOk result (AreasHold D.told scenario.now trail.now.moves world.new.devices) }
     ensures ending { IsEnding D.told D.count world.old world.new scenario.now }
@@ -58,7 +64,7 @@ pub fn digest_all<D: Device>(
         Err(PlayFault::Failed) => return Err(Failed),
         Err(PlayFault::OutOfMemory) => unreachable!(),
     }
-    match digest_volumes(scenario, trail, world, out) {
+    match digest_volumes(scenario, trail, world, ready, out) {
         Ok(()) => {}
         Err(Failed) => return Err(Failed),
     }

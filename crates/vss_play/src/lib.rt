@@ -13,6 +13,7 @@ mod actor_loop;
 mod closing;
 mod devices;
 mod digests;
+mod end_digests;
 mod gate;
 mod groups;
 mod idle;

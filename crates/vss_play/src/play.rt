@@ -10,6 +10,7 @@ ghost use Rattle.vss_play.specs.Played.{run_of, is_finished, tells_in, IsKept, I
 use crate::closing::close_all;
 use crate::devices::{give_all, make_devices};
 use crate::digests::digest_all;
+use crate::end_digests::ready_digests;
 use crate::groups::open_groups;
 use crate::idle::{may_idle, next_answer};
 use crate::moved::Moved;
@@ -19,9 +20,11 @@ use crate::turn::{
     advance, answers_no_more, are_used_up, first_cursors, first_lines, lanes_with_lines, mark_of,
     next_line, push_move, write_lines,
 };
+use lent_digests::DigestsOf;
 use scenario::Scenario;
 use std::alloc::Global;
 use std::marker::Model;
+use std::thread::Threads;
 use volume_device::{Device, Maker, Store};
 use vss_model::Event;
 use vss_model::laws::turns_come_to_an_end;
@@ -230,8 +233,13 @@ impl<D: Device> Play<D> {
 
     /// Writes each group's area to its device, and appends the closing lines: how many moves there are and the clock, for each
     /// volume how it stands, with its kept images, and for each writer its state. Where it is refused, `out` has the bytes that it
-    /// had.
-    pub fn close(&mut self, _alloc: Global, out: &mut Text) -> Result<(), PlayFault>
+    /// had. Digests are made side by side where devices lend.
+    pub fn close<R: Threads + Sync>(
+        &mut self,
+        rt: &R,
+        alloc: Global,
+        out: &mut Text,
+    ) -> Result<(), PlayFault>
         ensures closed { OnOk result (IsClosed D.told self.new out.old.bytes out.new.bytes) }
         ensures same { OnErr result (out.new.bytes ≡ out.old.bytes) }
         ensures quiet { IsQuietPlay D.told D.count self.old self.new }
@@ -242,7 +250,21 @@ impl<D: Device> Play<D> {
     {
         turns_come_to_an_end();
         let before = out.len();
-        match close_all(&self.scenario, &self.trail, &mut self.world, out) {
+        let mut ready = ready_digests(
+            rt,
+            alloc,
+            &self.scenario,
+            &self.trail,
+            &self.world,
+            DigestsOf::VolumesAndImages,
+        );
+        match close_all(
+            &self.scenario,
+            &self.trail,
+            &mut self.world,
+            &mut ready,
+            out,
+        ) {
             Err(fault) => {
                 out.truncate(before);
                 return Err(fault);
@@ -252,8 +274,9 @@ impl<D: Device> Play<D> {
         Ok(())
     }
 
-    /// Writes each group's area to its device, and gives the SHA-256 of all blocks of each volume, in order of the volumes.
-    pub fn digests(&mut self, out: &mut [[u8; 32]]) -> Result<(), Failed>
+    /// Writes each group's area to its device, and gives the SHA-256 of all blocks of each volume, in order of the volumes. Those of volumes
+    /// whose devices lend are made side by side.
+    pub fn digests<R: Threads + Sync>(&mut self, rt: &R, out: &mut [[u8; 32]]) -> Result<(), Failed>
         requires many { length out.old ≡ length self.old.plan.volumes }
         ensures digests { OnOk result (AreDigests (tells_in D.told self.new) self.new.plan self.new.trail out.new) }
         ensures areas { OnOk result (AreasHold D.told self.new.plan self.new.trail self.new.devices) }
@@ -263,7 +286,21 @@ impl<D: Device> Play<D> {
         ensures rose { IsErr result → AnyRose (map D.count self.old.devices) (map D.count self.new.devices) }
     {
         turns_come_to_an_end();
-        match digest_all(&self.scenario, &self.trail, &mut self.world, out) {
+        let mut ready = ready_digests(
+            rt,
+            self.allocator(),
+            &self.scenario,
+            &self.trail,
+            &self.world,
+            DigestsOf::Volumes,
+        );
+        match digest_all(
+            &self.scenario,
+            &self.trail,
+            &mut self.world,
+            &mut ready,
+            out,
+        ) {
             Err(Failed) => return Err(Failed),
             Ok(()) => {}
         }
@@ -272,12 +309,17 @@ impl<D: Device> Play<D> {
 
     /// Closes the report in its own text, as `close` does, and hands the devices back to a maker, as `give_back` does, also where
     /// the closing lines are refused. The report is answered.
-    pub fn finish<M: Maker<Made = D>>(self, maker: &mut M) -> Result<Text, PlayFault>
+    pub fn finish<R: Threads + Sync, M: Maker<Made = D>>(
+        self,
+        rt: &R,
+        maker: &mut M,
+    ) -> Result<Text, PlayFault>
         ensures ended { IsEnded D.told D.count self (M.places maker.old) (M.kept maker.old) (M.kept maker.new) (M.count maker.old) (M.count maker.new) result }
         ensures tells { M.tells maker.new ≡ M.tells maker.old }
         ensures named { M.named maker.new ≡ M.named maker.old }
         ensures later { M.count maker.old ≤ M.count maker.new }
     {
+        let alloc = self.allocator();
         let Play {
             scenario,
             world,
@@ -289,7 +331,15 @@ impl<D: Device> Play<D> {
         turns_come_to_an_end();
         let mut report = lines;
         let mut core = world;
-        match close_all(&scenario, &trail, &mut core, &mut report) {
+        let mut ready = ready_digests(
+            rt,
+            alloc,
+            &scenario,
+            &trail,
+            &core,
+            DigestsOf::VolumesAndImages,
+        );
+        match close_all(&scenario, &trail, &mut core, &mut ready, &mut report) {
             Err(fault) => {
                 give_all(core.into_devices(), maker);
                 return Err(fault);

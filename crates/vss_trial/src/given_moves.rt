@@ -5,6 +5,7 @@ use crate::letters::goes_as_told;
 use crate::trial_error::TrialError;
 use scenario::parse;
 use std::alloc::Global;
+use std::thread::Threads;
 use volume_device::{MemDevice, Store};
 use vss_main::MOST_BYTES;
 use vss_names::Text;
@@ -23,7 +24,8 @@ fn make_moves(alloc: Global, play: &mut Play<MemDevice>, letters: &[u8]) -> Resu
 }
 
 /// The closed report of a scenario, the moves of which are those of the letters.
-pub fn report_of(
+pub fn report_of<R: Threads + Sync>(
+    rt: &R,
     alloc: Global,
     input: &[u8],
     letters: &[u8],
@@ -36,5 +38,5 @@ pub fn report_of(
     let mut maker = failing.maker;
     let mut play = Play::new(alloc, scenario, &Store::Memory, &mut maker)?;
     make_moves(alloc, &mut play, letters)?;
-    Ok(play.finish(&mut maker)?)
+    Ok(play.finish(rt, &mut maker)?)
 }

@@ -86,15 +86,10 @@ fn prepare(rt: &HostRuntime) -> Result<(Vec<String>, Failing, Text), TrialError>
     Ok((words, failing, input_of(rt)?))
 }
 
-/// Writes the report of the moves of these letters.
-fn write_moves(
-    rt: &HostRuntime,
-    letters: &str,
-    failing: Failing,
-    input: &Text,
-) -> Result<(), TrialError> {
-    let report = report_of(rt.alloc(), input.bytes(), letters.as_bytes(), failing)?;
-    write_all(&mut OutSink::new(rt.stdout()), report.bytes())?;
+/// Writes a report.
+fn write_report(rt: &HostRuntime, report: Result<Text, TrialError>) -> Result<(), TrialError> {
+    let text = report?;
+    write_all(&mut OutSink::new(rt.stdout()), text.bytes())?;
     Ok(())
 }
 
@@ -104,7 +99,8 @@ fn main(rt: HostRuntime) -> ExitCode {
         Err(error) => return fail(&rt, error),
     };
     if let Some(letters) = letters_of(&words) {
-        return match write_moves(&rt, letters, failing, &input) {
+        let report = report_of(&rt, rt.alloc(), input.bytes(), letters.as_bytes(), failing);
+        return match write_report(&rt, report) {
             Ok(()) => ExitCode::SUCCESS,
             Err(error) => fail(&rt, error),
         };

@@ -1,11 +1,13 @@
 -- Digests of volumes and of images: what is told of them, and that nothing but counts of devices changes.
 use Rattle.std.proofs.Common.{◌≡◌, ℕ, ◌<◌, ◌==◌, List, [], ◌∷◌, length, refl, ap, sym, ◌∙◌, subst, arith, Bool, true, false, Option, Some, None, map, slice_get}
-use Rattle.std.specs.Prelude.{is_some, filter, if◌then◌else◌, Err}
+use Rattle.std.specs.Prelude.{is_some, filter, if◌then◌else◌, Err, IfSome, All}
 use Rattle.std.specs.List.{concat}
 use Rattle.std.proofs.lemmas.Bool.Decides.{nat_tests}
+use Rattle.std.proofs.lemmas.List.Elements.{All-weaker}
 use Rattle.block_data.specs.Digest.{sha256}
 use Rattle.hex.specs.Hex.{IsBytes}
 use Rattle.hold_gate.specs.Gate.{Flags}
+use Rattle.lent_digests.specs.declared.digested.Digested.{Digested}
 use Rattle.write_history.specs.History.{Image, History, contents, point_in}
 use Rattle.scenario.specs.Plan.{Plan, blocks_of}
 use Rattle.vss_model.specs.declared.evicted.Evicted.{Evicted}
@@ -16,11 +18,13 @@ use Rattle.provider.specs.Groups.{AreGroups, history_at}
 use Rattle.provider.specs.Devices.{devices_of, counts_of, AreKept}
 use Rattle.provider.specs.Calls.{IsDigestNow, IsDigestShown, HasImage, HasImageCause}
 use Rattle.provider.specs.Calls.{IsQuiet as IsGroupsQuiet}
+use Rattle.provider.specs.Lending.{IsDigestOfRow, IsDigestedAt}
 use Rattle.provider.specs.Preparing.{ProviderValue}
 use Rattle.provider.specs.declared.image_fault.ImageFault.{ImageFault}
 use Rattle.provider.specs.declared.image_fault.ImageFault.TheVariants.{NoSuchImage, Device}
 use Rattle.sessions.specs.Keeps.{SessionsValue}
 use Rattle.vss_world.specs.Devices.{tells_of, RoseFor}
+use Rattle.vss_world.specs.Digests.{IsDigestOf, IsDigestedIf}
 use Rattle.vss_world.specs.Stands.{WorldValue, IsOf, Stands, IfStands, IsStanding}
 use Rattle.vss_world.specs.Quiet.{IsQuiet}
 use Rattle.vss_world.proofs.Moved.{world_of, stands_at, parts_of, of_kept, tells_kept}
@@ -122,6 +126,19 @@ shown_told_of {D = D} told s set v digest p x g l e w is of within shown wide =
     subst (λ (z : WorldValue D). IfStands told z s (λ st. (point : ℕ) → point_in set (kept st (history_of st v)) ≡ Some point
     → IsDigestIf (slice_get (tells_of told s z.devices) v) (concat (contents (blocks_of s v) (history_of st v).writes point)) digest)) is
     (shown_told told s set v digest p x g l e (subst (λ (z : WorldValue D). IsOf z s) (sym is) of) within shown wide)
+
+-- ## those that were made side by side
+
+module _ {D : Type 0} (told : D → Option (List (List ℕ))) (s : Plan) (p : ProviderValue D) (x : SessionsValue) (g : Flags) (l : List ℕ) (e : List Evicted) (w : WorldValue D) (is : world_of p x g l e ≡ w) (of : IsOf w s) where
+  one_digested : (acts : List Act) → Stands told w s acts → (v : ℕ) (set : Option ℕ) (digest : Option (List ℕ)) → IfSome digest (λ d. IsDigestOfRow told s p.groups v set d × (length d ≡ 32) × IsBytes d) → v < length s.volumes
+      → IfSome digest (IsDigestOf (tells_of told s w.devices) s (state s acts) v set)
+  one_digested acts stands v set None h within = tt
+  one_digested acts stands v None (Some d) h within = now_told_of told s v d p x g l e w is of within h.0 (h.1, h.2) acts stands
+  one_digested acts stands v (Some set) (Some d) h within = shown_told_of told s set v d p x g l e w is of within h.0 (h.1, h.2) acts stands
+
+  pub digested_told_of : (rows : List Digested) → All (IsDigestedAt told s p.groups) rows → IfStands told w s (λ st. All (IsDigestedIf (tells_of told s w.devices) s st) rows)
+  digested_told_of rows all acts stands =
+      All-weaker (IsDigestedAt told s p.groups) (IsDigestedIf (tells_of told s w.devices) s (state s acts)) (λ row h within. one_digested acts stands row.volume row.set row.digest h within) rows all
 
 some_is : (o : Option ℕ) → is_some o ≡ true → (point : ℕ) × (o ≡ Some point)
 some_is None e = cc

@@ -8,3 +8,4 @@ pub mod Settling
 pub mod Steps
 pub mod Evicting
 pub mod Beginning
+pub mod Digests

@@ -3,7 +3,8 @@
 //!
 //! `provider` has the volumes and their images, `sessions` has sessions, sets, writers and time; the core joins the two. A step asks for
 //! a witness that the core stands for some acts, few enough; `specs/Stands.antt` says what that means, and `specs/Moves.antt` what a step
-//! promises. All memory but that of `component`, `document`, `start`, `gather`, `prepare`, `snapshot` and `complete` is taken by `new`.
+//! promises. All memory but that of `component`, `document`, `start`, `gather`, `prepare`, `snapshot`, `complete` and `digests` is taken by
+//! `new`.
 #![tactic(auto)]
 
 mod beginning;

@@ -1,4 +1,4 @@
-ghost use Rattle.std.specs.Prelude.{ℕ, ◌≡◌, ◌<◌, ◌≤◌, Bool, true, List, [], length, map, slice_get, Option, Some, None, is_some, OnErr, OnOk, IfOk, IsErr, IsOk};
+ghost use Rattle.std.specs.Prelude.{ℕ, ◌≡◌, ◌<◌, ◌≤◌, Bool, true, List, [], length, map, slice_get, Option, Some, None, is_some, OnErr, OnOk, IfOk, IsErr, IsOk, All};
 ghost use Rattle.std.specs.List.{concat};
 ghost use Rattle.write_history.specs.History.{contents, point_in, sets_of};
 ghost use Rattle.write_history.specs.Slots.{used};
@@ -11,6 +11,7 @@ ghost use Rattle.vss_model.specs.Told.{IsDigestIf};
 ghost use Rattle.vss_model.specs.declared.event.Event.TheVariants.{Line, Provider as ProviderEvent, Idle, Answer as AnswerEvent};
 ghost use Rattle.provider.specs.Devices.{devices_of, area_place, RoseAlone};
 ghost use Rattle.vss_world.specs.Devices.{tells_of, RoseFor};
+ghost use Rattle.vss_world.specs.Digests.{IsDigestedIf};
 ghost use Rattle.vss_world.specs.Stands.{IsOf, Stands, IsStanding, IfStands};
 ghost use Rattle.vss_world.specs.Moves.{IsEvent, IsStepped, IsMoved, StepLasts, takes_memory, simple_outcome};
 ghost use Rattle.vss_world.specs.Quiet.{AreNew, IsQuiet, IsSynced, IsAreaHeld};
@@ -23,11 +24,13 @@ use crate::showing::kept_sets;
 use block_data::BlockBuf;
 use cow_volume::CowGroup;
 use hold_gate::HoldGate;
+use lent_digests::{DigestsOf, ReadyDigests};
 use provider::Provider;
 use scenario::Scenario;
 use sessions::Sessions;
 use std::alloc::Global;
 use std::marker::Model;
+use std::thread::Threads;
 use volume_device::Device;
 use vss_model::{Event, Evicted};
 use vss_names::{Failed, OutOfMemory};
@@ -233,6 +236,23 @@ impl<D: Device> World<D> {
             Ok(digest) => Ok(digest),
             Err(_fault) => Err(Failed),
         }
+    }
+
+    /// The digests of all volumes, in order, each followed by those of its images where those are wanted, the oldest first, where devices
+    /// lend: computed side by side, in as many threads as there are processors. Memory is taken for the time of the call, 16 bytes for
+    /// each block.
+    pub fn digests<R: Threads + Sync>(
+        &self,
+        rt: &R,
+        alloc: Global,
+        scenario: &Scenario,
+        wanted: DigestsOf,
+    ) -> Result<ReadyDigests, OutOfMemory>
+        requires { IsOf self.now scenario.now }
+        ensures { IfOk result (λ ready. IfStands D.told self.now scenario.now (λ st. All (IsDigestedIf (tells_of D.told scenario.now self.now.devices) scenario.now st) ready.rows.items)) }
+    {
+        let rows = self.provider.digests(rt, alloc, scenario, wanted)?;
+        Ok(ReadyDigests::new(rows))
     }
 
     /// Writes the records of a group's copies to its area's device, and brings all that was written to that to where it lasts.

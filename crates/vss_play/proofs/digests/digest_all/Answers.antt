@@ -1,8 +1,11 @@
 use Rattle.std.proofs.Common.{refl, ◌∙◌}
 use Rattle.vss_play.proofs.Areas.{areas_quiet, ending_quiet, ending_trans, still_ending}
-use Rattle.vss_play.proofs.ClosingLines.{any_earlier}
+use Rattle.vss_play.proofs.ClosingLines.{any_earlier, still_ready}
 use Rattle.vss_play.proofs.Digesting.{digests_told}
 use Rattle.vss_play.proofs.digests.digest_all.Goals as goal
 
 pub returns-clause-areas : goal.returns-clause-areas
 returns-clause-areas g c = areas_quiet g.D.Device.told g.D.Device.count c.sync_groups.new.world c.digest_volumes.new.world c.args.scenario.now c.args.trail.now.moves c.digest_volumes.ensures.quiet c.in-Ok.ensures.areas
+
+pub digest_volumes-requires-clause-ready : goal.digest_volumes-requires-clause-ready
+digest_volumes-requires-clause-ready g c = still_ready _ _ c.args.scenario.now c.args.trail.now.moves c.args.ready.now.rows c.args.ready.now.rows c.in-Ok.ensures.ending.tells refl c.requires.ready

@@ -8,6 +8,12 @@ use Rattle.vss_play.proofs.play.Play.digests.Goals as goal
 pub digest_all-requires-clause-stands : goal.digest_all-requires-clause-stands
 digest_all-requires-clause-stands g c = stands_by g.D.Device.told g.D.Device.count c.self.inside.scenario c.self.inside.world c.self.inside.cursors.items c.self.inside.trail.moves c.self.inside.lines.bytes c.turns_come_to_an_end.ensures.short c.self.invariant.play
 
+pub digest_all-requires-clause-ready : goal.digest_all-requires-clause-ready
+digest_all-requires-clause-ready g c = c.ready_digests-ready.ensures
+
+pub ready_digests-ready-requires-clause-stands : goal.ready_digests-ready-requires-clause-stands
+ready_digests-ready-requires-clause-stands g c = λ κs within. stands_by g.D.Device.told g.D.Device.count c.self.inside.scenario c.self.inside.world c.self.inside.cursors.items c.self.inside.trail.moves c.self.inside.lines.bytes c.turns_come_to_an_end.ensures.short c.self.invariant.play
+
 pub invariant_of-self : goal.invariant_of-self
 invariant_of-self g c = record { play = play_ending g.D.Device.told g.D.Device.count c.self.inside.scenario c.self.inside.world c.digest_all.new.world _ _ _ c.self.invariant.play c.digest_all.ensures.ending; going_is = c.self.invariant.going_is }
 

@@ -1,0 +1,6 @@
+/// What is digested: the volumes alone, or each with its images.
+#[derive(Clone, Copy, Debug)]
+pub enum DigestsOf {
+    Volumes,
+    VolumesAndImages,
+}

@@ -1,0 +1,37 @@
+ghost use Rattle.std.specs.Prelude.{◌≡◌, Some, IfSome, Contains};
+
+use crate::digested::Digested;
+
+/// Digests that are ready, in the order in which they will be asked for.
+#[derive(Drop)]
+pub struct ReadyDigests {
+    pub rows: Vec<Digested>,
+    /// The place of the next one to be asked for.
+    next: usize,
+}
+
+impl ReadyDigests {
+    /// These digests, none of which was asked for.
+    pub fn new(rows: Vec<Digested>) -> ReadyDigests
+        ensures { result.rows ≡ rows }
+    {
+        ReadyDigests { rows, next: 0 }
+    }
+
+    /// The next digest, where it is of this volume, or of the image of this set on it. Where it is of another, and stays the next,
+    /// or has no digest, the answer is None.
+    pub fn take(&mut self, volume: u32, set: Option<u32>) -> Option<[u8; 32]>
+        ensures stands { IfSome result (λ digest. Contains self.old.rows.items (record { volume = volume; set = set; digest = Some digest })) }
+        ensures rows { self.new.rows ≡ self.old.rows }
+    {
+        let Some(row) = self.rows.get(self.next) else {
+            return None;
+        };
+        let row = *row;
+        if row.volume != volume || row.set != set {
+            return None;
+        }
+        self.next += 1;
+        row.digest
+    }
+}

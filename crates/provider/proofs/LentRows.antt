@@ -1,0 +1,100 @@
+-- Blocks that are lent one after another, and what their digests are.
+use Rattle.std.proofs.Common.{◌≡◌, ℕ, ◌+◌, List, [], ◌∷◌, ◌++◌, length, refl, ap, sym, ◌∙◌, subst, arith, Bool, Option, Some, None, slice_get, map}
+use Rattle.std.specs.Prelude.{IfSome, All, Vec}
+use Rattle.std.specs.List.{concat, AllZip}
+use Rattle.std.specs.Borrow.{Bor}
+use Rattle.std.specs.Global.{Global}
+use Rattle.std.proofs.lemmas.List.{map-append}
+use Rattle.std.proofs.lemmas.List.FromFn.{map-range_with_len_more}
+use Rattle.std.proofs.lemmas.List.Elements.{All-nil, All-cons, All-head, All-tail}
+use Rattle.block_data.specs.Digest.{sha256}
+use Rattle.hex.specs.Hex.{IsBytes}
+use Rattle.write_history.specs.History.{History, Write, content, contents, point_in}
+use Rattle.scenario.specs.Plan.{Plan, blocks_of}
+use Rattle.cow_volume.specs.GroupValue.{GroupValue}
+use Rattle.cow_volume.specs.Calls.{blocks_at, history_at as group_history_at}
+use Rattle.lent_digests.specs.Lent.{bytes_of, IsDigestIfLent, IsDigestOf}
+use Rattle.lent_digests.specs.declared.digested.Digested.{Digested}
+use Rattle.lent_digests.specs.declared.lent_blocks.LentBlocks.{LentBlocks}
+use Rattle.provider.specs.Groups.{of_group, HasGroups, IsPlaceOf}
+use Rattle.provider.specs.Hashing.{AtPoint, IsEnd, IsPoint}
+use Rattle.provider.specs.Lending.{AreBlocksAt, AreBlocksNow, AreBlocksOf, AreBlocksShown, IsDigestOfRow, IsDigestedAt, IsLentRow}
+use Rattle.provider.proofs.Places.{blocks_are, group_there, history_of_place}
+use Rattle.provider.proofs.Shown.{some_map, telling}
+
+-- the first k blocks were lent
+abbrev pub AreFirst : {D : Type 0} → (D → Option (List (List ℕ))) → GroupValue D → ℕ → (List History → ℕ → Type 0) → ℕ → List (Bor (List ℕ)) → Type 0
+AreFirst told g u At k parts = AtPoint told g u At (λ hs p. bytes_of parts ≡ contents k (group_history_at hs u).writes p)
+
+one_more : (k : ℕ) (ws : List Write) (p : ℕ) → contents (k + 1) ws p ≡ contents k ws p ++ content ws p k ∷ []
+one_more k ws p = map-range_with_len_more (content ws p) 0 k k (omega arith)
+
+pub first_none : {D : Type 0} (told : D → Option (List (List ℕ))) (g : GroupValue D) (u : ℕ) (At : List History → ℕ → Type 0) → AreFirst told g u At 0 []
+first_none told g u At = λ hs d p stands at tells area there. refl
+
+pub first_more : {D : Type 0} (told : D → Option (List (List ℕ))) (g : GroupValue D) (u : ℕ) (At : List History → ℕ → Type 0) (k : ℕ) (parts : List (Bor (List ℕ))) (b : Bor (List ℕ)) → AreFirst told g u At k parts
+    → AtPoint told g u At (λ hs p. b.now ≡ content (group_history_at hs u).writes p k) → AreFirst told g u At (k + 1) (parts ++ b ∷ [])
+first_more told g u At k parts b so_far one = λ hs d p stands at tells area there.
+    map-append (λ (q : Bor (List ℕ)). q.now) parts (b ∷ [])
+    ∙ ap (λ (xs : List (List ℕ)). xs ++ b.now ∷ []) (so_far hs d p stands at tells area there)
+    ∙ ap (λ (x : List ℕ). contents k (group_history_at hs u).writes p ++ x ∷ []) (one hs d p stands at tells area there)
+    ∙ sym (one_more k (group_history_at hs u).writes p)
+
+pub first_all : {D : Type 0} (told : D → Option (List (List ℕ))) (g : GroupValue D) (u : ℕ) (At : List History → ℕ → Type 0) (k : ℕ) (parts : List (Bor (List ℕ))) → k ≡ blocks_at g u → AreFirst told g u At k parts → AreBlocksAt told g u At parts
+first_all told g u At k parts all so_far = λ hs d p stands at tells area there.
+    so_far hs d p stands at tells area there ∙ ap (λ (n : ℕ). contents n (group_history_at hs u).writes p) all
+
+-- ## against the histories of all volumes
+
+module _ {D : Type 0} (told : D → Option (List (List ℕ))) (s : Plan) (groups : List (GroupValue D)) where
+  blocks_now : (v g u : ℕ) (x : GroupValue D) (parts : List (Bor (List ℕ))) → IsPlaceOf s v g u → HasGroups s groups → slice_get groups g ≡ Some x → AreBlocksAt told x u (IsEnd u) parts → AreBlocksNow told s groups v parts
+  blocks_now v g u x parts place has at own = λ tells hs are.
+      let t = telling told s groups v g u x place at tells in
+      let same = history_of_place s hs v g u place are.histories in
+      let h = group_history_at (of_group g s.volumes hs) u in
+      own (of_group g s.volumes hs) t.device (length h.writes) (are.each g x at).stands t.at t.tells t.area refl
+      ∙ ap (λ (n : ℕ). contents n h.writes (length h.writes)) (blocks_are s groups v g u x place has at)
+      ∙ ap (λ (k : History). contents (blocks_of s v) k.writes (length k.writes)) same
+
+  blocks_shown : (v g u set : ℕ) (x : GroupValue D) (parts : List (Bor (List ℕ))) → IsPlaceOf s v g u → HasGroups s groups → slice_get groups g ≡ Some x → AreBlocksAt told x u (IsPoint u set) parts → AreBlocksShown told s groups v set parts
+  blocks_shown v g u set x parts place has at own = λ tells hs are p point.
+      let t = telling told s groups v g u x place at tells in
+      let same = history_of_place s hs v g u place are.histories in
+      own (of_group g s.volumes hs) t.device p (are.each g x at).stands t.at t.tells t.area (ap (λ (k : History). point_in set k.images) same ∙ point)
+      ∙ ap (λ (n : ℕ). contents n (group_history_at (of_group g s.volumes hs) u).writes p) (blocks_are s groups v g u x place has at)
+      ∙ ap (λ (k : History). contents (blocks_of s v) k.writes p) same
+
+  pub volume_row_is : (v g u : ℕ) (blocks : Option (Vec (Bor (List ℕ)) Global)) → IsPlaceOf s v g u → HasGroups s groups
+      → ((x : GroupValue D) → slice_get groups g ≡ Some x → IfSome blocks (λ b. AreBlocksAt told x u (IsEnd u) b.items)) → IfSome blocks (λ b. AreBlocksNow told s groups v b.items)
+  volume_row_is v g u blocks place has own =
+      let t = group_there s groups v g u place has in
+      some_map (λ b. AreBlocksAt told t.0 u (IsEnd u) b.items) (λ b. AreBlocksNow told s groups v b.items) blocks (own t.0 t.1) (λ b h. blocks_now v g u t.0 b.items place has t.1 h)
+
+  pub image_row_is : (v g u set : ℕ) (blocks : Option (Vec (Bor (List ℕ)) Global)) → IsPlaceOf s v g u → HasGroups s groups
+      → ((x : GroupValue D) → slice_get groups g ≡ Some x → IfSome blocks (λ b. AreBlocksAt told x u (IsPoint u set) b.items)) → IfSome blocks (λ b. AreBlocksShown told s groups v set b.items)
+  image_row_is v g u set blocks place has own =
+      let t = group_there s groups v g u place has in
+      some_map (λ b. AreBlocksAt told t.0 u (IsPoint u set) b.items) (λ b. AreBlocksShown told s groups v set b.items) blocks (own t.0 t.1) (λ b h. blocks_shown v g u set t.0 b.items place has t.1 h)
+
+  -- ## digests
+
+  digest_of_row : (blocks : Option (Vec (Bor (List ℕ)) Global)) (digest : Option (List ℕ)) (v : ℕ) (set : Option ℕ) → IfSome blocks (λ b. AreBlocksOf told s groups v set b.items) → IsDigestIfLent blocks digest
+      → IfSome digest (λ d. IsDigestOfRow told s groups v set d × (length d ≡ 32) × IsBytes d)
+  digest_of_row (Some b) (Some d) v None h k = (λ tells hs are. k.0 ∙ ap (λ (bs : List (List ℕ)). sha256 (concat bs)) (h tells hs are), k.1, k.2)
+  digest_of_row (Some b) (Some d) v (Some set) h k = (λ tells hs are p point. k.0 ∙ ap (λ (bs : List (List ℕ)). sha256 (concat bs)) (h tells hs are p point), k.1, k.2)
+  digest_of_row (Some b) None v set h k = absurd k
+  digest_of_row None (Some d) v set h k = absurd k
+  digest_of_row None None v set h k = tt
+
+  digested_one : (row : LentBlocks) (d : Digested) → IsLentRow told s groups row → IsDigestOf row d → IsDigestedAt told s groups d
+  digested_one row d lent is =
+      subst (λ (n : ℕ). IfSome d.digest (λ x. IsDigestOfRow told s groups n d.set x × (length x ≡ 32) × IsBytes x)) (sym is.volume)
+      (subst (λ (o : Option ℕ). IfSome d.digest (λ x. IsDigestOfRow told s groups row.volume o x × (length x ≡ 32) × IsBytes x)) (sym is.set)
+      (digest_of_row row.blocks d.digest row.volume row.set lent is.digest))
+
+  pub digested_all : (rows : List LentBlocks) (ds : List Digested) → All (IsLentRow told s groups) rows → AllZip IsDigestOf rows ds → All (IsDigestedAt told s groups) ds
+  digested_all [] [] lent zip = All-nil (IsDigestedAt told s groups)
+  digested_all [] (d ∷ ds) lent zip = absurd zip
+  digested_all (r ∷ rows) [] lent zip = absurd zip
+  digested_all (r ∷ rows) (d ∷ ds) lent zip =
+      All-cons (IsDigestedAt told s groups) d ds (digested_one r d (All-head (IsLentRow told s groups) r rows lent) zip.0) (digested_all rows ds (All-tail (IsLentRow told s groups) r rows lent) zip.1)

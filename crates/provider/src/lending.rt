@@ -1,0 +1,194 @@
+//! The blocks of volumes and of images, lent in rows that are digested side by side.
+
+ghost use Rattle.std.specs.Prelude.{◌≡◌, ◌<◌, Some, length, slice_get, IfOk, IfSome, All};
+ghost use Rattle.cow_volume.specs.GroupValue.{GroupValue};
+ghost use Rattle.provider.specs.Groups.{HasGroups};
+ghost use Rattle.provider.specs.Hashing.{IsEnd, IsPoint};
+ghost use Rattle.provider.specs.Lending.{AreBlocksAt, IsDigestedAt, IsLentRow};
+
+use crate::looking::images_in;
+use crate::place::{Place, place_of};
+use cow_volume::CowGroup;
+use lent_digests::{Digested, DigestsOf, LentBlocks, digest_side_by_side};
+use scenario::Scenario;
+use std::alloc::Global;
+use std::thread::Threads;
+use volume_device::Device;
+use vss_names::OutOfMemory;
+
+/// The blocks of a volume of a group, in order. None where one is not lent.
+fn lend_volume_of<D: Device>(
+    alloc: Global,
+    group: &CowGroup<D>,
+    volume: u32,
+) -> Result<Option<Vec<&[u8]>>, OutOfMemory>
+    requires { volume < length group.now.area.volumes }
+    ensures { IfOk result (λ lent. IfSome lent (λ blocks. AreBlocksAt D.told group.now volume (IsEnd volume) blocks.items)) }
+{
+    let count = group.blocks(volume);
+    let mut blocks = Vec::with_capacity(alloc, count as usize)?;
+    for block in 0..count {
+        let Some(bytes) = group.lend_block(volume, block) else {
+            return Ok(None);
+        };
+        blocks.push(bytes)?;
+    }
+    Ok(Some(blocks))
+}
+
+/// The blocks that the image of a set on a volume of a group shows, in order. None where one is not lent, or no such image stands.
+fn lend_image_of<D: Device>(
+    alloc: Global,
+    group: &CowGroup<D>,
+    volume: u32,
+    set: u32,
+) -> Result<Option<Vec<&[u8]>>, OutOfMemory>
+    requires { volume < length group.now.area.volumes }
+    ensures { IfOk result (λ lent. IfSome lent (λ blocks. AreBlocksAt D.told group.now volume (IsPoint volume set) blocks.items)) }
+{
+    let count = group.blocks(volume);
+    let mut blocks = Vec::with_capacity(alloc, count as usize)?;
+    for block in 0..count {
+        let Ok(Some(bytes)) = group.lend_image(volume, set, block) else {
+            return Ok(None);
+        };
+        blocks.push(bytes)?;
+    }
+    Ok(Some(blocks))
+}
+
+/// The blocks of a volume of one group.
+fn lend_volume_at<D: Device>(
+    alloc: Global,
+    groups: &Vec<CowGroup<D>>,
+    place: Place,
+) -> Result<Option<Vec<&[u8]>>, OutOfMemory>
+    requires group { place.group < length groups.now.items }
+    requires volume { (x : GroupValue D) → slice_get groups.now.items place.group ≡ Some x → place.volume < length x.area.volumes }
+    ensures { (x : GroupValue D) → slice_get groups.now.items place.group ≡ Some x → IfOk result (λ lent. IfSome lent (λ blocks. AreBlocksAt D.told x place.volume (IsEnd place.volume) blocks.items)) }
+{
+    lend_volume_of(alloc, &groups[place.group as usize], place.volume)
+}
+
+/// The blocks that the image of a set on a volume of one group shows.
+fn lend_image_at<D: Device>(
+    alloc: Global,
+    groups: &Vec<CowGroup<D>>,
+    place: Place,
+    set: u32,
+) -> Result<Option<Vec<&[u8]>>, OutOfMemory>
+    requires group { place.group < length groups.now.items }
+    requires volume { (x : GroupValue D) → slice_get groups.now.items place.group ≡ Some x → place.volume < length x.area.volumes }
+    ensures { (x : GroupValue D) → slice_get groups.now.items place.group ≡ Some x → IfOk result (λ lent. IfSome lent (λ blocks. AreBlocksAt D.told x place.volume (IsPoint place.volume set) blocks.items)) }
+{
+    lend_image_of(alloc, &groups[place.group as usize], place.volume, set)
+}
+
+/// The row of a volume.
+fn volume_row<'a, D: Device>(
+    alloc: Global,
+    groups: &'a Vec<CowGroup<D>>,
+    scenario: &Scenario,
+    volume: u32,
+) -> Result<LentBlocks<'a>, OutOfMemory>
+    requires volume { volume < length scenario.now.volumes }
+    requires has { HasGroups scenario.now groups.now.items }
+    ensures { IfOk result (IsLentRow D.told scenario.now groups.now.items) }
+{
+    let place = place_of(scenario, volume);
+    let blocks = lend_volume_at(alloc, groups, place)?;
+    Ok(LentBlocks {
+        volume,
+        set: None,
+        blocks,
+    })
+}
+
+/// The row of the image of a set on a volume.
+fn image_row<'a, D: Device>(
+    alloc: Global,
+    groups: &'a Vec<CowGroup<D>>,
+    scenario: &Scenario,
+    set: u32,
+    volume: u32,
+) -> Result<LentBlocks<'a>, OutOfMemory>
+    requires volume { volume < length scenario.now.volumes }
+    requires has { HasGroups scenario.now groups.now.items }
+    ensures { IfOk result (IsLentRow D.told scenario.now groups.now.items) }
+{
+    let place = place_of(scenario, volume);
+    let blocks = lend_image_at(alloc, groups, place, set)?;
+    Ok(LentBlocks {
+        volume,
+        set: Some(set),
+        blocks,
+    })
+}
+
+/// The rows of all volumes, in order.
+fn lend_volumes<'a, D: Device>(
+    alloc: Global,
+    groups: &'a Vec<CowGroup<D>>,
+    scenario: &Scenario,
+) -> Result<Vec<LentBlocks<'a>>, OutOfMemory>
+    requires { HasGroups scenario.now groups.now.items }
+    ensures { IfOk result (λ rows. All (IsLentRow D.told scenario.now groups.now.items) rows.items) }
+{
+    let mut rows = Vec::new(alloc);
+    for volume in 0..scenario.volumes() {
+        rows.push(volume_row(alloc, groups, scenario, volume)?)?;
+    }
+    Ok(rows)
+}
+
+/// The rows of all volumes, in order, each followed by those of its images, the oldest first.
+fn lend_volumes_and_images<'a, D: Device>(
+    alloc: Global,
+    groups: &'a Vec<CowGroup<D>>,
+    scenario: &Scenario,
+) -> Result<Vec<LentBlocks<'a>>, OutOfMemory>
+    requires { HasGroups scenario.now groups.now.items }
+    ensures { IfOk result (λ rows. All (IsLentRow D.told scenario.now groups.now.items) rows.items) }
+{
+    let mut rows = Vec::new(alloc);
+    for volume in 0..scenario.volumes() {
+        rows.push(volume_row(alloc, groups, scenario, volume)?)?;
+        for set in images_in(groups, scenario, volume) {
+            rows.push(image_row(alloc, groups, scenario, *set, volume)?)?;
+        }
+    }
+    Ok(rows)
+}
+
+/// The rows of what is to be digested.
+fn lend_rows<'a, D: Device>(
+    alloc: Global,
+    groups: &'a Vec<CowGroup<D>>,
+    scenario: &Scenario,
+    wanted: DigestsOf,
+) -> Result<Vec<LentBlocks<'a>>, OutOfMemory>
+    requires { HasGroups scenario.now groups.now.items }
+    ensures { IfOk result (λ rows. All (IsLentRow D.told scenario.now groups.now.items) rows.items) }
+{
+    match wanted {
+        DigestsOf::Volumes => lend_volumes(alloc, groups, scenario),
+        DigestsOf::VolumesAndImages => lend_volumes_and_images(alloc, groups, scenario),
+    }
+}
+
+/// The digests of all volumes, in order, each followed by those of its images where those are wanted, the oldest first, where devices
+/// lend.
+pub(crate) fn digests_in<R: Threads + Sync, D: Device>(
+    rt: &R,
+    alloc: Global,
+    groups: &Vec<CowGroup<D>>,
+    scenario: &Scenario,
+    wanted: DigestsOf,
+) -> Result<Vec<Digested>, OutOfMemory>
+    requires { HasGroups scenario.now groups.now.items }
+    ensures { IfOk result (λ digests. All (IsDigestedAt D.told scenario.now groups.now.items) digests.items) }
+{
+    let rows = lend_rows(alloc, groups, scenario, wanted)?;
+    let digests = digest_side_by_side(rt, alloc, rows.as_slice())?;
+    Ok(digests)
+}

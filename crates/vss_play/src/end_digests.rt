@@ -1,0 +1,87 @@
+//! The digests at the end of a run: those that are ready, made side by side where devices lend, and the others one after another.
+
+ghost use Rattle.std.specs.Prelude.{◌≡◌, ◌<◌, None, Some, true, is_some, length, map, IfOk, OnOk, IsErr};
+ghost use Rattle.write_history.specs.History.{point_in};
+ghost use Rattle.vss_model.specs.State.{history_of, kept};
+ghost use Rattle.vss_world.specs.Devices.{tells_of};
+ghost use Rattle.vss_world.specs.Digests.{IsDigestOf};
+ghost use Rattle.vss_world.specs.Quiet.{IsQuiet};
+ghost use Rattle.vss_world.specs.Stands.{IfStands};
+ghost use Rattle.vss_play.specs.Played.{AnyRose};
+ghost use Rattle.vss_play.specs.Closing.{AreReady, StandsAfter, state_after};
+
+use lent_digests::{DigestsOf, ReadyDigests};
+use scenario::Scenario;
+use std::alloc::Global;
+use std::thread::Threads;
+use volume_device::Device;
+use vss_names::Failed;
+use vss_world::World;
+use write_history::Trail;
+
+/// The digests that devices lend the blocks of, made side by side in as many threads as there are processors. None where memory is
+/// wanting for that.
+pub(crate) fn ready_digests<R: Threads + Sync, D: Device>(
+    rt: &R,
+    alloc: Global,
+    scenario: &Scenario,
+    trail: &Trail,
+    world: &World<D>,
+    wanted: DigestsOf,
+) -> ReadyDigests
+    requires stands { StandsAfter D.told world.now scenario.now trail.now.moves }
+    ensures { AreReady (tells_of D.told scenario.now world.now.devices) scenario.now trail.now.moves result.rows.items }
+{
+    match world.digests(rt, alloc, scenario, wanted) {
+        Ok(ready) => ready,
+        Err(_) => ReadyDigests::new(Vec::new(alloc)),
+    }
+}
+
+/// The SHA-256 of a volume: the next one that is ready, where it is of this volume, or else made now.
+pub(crate) fn digest_volume<D: Device>(
+    scenario: &Scenario,
+    trail: &Trail,
+    world: &mut World<D>,
+    ready: &mut ReadyDigests,
+    volume: u32,
+) -> Result<[u8; 32], Failed>
+    requires in_range { volume < length scenario.now.volumes }
+    requires stands { StandsAfter D.told world.old scenario.now trail.now.moves }
+    requires ready { AreReady (tells_of D.told scenario.now world.old.devices) scenario.now trail.now.moves ready.old.rows.items }
+    ensures digest { IfOk result (IsDigestOf (tells_of D.told scenario.now world.old.devices) scenario.now (state_after scenario.now trail.now.moves) volume None) }
+    ensures rows { ready.new.rows ≡ ready.old.rows }
+    ensures quiet { IsQuiet D.told D.count world.old world.new scenario.now }
+    ensures same { OnOk result (map D.count world.new.devices ≡ map D.count world.old.devices) }
+    ensures rose { IsErr result → AnyRose (map D.count world.old.devices) (map D.count world.new.devices) }
+{
+    match ready.take(volume, None) {
+        Some(digest) => Ok(digest),
+        None => world.digest(scenario, volume),
+    }
+}
+
+/// The SHA-256 of a kept image of a volume: the next one that is ready, where it is of this image, or else made now.
+pub(crate) fn digest_image<D: Device>(
+    scenario: &Scenario,
+    trail: &Trail,
+    world: &mut World<D>,
+    ready: &mut ReadyDigests,
+    set: u32,
+    volume: u32,
+) -> Result<[u8; 32], Failed>
+    requires in_range { volume < length scenario.now.volumes }
+    requires is_kept { IfStands D.told world.old scenario.now (λ st. is_some (point_in set (kept st (history_of st volume))) ≡ true) }
+    requires stands { StandsAfter D.told world.old scenario.now trail.now.moves }
+    requires ready { AreReady (tells_of D.told scenario.now world.old.devices) scenario.now trail.now.moves ready.old.rows.items }
+    ensures digest { IfOk result (IsDigestOf (tells_of D.told scenario.now world.old.devices) scenario.now (state_after scenario.now trail.now.moves) volume (Some set)) }
+    ensures rows { ready.new.rows ≡ ready.old.rows }
+    ensures quiet { IsQuiet D.told D.count world.old world.new scenario.now }
+    ensures same { OnOk result (map D.count world.new.devices ≡ map D.count world.old.devices) }
+    ensures rose { IsErr result → AnyRose (map D.count world.old.devices) (map D.count world.new.devices) }
+{
+    match ready.take(volume, Some(set)) {
+        Some(digest) => Ok(digest),
+        None => world.digest_image(scenario, set, volume),
+    }
+}
