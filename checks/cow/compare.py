@@ -35,7 +35,6 @@ flush 0
 flush 1
 sync
 used
-load
 """
 
 

@@ -187,14 +187,14 @@ class Group:
         return "ok"
 
     def sync(self):
+        """The header and the changed pages are written, and then the area is flushed."""
         try:
-            self.area.call("write")
-            for page in sorted(self.changed):
+            for _ in range(1 + len(self.changed)):
                 self.area.call("write")
+            self.changed = set()
             self.area.call("flush")
         except Fault:
             return "area"
-        self.changed = set()
         return "ok"
 
     def table(self):
