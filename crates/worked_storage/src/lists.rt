@@ -1,22 +1,38 @@
-//! Texts and numbers grow where memory is at hand.
+//! Texts, numbers and trails grow where memory is at hand.
 
-use std::test::Fail;
+use std::alloc::Global;
 use vss_names::{Numbers, Text};
+use worked_page::{Page, Stopped};
+use write_history::{Actor, Mark, Move, Trail};
 
-#[test]
-fn a_copy_takes_room_and_grows(rt: HostRuntime) -> Result<(), Fail> {
-    let mut text = Text::copy(rt.alloc(), b"ab")?;
-    assert_eq!(rt; text.len(), 2);
+/// A copy takes room and grows.
+pub fn show_lists(alloc: Global, page: &mut Page) -> Result<(), Stopped> {
+    let mut text = Text::copy(alloc, b"ab")?;
+    page.show("length", &text.len());
     text.reserve(10)?;
-    assert_eq!(rt; text.bytes(), b"ab".as_slice());
+    page.line("text", text.bytes());
     text.add(b"c")?;
-    assert_eq!(rt; text.bytes(), b"abc".as_slice());
+    page.line("text", text.bytes());
+    page.show("numbers", &Numbers::copy(alloc, &[1, 2])?);
     Ok(())
 }
 
-#[test]
-fn a_copy_has_the_items(rt: HostRuntime) -> Result<(), Fail> {
-    let numbers = Numbers::copy(rt.alloc(), &[1, 2])?;
-    assert_eq!(rt; numbers.items(), [1, 2].as_slice());
+/// A trail keeps its moves.
+pub fn show_trail(alloc: Global, page: &mut Page) -> Result<(), Stopped> {
+    let mut trail = Trail::new(alloc);
+    page.show("empty", &trail.is_empty());
+    if trail.reserve().is_err() {
+        return Err(Stopped);
+    }
+    let item = Move {
+        actor: Actor::Idle,
+        mark: Mark::Clean,
+    };
+    page.show("pushed", &trail.push(item).is_ok());
+    page.show("length", &trail.len());
+    if trail.len() == 1 {
+        page.show("move", &trail.get(0));
+    }
+    page.show("moves", &trail.moves().len());
     Ok(())
 }

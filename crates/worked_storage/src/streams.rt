@@ -1,67 +1,61 @@
 //! Streams that end, fail and are full.
 
-use io_edge::{MemSink, MemSource, ReadError, Sink, Source, read_all, write_all};
-use std::test::Fail;
-use vss_names::{Failed, Numbers};
+use io_edge::{MemSink, MemSource, Sink, Source, read_all, write_all};
+use std::alloc::Global;
+use vss_names::Numbers;
+use worked_page::{Page, Stopped};
 
-#[test]
-fn a_sink_takes_no_more_than_its_room(rt: HostRuntime) -> Result<(), Fail> {
-    let none = Numbers::new(rt.alloc());
-    let mut sink = MemSink::with_room(rt.alloc(), 3, none)?;
-    assert_eq!(rt; sink.write(b"abcd"), Ok(3));
-    assert_eq!(rt; sink.write(b"d"), Err(Failed));
-    assert_eq!(rt; sink.faults(), 1);
-    assert_eq!(rt; sink.taken(), b"abc".as_slice());
+/// A source gives its bytes in pieces.
+fn show_read(page: &mut Page, source: &mut MemSource, out: &mut [u8; 4]) {
+    page.show("read", &source.read(out));
+    page.line("bytes", out.as_slice());
+}
+
+/// What comes of reading all, where a call of the source fails.
+fn show_all(alloc: Global, page: &mut Page, failing: u32, limit: usize) -> Result<(), Stopped> {
+    let failing = Numbers::copy(alloc, &[failing])?;
+    let mut source = MemSource::new(b"thawed".to_vec(alloc)?, 2, failing);
+    match read_all(alloc, &mut source, limit) {
+        Ok(text) => page.line("all", text.bytes()),
+        Err(error) => page.show("all", &error),
+    }
+    page.line("left", source.left());
     Ok(())
 }
 
-#[test]
-fn a_source_gives_its_bytes_in_pieces(rt: HostRuntime) -> Result<(), Fail> {
-    let none = Numbers::new(rt.alloc());
-    let mut source = MemSource::new(b"freeze".to_vec(rt.alloc())?, 3, none);
+/// What comes of writing all, where a call of the sink fails or its room ends.
+fn show_written(alloc: Global, page: &mut Page, failing: u32, room: usize) -> Result<(), Stopped> {
+    let failing = Numbers::copy(alloc, &[failing])?;
+    let mut sink = MemSink::with_room(alloc, room, failing)?;
+    page.show("written", &write_all(&mut sink, b"committed"));
+    page.line("taken", sink.taken());
+    Ok(())
+}
+
+/// A sink takes no more than its room.
+fn show_sink(alloc: Global, page: &mut Page) -> Result<(), Stopped> {
+    let mut sink = MemSink::with_room(alloc, 3, Numbers::new(alloc))?;
+    page.show("write", &sink.write(b"abcd"));
+    page.show("write", &sink.write(b"d"));
+    page.show("faults", &sink.faults());
+    page.line("taken", sink.taken());
+    Ok(())
+}
+
+/// All of these.
+pub fn show_streams(alloc: Global, page: &mut Page) -> Result<(), Stopped> {
+    show_sink(alloc, page)?;
+    let mut source = MemSource::new(b"freeze".to_vec(alloc)?, 3, Numbers::new(alloc));
     let mut out = [b'.'; 4];
-    for (n, want) in [(3, b"fre."), (3, b"eze."), (0, b"eze.")] {
-        assert_eq!(rt; source.read(&mut out), Ok(n));
-        assert_eq!(rt; out.as_slice(), want.as_slice());
-    }
-    assert_eq!(rt; source.faults(), 0);
-    Ok(())
-}
-
-#[test]
-fn reading_ends_at_the_end_a_fault_or_the_limit(rt: HostRuntime) -> Result<(), Fail> {
-    for (failing, limit, want, left) in [
-        (9, 6, None, 0),
-        (9, 5, Some(ReadError::TooLong), 0),
-        (9, 0, Some(ReadError::TooLong), 4),
-        (2, 6, Some(ReadError::Failed), 4),
-    ] {
-        let failing = Numbers::copy(rt.alloc(), &[failing])?;
-        let mut source = MemSource::new(b"thawed".to_vec(rt.alloc())?, 2, failing);
-        let got = match read_all(rt.alloc(), &mut source, limit) {
-            Ok(text) => {
-                assert_eq!(rt; text.bytes(), b"thawed".as_slice());
-                None
-            }
-            Err(error) => Some(error),
-        };
-        assert_eq!(rt; got, want);
-        assert_eq!(rt; source.left().len(), left);
-    }
-    Ok(())
-}
-
-#[test]
-fn writing_ends_at_the_end_or_a_fault(rt: HostRuntime) -> Result<(), Fail> {
-    for (failing, room, want, taken) in [
-        (9, 9, Ok(()), b"committed".as_slice()),
-        (9, 6, Err(Failed), b"commit".as_slice()),
-        (1, 9, Err(Failed), b"".as_slice()),
-    ] {
-        let failing = Numbers::copy(rt.alloc(), &[failing])?;
-        let mut sink = MemSink::with_room(rt.alloc(), room, failing)?;
-        assert_eq!(rt; write_all(&mut sink, b"committed"), want);
-        assert_eq!(rt; sink.taken(), taken);
-    }
-    Ok(())
+    show_read(page, &mut source, &mut out);
+    show_read(page, &mut source, &mut out);
+    show_read(page, &mut source, &mut out);
+    page.show("faults", &source.faults());
+    show_all(alloc, page, 9, 6)?;
+    show_all(alloc, page, 9, 5)?;
+    show_all(alloc, page, 9, 0)?;
+    show_all(alloc, page, 2, 6)?;
+    show_written(alloc, page, 9, 9)?;
+    show_written(alloc, page, 9, 6)?;
+    show_written(alloc, page, 1, 9)
 }
