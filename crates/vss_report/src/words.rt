@@ -124,36 +124,3 @@ pub fn add_state(out: &mut Text, row: &WriterRow)
     add(out, name.as_bytes());
     add_code(out, row.code);
 }
-
-#[cfg(test)]
-mod tests {
-    use super::*;
-    use std::test::Fail;
-    use vss_names::{Level, WriterState};
-
-    #[test]
-    fn a_failed_state_is_followed_by_its_code(rt: HostRuntime) -> Result<(), Fail> {
-        let stable = WriterRow {
-            state: WriterState::Stable,
-            code: None,
-            level: Level::BackEnd,
-            limit: 60000,
-            aborts: 0,
-        };
-        let failed = WriterRow {
-            state: WriterState::FailedAtFreeze,
-            code: Some(WriterError::InconsistentSnapshot),
-            ..stable
-        };
-        let mut out = Text::new(rt.alloc());
-        out.reserve(200)?;
-        add_state(&mut out, &stable);
-        add_spaced_number(&mut out, 0);
-        add_state(&mut out, &failed);
-        assert_eq!(rt;
-            out.bytes(),
-            b"VSS_WS_STABLE 0VSS_WS_FAILED_AT_FREEZE/0x800423F0".as_slice()
-        );
-        Ok(())
-    }
-}
