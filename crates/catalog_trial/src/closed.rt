@@ -1,4 +1,5 @@
-ghost use Rattle.std.specs.Prelude.{◌<◌, length, IfOk};
+ghost use Rattle.std.specs.Prelude.{All, IfOk};
+ghost use Rattle.diff_map.specs.MapValue.{AreImages};
 ghost use Rattle.vss_catalog.specs.Allowed.{IsCatalog};
 
 use crate::fitting::fit;
@@ -11,7 +12,7 @@ use trial_lines::TrialError;
 use volume_device::Device;
 use vss_catalog::Catalog;
 use vss_catalog::laws::what_is_read_is_written_again;
-use vss_names::Text;
+use vss_names::{Numbers, Text};
 
 /// The names of the volumes in a catalog.
 const NAMES: &[u8; 8] = b"CDEFGHIJ";
@@ -42,6 +43,29 @@ fn decoded(alloc: Global, bytes: &[u8]) -> Result<Catalog, TrialError>
         Ok(catalog) => Ok(catalog),
         Err(_) => Err(TrialError::NotAllowed),
     }
+}
+
+/// The lists of the catalog that bytes say.
+fn lists_in(alloc: Global, bytes: &[u8]) -> Result<Vec<Numbers>, TrialError>
+    ensures { IfOk result (λ lists. All AreImages lists.items) }
+{
+    let catalog = decoded(alloc, bytes)?;
+    Ok(catalog.lists(alloc)?)
+}
+
+/// A group over these devices and this area is taken up with these lists.
+fn resumed<D: Device>(
+    alloc: Global,
+    devices: Vec<D>,
+    area: Area<D>,
+    lists: &[Numbers],
+) -> Result<Result<CowGroup<D>, ResumeFault>, TrialError>
+    requires { All AreImages lists.now }
+{
+    if lists.len() != area.volumes() as usize || !fit(&devices, &area) {
+        return Err(TrialError::NotAllowed);
+    }
+    Ok(CowGroup::resume(alloc, devices, area, lists))
 }
 
 /// Puts a number into a block of a device, as `BLOCK:AT:NUMBER` has it.
@@ -114,21 +138,24 @@ impl<D: Device> Closed<D> {
         }
     }
 
-    /// The group is taken up again, with the lists of the catalog of these bytes, or of its own.
+    /// The lists of its catalog, or of the catalog of these bytes.
+    fn lists(&self, alloc: Global, bytes: Option<&str>) -> Result<Vec<Numbers>, TrialError>
+        ensures { IfOk result (λ lists. All AreImages lists.items) }
+    {
+        match bytes {
+            None => lists_in(alloc, self.catalog.bytes()),
+            Some(digits) => lists_in(alloc, &bytes_of(alloc, digits)?),
+        }
+    }
+
+    /// The group is taken up again, with the lists of its catalog, or of the catalog of these bytes.
     pub fn resume(
         self,
         alloc: Global,
         bytes: Option<&str>,
     ) -> Result<Result<CowGroup<D>, ResumeFault>, TrialError> {
-        let catalog = match bytes {
-            None => decoded(alloc, self.catalog.bytes())?,
-            Some(digits) => decoded(alloc, &bytes_of(alloc, digits)?)?,
-        };
-        let lists = catalog.lists(alloc)?;
+        let lists = self.lists(alloc, bytes)?;
         let Closed { devices, area, .. } = self;
-        if lists.len() != area.volumes() as usize || !fit(&devices, &area) {
-            return Err(TrialError::NotAllowed);
-        }
-        Ok(CowGroup::resume(alloc, devices, area, &lists))
+        resumed(alloc, devices, area, &lists)
     }
 }

@@ -28,13 +28,21 @@ mod trial;
 use trial::Trial;
 use trial_lines::TrialError;
 
-fn main(rt: HostRuntime) -> Result<(), TrialError> {
-    let alloc = rt.alloc();
-    let mut trial = Trial::new(alloc);
-    for line in rt.lines(alloc) {
-        let line = line?;
-        let words: Vec<&str> = line.as_str().split_whitespace().collect(alloc)?;
-        trial.take(&rt, &words)?;
+/// Takes a line.
+fn take_line(rt: &HostRuntime, trial: &mut Trial, line: &str) -> Result<(), TrialError> {
+    let words: Vec<&str> = line.split_whitespace().collect(rt.alloc())?;
+    trial.take(rt, &words)
+}
+
+/// Takes all lines, in order.
+fn take_lines(rt: &HostRuntime, trial: &mut Trial) -> Result<(), TrialError> {
+    for line in rt.lines(rt.alloc()) {
+        take_line(rt, trial, line?.as_str())?;
     }
     Ok(())
+}
+
+fn main(rt: HostRuntime) -> Result<(), TrialError> {
+    let mut trial = Trial::new(rt.alloc());
+    take_lines(&rt, &mut trial)
 }

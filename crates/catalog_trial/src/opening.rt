@@ -1,9 +1,11 @@
 //! A group of volumes of zeros over devices in memory.
 
-ghost use Rattle.std.specs.Prelude.{◌≡◌, ◌<◌, ◌≤◌, All, IfOk, length, map, replicate};
+ghost use Rattle.std.specs.Prelude.{◌≡◌, ◌<◌, ◌≤◌, All, IfOk, IsTrue, length, replicate};
 ghost use Rattle.block_data.specs.Runs.{zeros};
+ghost use Rattle.diff_area.specs.Records.{AreVolumes, free};
 ghost use Rattle.volume_device.specs.InMemory.{blocks_of};
 
+use crate::fitting::fit;
 use cow_volume::CowGroup;
 use diff_area::{Area, MOST_BLOCKS, MOST_SLOTS, pages_for};
 use std::alloc::Global;
@@ -15,42 +17,87 @@ const VOLUMES: [&str; 8] = [
     "volume0", "volume1", "volume2", "volume3", "volume4", "volume5", "volume6", "volume7",
 ];
 
-/// The numbers of blocks of 1 to 8 volumes.
-fn blocks_in(alloc: Global, words: &[&str]) -> Result<Vec<u32>, TrialError>
-    ensures some { IfOk result (λ blocks. 0 < length blocks.items) }
-    ensures few { IfOk result (λ blocks. length blocks.items ≤ 8) }
-    ensures each { IfOk result (λ blocks. All (λ n. (0 < n) × (n ≤ 65536)) blocks.items) }
-{
-    if words.is_empty() || words.len() > 8 {
-        return Err(TrialError::NotAllowed);
-    }
-    let mut blocks = Vec::new(alloc);
+/// The numbers of these words.
+fn numbers_of(alloc: Global, words: &[&str]) -> Result<Vec<u32>, TrialError> {
+    let mut numbers = Vec::new(alloc);
     for word in words {
-        let number = word.parse::<u32>()?;
-        if !(1 <= number && number <= MOST_BLOCKS) {
-            return Err(TrialError::NotAllowed);
-        }
-        blocks.push(number)?;
+        numbers.push(word.parse::<u32>()?)?;
     }
-    Ok(blocks)
+    Ok(numbers)
 }
 
-/// The devices of at most 8 volumes with these numbers of blocks.
+/// Whether these are the numbers of blocks of 1 to 8 volumes.
+fn are_blocks(blocks: &[u32]) -> bool
+    ensures few { IsTrue result → length blocks.now ≤ 8 }
+    ensures allowed { IsTrue result → AreVolumes blocks.now }
+{
+    if blocks.is_empty() || blocks.len() > 8 {
+        return false;
+    }
+    blocks.iter().all(|n| 1 <= *n && *n <= MOST_BLOCKS)
+}
+
+/// The device of a volume with so many blocks of zeros.
+fn device_of(
+    alloc: Global,
+    failing: &Failing,
+    v: usize,
+    blocks: u32,
+) -> Result<MemDevice, TrialError>
+    requires { v < 8 }
+    ensures { IfOk result (λ d. blocks_of d ≡ replicate (length (blocks_of d)) zeros) }
+{
+    Ok(failing.device(alloc, VOLUMES[v], blocks)?)
+}
+
+/// The devices of volumes with these numbers of blocks.
 fn devices_of(
     alloc: Global,
     failing: &Failing,
     blocks: &[u32],
 ) -> Result<Vec<MemDevice>, TrialError>
     requires { length blocks.now ≤ 8 }
-    ensures sizes { IfOk result (λ devices. map (λ d. length (blocks_of d)) devices.items ≡ blocks.now) }
-    ensures zeros { IfOk result (λ devices. All (λ d. blocks_of d ≡ replicate (length (blocks_of d)) zeros) devices.items) }
+    ensures { IfOk result (λ devices. All (λ d. blocks_of d ≡ replicate (length (blocks_of d)) zeros) devices.items) }
 {
     let mut devices = Vec::new(alloc);
-    for count in blocks {
-        let name = VOLUMES[devices.len()];
-        devices.push(failing.device(alloc, name, *count)?)?;
+    for v in 0..blocks.len() {
+        let device = device_of(alloc, failing, v, blocks[v])?;
+        devices.push(device)?;
     }
     Ok(devices)
+}
+
+/// An area of so many free slots for volumes with these numbers of blocks.
+fn area_of(
+    alloc: Global,
+    failing: &Failing,
+    slots: u32,
+    blocks: &[u32],
+) -> Result<Area<MemDevice>, TrialError>
+    requires few { slots ≤ MOST_SLOTS }
+    requires volumes { AreVolumes blocks.now }
+    ensures { IfOk result (λ area. area.records ≡ replicate (length area.records) free) }
+{
+    let device = failing.device(alloc, "area", 1 + pages_for(slots) + slots)?;
+    match Area::open_new(alloc, device, slots, blocks) {
+        Ok(area) => Ok(area),
+        Err(_) => Err(TrialError::OutOfMemory),
+    }
+}
+
+/// A group over these devices of zeros and this area of free slots.
+fn group_over(
+    alloc: Global,
+    devices: Vec<MemDevice>,
+    area: Area<MemDevice>,
+) -> Result<CowGroup<MemDevice>, TrialError>
+    requires free { area.records ≡ replicate (length area.records) free }
+    requires zeros { All (λ d. blocks_of d ≡ replicate (length (blocks_of d)) zeros) devices.items }
+{
+    if !fit(&devices, &area) {
+        return Err(TrialError::NotAllowed);
+    }
+    Ok(CowGroup::new(alloc, devices, area)?)
 }
 
 /// A group of volumes with these numbers of blocks over an area of so many slots.
@@ -60,14 +107,11 @@ pub fn group_of(
     slots: u32,
     words: &[&str],
 ) -> Result<CowGroup<MemDevice>, TrialError> {
-    if slots > MOST_SLOTS {
+    let blocks = numbers_of(alloc, words)?;
+    if slots > MOST_SLOTS || !are_blocks(&blocks) {
         return Err(TrialError::NotAllowed);
     }
-    let blocks = blocks_in(alloc, words)?;
     let devices = devices_of(alloc, failing, &blocks)?;
-    let device = failing.device(alloc, "area", 1 + pages_for(slots) + slots)?;
-    match Area::open_new(alloc, device, slots, &blocks) {
-        Err(_) => Err(TrialError::OutOfMemory),
-        Ok(area) => Ok(CowGroup::new(alloc, devices, area)?),
-    }
+    let area = area_of(alloc, failing, slots, &blocks)?;
+    group_over(alloc, devices, area)
 }

@@ -16,6 +16,21 @@ enum Group {
     Closed(Closed<MemDevice>),
 }
 
+/// An open group is taken apart.
+fn closed_of(alloc: Global, group: Group) -> Result<Group, TrialError> {
+    match group {
+        Group::Open(group) => Ok(Group::Closed(Closed::of(alloc, group)?)),
+        _ => Err(TrialError::NoVolume),
+    }
+}
+
+/// Prints the bytes of a catalog, two digits each.
+fn tell_text(rt: &HostRuntime, closed: &Closed<MemDevice>) -> Result<(), TrialError> {
+    let text = closed.catalog_text(rt.alloc())?;
+    println!(rt; "{}", text.as_str())?;
+    Ok(())
+}
+
 /// The group that the lines are about, and what is planned of the next one.
 #[derive(Drop)]
 pub struct Trial {
@@ -34,44 +49,50 @@ impl Trial {
 
     /// Takes a line.
     pub fn take(&mut self, rt: &HostRuntime, words: &[&str]) -> Result<(), TrialError> {
-        let alloc = rt.alloc();
         match *words {
             [] => Ok(()),
             ["#", ..] => Ok(()),
             ["fails", name, reads, writes, flushes] => {
-                self.failing.add(alloc, name, reads, writes, flushes)
+                self.failing.add(rt.alloc(), name, reads, writes, flushes)
             }
-            ["group", slots, ..] => {
-                self.group = Group::Open(group_of(
-                    alloc,
-                    &self.failing,
-                    slots.parse()?,
-                    &words[2..],
-                )?);
-                self.failing = Failing::none(alloc);
-                Ok(())
-            }
+            ["group", slots, ..] => self.open(rt.alloc(), slots.parse()?, &words[2..]),
             ["catalog", bytes] => tell_catalog(rt, bytes),
             ["close"] => self.close(rt),
             ["load", ..] => self.load(rt, &words[1..]),
             ["resume"] => self.resume(rt, None),
             ["resume", bytes] => self.resume(rt, Some(bytes)),
-            _ => match &mut self.group {
-                Group::Open(group) => call(rt, group, words),
-                _ => Err(TrialError::NoVolume),
-            },
+            _ => self.call(rt, words),
+        }
+    }
+
+    /// A group of volumes of zeros is made, over devices whose calls fail as it is planned.
+    fn open(&mut self, alloc: Global, slots: u32, words: &[&str]) -> Result<(), TrialError> {
+        self.group = Group::Open(group_of(alloc, &self.failing, slots, words)?);
+        self.failing = Failing::none(alloc);
+        Ok(())
+    }
+
+    /// Makes a call of the group.
+    fn call(&mut self, rt: &HostRuntime, words: &[&str]) -> Result<(), TrialError> {
+        match &mut self.group {
+            Group::Open(group) => call(rt, group, words),
+            _ => Err(TrialError::NoVolume),
         }
     }
 
     /// The group is taken apart.
     fn close(&mut self, rt: &HostRuntime) -> Result<(), TrialError> {
-        let Group::Open(group) = mem::replace(&mut self.group, Group::Gone) else {
-            return Err(TrialError::NoVolume);
-        };
-        let closed = Closed::of(rt.alloc(), group)?;
-        println!(rt; "{}", closed.catalog_text(rt.alloc())?)?;
-        self.group = Group::Closed(closed);
-        Ok(())
+        let group = mem::replace(&mut self.group, Group::Gone);
+        self.group = closed_of(rt.alloc(), group)?;
+        self.tell_closed(rt)
+    }
+
+    /// Prints the catalog of a group that was closed.
+    fn tell_closed(&self, rt: &HostRuntime) -> Result<(), TrialError> {
+        match &self.group {
+            Group::Closed(closed) => tell_text(rt, closed),
+            _ => Err(TrialError::NoVolume),
+        }
     }
 
     /// What is left of a group that was closed.
