@@ -1,4 +1,4 @@
-"""The rules of volumes with images, for the checks of mirror_trial: what each call answers, as Rust prints it.
+"""The rules of volumes with images, for the checks of mirror_trial and catalog_trial: what each call answers, as Rust prints it.
 
 Blocks are told by the byte that they are filled with. Where the crates keep maps, queues and pools, the rules here look at all there is.
 """
