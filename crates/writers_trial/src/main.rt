@@ -42,6 +42,9 @@ fn input_of(rt: &HostRuntime) -> Result<Text, TrialError> {
 /// The scenario of the standard input.
 fn scenario_of(rt: &HostRuntime) -> Result<Scenario, TrialError> {
     let input = input_of(rt)?;
+    if input.bytes().len() > MOST_BYTES {
+        return Err(TrialError::Scenario);
+    }
     match parse(rt.alloc(), input.bytes()) {
         Ok(scenario) => Ok(scenario),
         Err(_refused) => Err(TrialError::Scenario),
