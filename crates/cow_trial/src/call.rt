@@ -1,5 +1,5 @@
-use crate::trial_error::TrialError;
 use std::alloc::Global;
+use trial_lines::TrialError;
 
 /// A call as a line tells it: its name, and the numbers after it.
 #[derive(Drop)]

@@ -3,9 +3,9 @@
 use crate::answer::Answer;
 use crate::call::Call;
 use crate::printing::{print_images, print_table};
-use crate::trial_error::TrialError;
 use block_data::{BlockBuf, Payload};
 use cow_volume::CowGroup;
+use trial_lines::TrialError;
 use volume_device::{Device, HostDevice};
 
 /// A cut, where the set may be the newest image's.

@@ -21,12 +21,11 @@ mod making;
 mod plan;
 mod printing;
 mod subject;
-mod trial_error;
 
 use call::Call;
 use std::process::ExitCode;
 use subject::Subject;
-use trial_error::TrialError;
+use trial_lines::TrialError;
 
 /// Takes a line: makes its call, and prints the answer.
 fn take_line(rt: &HostRuntime, subject: &mut Subject, line: &str) -> Result<(), TrialError> {

@@ -5,11 +5,11 @@ ghost use Rattle.block_data.specs.Runs.{zeros};
 ghost use Rattle.volume_device.specs.OnHost.{host_told, host_size};
 
 use crate::plan::Plan;
-use crate::trial_error::TrialError;
 use block_data::BLOCK;
 use cow_volume::{CowGroup, CowVolume};
 use diff_area::{Area, pages_for};
 use std::fs::File;
+use trial_lines::TrialError;
 use volume_device::{FileDevice, HostDevice};
 
 /// Where devices are made, and which of their calls fail.

@@ -2,8 +2,8 @@ ghost use Rattle.std.specs.Prelude.{◌≡◌, replicate, IfOk};
 ghost use Rattle.block_data.specs.Runs.{zeros};
 ghost use Rattle.volume_device.specs.InMemory.{blocks_of};
 
-use crate::trial_error::TrialError;
 use std::alloc::Global;
+use trial_lines::TrialError;
 use volume_device::MemDevice;
 use vss_names::Numbers;
 

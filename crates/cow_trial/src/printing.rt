@@ -1,9 +1,9 @@
 //! What is printed beside a call's answer.
 
 use crate::answer::Answer;
-use crate::trial_error::TrialError;
 use block_data::BlockBuf;
 use diff_area::Area;
+use trial_lines::TrialError;
 use volume_device::HostDevice;
 
 /// Prints what a slot holds as `SLOT: VOLUME SET BLOCK: BYTE`, where it is used.
@@ -14,7 +14,7 @@ fn print_slot(rt: &HostRuntime, area: &mut Area<HostDevice>, slot: u32) -> Resul
     let row = area.record_at(slot);
     let mut out = BlockBuf::zeroed(rt.alloc())?;
     if area.read_slot(slot, out.bytes_mut()).is_err() {
-        return Err(TrialError::Files);
+        return Err(TrialError::Streams);
     }
     let has = Answer::of_block(out.bytes());
     println!(rt; "{slot}: {} {} {}: {has}", row.volume, row.set, row.block)?;

@@ -1,11 +1,11 @@
 use crate::call::Call;
 use crate::making::{self, Place};
 use crate::plan::{Kind, Plan};
-use crate::trial_error::TrialError;
 use crate::{alone, grouped};
 use cow_volume::{CowGroup, CowVolume};
 use std::alloc::Global;
 use std::mem;
+use trial_lines::TrialError;
 use volume_device::HostDevice;
 
 /// What the calls are made on.

@@ -1,6 +1,6 @@
 //! The lines of the standard input, one after another.
 
-use crate::trial_error::TrialError;
+use trial_lines::TrialError;
 
 /// What takes lines.
 pub trait TakesLines {

@@ -19,13 +19,12 @@
 mod lines;
 mod making;
 mod trial;
-mod trial_error;
 mod words;
 
 use lines::take_all;
 use std::process::ExitCode;
 use trial::Trial;
-use trial_error::TrialError;
+use trial_lines::TrialError;
 
 /// Takes all lines of the standard input, on a volume of one block at first.
 fn take_input(rt: &HostRuntime) -> Result<(), TrialError> {

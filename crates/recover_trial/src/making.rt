@@ -5,11 +5,11 @@ ghost use Rattle.block_data.specs.Runs.{zeros};
 ghost use Rattle.volume_device.specs.InMemory.{blocks_of};
 ghost use Rattle.diff_area.specs.Records.{free};
 
-use crate::trial_error::TrialError;
 use crate::words::{are_failing, failing_of, number_of};
 use cow_volume::CowVolume;
 use diff_area::{Area, MOST_BLOCKS, MOST_SLOTS, pages_for};
 use std::alloc::Global;
+use trial_lines::TrialError;
 use volume_device::MemDevice;
 use vss_names::Numbers;
 use vss_recover::RecoverVolume;
@@ -53,12 +53,12 @@ fn area_of(
 /// The volume of these words: the numbers of its blocks, of the slots of its area and of its overlay, and which calls of its devices fail.
 pub fn volume_of(alloc: Global, words: &[&str]) -> Result<RecoverVolume<MemDevice>, TrialError> {
     if words.len() < 3 || !are_failing(&words[3..]) {
-        return Err(TrialError::Words);
+        return Err(TrialError::Line);
     }
     let (blocks, slots) = (number_of(words[0])?, number_of(words[1])?);
     let overlay = number_of(words[2])?;
     if blocks == 0 || blocks > MOST_BLOCKS || slots > MOST_SLOTS || overlay > MOST_SLOTS {
-        return Err(TrialError::Words);
+        return Err(TrialError::Line);
     }
     let failing = &words[3..];
     let area = area_of(alloc, slots, blocks, "area", failing)?;

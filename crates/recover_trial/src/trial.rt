@@ -1,10 +1,10 @@
 use crate::lines::TakesLines;
 use crate::making::volume_of;
-use crate::trial_error::TrialError;
 use crate::words::{claims_of, number_of, payload_of};
 use block_data::BlockBuf;
 use std::alloc::Global;
 use std::fmt::Debug;
+use trial_lines::TrialError;
 use volume_device::MemDevice;
 use vss_recover::RecoverVolume;
 
@@ -68,7 +68,7 @@ impl Trial {
             ["images"] => tell(rt, &self.volume.images()),
             ["used"] => tell(rt, &self.volume.used()),
             ["overlay_used"] => tell(rt, &self.volume.overlay_used()),
-            _ => Err(TrialError::Words),
+            _ => Err(TrialError::Line),
         }
     }
 

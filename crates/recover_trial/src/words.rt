@@ -1,8 +1,8 @@
 //! What single words say.
 
-use crate::trial_error::TrialError;
 use block_data::Payload;
 use std::alloc::Global;
+use trial_lines::TrialError;
 use vss_names::Numbers;
 use vss_recover::Claim;
 
@@ -13,7 +13,7 @@ const HIGHEST: u32 = 1_000_000;
 pub fn number_of(word: &str) -> Result<u32, TrialError> {
     match word.parse::<u32>() {
         Ok(number) => Ok(number),
-        Err(_) => Err(TrialError::Words),
+        Err(_) => Err(TrialError::Line),
     }
 }
 
@@ -22,7 +22,7 @@ pub fn payload_of(kind: &str, number: &str) -> Result<Payload, TrialError> {
     match (kind, number_of(number)?) {
         ("fill", byte) if byte < 256 => Ok(Payload::Fill(byte as u8)),
         ("stamp", stamp) => Ok(Payload::Stamp(u64::from(stamp))),
-        _ => Err(TrialError::Words),
+        _ => Err(TrialError::Line),
     }
 }
 
@@ -30,7 +30,7 @@ pub fn payload_of(kind: &str, number: &str) -> Result<Payload, TrialError> {
 pub fn claims_of(alloc: Global, words: &[&str]) -> Result<Vec<Claim>, TrialError> {
     let triples = words.chunks_exact(3);
     if !triples.remainder().is_empty() {
-        return Err(TrialError::Words);
+        return Err(TrialError::Line);
     }
     let mut claims = Vec::new(alloc);
     for triple in triples {

@@ -3,11 +3,11 @@
 use crate::order::Order;
 use crate::reply::Reply;
 use crate::trial::Trial;
-use crate::trial_error::TrialError;
 use crate::writing::write_in_threads;
 use std::alloc::Global;
 use std::sync::Wait;
 use std::thread::Threads;
+use trial_lines::TrialError;
 use vss_names::Numbers;
 use vss_shards::Small;
 
@@ -97,7 +97,7 @@ fn called_on_all<R: Threads + Wait + Sync>(
             order.number(0)?,
             order.number(1)?,
         )?)),
-        _ => Err(TrialError::Words),
+        _ => Err(TrialError::Line),
     }
 }
 

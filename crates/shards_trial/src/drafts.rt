@@ -1,5 +1,5 @@
-use crate::trial_error::TrialError;
 use std::alloc::Global;
+use trial_lines::TrialError;
 use vss_shards::Draft;
 
 /// Drafts, as they were made, and which of them the calls are on.
@@ -29,7 +29,7 @@ impl Drafts {
     pub fn draft(&mut self) -> Result<&mut Draft, TrialError> {
         match self.all.get_mut(self.current) {
             Some(draft) => Ok(draft),
-            None => Err(TrialError::Words),
+            None => Err(TrialError::Line),
         }
     }
 }

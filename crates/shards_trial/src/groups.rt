@@ -1,6 +1,6 @@
-use crate::trial_error::TrialError;
 use std::alloc::Global;
 use std::sync::Mutex;
+use trial_lines::TrialError;
 use volume_device::MemDevice;
 use vss_shards::{Journal, Shard, Shards};
 
@@ -36,7 +36,7 @@ impl Groups {
     pub fn current(&self) -> Result<&Shards<MemDevice>, TrialError> {
         match self.all.get(self.group) {
             Some(shards) => Ok(shards),
-            None => Err(TrialError::Words),
+            None => Err(TrialError::Line),
         }
     }
 
@@ -44,7 +44,7 @@ impl Groups {
     pub fn shard(&self, v: u32) -> Result<&Mutex<Shard<MemDevice>>, TrialError> {
         let shards = self.current()?;
         if v >= shards.volumes() {
-            return Err(TrialError::Words);
+            return Err(TrialError::Line);
         }
         Ok(shards.shard(v))
     }
@@ -53,7 +53,7 @@ impl Groups {
     pub fn journal(&self) -> Result<&Mutex<Journal>, TrialError> {
         match self.all.get(self.journal) {
             Some(shards) => Ok(shards.journal()),
-            None => Err(TrialError::Words),
+            None => Err(TrialError::Line),
         }
     }
 }

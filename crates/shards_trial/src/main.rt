@@ -29,7 +29,6 @@ mod order;
 mod reply;
 mod states;
 mod trial;
-mod trial_error;
 mod writing;
 
 use asked::reply_to;
@@ -40,7 +39,7 @@ use std::process::ExitCode;
 use std::sync::Wait;
 use std::thread::Threads;
 use trial::Trial;
-use trial_error::TrialError;
+use trial_lines::TrialError;
 
 /// Answers each line of a text.
 fn answer<R: Threads + Wait + Sync + Print>(

@@ -4,11 +4,11 @@ ghost use Rattle.volume_device.specs.InMemory.{blocks_of};
 ghost use Rattle.cow_volume.specs.OneVolume.{StandsForOne};
 
 use crate::failing::Failing;
-use crate::trial_error::TrialError;
 use cow_volume::CowVolume;
 use diff_area::{Area, pages_for};
 use std::alloc::Global;
 use std::marker::Model;
+use trial_lines::TrialError;
 use volume_device::MemDevice;
 use vss_names::Numbers;
 use vss_shards::Shards;
@@ -53,7 +53,7 @@ impl NewVolumes {
         area: Failing,
     ) -> Result<(), TrialError> {
         if blocks == 0 || blocks > MOST || slots > MOST {
-            return Err(TrialError::Words);
+            return Err(TrialError::Line);
         }
         let volume = volume_of(alloc, blocks, slots, own, area)?;
         self.volumes.push(volume)?;
@@ -64,7 +64,7 @@ impl NewVolumes {
     pub fn into_shards(self, alloc: Global) -> Result<Shards<MemDevice>, TrialError> {
         let NewVolumes { volumes } = self;
         if volumes.is_empty() || volumes.len() > 128 {
-            return Err(TrialError::Words);
+            return Err(TrialError::Line);
         }
         Ok(Shards::new(alloc, volumes)?)
     }

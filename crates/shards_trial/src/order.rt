@@ -1,5 +1,5 @@
-use crate::trial_error::TrialError;
 use std::alloc::Global;
+use trial_lines::TrialError;
 
 /// A line of the input: a word, and numbers.
 #[derive(Drop)]
@@ -13,7 +13,7 @@ impl<'a> Order<'a> {
     pub fn of_line(alloc: Global, line: &'a str) -> Result<Order<'a>, TrialError> {
         let mut words = line.split_whitespace();
         let Some(word) = words.next() else {
-            return Err(TrialError::Words);
+            return Err(TrialError::Line);
         };
         let mut numbers = Vec::new(alloc);
         for digits in words {
@@ -26,7 +26,7 @@ impl<'a> Order<'a> {
     pub fn long(&self, place: usize) -> Result<u64, TrialError> {
         match self.numbers.get(place) {
             Some(number) => Ok(*number),
-            None => Err(TrialError::Words),
+            None => Err(TrialError::Line),
         }
     }
 
@@ -34,7 +34,7 @@ impl<'a> Order<'a> {
     pub fn number(&self, place: usize) -> Result<u32, TrialError> {
         match u32::try_from(self.long(place)?) {
             Ok(number) => Ok(number),
-            Err(_) => Err(TrialError::Words),
+            Err(_) => Err(TrialError::Line),
         }
     }
 
@@ -42,7 +42,7 @@ impl<'a> Order<'a> {
     pub fn byte(&self, place: usize) -> Result<u8, TrialError> {
         match u8::try_from(self.long(place)?) {
             Ok(number) => Ok(number),
-            Err(_) => Err(TrialError::Words),
+            Err(_) => Err(TrialError::Line),
         }
     }
 

@@ -5,11 +5,11 @@ use crate::groups::Groups;
 use crate::new_volumes::NewVolumes;
 use crate::reply::Reply;
 use crate::states::States;
-use crate::trial_error::TrialError;
 use block_data::BlockBuf;
 use std::alloc::Global;
 use std::mem;
 use std::sync::Wait;
+use trial_lines::TrialError;
 use vss_shards::{Small, collect, gather, give_back, read_image_on, read_on, write_on};
 
 /// Shards, drafts and the volumes that wait to become shards, as the lines so far made them.
@@ -156,7 +156,7 @@ impl Trial {
             (Some(group), Some(journal)) => {
                 Ok(Reply::Gather(gather(&group.shards, &journal.journal)))
             }
-            _ => Err(TrialError::Words),
+            _ => Err(TrialError::Line),
         }
     }
 }

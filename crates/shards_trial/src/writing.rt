@@ -1,10 +1,10 @@
 //! Writers and one who makes cuts, in threads.
 
-use crate::trial_error::TrialError;
 use std::alloc::Global;
 use std::sync::{Mutex, Wait};
 use std::thread;
 use std::thread::Threads;
+use trial_lines::TrialError;
 use volume_device::MemDevice;
 use vss_shards::{Draft, Shards, Small, collect, give_back, write_on};
 
