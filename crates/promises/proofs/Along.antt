@@ -424,7 +424,7 @@ module _ (G : Agenda → Type 0) (k : IsKeptAlong G) where
 
     all_next : Covers Next s st
     all_next = record {
-      stays = λ lane o mark told e f. line_stays lane o mark told e f;
+      stays = λ lane o mark told e f. line_stays lane o mark told e f.agenda;
       writes = λ lane o v w mark e f. tells_none lane o mark (write s v w mark st).0 (write s v w mark st).1 (write_ticks o _ e) (first_off (is_snapshot_line (Line lane o)) (is_pending (write s v w mark st).0) (write_no_snapshot lane o _ e)) (on_write so_far s v w mark st h) (incomplete_write n s v w mark st);
       reverts = λ lane m v x mark e f. tells_none lane (op.Revert m v) mark (reverted_as s v x mark st).0 (reverted_as s v x mark st).1 refl refl (on_reverts so_far s v x mark st h) (incomplete_revert n s v x mark st);
       deletes_set = λ lane m c mark e. tells_none lane (op.DeleteSet m) mark (Deleted c) (record st { volumes = map (dropped m) st.volumes }) refl refl h (λ i. i);
@@ -433,7 +433,7 @@ module _ (G : Agenda → Type 0) (k : IsKeptAlong G) where
       begins = λ lane m all c mark e. tells_none lane (op.Begin m all) mark Fine (record st { session = Some (opened lane c all); explicit = [] }) refl refl h (λ i. i);
       disables = λ lane w q mark g. tells_none lane (op.Disable w) mark Fine (disable w st).1 refl refl h (λ i. i);
       gathers = λ lane q mark g. begins_other lane op.Gather mark (gathered (is_disabled s st) st.clock st.course) refl refl (on_begun Gather _ [] st.clock so_far _ (λ x. absurd cc)) (λ run. begun_incomplete Gather _ [] st.clock _ run);
-      names = λ lane w full q explicit mark g. tells_none lane (op.Component w full) mark Fine (record st { explicit = explicit }) refl refl h (λ i. i);
+      names = λ lane w full q explicit mark g named. tells_none lane (op.Component w full) mark Fine (record st { explicit = explicit }) refl refl h (λ i. i);
       starts = λ lane q mark g e. tells_none lane op.Start mark (start_set q st).0 (start_set q st).1 refl refl h (incomplete_append st.sets (new_set (new_number st) q.context) n refl);
       adds = λ lane v r q mark g e f. tells_none lane (op.Add v) mark Fine (change_set r.number (with_volume v) st) refl refl h (incomplete_map (row_changed r.number (with_volume v)) (λ y. changed_number (y.number == r.number) (with_volume v) y refl) (λ y. changed_result (y.number == r.number) (with_volume v) y refl) n st.sets);
       prepares = λ lane q mark g. either (Line lane op.Prepare) mark (has_no_volume (in_progress st)) (refused BadState st) _ (line_stays lane op.Prepare mark (Coded BadState) refl (λ b. refl))

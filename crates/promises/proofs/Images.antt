@@ -474,7 +474,7 @@ module _ (s : Plan) (st : State) (num : NumberedFrom 1 st.sets) (n v : ℕ) wher
     begins = λ lane m all c mark e h g. absurd (true_not_false (stands st n v) h g);
     disables = λ lane w q mark i h g. absurd (true_not_false (stands st n v) h g);
     gathers = λ lane q mark i h g. by_course (Line lane op.Gather) true _ st refl refl h g;
-    names = λ lane w full q explicit mark i h g. absurd (true_not_false (stands st n v) h g);
+    names = λ lane w full q explicit mark i named h g. absurd (true_not_false (stands st n v) h g);
     starts = λ lane q mark i e h g. absurd (true_not_false (stands st n v) h g);
     adds = λ lane u r q mark i e f h g. absurd (true_not_false (stands st n v) h g);
     prepares = λ lane q mark i. either (Line lane op.Prepare) mark (has_no_volume (in_progress st)) _ _ (λ h g. absurd (true_not_false (stands st n v) h g)) (λ h g. by_course (Line lane op.Prepare) true _ st refl refl h g);

@@ -40,4 +40,8 @@ pub mod Aborts
 pub mod Telling
 pub mod Copies
 pub mod Accepted
+pub mod Members
+pub mod SameChoice
+pub mod Participants
+pub mod Prepares
 pub mod Promises

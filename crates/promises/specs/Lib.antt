@@ -17,4 +17,5 @@ pub mod Completing
 pub mod Telling
 pub mod Copies
 pub mod Accepted
+pub mod Participants
 pub mod Promises

@@ -15,6 +15,7 @@ use Rattle.promises.specs.Done.{IsDone}
 use Rattle.promises.specs.Failing.{FailsForCause}
 use Rattle.promises.specs.Gone.{ImagesGoForCause}
 use Rattle.promises.specs.Idle.{IdlesShortest}
+use Rattle.promises.specs.Participants.{ChosenTakePart, TakesPart}
 use Rattle.promises.specs.Replies.{RepliesTell}
 use Rattle.promises.specs.Rows.{RowsTell}
 use Rattle.promises.specs.Sets.{VolumesAreDistinct}
@@ -26,6 +27,7 @@ use Rattle.promises.specs.Within.{StandsWithinLimits}
 
 -- of an act that comes after these
 pub record IsActAsPromised (s : Plan) (so_far : List Act) (act : Act) : Type 0 where
+  pub participants : TakesPart s so_far act
   pub completes : CompletesByTheWay s so_far act
   pub fails : FailsForCause s so_far act
   pub images : ImagesGoForCause s so_far act
@@ -43,6 +45,7 @@ pub record IsStateAsPromised (s : Plan) (so_far : List Act) : Type 0 where
   pub waits : WaitsAreFew s so_far
   pub quiet : StandsQuiet s so_far
   pub frozen : FrozenDoNotWrite s so_far
+  pub chosen : ChosenTakePart s so_far
   pub volumes : VolumesAreDistinct s so_far
   pub idles : IdlesShortest s so_far
   pub limits : StandsWithinLimits s so_far

@@ -15,6 +15,7 @@ ghost use Rattle.promises.specs.Done.{IsDone};
 ghost use Rattle.promises.specs.Failing.{FailsForCause};
 ghost use Rattle.promises.specs.Gone.{ImagesGoForCause};
 ghost use Rattle.promises.specs.Idle.{IdlesShortest};
+ghost use Rattle.promises.specs.Participants.{ChosenTakePart, TakesPart};
 ghost use Rattle.promises.specs.Promises.{IsAsPromised};
 ghost use Rattle.promises.specs.Replies.{RepliesTell};
 ghost use Rattle.promises.specs.Rows.{RowsTell};
@@ -44,6 +45,14 @@ pub fn copies_hold_the_cut()
 /// BackupComplete goes to no writer that has failed.
 pub fn no_failed_writer_is_told_of_completion()
     ensures { (s : Plan) (so_far : List Act) → CompletesUnfailed s so_far }
+{}
+
+/// Exactly those writers take part that the accepted `prepare` of the session has chosen: those of which the session has named a component
+/// since its `begin`; or, where it takes all, those that are not of a disabled class and do not stand as failed at Identify. None is of a
+/// disabled class, nobody takes part before, and no other act changes who does while a set is in progress.
+pub fn the_chosen_take_part()
+    ensures prepared { (s : Plan) (so_far : List Act) (act : Act) → TakesPart s so_far act }
+    ensures standing { (s : Plan) (so_far : List Act) → ChosenTakePart s so_far }
 {}
 
 /// The images of a group never use more slots than the group has.
