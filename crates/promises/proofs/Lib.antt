@@ -44,4 +44,5 @@ pub mod Members
 pub mod SameChoice
 pub mod Participants
 pub mod Prepares
+pub mod Lost
 pub mod Promises

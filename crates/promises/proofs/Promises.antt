@@ -14,6 +14,7 @@ use Rattle.promises.proofs.Done.{is_done}
 use Rattle.promises.proofs.Failing.{fails_for_cause}
 use Rattle.promises.proofs.Idle.{idles_shortest}
 use Rattle.promises.proofs.Images.{images_go_for_cause}
+use Rattle.promises.proofs.Lost.{loses_the_late}
 use Rattle.promises.proofs.Participants.{chosen_take_part}
 use Rattle.promises.proofs.Prepares.{takes_part}
 use Rattle.promises.proofs.Replies.{replies_tell}
@@ -40,6 +41,7 @@ as_promised s trail = record {
     replies = replies_tell s so_far act;
     rows = rows_tell s so_far act;
     tells = tells_failure s so_far act;
+    loses = loses_the_late s so_far act;
   };
   each_state = λ so_far rest e. record { waits = waits_are_few s so_far; quiet = stands_quiet s so_far; frozen = frozen_do_not_write s so_far; chosen = chosen_take_part s so_far; volumes = volumes_are_distinct s so_far; idles = idles_shortest s so_far; limits = stands_within_limits s so_far; orders = orders_end s so_far; completing = completes_unfailed s so_far; backups = backups_end s so_far; slots = slots_suffice s so_far; copies = copies_hold s so_far };
 }

@@ -18,4 +18,5 @@ pub mod Telling
 pub mod Copies
 pub mod Accepted
 pub mod Participants
+pub mod Lost
 pub mod Promises

@@ -15,6 +15,7 @@ use Rattle.promises.specs.Done.{IsDone}
 use Rattle.promises.specs.Failing.{FailsForCause}
 use Rattle.promises.specs.Gone.{ImagesGoForCause}
 use Rattle.promises.specs.Idle.{IdlesShortest}
+use Rattle.promises.specs.Lost.{LosesTheLate}
 use Rattle.promises.specs.Participants.{ChosenTakePart, TakesPart}
 use Rattle.promises.specs.Replies.{RepliesTell}
 use Rattle.promises.specs.Rows.{RowsTell}
@@ -39,6 +40,7 @@ pub record IsActAsPromised (s : Plan) (so_far : List Act) (act : Act) : Type 0 w
   pub replies : RepliesTell s so_far act
   pub rows : RowsTell s so_far act
   pub tells : TellsFailure s so_far act
+  pub loses : LosesTheLate s so_far act
 
 -- of the state after these acts
 pub record IsStateAsPromised (s : Plan) (so_far : List Act) : Type 0 where

@@ -15,6 +15,7 @@ ghost use Rattle.promises.specs.Done.{IsDone};
 ghost use Rattle.promises.specs.Failing.{FailsForCause};
 ghost use Rattle.promises.specs.Gone.{ImagesGoForCause};
 ghost use Rattle.promises.specs.Idle.{IdlesShortest};
+ghost use Rattle.promises.specs.Lost.{LosesTheLate};
 ghost use Rattle.promises.specs.Participants.{ChosenTakePart, TakesPart};
 ghost use Rattle.promises.specs.Promises.{IsAsPromised};
 ghost use Rattle.promises.specs.Replies.{RepliesTell};
@@ -121,6 +122,11 @@ pub fn rows_say_what_was_said()
 /// A set that fails tells each participant once that has not failed, and nobody else.
 pub fn failing_sets_tell_their_writers()
     ensures { (s : Plan) (so_far : List Act) (act : Act) → TellsFailure s so_far act }
+{}
+
+/// Where the clock goes on, exactly those writers are told as lost that owe the answer to an order whose time is over then.
+pub fn the_late_are_lost()
+    ensures { (s : Plan) (so_far : List Act) (act : Act) → LosesTheLate s so_far act }
 {}
 
 /// After no act is anything late for which a set would fail: no volume is held for more than 10,000 ticks, no freeze limit is
