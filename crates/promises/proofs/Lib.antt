@@ -9,6 +9,7 @@ pub mod Heard
 pub mod Once
 pub mod Orders
 pub mod Whole
+pub mod GoneImages
 pub mod Images
 pub mod Done
 pub mod Limits
@@ -45,4 +46,5 @@ pub mod SameChoice
 pub mod Participants
 pub mod Prepares
 pub mod Lost
+pub mod Evicted
 pub mod Promises

@@ -11,6 +11,7 @@ use Rattle.promises.proofs.Contents.{contents_change}
 use Rattle.promises.proofs.ContextZero.{backups_end}
 use Rattle.promises.proofs.Copies.{copies_hold}
 use Rattle.promises.proofs.Done.{is_done}
+use Rattle.promises.proofs.Evicted.{tells_evicted}
 use Rattle.promises.proofs.Failing.{fails_for_cause}
 use Rattle.promises.proofs.Idle.{idles_shortest}
 use Rattle.promises.proofs.Images.{images_go_for_cause}
@@ -33,6 +34,7 @@ as_promised s trail = record {
     completes = complete_by_the_way s so_far act;
     fails = fails_for_cause s so_far act;
     images = images_go_for_cause s so_far act;
+    evicted = tells_evicted s so_far act;
     done = is_done s so_far act;
     contents = contents_change s so_far act;
     clock = clock_moves s so_far act;

@@ -19,4 +19,5 @@ pub mod Copies
 pub mod Accepted
 pub mod Participants
 pub mod Lost
+pub mod Evicted
 pub mod Promises

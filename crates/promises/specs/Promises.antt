@@ -12,6 +12,7 @@ use Rattle.promises.specs.Contents.{ContentsChange}
 use Rattle.promises.specs.ContextZero.{BackupsEnd}
 use Rattle.promises.specs.Copies.{CopiesHold}
 use Rattle.promises.specs.Done.{IsDone}
+use Rattle.promises.specs.Evicted.{TellsEvicted}
 use Rattle.promises.specs.Failing.{FailsForCause}
 use Rattle.promises.specs.Gone.{ImagesGoForCause}
 use Rattle.promises.specs.Idle.{IdlesShortest}
@@ -32,6 +33,7 @@ pub record IsActAsPromised (s : Plan) (so_far : List Act) (act : Act) : Type 0 w
   pub completes : CompletesByTheWay s so_far act
   pub fails : FailsForCause s so_far act
   pub images : ImagesGoForCause s so_far act
+  pub evicted : TellsEvicted s so_far act
   pub done : IsDone s so_far act
   pub contents : ContentsChange s so_far act
   pub clock : ClockMoves s so_far act

@@ -12,6 +12,7 @@ ghost use Rattle.promises.specs.Contents.{ContentsChange};
 ghost use Rattle.promises.specs.ContextZero.{BackupsEnd};
 ghost use Rattle.promises.specs.Copies.{CopiesHold};
 ghost use Rattle.promises.specs.Done.{IsDone};
+ghost use Rattle.promises.specs.Evicted.{TellsEvicted};
 ghost use Rattle.promises.specs.Failing.{FailsForCause};
 ghost use Rattle.promises.specs.Gone.{ImagesGoForCause};
 ghost use Rattle.promises.specs.Idle.{IdlesShortest};
@@ -36,6 +37,11 @@ pub fn sets_complete_by_the_way()
 /// An image goes only where its set fails, a line takes it, or a write finds no slot left in its group.
 pub fn images_go_for_cause()
     ensures { (s : Plan) (so_far : List Act) (act : Act) → ImagesGoForCause s so_far act }
+{}
+
+/// A write tells as evicted exactly the images that were kept before it and do not stand after it, in order.
+pub fn writes_tell_the_evicted()
+    ensures { (s : Plan) (so_far : List Act) (act : Act) → TellsEvicted s so_far act }
 {}
 
 /// A copy that an area keeps holds its block as it was at the one cut of its set.
