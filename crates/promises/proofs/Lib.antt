@@ -47,4 +47,6 @@ pub mod Participants
 pub mod Prepares
 pub mod Lost
 pub mod Evicted
+pub mod CutTimes
+pub mod Properties
 pub mod Promises

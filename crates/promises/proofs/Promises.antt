@@ -18,6 +18,7 @@ use Rattle.promises.proofs.Images.{images_go_for_cause}
 use Rattle.promises.proofs.Lost.{loses_the_late}
 use Rattle.promises.proofs.Participants.{chosen_take_part}
 use Rattle.promises.proofs.Prepares.{takes_part}
+use Rattle.promises.proofs.Properties.{properties_tell}
 use Rattle.promises.proofs.Replies.{replies_tell}
 use Rattle.promises.proofs.Rows.{rows_tell}
 use Rattle.promises.proofs.Sets.{volumes_are_distinct}
@@ -41,6 +42,7 @@ as_promised s trail = record {
     calls = calls_are_owned s so_far act;
     accepts = accepts_owner s so_far act;
     replies = replies_tell s so_far act;
+    properties = properties_tell s so_far act;
     rows = rows_tell s so_far act;
     tells = tells_failure s so_far act;
     loses = loses_the_late s so_far act;

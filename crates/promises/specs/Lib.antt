@@ -20,4 +20,5 @@ pub mod Accepted
 pub mod Participants
 pub mod Lost
 pub mod Evicted
+pub mod Properties
 pub mod Promises

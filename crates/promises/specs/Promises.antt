@@ -18,6 +18,7 @@ use Rattle.promises.specs.Gone.{ImagesGoForCause}
 use Rattle.promises.specs.Idle.{IdlesShortest}
 use Rattle.promises.specs.Lost.{LosesTheLate}
 use Rattle.promises.specs.Participants.{ChosenTakePart, TakesPart}
+use Rattle.promises.specs.Properties.{PropertiesTell}
 use Rattle.promises.specs.Replies.{RepliesTell}
 use Rattle.promises.specs.Rows.{RowsTell}
 use Rattle.promises.specs.Sets.{VolumesAreDistinct}
@@ -40,6 +41,7 @@ pub record IsActAsPromised (s : Plan) (so_far : List Act) (act : Act) : Type 0 w
   pub calls : CallsAreOwned s so_far act
   pub accepts : AcceptsOwner s so_far act
   pub replies : RepliesTell s so_far act
+  pub properties : PropertiesTell s so_far act
   pub rows : RowsTell s so_far act
   pub tells : TellsFailure s so_far act
   pub loses : LosesTheLate s so_far act

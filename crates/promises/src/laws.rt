@@ -19,6 +19,7 @@ ghost use Rattle.promises.specs.Idle.{IdlesShortest};
 ghost use Rattle.promises.specs.Lost.{LosesTheLate};
 ghost use Rattle.promises.specs.Participants.{ChosenTakePart, TakesPart};
 ghost use Rattle.promises.specs.Promises.{IsAsPromised};
+ghost use Rattle.promises.specs.Properties.{PropertiesTell};
 ghost use Rattle.promises.specs.Replies.{RepliesTell};
 ghost use Rattle.promises.specs.Rows.{RowsTell};
 ghost use Rattle.promises.specs.Sets.{VolumesAreDistinct};
@@ -118,6 +119,11 @@ pub fn few_lines_wait()
 /// `read` tells a block as it is, `image` one or all as they were at the set's cut, and `query` exactly the sets that are kept.
 pub fn replies_tell_what_stands()
     ensures { (s : Plan) (so_far : List Act) (act : Act) → RepliesTell s so_far act }
+{}
+
+/// `properties` tells of a kept image the context of its set, the clock at the set's one cut, and the slots that the image uses.
+pub fn properties_tell_the_image()
+    ensures { (s : Plan) (so_far : List Act) (act : Act) → PropertiesTell s so_far act }
 {}
 
 /// A writer's row says what it said last, in the act of its answer, or that its answer was lost.
