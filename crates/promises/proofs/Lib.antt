@@ -49,4 +49,6 @@ pub mod Lost
 pub mod Evicted
 pub mod CutTimes
 pub mod Properties
+pub mod CalmCourses
+pub mod Awaited
 pub mod Promises

@@ -4,6 +4,7 @@ use Rattle.write_history.specs.declared.move_item.Move.{Move}
 use Rattle.scenario.specs.Plan.{Plan}
 use Rattle.promises.specs.Promises.{IsAsPromised}
 use Rattle.promises.proofs.Accepted.{accepts_owner}
+use Rattle.promises.proofs.Awaited.{await_tells}
 use Rattle.promises.proofs.Calls.{calls_are_owned, waits_are_few, stands_quiet, frozen_do_not_write}
 use Rattle.promises.proofs.Clock.{clock_moves}
 use Rattle.promises.proofs.Completing.{completes_unfailed}
@@ -43,6 +44,7 @@ as_promised s trail = record {
     accepts = accepts_owner s so_far act;
     replies = replies_tell s so_far act;
     properties = properties_tell s so_far act;
+    awaits = await_tells s so_far act;
     rows = rows_tell s so_far act;
     tells = tells_failure s so_far act;
     loses = loses_the_late s so_far act;

@@ -21,4 +21,5 @@ pub mod Participants
 pub mod Lost
 pub mod Evicted
 pub mod Properties
+pub mod Awaited
 pub mod Promises

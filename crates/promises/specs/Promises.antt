@@ -5,6 +5,7 @@ use Rattle.scenario.specs.Plan.{Plan}
 use Rattle.vss_model.specs.Acts.{Act}
 use Rattle.vss_model.specs.Trail.{acts}
 use Rattle.promises.specs.Accepted.{AcceptsOwner}
+use Rattle.promises.specs.Awaited.{AwaitTells}
 use Rattle.promises.specs.Calls.{CallsAreOwned, WaitsAreFew, StandsQuiet, FrozenDoNotWrite}
 use Rattle.promises.specs.Clock.{ClockMoves}
 use Rattle.promises.specs.Completing.{CompletesUnfailed}
@@ -42,6 +43,7 @@ pub record IsActAsPromised (s : Plan) (so_far : List Act) (act : Act) : Type 0 w
   pub accepts : AcceptsOwner s so_far act
   pub replies : RepliesTell s so_far act
   pub properties : PropertiesTell s so_far act
+  pub awaits : AwaitTells s so_far act
   pub rows : RowsTell s so_far act
   pub tells : TellsFailure s so_far act
   pub loses : LosesTheLate s so_far act

@@ -5,6 +5,7 @@ ghost use Rattle.write_history.specs.declared.move_item.Move.{Move};
 ghost use Rattle.scenario.specs.Plan.{Plan};
 ghost use Rattle.vss_model.specs.Acts.{Act};
 ghost use Rattle.promises.specs.Accepted.{AcceptsOwner};
+ghost use Rattle.promises.specs.Awaited.{AwaitTells};
 ghost use Rattle.promises.specs.Calls.{CallsAreOwned, WaitsAreFew, StandsQuiet, FrozenDoNotWrite};
 ghost use Rattle.promises.specs.Clock.{ClockMoves};
 ghost use Rattle.promises.specs.Completing.{CompletesUnfailed};
@@ -124,6 +125,11 @@ pub fn replies_tell_what_stands()
 /// `properties` tells of a kept image the context of its set, the clock at the set's one cut, and the slots that the image uses.
 pub fn properties_tell_the_image()
     ensures { (s : Plan) (so_far : List Act) (act : Act) → PropertiesTell s so_far act }
+{}
+
+/// `await` tells the last result: none after `begin`, AsyncFinished where an agenda ended without failing the set, and the set's own where it failed.
+pub fn await_tells_the_last_result()
+    ensures { (s : Plan) (so_far : List Act) (act : Act) → AwaitTells s so_far act }
 {}
 
 /// A writer's row says what it said last, in the act of its answer, or that its answer was lost.
