@@ -2,17 +2,15 @@
 use Rattle.std.proofs.Common.{◌≡◌, ◌∙◌, ℕ, List, [], ◌∷◌, ◌⊎◌, Option, Some, None, refl, Bool, true, false, ap, inl, inr}
 use Rattle.std.specs.Prelude.{◌&&◌, not}
 use Rattle.vss_names.specs.declared.order.Order.{Order}
-use Rattle.vss_names.specs.declared.set_outcome.SetOutcome.{SetOutcome}
 use Rattle.writer_state.specs.declared.said.Said.{Said}
 use Rattle.writer_state.specs.WriterState.{is_ok}
 use Rattle.set_agenda.specs.declared.kind.Kind.{Kind}
 use Rattle.set_agenda.specs.declared.member.Member.{Member}
-use Rattle.set_agenda.specs.Agenda.{Agenda, left, is_asked, is_working, open_order, order_if, order_now}
-use Rattle.set_agenda.specs.Course.{Course, posted, begun, settled, is_decisive, told, decided, answered_to, answered as course_answered, stepped as course_stepped, timed as course_timed}
+use Rattle.set_agenda.specs.Agenda.{left, is_asked, is_working, open_order, order_if, order_now}
+use Rattle.set_agenda.specs.Course.{Course, posted, begun, is_decisive, told, decided, answered_to, answered as course_answered, stepped as course_stepped, timed as course_timed}
 use Rattle.vss_model.specs.Facts.{has_failed}
 use Rattle.promises.proofs.Aborts.{Passes, Fails, over_timed, calm_settled}
 use Rattle.promises.proofs.BusyAgendas.{IsBusy, busy_order, busy_step}
-use Rattle.promises.proofs.GoneImages.{none_stepped}
 use Rattle.promises.proofs.Limits.{both_parts}
 
 abbrev pub CalmOrBusy : Course → Course → Type 0

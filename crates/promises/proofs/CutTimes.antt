@@ -1,6 +1,6 @@
 -- The row of a set that was cut has the clock at its cut: only the Cut step writes it, and it comes once.
-use Rattle.std.proofs.Common.{◌≡◌, ◌∙◌, ℕ, ◌+◌, ◌==◌, List, [], ◌∷◌, ◌++◌, Option, Some, None, refl, Bool, true, false, ap, sym, subst, map, find, fold, arith}
-use Rattle.std.specs.Prelude.{◌&&◌, is_some, option_map, if◌then◌else◌}
+use Rattle.std.proofs.Common.{◌≡◌, ◌∙◌, ℕ, ◌+◌, ◌==◌, List, [], ◌∷◌, ◌++◌, Option, Some, None, refl, Bool, true, false, ap, sym, subst, map, find, arith}
+use Rattle.std.specs.Prelude.{◌&&◌, option_map, if◌then◌else◌}
 use Rattle.vss_names.specs.declared.set_outcome.SetOutcome.{SetOutcome}
 use Rattle.vss_names.specs.declared.vss_result.VssResult.{VssResult}
 use Rattle.vss_names.specs.declared.vss_result.VssResult.TheVariants.{InsufficientStorage, AsyncCancelled}
@@ -18,7 +18,7 @@ use Rattle.scenario.specs.declared.op.Op.TheVariants as op
 use Rattle.scenario.specs.Plan.{Plan}
 use Rattle.vss_model.specs.declared.event.Event.{Event}
 use Rattle.vss_model.specs.declared.event.Event.TheVariants.{Line}
-use Rattle.vss_model.specs.State.{State, SetRow, Kept, start, in_progress, row_changed, left_now}
+use Rattle.vss_model.specs.State.{State, SetRow, Kept, in_progress, row_changed, left_now}
 use Rattle.vss_model.specs.Ending.{Ending, NothingEnds, AgendaEnds, SetFails, ending, row_settled, concluded, followed, runs, failed_in, failed}
 use Rattle.vss_model.specs.Images.{Replied, cleared, set_loses_image, with_room_if, put, write, reverted_as}
 use Rattle.vss_model.specs.Sessions.{has_no_volume, new_set, new_number, with_volume, closed}

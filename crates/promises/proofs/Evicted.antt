@@ -1,6 +1,6 @@
 -- Exactly the kept images that a write takes are told as evicted.
-use Rattle.std.proofs.Common.{◌≡◌, ◌∙◌, ℕ, ◌+◌, ◌==◌, ◌<◌, ◌≤◌, zero, suc, List, [], ◌∷◌, ◌++◌, ◌⊎◌, Option, Some, None, refl, Bool, true, false, ap, sym, subst, inl, inr, map, filter, find, length, arith}
-use Rattle.std.specs.Prelude.{◌&&◌, ◌||◌, not, nat_lt, is_some, if◌then◌else◌, slice_get}
+use Rattle.std.proofs.Common.{◌≡◌, ◌∙◌, ℕ, ◌+◌, ◌==◌, ◌<◌, zero, suc, List, [], ◌∷◌, ◌++◌, ◌⊎◌, Option, Some, None, refl, Bool, true, false, ap, sym, inl, inr, filter, length, arith}
+use Rattle.std.specs.Prelude.{◌&&◌, ◌||◌, not, nat_lt, if◌then◌else◌}
 use Rattle.std.specs.List.{list_any, list_all, flat_map}
 use Rattle.std.proofs.lemmas.List.Folds.{list_any-append}
 use Rattle.block_data.specs.declared.payload.Payload.TheVariants.{Fill, Stamp}
@@ -15,7 +15,7 @@ use Rattle.scenario.specs.Plan.{Plan}
 use Rattle.vss_model.specs.declared.event.Event.{Event}
 use Rattle.vss_model.specs.declared.event.Event.TheVariants.{Line, Answer as AnswerEvent, Provider, Idle}
 use Rattle.vss_model.specs.declared.evicted.Evicted.{Evicted}
-use Rattle.vss_model.specs.State.{State, SetRow, is_running, is_complete, in_progress, has_image, is_kept_set}
+use Rattle.vss_model.specs.State.{State, SetRow, is_complete, in_progress, has_image, is_kept_set}
 use Rattle.vss_model.specs.Images.{cleared, set_loses_image, with_room, put, write}
 use Rattle.vss_model.specs.Facts.{NumberedFrom}
 use Rattle.vss_model.specs.Acts.{Act, enabled, happens, after, state}

@@ -1,49 +1,28 @@
 -- Which images are gone after a change of the volumes, of the sets or of the course.
-use Rattle.std.proofs.Common.{◌≡◌, ◌∙◌, ℕ, ◌+◌, ◌==◌, ◌≤◌, ◌<◌, zero, suc, List, [], ◌∷◌, ◌++◌, ◌⊎◌, Option, Some, None, refl, Bool, true, false, ap, sym, subst, inl, inr, map, filter, find, length, arith}
+use Rattle.std.proofs.Common.{◌≡◌, ◌∙◌, ℕ, ◌+◌, ◌==◌, ◌≤◌, ◌<◌, zero, suc, List, [], ◌∷◌, ◌++◌, Option, Some, None, refl, Bool, true, false, ap, sym, subst, map, filter, find, length, arith}
 use Rattle.std.specs.Prelude.{not, nat_lt, is_some, unwrap_or, option_map, if◌then◌else◌, slice_get}
 use Rattle.std.specs.List.{range_with_len}
-use Rattle.vss_names.specs.declared.context.Context.{Context}
-use Rattle.vss_names.specs.declared.context.Context.TheVariants.{Backup, AppRollback, NasRollback}
 use Rattle.vss_names.specs.declared.set_outcome.SetOutcome.{SetOutcome}
 use Rattle.vss_names.specs.declared.set_outcome.SetOutcome.TheVariants.{Running as RunningSet, Complete as CompleteSet, Failed as FailedSet}
 use Rattle.vss_names.specs.declared.vss_result.VssResult.{VssResult}
-use Rattle.vss_names.specs.declared.vss_result.VssResult.TheVariants.{InsufficientStorage, AsyncCancelled}
-use Rattle.writer_state.specs.declared.said.Said.{Said}
-use Rattle.write_history.specs.declared.mark.Mark.{Mark}
-use Rattle.write_history.specs.declared.mark.Mark.TheVariants.{Clean, Fault, FaultAfter}
-use Rattle.write_history.specs.History.{Write, Image, History, point_in, dropped, after_set, up_to_set, written, reverted, reverted_in_part}
+use Rattle.write_history.specs.History.{Image, History, point_in, dropped, after_set, up_to_set}
 use Rattle.write_history.specs.Slots.{Placed, lacks_slot, gone_up_to, evicted_up_to}
-use Rattle.writer_calls.specs.Script.{said_of}
 use Rattle.set_agenda.specs.declared.group.Group.{Group}
 use Rattle.set_agenda.specs.declared.group.Group.TheVariants.{Orders, PreCommit, Flush, Hold, Cut, Commit, Release, PostCommit}
 use Rattle.set_agenda.specs.declared.kind.Kind.{Kind}
 use Rattle.set_agenda.specs.declared.kind.Kind.TheVariants.{Gather, Prepare, Snapshot, Complete}
-use Rattle.set_agenda.specs.Agenda.{Agenda, groups_left, is_among, is_done, open_group}
-use Rattle.set_agenda.specs.Course.{Course, posted, failed as course_failed, outcome_after, settled_if, settled_in, settled, worked, answered as course_answered, stepped as course_stepped, timed as course_timed, change_at}
-use Rattle.requestor.specs.Session.{Session}
-use Rattle.scenario.specs.declared.op.Op.{Op}
-use Rattle.scenario.specs.declared.op.Op.TheVariants as op
-use Rattle.scenario.specs.Calls.{Target, target_of}
-use Rattle.scenario.specs.Plan.{Plan, blocks_of, slots_of, group_of}
-use Rattle.vss_model.specs.declared.event.Event.{Event}
-use Rattle.vss_model.specs.declared.event.Event.TheVariants.{Line, Answer as AnswerEvent, Provider, Idle}
-use Rattle.vss_model.specs.State.{State, SetRow, Kept, is_running, in_progress, row_of, left_now, history_of, has_image, kept_image}
-use Rattle.vss_model.specs.Ending.{Ending, NothingEnds, AgendaEnds, SetFails, ending, row_settled, images_dropped, concluded, followed, runs, failed_in, failed}
-use Rattle.vss_model.specs.Images.{Replied, cleared, going_up_to, set_loses_image, with_room_if, with_room, put, write, reverted_as, is_backup}
-use Rattle.vss_model.specs.Sessions.{has_no_volume, images_released, closed}
-use Rattle.vss_model.specs.Steps.{answered, cut_if, cut_each, cut_set, step_made, is_flush, is_failed_step, stepped_as, stepped, ticked, later}
+use Rattle.set_agenda.specs.Agenda.{Agenda, groups_left, is_among, is_done}
+use Rattle.set_agenda.specs.Course.{Course, posted, failed as course_failed, outcome_after, settled_if, settled_in, settled, worked, stepped as course_stepped, change_at}
+use Rattle.vss_model.specs.State.{State, SetRow, is_running, in_progress, has_image}
+use Rattle.vss_model.specs.Ending.{Ending, NothingEnds, AgendaEnds, SetFails, ending, row_settled, images_dropped, concluded, followed, failed_in}
+use Rattle.vss_model.specs.Steps.{cut_if, cut_each, cut_set, step_made}
 use Rattle.vss_model.specs.Facts.{NumberedFrom, has_failed}
 use Rattle.vss_model.specs.Headline.{IsFailed}
-use Rattle.vss_model.specs.Acts.{Act, enabled, idle_now, after, state}
 use Rattle.vss_model.proofs.LogRule.{course-step_made}
-use Rattle.vss_model.proofs.OneCut.{row_number, kept_point}
 use Rattle.vss_model.proofs.Orderly.{true_not_false}
-use Rattle.vss_model.proofs.OrderlyActs.{orderly}
 use Rattle.vss_model.proofs.Rows.{running_found, row_running, row_settles, result-settled}
-use Rattle.vss_model.proofs.Volumes.{at, FewerIn, fewer_written, fewer_in_same, fewer_in_change, fewer_in_over}
-use Rattle.vss_model.proofs.FewerImages.{fewer_images_dropped}
-use Rattle.promises.specs.Gone.{stands, Fails, within, IsWanted, IsOfSession, Takes, ImagesGoForCause}
-use Rattle.promises.proofs.ByEvent.{Covers, covered, after_enabled, after_not_enabled}
+use Rattle.vss_model.proofs.Volumes.{at}
+use Rattle.promises.specs.Gone.{stands, Fails, within}
 
 -- ## lists of images
 

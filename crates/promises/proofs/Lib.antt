@@ -2,6 +2,7 @@ pub mod ByEvent
 pub mod Clock
 pub mod Idle
 pub mod Speaks
+pub mod Incomplete
 pub mod Along
 pub mod Levels
 pub mod Stages
@@ -50,5 +51,7 @@ pub mod Evicted
 pub mod CutTimes
 pub mod Properties
 pub mod CalmCourses
+pub mod SetFailures
+pub mod LastResult
 pub mod Awaited
 pub mod Promises

@@ -13,11 +13,11 @@ use Rattle.set_agenda.specs.declared.limit.Limit.TheVariants.{Freeze as FreezeLi
 use Rattle.set_agenda.specs.declared.member.Member.{Member}
 use Rattle.set_agenda.specs.Agenda.{Agenda, Open, groups_left, left, order_of, order_now, waits_now, is_among, is_orders, is_asked, order_if, open_order}
 use Rattle.set_agenda.specs.Limits.{Running as RunningLimit, opened_at, freeze_opened_at, first_hold, freeze_runs, answer_runs, runs_if, hold_running, running_at, running_limits, spent_of}
-use Rattle.set_agenda.specs.Course.{Course, limit_of, freeze_limit, limits_now, lost_at, lost_writers}
+use Rattle.set_agenda.specs.Course.{Course, limit_of, freeze_limit, lost_at}
 use Rattle.scenario.specs.Plan.{Plan}
 use Rattle.vss_model.specs.State.{State, left_now}
 use Rattle.vss_model.specs.Acts.{Act, state}
-use Rattle.vss_model.specs.Causes.{has_passed, last_of, is_elsewhere, prepares_snapshot, frozen_too_long}
+use Rattle.vss_model.specs.Causes.{has_passed, last_of, is_elsewhere}
 use Rattle.vss_model.specs.Effects.{ticks_of, lost_after, lost_order_if}
 use Rattle.promises.specs.Lost.{is_over, is_over_at, is_over_in, is_over_after, LosesTheLate}
 use Rattle.promises.proofs.BusyAgendas.{none_held}

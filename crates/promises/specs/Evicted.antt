@@ -1,6 +1,6 @@
 -- Which images are told as evicted: for a write exactly those that were kept before it and do not stand after it, in order of their sets
 -- and, of one set, of their volumes. No other act tells any. (This project's own.)
-use Rattle.std.specs.Prelude.{ℕ, ◌≡◌, ◌==◌, ◌&&◌, ◌||◌, not, nat_lt, Bool, true, false, List, [], ◌∷◌, Some, None}
+use Rattle.std.specs.Prelude.{ℕ, ◌≡◌, ◌==◌, ◌&&◌, ◌||◌, not, nat_lt, Bool, true, List, [], ◌∷◌, Some, None}
 use Rattle.std.specs.List.{list_any, list_all}
 use Rattle.scenario.specs.declared.op.Op.{Op}
 use Rattle.scenario.specs.Calls.{Target, target_of}
