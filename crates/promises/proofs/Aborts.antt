@@ -248,7 +248,7 @@ calm_settled_in : (x : Option Agenda) (d : Course) → has_failed d.outcome ≡ 
 calm_settled_in None d e = e
 calm_settled_in (Some a) d e = calm_settled_if (is_done (groups_left a)) a.kind d e
 
-calm_settled : (d : Course) → has_failed d.outcome ≡ false → has_failed (settled d).outcome ≡ false
+pub calm_settled : (d : Course) → has_failed d.outcome ≡ false → has_failed (settled d).outcome ≡ false
 unfolding settled
 calm_settled d e = calm_settled_in d.agenda d e
 

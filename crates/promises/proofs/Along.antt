@@ -3,9 +3,7 @@
 -- with what the last act tells, has no group left.
 use Rattle.std.proofs.Common.{◌≡◌, ◌∙◌, ℕ, ◌+◌, ◌==◌, List, [], ◌∷◌, ◌++◌, ◌⊎◌, Option, Some, None, refl, Bool, true, false, ap, sym, subst, inl, inr, map, fold}
 use Rattle.std.specs.Prelude.{is_some, ◌&&◌, not, if◌then◌else◌, length}
-use Rattle.vss_names.specs.declared.level.Level.TheVariants.{System, BackEnd, FrontEnd}
 use Rattle.vss_names.specs.declared.order.Order.{Order}
-use Rattle.vss_names.specs.declared.order.Order.TheVariants.{PrepareSnapshot, Freeze}
 use Rattle.vss_names.specs.declared.set_outcome.SetOutcome.{SetOutcome}
 use Rattle.vss_names.specs.declared.set_outcome.SetOutcome.TheVariants.{Running as RunningSet, Complete as CompleteSet, Failed as FailedSet}
 use Rattle.vss_names.specs.declared.vss_result.VssResult.{VssResult}
@@ -18,14 +16,12 @@ use Rattle.write_history.specs.History.{Write, dropped}
 use Rattle.writer_calls.specs.declared.answer.Answer.{Answer}
 use Rattle.writer_calls.specs.Script.{said_of}
 use Rattle.set_agenda.specs.declared.group.Group.{Group}
-use Rattle.set_agenda.specs.declared.group.Group.TheVariants.{Orders, PreCommit, Flush, Hold, Cut, Commit, Release, PostCommit}
 use Rattle.set_agenda.specs.declared.kind.Kind.{Kind}
 use Rattle.set_agenda.specs.declared.kind.Kind.TheVariants.{Gather, Prepare, Snapshot, Complete}
 use Rattle.set_agenda.specs.declared.member.Member.{Member}
-use Rattle.set_agenda.specs.declared.place.Place.{Place}
-use Rattle.set_agenda.specs.Agenda.{Agenda, Entry, Open, order_of, plain, at_level, places, waited_for, with_group, left_from, groups_left, left, open_group, next_volume, open_place, open_order, order_now, is_done, is_working, is_snapshot, all_say}
+use Rattle.set_agenda.specs.Agenda.{Agenda, Entry, Open, order_of, groups_left, left, open_group, next_volume, open_place, open_order, order_now, is_done, is_working, is_snapshot, all_say}
 use Rattle.set_agenda.specs.Limits.{spent_of}
-use Rattle.set_agenda.specs.Course.{Course, posted, failed as course_failed, outcome_after, settled_if, settled_in, settled, begun, gathered, prepared, snapshot_begun, completing, change_at, stepped as course_stepped, limits_now, lost_writers, fails_set, released}
+use Rattle.set_agenda.specs.Course.{Course, posted, failed as course_failed, settled_if, settled_in, settled, begun, gathered, prepared, snapshot_begun, completing, change_at, stepped as course_stepped, limits_now, lost_writers, fails_set, released}
 use Rattle.component_doc.specs.Selection.{takers}
 use Rattle.requestor.specs.Session.{Session, opened}
 use Rattle.scenario.specs.declared.op.Op.{Op}
@@ -37,10 +33,10 @@ use Rattle.vss_model.specs.declared.event.Event.{Event}
 use Rattle.vss_model.specs.declared.event.Event.TheVariants.{Line, Answer as AnswerEvent, Provider, Idle}
 use Rattle.vss_model.specs.Reply.{Reply, Fine, Coded, Deleted, Idled, Stepped}
 use Rattle.vss_model.specs.State.{State, SetRow, Kept, start, is_complete, in_progress, row_of, row_changed, left_now}
-use Rattle.vss_model.specs.Ending.{Ending, NothingEnds, AgendaEnds, SetFails, ending, concluded, followed, runs, failed_in, failed}
+use Rattle.vss_model.specs.Ending.{ending, followed, runs, failed_in, failed}
 use Rattle.vss_model.specs.Images.{Replied, refused, cleared, set_loses_image, with_room_if, put, write, reverted_as}
 use Rattle.vss_model.specs.Sessions.{new_set, new_number, with_volume, has_no_volume, volumes_of, start_set, change_set, disable, is_disabled, selected, closed}
-use Rattle.vss_model.specs.Steps.{answered, with_cut, row_cut, cut_set, step_made, is_flush, is_failed_step, stepped_as, stepped, ticked, later}
+use Rattle.vss_model.specs.Steps.{answered, step_made, is_flush, is_failed_step, stepped_as, stepped, ticked, later}
 use Rattle.vss_model.specs.Facts.{has_failed}
 use Rattle.vss_model.specs.Effects.{line_ticks, lost, lost_after, lost_order, lost_order_if}
 use Rattle.vss_model.specs.Acts.{Act, enabled, order_of_writer, answer_reply, step_reply, idle_now, happens, reply, after, state}
@@ -51,10 +47,11 @@ use Rattle.vss_model.proofs.LogRule.{Running, unspoken}
 use Rattle.vss_model.proofs.OneCut.{changed_number, changed_result}
 use Rattle.vss_model.proofs.Orderly.{true_not_false}
 use Rattle.vss_model.proofs.OrderlyActs.{orderly}
-use Rattle.vss_model.proofs.Rows.{has_complete, running_incomplete, incomplete_settled, incomplete_map, incomplete_append, complete_found}
+use Rattle.vss_model.proofs.Rows.{has_complete, running_incomplete, incomplete_map, incomplete_append, complete_found}
 use Rattle.promises.specs.Way.{Deed, Spoke, Made, deeds_lost, deeds_of, deeds_if, is_pending, is_snapshot_line, way_after, way_from, way}
 use Rattle.promises.proofs.ByEvent.{Covers, covered, after_enabled, after_not_enabled}
 use Rattle.promises.proofs.Clock.{clock-answered, clock-stepped_as, clock-ticked, write_ticks}
+use Rattle.promises.proofs.Incomplete.{begun_incomplete, completes_snapshot, done_followed, incomplete_closed, incomplete_failed, incomplete_made, incomplete_revert, incomplete_write}
 use Rattle.promises.proofs.Speaks.{deed_in, said_at, Speaks, Grows, made_now, lost_told, grows_answered, grows_stepped, grows_timed}
 
 pub record IsKeptAlong (G : Agenda → Type 0) : Type 0 where
@@ -75,13 +72,6 @@ kind_of Gather e = absurd cc
 kind_of Prepare e = absurd cc
 kind_of Snapshot e = refl
 kind_of Complete e = absurd cc
-
--- an agenda that completes the set is a snapshot's
-completes_snapshot : (k : Kind) (o p : SetOutcome) → o ≡ RunningSet → p ≡ outcome_after k o → is_complete p ≡ true → k ≡ Snapshot
-completes_snapshot Snapshot o p e f g = refl
-completes_snapshot Gather o p e f g = absurd (true_not_false (is_complete p) g (ap is_complete (f ∙ e)))
-completes_snapshot Prepare o p e f g = absurd (true_not_false (is_complete p) g (ap is_complete (f ∙ e)))
-completes_snapshot Complete o p e f g = absurd (true_not_false (is_complete p) g (ap is_complete (f ∙ e)))
 
 not_complete : (o : SetOutcome) → has_failed o ≡ true → is_complete o ≡ false
 not_complete RunningSet e = absurd cc
@@ -233,93 +223,6 @@ module _ (G : Agenda → Type 0) (k : IsKeptAlong G) where
   quiet st so_far lane o x e f h =
       subst (λ ds. Stands ds x.1) (line_way so_far (deeds_lost x.1.clock (lost_order st (Line lane o)) (lost st (Line lane o))) (is_snapshot_line (Line lane o) && is_pending x.0) f (no_lost st lane x.1.clock o e)) h
 
-  -- ## a set completes
-
-  module _ (n : ℕ) where
-    incomplete_ended : (e : Ending) (st : State) → is_complete st.course.outcome ≡ false → has_complete st.sets n ≡ false → has_complete (concluded e st).sets n ≡ false
-    incomplete_ended NothingEnds st e h = h
-    incomplete_ended AgendaEnds st e h = incomplete_settled st.course.outcome n st.sets e h
-    incomplete_ended (SetFails why) st e h = incomplete_settled st.course.outcome n st.sets e h
-
-    done_if : (b : Bool) (L : Type 0) (ran : Bool) (c : Course) (st : State) → is_complete c.outcome ≡ b → has_complete st.sets n ≡ false → (is_complete c.outcome ≡ true → L) → (has_complete (followed ran c st).sets n ≡ false) ⊎ L
-    unfolding followed
-    done_if true L ran c st e h last = inr (last e)
-    done_if false L ran c st e h last = inl (incomplete_ended (ending st.course.outcome c.outcome ran c.agenda) (record st { course = c }) e h)
-
-    done_followed : (L : Type 0) (ran : Bool) (c : Course) (st : State) → has_complete st.sets n ≡ false → (is_complete c.outcome ≡ true → L) → (has_complete (followed ran c st).sets n ≡ false) ⊎ L
-    done_followed L ran c st h last = done_if (is_complete c.outcome) L ran c st refl h last
-
-    incomplete_failed : (o : Option SetRow) (why : VssResult) (x : State) → has_complete x.sets n ≡ false → has_complete (failed_in o why x).sets n ≡ false
-    unfolding course_failed
-    incomplete_failed None why x h = h
-    incomplete_failed (Some r) why x h = incomplete_settled (FailedSet why) n x.sets refl h
-
-    incomplete_room : (b : Bool) (x : State) → has_complete x.sets n ≡ false → has_complete (with_room_if b x).sets n ≡ false
-    incomplete_room true x h = incomplete_failed (in_progress x) InsufficientStorage x h
-    incomplete_room false x h = h
-
-    incomplete_put : (v : ℕ) (w : Write) (mark : Mark) (x : State) → has_complete x.sets n ≡ false → has_complete (put v w mark x).sets n ≡ false
-    incomplete_put v w Clean x h = h
-    incomplete_put v w Fault x h = h
-    incomplete_put v w (FaultAfter k) x h = h
-
-    incomplete_write : (s : Plan) (v : ℕ) (w : Write) (mark : Mark) (st : State) → has_complete st.sets n ≡ false → has_complete (write s v w mark st).1.sets n ≡ false
-    unfolding write
-    incomplete_write s v w mark st h = incomplete_put v w mark _ (incomplete_room (set_loses_image (in_progress st) st.volumes (cleared s v w.block st).volumes) (cleared s v w.block st) h)
-
-    incomplete_revert : (s : Plan) (v : ℕ) (x : Kept) (mark : Mark) (st : State) → has_complete st.sets n ≡ false → has_complete (reverted_as s v x mark st).1.sets n ≡ false
-    incomplete_revert s v x Clean st h = h
-    incomplete_revert s v x Fault st h = h
-    incomplete_revert s v x (FaultAfter m) st h = h
-
-    incomplete_closed : (q : Session) (x : State) → has_complete x.sets n ≡ false → has_complete (closed q x).sets n ≡ false
-    unfolding closed
-    incomplete_closed q x h = h
-
-    incomplete_cut : (o : Option SetRow) (st : State) → has_complete st.sets n ≡ false → has_complete (cut_set o st).sets n ≡ false
-    incomplete_cut None st h = h
-    incomplete_cut (Some r) st h =
-        incomplete_map (row_cut r.number st.clock) (λ x. changed_number (x.number == r.number) (with_cut st.clock) x refl) (λ x. changed_result (x.number == r.number) (with_cut st.clock) x refl) n st.sets h
-
-    incomplete_made : (g : Option Group) (st : State) → has_complete st.sets n ≡ false → has_complete (step_made g st).sets n ≡ false
-    incomplete_made None st h = h
-    incomplete_made (Some (Orders o)) st h = h
-    incomplete_made (Some PreCommit) st h = h
-    incomplete_made (Some Flush) st h = h
-    incomplete_made (Some Hold) st h = h
-    incomplete_made (Some Cut) st h = incomplete_cut (in_progress st) st h
-    incomplete_made (Some Commit) st h = h
-    incomplete_made (Some Release) st h = h
-    incomplete_made (Some PostCommit) st h = h
-
-  -- an agenda that begins does not complete a set: there is a PreCommit step to make
-  past_group : (p : Place) (ws : List ℕ) (later : List Open) → is_done (with_group p ws later) ≡ true → is_done later ≡ true
-  past_group p [] later e = e
-  past_group p (w ∷ ws) later e = absurd cc
-
-  never_done : (a : Agenda) → waited_for a (plain PreCommit) ≡ 0 ∷ [] → is_done (left_from a (places Snapshot)) ≡ true → ⊥
-  never_done a e d =
-      open_step (waited_for a (plain PreCommit)) _ e
-      (past_group (at_level Freeze System) (waited_for a (at_level Freeze System)) _
-      (past_group (at_level Freeze BackEnd) (waited_for a (at_level Freeze BackEnd)) _
-      (past_group (at_level Freeze FrontEnd) (waited_for a (at_level Freeze FrontEnd)) _
-      (past_group (plain (Orders PrepareSnapshot)) (waited_for a (plain (Orders PrepareSnapshot))) _ d))))
-    where
-      open_step : (ws : List ℕ) (later : List Open) → ws ≡ 0 ∷ [] → is_done (with_group (plain PreCommit) ws later) ≡ true → ⊥
-      open_step [] later e d = cc
-      open_step (w ∷ ws) later e d = cc
-
-  begun_incomplete_if : (done : Bool) (j : Kind) (ms : List Member) (vs : List ℕ) (now : ℕ) (c : Course) → is_done (groups_left (unspoken j ms vs now)) ≡ done → c.outcome ≡ RunningSet
-      → is_complete (settled_if done j (record c { agenda = Some (unspoken j ms vs now) })).outcome ≡ true → ⊥
-  begun_incomplete_if false j ms vs now c d e f = true_not_false (is_complete c.outcome) f (ap is_complete e)
-  begun_incomplete_if true j ms vs now c d e f =
-      let snapshot = completes_snapshot j c.outcome (outcome_after j c.outcome) e refl f in
-      never_done (unspoken j ms vs now) refl (subst (λ x. is_done (left_from (unspoken j ms vs now) (places x)) ≡ true) snapshot d)
-
-  begun_incomplete : (j : Kind) (ms : List Member) (vs : List ℕ) (now : ℕ) (c : Course) → c.outcome ≡ RunningSet → is_complete (begun j ms vs now c).outcome ≡ true → ⊥
-  unfolding begun posted settled
-  begun_incomplete j ms vs now c e f = begun_incomplete_if (is_done (groups_left (unspoken j ms vs now))) j ms vs now c refl e f
-
   -- ## every act
 
   module _ (s : Plan) (st : State) (so_far : List Deed) (h : Stands so_far st) (n : ℕ) where
@@ -424,7 +327,7 @@ module _ (G : Agenda → Type 0) (k : IsKeptAlong G) where
 
     all_next : Covers Next s st
     all_next = record {
-      stays = λ lane o mark told e f. line_stays lane o mark told e f;
+      stays = λ lane o mark told e f. line_stays lane o mark told e f.agenda;
       writes = λ lane o v w mark e f. tells_none lane o mark (write s v w mark st).0 (write s v w mark st).1 (write_ticks o _ e) (first_off (is_snapshot_line (Line lane o)) (is_pending (write s v w mark st).0) (write_no_snapshot lane o _ e)) (on_write so_far s v w mark st h) (incomplete_write n s v w mark st);
       reverts = λ lane m v x mark e f. tells_none lane (op.Revert m v) mark (reverted_as s v x mark st).0 (reverted_as s v x mark st).1 refl refl (on_reverts so_far s v x mark st h) (incomplete_revert n s v x mark st);
       deletes_set = λ lane m c mark e. tells_none lane (op.DeleteSet m) mark (Deleted c) (record st { volumes = map (dropped m) st.volumes }) refl refl h (λ i. i);
@@ -433,7 +336,7 @@ module _ (G : Agenda → Type 0) (k : IsKeptAlong G) where
       begins = λ lane m all c mark e. tells_none lane (op.Begin m all) mark Fine (record st { session = Some (opened lane c all); explicit = [] }) refl refl h (λ i. i);
       disables = λ lane w q mark g. tells_none lane (op.Disable w) mark Fine (disable w st).1 refl refl h (λ i. i);
       gathers = λ lane q mark g. begins_other lane op.Gather mark (gathered (is_disabled s st) st.clock st.course) refl refl (on_begun Gather _ [] st.clock so_far _ (λ x. absurd cc)) (λ run. begun_incomplete Gather _ [] st.clock _ run);
-      names = λ lane w full q explicit mark g. tells_none lane (op.Component w full) mark Fine (record st { explicit = explicit }) refl refl h (λ i. i);
+      names = λ lane w full q explicit mark g named. tells_none lane (op.Component w full) mark Fine (record st { explicit = explicit }) refl refl h (λ i. i);
       starts = λ lane q mark g e. tells_none lane op.Start mark (start_set q st).0 (start_set q st).1 refl refl h (incomplete_append st.sets (new_set (new_number st) q.context) n refl);
       adds = λ lane v r q mark g e f. tells_none lane (op.Add v) mark Fine (change_set r.number (with_volume v) st) refl refl h (incomplete_map (row_changed r.number (with_volume v)) (λ y. changed_number (y.number == r.number) (with_volume v) y refl) (λ y. changed_result (y.number == r.number) (with_volume v) y refl) n st.sets);
       prepares = λ lane q mark g. either (Line lane op.Prepare) mark (has_no_volume (in_progress st)) (refused BadState st) _ (line_stays lane op.Prepare mark (Coded BadState) refl (λ b. refl))

@@ -125,7 +125,7 @@ module _ (s : Plan) (st : State) where
     begins = λ lane n all c mark e. no_ticks st.clock;
     disables = λ lane w q mark g. no_ticks st.clock;
     gathers = λ lane q mark g. stands_still st _ None (clock-followed true _ st) refl;
-    names = λ lane w full q explicit mark g. no_ticks st.clock;
+    names = λ lane w full q explicit mark g named. no_ticks st.clock;
     starts = λ lane q mark g e. no_ticks st.clock;
     adds = λ lane v r q mark g e f. no_ticks st.clock;
     prepares = λ lane q mark g. stands_still st _ None (either (has_no_volume (in_progress st)) _ _ refl (clock-followed true _ st)) refl;

@@ -255,7 +255,7 @@ module _ (s : Plan) (st : State) (h : WellNow st) where
     begins = λ lane n all c mark e. h;
     disables = λ lane w q mark g. h;
     gathers = λ lane q mark g. well_followed true _ st (well_begun Gather _ _ st.clock _ refl);
-    names = λ lane w full q explicit mark g. h;
+    names = λ lane w full q explicit mark g named. h;
     starts = λ lane q mark g e. h;
     adds = λ lane v r q mark g e f. h;
     prepares = λ lane q mark g. either (has_no_volume (in_progress st)) _ _ h (well_followed true _ st (well_begun Prepare _ _ st.clock _ refl));

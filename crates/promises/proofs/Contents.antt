@@ -227,7 +227,7 @@ module _ (s : Plan) (st : State) (v b : ℕ) where
     begins = λ lane n all c mark e g. refl;
     disables = λ lane w q mark i g. refl;
     gathers = λ lane q mark i g. stay_followed true _ st refl;
-    names = λ lane w full q explicit mark i g. refl;
+    names = λ lane w full q explicit mark i named g. refl;
     starts = λ lane q mark i e g. refl;
     adds = λ lane u r q mark i e f g. refl;
     prepares = λ lane q mark i. either (Line lane op.Prepare) mark (has_no_volume (in_progress st)) _ _ (λ g. refl) (λ g. stay_followed true _ st refl);

@@ -225,7 +225,7 @@ module _ (s : Plan) (st : State) (num : NumberedFrom 1 st.sets) (h : Owned st) w
     begins = λ lane n all c mark e. on_begin (opened lane c all) _ e refl refl refl;
     disables = λ lane w q mark g. by _ (relates_same st.sets _ (λ m. refl));
     gathers = λ lane q mark g. by _ (relates_followed true _ st);
-    names = λ lane w full q explicit mark g. by _ (relates_same st.sets _ (λ m. refl));
+    names = λ lane w full q explicit mark g named. by _ (relates_same st.sets _ (λ m. refl));
     starts = λ lane q mark g e img. owned_start q st g num h;
     adds = λ lane v r q mark g e f. by _ (relates_same st.sets _ (context_map (row_changed r.number (with_volume v)) (λ x. changed_number r.number (with_volume v) x refl) (λ x. changed_context r.number (with_volume v) x refl) st.sets));
     prepares = λ lane q mark g. either (Line lane op.Prepare) mark (has_no_volume (in_progress st)) _ _ (λ img. h) (by _ (relates_followed true _ st));

@@ -18,7 +18,7 @@ use Rattle.vss_model.proofs.Volumes.{at}
 use Rattle.promises.specs.Done.{reverts, IsDone}
 use Rattle.promises.specs.Gone.{stands}
 use Rattle.promises.proofs.ByEvent.{after_enabled}
-use Rattle.promises.proofs.Images.{kept_by}
+use Rattle.promises.proofs.GoneImages.{kept_by}
 
 false_of : (b : Bool) → (b ≡ true → ⊥) → b ≡ false
 false_of true f = absurd (f refl)

@@ -45,7 +45,7 @@ use Rattle.vss_model.proofs.FlushFails.{outcome_is_running, flush_fails}
 use Rattle.vss_model.proofs.OrderlyActs.{orderly}
 use Rattle.promises.specs.Failing.{FailsForCause}
 use Rattle.promises.proofs.ByEvent.{after_enabled}
-use Rattle.promises.proofs.Images.{fails_as}
+use Rattle.promises.proofs.GoneImages.{fails_as}
 use Rattle.promises.proofs.Limits.{is_due_in, posted_fails, timed_fails, both_parts}
 use Rattle.promises.proofs.Times.{late_is_due}
 

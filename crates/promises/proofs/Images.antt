@@ -1,25 +1,19 @@
--- Why an image goes: of each change of the volumes, which images it takes.
-use Rattle.std.proofs.Common.{◌≡◌, ◌∙◌, ℕ, ◌+◌, ◌==◌, ◌≤◌, ◌<◌, zero, suc, List, [], ◌∷◌, ◌++◌, ◌⊎◌, Option, Some, None, refl, Bool, true, false, ap, sym, subst, inl, inr, map, filter, find, length, arith}
-use Rattle.std.specs.Prelude.{not, nat_lt, is_some, unwrap_or, option_map, if◌then◌else◌, slice_get}
-use Rattle.std.specs.List.{range_with_len}
+-- Why an image goes: each act takes an image only for a cause.
+use Rattle.std.proofs.Common.{◌≡◌, ◌∙◌, ℕ, ◌+◌, ◌≤◌, ◌<◌, List, ◌⊎◌, Option, Some, None, refl, Bool, true, false, ap, sym, subst, inl, inr, map, find, length, arith}
+use Rattle.std.specs.Prelude.{if◌then◌else◌}
 use Rattle.vss_names.specs.declared.context.Context.{Context}
 use Rattle.vss_names.specs.declared.context.Context.TheVariants.{Backup, AppRollback, NasRollback}
-use Rattle.vss_names.specs.declared.set_outcome.SetOutcome.{SetOutcome}
-use Rattle.vss_names.specs.declared.set_outcome.SetOutcome.TheVariants.{Running as RunningSet, Complete as CompleteSet, Failed as FailedSet}
+use Rattle.vss_names.specs.declared.set_outcome.SetOutcome.TheVariants.{Failed as FailedSet}
 use Rattle.vss_names.specs.declared.vss_result.VssResult.{VssResult}
 use Rattle.vss_names.specs.declared.vss_result.VssResult.TheVariants.{InsufficientStorage, AsyncCancelled}
 use Rattle.writer_state.specs.declared.said.Said.{Said}
 use Rattle.write_history.specs.declared.mark.Mark.{Mark}
 use Rattle.write_history.specs.declared.mark.Mark.TheVariants.{Clean, Fault, FaultAfter}
-use Rattle.write_history.specs.History.{Write, Image, History, point_in, dropped, after_set, up_to_set, written, reverted, reverted_in_part}
-use Rattle.write_history.specs.Slots.{Placed, lacks_slot, gone_up_to, evicted_up_to}
+use Rattle.write_history.specs.History.{Write, History, point_in, dropped, written, reverted, reverted_in_part}
 use Rattle.writer_calls.specs.Script.{said_of}
 use Rattle.set_agenda.specs.declared.group.Group.{Group}
-use Rattle.set_agenda.specs.declared.group.Group.TheVariants.{Orders, PreCommit, Flush, Hold, Cut, Commit, Release, PostCommit}
-use Rattle.set_agenda.specs.declared.kind.Kind.{Kind}
-use Rattle.set_agenda.specs.declared.kind.Kind.TheVariants.{Gather, Prepare, Snapshot, Complete}
-use Rattle.set_agenda.specs.Agenda.{Agenda, groups_left, is_among, is_done, open_group}
-use Rattle.set_agenda.specs.Course.{Course, posted, failed as course_failed, outcome_after, settled_if, settled_in, settled, worked, answered as course_answered, stepped as course_stepped, timed as course_timed, change_at}
+use Rattle.set_agenda.specs.Agenda.{open_group}
+use Rattle.set_agenda.specs.Course.{Course, answered as course_answered, stepped as course_stepped, timed as course_timed, change_at}
 use Rattle.requestor.specs.Session.{Session}
 use Rattle.scenario.specs.declared.op.Op.{Op}
 use Rattle.scenario.specs.declared.op.Op.TheVariants as op
@@ -28,263 +22,20 @@ use Rattle.scenario.specs.Plan.{Plan, blocks_of, slots_of, group_of}
 use Rattle.vss_model.specs.declared.event.Event.{Event}
 use Rattle.vss_model.specs.declared.event.Event.TheVariants.{Line, Answer as AnswerEvent, Provider, Idle}
 use Rattle.vss_model.specs.State.{State, SetRow, Kept, is_running, in_progress, row_of, left_now, history_of, has_image, kept_image}
-use Rattle.vss_model.specs.Ending.{Ending, NothingEnds, AgendaEnds, SetFails, ending, row_settled, images_dropped, concluded, followed, runs, failed_in, failed}
+use Rattle.vss_model.specs.Ending.{row_settled, followed, runs, failed_in, failed}
 use Rattle.vss_model.specs.Images.{Replied, cleared, going_up_to, set_loses_image, with_room_if, with_room, put, write, reverted_as, is_backup}
 use Rattle.vss_model.specs.Sessions.{has_no_volume, images_released, closed}
-use Rattle.vss_model.specs.Steps.{answered, cut_if, cut_each, cut_set, step_made, is_flush, is_failed_step, stepped_as, stepped, ticked, later}
+use Rattle.vss_model.specs.Steps.{answered, step_made, is_flush, is_failed_step, stepped_as, stepped, ticked, later}
 use Rattle.vss_model.specs.Facts.{NumberedFrom, has_failed}
-use Rattle.vss_model.specs.Headline.{IsFailed}
 use Rattle.vss_model.specs.Acts.{Act, enabled, idle_now, after, state}
-use Rattle.vss_model.proofs.LogRule.{course-step_made}
 use Rattle.vss_model.proofs.OneCut.{row_number, kept_point}
 use Rattle.vss_model.proofs.Orderly.{true_not_false}
 use Rattle.vss_model.proofs.OrderlyActs.{orderly}
-use Rattle.vss_model.proofs.Rows.{running_found, row_running, row_settles, result-settled}
 use Rattle.vss_model.proofs.Volumes.{at, FewerIn, fewer_written, fewer_in_same, fewer_in_change, fewer_in_over}
 use Rattle.vss_model.proofs.FewerImages.{fewer_images_dropped}
-use Rattle.promises.specs.Gone.{stands, Fails, within, IsWanted, IsOfSession, Takes, ImagesGoForCause}
+use Rattle.promises.specs.Gone.{stands, Fails, IsWanted, IsOfSession, Takes, ImagesGoForCause}
 use Rattle.promises.proofs.ByEvent.{Covers, covered, after_enabled, after_not_enabled}
-
--- ## lists of images
-
-gone_by : (test : ℕ → Bool) (n : ℕ) (images : List Image) → is_some (point_in n images) ≡ true → is_some (point_in n (filter (λ i. test i.set) images)) ≡ false → test n ≡ false
-gone_by test n [] e f = absurd cc
-gone_by test n (i ∷ images) e f = by_head (i.set == n) (test i.set) refl refl e f (gone_by test n images)
-  where
-    equal : (a b : ℕ) → (a == b) ≡ true → a ≡ b
-    equal a b e = grind arith
-
-    found : (c : Bool) (o : Option ℕ) → c ≡ true → is_some (if c then Some i.point else o) ≡ true
-    found true o e = refl
-    found false o e = absurd cc
-
-    skipped : (c : Bool) (o : Option ℕ) → c ≡ false → is_some (if c then Some i.point else o) ≡ false → is_some o ≡ false
-    skipped true o e f = absurd cc
-    skipped false o e f = f
-
-    by_head : (b c : Bool) → (i.set == n) ≡ b → test i.set ≡ c → is_some (if b then Some i.point else point_in n images) ≡ true → is_some (point_in n (if c then i ∷ filter (λ i. test i.set) images else filter (λ i. test i.set) images)) ≡ false
-        → (is_some (point_in n images) ≡ true → is_some (point_in n (filter (λ i. test i.set) images)) ≡ false → test n ≡ false) → test n ≡ false
-    by_head true true g h e f ih = absurd (true_not_false _ (found (i.set == n) (point_in n (filter (λ i. test i.set) images)) g) f)
-    by_head true false g h e f ih = subst (λ m. test m ≡ false) (equal i.set n g) h
-    by_head false true g h e f ih = ih e (skipped (i.set == n) (point_in n (filter (λ i. test i.set) images)) g f)
-    by_head false false g h e f ih = ih e f
-
-pub kept_by : (test : ℕ → Bool) (n : ℕ) (images : List Image) → is_some (point_in n (filter (λ i. test i.set) images)) ≡ true → test n ≡ true
-kept_by test n [] e = absurd cc
-kept_by test n (i ∷ images) e = by_head (test i.set) (i.set == n) refl refl e (kept_by test n images)
-  where
-    equal : (a b : ℕ) → (a == b) ≡ true → a ≡ b
-    equal a b e = grind arith
-
-    skipped : (c : Bool) (o : Option ℕ) → c ≡ false → is_some (if c then Some i.point else o) ≡ true → is_some o ≡ true
-    skipped true o e f = absurd cc
-    skipped false o e f = f
-
-    by_head : (b c : Bool) → test i.set ≡ b → (i.set == n) ≡ c → is_some (point_in n (if b then i ∷ filter (λ i. test i.set) images else filter (λ i. test i.set) images)) ≡ true
-        → (is_some (point_in n (filter (λ i. test i.set) images)) ≡ true → test n ≡ true) → test n ≡ true
-    by_head false c g h e ih = ih e
-    by_head true true g h e ih = subst (λ m. test m ≡ true) (equal i.set n h) g
-    by_head true false g h e ih = ih (skipped (i.set == n) _ h e)
-
-still_after : (n : ℕ) (images : List Image) (m p : ℕ) → is_some (point_in n images) ≡ true → is_some (point_in n (images ++ record { set = m; point = p } ∷ [])) ≡ true
-still_after n [] m p e = absurd cc
-still_after n (i ∷ images) m p e = by_head (i.set == n) e (still_after n images m p)
-  where
-    by_head : (b : Bool) → is_some (if b then Some i.point else point_in n images) ≡ true → (is_some (point_in n images) ≡ true → is_some (point_in n (images ++ record { set = m; point = p } ∷ [])) ≡ true)
-        → is_some (if b then Some i.point else point_in n (images ++ record { set = m; point = p } ∷ [])) ≡ true
-    by_head true e ih = refl
-    by_head false e ih = ih e
-
-not_of : (b : Bool) → not b ≡ false → b ≡ true
-not_of true e = refl
-not_of false e = absurd cc
-
-equal : (a b : ℕ) → (a == b) ≡ true → a ≡ b
-equal a b e = grind arith
-
-no_less : (a b : ℕ) → nat_lt a b ≡ false → b ≤ a
-no_less a b e = grind arith
-
-is_less : (a b : ℕ) → nat_lt a b ≡ true → a < b
-is_less a b e = grind arith
-
-gone_dropped : (m n : ℕ) (h : History) → has_image n h ≡ true → has_image n (dropped m h) ≡ false → m ≡ n
-gone_dropped m n h e f = sym (equal n m (not_of (n == m) (gone_by (λ k. not (k == m)) n h.images e f)))
-
-gone_reverted : (m n : ℕ) (images : List Image) → is_some (point_in n images) ≡ true → is_some (point_in n (up_to_set m images)) ≡ false → m < n
-gone_reverted m n images e f = is_less m n (not_of (nat_lt m n) (gone_by (λ k. not (nat_lt m k)) n images e f))
-
--- ## on which volume
-
-gone_map : (f : History → History) (n : ℕ) (hs : List History) (v : ℕ) → has_image n (at hs v) ≡ true → has_image n (at (map f hs) v) ≡ false → has_image n (f (at hs v)) ≡ false
-gone_map f n [] zero e g = absurd cc
-gone_map f n [] (suc v) e g = absurd cc
-gone_map f n (h ∷ hs) zero e g = g
-gone_map f n (h ∷ hs) (suc v) e g = gone_map f n hs v e g
-
-gone_change : (f : History → History) (n u : ℕ) (hs : List History) (v : ℕ) → has_image n (at hs v) ≡ true → has_image n (at (change_at u f hs) v) ≡ false → (u ≡ v) × (has_image n (f (at hs v)) ≡ false)
-gone_change f n u [] v e g = absurd (true_not_false (has_image n (at [] v)) e g)
-gone_change f n zero (h ∷ hs) zero e g = (refl, g)
-gone_change f n zero (h ∷ hs) (suc v) e g = absurd (true_not_false (has_image n (at hs v)) e g)
-gone_change f n (suc u) (h ∷ hs) zero e g = absurd (true_not_false (has_image n h) e g)
-gone_change f n (suc u) (h ∷ hs) (suc v) e g = let ih = gone_change f n u hs v e g in (ap suc ih.0, ih.1)
-
-gone_group : (m n : ℕ) (ps : List Placed) (hs : List History) (v : ℕ) → has_image n (at hs v) ≡ true → has_image n (at (gone_up_to m ps hs) v) ≡ false → (within (slice_get ps v) ≡ true) × (n ≤ m)
-gone_group m n [] hs v e g = absurd (true_not_false (has_image n (at hs v)) e g)
-gone_group m n (p ∷ ps) [] v e g = absurd (true_not_false (has_image n (at [] v)) e g)
-gone_group m n (p ∷ ps) (h ∷ hs) zero e g = by_group p.within refl g
-  where
-    by_group : (b : Bool) → p.within ≡ b → has_image n (if b then record { writes = h.writes; images = after_set m h.images } else h) ≡ false → (p.within ≡ true) × (n ≤ m)
-    by_group true i g = (i, no_less m n (gone_by (λ k. nat_lt m k) n h.images e g))
-    by_group false i g = absurd (true_not_false (has_image n h) e g)
-gone_group m n (p ∷ ps) (h ∷ hs) (suc v) e g = gone_group m n ps hs v e g
-
-left_in_group : (m n : ℕ) (ps : List Placed) (hs : List History) (v : ℕ) → within (slice_get ps v) ≡ true → has_image n (at (gone_up_to m ps hs) v) ≡ true → m < n
-left_in_group m n [] hs zero w e = absurd cc
-left_in_group m n [] hs (suc v) w e = absurd cc
-left_in_group m n (p ∷ ps) [] v w e = absurd (no_image v e)
-  where
-    no_image : (v : ℕ) → has_image n (at [] v) ≡ true → ⊥
-    no_image zero e = cc
-    no_image (suc v) e = cc
-left_in_group m n (p ∷ ps) (h ∷ hs) zero w e = by_group p.within w e
-  where
-    by_group : (b : Bool) → b ≡ true → has_image n (if b then record { writes = h.writes; images = after_set m h.images } else h) ≡ true → m < n
-    by_group true i e = is_less m n (kept_by (λ k. nat_lt m k) n h.images e)
-    by_group false i e = absurd cc
-left_in_group m n (p ∷ ps) (h ∷ hs) (suc v) w e = left_in_group m n ps hs v w e
-
-cut_keeps : (n m : ℕ) (vs : List ℕ) (u : ℕ) (hs : List History) (v : ℕ) → has_image n (at hs v) ≡ true → has_image n (at (cut_each m vs u hs) v) ≡ true
-cut_keeps n m vs u [] v e = e
-cut_keeps n m vs u (h ∷ hs) zero e = by_set (is_among u vs)
-  where
-    by_set : (b : Bool) → has_image n (cut_if b m h) ≡ true
-    by_set true = still_after n h.images m (length h.writes) e
-    by_set false = e
-cut_keeps n m vs u (h ∷ hs) (suc v) e = cut_keeps n m vs (u + 1) hs v e
-
--- ## the least number of sets
-
-found_least : (test : ℕ → Bool) (a len m : ℕ) → a ≤ m → m < unwrap_or (find test (range_with_len a len)) (a + len) → test m ≡ false
-found_least test a zero m l h = absurd (over a m l h)
-  where
-    over : (a m : ℕ) → a ≤ m → m < a + 0 → ⊥
-    over a m l h = omega arith
-found_least test a (suc len) m l h = by_head (test a) (a == m) refl refl h (found_least test (a + 1) len m)
-  where
-    one_more : (a len : ℕ) → a + suc len ≡ a + 1 + len
-    one_more a len = omega arith
-
-    itself : (a m : ℕ) → a ≤ m → m < a → ⊥
-    itself a m l h = omega arith
-
-    next : (a m : ℕ) → a ≤ m → (a == m) ≡ false → a + 1 ≤ m
-    next a m l e = grind arith
-
-    by_head : (b c : Bool) → test a ≡ b → (a == m) ≡ c → m < unwrap_or (if b then Some a else find test (range_with_len (a + 1) len)) (a + suc len)
-        → (a + 1 ≤ m → m < unwrap_or (find test (range_with_len (a + 1) len)) (a + 1 + len) → test m ≡ false) → test m ≡ false
-    by_head true c g i h ih = absurd (itself a m l h)
-    by_head false true g i h ih = subst (λ k. test k ≡ false) (equal a m i) g
-    by_head false false g i h ih = ih (next a m l i) (subst (λ k. m < unwrap_or (find test (range_with_len (a + 1) len)) k) (one_more a len) h)
-
-least_sets : (sets slots : ℕ) (ps : List Placed) (v b : ℕ) (hs : List History) (m : ℕ) → m < evicted_up_to sets slots ps v b hs → lacks_slot slots ps v b (gone_up_to m ps hs) ≡ true
-least_sets sets slots ps v b hs m h = not_of _ (found_least (λ k. not (lacks_slot slots ps v b (gone_up_to k ps hs))) 0 sets m (omega arith) (subst (λ k. m < unwrap_or (find (λ k. not (lacks_slot slots ps v b (gone_up_to k ps hs))) (range_with_len 0 sets)) k) (from_none sets) h))
-  where
-    from_none : (n : ℕ) → n ≡ 0 + n
-    from_none n = omega arith
-
--- ## a set that fails
-
-failed_row : (st x : State) (r : SetRow) (p : SetOutcome) → in_progress st ≡ Some r → NumberedFrom 1 st.sets → x.sets ≡ map (row_settled p) st.sets → has_failed p ≡ true → IsFailed x r.number
-failed_row st x r p e num sets f =
-    let found = row_running 1 st.sets r num e in
-    record {
-      row = row_settled p r;
-      is = ap (find (λ (q : SetRow). q.number == r.number)) sets ∙ row_settles p r.number st.sets ∙ ap (option_map (row_settled p)) found;
-      failed = ap has_failed (result-settled (is_running r.result) p r (running_found st.sets r e)) ∙ f;
-    }
-
-pub fails_as : (st x : State) (r : SetRow) (p : SetOutcome) (n : ℕ) → in_progress st ≡ Some r → NumberedFrom 1 st.sets → x.sets ≡ map (row_settled p) st.sets → has_failed p ≡ true → r.number ≡ n → Fails st x n
-fails_as st x r p n e num sets f same = record { set = r; is = e; number = same; failed = subst (IsFailed x) same (failed_row st x r p e num sets f) }
-
--- where the images of the set in progress go
-gone_of_set : (o : Option SetRow) (n : ℕ) (hs : List History) (v : ℕ) (X : Type 0) → has_image n (at hs v) ≡ true → has_image n (at (images_dropped o hs) v) ≡ false → ((r : SetRow) → o ≡ Some r → r.number ≡ n → X) → X
-gone_of_set None n hs v X e g f = absurd (true_not_false (has_image n (at hs v)) e g)
-gone_of_set (Some r) n hs v X e g f = f r refl (gone_dropped r.number n (at hs v) e (gone_map (dropped r.number) n hs v e g))
-
--- what ends where a set fails
-ends_failing : (o p : SetOutcome) (ran : Bool) (a : Option Agenda) (why : VssResult) → ending o p ran a ≡ SetFails why → (o ≡ RunningSet) × (has_failed p ≡ true)
-ends_failing RunningSet (FailedSet x) ran a why e = (refl, refl)
-ends_failing RunningSet RunningSet true None why e = absurd cc
-ends_failing RunningSet RunningSet true (Some a) why e = absurd cc
-ends_failing RunningSet RunningSet false a why e = absurd cc
-ends_failing RunningSet CompleteSet true None why e = absurd cc
-ends_failing RunningSet CompleteSet true (Some a) why e = absurd cc
-ends_failing RunningSet CompleteSet false a why e = absurd cc
-ends_failing CompleteSet p true None why e = absurd cc
-ends_failing CompleteSet p true (Some a) why e = absurd cc
-ends_failing CompleteSet p false a why e = absurd cc
-ends_failing (FailedSet x) p true None why e = absurd cc
-ends_failing (FailedSet x) p true (Some a) why e = absurd cc
-ends_failing (FailedSet x) p false a why e = absurd cc
-
-module _ (n v : ℕ) where
-  gone_ended : (e : Ending) (why_failed : (why : VssResult) → e ≡ SetFails why → Type 0) (x : State) (X : Type 0) → stands x n v ≡ true → stands (concluded e x) n v ≡ false
-      → ((why : VssResult) (r : SetRow) → e ≡ SetFails why → in_progress x ≡ Some r → r.number ≡ n → (concluded e x).sets ≡ map (row_settled x.course.outcome) x.sets → X) → X
-  gone_ended NothingEnds w x X h g f = absurd (true_not_false (stands x n v) h g)
-  gone_ended AgendaEnds w x X h g f = absurd (true_not_false (stands x n v) h g)
-  gone_ended (SetFails why) w x X h g f = gone_of_set (in_progress x) n x.volumes v X h g (λ r e s. f why r refl e s refl)
-
-  gone_followed : (ran : Bool) (c : Course) (x : State) (X : Type 0) → stands x n v ≡ true → stands (followed ran c x) n v ≡ false
-      → ((r : SetRow) → x.course.outcome ≡ RunningSet → has_failed c.outcome ≡ true → in_progress x ≡ Some r → r.number ≡ n → (followed ran c x).sets ≡ map (row_settled c.outcome) x.sets → X) → X
-  unfolding followed
-  gone_followed ran c x X h g f =
-      gone_ended (ending x.course.outcome c.outcome ran c.agenda) (λ why e. Unit {0}) (record x { course = c }) X h g
-      (λ why r e i s sets. let both = ends_failing x.course.outcome c.outcome ran c.agenda why e in f r both.0 both.1 i s sets)
-
-  gone_failed_in : (o : Option SetRow) (why : VssResult) (x : State) (X : Type 0) → stands x n v ≡ true → stands (failed_in o why x) n v ≡ false
-      → ((r : SetRow) → in_progress x ≡ Some r → r.number ≡ n → (failed_in o why x).sets ≡ map (row_settled (FailedSet why)) x.sets → X) → X
-  unfolding course_failed
-  gone_failed_in None why x X h g f = absurd (true_not_false (stands x n v) h g)
-  gone_failed_in (Some q) why x X h g f = gone_of_set (in_progress x) n x.volumes v X h g (λ r e s. f r e s refl)
-
--- ## a step that is made fails nothing
-
-none_outcome : (k : Kind) (o : SetOutcome) → has_failed o ≡ false → has_failed (outcome_after k o) ≡ false
-none_outcome Gather o h = h
-none_outcome Prepare o h = h
-none_outcome Snapshot o h = refl
-none_outcome Complete o h = h
-
-none_settled_if : (b : Bool) (k : Kind) (c : Course) → has_failed c.outcome ≡ false → has_failed (settled_if b k c).outcome ≡ false
-none_settled_if true k c h = none_outcome k c.outcome h
-none_settled_if false k c h = h
-
-none_settled_in : (o : Option Agenda) (c : Course) → has_failed c.outcome ≡ false → has_failed (settled_in o c).outcome ≡ false
-none_settled_in None c h = h
-none_settled_in (Some a) c h = none_settled_if (is_done (groups_left a)) a.kind c h
-
-none_stepped : (now : ℕ) (c : Course) → has_failed c.outcome ≡ false → has_failed (course_stepped true now c).outcome ≡ false
-unfolding posted settled worked
-none_stepped now c h = none_settled_in (worked now c).agenda (worked now c) h
-
-course-made : (g : Option Group) (st : State) → (step_made g st).course ≡ st.course
-course-made g st = course-step_made g st
-
-made_keeps : (n v : ℕ) (g : Option Group) (st : State) → stands st n v ≡ true → stands (step_made g st) n v ≡ true
-made_keeps n v None st h = h
-made_keeps n v (Some (Orders o)) st h = h
-made_keeps n v (Some PreCommit) st h = h
-made_keeps n v (Some Flush) st h = h
-made_keeps n v (Some Hold) st h = h
-made_keeps n v (Some Cut) st h = cut_keeps_set (in_progress st) h
-  where
-    cut_keeps_set : (o : Option SetRow) → stands st n v ≡ true → stands (cut_set o st) n v ≡ true
-    cut_keeps_set None h = h
-    cut_keeps_set (Some r) h = cut_keeps n r.number r.volumes 0 st.volumes v h
-made_keeps n v (Some Commit) st h = h
-made_keeps n v (Some Release) st h = h
-made_keeps n v (Some PostCommit) st h = h
+use Rattle.promises.proofs.GoneImages.{gone_dropped, gone_reverted, gone_map, gone_change, gone_group, left_in_group, least_sets, fails_as, gone_followed, gone_failed_in, none_stepped, course-made, made_keeps}
 
 -- ## every act
 
@@ -309,18 +60,18 @@ module _ (s : Plan) (st : State) (num : NumberedFrom 1 st.sets) (n v : ℕ) wher
 
   -- ## writes
 
-  volumes_put : (u : ℕ) (w : Write) (mark : Mark) (x : State) → FewerIn x.volumes (put u w mark x).volumes
+  pub volumes_put : (u : ℕ) (w : Write) (mark : Mark) (x : State) → FewerIn x.volumes (put u w mark x).volumes
   volumes_put u w Clean x = fewer_in_change (written w) (fewer_written w) u x.volumes
   volumes_put u w Fault x = fewer_in_same x.volumes
   volumes_put u w (FaultAfter k) x = fewer_in_same x.volumes
 
   -- a write takes no image beside those that go for want of a slot
-  put_keeps : (u : ℕ) (w : Write) (mark : Mark) (x : State) → stands x n v ≡ true → stands (put u w mark x) n v ≡ false → ⊥
+  pub put_keeps : (u : ℕ) (w : Write) (mark : Mark) (x : State) → stands x n v ≡ true → stands (put u w mark x) n v ≡ false → ⊥
   put_keeps u w Clean x h g = true_not_false (has_image n (at x.volumes v)) h (gone_change (written w) n u x.volumes v h g).1
   put_keeps u w Fault x h g = true_not_false (stands x n v) h g
   put_keeps u w (FaultAfter k) x h g = true_not_false (stands x n v) h g
 
-  volumes_room : (b : Bool) (x : State) → FewerIn x.volumes (with_room_if b x).volumes
+  pub volumes_room : (b : Bool) (x : State) → FewerIn x.volumes (with_room_if b x).volumes
   volumes_room true x = by_set (in_progress x)
     where
       by_set : (o : Option SetRow) → FewerIn x.volumes (failed_in o InsufficientStorage x).volumes
@@ -334,7 +85,7 @@ module _ (s : Plan) (st : State) (num : NumberedFrom 1 st.sets) (n v : ℕ) wher
   sets_put u w (FaultAfter k) x = refl
 
   module _ (u : ℕ) (w : Write) (mark : Mark) where
-    abbrev roomy : State
+    abbrev pub roomy : State
     roomy = cleared s u w.block st
 
     abbrev written_to : State
@@ -361,7 +112,7 @@ module _ (s : Plan) (st : State) (num : NumberedFrom 1 st.sets) (n v : ℕ) wher
         false_of true f = absurd (f refl)
         false_of false f = refl
 
-    wants_or_fails : (b : Bool) (c : Bool) → stands roomy n v ≡ c → stands st n v ≡ true → stands (put u w mark (with_room_if b roomy)) n v ≡ false → Fails st (put u w mark (with_room_if b roomy)) n ⊎ (stands roomy n v ≡ false)
+    pub wants_or_fails : (b : Bool) (c : Bool) → stands roomy n v ≡ c → stands st n v ≡ true → stands (put u w mark (with_room_if b roomy)) n v ≡ false → Fails st (put u w mark (with_room_if b roomy)) n ⊎ (stands roomy n v ≡ false)
     wants_or_fails b false e h g = inr e
     wants_or_fails false true e h g = absurd (put_keeps u w mark roomy e g)
     wants_or_fails true true e h g = inl (by_stand (stands (failed InsufficientStorage roomy) n v) refl)
@@ -474,7 +225,7 @@ module _ (s : Plan) (st : State) (num : NumberedFrom 1 st.sets) (n v : ℕ) wher
     begins = λ lane m all c mark e h g. absurd (true_not_false (stands st n v) h g);
     disables = λ lane w q mark i h g. absurd (true_not_false (stands st n v) h g);
     gathers = λ lane q mark i h g. by_course (Line lane op.Gather) true _ st refl refl h g;
-    names = λ lane w full q explicit mark i h g. absurd (true_not_false (stands st n v) h g);
+    names = λ lane w full q explicit mark i named h g. absurd (true_not_false (stands st n v) h g);
     starts = λ lane q mark i e h g. absurd (true_not_false (stands st n v) h g);
     adds = λ lane u r q mark i e f h g. absurd (true_not_false (stands st n v) h g);
     prepares = λ lane q mark i. either (Line lane op.Prepare) mark (has_no_volume (in_progress st)) _ _ (λ h g. absurd (true_not_false (stands st n v) h g)) (λ h g. by_course (Line lane op.Prepare) true _ st refl refl h g);

@@ -2,6 +2,7 @@ pub mod ByEvent
 pub mod Clock
 pub mod Idle
 pub mod Speaks
+pub mod Incomplete
 pub mod Along
 pub mod Levels
 pub mod Stages
@@ -9,6 +10,7 @@ pub mod Heard
 pub mod Once
 pub mod Orders
 pub mod Whole
+pub mod GoneImages
 pub mod Images
 pub mod Done
 pub mod Limits
@@ -40,4 +42,16 @@ pub mod Aborts
 pub mod Telling
 pub mod Copies
 pub mod Accepted
+pub mod Members
+pub mod SameChoice
+pub mod Participants
+pub mod Prepares
+pub mod Lost
+pub mod Evicted
+pub mod CutTimes
+pub mod Properties
+pub mod CalmCourses
+pub mod SetFailures
+pub mod LastResult
+pub mod Awaited
 pub mod Promises

@@ -33,12 +33,12 @@ point_if : (b : Bool) (r : SetRow) (o : Option ℕ) (k : Kept) → kept_if b r o
 point_if true r o k e = point_at r o k e
 point_if false r o k e = absurd cc
 
-point_of : (row : Option SetRow) (o : Option ℕ) (k : Kept) → kept_of row o ≡ Some k → o ≡ Some k.point
+pub point_of : (row : Option SetRow) (o : Option ℕ) (k : Kept) → kept_of row o ≡ Some k → o ≡ Some k.point
 point_of None o k e = absurd cc
 point_of (Some r) o k e = point_if (is_complete r.result) r o k e
 
 -- a kept image reads as the volume at the cut
-at_the_cut : (s : Plan) (so_far : List Act) (n v : ℕ) (k : Kept) → kept_image (state s so_far) n v ≡ Some k → ReadsAsAtTheCut s so_far n v k.point
+pub at_the_cut : (s : Plan) (so_far : List Act) (n v : ℕ) (k : Kept) → kept_image (state s so_far) n v ≡ Some k → ReadsAsAtTheCut s so_far n v k.point
 at_the_cut s so_far n v k e = (keeps_promises s so_far).images n v k.point (point_of (row_of (state s so_far) n) (point_in n (history_of (state s so_far) v).images) k e)
 
 map_along : {X : Type 0} (f g : ℕ → X) → ((n : ℕ) → f n ≡ g n) → (ns : List ℕ) → map f ns ≡ map g ns

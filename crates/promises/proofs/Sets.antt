@@ -225,7 +225,7 @@ module _ (s : Plan) (st : State) (num : NumberedFrom 1 st.sets) (h : AllDistinct
     begins = λ lane n all c mark e. h;
     disables = λ lane w q mark g. h;
     gathers = λ lane q mark g. in_followed true _ st h;
-    names = λ lane w full q explicit mark g. h;
+    names = λ lane w full q explicit mark g named. h;
     starts = λ lane q mark g e. distinct_append st.sets (new_set (new_number st) q.context) h refl;
     adds = λ lane v r q mark g e f. on_add v r e f;
     prepares = λ lane q mark g. either (has_no_volume (in_progress st)) _ _ h (in_followed true _ st h);

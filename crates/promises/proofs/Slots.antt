@@ -256,7 +256,7 @@ module _ (s : Plan) (plan : IsPlan s) (st : State) (time : (v : ℕ) → AreInTi
       begins = λ lane n all c mark e. fit;
       disables = λ lane w q mark g. fit;
       gathers = λ lane q mark g. by_less _ (less_followed true _ st);
-      names = λ lane w full q explicit mark g. fit;
+      names = λ lane w full q explicit mark g named. fit;
       starts = λ lane q mark g e. fit;
       adds = λ lane v r q mark g e f. fit;
       prepares = λ lane q mark g. either (has_no_volume (in_progress st)) _ _ fit (by_less _ (less_followed true _ st));

@@ -314,7 +314,7 @@ module _ (s : Plan) (so_far : List Act) where
     begins = λ lane n all c mark e i. same_sets _ refl (counts_same rows);
     disables = λ lane w q mark g i. same_sets _ refl (counts_same rows);
     gathers = λ lane q mark g i. quiet_course (Line lane op.Gather) mark true _ st refl (stay_begun Gather _ _ st.clock st.course _ (counts_map row_gathered (λ r. refl) rows)) i;
-    names = λ lane w full q explicit mark g i. same_sets _ refl (counts_same rows);
+    names = λ lane w full q explicit mark g named i. same_sets _ refl (counts_same rows);
     starts = λ lane q mark g e i. told_none _ (no_cause (Line lane op.Start) mark _ i refl) (counts_same rows);
     adds = λ lane v r q mark g e f i. told_none _ (no_cause (Line lane (op.Add v)) mark _ i refl) (counts_same rows);
     prepares = λ lane q mark g. either (Line lane op.Prepare) mark (has_no_volume (in_progress st)) _ _ (λ i. unchanged) (λ i. quiet_course (Line lane op.Prepare) mark true _ st refl (stay_begun Prepare _ _ st.clock st.course _ (counts_same rows)) i);

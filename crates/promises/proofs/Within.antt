@@ -314,7 +314,7 @@ module _ (s : Plan) (st : State) (h : InTimeNow st) where
     begins = λ lane n all c mark e. h;
     disables = λ lane w q mark g. h;
     gathers = λ lane q mark g. followed_in_time true _ st (keeps_begun _ _ _ st.clock _);
-    names = λ lane w full q explicit mark g. h;
+    names = λ lane w full q explicit mark g named. h;
     starts = λ lane q mark g e. h;
     adds = λ lane v r q mark g e f. h;
     prepares = λ lane q mark g. either (has_no_volume (in_progress st)) _ _ h (followed_in_time true _ st (keeps_begun _ _ _ st.clock _));

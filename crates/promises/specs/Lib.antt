@@ -17,4 +17,9 @@ pub mod Completing
 pub mod Telling
 pub mod Copies
 pub mod Accepted
+pub mod Participants
+pub mod Lost
+pub mod Evicted
+pub mod Properties
+pub mod Awaited
 pub mod Promises

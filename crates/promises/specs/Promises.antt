@@ -5,6 +5,7 @@ use Rattle.scenario.specs.Plan.{Plan}
 use Rattle.vss_model.specs.Acts.{Act}
 use Rattle.vss_model.specs.Trail.{acts}
 use Rattle.promises.specs.Accepted.{AcceptsOwner}
+use Rattle.promises.specs.Awaited.{AwaitTells}
 use Rattle.promises.specs.Calls.{CallsAreOwned, WaitsAreFew, StandsQuiet, FrozenDoNotWrite}
 use Rattle.promises.specs.Clock.{ClockMoves}
 use Rattle.promises.specs.Completing.{CompletesUnfailed}
@@ -12,9 +13,13 @@ use Rattle.promises.specs.Contents.{ContentsChange}
 use Rattle.promises.specs.ContextZero.{BackupsEnd}
 use Rattle.promises.specs.Copies.{CopiesHold}
 use Rattle.promises.specs.Done.{IsDone}
+use Rattle.promises.specs.Evicted.{TellsEvicted}
 use Rattle.promises.specs.Failing.{FailsForCause}
 use Rattle.promises.specs.Gone.{ImagesGoForCause}
 use Rattle.promises.specs.Idle.{IdlesShortest}
+use Rattle.promises.specs.Lost.{LosesTheLate}
+use Rattle.promises.specs.Participants.{ChosenTakePart, TakesPart}
+use Rattle.promises.specs.Properties.{PropertiesTell}
 use Rattle.promises.specs.Replies.{RepliesTell}
 use Rattle.promises.specs.Rows.{RowsTell}
 use Rattle.promises.specs.Sets.{VolumesAreDistinct}
@@ -26,23 +31,29 @@ use Rattle.promises.specs.Within.{StandsWithinLimits}
 
 -- of an act that comes after these
 pub record IsActAsPromised (s : Plan) (so_far : List Act) (act : Act) : Type 0 where
+  pub participants : TakesPart s so_far act
   pub completes : CompletesByTheWay s so_far act
   pub fails : FailsForCause s so_far act
   pub images : ImagesGoForCause s so_far act
+  pub evicted : TellsEvicted s so_far act
   pub done : IsDone s so_far act
   pub contents : ContentsChange s so_far act
   pub clock : ClockMoves s so_far act
   pub calls : CallsAreOwned s so_far act
   pub accepts : AcceptsOwner s so_far act
   pub replies : RepliesTell s so_far act
+  pub properties : PropertiesTell s so_far act
+  pub awaits : AwaitTells s so_far act
   pub rows : RowsTell s so_far act
   pub tells : TellsFailure s so_far act
+  pub loses : LosesTheLate s so_far act
 
 -- of the state after these acts
 pub record IsStateAsPromised (s : Plan) (so_far : List Act) : Type 0 where
   pub waits : WaitsAreFew s so_far
   pub quiet : StandsQuiet s so_far
   pub frozen : FrozenDoNotWrite s so_far
+  pub chosen : ChosenTakePart s so_far
   pub volumes : VolumesAreDistinct s so_far
   pub idles : IdlesShortest s so_far
   pub limits : StandsWithinLimits s so_far

@@ -5,6 +5,7 @@ ghost use Rattle.write_history.specs.declared.move_item.Move.{Move};
 ghost use Rattle.scenario.specs.Plan.{Plan};
 ghost use Rattle.vss_model.specs.Acts.{Act};
 ghost use Rattle.promises.specs.Accepted.{AcceptsOwner};
+ghost use Rattle.promises.specs.Awaited.{AwaitTells};
 ghost use Rattle.promises.specs.Calls.{CallsAreOwned, WaitsAreFew, StandsQuiet, FrozenDoNotWrite};
 ghost use Rattle.promises.specs.Clock.{ClockMoves};
 ghost use Rattle.promises.specs.Completing.{CompletesUnfailed};
@@ -12,10 +13,14 @@ ghost use Rattle.promises.specs.Contents.{ContentsChange};
 ghost use Rattle.promises.specs.ContextZero.{BackupsEnd};
 ghost use Rattle.promises.specs.Copies.{CopiesHold};
 ghost use Rattle.promises.specs.Done.{IsDone};
+ghost use Rattle.promises.specs.Evicted.{TellsEvicted};
 ghost use Rattle.promises.specs.Failing.{FailsForCause};
 ghost use Rattle.promises.specs.Gone.{ImagesGoForCause};
 ghost use Rattle.promises.specs.Idle.{IdlesShortest};
+ghost use Rattle.promises.specs.Lost.{LosesTheLate};
+ghost use Rattle.promises.specs.Participants.{ChosenTakePart, TakesPart};
 ghost use Rattle.promises.specs.Promises.{IsAsPromised};
+ghost use Rattle.promises.specs.Properties.{PropertiesTell};
 ghost use Rattle.promises.specs.Replies.{RepliesTell};
 ghost use Rattle.promises.specs.Rows.{RowsTell};
 ghost use Rattle.promises.specs.Sets.{VolumesAreDistinct};
@@ -36,6 +41,11 @@ pub fn images_go_for_cause()
     ensures { (s : Plan) (so_far : List Act) (act : Act) → ImagesGoForCause s so_far act }
 {}
 
+/// A write tells as evicted exactly the images that were kept before it and do not stand after it, in order.
+pub fn writes_tell_the_evicted()
+    ensures { (s : Plan) (so_far : List Act) (act : Act) → TellsEvicted s so_far act }
+{}
+
 /// A copy that an area keeps holds its block as it was at the one cut of its set.
 pub fn copies_hold_the_cut()
     ensures { (s : Plan) (so_far : List Act) → CopiesHold s so_far }
@@ -44,6 +54,14 @@ pub fn copies_hold_the_cut()
 /// BackupComplete goes to no writer that has failed.
 pub fn no_failed_writer_is_told_of_completion()
     ensures { (s : Plan) (so_far : List Act) → CompletesUnfailed s so_far }
+{}
+
+/// Exactly those writers take part that the accepted `prepare` of the session has chosen: those of which the session has named a component
+/// since its `begin`; or, where it takes all, those that are not of a disabled class and do not stand as failed at Identify. None is of a
+/// disabled class, nobody takes part before, and no other act changes who does while a set is in progress.
+pub fn the_chosen_take_part()
+    ensures prepared { (s : Plan) (so_far : List Act) (act : Act) → TakesPart s so_far act }
+    ensures standing { (s : Plan) (so_far : List Act) → ChosenTakePart s so_far }
 {}
 
 /// The images of a group never use more slots than the group has.
@@ -104,6 +122,16 @@ pub fn replies_tell_what_stands()
     ensures { (s : Plan) (so_far : List Act) (act : Act) → RepliesTell s so_far act }
 {}
 
+/// `properties` tells of a kept image the context of its set, the clock at the set's one cut, and the slots that the image uses.
+pub fn properties_tell_the_image()
+    ensures { (s : Plan) (so_far : List Act) (act : Act) → PropertiesTell s so_far act }
+{}
+
+/// `await` tells the last result: none after `begin`, AsyncFinished where an agenda ended without failing the set, and the set's own where it failed.
+pub fn await_tells_the_last_result()
+    ensures { (s : Plan) (so_far : List Act) (act : Act) → AwaitTells s so_far act }
+{}
+
 /// A writer's row says what it said last, in the act of its answer, or that its answer was lost.
 pub fn rows_say_what_was_said()
     ensures { (s : Plan) (so_far : List Act) (act : Act) → RowsTell s so_far act }
@@ -112,6 +140,11 @@ pub fn rows_say_what_was_said()
 /// A set that fails tells each participant once that has not failed, and nobody else.
 pub fn failing_sets_tell_their_writers()
     ensures { (s : Plan) (so_far : List Act) (act : Act) → TellsFailure s so_far act }
+{}
+
+/// Where the clock goes on, exactly those writers are told as lost that owe the answer to an order whose time is over then.
+pub fn the_late_are_lost()
+    ensures { (s : Plan) (so_far : List Act) (act : Act) → LosesTheLate s so_far act }
 {}
 
 /// After no act is anything late for which a set would fail: no volume is held for more than 10,000 ticks, no freeze limit is

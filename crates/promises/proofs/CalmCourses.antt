@@ -1,0 +1,55 @@
+-- A call of the course fails it only while an agenda runs that makes a set.
+use Rattle.std.proofs.Common.{◌≡◌, ◌∙◌, ℕ, List, [], ◌∷◌, ◌⊎◌, Option, Some, None, refl, Bool, true, false, ap, inl, inr}
+use Rattle.std.specs.Prelude.{◌&&◌, not}
+use Rattle.vss_names.specs.declared.order.Order.{Order}
+use Rattle.writer_state.specs.declared.said.Said.{Said}
+use Rattle.writer_state.specs.WriterState.{is_ok}
+use Rattle.set_agenda.specs.declared.kind.Kind.{Kind}
+use Rattle.set_agenda.specs.declared.member.Member.{Member}
+use Rattle.set_agenda.specs.Agenda.{left, is_asked, is_working, open_order, order_if, order_now}
+use Rattle.set_agenda.specs.Course.{Course, posted, begun, is_decisive, told, decided, answered_to, answered as course_answered, stepped as course_stepped, timed as course_timed}
+use Rattle.vss_model.specs.Facts.{has_failed}
+use Rattle.promises.proofs.Aborts.{Passes, Fails, over_timed, calm_settled}
+use Rattle.promises.proofs.BusyAgendas.{IsBusy, busy_order, busy_step}
+use Rattle.promises.proofs.Limits.{both_parts}
+
+abbrev pub CalmOrBusy : Course → Course → Type 0
+CalmOrBusy c d = (has_failed c.outcome ≡ false → has_failed d.outcome ≡ false) ⊎ IsBusy c.agenda
+
+calm_posted : (prior c d : Course) → CalmOrBusy c d → CalmOrBusy c (posted prior d)
+unfolding posted
+calm_posted prior c d h = h
+
+told_outcome : (o : Order) (said : Said) (now : ℕ) (ws : List ℕ) (c : Course) → (told o said now ws c).outcome ≡ c.outcome
+unfolding told
+told_outcome o said now ws c = refl
+
+now_open : (b : Bool) (x : Option Order) (o : Order) → order_if b x ≡ Some o → x ≡ Some o
+now_open true x o e = e
+now_open false x o e = absurd cc
+
+calm_answered_to : (x : Option Order) (w : ℕ) (said : Said) (now : ℕ) (c : Course) → open_order (left c.agenda) w ≡ x → CalmOrBusy c (answered_to x w said now c)
+calm_answered_to None w said now c e = inl (λ f. f)
+calm_answered_to (Some o) w said now c e = by_decision (is_decisive o && not (is_ok said)) refl
+  where
+    by_decision : (b : Bool) → (is_decisive o && not (is_ok said)) ≡ b → CalmOrBusy c (decided b said (told o said now (w ∷ []) c))
+    by_decision true f = inr (busy_order c.agenda o (now_open (is_asked w (left c.agenda)) (order_now (left c.agenda)) o e) (both_parts (is_decisive o) (not (is_ok said)) f).0)
+    by_decision false f = inl (λ g. calm_settled (told o said now (w ∷ []) c) (ap has_failed (told_outcome o said now (w ∷ []) c) ∙ g))
+
+pub calm_answered : (w : ℕ) (said : Said) (now : ℕ) (c : Course) → CalmOrBusy c (course_answered w said now c)
+calm_answered w said now c = calm_posted c c (answered_to (open_order (left c.agenda) w) w said now c) (calm_answered_to (open_order (left c.agenda) w) w said now c refl)
+
+pub calm_stepped : (ok : Bool) (now : ℕ) (c : Course) → is_working (left c.agenda) ≡ true → CalmOrBusy c (course_stepped ok now c)
+calm_stepped ok now c e = inr (busy_step c.agenda e)
+
+pub calm_timed : (now : ℕ) (c : Course) → CalmOrBusy c (course_timed now c)
+calm_timed now c = by_result (over_timed now c)
+  where
+    by_result : Passes c (course_timed now c) ⊎ Fails c (course_timed now c) → CalmOrBusy c (course_timed now c)
+    by_result (inl h) = inl h.calm
+    by_result (inr h) = inr h.busy
+
+-- an agenda that begins fails nothing
+pub calm_begun : (k : Kind) (ms : List Member) (vs : List ℕ) (now : ℕ) (c : Course) → has_failed c.outcome ≡ false → has_failed (begun k ms vs now c).outcome ≡ false
+unfolding begun posted
+calm_begun k ms vs now c e = calm_settled (record c { agenda = Some (record { kind = k; members = ms; volumes = vs; begun = now; log = [] }) }) e

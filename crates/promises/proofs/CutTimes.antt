@@ -1,0 +1,290 @@
+-- The row of a set that was cut has the clock at its cut: only the Cut step writes it, and it comes once.
+use Rattle.std.proofs.Common.{◌≡◌, ◌∙◌, ℕ, ◌+◌, ◌==◌, List, [], ◌∷◌, ◌++◌, Option, Some, None, refl, Bool, true, false, ap, sym, subst, map, find, arith}
+use Rattle.std.specs.Prelude.{◌&&◌, option_map, if◌then◌else◌}
+use Rattle.vss_names.specs.declared.set_outcome.SetOutcome.{SetOutcome}
+use Rattle.vss_names.specs.declared.vss_result.VssResult.{VssResult}
+use Rattle.vss_names.specs.declared.vss_result.VssResult.TheVariants.{InsufficientStorage, AsyncCancelled}
+use Rattle.write_history.specs.declared.mark.Mark.{Mark}
+use Rattle.write_history.specs.declared.mark.Mark.TheVariants.{Clean, Fault, FaultAfter}
+use Rattle.write_history.specs.History.{Write}
+use Rattle.writer_state.specs.declared.said.Said.{Said}
+use Rattle.writer_calls.specs.Script.{said_of}
+use Rattle.set_agenda.specs.declared.group.Group.{Group}
+use Rattle.set_agenda.specs.declared.group.Group.TheVariants.{Orders, PreCommit, Flush, Hold, Cut, Commit, Release, PostCommit}
+use Rattle.set_agenda.specs.Agenda.{open_group}
+use Rattle.set_agenda.specs.Course.{Course, answered as course_answered, stepped as course_stepped, timed as course_timed}
+use Rattle.requestor.specs.Session.{Session}
+use Rattle.scenario.specs.declared.op.Op.TheVariants as op
+use Rattle.scenario.specs.Plan.{Plan}
+use Rattle.vss_model.specs.declared.event.Event.{Event}
+use Rattle.vss_model.specs.declared.event.Event.TheVariants.{Line}
+use Rattle.vss_model.specs.State.{State, SetRow, Kept, in_progress, row_changed, left_now}
+use Rattle.vss_model.specs.Ending.{Ending, NothingEnds, AgendaEnds, SetFails, ending, row_settled, concluded, followed, runs, failed_in, failed}
+use Rattle.vss_model.specs.Images.{Replied, cleared, set_loses_image, with_room_if, put, write, reverted_as}
+use Rattle.vss_model.specs.Sessions.{has_no_volume, new_set, new_number, with_volume, closed}
+use Rattle.vss_model.specs.Steps.{answered, with_cut, row_cut, cut_set, step_made, is_flush, is_failed_step, stepped_as, stepped, ticked, later}
+use Rattle.vss_model.specs.Cut.{is_provider, is_cut_group, is_set, is_cut_of, cut_if, cut}
+use Rattle.vss_model.specs.Acts.{Act, enabled, idle_now, after, state}
+use Rattle.vss_model.proofs.Appending.{state-append}
+use Rattle.vss_model.proofs.AtCut.{cuts}
+use Rattle.vss_model.proofs.CutAppend.{or_cut, cut-append}
+use Rattle.vss_model.proofs.CutStep.{both, after_cut}
+use Rattle.vss_model.proofs.OneCut.{not_cut_yet}
+use Rattle.vss_model.proofs.OrderlyActs.{orderly}
+use Rattle.vss_model.proofs.Rows.{row_running}
+use Rattle.promises.proofs.ByEvent.{Covers, covered, after_enabled, after_not_enabled}
+use Rattle.promises.proofs.Contexts.{settled_number, changed_number}
+
+-- ## the time of a set
+
+abbrev pub time_in : List SetRow → ℕ → Option (Option ℕ)
+time_in rows n = option_map (λ (r : SetRow). r.cut_at) (find (λ (r : SetRow). r.number == n) rows)
+
+time_map : (f : SetRow → SetRow) → ((r : SetRow) → (f r).number ≡ r.number) → (n : ℕ) → ((r : SetRow) → (r.number == n) ≡ true → (f r).cut_at ≡ r.cut_at) → (rows : List SetRow) → time_in (map f rows) n ≡ time_in rows n
+time_map f num n times [] = refl
+time_map f num n times (r ∷ rows) = by_head (r.number == n) ((f r).number == n) refl (ap (λ k. k == n) (num r)) (time_map f num n times rows)
+  where
+    by_head : (b c : Bool) → (r.number == n) ≡ b → c ≡ (r.number == n) → time_in (map f rows) n ≡ time_in rows n
+        → option_map (λ (x : SetRow). x.cut_at) (if c then Some (f r) else find (λ (x : SetRow). x.number == n) (map f rows)) ≡ option_map (λ (x : SetRow). x.cut_at) (if b then Some r else find (λ (x : SetRow). x.number == n) rows)
+    by_head true true e g ih = ap Some (times r e)
+    by_head true false e g ih = absurd (differ (r.number == n) e g)
+      where
+        differ : (d : Bool) → d ≡ true → false ≡ d → ⊥
+        differ true e g = cc
+        differ false e g = cc
+    by_head false true e g ih = absurd (differ (r.number == n) e g)
+      where
+        differ : (d : Bool) → d ≡ false → true ≡ d → ⊥
+        differ true e g = cc
+        differ false e g = cc
+    by_head false false e g ih = ih
+
+settled_time : (o : SetOutcome) (r : SetRow) → (row_settled o r).cut_at ≡ r.cut_at
+settled_time o r = by_running _
+  where
+    by_running : (b : Bool) → (if b then record r { result = o } else r).cut_at ≡ r.cut_at
+    by_running true = refl
+    by_running false = refl
+
+added_time : (m v : ℕ) (r : SetRow) → (row_changed m (with_volume v) r).cut_at ≡ r.cut_at
+added_time m v r = by_number (r.number == m)
+  where
+    by_number : (b : Bool) → (if b then with_volume v r else r).cut_at ≡ r.cut_at
+    by_number true = refl
+    by_number false = refl
+
+-- a set that is there stays, where another is started
+time_more : (rows : List SetRow) (r : SetRow) (n : ℕ) (t : Option ℕ) → time_in rows n ≡ Some t → time_in (rows ++ r ∷ []) n ≡ Some t
+time_more [] r n t e = absurd cc
+time_more (q ∷ rows) r n t e = by_head (q.number == n) e (time_more rows r n t)
+  where
+    by_head : (b : Bool) → option_map (λ (x : SetRow). x.cut_at) (if b then Some q else find (λ (x : SetRow). x.number == n) rows) ≡ Some t → (time_in rows n ≡ Some t → time_in (rows ++ r ∷ []) n ≡ Some t)
+        → option_map (λ (x : SetRow). x.cut_at) (if b then Some q else find (λ (x : SetRow). x.number == n) (rows ++ r ∷ [])) ≡ Some t
+    by_head true e ih = e
+    by_head false e ih = ih e
+
+-- the cut of another set
+time_cut_other : (m now n : ℕ) (rows : List SetRow) → (m == n) ≡ false → time_in (map (row_cut m now) rows) n ≡ time_in rows n
+time_cut_other m now n rows e = time_map (row_cut m now) (λ r. changed_number m (with_cut now) r refl) n (λ r f. by_number r (r.number == m) refl f) rows
+  where
+    equal : (a b c : ℕ) → (a == b) ≡ true → (a == c) ≡ true → (b == c) ≡ true
+    equal a b c e f = grind arith
+
+    not_both : (b : Bool) → b ≡ true → b ≡ false → ⊥
+    not_both b e f = cc
+
+    by_number : (r : SetRow) (b : Bool) → (r.number == m) ≡ b → (r.number == n) ≡ true → (if b then with_cut now r else r).cut_at ≡ r.cut_at
+    by_number r true f g = absurd (not_both (m == n) (equal r.number m n f g) e)
+    by_number r false f g = refl
+
+-- its own
+time_cut_own : (n now : ℕ) (rows : List SetRow) (q : SetRow) → find (λ (r : SetRow). r.number == n) rows ≡ Some q → time_in (map (row_cut n now) rows) n ≡ Some (Some now)
+time_cut_own n now [] q e = absurd cc
+time_cut_own n now (r ∷ rows) q e = by_head (r.number == n) refl e (time_cut_own n now rows q)
+  where
+    by_head : (b : Bool) → (r.number == n) ≡ b → (if b then Some r else find (λ (x : SetRow). x.number == n) rows) ≡ Some q → (find (λ (x : SetRow). x.number == n) rows ≡ Some q → time_in (map (row_cut n now) rows) n ≡ Some (Some now))
+        → option_map (λ (x : SetRow). x.cut_at) (if (if b then with_cut now r else r).number == n then Some (if b then with_cut now r else r) else find (λ (x : SetRow). x.number == n) (map (row_cut n now) rows)) ≡ Some (Some now)
+    by_head true f e ih = ap (λ c. option_map (λ (x : SetRow). x.cut_at) (if c then Some (with_cut now r) else find (λ (x : SetRow). x.number == n) (map (row_cut n now) rows))) f
+    by_head false f e ih = ap (λ c. option_map (λ (x : SetRow). x.cut_at) (if c then Some r else find (λ (x : SetRow). x.number == n) (map (row_cut n now) rows))) f ∙ ih e
+
+-- ## what keeps it
+
+abbrev SameTimes : State → State → Type 0
+SameTimes st x = (n : ℕ) → time_in x.sets n ≡ time_in st.sets n
+
+times_settled : (o : SetOutcome) (rows : List SetRow) (n : ℕ) → time_in (map (row_settled o) rows) n ≡ time_in rows n
+times_settled o rows n = time_map (row_settled o) (settled_number o) n (λ r e. settled_time o r) rows
+
+times_ended : (e : Ending) (x : State) → SameTimes x (concluded e x)
+times_ended NothingEnds x n = refl
+times_ended AgendaEnds x n = times_settled x.course.outcome x.sets n
+times_ended (SetFails why) x n = times_settled x.course.outcome x.sets n
+
+times_followed : (ran : Bool) (c : Course) (x : State) → SameTimes x (followed ran c x)
+unfolding followed
+times_followed ran c x n = times_ended (ending x.course.outcome c.outcome ran c.agenda) (record x { course = c }) n
+
+times_failed : (o : Option SetRow) (why : VssResult) (x : State) → SameTimes x (failed_in o why x)
+times_failed None why x n = refl
+times_failed (Some r) why x n = times_settled _ x.sets n
+
+times_room : (b : Bool) (x : State) → SameTimes x (with_room_if b x)
+times_room true x n = times_failed (in_progress x) InsufficientStorage x n
+times_room false x n = refl
+
+times_put : (v : ℕ) (w : Write) (mark : Mark) (x : State) → SameTimes x (put v w mark x)
+times_put v w Clean x n = refl
+times_put v w Fault x n = refl
+times_put v w (FaultAfter k) x n = refl
+
+times_closed : (q : Session) (x : State) → SameTimes x (closed q x)
+unfolding closed
+times_closed q x n = refl
+
+module _ (s : Plan) (st : State) (n : ℕ) (t : Option ℕ) where
+  -- an act that is not the Cut step of set n
+  abbrev Next : Event → Mark → Replied → Type 0
+  Next event mark x = is_cut_of n st (record { event = event; mark = mark }) ≡ false → time_in st.sets n ≡ Some t → time_in x.1.sets n ≡ Some t
+
+  on_write : (v : ℕ) (w : Write) (mark : Mark) → time_in (write s v w mark st).1.sets n ≡ time_in st.sets n
+  unfolding write
+  on_write v w mark = times_put v w mark _ n ∙ times_room (set_loses_image (in_progress st) st.volumes (cleared s v w.block st).volumes) (cleared s v w.block st) n
+
+  on_revert : (v : ℕ) (k : Kept) (mark : Mark) → time_in (reverted_as s v k mark st).1.sets n ≡ time_in st.sets n
+  on_revert v k Clean = refl
+  on_revert v k Fault = refl
+  on_revert v k (FaultAfter j) = refl
+
+  on_answer : (w : ℕ) (said : Said) → time_in (answered w said st).sets n ≡ time_in st.sets n
+  unfolding answered
+  on_answer w said = times_followed (runs st) (course_answered w said st.clock st.course) st n
+
+  on_tick : (k : ℕ) → time_in (ticked k st).sets n ≡ time_in st.sets n
+  unfolding ticked
+  on_tick k = times_followed (runs st) (course_timed (st.clock + k) st.course) (later k st) n
+
+  on_cut : (o : Option SetRow) → is_set n o ≡ false → time_in (cut_set o st).sets n ≡ time_in st.sets n
+  on_cut None e = refl
+  on_cut (Some r) e = time_cut_other r.number st.clock n st.sets e
+
+  on_made : (g : Option Group) → (is_cut_group g && is_set n (in_progress st)) ≡ false → time_in (step_made g st).sets n ≡ time_in st.sets n
+  on_made None e = refl
+  on_made (Some (Orders o)) e = refl
+  on_made (Some PreCommit) e = refl
+  on_made (Some Flush) e = refl
+  on_made (Some Hold) e = refl
+  on_made (Some Cut) e = on_cut (in_progress st) e
+  on_made (Some Commit) e = refl
+  on_made (Some Release) e = refl
+  on_made (Some PostCommit) e = refl
+
+  on_step_as : (b : Bool) (g : Option Group) → (is_cut_group g && is_set n (in_progress st)) ≡ false → time_in (stepped_as b g st).sets n ≡ time_in st.sets n
+  on_step_as true g e = times_followed (runs st) (course_stepped false st.clock st.course) st n
+  on_step_as false g e = times_followed (runs st) (course_stepped true st.clock st.course) (step_made g st) n ∙ on_made g e
+
+  on_step : (mark : Mark) → (is_cut_group (open_group (left_now st)) && is_set n (in_progress st)) ≡ false → time_in (stepped mark st).sets n ≡ time_in st.sets n
+  unfolding stepped
+  on_step mark e = on_step_as (is_failed_step (is_flush (open_group (left_now st))) mark) (open_group (left_now st)) e
+
+  either : (event : Event) (mark : Mark) (b : Bool) (x y : Replied) → Next event mark x → Next event mark y → Next event mark (if b then x else y)
+  either event mark true x y h i = h
+  either event mark false x y h i = i
+
+  keeps_time : Covers Next s st
+  keeps_time = record {
+    stays = λ lane o mark told e f c h. h;
+    writes = λ lane o v w mark e f c h. on_write v w mark ∙ h;
+    reverts = λ lane m v k mark e f c h. on_revert v k mark ∙ h;
+    deletes_set = λ lane m k mark e c h. h;
+    deletes_image = λ lane m v k mark e c h. h;
+    ticks = λ lane k mark c h. on_tick k ∙ h;
+    begins = λ lane m all x mark e c h. h;
+    disables = λ lane w q mark g c h. h;
+    gathers = λ lane q mark g c h. times_followed true _ st n ∙ h;
+    names = λ lane w full q explicit mark g named c h. h;
+    starts = λ lane q mark g e c h. time_more st.sets (new_set (new_number st) q.context) n t h;
+    adds = λ lane v r q mark g e f c h. time_map (row_changed r.number (with_volume v)) (λ x. changed_number r.number (with_volume v) x refl) n (λ x i. added_time r.number v x) st.sets ∙ h;
+    prepares = λ lane q mark g. either (Line lane op.Prepare) mark (has_no_volume (in_progress st)) _ _ (λ c h. h) (λ c h. times_followed true _ st n ∙ h);
+    snapshots = λ lane q mark g. either (Line lane op.Snapshot) mark (has_no_volume (in_progress st)) _ _ (λ c h. h) (λ c h. times_followed true _ st n ∙ h);
+    completes = λ lane q mark g c h. times_followed true _ st n ∙ h;
+    aborts = λ lane q mark e c h. times_failed (in_progress st) AsyncCancelled st n ∙ h;
+    ends = λ lane q mark e c h. times_closed q (failed AsyncCancelled st) n ∙ times_failed (in_progress st) AsyncCancelled st n ∙ h;
+    answers = λ w answer mark e c h. on_answer w (said_of answer) ∙ h;
+    steps = λ mark e c h. on_step mark (parts c) ∙ h;
+    idles = λ mark e c h. on_tick (idle_now st) ∙ h;
+  }
+    where
+      parts : ((true && is_cut_group (open_group (left_now st))) && is_set n (in_progress st)) ≡ false → (is_cut_group (open_group (left_now st)) && is_set n (in_progress st)) ≡ false
+      parts e = e
+
+  time_if : (b : Bool) (act : Act) → enabled s st act.event ≡ b → is_cut_of n st act ≡ false → time_in st.sets n ≡ Some t → time_in (after s st act).sets n ≡ Some t
+  time_if true act e c h = ap (λ (x : State). time_in x.sets n) (after_enabled s st act e) ∙ covered Next s st keeps_time act.event act.mark e c h
+  time_if false act e c h = ap (λ (x : State). time_in x.sets n) (after_not_enabled s st act e) ∙ h
+
+-- ## at its cut
+
+module _ (s : Plan) (so_far : List Act) (act : Act) (n : ℕ) where
+  abbrev st : State
+  st = state s so_far
+
+  some_acts : (a b : List Act) → Some a ≡ Some b → a ≡ b
+  some_acts a b e = cc
+
+  parts : is_cut_of n st act ≡ true → (is_provider act.event ≡ true) × ((is_cut_group (open_group (left_now st)) ≡ true) × (is_set n (in_progress st) ≡ true))
+  parts c =
+      let one = both (is_provider act.event && is_cut_group (open_group (left_now st))) (is_set n (in_progress st)) c in
+      let two = both (is_provider act.event) (is_cut_group (open_group (left_now st))) one.0 in (two.0, (two.1, one.1))
+
+  equal : (a b : ℕ) → (a == b) ≡ true → a ≡ b
+  equal a b e = grind arith
+
+  -- the Cut step of set n
+  cut_now : (o : Option SetRow) → in_progress st ≡ o → is_set n o ≡ true → is_cut_group (open_group (left_now st)) ≡ true → is_provider act.event ≡ true → time_in (after s st act).sets n ≡ Some (Some st.clock)
+  cut_now None e f g h = absurd cc
+  cut_now (Some r) e f g h =
+      ap (λ (x : State). time_in x.sets n) (after_cut s st act h g)
+      ∙ times_followed (runs st) (course_stepped true st.clock st.course) (cut_set (in_progress st) st) n
+      ∙ ap (λ o. time_in (cut_set o st).sets n) e
+      ∙ subst (λ m. time_in (map (row_cut m st.clock) st.sets) n ≡ Some (Some st.clock)) (sym (equal r.number n f))
+      (time_cut_own n st.clock st.sets r (subst (λ m. find (λ (x : SetRow). x.number == m) st.sets ≡ Some r) (equal r.number n f) (row_running 1 st.sets r (orderly s so_far).numbered e)))
+
+  -- it comes once
+  cut_before : (o : Option SetRow) (before : List Act) → in_progress st ≡ o → is_set n o ≡ true → is_cut_group (open_group (left_now st)) ≡ true → cut s n so_far ≡ Some before → ⊥
+  cut_before None before e f g h = absurd cc
+  cut_before (Some r) before e f g h = none_some (cut s n so_far) before (ap (λ m. cut s m so_far) (sym (equal r.number n f)) ∙ not_cut_yet s so_far r (cuts s so_far g) e) h
+    where
+      none_some : (o : Option (List Act)) (b : List Act) → o ≡ None → o ≡ Some b → ⊥
+      none_some o b e f = cc
+
+  time_next : (o : Option (List Act)) (b : Bool) (before : List Act) → cut s n so_far ≡ o → is_cut_of n st act ≡ b → or_cut o (cut_if b so_far None) ≡ Some before
+      → ((past : List Act) → cut s n so_far ≡ Some past → time_in st.sets n ≡ Some (Some (state s past).clock)) → time_in (after s st act).sets n ≡ Some (Some (state s before).clock)
+  time_next (Some past) true before e c f h = let p = parts c in absurd (cut_before (in_progress st) past refl p.1.1 p.1.0 e)
+  time_next (Some past) false before e c f h =
+      subst (λ b. time_in (after s st act).sets n ≡ Some (Some (state s b).clock)) (some_acts past before f) (time_if s st n (Some (state s past).clock) (enabled s st act.event) act refl c (h past e))
+  time_next None true before e c f h =
+      let p = parts c in subst (λ b. time_in (after s st act).sets n ≡ Some (Some (state s b).clock)) (some_acts so_far before f) (cut_now (in_progress st) refl p.1.1 p.1.0 p.0)
+  time_next None false before e c f h = absurd cc
+
+abbrev Timed : Plan → List Act → Type 0
+Timed s so_far = (n : ℕ) (before : List Act) → cut s n so_far ≡ Some before → time_in (state s so_far).sets n ≡ Some (Some (state s before).clock)
+
+timed_next : (s : Plan) (so_far : List Act) (act : Act) → Timed s so_far → Timed s (so_far ++ act ∷ [])
+timed_next s so_far act h n before e =
+    ap (λ (x : State). time_in x.sets n) (state-append s so_far act)
+    ∙ time_next s so_far act n (cut s n so_far) (is_cut_of n (state s so_far) act) before refl refl (sym (cut-append s n so_far act) ∙ e) (h n)
+
+timed_from : (s : Plan) (so_far acts : List Act) → Timed s so_far → Timed s (so_far ++ acts)
+timed_from s so_far [] h = subst (Timed s) (sym (append_none so_far)) h
+  where
+    append_none : (xs : List Act) → xs ++ [] ≡ xs
+    append_none [] = refl
+    append_none (x ∷ xs) = ap (λ ys. x ∷ ys) (append_none xs)
+timed_from s so_far (act ∷ acts) h = subst (Timed s) (regrouped so_far acts) (timed_from s (so_far ++ act ∷ []) acts (timed_next s so_far act h))
+  where
+    regrouped : (xs ys : List Act) → (xs ++ act ∷ []) ++ ys ≡ xs ++ act ∷ ys
+    regrouped [] ys = refl
+    regrouped (x ∷ xs) ys = ap (λ zs. x ∷ zs) (regrouped xs ys)
+
+-- the row of a set that was cut
+pub cut_time : (s : Plan) (so_far : List Act) (n : ℕ) (before : List Act) → cut s n so_far ≡ Some before → time_in (state s so_far).sets n ≡ Some (Some (state s before).clock)
+cut_time s so_far n before e = timed_from s [] so_far (λ m b f. absurd cc) n before e

@@ -1,0 +1,320 @@
+-- Exactly the kept images that a write takes are told as evicted.
+use Rattle.std.proofs.Common.{◌≡◌, ◌∙◌, ℕ, ◌+◌, ◌==◌, ◌<◌, zero, suc, List, [], ◌∷◌, ◌++◌, ◌⊎◌, Option, Some, None, refl, Bool, true, false, ap, sym, inl, inr, filter, length, arith}
+use Rattle.std.specs.Prelude.{◌&&◌, ◌||◌, not, nat_lt, if◌then◌else◌}
+use Rattle.std.specs.List.{list_any, list_all, flat_map}
+use Rattle.std.proofs.lemmas.List.Folds.{list_any-append}
+use Rattle.block_data.specs.declared.payload.Payload.TheVariants.{Fill, Stamp}
+use Rattle.block_data.specs.PayloadBytes.{payload_bytes}
+use Rattle.write_history.specs.declared.mark.Mark.{Mark}
+use Rattle.write_history.specs.History.{Write, History}
+use Rattle.set_agenda.specs.Agenda.{is_among}
+use Rattle.scenario.specs.declared.op.Op.{Op}
+use Rattle.scenario.specs.declared.op.Op.TheVariants as op
+use Rattle.scenario.specs.Calls.{Target, target_of}
+use Rattle.scenario.specs.Plan.{Plan}
+use Rattle.vss_model.specs.declared.event.Event.{Event}
+use Rattle.vss_model.specs.declared.event.Event.TheVariants.{Line, Answer as AnswerEvent, Provider, Idle}
+use Rattle.vss_model.specs.declared.evicted.Evicted.{Evicted}
+use Rattle.vss_model.specs.State.{State, SetRow, is_complete, in_progress, has_image, is_kept_set}
+use Rattle.vss_model.specs.Images.{cleared, set_loses_image, with_room, put, write}
+use Rattle.vss_model.specs.Facts.{NumberedFrom}
+use Rattle.vss_model.specs.Acts.{Act, enabled, happens, after, state}
+use Rattle.vss_model.specs.Effects.{volumes_losing, evicted_of, evicted_for, evicted_at, evicted}
+use Rattle.vss_model.proofs.Orderly.{true_not_false}
+use Rattle.vss_model.proofs.OrderlyActs.{orderly}
+use Rattle.vss_model.proofs.Rows.{running_incomplete}
+use Rattle.vss_model.proofs.Volumes.{at, FewerIn, fewer_in_over, as_many_gone}
+use Rattle.promises.specs.Gone.{stands, Fails}
+use Rattle.promises.specs.Evicted.{is_told, goes_before, are_in_order, TellsEvicted}
+use Rattle.promises.proofs.ByEvent.{after_enabled}
+use Rattle.promises.proofs.Images.{volumes_put, volumes_room, roomy, wants_or_fails}
+
+equal : (a b : ℕ) → (a == b) ≡ true → a ≡ b
+equal a b e = grind arith
+
+-- ## the volumes that lose an image
+
+none_before : (n u v : ℕ) (hs ks : List History) → v < u → is_among v (volumes_losing n u hs ks) ≡ false
+none_before n u v [] ks l = refl
+none_before n u v (h ∷ hs) [] l = refl
+none_before n u v (h ∷ hs) (k ∷ ks) l = by_loss (has_image n h && not (has_image n k)) (none_before n (u + 1) v hs ks (still u v l))
+  where
+    still : (a b : ℕ) → b < a → b < a + 1
+    still a b l = omega arith
+
+    other : (a b : ℕ) → b < a → (a == b) ≡ false
+    other a b l = grind arith
+
+    neither : (a b : Bool) → a ≡ false → b ≡ false → (a || b) ≡ false
+    neither true b e f = absurd cc
+    neither false b e f = f
+
+    by_loss : (b : Bool) → is_among v (volumes_losing n (u + 1) hs ks) ≡ false → is_among v (if b then u ∷ volumes_losing n (u + 1) hs ks else volumes_losing n (u + 1) hs ks) ≡ false
+    by_loss true ih = neither (u == v) (is_among v (volumes_losing n (u + 1) hs ks)) (other u v l) ih
+    by_loss false ih = ih
+
+among_losing : (n u k v : ℕ) (hs ks : List History) → length ks ≡ length hs → v ≡ u + k → is_among v (volumes_losing n u hs ks) ≡ (has_image n (at hs k) && not (has_image n (at ks k)))
+among_losing n u zero v [] ks e f = refl
+among_losing n u (suc k) v [] ks e f = refl
+among_losing n u k v (h ∷ hs) [] e f = absurd cc
+among_losing n u zero v (h ∷ hs) (k ∷ ks) e f = by_loss (has_image n h && not (has_image n k)) (none_before n (u + 1) v hs ks (before u v f))
+  where
+    before : (a b : ℕ) → b ≡ a + 0 → b < a + 1
+    before a b e = omega (arith, e)
+
+    same : (a b : ℕ) → b ≡ a + 0 → (a == b) ≡ true
+    same a b e = grind arith
+
+    first : (a b : Bool) → a ≡ true → (a || b) ≡ true
+    first true b e = refl
+    first false b e = absurd cc
+
+    by_loss : (b : Bool) → is_among v (volumes_losing n (u + 1) hs ks) ≡ false → is_among v (if b then u ∷ volumes_losing n (u + 1) hs ks else volumes_losing n (u + 1) hs ks) ≡ b
+    by_loss true ih = first (u == v) (is_among v (volumes_losing n (u + 1) hs ks)) (same u v f)
+    by_loss false ih = ih
+among_losing n u (suc j) v (h ∷ hs) (k ∷ ks) e f = by_loss (has_image n h && not (has_image n k)) (among_losing n (u + 1) j v hs ks (one_less (length ks) (length hs) e) (shift u j v f))
+  where
+    one_less : (a b : ℕ) → suc a ≡ suc b → a ≡ b
+    one_less a b e = omega (arith, e)
+
+    shift : (a j b : ℕ) → b ≡ a + suc j → b ≡ (a + 1) + j
+    shift a j b e = omega (arith, e)
+
+    other : (a j b : ℕ) → b ≡ a + suc j → (a == b) ≡ false
+    other a j b e = grind arith
+
+    second : (a b c : Bool) → a ≡ false → b ≡ c → (a || b) ≡ c
+    second true b c e g = absurd cc
+    second false b c e g = g
+
+    by_loss : (b : Bool) → is_among v (volumes_losing n (u + 1) hs ks) ≡ (has_image n (at hs j) && not (has_image n (at ks j)))
+        → is_among v (if b then u ∷ volumes_losing n (u + 1) hs ks else volumes_losing n (u + 1) hs ks) ≡ (has_image n (at hs j) && not (has_image n (at ks j)))
+    by_loss true ih = second (u == v) (is_among v (volumes_losing n (u + 1) hs ks)) (has_image n (at hs j) && not (has_image n (at ks j))) (other u j v f) ih
+    by_loss false ih = ih
+
+-- ## the sets that lose one
+
+told_of : (m n v : ℕ) (vs : List ℕ) → is_told n v (evicted_of m vs) ≡ ((m == n) && is_among v vs)
+told_of m n v [] = off (m == n)
+  where
+    off : (b : Bool) → false ≡ (b && false)
+    off true = refl
+    off false = refl
+told_of m n v (u ∷ vs) = ap (λ b. ((m == n) && (u == v)) || b) (told_of m n v vs) ∙ joined (m == n) (u == v) (is_among v vs)
+  where
+    joined : (a b c : Bool) → ((a && b) || (a && c)) ≡ (a && (b || c))
+    joined true b c = refl
+    joined false b c = refl
+
+module _ (n v : ℕ) (hs ks : List History) where
+  abbrev told_row : SetRow → List Evicted
+  told_row r = evicted_of r.number (volumes_losing r.number 0 hs ks)
+
+  told_rows : (rows : List SetRow) → is_told n v (flat_map told_row (filter (λ r. is_complete r.result) rows)) ≡ (list_any (λ (r : SetRow). (r.number == n) && is_complete r.result) rows && is_among v (volumes_losing n 0 hs ks))
+  told_rows [] = refl
+  told_rows (r ∷ rows) = by_result (is_complete r.result) (told_rows rows)
+    where
+      not_it : (a b : Bool) → b ≡ ((a && false) || b)
+      not_it true b = refl
+      not_it false b = refl
+
+      either_is : (a b c d e : Bool) → d ≡ (b && c) → (a ≡ true → e ≡ c) → ((a && e) || d) ≡ (((a && true) || b) && c)
+      either_is true b true d e f g = ap (λ x. x || d) (g refl)
+      either_is true b false d e f g = ap (λ x. x || d) (g refl) ∙ f ∙ none b
+        where
+          none : (x : Bool) → (x && false) ≡ false
+          none true = refl
+          none false = refl
+      either_is false b c d e f g = f
+
+      by_result : (b : Bool) → is_told n v (flat_map told_row (filter (λ q. is_complete q.result) rows)) ≡ (list_any (λ (q : SetRow). (q.number == n) && is_complete q.result) rows && is_among v (volumes_losing n 0 hs ks))
+          → is_told n v (flat_map told_row (if b then r ∷ filter (λ q. is_complete q.result) rows else filter (λ q. is_complete q.result) rows))
+          ≡ ((((r.number == n) && b) || list_any (λ (q : SetRow). (q.number == n) && is_complete q.result) rows) && is_among v (volumes_losing n 0 hs ks))
+      by_result true ih =
+          list_any-append (λ (e : Evicted). (e.set == n) && (e.volume == v)) (told_row r) (flat_map told_row (filter (λ q. is_complete q.result) rows))
+          ∙ ap (λ b. b || is_told n v (flat_map told_row (filter (λ q. is_complete q.result) rows))) (told_of r.number n v (volumes_losing r.number 0 hs ks))
+          ∙ either_is (r.number == n) (list_any (λ (q : SetRow). (q.number == n) && is_complete q.result) rows) (is_among v (volumes_losing n 0 hs ks)) (is_told n v (flat_map told_row (filter (λ q. is_complete q.result) rows)))
+          (is_among v (volumes_losing r.number 0 hs ks)) ih (λ e. ap (λ m. is_among v (volumes_losing m 0 hs ks)) (equal r.number n e))
+      by_result false ih = ih ∙ ap (λ b. b && is_among v (volumes_losing n 0 hs ks)) (not_it (r.number == n) (list_any (λ (q : SetRow). (q.number == n) && is_complete q.result) rows))
+
+-- ## in order
+
+both : (a b : Bool) → a ≡ true → b ≡ true → (a && b) ≡ true
+both true b e f = f
+both false b e f = absurd cc
+
+all_of_both : (test : Evicted → Bool) (xs ys : List Evicted) → list_all test xs ≡ true → list_all test ys ≡ true → list_all test (xs ++ ys) ≡ true
+all_of_both test [] ys e f = f
+all_of_both test (x ∷ xs) ys e f = by_first (test x) e (all_of_both test xs ys)
+  where
+    by_first : (b : Bool) → (b && list_all test xs) ≡ true → (list_all test xs ≡ true → list_all test ys ≡ true → list_all test (xs ++ ys) ≡ true) → (b && list_all test (xs ++ ys)) ≡ true
+    by_first true e ih = ih e f
+    by_first false e ih = absurd cc
+
+-- images of one set, on volumes from u on
+abbrev of_set : ℕ → ℕ → List History → List History → List Evicted
+of_set m u hs ks = evicted_of m (volumes_losing m u hs ks)
+
+after_volume : (m u w : ℕ) (hs ks : List History) → w < u → list_all (goes_before (record { set = m; volume = w })) (of_set m u hs ks) ≡ true
+after_volume m u w [] ks l = refl
+after_volume m u w (h ∷ hs) [] l = refl
+after_volume m u w (h ∷ hs) (k ∷ ks) l = by_loss (has_image m h && not (has_image m k)) (after_volume m (u + 1) w hs ks (still u w l))
+  where
+    still : (a b : ℕ) → b < a → b < a + 1
+    still a b l = omega arith
+
+    before : (m a b : ℕ) → b < a → (nat_lt m m || ((m == m) && nat_lt b a)) ≡ true
+    before m a b l = grind arith
+
+    by_loss : (b : Bool) → list_all (goes_before (record { set = m; volume = w })) (of_set m (u + 1) hs ks) ≡ true
+        → list_all (goes_before (record { set = m; volume = w })) (evicted_of m (if b then u ∷ volumes_losing m (u + 1) hs ks else volumes_losing m (u + 1) hs ks)) ≡ true
+    by_loss true ih = both (goes_before (record { set = m; volume = w }) (record { set = m; volume = u })) (list_all (goes_before (record { set = m; volume = w })) (of_set m (u + 1) hs ks)) (before m u w l) ih
+    by_loss false ih = ih
+
+-- a list in order behind images of one set
+in_order_on : (m u : ℕ) (hs ks : List History) (es : List Evicted) → are_in_order es ≡ true → list_all (λ (f : Evicted). nat_lt m f.set) es ≡ true → are_in_order (of_set m u hs ks ++ es) ≡ true
+in_order_on m u [] ks es e f = e
+in_order_on m u (h ∷ hs) [] es e f = e
+in_order_on m u (h ∷ hs) (k ∷ ks) es e f = by_loss (has_image m h && not (has_image m k)) (in_order_on m (u + 1) hs ks es e f)
+  where
+    next : (a : ℕ) → a < a + 1
+    next a = omega arith
+
+    later_sets : (fs : List Evicted) → list_all (λ (x : Evicted). nat_lt m x.set) fs ≡ true → list_all (goes_before (record { set = m; volume = u })) fs ≡ true
+    later_sets [] g = refl
+    later_sets (x ∷ fs) g = by_less (nat_lt m x.set) g (later_sets fs)
+      where
+        by_less : (b : Bool) → (b && list_all (λ (y : Evicted). nat_lt m y.set) fs) ≡ true → (list_all (λ (y : Evicted). nat_lt m y.set) fs ≡ true → list_all (goes_before (record { set = m; volume = u })) fs ≡ true)
+            → ((b || ((m == x.set) && nat_lt u x.volume)) && list_all (goes_before (record { set = m; volume = u })) fs) ≡ true
+        by_less true g ih = ih g
+        by_less false g ih = absurd cc
+
+    by_loss : (b : Bool) → are_in_order (of_set m (u + 1) hs ks ++ es) ≡ true → are_in_order (evicted_of m (if b then u ∷ volumes_losing m (u + 1) hs ks else volumes_losing m (u + 1) hs ks) ++ es) ≡ true
+    by_loss true ih =
+        both (list_all (goes_before (record { set = m; volume = u })) (of_set m (u + 1) hs ks ++ es)) (are_in_order (of_set m (u + 1) hs ks ++ es))
+        (all_of_both (goes_before (record { set = m; volume = u })) (of_set m (u + 1) hs ks) es (after_volume m (u + 1) u hs ks (next u)) (later_sets es f)) ih
+    by_loss false ih = ih
+
+of_later_set : (m k : ℕ) (vs : List ℕ) → m < k → list_all (λ (f : Evicted). nat_lt m f.set) (evicted_of k vs) ≡ true
+of_later_set m k [] l = refl
+of_later_set m k (v ∷ vs) l = both (nat_lt m k) (list_all (λ (f : Evicted). nat_lt m f.set) (evicted_of k vs)) (less m k l) (of_later_set m k vs l)
+  where
+    less : (a b : ℕ) → a < b → nat_lt a b ≡ true
+    less a b l = grind arith
+
+module _ (hs ks : List History) where
+  later_rows : (m k : ℕ) (rows : List SetRow) → NumberedFrom k rows → m < k → list_all (λ (f : Evicted). nat_lt m f.set) (flat_map (told_row 0 0 hs ks) (filter (λ r. is_complete r.result) rows)) ≡ true
+  later_rows m k [] num l = refl
+  later_rows m k (r ∷ rows) num l = by_result (is_complete r.result) (later_rows m (k + 1) rows num.1 (still m k l))
+    where
+      still : (a b : ℕ) → a < b → a < b + 1
+      still a b l = omega arith
+
+      own : (a b c : ℕ) → c ≡ b → a < b → a < c
+      own a b c e l = omega (arith, e, l)
+
+      by_result : (b : Bool) → list_all (λ (f : Evicted). nat_lt m f.set) (flat_map (told_row 0 0 hs ks) (filter (λ q. is_complete q.result) rows)) ≡ true
+          → list_all (λ (f : Evicted). nat_lt m f.set) (flat_map (told_row 0 0 hs ks) (if b then r ∷ filter (λ q. is_complete q.result) rows else filter (λ q. is_complete q.result) rows)) ≡ true
+      by_result true ih =
+          all_of_both (λ (f : Evicted). nat_lt m f.set) (told_row 0 0 hs ks r) (flat_map (told_row 0 0 hs ks) (filter (λ q. is_complete q.result) rows))
+          (of_later_set m r.number (volumes_losing r.number 0 hs ks) (own m k r.number num.0 l)) ih
+      by_result false ih = ih
+
+  rows_in_order : (k : ℕ) (rows : List SetRow) → NumberedFrom k rows → are_in_order (flat_map (told_row 0 0 hs ks) (filter (λ r. is_complete r.result) rows)) ≡ true
+  rows_in_order k [] num = refl
+  rows_in_order k (r ∷ rows) num = by_result (is_complete r.result) (rows_in_order (k + 1) rows num.1) (later_rows r.number (k + 1) rows num.1 (own k r.number num.0))
+    where
+      own : (a b : ℕ) → b ≡ a → b < a + 1
+      own a b e = omega (arith, e)
+
+      by_result : (b : Bool) → are_in_order (flat_map (told_row 0 0 hs ks) (filter (λ q. is_complete q.result) rows)) ≡ true
+          → list_all (λ (f : Evicted). nat_lt r.number f.set) (flat_map (told_row 0 0 hs ks) (filter (λ q. is_complete q.result) rows)) ≡ true
+          → are_in_order (flat_map (told_row 0 0 hs ks) (if b then r ∷ filter (λ q. is_complete q.result) rows else filter (λ q. is_complete q.result) rows)) ≡ true
+      by_result true ih later = in_order_on r.number 0 hs ks (flat_map (told_row 0 0 hs ks) (filter (λ q. is_complete q.result) rows)) ih later
+      by_result false ih later = ih
+
+-- ## a write
+
+same_truth : (a b : Bool) → (a ≡ true → b ≡ true) → (b ≡ true → a ≡ true) → a ≡ b
+same_truth true b f g = sym (f refl)
+same_truth false true f g = g refl
+same_truth false false f g = refl
+
+true_if : (b : Bool) → (b ≡ false → ⊥) → b ≡ true
+true_if true f = refl
+true_if false f = absurd (f refl)
+
+module _ (s : Plan) (st : State) (num : NumberedFrom 1 st.sets) (n v u : ℕ) (w : Write) (mark : Mark) where
+  abbrev written_to : State
+  written_to = put u w mark (with_room s u w.block st)
+
+  abbrev fits : State
+  fits = roomy s st num n v u w mark
+
+  not_failed : is_kept_set st n ≡ true → Fails st written_to n → ⊥
+  not_failed e f = true_not_false (is_kept_set st n) e (ap (is_kept_set st) (sym f.number) ∙ running_incomplete st.sets f.set num f.is)
+
+  fewer : FewerIn fits.volumes written_to.volumes
+  fewer =
+      fewer_in_over fits.volumes (with_room s u w.block st).volumes written_to.volumes
+      (volumes_room s st num n v (set_loses_image (in_progress st) st.volumes fits.volumes) fits) (volumes_put s st num n v u w mark (with_room s u w.block st))
+
+  -- of a kept image nothing else is taken
+  stands_on : is_kept_set st n ≡ true → stands st n v ≡ true → stands written_to n v ≡ stands fits n v
+  stands_on e h = same_truth (stands written_to n v) (stands fits n v) ((fewer.each v).sets n) (λ g. true_if (stands written_to n v) (gone g))
+    where
+      gone : stands fits n v ≡ true → stands written_to n v ≡ false → ⊥
+      gone g f = by_cases (wants_or_fails s st num n v u w mark (set_loses_image (in_progress st) st.volumes fits.volumes) (stands fits n v) refl h f)
+        where
+          by_cases : Fails st written_to n ⊎ (stands fits n v ≡ false) → ⊥
+          by_cases (inl x) = not_failed e x
+          by_cases (inr x) = true_not_false (stands fits n v) g x
+
+  told_for : is_told n v (evicted_for s st u w.block) ≡ (is_kept_set st n && (stands st n v && not (stands written_to n v)))
+  told_for =
+      told_rows n v st.volumes fits.volumes st.sets
+      ∙ ap (λ b. is_kept_set st n && b) (among_losing n 0 v v st.volumes fits.volumes (as_many_gone _ _ st.volumes) (zero_plus v))
+      ∙ by_kept (is_kept_set st n) (stands st n v) refl refl
+    where
+      zero_plus : (a : ℕ) → a ≡ 0 + a
+      zero_plus a = omega arith
+
+      by_kept : (b c : Bool) → is_kept_set st n ≡ b → stands st n v ≡ c → (b && (c && not (stands fits n v))) ≡ (b && (c && not (stands written_to n v)))
+      by_kept true true e f = ap not (sym (stands_on e f))
+      by_kept true false e f = refl
+      by_kept false c e f = refl
+
+told_if : (s : Plan) (st : State) (act : Act) (n v u : ℕ) (w : Write) (event : Event) → NumberedFrom 1 st.sets → act.event ≡ event → evicted s st event ≡ evicted_for s st u w.block → after s st act ≡ (write s u w act.mark st).1
+    → is_told n v (evicted s st act.event) ≡ (is_kept_set st n && (stands st n v && not (stands (after s st act) n v)))
+unfolding write
+told_if s st act n v u w event num e f g =
+    ap (λ x. is_told n v (evicted s st x)) e ∙ ap (is_told n v) f ∙ told_for s st num n v u w act.mark ∙ ap (λ (x : State). is_kept_set st n && (stands st n v && not (stands x n v))) (sym g)
+
+happened : (s : Plan) (st : State) (act : Act) (event : Event) → act.event ≡ event → enabled s st act.event ≡ true → after s st act ≡ (happens s event act.mark st).1
+happened s st act event e on = after_enabled s st act on ∙ ap (λ x. (happens s x act.mark st).1) e
+
+told_by : (s : Plan) (st : State) (act : Act) (lane n v : ℕ) (o : Op) (t : Target) → NumberedFrom 1 st.sets → act.event ≡ Line lane o → target_of o ≡ Some t → enabled s st act.event ≡ true
+    → is_told n v (evicted s st act.event) ≡ (is_kept_set st n && (stands st n v && not (stands (after s st act) n v)))
+told_by s st act lane n v (op.WriteFill u b x) t num e f on = told_if s st act n v u (record { block = b; bytes = payload_bytes (Fill x) }) (Line lane (op.WriteFill u b x)) num e refl (happened s st act (Line lane (op.WriteFill u b x)) e on)
+told_by s st act lane n v (op.WriteStamp u b x) t num e f on = told_if s st act n v u (record { block = b; bytes = payload_bytes (Stamp x) }) (Line lane (op.WriteStamp u b x)) num e refl (happened s st act (Line lane (op.WriteStamp u b x)) e on)
+told_by s st act lane n v o t num e f on = absurd cc
+
+ordered_at : (s : Plan) (st : State) (t : Option Target) → NumberedFrom 1 st.sets → are_in_order (evicted_at s st t) ≡ true
+ordered_at s st None num = refl
+ordered_at s st (Some t) num = rows_in_order st.volumes (cleared s t.volume t.block st).volumes 1 st.sets num
+
+ordered : (s : Plan) (st : State) (event : Event) → NumberedFrom 1 st.sets → are_in_order (evicted s st event) ≡ true
+ordered s st (Line lane o) num = ordered_at s st (target_of o) num
+ordered s st (AnswerEvent w answer) num = refl
+ordered s st Provider num = refl
+ordered s st Idle num = refl
+
+pub tells_evicted : (s : Plan) (so_far : List Act) (act : Act) → TellsEvicted s so_far act
+tells_evicted s so_far act =
+    let st = state s so_far in
+    let num = (orderly s so_far).numbered in
+    record {
+      exactly = λ lane n v o t e f on. told_by s st act lane n v o t num e f on;
+      in_order = ordered s st act.event num;
+      no_other = λ lane o e f. ap (evicted s st) e ∙ ap (evicted_at s st) f;
+    }

@@ -1,0 +1,172 @@
+-- Whom a choice makes take part: of the writers that pass a test exactly those are members, and exactly those takers, that have a row.
+use Rattle.std.proofs.Common.{◌≡◌, ◌∙◌, ℕ, ◌+◌, ◌==◌, ◌<◌, ◌≤◌, zero, suc, List, [], ◌∷◌, refl, Bool, true, false, ap, sym, filter, length, arith}
+use Rattle.std.specs.Prelude.{◌&&◌, ◌||◌, if◌then◌else◌, nat_lt}
+use Rattle.std.specs.List.{list_any, range_with_len}
+use Rattle.std.proofs.lemmas.List.Folds.{list_any-append}
+use Rattle.writer_state.specs.declared.writer_row.WriterRow.{WriterRow}
+use Rattle.set_agenda.specs.declared.member.Member.{Member}
+use Rattle.set_agenda.specs.Agenda.{is_among}
+use Rattle.set_agenda.specs.Course.{is_member, member_if, members_from}
+use Rattle.component_doc.specs.Selection.{is_taker, known_from as numbers_known, takers}
+use Rattle.requestor.specs.declared.mode.Mode.{Mode}
+use Rattle.requestor.specs.declared.mode.Mode.TheVariants.{Components, All}
+use Rattle.scenario.specs.Plan.{Plan, WriterPlan}
+use Rattle.component_doc.specs.Selection.{Pair}
+use Rattle.vss_model.specs.State.{State}
+use Rattle.vss_model.specs.Sessions.{is_known, meta_if, known_from, selected_in}
+use Rattle.promises.specs.Participants.{is_writer}
+
+-- ## numbers in order
+
+equal : (a b : ℕ) → (a == b) ≡ true → a ≡ b
+equal a b e = grind arith
+
+beyond : (a w : ℕ) → w < a → (a == w) ≡ false
+beyond a w l = grind arith
+
+next_up : (a w : ℕ) → a ≤ w → (a == w) ≡ false → a + 1 ≤ w
+next_up a w l e = grind arith
+
+before_next : (a w : ℕ) → (a == w) ≡ true → w < a + 1
+before_next a w e = grind arith
+
+still_less : (a w : ℕ) → w < a → w < a + 1
+still_less a w l = omega arith
+
+none_from : (a w : ℕ) → a ≤ w → nat_lt w (a + 0) ≡ false
+none_from a w l = grind arith
+
+own_within : (a n w : ℕ) → (a == w) ≡ true → nat_lt w (a + suc n) ≡ true
+own_within a n w e = grind arith
+
+one_on : (a n : ℕ) → a + 1 + n ≡ a + suc n
+one_on a n = omega arith
+
+-- ## a list of numbers that pass: the first, and those behind it
+
+-- the number is the first
+own_is : (b c rest : Bool) → c ≡ true → rest ≡ false → ((b && c) || rest) ≡ b
+own_is true true false e f = refl
+own_is false true false e f = refl
+own_is b true true e f = absurd cc
+own_is b false d e f = absurd cc
+
+-- it is not
+skips : (b c rest : Bool) → c ≡ false → ((b && c) || rest) ≡ rest
+skips true true rest e = absurd cc
+skips true false rest e = refl
+skips false c rest e = refl
+
+within_is : (b c : Bool) → b ≡ true → (b && c) ≡ c
+within_is true c e = refl
+within_is false c e = absurd cc
+
+outside_is : (b c : Bool) → b ≡ false → (b && c) ≡ false
+outside_is true c e = absurd cc
+outside_is false c e = refl
+
+-- what passes of the numbers from a on, where the first passes or not
+one_more : (test : ℕ → Bool) (a n w : ℕ) (rest : Bool) → a ≤ w → ((a == w) ≡ true → rest ≡ false) → ((a == w) ≡ false → rest ≡ (nat_lt w (a + 1 + n) && test w))
+    → ((test a && (a == w)) || rest) ≡ (nat_lt w (a + suc n) && test w)
+one_more test a n w rest l own later = by_number (a == w) refl
+  where
+    by_number : (c : Bool) → (a == w) ≡ c → ((test a && (a == w)) || rest) ≡ (nat_lt w (a + suc n) && test w)
+    by_number true e = own_is (test a) (a == w) rest e (own e) ∙ ap test (equal a w e) ∙ sym (within_is (nat_lt w (a + suc n)) (test w) (own_within a n w e))
+    by_number false e = skips (test a) (a == w) rest e ∙ later e ∙ ap (λ k. nat_lt w k && test w) (one_on a n)
+
+-- ## members
+
+head_member : (test : ℕ → Bool) (k : ℕ) (r : WriterRow) (rows : List WriterRow) (w : ℕ) → is_member (members_from test k (r ∷ rows)) w ≡ ((test k && (k == w)) || is_member (members_from test (k + 1) rows) w)
+head_member test k r rows w = list_any-append (λ (m : Member). m.writer == w) (member_if (test k) k r) (members_from test (k + 1) rows) ∙ ap (λ b. b || is_member (members_from test (k + 1) rows) w) (by_test (test k))
+  where
+    or_nothing : (b : Bool) → (b || false) ≡ b
+    or_nothing true = refl
+    or_nothing false = refl
+
+    by_test : (b : Bool) → is_member (member_if b k r) w ≡ (b && (k == w))
+    by_test true = or_nothing (k == w)
+    by_test false = refl
+
+no_member_before : (test : ℕ → Bool) (k : ℕ) (rows : List WriterRow) (w : ℕ) → w < k → is_member (members_from test k rows) w ≡ false
+no_member_before test k [] w l = refl
+no_member_before test k (r ∷ rows) w l = head_member test k r rows w ∙ skips (test k) (k == w) (is_member (members_from test (k + 1) rows) w) (beyond k w l) ∙ no_member_before test (k + 1) rows w (still_less k w l)
+
+members_from_are : (test : ℕ → Bool) (k : ℕ) (rows : List WriterRow) (w : ℕ) → k ≤ w → is_member (members_from test k rows) w ≡ (nat_lt w (k + length rows) && test w)
+members_from_are test k [] w l = sym (outside_is (nat_lt w (k + 0)) (test w) (none_from k w l))
+members_from_are test k (r ∷ rows) w l =
+    head_member test k r rows w
+    ∙ one_more test k (length rows) w (is_member (members_from test (k + 1) rows) w) l (λ e. no_member_before test (k + 1) rows w (before_next k w e)) (λ e. members_from_are test (k + 1) rows w (next_up k w l e))
+
+-- ## takers
+
+head_passes : (test : ℕ → Bool) (a w : ℕ) (xs : List ℕ) → is_among w (filter test (a ∷ xs)) ≡ ((test a && (a == w)) || is_among w (filter test xs))
+head_passes test a w xs = by_test (test a)
+  where
+    by_test : (b : Bool) → is_among w (if b then a ∷ filter test xs else filter test xs) ≡ ((b && (a == w)) || is_among w (filter test xs))
+    by_test true = refl
+    by_test false = refl
+
+none_passes : (test : ℕ → Bool) (a n w : ℕ) → w < a → is_among w (filter test (range_with_len a n)) ≡ false
+none_passes test a zero w l = refl
+none_passes test a (suc n) w l = head_passes test a w (range_with_len (a + 1) n) ∙ skips (test a) (a == w) (is_among w (filter test (range_with_len (a + 1) n))) (beyond a w l) ∙ none_passes test (a + 1) n w (still_less a w l)
+
+range_passes : (test : ℕ → Bool) (a n w : ℕ) → a ≤ w → is_among w (filter test (range_with_len a n)) ≡ (nat_lt w (a + n) && test w)
+range_passes test a zero w l = sym (outside_is (nat_lt w (a + 0)) (test w) (none_from a w l))
+range_passes test a (suc n) w l =
+    head_passes test a w (range_with_len (a + 1) n)
+    ∙ one_more test a n w (is_among w (filter test (range_with_len (a + 1) n))) l (λ e. none_passes test (a + 1) n w (before_next a w e)) (λ e. range_passes test (a + 1) n w (next_up a w l e))
+
+-- ## whom the session knows
+
+module _ (s : Plan) (st : State) where
+  abbrev knows : ℕ → ℕ → List WriterPlan → Bool
+  knows w k ps = list_any (λ x. x == w) (numbers_known k (known_from s st k ps))
+
+  head_known : (k w : ℕ) (p : WriterPlan) (ps : List WriterPlan) → knows w k (p ∷ ps) ≡ ((is_known s st k && (k == w)) || knows w (k + 1) ps)
+  head_known k w p ps = by_known (is_known s st k)
+    where
+      by_known : (b : Bool) → list_any (λ x. x == w) (numbers_known k (meta_if b p.meta ∷ known_from s st (k + 1) ps)) ≡ ((b && (k == w)) || knows w (k + 1) ps)
+      by_known true = refl
+      by_known false = refl
+
+  none_known : (k w : ℕ) (ps : List WriterPlan) → w < k → knows w k ps ≡ false
+  none_known k w [] l = refl
+  none_known k w (p ∷ ps) l = head_known k w p ps ∙ skips (is_known s st k) (k == w) (knows w (k + 1) ps) (beyond k w l) ∙ none_known (k + 1) w ps (still_less k w l)
+
+  known_are : (k w : ℕ) (ps : List WriterPlan) → k ≤ w → knows w k ps ≡ (nat_lt w (k + length ps) && is_known s st w)
+  known_are k w [] l = sym (outside_is (nat_lt w (k + 0)) (is_known s st w) (none_from k w l))
+  known_are k w (p ∷ ps) l =
+      head_known k w p ps
+      ∙ one_more (is_known s st) k (length ps) w (knows w (k + 1) ps) l (λ e. none_known (k + 1) w ps (before_next k w e)) (λ e. known_are (k + 1) w ps (next_up k w l e))
+
+  -- ## by the mode of the session
+
+  abbrev pub is_selected : Mode → ℕ → Bool
+  is_selected Components w = list_any (λ (p : Pair). p.writer == w) st.explicit
+  is_selected All w = is_known s st w
+
+  twice : (b c : Bool) → (b && (b && c)) ≡ (b && c)
+  twice true c = refl
+  twice false c = refl
+
+  from_zero : (n w : ℕ) → nat_lt w (0 + n) ≡ nat_lt w n
+  from_zero n w = ap (nat_lt w) (zero_plus n)
+    where
+      zero_plus : (a : ℕ) → 0 + a ≡ a
+      zero_plus a = omega arith
+
+  taker_is : (mode : Mode) (w : ℕ) → (is_writer s w && is_taker (selected_in mode s st) w) ≡ (is_writer s w && is_selected mode w)
+  taker_is Components w = refl
+  taker_is All w = ap (λ b. is_writer s w && b) (known_are 0 w s.writers (omega arith) ∙ ap (λ b. b && is_known s st w) (from_zero (length s.writers) w)) ∙ twice (is_writer s w) (is_known s st w)
+
+  -- who is made to take part, where each writer has a row
+  pub selected_are : (mode : Mode) (w : ℕ) → length st.course.rows ≡ length s.writers
+      → is_member (members_from (λ x. is_among x (takers (length s.writers) (selected_in mode s st))) 0 st.course.rows) w ≡ (is_writer s w && is_selected mode w)
+  selected_are mode w rows =
+      let among = is_among w (takers (length s.writers) (selected_in mode s st)) in
+      let taker = is_taker (selected_in mode s st) in
+      members_from_are (λ x. is_among x (takers (length s.writers) (selected_in mode s st))) 0 st.course.rows w (omega arith)
+      ∙ ap (λ b. b && among) (from_zero (length st.course.rows) w ∙ ap (nat_lt w) rows)
+      ∙ ap (λ b. is_writer s w && b) (range_passes taker 0 (length s.writers) w (omega arith) ∙ ap (λ b. b && taker w) (from_zero (length s.writers) w))
+      ∙ twice (is_writer s w) (taker w)
+      ∙ taker_is mode w

@@ -1,0 +1,321 @@
+-- Who takes part: along the acts of a session the participants are those that its `prepare` chose, of what its lines have said.
+use Rattle.std.proofs.Common.{◌≡◌, ◌∙◌, ℕ, ◌==◌, List, [], ◌∷◌, ◌++◌, Option, Some, None, refl, Bool, true, false, ap, sym, subst, map, fold, length}
+use Rattle.std.specs.Prelude.{◌&&◌, ◌||◌, not, if◌then◌else◌, slice_get}
+use Rattle.std.specs.List.{list_any}
+use Rattle.std.proofs.lemmas.List.{length-map}
+use Rattle.std.proofs.lemmas.List.Folds.{list_any-append}
+use Rattle.vss_names.specs.declared.context.Context.{Context}
+use Rattle.vss_names.specs.declared.vss_result.VssResult.TheVariants.{BadState, AsyncCancelled}
+use Rattle.writer_state.specs.WriterRow.{row_gathered, row_ended}
+use Rattle.write_history.specs.declared.mark.Mark.{Mark}
+use Rattle.writer_calls.specs.Script.{said_of}
+use Rattle.writer_meta.specs.Metadata.{Meta}
+use Rattle.set_agenda.specs.declared.kind.Kind.TheVariants as kind
+use Rattle.set_agenda.specs.declared.member.Member.{Member}
+use Rattle.set_agenda.specs.Agenda.{is_among}
+use Rattle.set_agenda.specs.Course.{Course, begun, is_member, members_from, prepared as course_prepared, snapshot_begun, released}
+use Rattle.component_doc.specs.Selection.{Pair, Names, naming, naming_of, naming_found, naming_if, has_pair, found_in, with_pair, comes_before, takers}
+use Rattle.requestor.specs.declared.mode.Mode.{Mode}
+use Rattle.requestor.specs.declared.mode.Mode.TheVariants.{Components, All}
+use Rattle.requestor.specs.Session.{Session, mode_of, opened}
+use Rattle.scenario.specs.declared.op.Op.{Op}
+use Rattle.scenario.specs.declared.op.Op.TheVariants.{WriteFill, WriteStamp, Read, ImageDigest, ImageBlock, Query, Properties, Revert, DeleteSet, DeleteImage, Tick, Begin, Disable, Gather, Component, Document, Start, Add, Prepare, Snapshot, Await, Status, Complete, Abort, End}
+use Rattle.scenario.specs.Calls.{Target, target_of}
+use Rattle.scenario.specs.Plan.{Plan, class_of, token}
+use Rattle.vss_model.specs.declared.event.Event.{Event}
+use Rattle.vss_model.specs.declared.event.Event.TheVariants.{Line}
+use Rattle.vss_model.specs.Reply.{Reply}
+use Rattle.vss_model.specs.State.{State, start, in_progress, row_of_writer}
+use Rattle.vss_model.specs.Ending.{followed, failed}
+use Rattle.vss_model.specs.Images.{Replied, refused, write}
+use Rattle.vss_model.specs.Sessions.{is_disabled, known_metas, disable, pending, selected, has_no_volume, volumes_of, closed}
+use Rattle.vss_model.specs.Acts.{Act, enabled, idle_now, after, state}
+use Rattle.promises.specs.Participants.{Choosing, unsaid, is_chosen, is_fine, line_says, event_says, is_unfit, choosing_if, choosing_from, choosing, is_writer, ChosenTakePart}
+use Rattle.promises.specs.Way.{is_pending}
+use Rattle.promises.proofs.ByEvent.{Covers, ChangesNothing, covered, after_enabled, after_not_enabled}
+use Rattle.promises.proofs.Members.{is_selected, selected_are}
+use Rattle.promises.proofs.SameChoice.{same_course, SameChoice, same_choice, same_beside, mode_in, on_begun, on_agenda_begun, on_followed, on_failed_in, on_answered, on_ticked, on_stepped, on_write, on_revert}
+
+-- ## what the session has said, and where it stands
+
+pub record StandsChosen (s : Plan) (w : ℕ) (st : State) (c : Choosing) (m : Mode) : Type 0 where
+  pub mode : m ≡ mode_of c.all
+  pub named : list_any (λ (p : Pair). p.writer == w) st.explicit ≡ c.named
+  pub disabled : is_disabled s st w ≡ c.disabled
+  pub members : is_member st.course.members w ≡ (is_writer s w && c.takes_part)
+
+abbrev pub ChosenIn : Option Mode → Plan → ℕ → State → Choosing → Type 0
+ChosenIn None s w st c = (st.course.disabled ≡ []) × (st.course.members ≡ [])
+ChosenIn (Some m) s w st c = StandsChosen s w st c m
+
+pub record Follows (s : Plan) (w : ℕ) (st : State) (c : Choosing) : Type 0 where
+  pub rows : length st.course.rows ≡ length s.writers
+  pub chosen : ChosenIn (mode_in st.session) s w st c
+
+same_chosen : (m : Option Mode) (s : Plan) (w : ℕ) (st x : State) (c : Choosing) → SameChoice st x → ChosenIn m s w st c → ChosenIn m s w x c
+same_chosen None s w st x c e h = (e.course.disabled ∙ h.0, e.course.members ∙ h.1)
+same_chosen (Some m) s w st x c e h = record {
+  mode = h.mode;
+  named = ap (λ ps. list_any (λ (p : Pair). p.writer == w) ps) e.explicit ∙ h.named;
+  disabled = ap (λ ds. list_any (λ d. class_of s d == class_of s w) ds) e.course.disabled ∙ h.disabled;
+  members = ap (λ ms. is_member ms w) e.course.members ∙ h.members;
+}
+
+-- what keeps the choice
+follows_same : (s : Plan) (w : ℕ) (st x : State) (c : Choosing) → SameChoice st x → Follows s w st c → Follows s w x c
+follows_same s w st x c e h = record {
+  rows = e.course.rows ∙ h.rows;
+  chosen = subst (λ m. ChosenIn m s w x c) (sym e.mode) (same_chosen (mode_in st.session) s w st x c e h.chosen);
+}
+
+-- ## what lines say
+
+skip_if : (b : Bool) (x y : Choosing) → b ≡ false → (if b then x else y) ≡ y
+skip_if true x y e = absurd cc
+skip_if false x y e = refl
+
+says_nothing : (s : Plan) (w : ℕ) (f : Bool) (c : Choosing) (o : Op) (told : Reply) → ChangesNothing o told → line_says s w f o told c ≡ c
+says_nothing s w f c (WriteFill v b x) told g = refl
+says_nothing s w f c (WriteStamp v b n) told g = refl
+says_nothing s w f c (Read v b) told g = refl
+says_nothing s w f c (ImageDigest n v) told g = refl
+says_nothing s w f c (ImageBlock n v b) told g = refl
+says_nothing s w f c (Query v) told g = refl
+says_nothing s w f c (Properties n v) told g = refl
+says_nothing s w f c (Revert n v) told g = refl
+says_nothing s w f c (DeleteSet n) told g = refl
+says_nothing s w f c (DeleteImage n v) told g = refl
+says_nothing s w f c (Tick n) told g = refl
+says_nothing s w f c (Begin n all) told g = skip_if (is_fine told) _ c (g.session refl)
+says_nothing s w f c (Disable u) told g = skip_if (is_fine told) _ c (g.session refl)
+says_nothing s w f c Gather told g = refl
+says_nothing s w f c (Component u full) told g = skip_if (is_fine told) _ c (g.session refl)
+says_nothing s w f c Document told g = refl
+says_nothing s w f c Start told g = refl
+says_nothing s w f c (Add v) told g = refl
+says_nothing s w f c Prepare told g = skip_if (is_pending told) _ c (g.agenda refl)
+says_nothing s w f c Snapshot told g = refl
+says_nothing s w f c Await told g = refl
+says_nothing s w f c Status told g = refl
+says_nothing s w f c Complete told g = refl
+says_nothing s w f c Abort told g = refl
+says_nothing s w f c End told g = refl
+
+-- a write
+says_no_write : (s : Plan) (w : ℕ) (f : Bool) (c : Choosing) (o : Op) (t : Target) (told : Reply) → target_of o ≡ Some t → line_says s w f o told c ≡ c
+says_no_write s w f c (WriteFill v b x) t told e = refl
+says_no_write s w f c (WriteStamp v b n) t told e = refl
+says_no_write s w f c (Read v b) t told e = refl
+says_no_write s w f c (ImageDigest n v) t told e = refl
+says_no_write s w f c (ImageBlock n v b) t told e = refl
+says_no_write s w f c (Query v) t told e = refl
+says_no_write s w f c (Properties n v) t told e = refl
+says_no_write s w f c (Revert n v) t told e = refl
+says_no_write s w f c (DeleteSet n) t told e = refl
+says_no_write s w f c (DeleteImage n v) t told e = refl
+says_no_write s w f c (Tick n) t told e = refl
+says_no_write s w f c (Begin n all) t told e = absurd cc
+says_no_write s w f c (Disable u) t told e = absurd cc
+says_no_write s w f c Gather t told e = refl
+says_no_write s w f c (Component u full) t told e = absurd cc
+says_no_write s w f c Document t told e = refl
+says_no_write s w f c Start t told e = refl
+says_no_write s w f c (Add v) t told e = refl
+says_no_write s w f c Prepare t told e = absurd cc
+says_no_write s w f c Snapshot t told e = refl
+says_no_write s w f c Await t told e = refl
+says_no_write s w f c Status t told e = refl
+says_no_write s w f c Complete t told e = refl
+says_no_write s w f c Abort t told e = refl
+says_no_write s w f c End t told e = refl
+
+-- ## what a line names
+
+behind : (a b c : Bool) → (a || (b || c)) ≡ ((b || c) || a)
+behind true true c = refl
+behind true false true = refl
+behind true false false = refl
+behind false true c = refl
+behind false false true = refl
+behind false false false = refl
+
+within : (b c d e : Bool) → d ≡ (c || e) → (b || d) ≡ ((b || c) || e)
+within true c d e f = refl
+within false c d e f = f
+
+or_nothing : (b : Bool) → (b || false) ≡ b
+or_nothing true = refl
+or_nothing false = refl
+
+pair_added : (w : ℕ) (q : Pair) (ps : List Pair) → list_any (λ (p : Pair). p.writer == w) (with_pair q ps) ≡ (list_any (λ (p : Pair). p.writer == w) ps || (q.writer == w))
+pair_added w q [] = or_nothing (q.writer == w)
+pair_added w q (p ∷ ps) = by_place (comes_before q p) (pair_added w q ps)
+  where
+    by_place : (b : Bool) → list_any (λ (x : Pair). x.writer == w) (with_pair q ps) ≡ (list_any (λ (x : Pair). x.writer == w) ps || (q.writer == w))
+        → list_any (λ (x : Pair). x.writer == w) (if b then q ∷ p ∷ ps else p ∷ with_pair q ps) ≡ (((p.writer == w) || list_any (λ (x : Pair). x.writer == w) ps) || (q.writer == w))
+    by_place true ih = behind (q.writer == w) (p.writer == w) (list_any (λ (x : Pair). x.writer == w) ps)
+    by_place false ih = within (p.writer == w) (list_any (λ (x : Pair). x.writer == w) ps) (list_any (λ (x : Pair). x.writer == w) (with_pair q ps)) (q.writer == w) ih
+
+named_if : (w : ℕ) (q : Pair) (ps new : List Pair) (a b : Bool) → naming_if a b q ps ≡ Names new → list_any (λ (p : Pair). p.writer == w) new ≡ (list_any (λ (p : Pair). p.writer == w) ps || (q.writer == w))
+named_if w q ps new false b e = absurd cc
+named_if w q ps new true true e = absurd cc
+named_if w q ps new true false e = let same : with_pair q ps ≡ new = cc in ap (list_any (λ (p : Pair). p.writer == w)) (sym same) ∙ pair_added w q ps
+
+named_of : (w u : ℕ) (name : List ℕ) (o : Option (Option Meta)) (ps new : List Pair) → naming_of u name o ps ≡ Names new → list_any (λ (p : Pair). p.writer == w) new ≡ (list_any (λ (p : Pair). p.writer == w) ps || (u == w))
+named_of w u name None ps new e = absurd cc
+named_of w u name (Some None) ps new e = absurd cc
+named_of w u name (Some (Some m)) ps new e =
+    (elim (found_in name m.parts) as (λ x. naming_found u x ps ≡ Names new → list_any (λ (p : Pair). p.writer == w) new ≡ (list_any (λ (p : Pair). p.writer == w) ps || (u == w))) [
+      | None ↦ λ g. absurd cc
+      | Some x ↦ λ g. named_if w (record { writer = u; component = x.component }) ps new x.selectable (has_pair ps u x.component) g
+    ]) e
+
+one_disabled : (f : ℕ → Bool) (ds : List ℕ) (u : ℕ) → list_any f (ds ++ u ∷ []) ≡ (list_any f ds || f u)
+one_disabled f ds u = list_any-append f ds (u ∷ []) ∙ ap (λ b. list_any f ds || b) (or_nothing (f u))
+
+off : (b : Bool) → false ≡ (b && false)
+off true = refl
+off false = refl
+
+-- ## every act
+
+module _ (s : Plan) (w : ℕ) (st : State) (c : Choosing) (h : Follows s w st c) where
+  abbrev Next : Event → Mark → Replied → Type 0
+  Next event mark x = Follows s w x.1 (event_says s w (is_unfit st w) event x.0 c)
+
+  same : (x : State) → SameChoice st x → Follows s w x c
+  same x e = follows_same s w st x c e h
+
+  -- in a session
+  pub standing : (q : Session) → st.session ≡ Some q → StandsChosen s w st c q.mode
+  standing q e = subst (λ (o : Option Session). ChosenIn (mode_in o) s w st c) e h.chosen
+
+  stands_on : (x : State) (d : Choosing) (q : Session) → x.session ≡ Some q → StandsChosen s w x d q.mode → ChosenIn (mode_in x.session) s w x d
+  stands_on x d q e k = subst (λ (o : Option Session). ChosenIn (mode_in o) s w x d) (sym e) k
+
+  -- sets, volumes and the clock alone change
+  beside : (x : State) → x.explicit ≡ st.explicit → x.course ≡ st.course → mode_in x.session ≡ mode_in st.session → Follows s w x c
+  beside x e f g = same x (same_beside st x e f g)
+
+  on_begin : (lane : ℕ) (all : Bool) (x : Context) → st.session ≡ None → ChosenIn None s w st c → Follows s w (record st { session = Some (opened lane x all); explicit = [] }) (unsaid all)
+  on_begin lane all x e none = record {
+    rows = h.rows;
+    chosen = record {
+      mode = refl;
+      named = refl;
+      disabled = ap (λ ds. list_any (λ d. class_of s d == class_of s w) ds) none.0;
+      members = ap (λ ms. is_member ms w) none.1 ∙ off (is_writer s w);
+    };
+  }
+
+  on_disable : (u : ℕ) (q : Session) → st.session ≡ Some q → Follows s w (disable u st).1 (record c { disabled = c.disabled || (class_of s u == class_of s w) })
+  on_disable u q e =
+      let k = standing q e in
+      record {
+        rows = h.rows;
+        chosen = stands_on (disable u st).1 (record c { disabled = c.disabled || (class_of s u == class_of s w) }) q e
+            (record {
+              mode = k.mode;
+              named = k.named;
+              disabled = one_disabled (λ d. class_of s d == class_of s w) st.course.disabled u ∙ ap (λ b. b || (class_of s u == class_of s w)) k.disabled;
+              members = k.members;
+            });
+      }
+
+  on_name : (u : ℕ) (name : List ℕ) (q : Session) (new : List Pair) → st.session ≡ Some q → naming (known_metas s st) u name st.explicit ≡ Names new → Follows s w (record st { explicit = new }) (record c { named = c.named || (u == w) })
+  on_name u name q new e f =
+      let k = standing q e in
+      record {
+        rows = h.rows;
+        chosen = stands_on (record st { explicit = new }) (record c { named = c.named || (u == w) }) q e
+            (record {
+              mode = k.mode;
+              named = named_of w u name (slice_get (known_metas s st) u) st.explicit new f ∙ ap (λ b. b || (u == w)) k.named;
+              disabled = k.disabled;
+              members = k.members;
+            });
+      }
+
+  -- whom the session chooses
+  chosen_by : (m : Mode) (all : Bool) → m ≡ mode_of all → list_any (λ (p : Pair). p.writer == w) st.explicit ≡ c.named → is_disabled s st w ≡ c.disabled
+      → is_selected s st m w ≡ (if all then not c.disabled && not (is_unfit st w) else c.named)
+  chosen_by All true e named off = ap (λ b. not b && not (is_unfit st w)) off
+  chosen_by All false e named off = absurd cc
+  chosen_by Components true e named off = absurd cc
+  chosen_by Components false e named off = named
+
+  abbrev pub asked_by : Session → List Member
+  asked_by q = members_from (λ x. is_among x (takers (length s.writers) (selected s q st))) 0 st.course.rows
+
+  pub asked_are : (q : Session) → st.session ≡ Some q → is_member (asked_by q) w ≡ (is_writer s w && is_chosen (is_unfit st w) c)
+  asked_are q e = let k = standing q e in selected_are s st q.mode w h.rows ∙ ap (λ b. is_writer s w && b) (chosen_by q.mode c.all k.mode k.named k.disabled)
+
+  on_prepare : (q : Session) → st.session ≡ Some q → Follows s w (followed true (course_prepared (takers (length s.writers) (selected s q st)) st.clock st.course) st) (record c { takes_part = is_chosen (is_unfit st w) c })
+  on_prepare q e =
+      let k = standing q e in
+      let fixed : Course = record st.course { members = asked_by q } in
+      let y : State = record st { course = fixed } in
+      let d = begun kind.Prepare (asked_by q) [] st.clock fixed in
+      let chosen : Choosing = record c { takes_part = is_chosen (is_unfit st w) c } in
+      let own : Follows s w y chosen = record {
+        rows = h.rows;
+        chosen = stands_on y chosen q e (record { mode = k.mode; named = k.named; disabled = k.disabled; members = asked_are q e });
+      } in
+      follows_same s w y (followed true d st) chosen (on_followed true d y st refl refl (on_begun kind.Prepare (asked_by q) [] st.clock fixed)) own
+
+  prepare_if : (b : Bool) (lane : ℕ) (q : Session) (mark : Mark) → st.session ≡ Some q
+      → Next (Line lane Prepare) mark (if b then refused BadState st else pending (course_prepared (takers (length s.writers) (selected s q st)) st.clock st.course) st)
+  prepare_if true lane q mark e = h
+  prepare_if false lane q mark e = on_prepare q e
+
+  snapshot_if : (b : Bool) (lane : ℕ) (mark : Mark) → Next (Line lane Snapshot) mark (if b then refused BadState st else pending (snapshot_begun (volumes_of (in_progress st)) st.clock st.course) st)
+  snapshot_if true lane mark = h
+  snapshot_if false lane mark = same _ (on_agenda_begun kind.Snapshot st.course.members (volumes_of (in_progress st)) st st st.course (same_choice st) (same_course st.course))
+
+  on_close : (q : Session) (x : State) → length x.course.rows ≡ length s.writers → Follows s w (closed q x) c
+  unfolding closed released
+  on_close q x e = record { rows = length-map x.course.rows row_ended ∙ e; chosen = (refl, refl) }
+
+  follows : Covers Next s st
+  follows = record {
+    stays = λ lane o mark told e f. subst (Follows s w st) (sym (says_nothing s w (is_unfit st w) c o told f)) h;
+    writes = λ lane o v u mark e f. subst (Follows s w (write s v u mark st).1) (sym (says_no_write s w (is_unfit st w) c o _ (write s v u mark st).0 e)) (same _ (on_write s v u mark st));
+    reverts = λ lane n v k mark e f. same _ (on_revert s v k mark st);
+    deletes_set = λ lane n x mark e. beside _ refl refl refl;
+    deletes_image = λ lane n v k mark e. beside _ refl refl refl;
+    ticks = λ lane n mark. same _ (on_ticked n st);
+    begins = λ lane n all x mark e. on_begin lane all x e (subst (λ (o : Option Session). ChosenIn (mode_in o) s w st c) e h.chosen);
+    disables = λ lane u q mark g. on_disable u q g.stands;
+    gathers = λ lane q mark g. same _ (on_agenda_begun kind.Gather _ [] st st (record st.course { rows = map row_gathered st.course.rows }) (same_choice st) (record { disabled = refl; members = refl; rows = length-map st.course.rows row_gathered }));
+    names = λ lane u full q explicit mark g named. on_name u (token s full) q explicit g.stands named;
+    starts = λ lane q mark g e. beside _ refl refl (sym (ap mode_in g.stands));
+    adds = λ lane v r q mark g e f. beside _ refl refl refl;
+    prepares = λ lane q mark g. prepare_if (has_no_volume (in_progress st)) lane q mark g.stands;
+    snapshots = λ lane q mark g. snapshot_if (has_no_volume (in_progress st)) lane mark;
+    completes = λ lane q mark g. same _ (on_agenda_begun kind.Complete _ [] st st st.course (same_choice st) (same_course st.course));
+    aborts = λ lane q mark e. same _ (on_failed_in (in_progress st) AsyncCancelled st st (same_choice st));
+    ends = λ lane q mark e. on_close q (failed AsyncCancelled st) ((on_failed_in (in_progress st) AsyncCancelled st st (same_choice st)).course.rows ∙ h.rows);
+    answers = λ u answer mark e. same _ (on_answered u (said_of answer) st);
+    steps = λ mark e. same _ (on_stepped mark st);
+    idles = λ mark e. same _ (on_ticked (idle_now st) st);
+  }
+
+  follows_if : (b : Bool) (act : Act) → enabled s st act.event ≡ b → Follows s w (after s st act) (choosing_if b s w st c act)
+  follows_if true act e = subst (λ (x : State). Follows s w x (choosing_if true s w st c act)) (sym (after_enabled s st act e)) (covered Next s st follows act.event act.mark e)
+  follows_if false act e = subst (λ (x : State). Follows s w x c) (sym (after_not_enabled s st act e)) h
+
+  follows_after : (act : Act) → Follows s w (after s st act) (choosing_if (enabled s st act.event) s w st c act)
+  follows_after act = follows_if (enabled s st act.event) act refl
+
+follows_from : (s : Plan) (w : ℕ) (st : State) (c : Choosing) (acts : List Act) → Follows s w st c → Follows s w (fold (after s) st acts) (choosing_from s w st c acts)
+follows_from s w st c [] h = h
+follows_from s w st c (act ∷ acts) h = follows_from s w (after s st act) (choosing_if (enabled s st act.event) s w st c act) acts (follows_after s w st c h act)
+
+pub follows_all : (s : Plan) (w : ℕ) (acts : List Act) → Follows s w (state s acts) (choosing s w acts)
+follows_all s w acts = follows_from s w (start s) (unsaid false) acts (record { rows = length-map s.writers row_of_writer; chosen = (refl, refl) })
+
+pub chosen_take_part : (s : Plan) (so_far : List Act) → ChosenTakePart s so_far
+chosen_take_part s so_far = record {
+  chosen = λ q w e. (standing s w (state s so_far) (choosing s w so_far) (follows_all s w so_far) q e).members;
+  nobody = λ e. (subst (λ (o : Option Session). ChosenIn (mode_in o) s 0 (state s so_far) (choosing s 0 so_far)) e (follows_all s 0 so_far).chosen).1;
+}

@@ -1,0 +1,216 @@
+-- An accepted `prepare` makes the chosen writers take part, none of a disabled class; and nothing else changes who does.
+use Rattle.std.proofs.Common.{◌≡◌, ◌∙◌, ℕ, ◌+◌, ◌==◌, zero, suc, List, [], ◌∷◌, Option, Some, None, refl, Bool, true, false, ap, sym, subst, map, length, arith}
+use Rattle.std.specs.Prelude.{◌&&◌, ◌||◌, not, is_some, if◌then◌else◌, slice_get}
+use Rattle.std.specs.List.{list_any, list_all}
+use Rattle.std.proofs.lemmas.List.{length-map}
+use Rattle.vss_names.specs.declared.vss_result.VssResult.TheVariants.{AsyncPending, BadState, AsyncCancelled}
+use Rattle.writer_state.specs.WriterRow.{row_gathered}
+use Rattle.write_history.specs.declared.mark.Mark.{Mark}
+use Rattle.writer_calls.specs.Script.{said_of}
+use Rattle.writer_meta.specs.Metadata.{Meta}
+use Rattle.set_agenda.specs.declared.kind.Kind.TheVariants as kind
+use Rattle.set_agenda.specs.Course.{Course, begun, is_member, prepared as course_prepared, snapshot_begun}
+use Rattle.component_doc.specs.Over.{meta_at, is_selectable_of, names_selectable, is_ascending}
+use Rattle.component_doc.specs.Selection.{Pair, takers}
+use Rattle.requestor.specs.declared.mode.Mode.{Mode}
+use Rattle.requestor.specs.Session.{Session, mode_of}
+use Rattle.scenario.specs.declared.op.Op.{Op}
+use Rattle.scenario.specs.declared.op.Op.TheVariants.{Prepare}
+use Rattle.scenario.specs.Bounds.{begins_agenda}
+use Rattle.scenario.specs.Calls.{Target, target_of}
+use Rattle.scenario.specs.Plan.{Plan, WriterPlan}
+use Rattle.vss_model.specs.declared.event.Event.{Event}
+use Rattle.vss_model.specs.declared.event.Event.TheVariants.{Line}
+use Rattle.vss_model.specs.Reply.{Reply, Coded}
+use Rattle.vss_model.specs.State.{State, SetRow, in_progress}
+use Rattle.vss_model.specs.Ending.{followed, failed}
+use Rattle.vss_model.specs.Images.{Replied, refused}
+use Rattle.vss_model.specs.Sessions.{is_disabled, is_known, meta_if, known_from, known_metas, has_failed_identify, pending, selected, has_no_volume, volumes_of, closed}
+use Rattle.vss_model.specs.Acts.{Act, enabled, reply, idle_now, after, state}
+use Rattle.vss_model.proofs.Gathered.{named_known_components}
+use Rattle.vss_model.proofs.Named.{AreOver}
+use Rattle.vss_model.proofs.OrderlyActs.{none_after}
+use Rattle.promises.specs.Participants.{Choosing, is_chosen, is_unfit, choosing, is_writer, is_prepare, TakesPart}
+use Rattle.promises.specs.Way.{is_pending}
+use Rattle.promises.proofs.ByEvent.{Covers, ChangesNothing, covered, after_enabled, after_not_enabled}
+use Rattle.promises.proofs.SameChoice.{same_course, same_choice, on_begun, on_agenda_begun, on_followed, on_failed_in, on_answered, on_ticked, on_stepped, on_write, on_revert}
+use Rattle.promises.proofs.Participants.{Follows, standing, asked_by, asked_are, follows_all}
+
+-- ## no other act
+
+module _ (s : Plan) (st : State) where
+  abbrev Stays : Event → Mark → Replied → Type 0
+  Stays event mark x = (r : SetRow) → is_prepare event ≡ false → in_progress x.1 ≡ Some r → x.1.course.members ≡ st.course.members
+
+  closed_none : (q : Session) (x : State) → in_progress x ≡ None → in_progress (closed q x) ≡ None
+  unfolding closed
+  closed_none q x e = e
+
+  none_some : {X : Type 0} (o : Option SetRow) (r : SetRow) → o ≡ None → o ≡ Some r → X
+  none_some o r e f = absurd cc
+
+  snapshot_stays : (b : Bool) → (if b then refused BadState st else pending (snapshot_begun (volumes_of (in_progress st)) st.clock st.course) st).1.course.members ≡ st.course.members
+  snapshot_stays true = refl
+  snapshot_stays false = (on_agenda_begun kind.Snapshot st.course.members (volumes_of (in_progress st)) st st st.course (same_choice st) (same_course st.course)).course.members
+
+  stays : Covers Stays s st
+  stays = record {
+    stays = λ lane o mark told e f r g h. refl;
+    writes = λ lane o v w mark e f r g h. (on_write s v w mark st).course.members;
+    reverts = λ lane n v k mark e f r g h. (on_revert s v k mark st).course.members;
+    deletes_set = λ lane n c mark e r g h. refl;
+    deletes_image = λ lane n v k mark e r g h. refl;
+    ticks = λ lane n mark r g h. (on_ticked n st).course.members;
+    begins = λ lane n all c mark e r g h. refl;
+    disables = λ lane w q mark e r g h. refl;
+    gathers = λ lane q mark e r g h. (on_agenda_begun kind.Gather _ [] st st (record st.course { rows = map row_gathered st.course.rows }) (same_choice st) (record { disabled = refl; members = refl; rows = length-map st.course.rows row_gathered })).course.members;
+    names = λ lane w full q explicit mark e f r g h. refl;
+    starts = λ lane q mark e f r g h. refl;
+    adds = λ lane v x q mark e f i r g h. refl;
+    prepares = λ lane q mark e r g h. absurd cc;
+    snapshots = λ lane q mark e r g h. snapshot_stays (has_no_volume (in_progress st));
+    completes = λ lane q mark e r g h. (on_agenda_begun kind.Complete _ [] st st st.course (same_choice st) (same_course st.course)).course.members;
+    aborts = λ lane q mark e r g h. (on_failed_in (in_progress st) AsyncCancelled st st (same_choice st)).course.members;
+    ends = λ lane q mark e r g h. none_some _ r (closed_none q (failed AsyncCancelled st) (none_after (in_progress st) AsyncCancelled st refl)) h;
+    answers = λ w answer mark e r g h. (on_answered w (said_of answer) st).course.members;
+    steps = λ mark e r g h. (on_stepped mark st).course.members;
+    idles = λ mark e r g h. (on_ticked (idle_now st) st).course.members;
+  }
+
+  stay_if : (b : Bool) (act : Act) (r : SetRow) → enabled s st act.event ≡ b → is_prepare act.event ≡ false → in_progress (after s st act) ≡ Some r → (after s st act).course.members ≡ st.course.members
+  stay_if true act r e f g =
+      let same = after_enabled s st act e in
+      ap (λ (x : State). x.course.members) same ∙ covered Stays s st stays act.event act.mark e r f (ap in_progress (sym same) ∙ g)
+  stay_if false act r e f g = ap (λ (x : State). x.course.members) (after_not_enabled s st act e)
+
+-- ## a writer that is named is known, so its class is not disabled
+
+equal : (a b : ℕ) → (a == b) ≡ true → a ≡ b
+equal a b e = grind arith
+
+and_left : (a b : Bool) → (a && b) ≡ true → a ≡ true
+and_left true b e = refl
+and_left false b e = absurd cc
+
+and_right : (a b : Bool) → (a && b) ≡ true → b ≡ true
+and_right true b e = e
+and_right false b e = absurd cc
+
+not_on : (b : Bool) → not b ≡ true → b ≡ false
+not_on true e = absurd cc
+not_on false e = refl
+
+known_if : (b : Bool) (m : Meta) → is_some (meta_if b m) ≡ true → b ≡ true
+known_if true m e = refl
+known_if false m e = absurd cc
+
+known_at : (s : Plan) (st : State) (k : ℕ) (ps : List WriterPlan) (w : ℕ) → is_some (meta_at (slice_get (known_from s st k ps) w)) ≡ true → is_known s st (k + w) ≡ true
+known_at s st k [] zero e = absurd cc
+known_at s st k [] (suc w) e = absurd cc
+known_at s st k (p ∷ ps) zero e = ap (is_known s st) (plus k) ∙ known_if (is_known s st k) p.meta e
+  where
+    plus : (a : ℕ) → a + zero ≡ a
+    plus a = omega arith
+known_at s st k (p ∷ ps) (suc w) e = ap (is_known s st) (shift k w) ∙ known_at s st (k + 1) ps w e
+  where
+    shift : (a b : ℕ) → a + suc b ≡ (a + 1) + b
+    shift a b = omega arith
+
+selectable_known : (i : ℕ) (o : Option Meta) → is_selectable_of i o ≡ true → is_some o ≡ true
+selectable_known i None e = absurd cc
+selectable_known i (Some m) e = refl
+
+named_known : (ms : List (Option Meta)) (ps : List Pair) (w : ℕ) → list_all (names_selectable ms) ps ≡ true → list_any (λ (p : Pair). p.writer == w) ps ≡ true → is_some (meta_at (slice_get ms w)) ≡ true
+named_known ms [] w e f = absurd cc
+named_known ms (p ∷ ps) w e f = by_head (p.writer == w) refl f (named_known ms ps w (and_right (names_selectable ms p) (list_all (names_selectable ms) ps) e))
+  where
+    by_head : (b : Bool) → (p.writer == w) ≡ b → (b || list_any (λ (x : Pair). x.writer == w) ps) ≡ true → (list_any (λ (x : Pair). x.writer == w) ps ≡ true → is_some (meta_at (slice_get ms w)) ≡ true) → is_some (meta_at (slice_get ms w)) ≡ true
+    by_head true g h ih = subst (λ x. is_some (meta_at (slice_get ms x)) ≡ true) (equal p.writer w g) (selectable_known p.component (meta_at (slice_get ms p.writer)) (and_left (names_selectable ms p) (list_all (names_selectable ms) ps) e))
+    by_head false g h ih = ih h
+
+named_enabled : (s : Plan) (st : State) (w : ℕ) → AreOver (known_metas s st) st.explicit → list_any (λ (p : Pair). p.writer == w) st.explicit ≡ true → is_disabled s st w ≡ false
+named_enabled s st w over e =
+    not_on (is_disabled s st w)
+    (and_left (not (is_disabled s st w)) (not (has_failed_identify (slice_get st.course.rows w)))
+    (subst (λ x. is_known s st x ≡ true) (zero_plus w) (known_at s st 0 s.writers w (named_known (known_metas s st) st.explicit w (and_left (list_all (names_selectable (known_metas s st)) st.explicit) (is_ascending st.explicit) over) e))))
+  where
+    zero_plus : (a : ℕ) → 0 + a ≡ a
+    zero_plus a = omega arith
+
+-- ## `prepare`
+
+module _ (s : Plan) (w : ℕ) (st : State) (c : Choosing) (h : Follows s w st c) (over : AreOver (known_metas s st) st.explicit) where
+  abbrev Chooses : Event → Mark → Replied → Type 0
+  Chooses event mark x = (lane : ℕ) → event ≡ Line lane Prepare → x.0 ≡ Coded AsyncPending → (is_member x.1.course.members w ≡ (is_writer s w && is_chosen (is_unfit st w) c)) × (is_chosen (is_unfit st w) c ≡ true → c.disabled ≡ false)
+
+  both : {X : Type 0} (b : Bool) → b ≡ true → b ≡ false → X
+  both b e f = absurd cc
+
+  same_op : (o : Op) (lane other : ℕ) → Line lane o ≡ Line other Prepare → o ≡ Prepare
+  same_op o lane other e = cc
+
+  not_pending : {X : Type 0} (o : Op) (told : Reply) (lane other : ℕ) → Line lane o ≡ Line other Prepare → ChangesNothing o told → told ≡ Coded AsyncPending → X
+  not_pending o told lane other e f g = both (is_pending told) (ap is_pending g) (f.agenda (ap begins_agenda (same_op o lane other e)))
+
+  writes_nothing : {X : Type 0} (o : Op) (t : Target) (lane other : ℕ) → Line lane o ≡ Line other Prepare → target_of o ≡ Some t → X
+  writes_nothing o t lane other e f = none_there (target_of o) t (ap target_of (same_op o lane other e)) f
+    where
+      none_there : {X : Type 0} (x : Option Target) (t : Target) → x ≡ None → x ≡ Some t → X
+      none_there x t e f = absurd cc
+
+  enabled_by : (m : Mode) (all : Bool) → m ≡ mode_of all → list_any (λ (p : Pair). p.writer == w) st.explicit ≡ c.named → is_disabled s st w ≡ c.disabled
+      → (if all then not c.disabled && not (is_unfit st w) else c.named) ≡ true → c.disabled ≡ false
+  enabled_by m true e named off f = not_on c.disabled (and_left (not c.disabled) (not (is_unfit st w)) f)
+  enabled_by m false e named off f = sym off ∙ named_enabled s st w over (named ∙ f)
+
+  members_fixed : (q : Session) → (followed true (course_prepared (takers (length s.writers) (selected s q st)) st.clock st.course) st).course.members ≡ asked_by s w st c h q
+  members_fixed q =
+      let fixed : Course = record st.course { members = asked_by s w st c h q } in
+      (on_followed true (begun kind.Prepare (asked_by s w st c h q) [] st.clock fixed) (record st { course = fixed }) st refl refl (on_begun kind.Prepare (asked_by s w st c h q) [] st.clock fixed)).course.members
+
+  prepared_if : (b : Bool) (q : Session) → st.session ≡ Some q → (if b then refused BadState st else pending (course_prepared (takers (length s.writers) (selected s q st)) st.clock st.course) st).0 ≡ Coded AsyncPending
+      → (is_member (if b then refused BadState st else pending (course_prepared (takers (length s.writers) (selected s q st)) st.clock st.course) st).1.course.members w ≡ (is_writer s w && is_chosen (is_unfit st w) c))
+      × (is_chosen (is_unfit st w) c ≡ true → c.disabled ≡ false)
+  prepared_if true q e f = absurd cc
+  prepared_if false q e f = let k = standing s w st c h q e in (ap (λ ms. is_member ms w) (members_fixed q) ∙ asked_are s w st c h q e, enabled_by q.mode c.all k.mode k.named k.disabled)
+
+  chooses : Covers Chooses s st
+  chooses = record {
+    stays = λ lane o mark told e f other g i. not_pending o told lane other g f i;
+    writes = λ lane o v u mark e f other g i. writes_nothing o _ lane other g e;
+    reverts = λ lane n v k mark e f other g i. absurd cc;
+    deletes_set = λ lane n x mark e other g i. absurd cc;
+    deletes_image = λ lane n v k mark e other g i. absurd cc;
+    ticks = λ lane n mark other g i. absurd cc;
+    begins = λ lane n all x mark e other g i. absurd cc;
+    disables = λ lane u q mark e other g i. absurd cc;
+    gathers = λ lane q mark e other g i. absurd cc;
+    names = λ lane u full q explicit mark e f other g i. absurd cc;
+    starts = λ lane q mark e f other g i. absurd cc;
+    adds = λ lane v r q mark e f j other g i. absurd cc;
+    prepares = λ lane q mark e other g i. prepared_if (has_no_volume (in_progress st)) q e.stands i;
+    snapshots = λ lane q mark e other g i. absurd cc;
+    completes = λ lane q mark e other g i. absurd cc;
+    aborts = λ lane q mark e other g i. absurd cc;
+    ends = λ lane q mark e other g i. absurd cc;
+    answers = λ u answer mark e other g i. absurd cc;
+    steps = λ mark e other g i. absurd cc;
+    idles = λ mark e other g i. absurd cc;
+  }
+
+  chosen_in : (act : Act) (lane : ℕ) → act.event ≡ Line lane Prepare → enabled s st act.event ≡ true → reply s st act ≡ Coded AsyncPending
+      → (is_member (after s st act).course.members w ≡ (is_writer s w && is_chosen (is_unfit st w) c)) × (is_chosen (is_unfit st w) c ≡ true → c.disabled ≡ false)
+  chosen_in act lane e on told =
+      let x = covered Chooses s st chooses act.event act.mark on lane e told in (ap (λ (y : State). is_member y.course.members w) (after_enabled s st act on) ∙ x.0, x.1)
+
+pub takes_part : (s : Plan) (so_far : List Act) (act : Act) → TakesPart s so_far act
+takes_part s so_far act =
+    let st = state s so_far in
+    let over = named_known_components s so_far in
+    record {
+      prepared = λ lane w e on told. (chosen_in s w st (choosing s w so_far) (follows_all s w so_far) over act lane e on told).0;
+      none_disabled = λ lane w e on told f.
+          let x = chosen_in s w st (choosing s w so_far) (follows_all s w so_far) over act lane e on told in
+          x.1 (and_right (is_writer s w) (is_chosen (is_unfit st w) (choosing s w so_far)) (sym x.0 ∙ f));
+      stay = λ r e f. stay_if s st (enabled s st act.event) act r refl e f;
+    }

@@ -1,0 +1,246 @@
+-- What keeps the choice of writers: answers, steps, ticks, failures and agendas change neither who takes part, nor which classes are
+-- disabled, nor what is named, nor whether the session takes all; and each writer keeps a row.
+use Rattle.std.proofs.Common.{◌≡◌, ◌∙◌, ℕ, ◌+◌, List, [], ◌∷◌, Option, Some, None, refl, Bool, true, false, ap, length, suc}
+use Rattle.std.specs.Prelude.{◌&&◌, not, option_map}
+use Rattle.vss_names.specs.declared.order.Order.{Order}
+use Rattle.vss_names.specs.declared.vss_result.VssResult.{VssResult}
+use Rattle.vss_names.specs.declared.vss_result.VssResult.TheVariants.{InsufficientStorage}
+use Rattle.write_history.specs.declared.mark.Mark.{Mark}
+use Rattle.write_history.specs.declared.mark.Mark.TheVariants.{Clean, Fault, FaultAfter}
+use Rattle.write_history.specs.History.{Write}
+use Rattle.writer_state.specs.declared.said.Said.{Said}
+use Rattle.writer_state.specs.declared.said.Said.TheVariants.{Lost}
+use Rattle.writer_state.specs.declared.writer_row.WriterRow.{WriterRow}
+use Rattle.writer_state.specs.WriterState.{is_ok}
+use Rattle.writer_state.specs.WriterRow.{row_after, row_aborted}
+use Rattle.set_agenda.specs.declared.group.Group.{Group}
+use Rattle.set_agenda.specs.declared.group.Group.TheVariants.{Orders, PreCommit, Flush, Hold, Cut, Commit, Release, PostCommit}
+use Rattle.set_agenda.specs.declared.kind.Kind.{Kind}
+use Rattle.set_agenda.specs.declared.limit.Limit.{Limit}
+use Rattle.set_agenda.specs.declared.limit.Limit.TheVariants.{Hold as HoldLimit, Freeze as FreezeLimit, Answer as AnswerLimit}
+use Rattle.set_agenda.specs.declared.member.Member.{Member}
+use Rattle.set_agenda.specs.Agenda.{Agenda, is_among, is_done, groups_left, left, open_group, open_order, order_now, waits_now}
+use Rattle.set_agenda.specs.Limits.{Running as RunningLimit, spent_of}
+use Rattle.set_agenda.specs.Course.{Course, rows_where, is_member, posted, failed as course_failed, settled_if, settled_in, settled, begun, is_decisive, told, decided, answered_to, answered as course_answered, worked, stepped_as as course_stepped_as, stepped as course_stepped, limits_now, lost_to, fails_set, lost_decided, treated_as, treated, timed as course_timed}
+use Rattle.requestor.specs.declared.mode.Mode.{Mode}
+use Rattle.requestor.specs.Session.{Session, agenda_ended, set_failed}
+use Rattle.scenario.specs.Plan.{Plan}
+use Rattle.vss_model.specs.State.{State, SetRow, Kept, in_progress, left_now}
+use Rattle.vss_model.specs.Ending.{Ending, NothingEnds, AgendaEnds, SetFails, ending, concluded, followed, runs, failed_in}
+use Rattle.vss_model.specs.Images.{cleared, set_loses_image, with_room_if, put, write, reverted_as}
+use Rattle.vss_model.specs.Steps.{answered, cut_set, step_made, is_flush, is_failed_step, stepped_as, stepped, ticked, later}
+
+-- ## the course
+
+pub record SameCourse (c d : Course) : Type 0 where
+  pub disabled : d.disabled ≡ c.disabled
+  pub members : d.members ≡ c.members
+  pub rows : length d.rows ≡ length c.rows
+
+abbrev course_then : (c d e : Course) → SameCourse c d → SameCourse d e → SameCourse c e
+course_then c d e h g = record { disabled = g.disabled ∙ h.disabled; members = g.members ∙ h.members; rows = g.rows ∙ h.rows }
+
+pub same_course : (c : Course) → SameCourse c c
+same_course c = record { disabled = refl; members = refl; rows = refl }
+
+length-rows_where : (f : WriterRow → WriterRow) (test : ℕ → Bool) (w : ℕ) (rows : List WriterRow) → length (rows_where f test w rows) ≡ length rows
+length-rows_where f test w [] = refl
+length-rows_where f test w (r ∷ rs) = ap suc (length-rows_where f test (w + 1) rs)
+
+on_failed : (why : VssResult) (c : Course) → SameCourse c (course_failed why c)
+unfolding course_failed
+on_failed why c = record { disabled = refl; members = refl; rows = length-rows_where row_aborted (is_member c.members) 0 c.rows }
+
+on_settled_if : (b : Bool) (k : Kind) (c : Course) → SameCourse c (settled_if b k c)
+on_settled_if true k c = record { disabled = refl; members = refl; rows = refl }
+on_settled_if false k c = same_course c
+
+on_settled_in : (o : Option Agenda) (c : Course) → SameCourse c (settled_in o c)
+on_settled_in None c = same_course c
+on_settled_in (Some a) c = on_settled_if (is_done (groups_left a)) a.kind c
+
+on_settled : (c : Course) → SameCourse c (settled c)
+unfolding settled
+on_settled c = on_settled_in c.agenda c
+
+on_told : (o : Order) (said : Said) (now : ℕ) (ws : List ℕ) (c : Course) → SameCourse c (told o said now ws c)
+unfolding told
+on_told o said now ws c = record { disabled = refl; members = refl; rows = length-rows_where (row_after o said) (λ w. is_among w ws) 0 c.rows }
+
+on_worked : (now : ℕ) (c : Course) → SameCourse c (worked now c)
+unfolding worked
+on_worked now c = record { disabled = refl; members = refl; rows = refl }
+
+on_posted : (before c d : Course) → SameCourse c d → SameCourse c (posted before d)
+unfolding posted
+on_posted before c d h = record { disabled = h.disabled; members = h.members; rows = h.rows }
+
+on_decided : (b : Bool) (said : Said) (c : Course) → SameCourse c (decided b said c)
+on_decided true said c = on_failed _ c
+on_decided false said c = on_settled c
+
+on_answered_to : (o : Option Order) (w : ℕ) (said : Said) (now : ℕ) (c : Course) → SameCourse c (answered_to o w said now c)
+on_answered_to None w said now c = same_course c
+on_answered_to (Some o) w said now c =
+    let d = told o said now (w ∷ []) c in
+    course_then c d (decided (is_decisive o && not (is_ok said)) said d) (on_told o said now (w ∷ []) c) (on_decided (is_decisive o && not (is_ok said)) said d)
+
+pub on_course_answered : (w : ℕ) (said : Said) (now : ℕ) (c : Course) → SameCourse c (course_answered w said now c)
+on_course_answered w said now c = on_posted c c _ (on_answered_to (open_order (left c.agenda) w) w said now c)
+
+on_stepped_as : (ok : Bool) (now : ℕ) (c : Course) → SameCourse c (course_stepped_as ok now c)
+on_stepped_as true now c = course_then c (worked now c) (course_stepped_as true now c) (on_worked now c) (on_settled (worked now c))
+on_stepped_as false now c = on_failed _ c
+
+pub on_course_stepped : (ok : Bool) (now : ℕ) (c : Course) → SameCourse c (course_stepped ok now c)
+on_course_stepped ok now c = on_posted c c _ (on_stepped_as ok now c)
+
+on_lost_to : (o : Option Order) (now : ℕ) (c : Course) → SameCourse c (lost_to o now c)
+on_lost_to None now c = same_course c
+on_lost_to (Some o) now c = on_told o Lost now (waits_now (left c.agenda)) c
+
+on_lost_decided : (b : Bool) (c : Course) → SameCourse c (lost_decided b c)
+on_lost_decided true c = on_failed _ c
+on_lost_decided false c = on_settled c
+
+on_treated_as : (l : Limit) (now : ℕ) (c : Course) → SameCourse c (treated_as l now c)
+on_treated_as HoldLimit now c = on_failed _ c
+on_treated_as FreezeLimit now c =
+    let d = lost_to (order_now (left c.agenda)) now c in course_then c d (treated_as FreezeLimit now c) (on_lost_to (order_now (left c.agenda)) now c) (on_failed _ d)
+on_treated_as AnswerLimit now c =
+    let d = lost_to (order_now (left c.agenda)) now c in
+    course_then c d (treated_as AnswerLimit now c) (on_lost_to (order_now (left c.agenda)) now c) (on_lost_decided (fails_set (order_now (left c.agenda))) d)
+
+on_treated : (l : Option RunningLimit) (now : ℕ) (c : Course) → SameCourse c (treated l now c)
+on_treated None now c = same_course c
+on_treated (Some l) now c = on_treated_as l.limit now c
+
+pub on_course_timed : (now : ℕ) (c : Course) → SameCourse c (course_timed now c)
+on_course_timed now c = on_posted c c _ (on_treated (spent_of now (limits_now c)) now c)
+
+on_agenda : (a : Option Agenda) (c : Course) → SameCourse c (record c { agenda = a })
+on_agenda a c = record { disabled = refl; members = refl; rows = refl }
+
+pub on_begun : (k : Kind) (ms : List Member) (vs : List ℕ) (now : ℕ) (c : Course) → SameCourse c (begun k ms vs now c)
+unfolding begun
+on_begun k ms vs now c =
+    let d = record c { agenda = Some (record { kind = k; members = ms; volumes = vs; begun = now; log = [] }) } in
+    on_posted c c (settled d) (course_then c d (settled d) (on_agenda (Some (record { kind = k; members = ms; volumes = vs; begun = now; log = [] })) c) (on_settled d))
+
+-- ## the state
+
+abbrev pub mode_in : Option Session → Option Mode
+mode_in q = option_map (λ (p : Session). p.mode) q
+
+pub record SameChoice (st x : State) : Type 0 where
+  pub explicit : x.explicit ≡ st.explicit
+  pub course : SameCourse st.course x.course
+  pub mode : mode_in x.session ≡ mode_in st.session
+
+pub same_choice : (st : State) → SameChoice st st
+same_choice st = record { explicit = refl; course = same_course st.course; mode = refl }
+
+mode_ended : (q : Option Session) → mode_in (option_map agenda_ended q) ≡ mode_in q
+mode_ended None = refl
+mode_ended (Some q) = refl
+
+mode_failed : (why : VssResult) (q : Option Session) → mode_in (option_map (set_failed why) q) ≡ mode_in q
+mode_failed why None = refl
+mode_failed why (Some q) = refl
+
+on_concluded : (e : Ending) (st x : State) → SameChoice st x → SameChoice st (concluded e x)
+on_concluded NothingEnds st x h = h
+on_concluded AgendaEnds st x h = record { explicit = h.explicit; course = h.course; mode = mode_ended x.session ∙ h.mode }
+on_concluded (SetFails why) st x h = record { explicit = h.explicit; course = h.course; mode = mode_failed why x.session ∙ h.mode }
+
+-- the course goes on in a state that is the same but for sets, volumes and the clock
+pub on_followed : (ran : Bool) (c : Course) (st x : State) → x.explicit ≡ st.explicit → x.session ≡ st.session → SameCourse st.course c → SameChoice st (followed ran c x)
+unfolding followed
+on_followed ran c st x e f h = on_concluded (ending x.course.outcome c.outcome ran c.agenda) st (record x { course = c }) (record { explicit = e; course = h; mode = ap mode_in f })
+
+pub on_failed_in : (o : Option SetRow) (why : VssResult) (st x : State) → SameChoice st x → SameChoice st (failed_in o why x)
+on_failed_in None why st x h = h
+on_failed_in (Some r) why st x h =
+    on_concluded (SetFails why) st (record x { course = course_failed why x.course })
+    (record { explicit = h.explicit; course = course_then st.course x.course (course_failed why x.course) h.course (on_failed why x.course); mode = h.mode })
+
+pub on_answered : (w : ℕ) (said : Said) (st : State) → SameChoice st (answered w said st)
+unfolding answered
+on_answered w said st = on_followed (runs st) (course_answered w said st.clock st.course) st st refl refl (on_course_answered w said st.clock st.course)
+
+pub on_ticked : (n : ℕ) (st : State) → SameChoice st (ticked n st)
+unfolding ticked
+on_ticked n st = on_followed (runs st) (course_timed (st.clock + n) st.course) st (later n st) refl refl (on_course_timed (st.clock + n) st.course)
+
+explicit_cut : (o : Option SetRow) (st : State) → (cut_set o st).explicit ≡ st.explicit
+explicit_cut None st = refl
+explicit_cut (Some r) st = refl
+
+session_cut : (o : Option SetRow) (st : State) → (cut_set o st).session ≡ st.session
+session_cut None st = refl
+session_cut (Some r) st = refl
+
+explicit_made : (g : Option Group) (st : State) → (step_made g st).explicit ≡ st.explicit
+explicit_made None st = refl
+explicit_made (Some (Orders o)) st = refl
+explicit_made (Some PreCommit) st = refl
+explicit_made (Some Flush) st = refl
+explicit_made (Some Hold) st = refl
+explicit_made (Some Cut) st = explicit_cut (in_progress st) st
+explicit_made (Some Commit) st = refl
+explicit_made (Some Release) st = refl
+explicit_made (Some PostCommit) st = refl
+
+session_made : (g : Option Group) (st : State) → (step_made g st).session ≡ st.session
+session_made None st = refl
+session_made (Some (Orders o)) st = refl
+session_made (Some PreCommit) st = refl
+session_made (Some Flush) st = refl
+session_made (Some Hold) st = refl
+session_made (Some Cut) st = session_cut (in_progress st) st
+session_made (Some Commit) st = refl
+session_made (Some Release) st = refl
+session_made (Some PostCommit) st = refl
+
+on_step_as : (f : Bool) (g : Option Group) (st : State) → SameChoice st (stepped_as f g st)
+on_step_as true g st = on_followed (runs st) (course_stepped false st.clock st.course) st st refl refl (on_course_stepped false st.clock st.course)
+on_step_as false g st = on_followed (runs st) (course_stepped true st.clock st.course) st (step_made g st) (explicit_made g st) (session_made g st) (on_course_stepped true st.clock st.course)
+
+pub on_stepped : (mark : Mark) (st : State) → SameChoice st (stepped mark st)
+unfolding stepped
+on_stepped mark st = on_step_as (is_failed_step (is_flush (open_group (left_now st))) mark) (open_group (left_now st)) st
+
+-- ## lines
+
+on_room : (b : Bool) (st x : State) → SameChoice st x → SameChoice st (with_room_if b x)
+on_room true st x h = on_failed_in (in_progress x) InsufficientStorage st x h
+on_room false st x h = h
+
+on_put : (v : ℕ) (w : Write) (mark : Mark) (st x : State) → SameChoice st x → SameChoice st (put v w mark x)
+on_put v w Clean st x h = record { explicit = h.explicit; course = h.course; mode = h.mode }
+on_put v w Fault st x h = h
+on_put v w (FaultAfter k) st x h = h
+
+pub on_write : (s : Plan) (v : ℕ) (w : Write) (mark : Mark) (st : State) → SameChoice st (write s v w mark st).1
+unfolding write
+on_write s v w mark st = on_put v w mark st _ (on_room (set_loses_image (in_progress st) st.volumes (cleared s v w.block st).volumes) st (cleared s v w.block st) (record { explicit = refl; course = same_course st.course; mode = refl }))
+
+pub on_revert : (s : Plan) (v : ℕ) (k : Kept) (mark : Mark) (st : State) → SameChoice st (reverted_as s v k mark st).1
+on_revert s v k Clean st = record { explicit = refl; course = same_course st.course; mode = refl }
+on_revert s v k Fault st = same_choice st
+on_revert s v k (FaultAfter n) st = record { explicit = refl; course = same_course st.course; mode = refl }
+
+-- a change of sets, volumes and the clock
+pub same_beside : (st x : State) → x.explicit ≡ st.explicit → x.course ≡ st.course → mode_in x.session ≡ mode_in st.session → SameChoice st x
+same_beside st x e f g = record {
+  explicit = e;
+  course = record { disabled = ap (λ (d : Course). d.disabled) f; members = ap (λ (d : Course). d.members) f; rows = ap (λ (d : Course). length d.rows) f };
+  mode = g;
+}
+
+-- an agenda begins
+pub on_agenda_begun : (k : Kind) (ms : List Member) (vs : List ℕ) (st x : State) (c : Course) → SameChoice st x → SameCourse x.course c → SameChoice st (followed true (begun k ms vs st.clock c) x)
+on_agenda_begun k ms vs st x c h g =
+    let d = begun k ms vs st.clock c in
+    let own : SameChoice x (followed true d x) = on_followed true d x x refl refl (course_then x.course c d g (on_begun k ms vs st.clock c)) in
+    record { explicit = own.explicit ∙ h.explicit; course = course_then st.course x.course (followed true d x).course h.course own.course; mode = own.mode ∙ h.mode }

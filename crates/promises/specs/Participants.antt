@@ -1,0 +1,95 @@
+-- Who takes part: an accepted `prepare` makes exactly those writers take part of which the session has named a component since its
+-- `begin`; or, where its `begin` took all, those whose class the session has not disabled and that do not stand as failed at Identify.
+-- Before it nobody takes part, and until the session ends no other act changes who does, so at the cut it is the same. (That the
+-- writers of the components in the backup take part, and that a class can be disabled, are the SDK's; a session that takes all is its
+-- backup without component selection.)
+use Rattle.std.specs.Prelude.{ℕ, ◌≡◌, ◌==◌, ◌&&◌, ◌||◌, not, if◌then◌else◌, nat_lt, Bool, true, false, List, [], ◌∷◌, Some, None, length, slice_get}
+use Rattle.vss_names.specs.declared.vss_result.VssResult.TheVariants.{AsyncPending}
+use Rattle.set_agenda.specs.Course.{is_member}
+use Rattle.requestor.specs.Session.{Session}
+use Rattle.scenario.specs.declared.op.Op.{Op}
+use Rattle.scenario.specs.declared.op.Op.TheVariants.{Begin, Disable, Component, Prepare}
+use Rattle.scenario.specs.Plan.{Plan, class_of}
+use Rattle.vss_model.specs.declared.event.Event.{Event}
+use Rattle.vss_model.specs.declared.event.Event.TheVariants.{Line}
+use Rattle.vss_model.specs.Reply.{Reply, Fine, Coded}
+use Rattle.vss_model.specs.State.{State, SetRow, start, in_progress}
+use Rattle.vss_model.specs.Sessions.{has_failed_identify}
+use Rattle.vss_model.specs.Acts.{Act, enabled, reply, after, state}
+use Rattle.promises.specs.Way.{is_pending}
+
+-- ## what the session has said of a writer
+
+pub record Choosing : Type 0 where
+  -- the `begin` took all components
+  pub all : Bool
+  -- one of the writer's components is named
+  pub named : Bool
+  -- its class is disabled
+  pub disabled : Bool
+  -- it takes part
+  pub takes_part : Bool
+
+-- where nothing is said yet
+abbrev pub unsaid : Bool → Choosing
+unsaid all = record { all = all; named = false; disabled = false; takes_part = false }
+
+-- a writer that has failed at Identify is in no backup that takes all
+abbrev pub is_chosen : Bool → Choosing → Bool
+is_chosen failed c = if c.all then not c.disabled && not failed else c.named
+
+abbrev pub is_fine : Reply → Bool
+is_fine Fine = true
+is_fine _ = false
+
+-- a line says something of writer w only where it is accepted: with `ok`, and `prepare` by the agenda that it begins
+abbrev pub line_says : Plan → ℕ → Bool → Op → Reply → Choosing → Choosing
+line_says s w failed (Begin n all) told c = if is_fine told then unsaid all else c
+line_says s w failed (Disable u) told c = if is_fine told then record c { disabled = c.disabled || (class_of s u == class_of s w) } else c
+line_says s w failed (Component u full) told c = if is_fine told then record c { named = c.named || (u == w) } else c
+line_says s w failed Prepare told c = if is_pending told then record c { takes_part = is_chosen failed c } else c
+line_says s w failed _ told c = c
+
+abbrev pub event_says : Plan → ℕ → Bool → Event → Reply → Choosing → Choosing
+event_says s w failed (Line lane op) told c = line_says s w failed op told c
+event_says s w failed _ told c = c
+
+-- writer w stands as failed at Identify
+abbrev pub is_unfit : State → ℕ → Bool
+is_unfit st w = has_failed_identify (slice_get st.course.rows w)
+
+abbrev pub choosing_if : Bool → Plan → ℕ → State → Choosing → Act → Choosing
+choosing_if true s w st c act = event_says s w (is_unfit st w) act.event (reply s st act) c
+choosing_if false s w st c act = c
+
+abbrev pub choosing_from : Plan → ℕ → State → Choosing → List Act → Choosing
+choosing_from s w st c [] = c
+choosing_from s w st c (act ∷ acts) = choosing_from s w (after s st act) (choosing_if (enabled s st act.event) s w st c act) acts
+
+-- what the lines of the session so far have made of writer w
+abbrev pub choosing : Plan → ℕ → List Act → Choosing
+choosing s w acts = choosing_from s w (start s) (unsaid false) acts
+
+-- ## who takes part
+
+abbrev pub is_writer : Plan → ℕ → Bool
+is_writer s w = nat_lt w (length s.writers)
+
+-- while a session stands, exactly the writers that its `prepare` chose take part; without a session nobody does
+pub record ChosenTakePart (s : Plan) (so_far : List Act) : Type 0 where
+  pub chosen : (q : Session) (w : ℕ) → (state s so_far).session ≡ Some q → is_member (state s so_far).course.members w ≡ (is_writer s w && (choosing s w so_far).takes_part)
+  pub nobody : (state s so_far).session ≡ None → (state s so_far).course.members ≡ []
+
+abbrev pub is_prepare : Event → Bool
+is_prepare (Line lane Prepare) = true
+is_prepare _ = false
+
+pub record TakesPart (s : Plan) (so_far : List Act) (act : Act) : Type 0 where
+  -- an accepted `prepare` makes exactly the chosen writers of the scenario take part
+  pub prepared : (lane w : ℕ) → act.event ≡ Line lane Prepare → enabled s (state s so_far) act.event ≡ true → reply s (state s so_far) act ≡ Coded AsyncPending
+      → is_member (after s (state s so_far) act).course.members w ≡ (is_writer s w && is_chosen (is_unfit (state s so_far) w) (choosing s w so_far))
+  -- and none of a disabled class
+  pub none_disabled : (lane w : ℕ) → act.event ≡ Line lane Prepare → enabled s (state s so_far) act.event ≡ true → reply s (state s so_far) act ≡ Coded AsyncPending
+      → is_member (after s (state s so_far) act).course.members w ≡ true → (choosing s w so_far).disabled ≡ false
+  -- no other act changes who does while a set is in progress
+  pub stay : (r : SetRow) → is_prepare act.event ≡ false → in_progress (after s (state s so_far) act) ≡ Some r → (after s (state s so_far) act).course.members ≡ (state s so_far).course.members
