@@ -196,6 +196,7 @@ impl<D: Device> CowGroup<D> {
     pub fn read_into(&mut self, v: u32, block: u32, out: &mut [u8]) -> Result<(), Cause>
         requires volume { v < length self.old.area.volumes }
         requires whole { length out.old ≡ BLOCK }
+        ensures in_range { OnOk result (block < blocks_at self.old v) }
         ensures now { OnOk result (IsNow D.told self.old v block out.new) }
         ensures same { OnOk result (IsUnfailed D.count self.old self.new) }
         ensures cause { IfErr result (HasCauseAt D.count v block self.old self.new) }
@@ -216,6 +217,7 @@ impl<D: Device> CowGroup<D> {
         requires whole { length out.old ≡ BLOCK }
         ensures shown { OnOk result (IsShown D.told self.old v set block out.new) }
         ensures image { OnOk result (is_among set (sets_at self.old v) ≡ true) }
+        ensures in_range { OnOk result (block < blocks_at self.old v) }
         ensures same { OnOk result (IsUnfailed D.count self.old self.new) }
         ensures cause { IfErr result (HasImageCause D.count v set block self.old self.new) }
         ensures quiet { IsQuiet D.told D.size D.count D.lending self.old self.new }
@@ -240,6 +242,7 @@ impl<D: Device> CowGroup<D> {
         ensures shown { IfOk result (λ lent. IfSome lent (λ bytes. IsShown D.told self.now v set block bytes.now)) }
         ensures whole { IfOk result (λ lent. IfSome lent (λ bytes. length bytes.now ≡ BLOCK)) }
         ensures image { OnOk result (is_among set (sets_at self.now v) ≡ true) }
+        ensures in_range { OnOk result (block < blocks_at self.now v) }
         ensures lends { IfOk result (λ lent. IsLentBy D.lending self.now v set block (is_some lent)) }
         ensures unseen { IfErr result (IsUnseen (sets_at self.now v) (blocks_at self.now v) set block) }
     {

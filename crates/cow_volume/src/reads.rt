@@ -35,6 +35,7 @@ pub(crate) fn read_now<D: Device>(
     requires devices { map D.size devices.old.items ≡ copies.now.area.volumes }
     requires whole { length out.old ≡ BLOCK }
     ensures cause { IfErr result (HasCauseAt D.count v block (group_of devices.old.items copies.now) (group_of devices.new.items copies.now)) }
+    ensures in_range { OnOk result (block < blocks_on copies.now v) }
     ensures now { OnOk result (IsNow D.told (group_of devices.old.items copies.now) v block out.new) }
     ensures same { OnOk result (IsUnfailed D.count (group_of devices.old.items copies.now) (group_of devices.new.items copies.now)) }
     ensures quiet { IsQuiet D.told D.size D.count D.lending (group_of devices.old.items copies.now) (group_of devices.new.items copies.now) }
@@ -86,6 +87,7 @@ pub(crate) fn read_shown<D: Device>(
     ensures cause { IfErr result (HasImageCause D.count v set block (group_of devices.old.items copies.old) (group_of devices.new.items copies.new)) }
     ensures shown { OnOk result (IsShown D.told (group_of devices.old.items copies.old) v set block out.new) }
     ensures image { OnOk result (is_among set (images_on copies.old v) ≡ true) }
+    ensures in_range { OnOk result (block < blocks_on copies.old v) }
     ensures same { OnOk result (IsUnfailed D.count (group_of devices.old.items copies.old) (group_of devices.new.items copies.new)) }
     ensures quiet { IsQuiet D.told D.size D.count D.lending (group_of devices.old.items copies.old) (group_of devices.new.items copies.new) }
 {
@@ -132,6 +134,7 @@ pub(crate) fn lend_shown<'a, D: Device>(
     ensures shown { IfOk result (λ lent. IfSome lent (λ bytes. IsShown D.told (group_of devices.now.items copies.now) v set block bytes.now)) }
     ensures whole { IfOk result (λ lent. IfSome lent (λ bytes. length bytes.now ≡ BLOCK)) }
     ensures image { OnOk result (is_among set (images_on copies.now v) ≡ true) }
+    ensures in_range { OnOk result (block < blocks_on copies.now v) }
     ensures lends { IfOk result (λ lent. IsLentBy D.lending (group_of devices.now.items copies.now) v set block (is_some lent)) }
     ensures unseen { IfErr result (IsUnseen (images_on copies.now v) (blocks_on copies.now v) set block) }
 {

@@ -1,4 +1,5 @@
-ghost use Rattle.std.specs.Prelude.{◌≡◌, Some, IfSome, Contains};
+ghost use Rattle.std.specs.Prelude.{◌≡◌, ◌+◌, ◌⊎◌, Some, None, IfSome, Contains, slice_get};
+ghost use Rattle.lent_digests.specs.declared.digested.Digested.{Digested};
 
 use crate::digested::Digested;
 
@@ -7,13 +8,14 @@ use crate::digested::Digested;
 pub struct ReadyDigests {
     pub rows: Vec<Digested>,
     /// The place of the next one to be asked for.
-    next: usize,
+    pub next: usize,
 }
 
 impl ReadyDigests {
     /// These digests, none of which was asked for.
     pub fn new(rows: Vec<Digested>) -> ReadyDigests
-        ensures { result.rows ≡ rows }
+        ensures rows { result.rows ≡ rows }
+        ensures first { result.next ≡ 0 }
     {
         ReadyDigests { rows, next: 0 }
     }
@@ -22,6 +24,8 @@ impl ReadyDigests {
     /// or has no digest, the answer is None.
     pub fn take(&mut self, volume: u32, set: Option<u32>) -> Option<[u8; 32]>
         ensures stands { IfSome result (λ digest. Contains self.old.rows.items (record { volume = volume; set = set; digest = Some digest })) }
+        ensures given { (row : Digested) → slice_get self.old.rows.items self.old.next ≡ Some row → row.volume ≡ volume → row.set ≡ set → (result ≡ row.digest) × (self.new.next ≡ self.old.next + 1) }
+        ensures passed { (self.new.next ≡ self.old.next + 1) ⊎ ((result ≡ None) × (self.new.next ≡ self.old.next)) }
         ensures rows { self.new.rows ≡ self.old.rows }
     {
         let Some(row) = self.rows.get(self.next) else {

@@ -103,7 +103,8 @@ impl<D: Device> Play<D> {
         })
     }
 
-    /// Makes the next move of an actor, where it may come. Time passes idly only where nothing else can move.
+    /// Makes the next move of an actor, where it may come. Time passes idly only where nothing else can move. An actor that has no move
+    /// any more is told so without memory.
     pub fn step(&mut self, alloc: Global, actor: Actor) -> Result<Moved, StepFault>
         ensures { IsTurn D.told D.count self.old self.new actor result }
     {

@@ -3,6 +3,10 @@ use Rattle.cow_volume.proofs.DeviceCalls.{in_range_of, read_is_now}
 use Rattle.cow_volume.proofs.Kept.{quiet_called, volume_rose, unfailed_called}
 use Rattle.cow_volume.proofs.reads.read_now.Goals as goal
 
+pub returns-in-Ok-clause-in_range : goal.returns-in-Ok-clause-in_range
+returns-in-Ok-clause-in_range g c =
+    in_range_of c.args.copies.now.area.volumes c.args.v c.args.block c.blocks-2.result c.blocks-2.ensures c.if-block-blocks.false
+
 pub returns-in-Ok-clause-now : goal.returns-in-Ok-clause-now
 returns-in-Ok-clause-now g c =
     read_is_now g.D.Device.told g.D.Device.size g.D.Device.count g.D.Device.lending c.args.devices.now.items c.read_device.new.devices.items c.args.copies.now c.args.v c.args.block c.read_device.new.out

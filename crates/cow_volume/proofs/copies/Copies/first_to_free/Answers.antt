@@ -1,4 +1,4 @@
-use Rattle.std.proofs.Common.{◌≡◌, ◌∙◌, sym, ap, subst, List, ℕ, ◌<◌, ◌+◌, length, arith}
+use Rattle.std.proofs.Common.{◌∙◌, sym, ap, subst, List, ℕ, ◌<◌, ◌+◌, length, arith}
 use Rattle.cow_volume.specs.Calls.{sets_in}
 use Rattle.cow_volume.specs.CopiesAfter.{images_on}
 use Rattle.diff_map.specs.MapValue.{newest}

@@ -1,12 +1,11 @@
 use Rattle.std.proofs.Common.{◌≡◌, ◌<◌, ◌∙◌, ap, sym, subst, List, Option, Contains, ℕ}
-use Rattle.std.specs.Prelude.{slice_get}
 use Rattle.std.proofs.lemmas.List.Elements.{All-contains}
 use Rattle.diff_map.specs.Counts.{used_for}
 use Rattle.diff_map.specs.declared.copied.Copied.{Copied}
 use Rattle.cow_volume.specs.Calls.{sets_in}
 use Rattle.cow_volume.specs.Counts.{count_of}
 use Rattle.cow_volume.specs.CopiesAfter.{images_on}
-use Rattle.cow_volume.specs.Tied.{images_of, CopiesValue}
+use Rattle.cow_volume.specs.Tied.{CopiesValue}
 use Rattle.cow_volume.proofs.Ties.{map_at, images_at}
 use Rattle.cow_volume.proofs.EntryCounts.{used_of}
 use Rattle.cow_volume.proofs.copies.Copies.used_of.Goals as goal
