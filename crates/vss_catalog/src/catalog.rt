@@ -1,10 +1,10 @@
-ghost use Rattle.std.specs.Prelude.{◌≡◌, ◌<◌, ◌≤◌, ◌==◌, ◌&&◌, length, slice_get, Some, Ok, IfOk, IfErr, IsTrue, List, All};
+ghost use Rattle.std.specs.Prelude.{◌≡◌, ◌<◌, ◌≤◌, ◌==◌, ◌&&◌, length, slice_get, Some, Ok, IfOk, IfErr, IsErrOf, IsTrue, List, All};
 ghost use Rattle.diff_area.specs.Records.{AreVolumes};
 ghost use Rattle.diff_map.specs.MapValue.{AreImages};
 ghost use Rattle.vss_catalog.specs.Allowed.{IsCatalog};
 ghost use Rattle.vss_catalog.specs.Entries.{EntryValue, lists_of};
 ghost use Rattle.vss_catalog.specs.Group.{are_names_for, entries_of};
-ghost use Rattle.vss_catalog.specs.Reading.{catalog_in, Tells};
+ghost use Rattle.vss_catalog.specs.Reading.{catalog_in, is_sealed, Tells};
 ghost use Rattle.vss_catalog.specs.Written.{bytes_of};
 
 use crate::catalog_fault::CatalogFault;
@@ -71,6 +71,7 @@ impl Catalog {
     pub fn decode(alloc: Global, bytes: &[u8]) -> Result<Catalog, CatalogFault>
         ensures ok { IfOk result (λ catalog. catalog_in bytes.now ≡ Ok catalog) }
         ensures refused { IfErr result (λ fault. Tells fault (catalog_in bytes.now)) }
+        ensures memory { IsErrOf result CatalogFault.OutOfMemory → IsTrue (is_sealed bytes.now) }
     {
         let Some(front) = sealed_in(bytes) else {
             return Err(CatalogFault::Digest);
