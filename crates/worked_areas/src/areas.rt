@@ -1,116 +1,150 @@
-//! Slots, records and syncs, over devices that may fail.
+//! Slots, records and syncs, over devices in memory that may fail.
 
-use crate::small_areas::{
-    blocks_at, bytes_of, clear_record, copy_in, device_of, filled, is_filled, open, read_slot,
-    record_at, row, set_record, small_area,
-};
-use block_data::{BLOCK, BlockView};
-use diff_area::{Area, AreaFault, AreaView};
-use std::fs::File;
-use std::process::Abort;
-use std::test::Fail;
-use std::{env, fs, process};
-use volume_device::{Device, FileDevice, MemDevice};
+use crate::small_areas::{bytes_of, device_of, fill_slot, is_filled, open, set_record, small_area};
+use block_data::{BlockBuf, BlockView};
+use diff_area::{Area, AreaView};
+use std::alloc::Global;
+use volume_device::{Device, MemDevice};
 use vss_names::Numbers;
+use worked_page::{Page, Stopped};
 
-/// Whether the block of a slot is lent, and its last sector has this byte in every place.
-fn lends_filled<D: Device>(rt: &impl Abort, area: &Area<D>, slot: u32, byte: u8) -> bool {
-    assert!(rt; slot < area.slots());
-    let Some(lent) = area.lend_slot(slot) else {
-        return false;
-    };
-    let sector = BlockView::new(lent).sector(31);
-    lent.len() == BLOCK && sector.len() == 512 && is_filled(sector, byte)
+/// Shows the block of slot 1 as it is read.
+fn show_read<D: Device>(alloc: Global, page: &mut Page, area: &mut Area<D>) -> Result<(), Stopped> {
+    let mut out = BlockBuf::zeroed(alloc)?;
+    if area.slots() < 2 {
+        return Err(Stopped);
+    }
+    page.show("read", &area.read_slot(1, out.bytes_mut()).is_ok());
+    page.show("filled", &is_filled(out.bytes(), 9));
+    Ok(())
 }
 
-#[test]
-fn a_slot_gives_back_what_was_copied_into_it(rt: HostRuntime) -> Result<(), Fail> {
-    let alloc = rt.alloc();
+/// Shows how much of slot 1 is lent, and its last sector.
+fn show_lent<D: Device>(page: &mut Page, area: &Area<D>) {
+    if area.slots() < 2 {
+        return;
+    }
+    if let Some(lent) = area.lend_slot(1) {
+        let sector = BlockView::new(lent).sector(31);
+        page.show("lent", &lent.len());
+        page.show("sector", &sector.len());
+        page.show("filled", &is_filled(sector, 9));
+    }
+}
+
+/// Shows slot 1 once nines were copied into it.
+fn show_slot<D: Device>(alloc: Global, page: &mut Page, area: &mut Area<D>) -> Result<(), Stopped> {
+    fill_slot(alloc, area)?;
+    show_read(alloc, page, area)?;
+    show_lent(page, area);
+    Ok(())
+}
+
+/// A slot gives back what was copied into it.
+fn show_copied(alloc: Global, page: &mut Page) -> Result<(), Stopped> {
     let device = MemDevice::new(alloc, 4)?;
-    let mut area = open(&rt, alloc, device, 2, &[4]).ok_or("the area is opened")?;
-    let nines = filled(alloc, 9)?;
-    copy_in(&rt, &mut area, 1, &nines);
-    let out = read_slot(&rt, alloc, &mut area, 1)?;
-    assert!(&rt; out.bytes() == nines.bytes());
-    assert!(&rt; lends_filled(&rt, &area, 1, 9));
-    Ok(())
+    let mut area = open(alloc, device)?;
+    show_slot(alloc, page, &mut area)
 }
 
-#[test]
-fn what_is_synced_is_loaded_and_viewed(rt: HostRuntime) -> Result<(), Fail> {
-    let alloc = rt.alloc();
-    let bytes = small_area(&rt, alloc)?.ok_or("an area of ample memory")?;
-    let view = AreaView::new(alloc, &bytes)
-        .ok()
-        .ok_or("the area is viewed")?;
-    assert_eq!(&rt; view.layout(), 2);
-    assert!(&rt; 1 < view.slots());
-    assert!(&rt; is_filled(view.slot(1), 9));
-    let device = device_of(&rt, alloc, &bytes)?;
-    let area = Area::load(alloc, device).ok().ok_or("the area is loaded")?;
-    assert_eq!(&rt; area.slots(), 2);
-    assert_eq!(&rt; blocks_at(&rt, &area, 0), 4);
-    assert_eq!(&rt; record_at(&rt, &area, 1), row(3, 2));
-    Ok(())
-}
-
-#[test]
-fn a_failed_sync_or_flush_is_made_good_by_the_next(rt: HostRuntime) -> Result<(), Fail> {
-    let alloc = rt.alloc();
-    let bytes = small_area(&rt, alloc)?.ok_or("an area of ample memory")?;
-    let none = Numbers::new(alloc);
-    let writes = Numbers::copy(alloc, &[3])?;
-    let flushes = Numbers::copy(alloc, &[1])?;
-    let device = MemDevice::new(alloc, 4)?.failing(none, writes, flushes);
-    let mut area = open(&rt, alloc, device, 2, &[4]).ok_or("the area is opened")?;
-    copy_in(&rt, &mut area, 1, &filled(alloc, 9)?);
-    set_record(&rt, &mut area, 0, row(4, 2));
-    clear_record(&rt, &mut area, 0);
-    set_record(&rt, &mut area, 1, row(3, 2));
-    assert_eq!(&rt; area.sync().err(), Some(AreaFault::Device));
-    assert!(&rt; area.sync().is_ok());
-    assert_eq!(&rt; area.flush().err(), Some(AreaFault::Device));
-    assert!(&rt; area.flush().is_ok());
-    let mut device = area.into_device();
-    assert_eq!(&rt; device.faults(), 2);
-    assert!(&rt; bytes_of(&rt, alloc, &mut device)?.as_slice() == bytes.as_slice());
-    Ok(())
-}
-
-#[test]
-fn a_device_that_fails_is_given_back_with_its_count(rt: HostRuntime) -> Result<(), Fail> {
-    let alloc = rt.alloc();
-    let bytes = small_area(&rt, alloc)?.ok_or("an area of ample memory")?;
-    for failing in [1, 2] {
-        let reads = Numbers::copy(alloc, &[failing])?;
-        let device = device_of(&rt, alloc, &bytes)?;
-        let device = device.failing(reads, Numbers::new(alloc), Numbers::new(alloc));
-        let unopened = Area::load(alloc, device).err().ok_or("a read fails")?;
-        assert_eq!(&rt; unopened.fault, AreaFault::Device);
-        assert_eq!(&rt; unopened.device.faults(), 1);
+/// What is synced is viewed.
+fn show_viewed(alloc: Global, page: &mut Page, bytes: &[u8]) -> Result<(), Stopped> {
+    let Ok(view) = AreaView::new(alloc, bytes) else {
+        return Err(Stopped);
+    };
+    page.show("layout", &view.layout());
+    if 1 < view.slots() {
+        page.show("filled", &is_filled(view.slot(1), 9));
     }
     Ok(())
 }
 
-#[test]
-fn an_area_in_a_file_lends_no_slot(rt: HostRuntime) -> Result<(), Fail> {
-    let alloc = rt.alloc();
-    let mut path = env::temp_dir(&rt)?;
-    path.push(format!(in alloc; "area_in_a_file_{}", process::id(rt.process()))?)?;
-    fs::create_dir(&rt, path.as_path())?;
-    let folder = path.into_string();
-    let name = format!(in alloc; "{folder}/C.area")?;
-    let device = FileDevice::new(File::create_new(&rt, name.as_str())?, 4);
-    let mut area = open(&rt, alloc, device, 2, &[4]).ok_or("the area is opened")?;
-    assert!(&rt; 1 < area.slots());
-    assert!(&rt; area.lend_slot(1).is_none());
-    let nines = filled(alloc, 9)?;
-    copy_in(&rt, &mut area, 1, &nines);
-    set_record(&rt, &mut area, 1, row(3, 2));
-    assert!(&rt; area.sync().is_ok());
-    let bytes = fs::read(&rt, name.as_str())?;
-    let wanted = small_area(&rt, alloc)?.ok_or("an area of ample memory")?;
-    assert!(&rt; bytes.as_slice() == wanted.as_slice());
-    fs::remove_dir_all(&rt, folder.as_str())?;
+/// Shows what an area that is loaded says of itself.
+pub fn show_loaded<D: Device>(page: &mut Page, area: &Area<D>) {
+    page.show("slots", &area.slots());
+    for slot in 0..area.slots() {
+        page.show("record", &area.record_at(slot));
+    }
+    for volume in 0..area.volumes() {
+        page.show("blocks", &area.blocks(volume));
+    }
+}
+
+/// A device of 4 blocks whose third write and first flush fail.
+fn failing_device(alloc: Global) -> Result<MemDevice, Stopped> {
+    let writes = Numbers::copy(alloc, &[3])?;
+    let flushes = Numbers::copy(alloc, &[1])?;
+    let device = MemDevice::new(alloc, 4)?;
+    Ok(device.failing(Numbers::new(alloc), writes, flushes))
+}
+
+/// Notes slot 0 for a copy, and that it is free.
+fn pass_slot<D: Device>(area: &mut Area<D>) -> Result<(), Stopped> {
+    set_record(area, 0, 4, 2)?;
+    if 0 < area.slots() {
+        area.clear_record(0);
+    }
     Ok(())
+}
+
+/// A failed sync or flush is made good by the next.
+fn show_syncs<D: Device>(
+    alloc: Global,
+    page: &mut Page,
+    area: &mut Area<D>,
+) -> Result<(), Stopped> {
+    pass_slot(area)?;
+    fill_slot(alloc, area)?;
+    page.show("sync", &area.sync().err());
+    page.show("sync", &area.sync().err());
+    page.show("flush", &area.flush().err());
+    page.show("flush", &area.flush().err());
+    Ok(())
+}
+
+/// Shows whether a device has these bytes.
+pub fn show_bytes(
+    alloc: Global,
+    page: &mut Page,
+    device: &mut MemDevice,
+    wanted: &[u8],
+) -> Result<(), Stopped> {
+    let bytes = bytes_of(alloc, device)?;
+    page.show("same", &(bytes.as_slice() == wanted));
+    Ok(())
+}
+
+/// It is so over a device that fails, which then has these bytes.
+fn show_mended(alloc: Global, page: &mut Page, wanted: &[u8]) -> Result<(), Stopped> {
+    let device = failing_device(alloc)?;
+    let mut area = open(alloc, device)?;
+    show_syncs(alloc, page, &mut area)?;
+    let mut device = area.into_device();
+    page.show("faults", &device.faults());
+    show_bytes(alloc, page, &mut device, wanted)
+}
+
+/// A device that fails is given back with its count.
+fn show_unopened(alloc: Global, page: &mut Page, bytes: &[u8], read: u32) -> Result<(), Stopped> {
+    let reads = Numbers::copy(alloc, &[read])?;
+    let none = Numbers::new(alloc);
+    let device = device_of(alloc, bytes)?.failing(reads, none, Numbers::new(alloc));
+    match Area::load(alloc, device) {
+        Ok(area) => show_loaded(page, &area),
+        Err(unopened) => {
+            page.show("unopened", &unopened.fault);
+            page.show("faults", &unopened.device.faults());
+        }
+    }
+    Ok(())
+}
+
+/// All of these.
+pub fn show_areas(alloc: Global, page: &mut Page, bytes: &[u8]) -> Result<(), Stopped> {
+    show_copied(alloc, page)?;
+    show_viewed(alloc, page, bytes)?;
+    show_mended(alloc, page, bytes)?;
+    show_unopened(alloc, page, bytes, 1)?;
+    show_unopened(alloc, page, bytes, 2)?;
+    show_unopened(alloc, page, bytes, 99)
 }

@@ -1,63 +1,40 @@
 //! The area of docs/FORMATS.md.
 
-use crate::small_areas::{blocks_at, bytes_of, device_of, put, record_at, zeros};
+use crate::areas::{show_bytes, show_loaded};
+use crate::small_areas::{device_of, put};
 use block_data::BLOCK;
-use diff_area::{Area, Record};
-use std::test::Fail;
+use diff_area::Area;
+use std::alloc::Global;
+use worked_page::{Page, Stopped};
 
-/// The area of docs/FORMATS.md, in its rows: the place of a row's first byte, and its 16 bytes. What no row has is zero.
-const DOCUMENTED: [(usize, [u8; 16]); 4] = [
-    (
-        0,
-        [
-            0x56, 0x53, 0x53, 0x41, 0x52, 0x45, 0x41, 0x31, 0x02, 0x00, 0x00, 0x00, 0x01, 0x00,
-            0x00, 0x00,
-        ],
-    ),
-    (
-        16,
-        [
-            0x01, 0x00, 0x00, 0x00, 0x02, 0x00, 0x00, 0x00, 0x08, 0x00, 0x00, 0x00, 0x02, 0x00,
-            0x00, 0x00,
-        ],
-    ),
-    (
-        16384,
-        [
-            0x07, 0x00, 0x00, 0x00, 0x01, 0x00, 0x00, 0x00, 0x01, 0x00, 0x00, 0x00, 0x00, 0x00,
-            0x00, 0x00,
-        ],
-    ),
-    (
-        32768,
-        [
-            0x00, 0x00, 0x00, 0x00, 0x00, 0x00, 0x00, 0x00, 0x00, 0x00, 0x00, 0x00, 0x00, 0x00,
-            0x00, 0x2a,
-        ],
-    ),
+/// The first block, in its two rows.
+const HEADER: [u8; 32] = [
+    0x56, 0x53, 0x53, 0x41, 0x52, 0x45, 0x41, 0x31, 0x02, 0x00, 0x00, 0x00, 0x01, 0x00, 0x00, 0x00,
+    0x01, 0x00, 0x00, 0x00, 0x02, 0x00, 0x00, 0x00, 0x08, 0x00, 0x00, 0x00, 0x02, 0x00, 0x00, 0x00,
 ];
 
-#[test]
-fn the_documented_area_is_read_as_documented(rt: HostRuntime) -> Result<(), Fail> {
-    let alloc = rt.alloc();
-    let mut bytes = zeros(alloc, 3 * BLOCK)?;
-    for (place, row) in DOCUMENTED {
-        put(&rt, &mut bytes, place, &row);
-    }
-    let device = device_of(&rt, alloc, &bytes)?;
-    let mut area = Area::load(alloc, device).ok().ok_or("it is an area")?;
-    assert_eq!(&rt; area.slots(), 1);
-    assert_eq!(&rt; area.volumes(), 2);
-    assert_eq!(&rt; blocks_at(&rt, &area, 0), 8);
-    assert_eq!(&rt; blocks_at(&rt, &area, 1), 2);
-    let wanted = Record {
-        set: 7,
-        block: 1,
-        volume: 1,
+/// The record of slot 0, at byte 16,384.
+const RECORD: [u8; 16] = [
+    0x07, 0x00, 0x00, 0x00, 0x01, 0x00, 0x00, 0x00, 0x01, 0x00, 0x00, 0x00, 0x00, 0x00, 0x00, 0x00,
+];
+
+/// The documented bytes. What no row has is zero; the last row of slot 0 ends in 0x2a.
+fn documented(alloc: Global) -> Result<Vec<u8>, Stopped> {
+    let mut bytes = vec![in alloc; 0u8; 3 * BLOCK]?;
+    put(&mut bytes, 0, HEADER.as_slice());
+    put(&mut bytes, 16384, RECORD.as_slice());
+    put(&mut bytes, 32783, &[0x2a]);
+    Ok(bytes)
+}
+
+/// They are read as documented, and are the same after a sync.
+pub fn show_documented(alloc: Global, page: &mut Page) -> Result<(), Stopped> {
+    let bytes = documented(alloc)?;
+    let Ok(loaded) = Area::load(alloc, device_of(alloc, &bytes)?) else {
+        return Err(Stopped);
     };
-    assert_eq!(&rt; record_at(&rt, &area, 0), wanted);
-    assert!(&rt; area.sync().is_ok());
-    let after = bytes_of(&rt, alloc, &mut area.into_device())?;
-    assert!(&rt; after.as_slice() == bytes.as_slice());
-    Ok(())
+    let mut area = loaded;
+    show_loaded(page, &area);
+    page.show("sync", &area.sync().err());
+    show_bytes(alloc, page, &mut area.into_device(), &bytes)
 }

@@ -3,10 +3,10 @@
 ghost use Rattle.std.specs.Prelude.{IsTrue};
 ghost use Rattle.diff_map.specs.Copies.{AllTaken};
 
-use diff_map::{Copied, DiffMap};
+use diff_map::DiffMap;
 use slot_pool::SlotPool;
-use std::process::Abort;
-use std::test::Fail;
+use std::alloc::Global;
+use worked_page::{Page, Stopped};
 
 fn all_taken(map: &DiffMap, pool: &SlotPool) -> bool
     ensures { IsTrue result → AllTaken map.now.copies pool.now }
@@ -19,51 +19,96 @@ fn all_taken(map: &DiffMap, pool: &SlotPool) -> bool
     true
 }
 
-fn add_image(rt: &impl Abort, map: &mut DiffMap, set: u32) {
-    assert!(rt; map.images().len() < 512);
-    assert!(rt; set > 0);
-    assert!(rt; map.images().iter().all(|image| *image < set));
-    map.add_image(set);
-}
-
-fn copy_block(rt: &impl Abort, map: &mut DiffMap, pool: &mut SlotPool, block: u32) {
-    let slot = pool.take().expect(rt, "no slot is free");
-    assert!(rt; map.images().len() > 0);
-    assert!(rt; block < map.blocks());
-    assert!(rt; !map.newest_has(block));
-    assert!(rt; slot < map.slots());
-    assert!(rt; map.held_by(slot).is_none());
-    map.note(block, slot);
-}
-
-#[test]
-fn an_image_that_goes_leaves_what_the_others_find(rt: HostRuntime) -> Result<(), Fail> {
-    let mut pool = SlotPool::new(rt.alloc(), 8)?;
-    let mut map = DiffMap::new(rt.alloc(), 4, 8)?;
-    for set in [1, 2, 3] {
-        add_image(&rt, &mut map, set);
-        copy_block(&rt, &mut map, &mut pool, set);
-        copy_block(&rt, &mut map, &mut pool, 0);
+/// An image of this set, and copies of these blocks for it.
+fn add_image(
+    map: &mut DiffMap,
+    pool: &mut SlotPool,
+    set: u32,
+    blocks: &[u32],
+) -> Result<(), Stopped> {
+    if map.images().len() >= 512 || set == 0 {
+        return Err(Stopped);
     }
-    assert!(rt; map.images().contains(&2));
-    assert!(rt; all_taken(&map, &pool));
-    map.merge_down(2, &mut pool);
-    assert_eq!(rt; map.images(), [1, 3].as_slice());
-    assert!(rt; map.slots() == 8);
-    assert_eq!(rt; map.held_by(2), Some(Copied { set: 1, block: 2 }));
-    assert_eq!(rt; map.held_by(3), None);
-    assert_eq!(rt; map.find(1, 2), Some(2));
-    assert_eq!(rt; map.find(1, 0), Some(1));
-    assert_eq!(rt; pool.used(), 5);
-    assert!(rt; map.images().len() > 0);
-    assert!(rt; all_taken(&map, &pool));
-    map.drop_oldest(&mut pool);
-    assert_eq!(rt; map.images(), [3].as_slice());
-    assert_eq!(rt; pool.used(), 2);
-    assert!(rt; map.images().contains(&3));
-    assert!(rt; all_taken(&map, &pool));
-    map.clear_from(3, &mut pool);
-    assert_eq!(rt; map.images(), [3].as_slice());
-    assert_eq!(rt; pool.used(), 0);
+    if !map.images().iter().all(|image| *image < set) {
+        return Err(Stopped);
+    }
+    map.add_image(set);
+    for block in blocks {
+        copy_block(map, pool, *block)?;
+    }
+    Ok(())
+}
+
+/// A copy of a block for the newest image.
+fn copy_block(map: &mut DiffMap, pool: &mut SlotPool, block: u32) -> Result<(), Stopped> {
+    let Some(slot) = pool.take() else {
+        return Err(Stopped);
+    };
+    if map.images().len() == 0 || block >= map.blocks() || map.newest_has(block) {
+        return Err(Stopped);
+    }
+    if slot >= map.slots() || map.held_by(slot).is_some() {
+        return Err(Stopped);
+    }
+    map.note(block, slot);
+    Ok(())
+}
+
+/// Shows which images are left, and how many slots are used.
+fn show_left(page: &mut Page, map: &DiffMap, pool: &SlotPool) {
+    page.show("images", &map.images());
+    page.show("used", &pool.used());
+}
+
+/// Shows what the first image finds after the second went.
+fn show_found(page: &mut Page, map: &DiffMap) {
+    if map.slots() == 8 {
+        page.show("slot 2", &map.held_by(2));
+        page.show("slot 3", &map.held_by(3));
+    }
+    page.show("block 2", &map.find(1, 2));
+    page.show("block 0", &map.find(1, 0));
+}
+
+/// The image of set 2 goes into the one before it.
+fn merge(map: &mut DiffMap, pool: &mut SlotPool) {
+    if map.images().contains(&2) && all_taken(map, pool) {
+        map.merge_down(2, pool);
+    }
+}
+
+/// The oldest image goes.
+fn drop_oldest(map: &mut DiffMap, pool: &mut SlotPool) {
+    if map.images().len() > 0 && all_taken(map, pool) {
+        map.drop_oldest(pool);
+    }
+}
+
+/// The copies of the image of set 3 go.
+fn clear(map: &mut DiffMap, pool: &mut SlotPool) {
+    if map.images().contains(&3) && all_taken(map, pool) {
+        map.clear_from(3, pool);
+    }
+}
+
+/// Shows what is left behind each.
+fn show_goings(page: &mut Page, map: &mut DiffMap, pool: &mut SlotPool) {
+    merge(map, pool);
+    show_left(page, map, pool);
+    show_found(page, map);
+    drop_oldest(map, pool);
+    show_left(page, map, pool);
+    clear(map, pool);
+    show_left(page, map, pool);
+}
+
+/// An image that goes leaves what the others find.
+pub fn show_map(alloc: Global, page: &mut Page) -> Result<(), Stopped> {
+    let mut pool = SlotPool::new(alloc, 8)?;
+    let mut map = DiffMap::new(alloc, 4, 8)?;
+    add_image(&mut map, &mut pool, 1, &[1, 0])?;
+    add_image(&mut map, &mut pool, 2, &[2, 0])?;
+    add_image(&mut map, &mut pool, 3, &[3, 0])?;
+    show_goings(page, &mut map, &mut pool);
     Ok(())
 }

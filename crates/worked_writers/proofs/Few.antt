@@ -1,4 +1,4 @@
--- What a test has to know of one writer whose metadata were read.
+-- What a call has to know of one writer whose metadata were read.
 use Rattle.std.proofs.Common.{◌≡◌, true, Some}
 use Rattle.writer_meta.specs.Metadata.{Meta}
 use Rattle.writer_meta.specs.Allowed.{IsAllowed}

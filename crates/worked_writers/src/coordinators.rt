@@ -1,16 +1,18 @@
 //! One writer that is gathered, prepared, frozen and told.
 
+ghost use Rattle.std.specs.Prelude.{◌≡◌, IfOk};
+
 use component_doc::{Metas, Selection};
-use coordinator::{Coordinator, Effects, RegisterFault};
+use coordinator::{Coordinator, Effects};
 use set_agenda::Kind;
 use std::alloc::Global;
-use std::process::Abort;
-use std::test::Fail;
-use vss_names::{Level, OutOfMemory, SetOutcome, SourceKind, Text, Usage, WriterState};
-use writer_calls::{Answer, StaleAnswer};
+use vss_names::{Level, SourceKind, Text, Usage};
+use worked_page::{Page, Stopped};
+use writer_calls::Answer;
 use writer_meta::{Components, Metadata};
 
-fn metadata(alloc: Global, class: u128) -> Result<Metadata, OutOfMemory> {
+/// The metadata of a writer without components.
+fn metadata(alloc: Global, class: u128) -> Result<Metadata, Stopped> {
     Ok(Metadata {
         class,
         name: Text::copy(alloc, b"Database")?,
@@ -22,105 +24,126 @@ fn metadata(alloc: Global, class: u128) -> Result<Metadata, OutOfMemory> {
     })
 }
 
-/// One writer, of class 7.
-fn one_writer(alloc: Global) -> Result<Coordinator, RegisterFault> {
-    let mut coordinator = Coordinator::new(alloc)?;
+/// Registers a writer of this class by the name `db`.
+fn register(
+    alloc: Global,
+    page: &mut Page,
+    coordinator: &mut Coordinator,
+    class: u128,
+) -> Result<(), Stopped> {
     let name = Text::copy(alloc, b"db")?;
-    let db = metadata(alloc, 7)?;
-    coordinator.register(alloc, &name, db)?;
-    Ok(coordinator)
+    let db = metadata(alloc, class)?;
+    if coordinator.writers() >= 64 {
+        return Err(Stopped);
+    }
+    page.show("registered", &coordinator.register(alloc, &name, db));
+    Ok(())
+}
+
+/// All that a lone writer has is chosen.
+fn chosen(alloc: Global, db: &Metadata) -> Result<Selection, Stopped>
+    ensures { IfOk result (λ selection. selection.writers ≡ 1) }
+{
+    let mut items = Vec::new(alloc);
+    items.push(Some(db))?;
+    let known = Metas::of(items);
+    Ok(Selection::all(alloc, &known)?)
 }
 
 /// An agenda begins over the lone writer and over volume 5.
-fn begin(
-    rt: &impl Abort,
-    alloc: Global,
-    coordinator: &mut Coordinator,
-    kind: Kind,
-    now: u64,
-) -> Result<Effects, OutOfMemory> {
+fn begin(alloc: Global, coordinator: &mut Coordinator, kind: Kind) -> Result<Effects, Stopped> {
+    if coordinator.writers() != 1 || coordinator.posts() >= 1_000 {
+        return Err(Stopped);
+    }
+    if coordinator.open_group().is_some() {
+        return Err(Stopped);
+    }
     let db = metadata(alloc, 7)?;
-    let mut items = Vec::new(alloc);
-    items.push(Some(&db))?;
-    let known = Metas::of(items);
-    let selection = Selection::all(alloc, &known)?;
-    assert!(rt; coordinator.writers() == 1);
-    assert!(rt; coordinator.open_group().is_none());
-    assert!(rt; coordinator.posts() < 1_000);
-    coordinator.begin_agenda(alloc, kind, 1, &[5], &selection, now)
+    let selection = chosen(alloc, &db)?;
+    Ok(coordinator.begin_agenda(alloc, kind, 1, &[5], &selection, 0)?)
 }
 
 /// The lone writer or the provider does what is asked of it.
-fn go_on(rt: &impl Abort, coordinator: &mut Coordinator, now: u64) -> Result<Effects, StaleAnswer> {
-    assert!(rt; coordinator.posts() < 1_000);
+fn go_on(coordinator: &mut Coordinator) -> Result<Effects, Stopped> {
+    if coordinator.posts() >= 1_000 {
+        return Err(Stopped);
+    }
     if coordinator.is_working() {
-        return Ok(coordinator.stepped(true, now));
+        return Ok(coordinator.stepped(true, 0));
     }
-    assert!(rt; coordinator.writers() > 0);
-    match coordinator.poll(0) {
-        None => Err(StaleAnswer { current: None }),
-        Some(standing) => coordinator.answered(0, standing.number, Answer::Ok, now),
+    if coordinator.writers() == 0 {
+        return Err(Stopped);
+    }
+    let Some(standing) = coordinator.poll(0) else {
+        return Err(Stopped);
+    };
+    match coordinator.answered(0, standing.number, Answer::Ok, 0) {
+        Ok(effects) => Ok(effects),
+        Err(_) => Err(Stopped),
     }
 }
 
-/// The state and the number of aborts of the lone writer.
-fn state(rt: &impl Abort, coordinator: &Coordinator) -> (WriterState, u32) {
-    assert!(rt; coordinator.writers() > 0);
-    let row = coordinator.row(0);
-    (row.state, row.aborts)
+/// Shows the lone writer's row, and how long its limit runs.
+fn show_writer(page: &mut Page, coordinator: &Coordinator) {
+    if coordinator.writers() > 0 {
+        page.show("row", &coordinator.row(0));
+    }
+    if coordinator.is_on_time(0) {
+        page.show("limit", &coordinator.until_limit(0));
+    }
 }
 
-#[test]
-fn a_writer_is_registered_once_and_gathered(rt: HostRuntime) -> Result<(), Fail> {
-    let mut coordinator = one_writer(rt.alloc())?;
-    let name = Text::copy(rt.alloc(), b"db")?;
-    assert!(rt; coordinator.writers() < 64);
-    assert_eq!(rt;
-        coordinator.register(rt.alloc(), &name, metadata(rt.alloc(), 8)?),
-        Err(RegisterFault::Double { at: 0 })
-    );
-    begin(&rt, rt.alloc(), &mut coordinator, Kind::Gather, 0)?;
-    assert_eq!(rt; state(&rt, &coordinator), (WriterState::Unknown, 0));
-    assert!(rt; coordinator.is_on_time(0));
-    assert_eq!(rt; coordinator.until_limit(0), Some(300_001));
-    let effects = go_on(&rt, &mut coordinator, 0)?;
-    assert!(rt; effects.agenda_ended);
-    assert_eq!(rt; state(&rt, &coordinator), (WriterState::Stable, 0));
-    assert!(rt; coordinator.is_on_time(0));
-    assert_eq!(rt; coordinator.until_limit(0), None);
+/// Shows what a step does.
+fn show_step(page: &mut Page, coordinator: &mut Coordinator) -> Result<(), Stopped> {
+    let effects = go_on(coordinator)?;
+    page.show("step", &effects);
     Ok(())
 }
 
-/// The snapshot agenda of one writer and one volume has begun.
-fn begun(rt: &impl Abort, alloc: Global) -> Result<Coordinator, Fail> {
-    let mut coordinator = one_writer(alloc)?;
-    begin(rt, alloc, &mut coordinator, Kind::Prepare, 0)?;
-    go_on(rt, &mut coordinator, 0)?;
-    begin(rt, alloc, &mut coordinator, Kind::Snapshot, 0)?;
-    Ok(coordinator)
-}
-
-fn go_on_often(
-    rt: &impl Abort,
+/// Goes through an agenda of so many steps, and shows what each does.
+fn go_through(
+    alloc: Global,
+    page: &mut Page,
     coordinator: &mut Coordinator,
+    kind: Kind,
     steps: u32,
-) -> Result<(), StaleAnswer> {
-    for _ in 0..steps {
-        go_on(rt, coordinator, 0)?;
+) -> Result<(), Stopped> {
+    page.show("agenda", &kind);
+    let begun = begin(alloc, coordinator, kind)?;
+    page.show("begun", &begun);
+    show_writer(page, coordinator);
+    for _step in 0..steps {
+        show_step(page, coordinator)?;
     }
+    show_writer(page, coordinator);
     Ok(())
 }
 
-#[test]
-fn a_set_completes_and_its_writer_is_told(rt: HostRuntime) -> Result<(), Fail> {
-    let mut coordinator = begun(&rt, rt.alloc())?;
-    go_on_often(&rt, &mut coordinator, 10)?;
-    let last = go_on(&rt, &mut coordinator, 0)?;
-    assert!(rt; last.agenda_ended);
-    assert_eq!(rt; last.outcome, SetOutcome::Complete);
-    begin(&rt, rt.alloc(), &mut coordinator, Kind::Complete, 0)?;
-    let completed = go_on(&rt, &mut coordinator, 0)?;
-    assert_eq!(rt; completed.outcome, SetOutcome::Running);
-    assert_eq!(rt; state(&rt, &coordinator), (WriterState::Stable, 0));
-    Ok(())
+/// A writer is registered once and gathered.
+fn show_gathered(
+    alloc: Global,
+    page: &mut Page,
+    coordinator: &mut Coordinator,
+) -> Result<(), Stopped> {
+    register(alloc, page, coordinator, 7)?;
+    register(alloc, page, coordinator, 8)?;
+    go_through(alloc, page, coordinator, Kind::Gather, 1)
+}
+
+/// A set completes, and its writer is told.
+fn show_completed(
+    alloc: Global,
+    page: &mut Page,
+    coordinator: &mut Coordinator,
+) -> Result<(), Stopped> {
+    go_through(alloc, page, coordinator, Kind::Prepare, 1)?;
+    go_through(alloc, page, coordinator, Kind::Snapshot, 11)?;
+    go_through(alloc, page, coordinator, Kind::Complete, 1)
+}
+
+/// Both, of one coordinator.
+pub fn show_coordinator(alloc: Global, page: &mut Page) -> Result<(), Stopped> {
+    let mut coordinator = Coordinator::new(alloc)?;
+    show_gathered(alloc, page, &mut coordinator)?;
+    show_completed(alloc, page, &mut coordinator)
 }

@@ -1,27 +1,21 @@
 //! Orders that are sent, cancelled and answered.
 
-use std::test::Fail;
+use std::alloc::Global;
 use vss_names::Order;
-use writer_calls::{Answer, Mailboxes, StaleAnswer, Standing};
+use worked_page::{Page, Stopped};
+use writer_calls::{Answer, Mailboxes};
 
-#[test]
-fn the_open_order_alone_is_answered(rt: HostRuntime) -> Result<(), Fail> {
-    let mut mailboxes = Mailboxes::new(rt.alloc(), 1)?;
-    assert_eq!(rt; mailboxes.poll(0), None);
-    assert_eq!(rt; mailboxes.send(0, Order::Freeze), 1);
+/// The open order alone is answered.
+pub fn show_orders(alloc: Global, page: &mut Page) -> Result<(), Stopped> {
+    let mut mailboxes = Mailboxes::new(alloc, 1)?;
+    page.show("open", &mailboxes.poll(0));
+    page.show("freeze", &mailboxes.send(0, Order::Freeze));
     mailboxes.cancel(0);
-    assert!(rt; !mailboxes.is_open(0));
-    assert_eq!(rt; mailboxes.send(0, Order::Freeze), 2);
-    let second = Standing {
-        number: 2,
-        order: Order::Freeze,
-        nth: 2,
-    };
-    assert_eq!(rt; mailboxes.poll(0), Some(second));
-    let stale = StaleAnswer { current: Some(2) };
-    assert_eq!(rt; mailboxes.answer(0, 1, Answer::Ok), Err(stale));
-    assert_eq!(rt; mailboxes.answer(0, 2, Answer::Ok), Ok(second));
-    let stale = StaleAnswer { current: None };
-    assert_eq!(rt; mailboxes.answer(0, 2, Answer::Ok), Err(stale));
+    page.show("cancelled", &mailboxes.is_open(0));
+    page.show("freeze", &mailboxes.send(0, Order::Freeze));
+    page.show("open", &mailboxes.poll(0));
+    page.show("answer to 1", &mailboxes.answer(0, 1, Answer::Ok));
+    page.show("answer to 2", &mailboxes.answer(0, 2, Answer::Ok));
+    page.show("answer to 2", &mailboxes.answer(0, 2, Answer::Ok));
     Ok(())
 }

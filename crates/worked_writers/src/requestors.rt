@@ -1,65 +1,62 @@
 //! A session that goes through its stages.
 
-use requestor::{Mode, Requestor, SessionCall, Stage, Verdict};
-use vss_names::{Context, SetOutcome, VssResult};
+use requestor::{Requestor, SessionCall, Verdict};
+use vss_names::SetOutcome;
+use worked_page::Page;
 
-/// Applies a call that the checks let go.
-fn accepts(requestor: &mut Requestor, lane: u32, call: SessionCall) -> bool {
+/// Applies a call that the checks let go, and shows the stage after it.
+fn go(page: &mut Page, requestor: &mut Requestor, call: SessionCall, outcome: Option<SetOutcome>) {
     let has_number = requestor.sets_made() < u32::MAX;
-    match requestor.check(lane, call, false) {
+    page.show("call", &call);
+    match requestor.check(4, call, false) {
         Verdict::Go if has_number && call.has_context() => {
-            requestor.apply(lane, call);
-            true
+            requestor.apply(4, call);
+            if let Some(outcome) = outcome {
+                requestor.agenda_ended(outcome);
+            }
+            page.show("stage", &requestor.stage());
         }
-        Verdict::Go | Verdict::Blocked | Verdict::Refused(_) => false,
+        Verdict::Go | Verdict::Blocked | Verdict::Refused(_) => page.show("stage", &false),
     }
 }
 
-#[test]
-fn a_session_with_writers_goes_through_its_stages(rt: HostRuntime) {
-    let mut requestor = Requestor::new();
+/// Shows what the session says of itself.
+fn show_requestor(page: &mut Page, requestor: &Requestor) {
+    page.show("owner", &requestor.owner());
+    page.show("context", &requestor.context());
+    page.show("mode", &requestor.mode());
+    page.show("set", &requestor.set());
+    page.show("last", &requestor.last());
+}
+
+/// The calls before the set is prepared.
+fn open(page: &mut Page, requestor: &mut Requestor) {
     let begin = SessionCall::Begin {
         context: 9,
         all: true,
     };
-    let path = [
-        (begin, None, Stage::Opened),
-        (SessionCall::Disable, None, Stage::Opened),
-        (
-            SessionCall::Gather,
-            Some(SetOutcome::Running),
-            Stage::Gathered,
-        ),
-        (SessionCall::Start, None, Stage::Started),
-        (SessionCall::Add, None, Stage::Started),
-        (
-            SessionCall::Prepare,
-            Some(SetOutcome::Running),
-            Stage::Prepared,
-        ),
-        (
-            SessionCall::Snapshot,
-            Some(SetOutcome::Complete),
-            Stage::Done,
-        ),
-        (
-            SessionCall::Complete,
-            Some(SetOutcome::Running),
-            Stage::Finished,
-        ),
-    ];
-    for (call, outcome, stage) in path {
-        assert!(rt; accepts(&mut requestor, 4, call), "at {call:?}");
-        if let Some(outcome) = outcome {
-            requestor.agenda_ended(outcome);
-        }
-        assert_eq!(rt; requestor.stage(), Some(stage), "after {call:?}");
-    }
-    assert_eq!(rt; requestor.owner(), Some(4));
-    assert_eq!(rt; requestor.context(), Some(Context::AppRollback));
-    assert_eq!(rt; requestor.mode(), Some(Mode::All));
-    assert_eq!(rt; requestor.set(), Some(1));
-    assert_eq!(rt; requestor.last(), Some(VssResult::AsyncFinished));
-    assert!(rt; accepts(&mut requestor, 4, SessionCall::End));
-    assert_eq!(rt; requestor.stage(), None);
+    let gathered = Some(SetOutcome::Running);
+    go(page, requestor, begin, None);
+    go(page, requestor, SessionCall::Disable, None);
+    go(page, requestor, SessionCall::Gather, gathered);
+    go(page, requestor, SessionCall::Start, None);
+    go(page, requestor, SessionCall::Add, None);
+}
+
+/// The calls from there on, but for the last.
+fn finish(page: &mut Page, requestor: &mut Requestor) {
+    let told = Some(SetOutcome::Running);
+    let made = Some(SetOutcome::Complete);
+    go(page, requestor, SessionCall::Prepare, told);
+    go(page, requestor, SessionCall::Snapshot, made);
+    go(page, requestor, SessionCall::Complete, told);
+}
+
+/// A session with writers goes through its stages.
+pub fn show_session(page: &mut Page) {
+    let mut requestor = Requestor::new();
+    open(page, &mut requestor);
+    finish(page, &mut requestor);
+    show_requestor(page, &requestor);
+    go(page, &mut requestor, SessionCall::End, None);
 }

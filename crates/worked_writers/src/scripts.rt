@@ -1,35 +1,38 @@
 //! What a scripted writer answers.
 
-use std::test::Fail;
+use std::alloc::Global;
 use vss_names::{Order, WriterError};
+use worked_page::{Page, Stopped};
 use writer_calls::{Answer, Scripted, ScriptedWriter, VssWriter};
 
 /// What the first orders of a kind are answered.
-fn answers<W: VssWriter>(writer: &mut W, order: Order) -> [Option<Answer>; 3] {
-    [
-        writer.on_order(order, 1),
-        writer.on_order(order, 2),
-        writer.on_order(order, 3),
-    ]
+fn show_answers<W: VssWriter>(page: &mut Page, writer: &mut W, order: Order) {
+    page.print("order", &order);
+    page.show("first", &writer.on_order(order, 1));
+    page.show("second", &writer.on_order(order, 2));
+    page.show("third", &writer.on_order(order, 3));
 }
 
-#[test]
-fn the_first_row_decides_and_ok_is_answered_without_one(rt: HostRuntime) -> Result<(), Fail> {
-    let veto = Some(Answer::Veto(WriterError::Retryable));
-    let row = |nth, answer| Scripted {
+/// A row of a script about a Freeze.
+fn row(nth: u32, answer: Option<Answer>) -> Scripted {
+    Scripted {
         order: Order::Freeze,
         nth,
         answer,
-    };
-    let script = vec![in rt.alloc(); row(2, veto), row(2, Some(Answer::Ok)), row(3, None)]?;
+    }
+}
+
+/// The first row decides, and ok is answered without one.
+pub fn show_script(alloc: Global, page: &mut Page) -> Result<(), Stopped> {
+    let mut script = Vec::new(alloc);
+    script.push(row(2, Some(Answer::Veto(WriterError::Retryable))))?;
+    script.push(row(2, Some(Answer::Ok)))?;
+    script.push(row(3, None))?;
     let mut writer = ScriptedWriter::new(script);
-    assert_eq!(rt;
-        answers(&mut writer, Order::Freeze),
-        [Some(Answer::Ok), veto, None]
-    );
-    assert_eq!(rt; answers(&mut writer, Order::Thaw), [Some(Answer::Ok); 3]);
+    show_answers(page, &mut writer, Order::Freeze);
+    show_answers(page, &mut writer, Order::Thaw);
     writer.on_abort();
     writer.on_abort();
-    assert_eq!(rt; writer.aborts(), 2);
+    page.show("aborts", &writer.aborts());
     Ok(())
 }

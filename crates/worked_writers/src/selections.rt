@@ -8,22 +8,13 @@ ghost use Rattle.component_doc.specs.Over.{AreAllowed, IsOver};
 
 use component_doc::{Metas, Selection};
 use std::alloc::Global;
-use std::test::Fail;
 use vss_names::Context;
+use worked_page::{Page, Stopped};
 use writer_meta::Metadata;
-
-const SQL: &str =
-    r#"{"class":"44444444-4444-4444-8444-444444444444","components":[{"name":"main","path":"","selectable":true,"type":1},{"name":"log1","path":"main","selectable":false,"type":2},{"name":"log2","path":"main","selectable":false,"type":2}],"level":2,"name":"Sql","source":1,"usage":3}"#;
-
-const SQL_NAMED: &str =
-    r#"{"components":[{"class":"44444444-4444-4444-8444-444444444444","explicit":true,"path":"main","writer":0},{"class":"44444444-4444-4444-8444-444444444444","explicit":false,"path":"main\\log1","writer":0},{"class":"44444444-4444-4444-8444-444444444444","explicit":false,"path":"main\\log2","writer":0}],"context":9}"#;
-
-const SQL_ALL: &str =
-    r#"{"components":[{"class":"44444444-4444-4444-8444-444444444444","explicit":false,"path":"main","writer":0},{"class":"44444444-4444-4444-8444-444444444444","explicit":false,"path":"main\\log1","writer":0},{"class":"44444444-4444-4444-8444-444444444444","explicit":false,"path":"main\\log2","writer":0}],"context":9,"select":false}"#;
 
 /// Of one writer.
 #[tactic(auto, using(crate::proofs::Few::few_known))]
-fn known(alloc: Global, metadata: &Metadata) -> Result<Metas, Fail>
+fn known(alloc: Global, metadata: &Metadata) -> Result<Metas, Stopped>
     requires { IsAllowed (meta_of metadata.now) }
     ensures allowed { IfOk result (λ metas. AreAllowed (metas_of metas)) }
     ensures few { IfOk result (λ metas. IsTrue (all_have_few (metas_of metas))) }
@@ -34,13 +25,8 @@ fn known(alloc: Global, metadata: &Metadata) -> Result<Metas, Fail>
     Ok(Metas::of(items))
 }
 
-/// What the refusal prints, or nothing.
-fn added(
-    alloc: Global,
-    selection: &mut Selection,
-    metas: &Metas,
-    path: &str,
-) -> Result<String, Fail>
+/// Names a component, and shows whether it is refused.
+fn add(alloc: Global, page: &mut Page, selection: &mut Selection, metas: &Metas, path: &str)
     requires few { IsTrue (all_have_few (metas_of metas.now)) }
     requires named { IsTrue (is_named selection.old.selected) }
     requires over { IsOver (metas_of metas.now) selection.old }
@@ -49,52 +35,91 @@ fn added(
     ensures over { IsOver (metas_of metas.now) selection.new }
 {
     match selection.add(alloc, metas, 0, path.as_bytes()) {
-        Ok(()) => Ok(String::new(alloc)),
-        Err(fault) => Ok(format!(in alloc; "{fault}")?),
+        Ok(()) => page.line(path, b"named"),
+        Err(fault) => page.print(path, &fault),
     }
 }
 
-#[test]
-fn a_named_component_comes_with_those_below_it(rt: HostRuntime) -> Result<(), Fail> {
-    let alloc = rt.alloc();
-    let metadata = Metadata::from_json(alloc, SQL.as_bytes())?;
-    let sql = known(alloc, &metadata)?;
-    let mut selection = Selection::new(alloc, 1)?;
-    assert_eq!(rt; selection.participants(alloc)?.len(), 0);
-    let none = added(alloc, &mut selection, &sql, "none")?;
-    assert_eq!(rt; none.as_str(), "no such component");
-    let below = added(alloc, &mut selection, &sql, "main\\log1")?;
-    assert_eq!(rt; below.as_str(), "the component cannot be selected");
-    let main = added(alloc, &mut selection, &sql, "main")?;
-    assert_eq!(rt; main.as_str(), "");
-    let again = added(alloc, &mut selection, &sql, "main")?;
-    assert_eq!(rt; again.as_str(), "the component is selected already");
-    assert_eq!(rt; selection.participants(alloc)?.items(), [0].as_slice());
-    let chosen = selection.chosen(alloc, &sql)?;
-    assert_eq!(rt; chosen.items().len(), 3);
-    for (place, choice) in chosen.items().iter().enumerate() {
-        assert_eq!(rt; choice.writer, 0);
-        assert_eq!(rt; choice.component as usize, place);
-        assert_eq!(rt; choice.explicit, place == 0);
-    }
+/// Shows which components are chosen, and which writers take part.
+fn show_chosen(
+    alloc: Global,
+    page: &mut Page,
+    selection: &Selection,
+    metas: &Metas,
+) -> Result<(), Stopped>
+    requires few { IsTrue (all_have_few (metas_of metas.now)) }
+    requires writers { length metas.now ≡ selection.now.writers }
+{
+    page.show("participants", &selection.participants(alloc)?);
+    page.show("chosen", &selection.chosen(alloc, metas)?);
     Ok(())
 }
 
-#[test]
-fn a_document_lists_the_chosen_components_and_is_read(rt: HostRuntime) -> Result<(), Fail> {
-    let alloc = rt.alloc();
-    let metadata = Metadata::from_json(alloc, SQL.as_bytes())?;
-    let sql = known(alloc, &metadata)?;
+/// Shows the document of a selection, and whether it is read back.
+fn show_document(
+    alloc: Global,
+    page: &mut Page,
+    selection: &Selection,
+    metas: &Metas,
+) -> Result<(), Stopped>
+    requires allowed { AreAllowed (metas_of metas.now) }
+    requires over { IsOver (metas_of metas.now) selection.now }
+    requires len { length metas.now ≡ 1 }
+{
+    let document = selection.to_json(alloc, metas, Context::AppRollback)?;
+    page.line("document", document.bytes());
+    page.show(
+        "read",
+        &Selection::from_json(alloc, metas, document.bytes()).is_ok(),
+    );
+    page.show("over", &selection.is_over(alloc, metas)?);
+    Ok(())
+}
+
+/// Names components that are not there, that cannot be selected, that can, and that are named already.
+fn add_all(alloc: Global, page: &mut Page, selection: &mut Selection, metas: &Metas)
+    requires few { IsTrue (all_have_few (metas_of metas.now)) }
+    requires named { IsTrue (is_named selection.old.selected) }
+    requires over { IsOver (metas_of metas.now) selection.old }
+    ensures named { IsTrue (is_named selection.new.selected) }
+    ensures writers { selection.new.writers ≡ selection.old.writers }
+    ensures over { IsOver (metas_of metas.now) selection.new }
+{
+    add(alloc, page, selection, metas, "none");
+    add(alloc, page, selection, metas, "main\\log1");
+    add(alloc, page, selection, metas, "main");
+    add(alloc, page, selection, metas, "main");
+}
+
+/// A named component comes with those below it.
+fn show_named(alloc: Global, page: &mut Page, metas: &Metas) -> Result<(), Stopped>
+    requires allowed { AreAllowed (metas_of metas.now) }
+    requires few { IsTrue (all_have_few (metas_of metas.now)) }
+    requires len { length metas.now ≡ 1 }
+{
     let mut named = Selection::new(alloc, 1)?;
-    let main = added(alloc, &mut named, &sql, "main")?;
-    assert_eq!(rt; main.as_str(), "");
-    let document = named.to_json(alloc, &sql, Context::AppRollback)?;
-    assert_eq!(rt; document.bytes(), SQL_NAMED.as_bytes());
-    let all = Selection::all(alloc, &sql)?;
-    let document = all.to_json(alloc, &sql, Context::AppRollback)?;
-    assert_eq!(rt; document.bytes(), SQL_ALL.as_bytes());
-    assert!(rt; Selection::from_json(alloc, &sql, SQL_NAMED.as_bytes()).is_ok());
-    assert!(rt; Selection::from_json(alloc, &sql, SQL_ALL.as_bytes()).is_ok());
-    assert!(rt; all.is_over(alloc, &sql)?);
-    Ok(())
+    show_chosen(alloc, page, &named, metas)?;
+    add_all(alloc, page, &mut named, metas);
+    show_chosen(alloc, page, &named, metas)?;
+    show_document(alloc, page, &named, metas)
+}
+
+/// Without selection all are chosen, and none is named.
+fn show_all(alloc: Global, page: &mut Page, metas: &Metas) -> Result<(), Stopped>
+    requires allowed { AreAllowed (metas_of metas.now) }
+    requires few { IsTrue (all_have_few (metas_of metas.now)) }
+    requires len { length metas.now ≡ 1 }
+{
+    let all = Selection::all(alloc, metas)?;
+    show_document(alloc, page, &all, metas)
+}
+
+/// Shows selections of one writer's components.
+pub fn show_selection(alloc: Global, page: &mut Page, text: &str) -> Result<(), Stopped> {
+    let Ok(metadata) = Metadata::from_json(alloc, text.as_bytes()) else {
+        return Err(Stopped);
+    };
+    let metas = known(alloc, &metadata)?;
+    show_named(alloc, page, &metas)?;
+    show_all(alloc, page, &metas)
 }

@@ -1,54 +1,24 @@
-//! The table of states, written out by hand.
+//! The states that answers leave.
 
-use vss_names::{Order, WriterError, WriterState};
+use vss_names::{Order, WriterError};
+use worked_page::Page;
 use writer_state::{Said, after};
 
-#[test]
-fn an_answer_leaves_the_state_of_the_table(rt: HostRuntime) {
-    let rows = [
-        (
-            Order::Identify,
-            WriterState::Stable,
-            WriterState::FailedAtIdentify,
-        ),
-        (
-            Order::PrepareBackup,
-            WriterState::Stable,
-            WriterState::FailedAtPrepareBackup,
-        ),
-        (
-            Order::PrepareSnapshot,
-            WriterState::WaitingForFreeze,
-            WriterState::FailedAtPrepareSnapshot,
-        ),
-        (
-            Order::Freeze,
-            WriterState::WaitingForThaw,
-            WriterState::FailedAtFreeze,
-        ),
-        (
-            Order::Thaw,
-            WriterState::WaitingForPostSnapshot,
-            WriterState::FailedAtThaw,
-        ),
-        (
-            Order::PostSnapshot,
-            WriterState::WaitingForBackupComplete,
-            WriterState::FailedAtPostSnapshot,
-        ),
-        (
-            Order::BackupComplete,
-            WriterState::Stable,
-            WriterState::FailedAtBackupComplete,
-        ),
-    ];
-    for (order, done, failed) in rows {
-        assert_eq!(rt; after(order, Said::Ok), done, "{order:?}");
-        assert_eq!(rt;
-            after(order, Said::Veto(WriterError::Retryable)),
-            failed,
-            "{order:?}"
-        );
-        assert_eq!(rt; after(order, Said::Lost), failed, "{order:?}");
-    }
+/// The state after each kind of answer to an order.
+fn show_order(page: &mut Page, order: Order) {
+    page.print("order", &order);
+    page.print("ok", &after(order, Said::Ok));
+    page.print("veto", &after(order, Said::Veto(WriterError::Retryable)));
+    page.print("lost", &after(order, Said::Lost));
+}
+
+/// The whole table.
+pub fn show_states(page: &mut Page) {
+    show_order(page, Order::Identify);
+    show_order(page, Order::PrepareBackup);
+    show_order(page, Order::PrepareSnapshot);
+    show_order(page, Order::Freeze);
+    show_order(page, Order::Thaw);
+    show_order(page, Order::PostSnapshot);
+    show_order(page, Order::BackupComplete);
 }
