@@ -1,6 +1,6 @@
 -- Exactly the kept images that a write takes are told as evicted.
 use Rattle.std.proofs.Common.{◌≡◌, ◌∙◌, ℕ, ◌+◌, ◌==◌, ◌<◌, zero, suc, List, [], ◌∷◌, ◌++◌, ◌⊎◌, Option, Some, None, refl, Bool, true, false, ap, sym, inl, inr, filter, length, arith}
-use Rattle.std.specs.Prelude.{◌&&◌, ◌||◌, not, nat_lt, if◌then◌else◌}
+use Rattle.std.specs.Prelude.{is_some, ◌&&◌, ◌||◌, not, nat_lt, if◌then◌else◌}
 use Rattle.std.specs.List.{list_any, list_all, flat_map}
 use Rattle.std.proofs.lemmas.List.Folds.{list_any-append}
 use Rattle.block_data.specs.declared.payload.Payload.TheVariants.{Fill, Stamp}
@@ -25,7 +25,7 @@ use Rattle.vss_model.proofs.OrderlyActs.{orderly}
 use Rattle.vss_model.proofs.Rows.{running_incomplete}
 use Rattle.vss_model.proofs.Volumes.{at, FewerIn, fewer_in_over, as_many_gone}
 use Rattle.promises.specs.Gone.{stands, Fails}
-use Rattle.promises.specs.Evicted.{is_told, goes_before, are_in_order, TellsEvicted}
+use Rattle.promises.specs.Evicted.{is_write, is_told, goes_before, are_in_order, TellsEvicted}
 use Rattle.promises.proofs.ByEvent.{after_enabled}
 use Rattle.promises.proofs.Images.{volumes_put, volumes_room, roomy, wants_or_fails}
 
@@ -309,6 +309,16 @@ ordered s st (AnswerEvent w answer) num = refl
 ordered s st Provider num = refl
 ordered s st Idle num = refl
 
+none_at : (s : Plan) (st : State) (t : Option Target) → is_some t ≡ false → evicted_at s st t ≡ []
+none_at s st None e = refl
+none_at s st (Some t) e = absurd cc
+
+none_other : (s : Plan) (st : State) (event : Event) → is_write event ≡ false → evicted s st event ≡ []
+none_other s st (Line lane o) e = none_at s st (target_of o) e
+none_other s st (AnswerEvent w answer) e = refl
+none_other s st Provider e = refl
+none_other s st Idle e = refl
+
 pub tells_evicted : (s : Plan) (so_far : List Act) (act : Act) → TellsEvicted s so_far act
 tells_evicted s so_far act =
     let st = state s so_far in
@@ -316,5 +326,5 @@ tells_evicted s so_far act =
     record {
       exactly = λ lane n v o t e f on. told_by s st act lane n v o t num e f on;
       in_order = ordered s st act.event num;
-      no_other = λ lane o e f. ap (evicted s st) e ∙ ap (evicted_at s st) f;
+      no_other = λ e. none_other s st act.event e;
     }

@@ -1,16 +1,21 @@
 -- Which images are told as evicted: for a write exactly those that were kept before it and do not stand after it, in order of their sets
 -- and, of one set, of their volumes. No other act tells any. (This project's own.)
-use Rattle.std.specs.Prelude.{ℕ, ◌≡◌, ◌==◌, ◌&&◌, ◌||◌, not, nat_lt, Bool, true, List, [], ◌∷◌, Some, None}
+use Rattle.std.specs.Prelude.{ℕ, ◌≡◌, ◌==◌, ◌&&◌, ◌||◌, not, nat_lt, Bool, true, false, List, [], ◌∷◌, Some, is_some}
 use Rattle.std.specs.List.{list_any, list_all}
 use Rattle.scenario.specs.declared.op.Op.{Op}
 use Rattle.scenario.specs.Calls.{Target, target_of}
 use Rattle.scenario.specs.Plan.{Plan}
+use Rattle.vss_model.specs.declared.event.Event.{Event}
 use Rattle.vss_model.specs.declared.event.Event.TheVariants.{Line}
 use Rattle.vss_model.specs.declared.evicted.Evicted.{Evicted}
 use Rattle.vss_model.specs.State.{is_kept_set}
 use Rattle.vss_model.specs.Acts.{Act, enabled, after, state}
 use Rattle.vss_model.specs.Effects.{evicted}
 use Rattle.promises.specs.Gone.{stands}
+
+abbrev pub is_write : Event → Bool
+is_write (Line lane op) = is_some (target_of op)
+is_write _ = false
 
 -- the image of set n on volume v is told
 abbrev pub is_told : ℕ → ℕ → List Evicted → Bool
@@ -28,5 +33,5 @@ pub record TellsEvicted (s : Plan) (so_far : List Act) (act : Act) : Type 0 wher
   pub exactly : (lane n v : ℕ) (op : Op) (t : Target) → act.event ≡ Line lane op → target_of op ≡ Some t → enabled s (state s so_far) act.event ≡ true
       → is_told n v (evicted s (state s so_far) act.event) ≡ (is_kept_set (state s so_far) n && (stands (state s so_far) n v && not (stands (after s (state s so_far) act) n v)))
   pub in_order : are_in_order (evicted s (state s so_far) act.event) ≡ true
-  -- a line that writes nothing
-  pub no_other : (lane : ℕ) (op : Op) → act.event ≡ Line lane op → target_of op ≡ None → evicted s (state s so_far) act.event ≡ []
+  -- an act that is no write
+  pub no_other : is_write act.event ≡ false → evicted s (state s so_far) act.event ≡ []
