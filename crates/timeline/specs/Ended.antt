@@ -1,7 +1,7 @@
 -- What the drawing of a report promises, by how it ended: where it is written, each line of the text is one that a report has, and the
 -- sink took a drawing with a mark for each move, once and in order, or narrow lines; where the text is refused, its first bad line is
 -- told, and nothing is written. (This project's own.)
-use Rattle.std.specs.Prelude.{ℕ, ◌≡◌, List, Option, Some, None}
+use Rattle.std.specs.Prelude.{ℕ, ◌≡◌, ◌+◌, List, length, Option, Some, None}
 use Rattle.vss_names.specs.Faults.{Rose}
 use Rattle.io_edge.specs.Streams.{Took, TookPart}
 use Rattle.timeline.specs.Drawn.{IsDrawn}
@@ -22,10 +22,10 @@ pub record Edges : Type 0 where
   pub writes_first : ℕ
   pub writes_last : ℕ
 
--- a text of these marks in a form
+-- a text of these marks in a form: a drawing, or lines, of which two stand before those of the moves
 abbrev pub IsPage : List Mark → List ℕ → Form → Type 0
 IsPage marks text Drawing = IsDrawn text marks
-IsPage marks text Lines = IsNarrow text
+IsPage marks text Lines = IsNarrow text (2 + length marks)
 
 -- a text of the moves of the report, of which each line is one that a report has
 pub record IsPicture (e : Edges) (text : List ℕ) : Type 0 where

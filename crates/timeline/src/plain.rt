@@ -1,6 +1,6 @@
 //! A picture as lines for a terminal.
 
-ghost use Rattle.std.specs.Prelude.{IfOk, OnOk};
+ghost use Rattle.std.specs.Prelude.{ℕ, ◌+◌, length, IfOk, OnOk};
 ghost use Rattle.timeline.specs.Narrow.{IsNarrow};
 
 use crate::effect::Effect;
@@ -13,7 +13,7 @@ use vss_names::{OutOfMemory, Text};
 
 /// Ends a line.
 fn add_line(out: &mut Text, line: &NarrowLine) -> Result<(), OutOfMemory>
-    ensures { OnOk result (IsNarrow out.old.bytes → IsNarrow out.new.bytes) }
+    ensures { OnOk result ((least : ℕ) → IsNarrow out.old.bytes least → IsNarrow out.new.bytes (least + 1)) }
 {
     out.add(line.bytes())?;
     out.add(b"\n")?;
@@ -22,7 +22,7 @@ fn add_line(out: &mut Text, line: &NarrowLine) -> Result<(), OutOfMemory>
 
 /// Appends what the letters of the states mean.
 fn add_key(alloc: Global, out: &mut Text) -> Result<(), OutOfMemory>
-    ensures { OnOk result (IsNarrow out.old.bytes → IsNarrow out.new.bytes) }
+    ensures { OnOk result ((least : ℕ) → IsNarrow out.old.bytes least → IsNarrow out.new.bytes (least + 1)) }
 {
     let mut line = NarrowLine::new(alloc);
     line.add(b"A run, move by move. F: frozen; H: held; 1 to 9 and +: so many images stand.")?;
@@ -31,7 +31,7 @@ fn add_key(alloc: Global, out: &mut Text) -> Result<(), OutOfMemory>
 
 /// Appends a line for each row whose state is shown: its letter, and what it is.
 fn add_shown(alloc: Global, out: &mut Text, picture: &Picture<'_>) -> Result<(), OutOfMemory>
-    ensures { OnOk result (IsNarrow out.old.bytes → IsNarrow out.new.bytes) }
+    ensures { OnOk result ((least : ℕ) → IsNarrow out.old.bytes least → IsNarrow out.new.bytes least) }
 {
     let (first, shown) = picture.stage().shown();
     let mut letter = b'a';
@@ -52,7 +52,7 @@ fn add_shown(alloc: Global, out: &mut Text, picture: &Picture<'_>) -> Result<(),
 
 /// Appends the line above the moves.
 fn add_heading(alloc: Global, out: &mut Text, shown: usize) -> Result<(), OutOfMemory>
-    ensures { OnOk result (IsNarrow out.old.bytes → IsNarrow out.new.bytes) }
+    ensures { OnOk result ((least : ℕ) → IsNarrow out.old.bytes least → IsNarrow out.new.bytes (least + 1)) }
 {
     let mut line = NarrowLine::new(alloc);
     let mut letter = b'a';
@@ -73,7 +73,7 @@ fn add_move(
     mark: &Mark<'_>,
     letters: &[u8],
 ) -> Result<(), OutOfMemory>
-    ensures { OnOk result (IsNarrow out.old.bytes → IsNarrow out.new.bytes) }
+    ensures { OnOk result ((least : ℕ) → IsNarrow out.old.bytes least → IsNarrow out.new.bytes (least + 1)) }
 {
     let mut line = NarrowLine::new(alloc);
     line.add_number(number, 5)?;
@@ -94,7 +94,7 @@ fn add_effect(
     effect: &Effect<'_>,
     shown: usize,
 ) -> Result<(), OutOfMemory>
-    ensures { OnOk result (IsNarrow out.old.bytes → IsNarrow out.new.bytes) }
+    ensures { OnOk result ((least : ℕ) → IsNarrow out.old.bytes least → IsNarrow out.new.bytes (least + 1)) }
 {
     let mut line = NarrowLine::new(alloc);
     line.add(b"                    ")?;
@@ -113,7 +113,7 @@ fn add_effects(
     number: u64,
     shown: usize,
 ) -> Result<usize, OutOfMemory>
-    ensures { OnOk result (IsNarrow out.old.bytes → IsNarrow out.new.bytes) }
+    ensures { OnOk result ((least : ℕ) → IsNarrow out.old.bytes least → IsNarrow out.new.bytes least) }
 {
     let mut count = 0usize;
     for effect in effects {
@@ -128,7 +128,7 @@ fn add_effects(
 
 /// Appends the lines of all moves and their effects.
 fn add_moves(alloc: Global, out: &mut Text, picture: &Picture<'_>) -> Result<(), OutOfMemory>
-    ensures { OnOk result (IsNarrow out.old.bytes → IsNarrow out.new.bytes) }
+    ensures { OnOk result ((least : ℕ) → IsNarrow out.old.bytes least → IsNarrow out.new.bytes (least + length picture.now.marks.items)) }
 {
     let (_, shown) = picture.stage().shown();
     let mut letters = picture.stage().letters();
@@ -147,7 +147,7 @@ fn add_moves(alloc: Global, out: &mut Text, picture: &Picture<'_>) -> Result<(),
 
 /// The picture as lines: whose states are shown, and then a line for each move and each effect.
 pub fn to_lines(alloc: Global, picture: &Picture<'_>) -> Result<Text, OutOfMemory>
-    ensures { IfOk result (λ text. IsNarrow text.bytes) }
+    ensures { IfOk result (λ text. IsNarrow text.bytes (2 + length picture.now.marks.items)) }
 {
     let (_, shown) = picture.stage().shown();
     let mut out = Text::new(alloc);

@@ -5,5 +5,5 @@ use Rattle.timeline.proofs.plain.to_lines.Goals as goal
 
 pub returns : goal.returns
 returns c =
-    let P : List ℕ → Type 0 = λ text. IsNarrow text in
-    c.in_ok-add_moves.ensures (c.in_ok-add_heading.ensures (c.in_ok-add_shown.ensures (c.in_ok-add_key.ensures (subst P (sym c.new-out.ensures) narrow_none))))
+    let P : List ℕ → Type 0 = λ text. IsNarrow text 0 in
+    c.in_ok-add_moves.ensures 2 (c.in_ok-add_heading.ensures 1 (c.in_ok-add_shown.ensures 1 (c.in_ok-add_key.ensures 0 (subst P (sym c.new-out.ensures) narrow_none))))
