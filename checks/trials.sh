@@ -34,6 +34,8 @@ while read -r name words; do
   "$trial" $words < "$name.scenario" 2>&1 | cmp -s - "$name.report" || wrong "$name: another report"
 done < rows
 
+"$trial" moves aaaapppppppaaaaa < "$top/examples/first.scenario" 2>&1 | cmp -s - "$top/examples/first.report" || wrong "the first example: another report"
+
 # a device of which some read is to fail lends nothing, so that its blocks are read one by one: the same bytes come out
 "$trial" run -- C.vol read 1000000 C.area read 1000000 < "$top/examples/first.scenario" 2> /dev/null | cmp -s - "$top/examples/first.report" ||
   wrong "another report where no device lends"
@@ -92,7 +94,7 @@ report="$top/examples/first.report"
 fails() {
   "$trial" run -- "$@" < "$first" > "$room/out" 2> "$room/err"
   local status=$? made back faults source sink marks
-  read -r _ made _ back _ faults _ source _ sink < <(tail -n 1 "$room/err")
+  read -r _ made _ back _ faults _ source _ sink _ < <(tail -n 1 "$room/err")
   marks="$(grep -c ' fault$' "$room/out")"
   case "$status" in
     0) [ "$source$sink" = 00 ] && [ "$back" = 2 ] && [ "$marks" -le "$faults" ] && { [ "$faults" != 0 ] || cmp -s "$room/out" "$report"; } ;;

@@ -7,7 +7,7 @@ use vss_play::{Moved, Play};
 use write_history::Actor;
 
 /// The actor of a letter: `a` to `h` are the first lanes, a digit is a writer, `p` the provider, `i` an idle stretch.
-fn actor_of(letter: u8) -> Option<Actor> {
+pub fn actor_of(letter: u8) -> Option<Actor> {
     match letter {
         b'a'..=b'h' => Some(Actor::Lane((letter - b'a') as u32)),
         b'0'..=b'9' => Some(Actor::Writer((letter - b'0') as u32)),

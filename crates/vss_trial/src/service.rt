@@ -1,5 +1,6 @@
 //! The service over streams and devices in memory.
 
+use crate::counting::Counting;
 use crate::failing::Failing;
 use crate::trial_error::TrialError;
 use io_edge::{MemSink, MemSource, Sink, Source};
@@ -9,7 +10,6 @@ use std::sync::Wait;
 use std::thread::Threads;
 use volume_device::{Maker, MemMaker};
 use vss_main::{Status, run};
-use vss_play::OpenGate;
 
 /// How many bytes the source gives at a call.
 const PIECE: usize = 16;
@@ -21,6 +21,7 @@ pub struct Called {
     source: MemSource,
     sink: MemSink,
     maker: MemMaker,
+    gate: Counting,
 }
 
 impl Called {
@@ -34,12 +35,13 @@ impl fmt::Display for Called {
     fn fmt<W: fmt::Write>(&self, f: &mut fmt::Formatter<W>) -> fmt::Result {
         write!(
             f,
-            "made {} back {} faults {} source {} sink {}",
+            "made {} back {} faults {} source {} sink {} {}",
             self.maker.names().len(),
             self.maker.returned().len(),
             self.maker.faults(),
             self.source.faults(),
-            self.sink.faults()
+            self.sink.faults(),
+            self.gate
         )
     }
 }
@@ -55,19 +57,13 @@ pub fn call<R: Threads + Wait + Sync>(
     let mut source = MemSource::new(input.to_vec(alloc)?, PIECE, failing.source);
     let mut sink = MemSink::with_room(alloc, failing.room, failing.sink)?;
     let mut maker = failing.maker;
-    let status = run(
-        rt,
-        alloc,
-        words,
-        &mut source,
-        &mut sink,
-        &mut maker,
-        &OpenGate,
-    );
+    let gate = Counting::new();
+    let status = run(rt, alloc, words, &mut source, &mut sink, &mut maker, &gate);
     Ok(Called {
         status,
         source,
         sink,
         maker,
+        gate,
     })
 }
