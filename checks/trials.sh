@@ -34,6 +34,7 @@ while read -r name words; do
   "$trial" $words < "$name.scenario" 2>&1 | cmp -s - "$name.report" || wrong "$name: another report"
 done < rows
 
+rows=$((rows + 1))
 "$trial" moves aaaapppppppaaaaa < "$top/examples/first.scenario" 2>&1 | cmp -s - "$top/examples/first.report" || wrong "the first example: another report"
 
 # a device of which some read is to fail lends nothing, so that its blocks are read one by one: the same bytes come out
