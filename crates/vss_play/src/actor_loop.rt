@@ -10,6 +10,7 @@ use crate::moved::Moved;
 use crate::play::Play;
 use crate::stepped::Stepped;
 use std::sync::Wait;
+use std::thread::yield_now;
 use turn_cell::{Caller, Turn};
 use volume_device::Device;
 use vss_names::OutOfMemory;
@@ -43,8 +44,9 @@ fn take_one<R: Wait, D: Device, G: Gate>(
 }
 
 /// Makes the moves of one actor over a run that it shares with others, each by one call of the turn, with `gate.before` before it
-/// and `gate.after` after it while no turn is held. It leaves once it is finished or the trail is full, or where it was blocked
-/// 1,000 times in a row; and where memory is wanting, which changes nothing of the run.
+/// and `gate.after` after it while no turn is held. Where it was blocked it lets other threads run before it asks again. It leaves once
+/// it is finished or the trail is full, or where it was blocked 1,000 times in a row; and where memory is wanting, which changes nothing
+/// of the run.
 pub fn take_turns<R: Wait, D: Device, G: Gate>(
     rt: &R,
     turn: &Turn<Play<D>>,
@@ -68,6 +70,7 @@ pub fn take_turns<R: Wait, D: Device, G: Gate>(
                 if blocked == MOST_BLOCKED {
                     return Ok(());
                 }
+                yield_now();
             }
             Stepped::Finished => return Ok(()),
             Stepped::TrailFull => return Ok(()),
