@@ -1,4 +1,4 @@
-//! Two lanes that wait for each other.
+//! Two lanes that wait for each other, before a move and after it: while a gate is told, no turn is held.
 
 use io_edge::{MemSink, MemSource};
 use std::alloc::Global;
@@ -16,13 +16,20 @@ use write_history::Actor;
 const TWO_LANES: &[u8] =
     b"scenario 1\nvolume C 2 2\nlane a\nwrite C 0 fill 7\nlane b\nwrite C 1 fill 8\n";
 
-/// A gate in which each of two lanes raises its flag before it moves, and waits for the other's.
+/// A place where each of two lanes raises its flag and waits for the other's.
 #[derive(Drop)]
 struct Meeting {
     first: AtomicBool,
     second: AtomicBool,
     first_met: AtomicBool,
     second_met: AtomicBool,
+}
+
+/// A gate by which the lanes meet before they move and after it.
+#[derive(Drop)]
+struct Meetings {
+    before: Meeting,
+    after: Meeting,
 }
 
 /// Whether a flag is seen raised, for a while.
@@ -36,8 +43,18 @@ fn seen(flag: &AtomicBool) -> bool {
     false
 }
 
-impl Gate for Meeting {
-    fn before(&self, actor: Actor) {
+impl Meeting {
+    fn new() -> Meeting {
+        Meeting {
+            first: AtomicBool::new(false),
+            second: AtomicBool::new(false),
+            first_met: AtomicBool::new(false),
+            second_met: AtomicBool::new(false),
+        }
+    }
+
+    /// An actor comes to the place. It does not wait where it is no lane.
+    fn come(&self, actor: Actor) {
         match actor {
             Actor::Lane(0) => {
                 self.first.store(true, SeqCst);
@@ -55,7 +72,20 @@ impl Gate for Meeting {
         }
     }
 
-    fn after(&self, _actor: Actor, _moved: Moved) {}
+    /// Whether each lane saw the other.
+    fn has_met(&self) -> bool {
+        self.first_met.load(SeqCst) && self.second_met.load(SeqCst)
+    }
+}
+
+impl Gate for Meetings {
+    fn before(&self, actor: Actor) {
+        self.before.come(actor);
+    }
+
+    fn after(&self, actor: Actor, _moved: Moved) {
+        self.after.come(actor);
+    }
 }
 
 /// The one word `run`.
@@ -68,11 +98,9 @@ fn run_word(alloc: Global) -> Result<Vec<String>, OutOfMemory> {
 #[test]
 fn two_lanes_meet(rt: HostRuntime) -> Result<(), Fail> {
     let words = run_word(rt.alloc())?;
-    let meeting = Meeting {
-        first: AtomicBool::new(false),
-        second: AtomicBool::new(false),
-        first_met: AtomicBool::new(false),
-        second_met: AtomicBool::new(false),
+    let meetings = Meetings {
+        before: Meeting::new(),
+        after: Meeting::new(),
     };
     let text = TWO_LANES.to_vec(rt.alloc())?;
     let mut source = MemSource::new(text, 64, Numbers::new(rt.alloc()));
@@ -85,9 +113,9 @@ fn two_lanes_meet(rt: HostRuntime) -> Result<(), Fail> {
         &mut source,
         &mut sink,
         &mut maker,
-        &meeting,
+        &meetings,
     );
     assert_eq!(rt; status, Status::Done);
-    assert!(rt; meeting.first_met.load(SeqCst) && meeting.second_met.load(SeqCst));
+    assert!(rt; meetings.before.has_met() && meetings.after.has_met());
     Ok(())
 }
