@@ -97,7 +97,8 @@ int open(const char *name, int flags, ...) {
     va_start(more, flags);
     int mode = va_arg(more, int);
     va_end(more);
-    if (fails("open")) return -1;
+    // what the system tells of itself, as how many processors there are, is no device
+    if (strncmp(name, "/sys/", 5) != 0 && fails("open")) return -1;
     return (int)syscall(SYS_openat, AT_FDCWD, name, flags, mode);
 }
 
