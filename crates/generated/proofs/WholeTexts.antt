@@ -11,13 +11,13 @@ use Rattle.generator_text.specs.ScenarioText.{declarations, set_lines, lanes_tex
 use Rattle.generated.specs.Asked.{one_set, four_sets}
 use Rattle.generated.specs.Writes.{writes_of_lane}
 use Rattle.generated.specs.Scenario.{IsGenerated}
-use Rattle.generated_reading.specs.Reading.{IsRead}
-use Rattle.generated_reading.proofs.Reader.{Then, begins, same_rest, ends}
-use Rattle.generated_reading.proofs.Meant.{Meaning, AreMeant, all_end, LaneMeant, lines_at, lanes_whom, lane_lines, Run, IsSaid, with_meant, with_lane}
-use Rattle.generated_reading.proofs.SetLines.{all_declared, meaning_of, set_line, are_asked}
-use Rattle.generated_reading.proofs.DeclaredLines.{no_run, declared_lines}
-use Rattle.generated_reading.proofs.WriteLines.{writes_end, writes_are}
-use Rattle.generated_reading.proofs.Lanes.{IsNewLane, free_lane, lane_meant, after_all, writing_lanes}
+use Rattle.generated.specs.Reading.{IsRead}
+use Rattle.generated.proofs.Reader.{Then, begins, same_rest, ends}
+use Rattle.generated.proofs.Meant.{Meaning, AreMeant, all_end, LaneMeant, lines_at, lanes_whom, lane_lines, Run, IsSaid, with_meant, with_lane}
+use Rattle.generated.proofs.SetTexts.{all_declared, meaning_of, set_line, are_asked}
+use Rattle.generated.proofs.DeclaredLines.{no_run, declared_lines}
+use Rattle.generated.proofs.WriteLines.{writes_end, writes_are}
+use Rattle.generated.proofs.Lanes.{IsNewLane, free_lane, lane_meant, after_all, writing_lanes}
 
 -- ## the lane that makes the sets
 

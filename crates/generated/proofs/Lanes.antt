@@ -22,13 +22,13 @@ use Rattle.scenario.specs.Declarations.{name_field, free_lane_of, acting_lane_of
 use Rattle.scenario.specs.Entries.{placed_row_of, row_of}
 use Rattle.generator_text.specs.ScenarioText.{acting, lane_text, writes_text}
 use Rattle.vss_report.proofs.Joined.{first_of_both, second_of_both}
-use Rattle.generated_reading.proofs.Words.{is_word, spans_at}
-use Rattle.generated_reading.proofs.Reader.{Says, end_of, head_is, tail_is, Then, line_then, then_line, same_rest}
-use Rattle.generated_reading.proofs.Meant.{Declared, LaneMeant, begins, names_meant, lanes_names, lanes_snoc, count_new, agendas_new, Run, IsSaid, still_declared, with_meant, with_lane, into_last}
-use Rattle.generated_reading.proofs.LaneLines.{HasSpace}
-use Rattle.generated_reading.proofs.SetLines.{writer_name, all_declared}
-use Rattle.generated_reading.proofs.DeclaredLines.{new_name}
-use Rattle.generated_reading.proofs.WriteLines.{writes_meant, writes_begin_none, write_lines}
+use Rattle.generated.proofs.Words.{is_word, spans_at}
+use Rattle.generated.proofs.Reader.{Says, end_of, head_is, tail_is, Then, line_then, then_line, same_rest}
+use Rattle.generated.proofs.Meant.{Declared, LaneMeant, begins, names_meant, lanes_names, lanes_snoc, count_new, agendas_new, Run, IsSaid, still_declared, with_meant, with_lane, into_last}
+use Rattle.generated.proofs.LaneLines.{HasSpace}
+use Rattle.generated.proofs.SetTexts.{writer_name, all_declared}
+use Rattle.generated.proofs.DeclaredLines.{new_name}
+use Rattle.generated.proofs.WriteLines.{writes_meant, writes_begin_none, write_lines}
 
 -- ## a lane begins
 

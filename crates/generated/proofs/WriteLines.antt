@@ -25,11 +25,11 @@ use Rattle.generator_text.specs.ScenarioText.{drawn_text, writes_text}
 use Rattle.generated.specs.Writes.{write_at}
 use Rattle.generated.specs.Scenario.{Shape, shape_of, own_shape}
 use Rattle.vss_report.proofs.Joined.{both}
-use Rattle.generated_reading.proofs.Words.{is_word, are_words, spans_at, number_word, number_reads}
-use Rattle.generated_reading.proofs.Reader.{head_is, tail_is, Then, line_then, same_rest}
-use Rattle.generated_reading.proofs.Meant.{IsDeclared, Meaning, Does, AreMeant, begins, all_end, Run, IsSaid, with_meant}
-use Rattle.generated_reading.proofs.LaneLines.{Makes, HasSpace, lane_line, lines_then, many_lines}
-use Rattle.generated_reading.proofs.SetLines.{all_declared, volume_is}
+use Rattle.generated.proofs.Words.{is_word, are_words, spans_at, number_word, number_reads}
+use Rattle.generated.proofs.Reader.{head_is, tail_is, Then, line_then, same_rest}
+use Rattle.generated.proofs.Meant.{IsDeclared, Meaning, Does, AreMeant, begins, all_end, Run, IsSaid, with_meant}
+use Rattle.generated.proofs.LaneLines.{Makes, HasSpace, lane_line, lines_then, many_lines}
+use Rattle.generated.proofs.SetTexts.{all_declared, volume_is}
 
 -- ## a write
 

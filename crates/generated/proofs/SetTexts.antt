@@ -20,10 +20,10 @@ use Rattle.generator_text.specs.Lines.{as_lines}
 use Rattle.generator_text.specs.ScenarioText.{set_lines}
 use Rattle.generated.specs.Asked.{Asked, Begins, Gathers, Awaits, Names, Starts, Adds, Prepares, Snapshots, Completes, Ends, IsAsked, AreAsked, one_set}
 use Rattle.generated.specs.Scenario.{system, database, web}
-use Rattle.generated_reading.proofs.Words.{are_words, spans_at}
-use Rattle.generated_reading.proofs.Reader.{end_of, head_is, tail_is, Then, line_then, same_rest}
-use Rattle.generated_reading.proofs.Meant.{Declared, IsDeclared, Meaning, Does, NamesMain, IsMeant, AreMeant, Run, IsSaid, with_meant}
-use Rattle.generated_reading.proofs.LaneLines.{Makes, HasSpace, lane_line, lines_then, many_lines}
+use Rattle.generated.proofs.Words.{are_words, spans_at}
+use Rattle.generated.proofs.Reader.{end_of, head_is, tail_is, Then, line_then, same_rest}
+use Rattle.generated.proofs.Meant.{Declared, IsDeclared, Meaning, Does, NamesMain, IsMeant, AreMeant, Run, IsSaid, with_meant}
+use Rattle.generated.proofs.LaneLines.{Makes, HasSpace, lane_line, lines_then, many_lines}
 
 -- ## names
 

@@ -9,7 +9,7 @@ use Rattle.generator_text.specs.Draws.{volume_at, block_at, stamp_at}
 use Rattle.generator_text.specs.Lines.{as_lines}
 use Rattle.generator_text.specs.ScenarioText.{declarations, set_lines, acting, drawn_text, writes_text, lane_text, lanes_text, gen_text}
 use Rattle.vss_report.proofs.Joined.{first_of_both, second_of_both}
-use Rattle.generated_reading.proofs.WriteLines.{is_early, drawn_write}
+use Rattle.generated.proofs.WriteLines.{is_early, drawn_write}
 
 few_digits : (n : ℕ) → n ≤ 18446744073709551615 → length (decimal n) ≤ 20
 few_digits n small = length-decimal-le 20 n (omega arith) (omega (arith, small)) (omega (arith, small))

@@ -1,6 +1,6 @@
-use Rattle.generated_reading.proofs.Generated.{text_read, all_generated}
-use Rattle.generated_reading.proofs.Short.{text_short}
-use Rattle.generated_reading.proofs.laws.generated_texts_are_read.Goals as goal
+use Rattle.generated.proofs.WholeTexts.{text_read, all_generated}
+use Rattle.generated.proofs.Short.{text_short}
+use Rattle.generated.proofs.laws.generated_texts_are_read.Goals as goal
 
 pub returns-clause-read : goal.returns-clause-read
 returns-clause-read c = text_read c.args.number

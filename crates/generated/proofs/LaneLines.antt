@@ -15,9 +15,9 @@ use Rattle.scenario.specs.SoFar.{SoFar, after, line_count, agenda_count}
 use Rattle.scenario.specs.SoFar as saying
 use Rattle.scenario.specs.Entries.{may_stand, has_line_room, line_of, row_of, placed_row_of}
 use Rattle.vss_report.proofs.Joined.{first_of_both, second_of_both}
-use Rattle.generated_reading.proofs.Words.{are_words, spans_at}
-use Rattle.generated_reading.proofs.Reader.{Says, end_of, Then, line_then, then_line}
-use Rattle.generated_reading.proofs.Meant.{Declared, IsDeclared, Meaning, IsMeant, begins, begins_as, LaneMeant, lines_more, lanes_count, lanes_with, count_with, agendas_with, Run, IsSaid, still_declared, with_meant, with_nothing, begins_cons, with_first}
+use Rattle.generated.proofs.Words.{are_words, spans_at}
+use Rattle.generated.proofs.Reader.{Says, end_of, Then, line_then, then_line}
+use Rattle.generated.proofs.Meant.{Declared, IsDeclared, Meaning, IsMeant, begins, begins_as, LaneMeant, lines_more, lanes_count, lanes_with, count_with, agendas_with, Run, IsSaid, still_declared, with_meant, with_nothing, begins_cons, with_first}
 
 -- ## words and fields, which the reader's crate keeps to itself
 

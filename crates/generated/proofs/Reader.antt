@@ -12,7 +12,7 @@ use Rattle.scenario.specs.SoFar.{SoFar, Saying, nothing, after, plan_in}
 use Rattle.scenario.specs.SoFar as saying
 use Rattle.scenario.specs.Entries.{is_printable, is_skipped, placed_row_of, said_of, saying_of}
 use Rattle.scenario.specs.Grammar.{IsScenario, IsBad, goes_on, read_from, reading_of}
-use Rattle.generated_reading.proofs.Words.{are_words, joined, spans_at, words_joined, joined_printable, part_is, parts_are, line_first}
+use Rattle.generated.proofs.Words.{are_words, joined, spans_at, words_joined, joined_printable, part_is, parts_are, line_first}
 
 -- ## what a line says
 

@@ -26,11 +26,11 @@ use Rattle.generator_text.specs.Lines.{as_lines}
 use Rattle.generator_text.specs.ScenarioText.{declarations}
 use Rattle.generated.specs.Scenario.{shape_of, own_shape, system, database, web}
 use Rattle.vss_report.proofs.Joined.{both}
-use Rattle.generated_reading.proofs.Words.{is_word, spans_at}
-use Rattle.generated_reading.proofs.Reader.{Says, end_of, head_is, tail_is, Then, line_then, then_line}
-use Rattle.generated_reading.proofs.Meant.{Declared, no_script, AreLanes, Run, IsSaid}
-use Rattle.generated_reading.proofs.SetLines.{volume_name, all_declared, rest_is}
-use Rattle.generated_reading.proofs.Documents.{system_text, database_text, web_text, system_read, database_read, web_read}
+use Rattle.generated.proofs.Words.{is_word, spans_at}
+use Rattle.generated.proofs.Reader.{Says, end_of, head_is, tail_is, Then, line_then, then_line}
+use Rattle.generated.proofs.Meant.{Declared, no_script, AreLanes, Run, IsSaid}
+use Rattle.generated.proofs.SetTexts.{volume_name, all_declared, rest_is}
+use Rattle.generated.proofs.Documents.{system_text, database_text, web_text, system_read, database_read, web_read}
 
 abbrev pub start : Declared
 start = record { volumes = 0; names = []; writers = []; metas = [] }
