@@ -7,9 +7,8 @@ rows=0
 most=16777216
 remarks=500000
 addresses=1000000
-# a program with a sanitizer of addresses takes all of them for its own use
-(ulimit -v "$addresses" && exec "$vss" gen) > /dev/null 2>&1
-[ "$?" = 2 ] || addresses=unlimited
+# the slow build takes all addresses for its own use
+if is_slow "$vss"; then addresses=unlimited; fi
 
 # what is wanted on the standard error, and what was given; the input comes on the standard input
 says() {

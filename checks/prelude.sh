@@ -47,6 +47,6 @@ replied() {
   [ -s "$room/wanted" ] || wrong "${rows##*/}: no replies"
   "$@" < "$room/calls" > "$room/said" 2> "$room/err" || wrong "${rows##*/}: status $?, $(tail -n 1 "$room/err")"
   cmp -s "$room/wanted" "$room/said" && return
-  row="$(cmp "$room/wanted" "$room/said" 2>&1 | sed 's/.*line //')"
+  row="$(awk 'NR == FNR { wanted[NR] = $0; next } $0 != wanted[FNR] { exit } { same = FNR } END { print same + 1 }' "$room/wanted" "$room/said")"
   wrong "${rows##*/}: of the row \"$(sed -n "${row}p" "$room/rows" | cut -c 1-150)\" it is said \"$(sed -n "${row}p" "$room/said" | cut -c 1-150)\""
 }

@@ -15,9 +15,9 @@ import sys
 sys.dont_write_bytecode = True  # nothing is written beside the sources
 sys.path.insert(0, os.path.join(os.path.dirname(os.path.abspath(__file__)), ".."))
 from rows import Subject, as_result, fails, main, written  # noqa: E402
-from volumes import Group, Refused, some  # noqa: E402
+from volumes import BLOCK, Group, Refused, some  # noqa: E402
 
-NAMES = [b"C", b"D", b"E", b"F", b"G", b"H", b"I", b"J"] + [b"v%d" % v for v in range(8, 128)]
+NAMES = [b"C", b"D", b"E", b"F", b"G", b"H", b"I", b"J"] + [b"V%d" % v for v in range(8, 128)]
 
 
 def sealed(body):
@@ -32,6 +32,20 @@ def body_of(names, blocks, images):
         body += struct.pack("<I", len(name)) + name + struct.pack("<II", count, len(sets))
         body += b"".join(struct.pack("<I", s) for s in sets)
     return body
+
+
+def record_of(copy):
+    """The record of a slot, as docs/FORMATS.md has it."""
+    return struct.pack("<4I", copy[0], copy[2], copy[1], 0) if copy else bytes(16)
+
+
+def area_of(group, slots):
+    """The bytes of a group's area whose records were written when its slots had these copies."""
+    header = b"VSSAREA1" + struct.pack("<4I", 2, len(slots), sum(copy is not None for copy in slots), len(group.devices))
+    header += b"".join(struct.pack("<I", len(device.blocks)) for device in group.devices)
+    table = b"".join(map(record_of, slots))
+    pages = table.ljust((group.first - 1) * BLOCK, b"\0")
+    return header.ljust(BLOCK, b"\0") + pages + b"".join(bytes([byte]) * BLOCK for byte in group.area.blocks[group.first:])
 
 
 def lists_in(digits):
@@ -49,6 +63,7 @@ class Catalog(Subject):
     """Calls of a group that is closed, loaded and taken up again."""
 
     group = None
+    synced = None
 
     def reply(self, word, *rest):
         if word in ("load", "resume"):
@@ -79,7 +94,15 @@ class Catalog(Subject):
         return as_result(lambda: self.group.revert(*image), lambda done: "()")
 
     def sync(self):
-        return as_result(self.group.sync)
+        said = as_result(self.group.sync)
+        self.synced = list(self.group.slots)
+        return said
+
+    def bytes(self, first, count):
+        return area_of(self.group, self.synced)[first:first + count].hex()
+
+    def record(self, slot):
+        return record_of(self.synced[slot]).hex()
 
     def used_all(self):
         return str(self.group.used())
@@ -234,12 +257,12 @@ def limits():
     life = Life([1] * 128, 128)
     life.make_all(f"cut {v} 1" for v in range(128))
     life.make_all(f"write {v} 0 {v + 1}" for v in range(64, 128))
-    life.make_all(["used_all", "sync", "close", "load", "resume"])
+    life.make_all(["used_all", "sync", "close", f"bytes 0 {3 * BLOCK}", "record 0", "record 63", "record 127", "load", "resume"])
     life.make_all(f"image {v} 1 0" for v in range(63, 128))
     yield life
-    life = Life([65536, 4097], 65536)
-    life.make_all(["cut 0 1", "cut 1 1", "write 0 65535 7", "write 1 4096 8", "write 1 4097 9", "sync", "close", "load", "resume"])
-    life.make_all(["image 0 1 65535", "read 0 65535", "image 1 1 4096", "read 1 4096", "image 1 1 4097", "used_all"])
+    life = Life([5000, 4097], 4097)
+    life.make_all(["cut 0 1", "cut 1 1", "write 0 4999 7", "write 1 4096 8", "write 1 4097 9", "sync", "close", "load", "resume"])
+    life.make_all(["image 0 1 4999", "read 0 4999", "image 1 1 4096", "read 1 4096", "image 1 1 4097", "used_all"])
     yield life
     life = Life([2], 512)
     for set_ in range(1, 513):
