@@ -17,4 +17,5 @@ but_closing() { grep ' => ' "$room/$1.rows" | grep -v -e '^close' -e '^load' -e 
 cmp -s <(but_closing closed) <(but_closing open) || wrong "a group that was closed goes on otherwise"
 cmp -s <(but_closing first) <(but_closing alone) || wrong "a group in the first layout goes on otherwise"
 ends "${count[by_hand]} rows, ${count[open]} and ${count[alone]} answers of groups that go on as before, ${count[faults]} with failing calls," \
-  "$(grep -c NoImage "$room/lacking.rows") copies without their image, $(grep -c Err "$room/bytes.rows") refused catalogs, ${count[limits]} answers at the limits"
+  "$(grep -c NoImage "$room/lacking.rows") copies without their image, $(grep -c Err "$room/bytes.rows") refused catalogs," \
+  "${count[limits]} answers at the limits"

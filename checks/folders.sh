@@ -1,6 +1,6 @@
 #!/usr/bin/env bash
-# Devices as files in a folder, made by the program: the report or summary is the one in memory,
-# the files hold what it says, an area's is listed by `inspect`, and a file that is there already is refused and left as it is.
+# Devices as files in a folder: the report or summary is the one in memory, the files hold what it says, an area's is listed by `inspect`, and a
+# file that is there already is refused and left as it is.
 . "$(dirname "${BASH_SOURCE[0]}")/prelude.sh" || exit 70
 vss="$(program vss)" || exit 1
 

@@ -39,7 +39,8 @@ lines() {
 
 # the declaration of a writer with these components
 main='{"name":"main","path":"","selectable":true,"type":1}'
-writer() { echo "writer $1 {\"class\":\"22222222-2222-4222-8222-222222222222\",\"components\":[$2],\"level\":2,\"name\":\"Database\",\"source\":1,\"usage\":3}"; }
+class=22222222-2222-4222-8222-222222222222
+writer() { echo "writer $1 {\"class\":\"$class\",\"components\":[$2],\"level\":2,\"name\":\"Database\",\"source\":1,\"usage\":3}"; }
 
 # ## what a scenario may have
 
@@ -119,7 +120,9 @@ has 64 '^image 1 v[0-9]+ '
 has 64 '^[0-9]+ lane a [0-9]+ data 0000000000000000 4fe7b59af6de3b665b67788cc2f99892ab827efae3a467342b3bb4e3bc8e5bfe$'
 has 64 '^volume v[0-9]+ used 1 of 128 '
 
-runs "images of a volume" < <(printf '%s\n' "scenario 1" "volume C 1 1" "lane a" && lines 512 $'begin 25\nstart\nadd C\nsnapshot\nawait\nend' && printf '%s\n' "begin 25" start "add C" end)
+runs "images of a volume" < <(
+  printf '%s\n' "scenario 1" "volume C 1 1" "lane a" && lines 512 $'begin 25\nstart\nadd C\nsnapshot\nawait\nend'
+  printf '%s\n' "begin 25" start "add C" end)
 has 512 '^= set [0-9]+ complete$'
 has 512 '^image [0-9]+ C '
 has 1 ' 3078 VSS_E_MAXIMUM_NUMBER_OF_SNAPSHOTS_REACHED$'
@@ -134,7 +137,8 @@ has 1 '^volume C used 1 of 4097 '
 
 # ## orders and documents
 
-runs "orders without a writer" <<< $'scenario 1\nvolume C 1 1\nlane a\nbegin 9\ngather\nawait\nstart\nadd C\nprepare\nawait\nsnapshot\nawait\ncomplete\nawait\nend'
+runs "orders without a writer" < <(
+  printf '%s\n' "scenario 1" "volume C 1 1" "lane a" "begin 9" gather await start "add C" prepare await snapshot await complete await end)
 has 1 '^= set 1 complete$'
 
 # so many components, each with the longest path and name
@@ -150,7 +154,9 @@ long_document() {
   writer w "$(components "$1")"
   echo "volume C 1 1"
 }
-runs "1,024 components" < <(long_document 1024 && printf '%s\n' "lane a" "begin 9 all" gather await document start "add C" prepare await snapshot await complete await end)
+runs "1,024 components" < <(
+  long_document 1024
+  printf '%s\n' "lane a" "begin 9 all" gather await document start "add C" prepare await snapshot await complete await end)
 has 1 '^[0-9]+ lane a 8 document 417835 [0-9a-f]{64}$'
 has 1 '^= set 1 complete$'
 [ "$(long_document 1025 | "$vss" run 2>&1)" = "vss: line 2: BadDocument" ] || wrong "1,025 components are read"

@@ -17,13 +17,6 @@ while read -r name words; do
   "$trial" $words < "$name.scenario" 2>&1 | cmp -s - "$name.report" || wrong "$name: another report"
 done < rows
 
-rows=$((rows + 1))
-"$trial" moves aaaapppppppaaaaa < "$top/examples/first.scenario" 2>&1 | cmp -s - "$top/examples/first.report" || wrong "the first example: another report"
-
-# a device of which some read is to fail lends nothing, so that its blocks are read one by one: the same bytes come out
-"$trial" run -- fails C.vol read 1000000 fails C.area read 1000000 < "$top/examples/first.scenario" 2> /dev/null | cmp -s - "$top/examples/first.report" ||
-  wrong "another report where no device lends"
-
 # The letters of a set over two volumes with four writes at these places: each after so many of the other moves. Prints how many of
 # them come before the cut, whether one has to wait, and the letters. Writes 1 and 3 are of the first volume, which is held from move
 # 9 on; the others are of the second, held one move later; each for four moves.

@@ -20,9 +20,7 @@ trial="$(program service_trial)" || exit 1
 } > "$room/scenario"
 lines=$((64 + 2 * 13))
 for run in 1 2 3 4 5 6 7 8 9 10; do
-  if ! "$trial" run < "$room/scenario" > "$room/report" 2> "$room/told"; then
-    wrong "run $run ended with another status than 0"
-  fi
+  "$trial" run < "$room/scenario" > "$room/report" 2> "$room/told" || wrong "run $run ended with another status than 0"
   read -r _ _ _ _ _ _ _ _ _ _ _ before _ after < "$room/told"
   if [ "$before" != "$after" ] || [ "$before" -lt 129 ]; then
     wrong "run $run: the gate was told $before times before a step, and $after times after one"
