@@ -106,9 +106,9 @@ for lane in 1 2; do
   [ "$(cat "$room/out.$lane")" = "lane $lane"$'\n0' ] && grep -q "an unproved build" "$room/err.$lane" || wrong "two at once: $(cat "$room/out.$lane" "$room/err.$lane")"
 done
 [ "$(wc -l < "$small/built")" = 1 ] || wrong "two at once built $(wc -l < "$small/built") times"
-timeout 60 "$small/vss" run <&- > "$room/out" 2> "$room/err"
+timeout 600 "$small/vss" run <&- > "$room/out" 2> "$room/err"
 [ "$?" = 4 ] || wrong "a closed input: $(cat "$room/err")"
-timeout 60 "$small/vss" run < "$small/crates.txt" >&- 2> "$room/err"
+timeout 600 "$small/vss" run < "$small/crates.txt" >&- 2> "$room/err"
 [ "$?" = 4 ] && ! grep -q "Bad file descriptor" <(grep -v "^cat:" "$room/err") || wrong "a closed output: $(cat "$room/err")"
 
 # a build that was changed is made again; one that fails leaves nothing; a slow one says so
