@@ -1,7 +1,7 @@
 #!/usr/bin/env bash
 # Which program is run, in a small repository of its own with programs that are made up: a program is called proved of these sources alone,
 # whatever the times of files are. A build without a proof is made once. What is missing is named in one line.
-. "$(dirname "$0")/prelude.sh"
+. "$(dirname "${BASH_SOURCE[0]}")/prelude.sh" || exit 70
 small="$room/a small one"
 mkdir -p "$small/tools" "$small/crates/low/src" "$small/crates/vss/src" "$small/crates/vss/out"
 cp "$top/vss" "$small/"
@@ -23,7 +23,7 @@ make_builder "cp '$room/cat' \"\$2\""
 # The commands here but for those that are named, in one folder, with an `rt` that does nothing.
 commands_without() {
   local tool found
-  rm -rf "$room/bin" && mkdir "$room/bin" && ln -s /bin/true "$room/bin/rt"
+  rm -rf "${room:?}/bin" && mkdir "$room/bin" && ln -s /bin/true "$room/bin/rt"
   for tool in bash sh cat cp mv rm mkdir sleep wc sed readlink dirname basename flock python3 awk find sort xargs sha256sum; do
     case " $* " in *" $tool "*) continue ;; esac
     found="$(command -v "$tool")" && ln -s "$found" "$room/bin/"
@@ -72,7 +72,7 @@ is_not "a program that was changed" proved
 cp "$room/cat" "$program"
 is "a program that is as it was" proved
 
-# ends STATUS TEXT TOOL..: how ./vss ends without these tools
+# How ./vss ends without some tools: its status, and what its one line says.
 tells() {
   local wanted="$1" text="$2" status
   shift 2
@@ -106,9 +106,9 @@ for lane in 1 2; do
   [ "$(cat "$room/out.$lane")" = "lane $lane"$'\n0' ] && grep -q "an unproved build" "$room/err.$lane" || wrong "two at once: $(cat "$room/out.$lane" "$room/err.$lane")"
 done
 [ "$(wc -l < "$small/built")" = 1 ] || wrong "two at once built $(wc -l < "$small/built") times"
-timeout 60 "$small/vss" run <&- > "$room/out" 2> "$room/err"
+timeout 600 "$small/vss" run <&- > "$room/out" 2> "$room/err"
 [ "$?" = 4 ] || wrong "a closed input: $(cat "$room/err")"
-timeout 60 "$small/vss" run < "$small/crates.txt" >&- 2> "$room/err"
+timeout 600 "$small/vss" run < "$small/crates.txt" >&- 2> "$room/err"
 [ "$?" = 4 ] && ! grep -q "Bad file descriptor" <(grep -v "^cat:" "$room/err") || wrong "a closed output: $(cat "$room/err")"
 
 # a build that was changed is made again; one that fails leaves nothing; a slow one says so
