@@ -61,7 +61,7 @@ def singly():
 # ## commands for both kinds
 
 def said(byte):
-    """How a reply tells a block: by its SHA-256."""
+    """How a reply shows a block: by its SHA-256."""
     return f"Bytes({list(hashlib.sha256(bytes([byte]) * BLOCK).digest())})"
 
 
@@ -88,7 +88,7 @@ def answer(volume, word, *values):
         getattr(volume, word)(*values)
         return "Ok"
     except Refused as refusal:
-        return "Fault { evicted_up_to: 0 }" if str(refusal) == "Volume" or str(refusal) == "Area" else str(refusal)
+        return "Fault { evicted_up_to: 0 }" if str(refusal) in ("Volume", "Area") else str(refusal)
 
 
 class Both(Subject):

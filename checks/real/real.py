@@ -17,9 +17,9 @@ SET_PIPE_SIZE = 1031  # F_SETPIPE_SZ
 # a report of some 70,000 bytes, which depends on nothing but the lines
 LONG = b"scenario 1\nlane a\n" + b"await\n" * 2500
 # three volumes over three areas, whose volumes are flushed for a set, and are written after its cut
-VOLUMES = {"C": 4, "D": 2, "E": 3}
+VOLUMES = {"C": 4, "D": 1, "E": 3}
 AREAS = ["C.area", "D.area", "G.shared"]
-SET = b"scenario 1\narea G 4\nvolume C 4 4\nvolume D 2 2\nvolume E 3 in G\nlane a\nbegin 25\nstart\nadd C\nadd D\nadd E\nsnapshot\nawait\nend\n"
+SET = b"scenario 1\narea G 4\nvolume C 4 4\nvolume D 1 2\nvolume E 3 in G\nlane a\nbegin 25\nstart\nadd C\nadd D\nadd E\nsnapshot\nawait\nend\n"
 wrongs = 0
 
 
@@ -133,7 +133,7 @@ def is_in_files():
         holds([read.pop(0) for _ in wanted] == [hashlib.sha256(block).hexdigest() for block in wanted], f"the reads of {name} have other digests")
         digest = hashlib.sha256(b"".join(wanted)).hexdigest()
         holds(any(words[:2] == ["volume", name] and words[-1] == digest for words in told), f"{name} has another digest in the report")
-    slots = {"C.area": (4, 4), "D.area": (2, 2), "G.shared": (4, 3)}
+    slots = {"C.area": (4, 4), "D.area": (2, 1), "G.shared": (4, 3)}
     for name, (count, used) in slots.items():
         blocks = contents(f"{disks}/{name}")
         holds(len(blocks) == 2 + count and struct.unpack("<8s3I", blocks[0][:20]) == (b"VSSAREA1", 2, count, used), f"{name} has another header")

@@ -2,7 +2,7 @@
 """Rows for the subject `recover` of the trials of storage, in a folder: lists.py FOLDER ROWS..
 
 claims.rows: as many claims as a window takes, at their ends, one too many, and overlapping. failing.rows: each write and each read of the overlay
-fails, alone and with all that follow. lists.rows: four hundred lists of calls by chance; it is told how often each reply came in them.
+fails, alone and with all that follow. lists.rows: four hundred lists of calls by chance; it prints how often each reply came in them.
 """
 import collections
 import os
