@@ -1,10 +1,10 @@
 //! The groups of a snapshot agenda.
 
+use crate::page::Page;
+use crate::stopped::Stopped;
 use set_agenda::{Agenda, Kind, Member};
 use std::alloc::Global;
 use vss_names::Level;
-use crate::page::Page;
-use crate::stopped::Stopped;
 
 const LONE: Member = Member {
     writer: 0,

@@ -1,12 +1,12 @@
 //! Agendas without a writer, and one writer that is gathered, prepared, frozen and told.
 
+use crate::page::Page;
+use crate::stopped::Stopped;
 use component_doc::{Metas, Selection};
 use coordinator::{Coordinator, Effects};
 use set_agenda::Kind;
 use std::alloc::Global;
 use vss_names::{Level, SourceKind, Text, Usage};
-use crate::page::Page;
-use crate::stopped::Stopped;
 use writer_calls::Answer;
 use writer_meta::{Components, Metadata};
 

@@ -3,9 +3,9 @@
 ghost use Rattle.writer_meta.specs.Allowed.{IsAllowed};
 ghost use Rattle.writer_meta.specs.Metadata.{meta_of};
 
-use std::alloc::Global;
 use crate::page::Page;
 use crate::stopped::Stopped;
+use std::alloc::Global;
 use writer_meta::{Component, Metadata};
 
 /// Shows the numbers and names of a document.

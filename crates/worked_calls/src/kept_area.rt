@@ -38,11 +38,7 @@ fn pass_image(page: &mut Page, volume: &mut CowVolume<MemDevice>) {
 }
 
 /// Shows the area's table and slot 0 after a sync.
-fn show_area(
-    alloc: Global,
-    page: &mut Page,
-    volume: CowVolume<MemDevice>,
-) -> Result<(), Stopped> {
+fn show_area(alloc: Global, page: &mut Page, volume: CowVolume<MemDevice>) -> Result<(), Stopped> {
     let (_device, area) = volume.into_parts();
     let bytes = bytes_of(alloc, &mut area.into_device())?;
     show_table_bytes(page, &bytes);

@@ -1,11 +1,11 @@
 //! A clock, a gate of writes, and a pool of slots.
 
+use crate::page::Page;
+use crate::stopped::Stopped;
 use hold_gate::HoldGate;
 use slot_pool::SlotPool;
 use std::alloc::Global;
 use tick_limits::{Clock, HOLD_LIMIT};
-use crate::page::Page;
-use crate::stopped::Stopped;
 
 /// Whether the hold limit is spent, and how many ticks are left until it is.
 fn show_limit(page: &mut Page, clock: &Clock) {

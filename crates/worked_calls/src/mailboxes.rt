@@ -1,9 +1,9 @@
 //! Orders that are sent, cancelled and answered.
 
-use std::alloc::Global;
-use vss_names::Order;
 use crate::page::Page;
 use crate::stopped::Stopped;
+use std::alloc::Global;
+use vss_names::Order;
 use writer_calls::{Answer, Mailboxes};
 
 /// The open order alone is answered.

@@ -78,5 +78,12 @@ pub fn show_makers(rt: &HostRuntime, page: &mut Page) -> Result<(), Stopped> {
     let mut maker = planned(alloc)?;
     show_plan(alloc, page, &mut maker)?;
     let mut host = HostMaker::new(*rt);
-    show_made(alloc, page, &mut host, &Store::Memory, "C.vol", "lends write faults")
+    show_made(
+        alloc,
+        page,
+        &mut host,
+        &Store::Memory,
+        "C.vol",
+        "lends write faults",
+    )
 }

@@ -1,8 +1,8 @@
 //! A session that goes through its stages.
 
+use crate::page::Page;
 use requestor::{Requestor, SessionCall, Verdict};
 use vss_names::SetOutcome;
-use crate::page::Page;
 
 /// Applies a call that the checks let go, and shows the stage after it.
 fn go(page: &mut Page, requestor: &mut Requestor, call: SessionCall, outcome: Option<SetOutcome>) {

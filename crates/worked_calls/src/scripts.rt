@@ -1,9 +1,9 @@
 //! What a scripted writer answers.
 
-use std::alloc::Global;
-use vss_names::{Order, WriterError};
 use crate::page::Page;
 use crate::stopped::Stopped;
+use std::alloc::Global;
+use vss_names::{Order, WriterError};
 use writer_calls::{Answer, Scripted, ScriptedWriter, VssWriter};
 
 /// What the first orders of a kind are answered.

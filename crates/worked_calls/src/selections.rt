@@ -6,11 +6,11 @@ ghost use Rattle.writer_meta.specs.Metadata.{meta_of};
 ghost use Rattle.component_doc.specs.Held.{metas_of, all_have_few, is_named};
 ghost use Rattle.component_doc.specs.Over.{AreAllowed, IsOver};
 
+use crate::page::Page;
+use crate::stopped::Stopped;
 use component_doc::{Metas, Selection};
 use std::alloc::Global;
 use vss_names::{Context, Text};
-use crate::page::Page;
-use crate::stopped::Stopped;
 use writer_meta::Metadata;
 
 /// Of one writer.

@@ -1,7 +1,7 @@
 //! The states that answers leave.
 
-use vss_names::{Order, WriterError};
 use crate::page::Page;
+use vss_names::{Order, WriterError};
 use writer_state::{Said, after};
 
 /// The state after each kind of answer to an order.

@@ -1,10 +1,10 @@
 //! Streams that end, fail and are full.
 
+use crate::page::Page;
+use crate::stopped::Stopped;
 use io_edge::{MemSink, MemSource, Sink, Source, read_all, write_all};
 use std::alloc::Global;
 use vss_names::Numbers;
-use crate::page::Page;
-use crate::stopped::Stopped;
 
 /// A source gives its bytes in pieces.
 fn show_read(page: &mut Page, source: &mut MemSource, out: &mut [u8; 4]) {
@@ -43,20 +43,26 @@ fn show_sink(alloc: Global, page: &mut Page) -> Result<(), Stopped> {
     Ok(())
 }
 
-/// All of these.
-pub fn show_streams(alloc: Global, page: &mut Page) -> Result<(), Stopped> {
-    show_sink(alloc, page)?;
+/// A source gives its bytes until it ends.
+fn show_source(alloc: Global, page: &mut Page) -> Result<(), Stopped> {
     let mut source = MemSource::new(b"freeze".to_vec(alloc)?, 3, Numbers::new(alloc));
     let mut out = [b'.'; 4];
     show_read(page, &mut source, &mut out);
     show_read(page, &mut source, &mut out);
     show_read(page, &mut source, &mut out);
     page.show("faults", &source.faults());
-    show_all(alloc, page, 9, 6)?;
-    show_all(alloc, page, 9, 5)?;
-    show_all(alloc, page, 9, 0)?;
-    show_all(alloc, page, 2, 6)?;
-    show_written(alloc, page, 9, 9)?;
-    show_written(alloc, page, 9, 6)?;
-    show_written(alloc, page, 1, 9)
+    Ok(())
+}
+
+/// All of these.
+pub fn show_streams(alloc: Global, page: &mut Page) -> Result<(), Stopped> {
+    show_sink(alloc, page)?;
+    show_source(alloc, page)?;
+    for (failing, limit) in [(9u32, 6usize), (9, 5), (9, 0), (2, 6)] {
+        show_all(alloc, page, failing, limit)?;
+    }
+    for (failing, room) in [(9u32, 9usize), (9, 6), (1, 9)] {
+        show_written(alloc, page, failing, room)?;
+    }
+    Ok(())
 }

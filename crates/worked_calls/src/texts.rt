@@ -1,9 +1,9 @@
 //! Texts that are read, and texts that are refused.
 
-use scenario::{Scenario, parse};
-use std::alloc::Global;
 use crate::page::Page;
 use crate::stopped::Stopped;
+use scenario::{Scenario, parse};
+use std::alloc::Global;
 
 /// Shows the volumes and their groups.
 fn show_volumes(page: &mut Page, scenario: &Scenario) {
