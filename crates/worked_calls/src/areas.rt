@@ -31,12 +31,18 @@ fn show_table(page: &mut Page, area: &Area<MemDevice>) {
     }
 }
 
+/// 32 bytes from a place in the first block or at the second; all bytes where there are fewer.
+fn row_at(bytes: &[u8], at: usize) -> &[u8] {
+    if at > BLOCK || bytes.len() < BLOCK + 32 {
+        return bytes;
+    }
+    &bytes[at..at + 32]
+}
+
 /// Shows the bytes of the header that may not be zero, and those of the first records.
 pub fn show_table_bytes(page: &mut Page, bytes: &[u8]) {
-    if bytes.len() >= 2 * BLOCK {
-        page.show("header", &&bytes[..32]);
-        page.show("records", &&bytes[BLOCK..BLOCK + 32]);
-    }
+    page.show("header", &row_at(bytes, 0));
+    page.show("records", &row_at(bytes, BLOCK));
 }
 
 /// Shows whether these bytes are still there after a sync, and those of the table.
