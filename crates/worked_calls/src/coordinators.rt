@@ -1,0 +1,175 @@
+//! Agendas without a writer, and one writer that is gathered, prepared, frozen and told.
+
+use crate::page::Page;
+use crate::stopped::Stopped;
+use component_doc::{Metas, Selection};
+use coordinator::{Coordinator, Effects};
+use set_agenda::Kind;
+use std::alloc::Global;
+use vss_names::{Level, SourceKind, Text, Usage};
+use writer_calls::Answer;
+use writer_meta::{Components, Metadata};
+
+/// The metadata of a writer without components.
+fn metadata(alloc: Global, class: u128) -> Result<Metadata, Stopped> {
+    Ok(Metadata {
+        class,
+        name: Text::copy(alloc, b"Database")?,
+        level: Level::BackEnd,
+        usage: Usage::UserData,
+        source: SourceKind::TransactedDb,
+        freeze_timeout: 60_000,
+        components: Components::of(Vec::new(alloc)),
+    })
+}
+
+/// Registers a writer of this class by the name `db`.
+fn register(
+    alloc: Global,
+    page: &mut Page,
+    coordinator: &mut Coordinator,
+    class: u128,
+) -> Result<(), Stopped> {
+    let name = Text::copy(alloc, b"db")?;
+    let db = metadata(alloc, class)?;
+    if coordinator.writers() >= 64 {
+        return Err(Stopped);
+    }
+    page.show("registered", &coordinator.register(alloc, &name, db));
+    Ok(())
+}
+
+/// All that a lone writer has is chosen.
+fn chosen(alloc: Global, db: &Metadata) -> Result<Selection, Stopped> {
+    let mut items = Vec::new(alloc);
+    items.push(Some(db))?;
+    let known = Metas::of(items);
+    Ok(Selection::all(alloc, &known)?)
+}
+
+/// An agenda begins over the writers of a selection and over volume 5.
+fn begin_over(
+    alloc: Global,
+    coordinator: &mut Coordinator,
+    kind: Kind,
+    selection: &Selection,
+) -> Result<Effects, Stopped> {
+    if coordinator.writers() != selection.writers() || coordinator.posts() >= 1_000 {
+        return Err(Stopped);
+    }
+    if coordinator.open_group().is_some() {
+        return Err(Stopped);
+    }
+    Ok(coordinator.begin_agenda(alloc, kind, 1, &[5], selection, 0)?)
+}
+
+/// An agenda begins over the lone writer.
+fn begin(alloc: Global, coordinator: &mut Coordinator, kind: Kind) -> Result<Effects, Stopped> {
+    let db = metadata(alloc, 7)?;
+    let selection = chosen(alloc, &db)?;
+    begin_over(alloc, coordinator, kind, &selection)
+}
+
+/// The lone writer or the provider does what is asked of it.
+fn go_on(coordinator: &mut Coordinator) -> Result<Effects, Stopped> {
+    if coordinator.posts() >= 1_000 {
+        return Err(Stopped);
+    }
+    if coordinator.is_working() {
+        return Ok(coordinator.stepped(true, 0));
+    }
+    if coordinator.writers() == 0 {
+        return Err(Stopped);
+    }
+    let Some(standing) = coordinator.poll(0) else {
+        return Err(Stopped);
+    };
+    match coordinator.answered(0, standing.number, Answer::Ok, 0) {
+        Ok(effects) => Ok(effects),
+        Err(_) => Err(Stopped),
+    }
+}
+
+/// Shows the lone writer's row, and how long its limit runs.
+fn show_writer(page: &mut Page, coordinator: &Coordinator) {
+    if coordinator.writers() > 0 {
+        page.show("row", &coordinator.row(0));
+    }
+    if coordinator.is_on_time(0) {
+        page.show("limit", &coordinator.until_limit(0));
+    }
+}
+
+/// Shows what a step does.
+fn show_step(page: &mut Page, coordinator: &mut Coordinator) -> Result<(), Stopped> {
+    let effects = go_on(coordinator)?;
+    page.show("step", &effects);
+    Ok(())
+}
+
+/// Goes through an agenda of so many steps, and shows what each does.
+fn go_through(
+    alloc: Global,
+    page: &mut Page,
+    coordinator: &mut Coordinator,
+    kind: Kind,
+    steps: u32,
+) -> Result<(), Stopped> {
+    page.show("agenda", &kind);
+    let begun = begin(alloc, coordinator, kind)?;
+    page.show("begun", &begun);
+    show_writer(page, coordinator);
+    for _step in 0..steps {
+        show_step(page, coordinator)?;
+    }
+    show_writer(page, coordinator);
+    Ok(())
+}
+
+/// A writer is registered once and gathered.
+fn show_gathered(
+    alloc: Global,
+    page: &mut Page,
+    coordinator: &mut Coordinator,
+) -> Result<(), Stopped> {
+    register(alloc, page, coordinator, 7)?;
+    register(alloc, page, coordinator, 8)?;
+    go_through(alloc, page, coordinator, Kind::Gather, 1)
+}
+
+/// A set completes, and its writer is told.
+fn show_completed(
+    alloc: Global,
+    page: &mut Page,
+    coordinator: &mut Coordinator,
+) -> Result<(), Stopped> {
+    go_through(alloc, page, coordinator, Kind::Prepare, 1)?;
+    go_through(alloc, page, coordinator, Kind::Snapshot, 11)?;
+    go_through(alloc, page, coordinator, Kind::Complete, 1)
+}
+
+/// Without a writer an agenda that asks writers has ended as it begins.
+fn show_unasked(
+    alloc: Global,
+    page: &mut Page,
+    coordinator: &mut Coordinator,
+) -> Result<(), Stopped> {
+    let none = Selection::new(alloc, 0)?;
+    page.show(
+        "gather",
+        &begin_over(alloc, coordinator, Kind::Gather, &none)?,
+    );
+    page.show(
+        "prepare",
+        &begin_over(alloc, coordinator, Kind::Prepare, &none)?,
+    );
+    Ok(())
+}
+
+/// All of these, of one coordinator.
+pub fn show_coordinators(alloc: Global, page: &mut Page) -> Result<(), Stopped> {
+    let mut coordinator = Coordinator::new(alloc)?;
+    show_unasked(alloc, page, &mut coordinator)?;
+    show_gathered(alloc, page, &mut coordinator)?;
+    show_completed(alloc, page, &mut coordinator)
+}

@@ -1,0 +1,57 @@
+//! Documents that are read, refused and written.
+
+ghost use Rattle.writer_meta.specs.Allowed.{IsAllowed};
+ghost use Rattle.writer_meta.specs.Metadata.{meta_of};
+
+use crate::page::Page;
+use crate::stopped::Stopped;
+use std::alloc::Global;
+use writer_meta::{Component, Metadata};
+
+/// Shows the numbers and names of a document.
+fn show_fields(page: &mut Page, metadata: &Metadata) {
+    page.show("class", &metadata.class);
+    page.show("level", &metadata.level);
+    page.show("usage", &metadata.usage);
+    page.show("source", &metadata.source);
+    page.show("timeout", &metadata.freeze_timeout);
+}
+
+/// Shows a component by its full name, and whether it can be selected.
+fn show_component(alloc: Global, page: &mut Page, component: &Component) -> Result<(), Stopped> {
+    let name = component.full_name(alloc)?;
+    page.line("component", name.bytes());
+    page.show("selectable", &component.selectable);
+    Ok(())
+}
+
+/// Shows the name and the components of a copy, in order.
+fn show_copy(alloc: Global, page: &mut Page, metadata: &Metadata) -> Result<(), Stopped> {
+    let copy = metadata.copy(alloc)?;
+    page.line("name", copy.name.bytes());
+    for component in copy.components.items() {
+        show_component(alloc, page, component)?;
+    }
+    Ok(())
+}
+
+/// Shows a document with all its members, as it is written and as a copy has them.
+fn show_metadata(alloc: Global, page: &mut Page, metadata: &Metadata) -> Result<(), Stopped>
+    requires { IsAllowed (meta_of metadata.now) }
+{
+    show_fields(page, metadata);
+    let written = metadata.to_json(alloc)?;
+    page.line("written", written.bytes());
+    show_copy(alloc, page, metadata)
+}
+
+/// Shows what a document says, or why it is refused.
+pub fn show_document(alloc: Global, page: &mut Page, text: &str) -> Result<(), Stopped> {
+    match Metadata::from_json(alloc, text.as_bytes()) {
+        Ok(metadata) => show_metadata(alloc, page, &metadata),
+        Err(fault) => {
+            page.print("refused", &fault);
+            Ok(())
+        }
+    }
+}
