@@ -19,8 +19,6 @@ mod law;
 mod machine;
 mod plays;
 mod seating;
-#[cfg(test)]
-mod tests;
 mod turn;
 mod view;
 

@@ -1,8 +1,8 @@
 //! Two lanes that wait for each other, before a move and after it: while a gate is told, no turn is held.
 
+use crate::flag::seen;
 use io_edge::{MemSink, MemSource};
 use std::alloc::Global;
-use std::hint::spin_loop;
 use std::sync::atomic::AtomicBool;
 use std::sync::atomic::Ordering::SeqCst;
 use std::test::Fail;
@@ -30,17 +30,6 @@ struct Meeting {
 struct Meetings {
     before: Meeting,
     after: Meeting,
-}
-
-/// Whether a flag is seen raised, for a while.
-fn seen(flag: &AtomicBool) -> bool {
-    for _ in 0..50_000_000u32 {
-        if flag.load(SeqCst) {
-            return true;
-        }
-        spin_loop();
-    }
-    false
 }
 
 impl Meeting {

@@ -1,19 +1,21 @@
+//! Callers of one turn: their calls have one order, the front is told while a step runs, and eight threads leave all their calls.
+
 ghost use Rattle.std.specs.Prelude.{◌≡◌, ◌+◌, ◌<◌, length};
 ghost use Rattle.std.specs.List.{All};
 ghost use Rattle.turn_cell.specs.Callers.{Calls};
 
-use crate::{Caller, Machine, Turn};
+use crate::flag::seen;
 use std::alloc::Global;
-use std::hint::spin_loop;
 use std::sync::atomic::AtomicBool;
 use std::sync::atomic::Ordering::SeqCst;
 use std::sync::{Arc, Wait};
 use std::test::Fail;
 use std::thread;
 use std::thread::Threads;
+use turn_cell::{Caller, Machine, Turn};
 use vss_names::OutOfMemory;
 
-// A machine that counts its calls and answers the count.
+/// A machine that counts its calls and answers the count.
 #[derive(Drop)]
 struct Counter {
     count: u64,
@@ -33,21 +35,11 @@ impl Machine for Counter {
     }
 }
 
-// A machine whose step raises one flag, and answers whether it then saw the other.
+/// A machine whose step raises one flag, and answers whether it then saw the other.
 #[derive(Drop)]
 struct Meeting {
     mine: Arc<AtomicBool, Global>,
     other: Arc<AtomicBool, Global>,
-}
-
-fn raised(flag: &AtomicBool) -> bool {
-    for _ in 0..50_000_000u32 {
-        if flag.load(SeqCst) {
-            return true;
-        }
-        spin_loop();
-    }
-    false
 }
 
 impl Machine for Meeting {
@@ -59,7 +51,7 @@ impl Machine for Meeting {
 
     fn step(&mut self, _caller: u32, _call: ()) -> Result<bool, OutOfMemory> {
         self.mine.store(true, SeqCst);
-        Ok(raised(&self.other))
+        Ok(seen(&self.other))
     }
 }
 
@@ -75,7 +67,7 @@ fn calls_are_answered_in_one_order(rt: HostRuntime) -> Result<(), Fail> {
     Ok(())
 }
 
-// One call, by a caller that comes back.
+/// One call, by a caller that comes back.
 fn call_once<R: Wait>(
     rt: &R,
     turn: &Turn<Meeting>,
@@ -91,7 +83,7 @@ fn call_once<R: Wait>(
     (caller, met)
 }
 
-// Waits for the first flag, asks for the front, and raises the second flag.
+/// Waits for the first flag, asks for the front, and raises the second flag.
 fn look_meanwhile(
     turn: &Turn<Meeting>,
     mut caller: Caller<Meeting>,
@@ -101,7 +93,7 @@ fn look_meanwhile(
     requires { Calls caller turn.now }
     ensures { Calls result.0 turn.now }
 {
-    let stepping = raised(first);
+    let stepping = seen(first);
     let front = turn.front(&mut caller);
     second.store(true, SeqCst);
     (caller, stepping, front)
@@ -142,7 +134,7 @@ fn front_answers_while_a_step_runs(rt: HostRuntime) -> Result<(), Fail> {
     Ok(())
 }
 
-// Makes so many calls.
+/// Makes so many calls.
 fn call_often<R: Wait>(rt: &R, turn: &Turn<Counter>, caller: &mut Caller<Counter>, calls: u32)
     requires { Calls caller.old turn.now }
     ensures { Calls caller.new turn.now }

@@ -1,7 +1,7 @@
 use denote.Param.Send.{sendable}
 use Rattle.std.proofs.Crossing.{crosses}
 use Rattle.turn_cell.proofs.Crossing.{turns_cross}
-use Rattle.turn_cell.proofs.tests.all_call.Goals as goal
+use Rattle.worked_tests.proofs.turns.all_call.Goals as goal
 
 pub for_each_mut-requires-send-T : goal.for_each_mut-requires-send-T
 for_each_mut-requires-send-T g c κs within = search (sendable, crosses, turns_cross) depth 30
