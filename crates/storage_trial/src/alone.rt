@@ -8,76 +8,49 @@ use crate::making::may_cut;
 use crate::trial_error::TrialError;
 use block_data::Payload;
 use cow_volume::CowVolume;
+use mirror_volume::ImageVolume;
 use volume_device::HostDevice;
 
 type Volume = CowVolume<HostDevice>;
 
-/// A call that reads: `read` of a block, or `image` of a set and a block.
-fn read(
+/// The answer of a call that volumes of each kind have; None where it is another.
+pub fn answer<V: ImageVolume>(
     rt: &HostRuntime,
-    volume: &mut Volume,
-    name: &str,
-    numbers: &[u32],
-) -> Result<Answer, TrialError> {
+    volume: &mut V,
+    call: &Call,
+) -> Result<Option<Answer>, TrialError> {
     let mut out = buffer(rt.alloc())?;
-    match (name, numbers) {
+    Ok(Some(match (call.name.as_str(), call.numbers.as_slice()) {
         ("read", [block]) => {
             let read = volume.read_into(*block, out.bytes_mut());
-            Ok(Answer::Read(read.map(|()| filled_with(out.bytes()))))
+            Answer::Read(read.map(|()| filled_with(out.bytes())))
         }
         ("image", [set, block]) => {
             let read = volume.read_image_into(*set, *block, out.bytes_mut());
-            Ok(Answer::Seen(read.map(|()| filled_with(out.bytes()))))
+            Answer::Seen(read.map(|()| filled_with(out.bytes())))
         }
-        _ => Err(TrialError::Line),
-    }
-}
-
-/// A call that changes the volume; None where it is another.
-fn change(volume: &mut Volume, name: &str, numbers: &[u32]) -> Option<Answer> {
-    match (name, numbers) {
-        ("cut", [set]) if may_cut(volume.images(), *set) => {
-            volume.cut(*set);
-            Some(Answer::Done)
-        }
+        ("cut", [set]) if may_cut(volume.images(), *set) => Answer::Cut(volume.cut(*set)),
         ("write", [block, byte]) => {
-            let payload = Payload::Fill((*byte % 256) as u8);
-            Some(Answer::Wrote(volume.write(*block, &payload)))
+            Answer::Wrote(volume.write(*block, &Payload::Fill((*byte % 256) as u8)))
         }
-        ("drop", [set]) => Some(Answer::Dropped(volume.drop_image(*set))),
-        ("revert", [set]) => Some(Answer::Reverted(volume.revert(*set))),
-        ("flush", []) => Some(Answer::Went(volume.flush())),
-        ("sync", []) => Some(Answer::Went(volume.sync())),
-        _ => None,
-    }
+        ("drop", [set]) => Answer::Dropped(volume.drop_image(*set)),
+        _ => return Ok(None),
+    }))
 }
 
-/// A call that looks at the volume; None where it is another.
-fn look(volume: &Volume, name: &str, numbers: &[u32]) -> Option<Answer> {
-    match (name, numbers) {
+/// The answer of a call that copy-on-write volumes alone have.
+fn answer_of_copies(volume: &mut Volume, call: &Call) -> Result<Answer, TrialError> {
+    match (call.name.as_str(), call.numbers.as_slice()) {
+        ("revert", [set]) => Ok(Answer::Reverted(volume.revert(*set))),
+        ("flush", []) => Ok(Answer::Went(volume.flush())),
+        ("sync", []) => Ok(Answer::Went(volume.sync())),
         ("lend", [block]) if *block < volume.blocks() => {
-            Some(Answer::of_lent(Ok(volume.lend_block(*block))))
+            Ok(Answer::of_lent(Ok(volume.lend_block(*block))))
         }
-        ("lend-image", [set, block]) => Some(Answer::of_lent(volume.lend_image(*set, *block))),
-        ("by", [set]) => Some(Answer::By(volume.used_by(*set))),
-        _ => None,
+        ("lend-image", [set, block]) => Ok(Answer::of_lent(volume.lend_image(*set, *block))),
+        ("by", [set]) => Ok(Answer::By(volume.used_by(*set))),
+        _ => Err(TrialError::NotAllowed),
     }
-}
-
-/// The answer of a call.
-fn answer(
-    rt: &HostRuntime,
-    volume: &mut Volume,
-    name: &str,
-    numbers: &[u32],
-) -> Result<Answer, TrialError> {
-    if name == "read" || name == "image" {
-        return read(rt, volume, name, numbers);
-    }
-    if let Some(answer) = change(volume, name, numbers) {
-        return Ok(answer);
-    }
-    look(volume, name, numbers).ok_or(TrialError::NotAllowed)
 }
 
 /// Makes a call of a volume by itself, and prints its answer.
@@ -87,12 +60,15 @@ pub fn make(
     volume: &mut Volume,
     call: &Call,
 ) -> Result<(), TrialError> {
-    match (call.name.as_str(), call.numbers.as_slice()) {
-        ("used", []) => {
-            println!(rt; "{} of {}", volume.used(), volume.slots())?;
-            Ok(())
-        }
-        ("images", []) => print_images(rt, style, volume.images()),
-        (name, numbers) => answer(rt, volume, name, numbers)?.print(rt, style),
+    if call.name.as_str() == "images" {
+        return print_images(rt, style, volume.images());
+    }
+    if call.name.as_str() == "used" {
+        println!(rt; "{} of {}", volume.used(), volume.slots())?;
+        return Ok(());
+    }
+    match answer(rt, volume, call)? {
+        Some(answer) => answer.print(rt, style),
+        None => answer_of_copies(volume, call)?.print(rt, style),
     }
 }

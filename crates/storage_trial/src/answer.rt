@@ -1,6 +1,7 @@
 use crate::content::filled_with;
 use crate::trial_error::TrialError;
 use cow_volume::{Cause, ImageFault, RevertFault, WriteFault, Written};
+use mirror_volume::NoMirror;
 use std::fmt;
 
 /// How answers are printed: in words, or as Rust prints the values.
@@ -16,6 +17,7 @@ pub enum Answer {
     Done,
     Number(u32),
     By(Option<u32>),
+    Cut(Result<(), NoMirror>),
     Wrote(Result<Written, WriteFault>),
     Went(Result<(), Cause>),
     Read(Result<Option<u8>, Cause>),
@@ -87,7 +89,12 @@ impl fmt::Display for Answer {
             Answer::Reverted(Err(RevertFault::Fault { restored, cause })) => {
                 write!(f, "{} after {restored}", cause_name(*cause))
             }
-            _ => f.write_str("ok"),
+            Answer::Cut(Err(_)) => f.write_str("no mirror"),
+            Answer::Done
+            | Answer::Cut(Ok(()))
+            | Answer::Went(Ok(()))
+            | Answer::Dropped(Ok(()))
+            | Answer::Reverted(Ok(())) => f.write_str("ok"),
         }
     }
 }
@@ -98,6 +105,7 @@ impl fmt::Debug for Answer {
             Answer::Done => f.write_str("()"),
             Answer::Number(number) => write!(f, "{number:?}"),
             Answer::By(count) => write!(f, "{count:?}"),
+            Answer::Cut(answer) => write!(f, "{answer:?}"),
             Answer::Wrote(answer) => write!(f, "{answer:?}"),
             Answer::Went(answer) => write!(f, "{answer:?}"),
             Answer::Read(answer) => write!(f, "{answer:?}"),

@@ -118,26 +118,31 @@ fn all_bytes(alloc: Global, device: &mut HostDevice) -> Result<Vec<u8>, TrialErr
     Ok(bytes)
 }
 
-/// Prints what a line asks of an area's bytes: so many of a block from a place on, or the record of a slot.
-fn tell_part(
-    rt: &HostRuntime,
-    bytes: &[u8],
-    name: &str,
-    numbers: &[u32],
-) -> Result<(), TrialError> {
-    match (name, numbers) {
-        ("bytes", [block, at, count]) => {
-            let first = (*block as usize)
-                .saturating_mul(BLOCK)
-                .saturating_add(*at as usize);
-            let last = first.saturating_add(*count as usize);
-            tell_bytes(rt, bytes.get(first..last).ok_or(TrialError::NotAllowed)?)
+/// Prints the record of a slot as a view of an area's bytes lends it.
+fn tell_record(rt: &HostRuntime, bytes: &[u8], slot: u32) -> Result<(), TrialError> {
+    match AreaView::new(rt.alloc(), bytes) {
+        Ok(view) if slot < view.slots() => tell_bytes(rt, view.record_at(slot)),
+        _ => Err(TrialError::NotAllowed),
+    }
+}
+
+/// Puts the numbers of a line `load` into an area's device, or prints the part of its bytes that a line `bytes` or `record` asks for.
+fn take_words(rt: &HostRuntime, device: &mut HostDevice, words: &[&str]) -> Result<(), TrialError> {
+    let alloc = rt.alloc();
+    match *words {
+        ["bytes", first, count] => {
+            let (first, count) = (first.parse::<usize>()?, count.parse::<usize>()?);
+            let bytes = all_bytes(alloc, device)?;
+            let part = bytes.get(first..first.saturating_add(count));
+            tell_bytes(rt, part.ok_or(TrialError::NotAllowed)?)
         }
-        ("record", [slot]) => match AreaView::new(rt.alloc(), bytes) {
-            Ok(view) if *slot < view.slots() => tell_bytes(rt, view.record_at(*slot)),
-            _ => Err(TrialError::NotAllowed),
-        },
-        _ => Err(TrialError::Line),
+        ["record", slot] => tell_record(rt, &all_bytes(alloc, device)?, slot.parse()?),
+        _ => {
+            for word in &words[1..] {
+                put(alloc, device, word)?;
+            }
+            Ok(())
+        }
     }
 }
 
@@ -162,37 +167,11 @@ impl Closed {
         tell_bytes(rt, self.catalog.bytes())
     }
 
-    /// The area is loaded from its device, in whose bytes these numbers were put.
+    /// The area is loaded from its device, after a line put numbers into the device's bytes or was told of them.
     pub fn load(
         self,
-        alloc: Global,
-        numbers: &[&str],
-    ) -> Result<Result<Closed, AreaFault>, TrialError> {
-        let Closed {
-            devices,
-            area,
-            catalog,
-        } = self;
-        let mut device = area.into_device();
-        for word in numbers {
-            put(alloc, &mut device, word)?;
-        }
-        match Area::load(alloc, device) {
-            Err(unopened) => Ok(Err(unopened.fault)),
-            Ok(area) => Ok(Ok(Closed {
-                devices,
-                area,
-                catalog,
-            })),
-        }
-    }
-
-    /// Prints what a line asks of the area's bytes as its device has them, from which the area is loaded again.
-    pub fn look(
-        self,
         rt: &HostRuntime,
-        name: &str,
-        numbers: &[u32],
+        words: &[&str],
     ) -> Result<Result<Closed, AreaFault>, TrialError> {
         let Closed {
             devices,
@@ -200,7 +179,7 @@ impl Closed {
             catalog,
         } = self;
         let mut device = area.into_device();
-        tell_part(rt, &all_bytes(rt.alloc(), &mut device)?, name, numbers)?;
+        take_words(rt, &mut device, words)?;
         match Area::load(rt.alloc(), device) {
             Err(unopened) => Ok(Err(unopened.fault)),
             Ok(area) => Ok(Ok(Closed {

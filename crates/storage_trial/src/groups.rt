@@ -113,8 +113,7 @@ impl Groups {
         match *words {
             ["catalog", digits] => tell_catalog(rt, digits),
             ["close"] => self.close(rt),
-            ["load", ..] => self.load(rt, &words[1..]),
-            ["bytes" | "record", ..] => self.look(rt, &Call::of(rt.alloc(), words)?),
+            ["load" | "bytes" | "record", ..] => self.load(rt, words),
             ["resume"] => self.resume(rt, None),
             ["resume", digits] => self.resume(rt, Some(digits)),
             _ => self.make(rt, plan, &Call::of(rt.alloc(), words)?),
@@ -132,34 +131,23 @@ impl Groups {
         Ok(())
     }
 
-    /// The area of a closed group is loaded from its device, in whose bytes these numbers were put. What is not closed is taken apart, and
-    /// the table of its area printed as it is read from the area's device.
-    fn load(&mut self, rt: &HostRuntime, numbers: &[&str]) -> Result<(), TrialError> {
+    /// The area of a closed group is loaded from its device. What is not closed is taken apart, and the table of its area printed as it is
+    /// read from the area's device.
+    fn load(&mut self, rt: &HostRuntime, words: &[&str]) -> Result<(), TrialError> {
         match mem::replace(&mut self.made, Made::Nothing) {
             Made::Group(group) => print_table(rt, group.into_parts().1),
             Made::Alone(volume) => print_table(rt, volume.into_parts().1),
-            Made::Closed(closed) => match closed.load(rt.alloc(), numbers)? {
+            Made::Closed(closed) => match closed.load(rt, words)? {
                 Err(fault) => tell(rt, &Err::<(), _>(fault)),
                 Ok(closed) => {
                     self.made = Made::Closed(closed);
-                    tell(rt, &Ok::<(), TrialError>(()))
+                    match *words {
+                        ["load", ..] => tell(rt, &Ok::<(), TrialError>(())),
+                        _ => Ok(()),
+                    }
                 }
             },
             Made::Nothing => Err(TrialError::NoVolume),
-        }
-    }
-
-    /// Prints a part of the bytes of a closed group's area.
-    fn look(&mut self, rt: &HostRuntime, call: &Call) -> Result<(), TrialError> {
-        let Made::Closed(closed) = mem::replace(&mut self.made, Made::Nothing) else {
-            return Err(TrialError::NoVolume);
-        };
-        match closed.look(rt, call.name.as_str(), call.numbers.as_slice())? {
-            Err(_) => Err(TrialError::NotAllowed),
-            Ok(closed) => {
-                self.made = Made::Closed(closed);
-                Ok(())
-            }
         }
     }
 

@@ -3,9 +3,10 @@ ghost use Rattle.volume_device.specs.OnHost.{host_told, host_size};
 ghost use Rattle.mirror_volume.specs.Mirrors.{StandsFor};
 ghost use Rattle.std.specs.Prelude.{IfOk};
 
+use crate::alone::answer;
+use crate::answer::Style;
 use crate::call::Call;
-use crate::content::{buffer, filled_with};
-use crate::making::{device, devices, may_cut};
+use crate::making::{device, devices};
 use crate::plan::Plan;
 use crate::stepping::{stale, step};
 use crate::telling::tell;
@@ -33,20 +34,6 @@ pub fn volume(rt: &HostRuntime, plan: &Plan, blocks: u32, count: u32) -> Result<
     Ok(MirrorVolume::new(rt.alloc(), primary, mirrors)?)
 }
 
-/// Reads a block.
-fn read(rt: &HostRuntime, volume: &mut Volume, block: u32) -> Result<(), TrialError> {
-    let mut out = buffer(rt.alloc())?;
-    let read = volume.read_into(block, out.bytes_mut());
-    tell(rt, &read.map(|()| filled_with(out.bytes())))
-}
-
-/// Reads a block of an image.
-fn image(rt: &HostRuntime, volume: &mut Volume, set: u32, block: u32) -> Result<(), TrialError> {
-    let mut out = buffer(rt.alloc())?;
-    let read = volume.read_image_into(set, block, out.bytes_mut());
-    tell(rt, &read.map(|()| filled_with(out.bytes())))
-}
-
 /// Writes every block, and says how many writes were Ok.
 fn fill(volume: &mut Volume, byte: u8) -> u64 {
     let mut written = 0u64;
@@ -69,8 +56,8 @@ fn steps(volume: &mut Volume, mirror: u32, count: u32) -> Result<u64, TrialError
     Ok(copied)
 }
 
-/// Makes a call that looks at the volume or steps a mirror.
-fn look(rt: &HostRuntime, volume: &mut Volume, call: &Call) -> Result<(), TrialError> {
+/// Makes a call of a volume with mirrors, and prints its answer.
+fn make(rt: &HostRuntime, volume: &mut Volume, call: &Call) -> Result<(), TrialError> {
     match (call.name.as_str(), call.numbers.as_slice()) {
         ("step", [mirror]) => tell(rt, &step(volume, *mirror)?),
         ("steps", [mirror, count]) => tell(rt, &steps(volume, *mirror, *count)?),
@@ -79,25 +66,11 @@ fn look(rt: &HostRuntime, volume: &mut Volume, call: &Call) -> Result<(), TrialE
         ("blocks", []) => tell(rt, &volume.blocks()),
         ("mirrors", []) => tell(rt, &volume.mirrors()),
         ("images", []) => tell(rt, &volume.images()),
-        _ => Err(TrialError::NotAllowed),
-    }
-}
-
-/// Makes a call of a volume with mirrors, and prints its answer.
-fn make(rt: &HostRuntime, volume: &mut Volume, call: &Call) -> Result<(), TrialError> {
-    match (call.name.as_str(), call.numbers.as_slice()) {
-        ("write", [block, byte]) => {
-            tell(
-                rt,
-                &volume.write(*block, &Payload::Fill((*byte % 256) as u8)),
-            )
-        }
-        ("read", [block]) => read(rt, volume, *block),
-        ("image", [set, block]) => image(rt, volume, *set, *block),
-        ("cut", [set]) if may_cut(volume.images(), *set) => tell(rt, &volume.cut(*set)),
-        ("drop", [set]) => tell(rt, &volume.drop_image(*set)),
         ("fill", [byte]) => tell(rt, &fill(volume, (*byte % 256) as u8)),
-        _ => look(rt, volume, call),
+        _ => match answer(rt, volume, call)? {
+            Some(answer) => answer.print(rt, Style::Values),
+            None => Err(TrialError::NotAllowed),
+        },
     }
 }
 
