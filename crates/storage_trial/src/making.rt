@@ -40,23 +40,41 @@ pub fn device(
     Ok(HostDevice::Memory(device.failing(reads, writes, flushes)))
 }
 
-/// Devices with these numbers of blocks. Their names are this word and their places, from 0.
-pub fn devices(
-    rt: &HostRuntime,
-    plan: &Plan,
-    word: &str,
-    blocks: &[u32],
-) -> Result<Vec<HostDevice>, TrialError>
-    ensures count { IfOk result (λ ds. length ds.items ≡ length blocks.now) }
-    ensures zeros { IfOk result (λ ds. All (λ d. IfSome (host_told d) (λ told. told ≡ replicate (host_size d) zeros)) ds.items) }
+/// The devices of volumes with these numbers of blocks: `volume0` and so on.
+fn devices(rt: &HostRuntime, plan: &Plan, blocks: &[u32]) -> Result<Vec<HostDevice>, TrialError>
+    ensures { IfOk result (λ ds. All (λ d. IfSome (host_told d) (λ told. told ≡ replicate (host_size d) zeros)) ds.items) }
 {
     let mut devices = Vec::new(rt.alloc());
     for place in 0..blocks.len() {
-        let name = format!(in rt.alloc(); "{word}{place}")?;
+        let name = format!(in rt.alloc(); "volume{place}")?;
         let made = device(rt, plan, name.as_str(), blocks[place])?;
         devices.push(made)?;
     }
     Ok(devices)
+}
+
+/// The devices of 1 to 8 mirrors of a primary: `mirror0` and so on.
+pub fn mirrors(
+    rt: &HostRuntime,
+    plan: &Plan,
+    primary: &HostDevice,
+    count: u32,
+) -> Result<Vec<HostDevice>, TrialError>
+    ensures some { IfOk result (λ ds. 0 < length ds.items) }
+    ensures few { IfOk result (λ ds. length ds.items ≤ 8) }
+    ensures fits { IfOk result (λ ds. All (λ d. host_size d ≡ host_size primary.now) ds.items) }
+    ensures zeros { IfOk result (λ ds. All (λ d. IfSome (host_told d) (λ told. told ≡ replicate (host_size d) zeros)) ds.items) }
+{
+    if count == 0 || count > 8 {
+        return Err(TrialError::NotAllowed);
+    }
+    let mut mirrors = Vec::new(rt.alloc());
+    for place in 0..count {
+        let name = format!(in rt.alloc(); "mirror{place}")?;
+        let made = device(rt, plan, name.as_str(), primary.blocks())?;
+        mirrors.push(made)?;
+    }
+    Ok(mirrors)
 }
 
 /// Whether these are the numbers of blocks of 1 to 128 volumes.
@@ -129,7 +147,7 @@ pub fn group(
     blocks: &[u32],
 ) -> Result<CowGroup<HostDevice>, TrialError> {
     let area = area(rt, plan, "area", slots, blocks)?;
-    let devices = devices(rt, plan, "volume", blocks)?;
+    let devices = devices(rt, plan, blocks)?;
     if !fit(&devices, &area) {
         return Err(TrialError::NotAllowed);
     }

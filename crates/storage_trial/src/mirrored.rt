@@ -6,7 +6,7 @@ ghost use Rattle.std.specs.Prelude.{IfOk};
 use crate::alone::answer;
 use crate::answer::Style;
 use crate::call::Call;
-use crate::making::{device, devices};
+use crate::making::{device, mirrors};
 use crate::plan::Plan;
 use crate::stepping::{stale, step};
 use crate::telling::tell;
@@ -14,7 +14,7 @@ use crate::trial_error::TrialError;
 use block_data::Payload;
 use mirror_volume::{MirrorVolume, Synced};
 use std::time::Instant;
-use volume_device::{Device, HostDevice};
+use volume_device::HostDevice;
 
 type Volume = MirrorVolume<HostDevice>;
 
@@ -22,15 +22,8 @@ type Volume = MirrorVolume<HostDevice>;
 pub fn volume(rt: &HostRuntime, plan: &Plan, blocks: u32, count: u32) -> Result<Volume, TrialError>
     ensures { IfOk result (λ volume. StandsFor host_told host_size volume fresh) }
 {
-    if count == 0 || count > 8 {
-        return Err(TrialError::NotAllowed);
-    }
-    let sizes = vec![in rt.alloc(); blocks; count as usize]?;
     let primary = device(rt, plan, "primary", blocks)?;
-    let mirrors = devices(rt, plan, "mirror", &sizes)?;
-    if !mirrors.iter().all(|mirror| mirror.blocks() == blocks) {
-        return Err(TrialError::NotAllowed);
-    }
+    let mirrors = mirrors(rt, plan, &primary, count)?;
     Ok(MirrorVolume::new(rt.alloc(), primary, mirrors)?)
 }
 
