@@ -1,0 +1,193 @@
+//! Calls of shards and their journals: one of a shard is made under its lock, one of the journal under the journal's, and a write under the
+//! shard's and then the journal's.
+
+use crate::call::Call;
+use crate::content::{buffer, filled_with, stamped_with};
+use crate::locks::Locks;
+use crate::telling::{say, tell_of};
+use crate::trial_error::TrialError;
+use std::sync::Wait;
+use vss_shards::{Draft, Small, collect, give_back, read_image_on, read_on, write_on};
+
+/// What the bytes of a block are.
+#[derive(Clone, Copy, Debug)]
+enum Content {
+    /// This byte in every place.
+    Fill(u8),
+    /// This number as 8 bytes, the lowest first, again and again.
+    Stamp(u64),
+    Other,
+}
+
+/// The content of a block with these bytes.
+fn content_of(bytes: &[u8]) -> Content {
+    match (filled_with(bytes), stamped_with(bytes)) {
+        (Some(byte), _) => Content::Fill(byte),
+        (None, Some(stamp)) => Content::Stamp(u64::from_le_bytes(stamp)),
+        (None, None) => Content::Other,
+    }
+}
+
+/// Writes a block as often as the first number after it says, or once, and tells the last answer.
+fn write<R: Wait>(
+    rt: &HostRuntime,
+    handle: &R,
+    locks: &Locks,
+    v: u32,
+    block: u32,
+    payload: Small,
+    times: &[u32],
+) -> Result<(), TrialError> {
+    let mut shard = locks.shard(v)?.lock(handle);
+    let mut journal = locks.journal()?.lock(handle);
+    let mut answer = write_on(&mut shard, &mut journal, block, payload);
+    for _ in 1..times.first().copied().unwrap_or(1) {
+        answer = write_on(&mut shard, &mut journal, block, payload);
+    }
+    tell_of(rt, "Write", &answer)
+}
+
+/// Reads a block.
+fn read<R: Wait>(
+    rt: &HostRuntime,
+    handle: &R,
+    locks: &Locks,
+    v: u32,
+    block: u32,
+) -> Result<(), TrialError> {
+    let mut out = buffer(rt.alloc())?;
+    let mut shard = locks.shard(v)?.lock(handle);
+    let read = read_on(&mut shard, block, out.bytes_mut());
+    tell_of(rt, "Read", &read.map(|()| content_of(out.bytes())))
+}
+
+/// Reads a block of an image.
+fn image<R: Wait>(
+    rt: &HostRuntime,
+    handle: &R,
+    locks: &Locks,
+    v: u32,
+    image: u32,
+    block: u32,
+) -> Result<(), TrialError> {
+    let mut out = buffer(rt.alloc())?;
+    let mut shard = locks.shard(v)?.lock(handle);
+    let read = read_image_on(&mut shard, image, block, out.bytes_mut());
+    tell_of(rt, "Image", &read.map(|()| content_of(out.bytes())))
+}
+
+/// The parts of a cut.
+fn tell_cut<R: Wait>(
+    rt: &HostRuntime,
+    handle: &R,
+    locks: &Locks,
+    number: u32,
+) -> Result<(), TrialError> {
+    let journal = locks.journal()?.lock(handle);
+    if number == 0 || number > journal.cuts() {
+        return say(rt, "NotAllowed");
+    }
+    tell_of(rt, "Cut", &journal.cut(number))
+}
+
+/// Makes a call that no draft is for, and says whether it is one.
+pub fn make<R: Wait>(
+    rt: &HostRuntime,
+    handle: &R,
+    locks: &Locks,
+    call: &Call,
+) -> Result<bool, TrialError> {
+    match (call.name.as_str(), call.numbers.as_slice()) {
+        ("fill", [v, block, byte, times @ ..]) => {
+            let payload = Small::Fill((*byte % 256) as u8);
+            write(rt, handle, locks, *v, *block, payload, times)?;
+        }
+        ("stamp", [v, block, stamp, times @ ..]) => {
+            let payload = Small::Stamp(u64::from(*stamp));
+            write(rt, handle, locks, *v, *block, payload, times)?;
+        }
+        ("read", [v, block]) => read(rt, handle, locks, *v, *block)?,
+        ("image", [v, number, block]) => image(rt, handle, locks, *v, *number, *block)?,
+        ("is_held", [v]) => tell_of(rt, "IsHeld", &locks.shard(*v)?.lock(handle).is_held())?,
+        ("volumes", []) => tell_of(rt, "Volumes", &locks.shards()?.volumes())?,
+        ("cuts", []) => tell_of(rt, "Cuts", &locks.journal()?.lock(handle).cuts())?,
+        ("cut", [number]) => tell_cut(rt, handle, locks, *number)?,
+        _ => return Ok(false),
+    }
+    Ok(true)
+}
+
+/// Holds a shard for a draft that is not recorded.
+fn hold<R: Wait>(
+    rt: &HostRuntime,
+    handle: &R,
+    locks: &Locks,
+    draft: &mut Draft,
+    v: u32,
+) -> Result<(), TrialError> {
+    if draft.recorded().is_some() {
+        return say(rt, "NotAllowed");
+    }
+    let mut shard = locks.shard(v)?.lock(handle);
+    tell_of(rt, "Collect", &collect(&mut shard, draft))
+}
+
+/// Records a draft that is not recorded.
+fn record<R: Wait>(
+    rt: &HostRuntime,
+    handle: &R,
+    locks: &Locks,
+    draft: &mut Draft,
+) -> Result<(), TrialError> {
+    if draft.recorded().is_some() {
+        return say(rt, "NotAllowed");
+    }
+    let mut journal = locks.journal()?.lock(handle);
+    tell_of(rt, "Record", &journal.record_cut(draft))
+}
+
+/// Lets a shard of a draft go.
+fn let_go<R: Wait>(
+    rt: &HostRuntime,
+    handle: &R,
+    locks: &Locks,
+    draft: &mut Draft,
+    v: u32,
+) -> Result<(), TrialError> {
+    let mut shard = locks.shard(v)?.lock(handle);
+    if !draft.has(&shard) {
+        return say(rt, "NotAllowed");
+    }
+    give_back(&mut shard, draft);
+    say(rt, "GaveBack")
+}
+
+/// Whether a draft has the part of a shard.
+fn tell_has<R: Wait>(
+    rt: &HostRuntime,
+    handle: &R,
+    locks: &Locks,
+    draft: &Draft,
+    v: u32,
+) -> Result<(), TrialError> {
+    let shard = locks.shard(v)?.lock(handle);
+    tell_of(rt, "Has", &draft.has(&shard))
+}
+
+/// Makes a call that is for a draft.
+pub fn make_for<R: Wait>(
+    rt: &HostRuntime,
+    handle: &R,
+    locks: &Locks,
+    draft: &mut Draft,
+    call: &Call,
+) -> Result<(), TrialError> {
+    match (call.name.as_str(), call.numbers.as_slice()) {
+        ("collect", [v]) => hold(rt, handle, locks, draft, *v),
+        ("give_back", [v]) => let_go(rt, handle, locks, draft, *v),
+        ("has", [v]) => tell_has(rt, handle, locks, draft, *v),
+        ("record", []) => record(rt, handle, locks, draft),
+        ("recorded", []) => tell_of(rt, "Recorded", &draft.recorded()),
+        _ => Err(TrialError::Line),
+    }
+}

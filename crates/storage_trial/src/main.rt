@@ -1,0 +1,133 @@
+//! Trials of storage: `storage_trial SUBJECT` makes the call that each line of its standard input names, and prints on a line what it
+//! answered. The subjects are `cow`, `mirror`, `mirror both`, `catalog`, `recover` and `shards`. Lines of each:
+//!
+//!     # ..                       is passed over, as an empty line is
+//!     subject SUBJECT            another subject begins, of which nothing is made
+//!     fails DEVICE CALL NUMBERS ..    calls fail of a device that is made next: `read`, `write` or `flush`, with the numbers of `1,4-7`
+//!
+//! A line that makes something, as `group`, makes it of zeros, and no call is planned to fail any longer. Of a block that is read the byte
+//! in each place is printed, or that they differ.
+//!
+//! cow: copy-on-write volumes over the devices `volume0`, `volume1` .. and `area`; answers are in words.
+//!
+//!     group VOLUMES BLOCKS SLOTS · files VOLUMES BLOCKS SLOTS (in the folder that it runs in) · alone BLOCKS SLOTS (a volume by itself)
+//!     cut V SET · write V BLOCK BYTE · read V BLOCK · image V SET BLOCK · lend V BLOCK · lend-image V SET BLOCK · drop V SET · revert V SET
+//!     flush V · goes V BLOCK · by V SET · images V · used · sync     without V of a volume by itself
+//!     load      takes it apart, and prints the table of its area as it is read from the area's device
+//!
+//! catalog: the calls of a group as above, and in place of the first line and the last:
+//!
+//!     group SLOTS BLOCKS ..     volumes with these numbers of blocks, which a catalog names C to J, V8, V9 and so on
+//!     up_to V BLOCK · used_by V SET · used V · used_all
+//!     close                     takes the group apart, and prints its catalog; bytes are two digits each
+//!     load BLOCK:AT:NUMBER ..   loads the area of a closed group from its device, in whose bytes these numbers were put
+//!     bytes FIRST COUNT · record SLOT      the same, but prints some of these bytes, or the record of a slot as a view of them lends it
+//!     resume · resume BYTES     takes a closed group up again, with the lists of its catalog, or of the catalog of these bytes
+//!     catalog BYTES             prints a line for each volume of the catalog of these bytes, or why they are none
+//!
+//! mirror: a volume with mirrors over the devices `primary`, `mirror0` .. `mirror7`.
+//!
+//!     volume BLOCKS MIRRORS
+//!     write BLOCK BYTE · read BLOCK · cut SET · image SET BLOCK · drop SET
+//!     step MIRROR · stale MIRROR · ready · blocks · mirrors · images
+//!     fill BYTE                 writes every block; prints how many writes were Ok
+//!     steps MIRROR COUNT        makes so many steps; prints how many copied a block
+//!     clock                     prints the microseconds since the line `clock` before, or the start
+//!
+//! mirror both: the first two lines of these, for volumes of both kinds; the other is over the devices `volume` and `area`.
+//!
+//!     slots COUNT               how many slots the copy-on-write volume has
+//!     resync                    a piece of the list ends here: each mirror is brought into step, and its last answer printed
+//!     end                       the last piece ends here: the volumes are made, and each piece is given to both
+//!
+//! recover: a volume whose newest image writers mend, over the devices `volume`, `area` and `overlay`. A call whose condition is not met is
+//! answered `unmet`.
+//!
+//!     volume BLOCKS SLOTS OVERLAY
+//!     write BLOCK PAYLOAD · recover SET WRITER BLOCK PAYLOAD     PAYLOAD is `fill 7` or `stamp 7`
+//!     read BLOCK · image SET BLOCK                               the first eight bytes, where the block is these again and again
+//!     pre_final SET WRITER FIRST COUNT ..                        with a claim for each three numbers
+//!     cut SET · drop SET · revert SET · post_final · window · images · used · overlay_used
+//!
+//! shards: volumes behind locks of their own, over the devices `volume` and `area`. An empty line begins anew.
+//!
+//!     volume BLOCKS SLOTS · shards             a volume, and shards of the volumes so far with their journal; the calls are on these
+//!     group G · journal J                      ... or on the shards, or the journal, that were made as the Gth, from 0
+//!     draft · draft_of N                       a draft of no parts, or the one that was made as the Nth; the calls are for it
+//!     fill V BLOCK BYTE [TIMES] · stamp V BLOCK NUMBER [TIMES] · read V BLOCK · image V IMAGE BLOCK · is_held V · volumes · cuts · cut NUMBER
+//!     collect V · give_back V · has V · record · recorded
+//!     gather                                   after it no call is made but of gather
+//!     threads WRITES CUTS                      a writer of each shard, and one who makes cuts of all, in threads; prints each writer's entries
+//!
+//! It is a program for the checks, and promises nothing of its own.
+#![tactic(auto)]
+
+mod alone;
+mod answer;
+mod both;
+mod call;
+mod closed;
+mod content;
+mod grouped;
+mod groups;
+mod locked;
+mod locks;
+mod making;
+mod mirrored;
+mod new_volumes;
+mod plan;
+mod recovering;
+mod sharded;
+mod stepping;
+mod telling;
+mod trial;
+mod trial_error;
+mod writing;
+
+use std::env;
+use std::process::ExitCode;
+use std::sync::Wait;
+use std::thread::Threads;
+use trial::Trial;
+use trial_error::TrialError;
+
+/// The trial of the subject that the words of the command name.
+fn trial_of_words(rt: &HostRuntime) -> Result<Trial, TrialError> {
+    let mut words = String::new(rt.alloc());
+    for word in env::args(rt)?.skip(1) {
+        words.push_str(word.as_str())?;
+        words.push(' ')?;
+    }
+    let words: Vec<&str> = words.as_str().split_whitespace().collect(rt.alloc())?;
+    Trial::of(rt, &words)
+}
+
+/// Takes a line.
+fn take_line<R: Threads + Wait + Sync>(
+    rt: &HostRuntime,
+    handle: &R,
+    trial: &mut Trial,
+    line: &str,
+) -> Result<(), TrialError> {
+    let words: Vec<&str> = line.split_whitespace().collect(rt.alloc())?;
+    trial.take(rt, handle, &words)
+}
+
+/// Takes all lines of the standard input, in order.
+fn take_lines<R: Threads + Wait + Sync>(rt: &HostRuntime, handle: &R) -> Result<(), TrialError> {
+    let mut trial = trial_of_words(rt)?;
+    for line in rt.lines(rt.alloc()) {
+        take_line(rt, handle, &mut trial, line?.as_str())?;
+    }
+    Ok(())
+}
+
+fn main(rt: HostRuntime) -> ExitCode {
+    match take_lines(&rt, &rt) {
+        Ok(()) => ExitCode::SUCCESS,
+        Err(error) => {
+            let _ = eprintln!(rt; "storage_trial: {error}");
+            ExitCode::from(70)
+        }
+    }
+}
