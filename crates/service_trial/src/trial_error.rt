@@ -5,7 +5,7 @@ use vss_names::{Failed, OutOfMemory};
 use vss_play::{PlayFault, StepFault};
 
 /// Why a trial was not made.
-#[derive(Clone, Copy, Debug, PartialEq, Eq)]
+#[derive(Clone, Copy)]
 pub enum TrialError {
     /// The words are none of this program's.
     Words,
