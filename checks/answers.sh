@@ -1,13 +1,7 @@
 #!/usr/bin/env bash
 # docs/ANSWERS.md names lines of examples: each is such a line, and its report has that answer. And examples/README.md has every example
 # and no other. It needs no program.
-set -u
-cd "$(dirname "$0")/.." || exit 70
-failed=0
-complain() {
-  echo "answers: $1" >&2
-  failed=1
-}
+. "$(dirname "${BASH_SOURCE[0]}")/prelude.sh" || exit 70
 
 # what a line of an example is answered in a report, or nothing
 reply_of() { sed -nE "s/^[0-9]+ lane [^ ]+ $2 //p" "examples/$1.report"; }
@@ -16,21 +10,21 @@ reply_of() { sed -nE "s/^[0-9]+ lane [^ ]+ $2 //p" "examples/$1.report"; }
 # fails so in it, or with nothing
 holds() {
   local answer="$1" words="$2" name="$3" number="$4" line word
-  [ -f "examples/$name.scenario" ] || { complain "there is no example $name"; return; }
+  [ -f "examples/$name.scenario" ] || { wrong "there is no example $name"; return; }
   case "$number" in
     "") return ;;
     fails)
-      grep -qE "^= set [0-9]+ failed ${answer##*, }" "examples/$name.report" || complain "no set fails with $answer in $name"
+      grep -qE "^= set [0-9]+ failed ${answer##*, }" "examples/$name.report" || wrong "no set fails with $answer in $name"
       return
       ;;
   esac
   line="$(sed -n "${number}p" "examples/$name.scenario")"
   word="${line%% *}"
-  [ -z "$words" ] || [[ " $words " = *" $word "* ]] || complain "line $number of $name is \`$line\`, and none of: $words"
+  [ -z "$words" ] || [[ " $words " = *" $word "* ]] || wrong "line $number of $name is \`$line\`, and none of: $words"
   line="$(reply_of "$name" "$number")"
-  [ -n "$line" ] || complain "line $number of $name is answered nothing"
+  [ -n "$line" ] || wrong "line $number of $name is answered nothing"
   case "$answer" in \**|\`*) return ;; esac
-  [ "${line%% *}" = "${answer%% *}" ] || complain "line $number of $name is answered $line, and not $answer"
+  [ "${line%% *}" = "${answer%% *}" ] || wrong "line $number of $name is answered $line, and not $answer"
 }
 
 many=0
@@ -53,13 +47,12 @@ done < <(LC_ALL=C awk -F ' *[|] *' '
       print $2 "|" words "|" name "|" number
     }
   }' docs/ANSWERS.md)
-[ "$many" -gt 40 ] || complain "docs/ANSWERS.md names $many lines of examples only"
+[ "$many" -gt 40 ] || wrong "docs/ANSWERS.md names $many lines of examples only"
 
 for scenario in examples/*.scenario; do
-  grep -qF "(${scenario#examples/})" examples/README.md || complain "examples/README.md does not name $scenario"
+  grep -qF "(${scenario#examples/})" examples/README.md || wrong "examples/README.md does not name $scenario"
 done
 while read -r linked; do
-  [ -f "examples/$linked" ] || complain "examples/README.md names $linked, which is not there"
+  [ -f "examples/$linked" ] || wrong "examples/README.md names $linked, which is not there"
 done < <(grep -oE '\([a-z_]+\.scenario\)' examples/README.md | tr -d '()')
-[ "$failed" = 0 ] && echo "answers: $many, each as an example has it"
-exit "$failed"
+ends "$many, each as an example has it"

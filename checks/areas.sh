@@ -1,14 +1,9 @@
 #!/usr/bin/env bash
 # The listing of an area is what the program writes of it, and what is no area is refused by what is first wrong: each field of the header
-# and of three records is set to 0, to 1 and to 4,294,967,295 in turn. It is the proved program, or the one that is named.
-set -u
-top="$(cd "$(dirname "$0")/.." && pwd)" || exit 70
-. "$top/tools/program.sh"
-program="$(program_to_check "$@")" || exit 1
-cd "$top" || exit 70
-failed=0 rows=0
-room="$(mktemp -d)"
-trap 'rm -rf "$room"' EXIT
+# and of three records is set to 0, to 1 and to 4,294,967,295 in turn.
+. "$(dirname "${BASH_SOURCE[0]}")/prelude.sh" || exit 70
+vss="$(program vss)" || exit 1
+rows=0
 
 zeros() { head -c "$1" /dev/zero; }
 
@@ -25,11 +20,8 @@ zeros() { head -c "$1" /dev/zero; }
 compare() {
   local what="$1" area="$2" wanted="$3" said
   rows=$((rows + 1))
-  said="$("$program" inspect < "$area" 2>&1)" || said="$? $said"
-  if [ "$said" != "$wanted" ]; then
-    echo "areas: of $what it is said: $said, and not: $wanted" >&2
-    failed=1
-  fi
+  said="$("$vss" inspect < "$area" 2>&1)" || said="$? $said"
+  [ "$said" = "$wanted" ] || wrong "of $what it is said: $said, and not: $wanted"
 }
 
 # the listing of an area of this layout whose slot 1 has the copy of a block for a set
@@ -121,5 +113,4 @@ for size in 7 16384 49151 49153; do
   esac
 done
 
-[ "$failed" = 0 ] && echo "areas: $rows listed or refused as written"
-exit "$failed"
+ends "$rows listed or refused as written"

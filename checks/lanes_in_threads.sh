@@ -1,18 +1,9 @@
 #!/usr/bin/env bash
-# Two hundred runs of a scenario whose lanes are active at the same time, from the proved program, or the one that is named: each report has
-# each lane line once, in order, and they are not all alike. That each is the report of its own legal and complete trail is proved (`run`,
-# clause `status`).
-set -u
-top="$(cd "$(dirname "$0")/.." && pwd)" || exit 70
-. "$top/tools/program.sh"
-program="$(program_to_check "$@")" || exit 1
-room="$(mktemp -d)"
-trap 'rm -rf "$room"' EXIT
-# a build without a proof is slow
-case "$program" in
-  *-unproved) runs=20 ;;
-  *) runs=200 ;;
-esac
+# Two hundred runs of a scenario whose lanes are active at the same time: each report has each lane line once, in order, and they are not all
+# alike. That each is the report of its own legal and complete trail is proved (`run`, clause `status`).
+. "$(dirname "${BASH_SOURCE[0]}")/prelude.sh" || exit 70
+vss="$(program vss)" || exit 1
+runs=200
 lanes=4
 lines=12
 {
@@ -24,22 +15,14 @@ lines=12
   done
 } > "$room/scenario"
 for run in $(seq "$runs"); do
-  if ! "$program" run < "$room/scenario" > "$room/report.$run"; then
-    echo "lanes_in_threads: run $run ended with another status than 0" >&2
-    exit 1
-  fi
+  "$vss" run < "$room/scenario" > "$room/report.$run" || wrong "run $run ended with another status than 0"
   for lane in $(seq "$lanes"); do
     # A move tells its line by its number in the scenario.
     first=$((lanes + 3 + (lane - 1) * (lines + 1)))
-    if [ "$(awk -v lane="l$lane" '$2 == "lane" && $3 == lane { printf "%s ", $4 }' "$room/report.$run")" != "$(seq -s ' ' "$first" $((first + lines - 1))) " ]; then
-      echo "lanes_in_threads: run $run has not each line of l$lane once, in order" >&2
-      exit 1
-    fi
+    made="$(awk -v lane="l$lane" '$2 == "lane" && $3 == lane { print $4 }' "$room/report.$run")"
+    [ "$made" = "$(seq "$first" $((first + lines - 1)))" ] || wrong "run $run has not each line of l$lane once, in order"
   done
 done
 kinds="$(sha256sum "$room"/report.* | awk '{ print $1 }' | sort -u | wc -l)"
-if [ "$kinds" = 1 ]; then
-  echo "lanes_in_threads: all $runs reports are alike" >&2
-  exit 1
-fi
-echo "lanes_in_threads: $runs runs, each with each line once, in order; $kinds different reports"
+[ "$kinds" != 1 ] || wrong "all $runs reports are alike"
+ends "$runs runs, each with each line once, in order; $kinds different reports"

@@ -1,34 +1,24 @@
 #!/usr/bin/env bash
 # Inputs of the greatest size and beyond: one line of sixteen MiB in each place that can have it, a hundred thousand empty lines, documents that nest
-# deeply, and numbers of millions of digits, each read or refused for its reason, in less than a stated memory. It is the proved program, or the one
-# that is named; a build without a proof is slow at reading, and is given smaller ones.
-set -u
-top="$(cd "$(dirname "$0")/.." && pwd)" || exit 70
-. "$top/tools/program.sh"
-program="$(program_to_check "$@")" || exit 1
-failed=0 rows=0
+# deeply, and numbers of millions of digits, each read or refused for its reason, in less than 1,000,000 KiB of addresses.
+. "$(dirname "${BASH_SOURCE[0]}")/prelude.sh" || exit 70
+vss="$(program vss)" || exit 1
+rows=0
 most=16777216
-err="$(mktemp)"
-trap 'rm -f "$err"' EXIT
 remarks=500000
-case "$program" in *-unproved) most=65536 remarks=5000 ;; esac
+addresses=1000000
+# the slow build takes all addresses for its own use
+if is_slow "$vss"; then addresses=unlimited; fi
 
 # what is wanted on the standard error, and what was given; the input comes on the standard input
 says() {
   local wanted="$1" what="$2" status said
   rows=$((rows + 1))
-  # a build without a proof takes addresses for its own use
-  (
-    case "$program" in *-unproved) ;; *) ulimit -v 1000000 ;; esac
-    exec "$program" run
-  ) > /dev/null 2> "$err"
+  (ulimit -v "$addresses" && exec "$vss" run) > /dev/null 2> "$room/err"
   status=$?
-  said="$(cat "$err")"
+  said="$(cat "$room/err")"
   case "$status" in 0 | 3 | 8) ;; *) said="status $status $said" ;; esac
-  if [ "$said" != "$wanted" ]; then
-    echo "large_input: of $what it is said \"$said\", and not \"$wanted\"" >&2
-    failed=1
-  fi
+  [ "$said" = "$wanted" ] || wrong "of $what it is said \"$said\", and not \"$wanted\""
 }
 
 # so many of one letter, without a newline
@@ -85,5 +75,4 @@ says "vss: line 2: BadDocument" "objects in objects" < <(printf 'scenario 1\nwri
 says "vss: input too long" "a byte too many" < <(filled '' '#' '\n' 16777217)
 says "vss: input too long" "a newline too many" < <(many '\n' 16777217)
 
-[ "$failed" = 0 ] && echo "large_input: $rows read or refused as written"
-exit "$failed"
+ends "$rows read or refused as written, with $addresses KiB of addresses"

@@ -1,12 +1,8 @@
 #!/usr/bin/env bash
 # What ./vss says below the program's line: the text of a refused line, where the input is a file, and what the reason asks for; how
 # the program is used, where the words are wrong. And that it leaves line, status and report as they are.
-set -u
-top="$(cd "$(dirname "$0")/.." && pwd)" || exit 70
-. "$top/tools/explain.sh"
-failed=0
-room="$(mktemp -d)"
-trap 'rm -rf "$room"' EXIT
+. "$(dirname "${BASH_SOURCE[0]}")/prelude.sh" || exit 70
+. tools/explain.sh
 
 # what has to be said, a line and its reason, and the input with \n for newlines
 tells() {
@@ -15,10 +11,7 @@ tells() {
   said="$(explain 3 "vss: line $line" run < "$room/input")"
   case "$said" in
     *"$wanted"*) ;;
-    *)
-      echo "messages: of \"$3\" and $line it is said: $said" >&2
-      failed=1
-      ;;
+    *) wrong "of \"$3\" and $line it is said: $said" ;;
   esac
 }
 
@@ -68,22 +61,17 @@ printf 'scenario 1\nvolume C 4 4\nlane a\nwrite C 4 fill 1\n' > "$room/bad"
 "$top/vss" run < "$room/bad" > "$room/out" 2> "$room/err"
 status=$?
 if [ "$status" != 3 ] || [ -s "$room/out" ] || ! grep -qx 'vss: line 4: OutOfRange' "$room/err" || ! grep -q '^     block is 0 to 3' "$room/err"; then
-  echo "messages: ./vss ended with $status and said: $(cat "$room/err")" >&2
-  failed=1
+  wrong "./vss ended with $status and said: $(cat "$room/err")"
 fi
 "$top/vss" run "$room/bad" < "$room/bad" > "$room/out" 2> "$room/err"
 if [ "$?" != 3 ] || [ -s "$room/out" ] || ! grep -qF "./vss run < $room/bad" "$room/err"; then
-  echo "messages: of the words \`run FILE\` ./vss said: $(cat "$room/err")" >&2
-  failed=1
+  wrong "of the words \`run FILE\` ./vss said: $(cat "$room/err")"
 fi
 "$top/vss" run "$room/none" < "$top/examples/first.scenario" > "$room/out" 2> "$room/err"
 if [ "$?" != 6 ] || [ -s "$room/out" ] || ! grep -qx 'vss: device fault' "$room/err" || ! grep -qF "mkdir $room/none" "$room/err"; then
-  echo "messages: of a folder that is not there ./vss said: $(cat "$room/err")" >&2
-  failed=1
+  wrong "of a folder that is not there ./vss said: $(cat "$room/err")"
 fi
 if ! "$top/vss" run < "$top/examples/first.scenario" 2> /dev/null | cmp -s - "$top/examples/first.report"; then
-  echo "messages: ./vss has another report than the program" >&2
-  failed=1
+  wrong "./vss has another report than the program"
 fi
-[ "$failed" = 0 ] && echo "messages: as a person needs them"
-exit "$failed"
+ends "as a person needs them"

@@ -1,25 +1,19 @@
 #!/usr/bin/env bash
-# Bad words and bad input get their status, one line on the standard error, and nothing on the standard output, from the proved
-# program, or the one that is named.
-set -u
-top="$(cd "$(dirname "$0")/.." && pwd)" || exit 70
-. "$top/tools/program.sh"
-program="$(program_to_check "$@")" || exit 1
-failed=0
+# Bad words and bad input get their status, one line on the standard error, and nothing on the standard output.
+. "$(dirname "${BASH_SOURCE[0]}")/prelude.sh" || exit 70
+vss="$(program vss)" || exit 1
 
 # status, the line on the standard error, the input with \n for newlines, and the words
 refuses() {
   local status="$1" line="$2" input="$3"
   shift 3
-  local out err got
-  err="$(mktemp)"
-  out="$(printf "$input" | "$program" "$@" 2> "$err")"
+  local out got
+  # shellcheck disable=SC2059
+  out="$(printf "$input" | "$vss" "$@" 2> "$room/err")"
   got=$?
-  if [ "$got" != "$status" ] || [ "$(cat "$err")" != "$line" ] || [ -n "$out" ]; then
-    echo "refusal: \`vss $*\` of \"$input\" ended with $got and \"$(cat "$err")\", and not with $status and \"$line\"" >&2
-    failed=1
+  if [ "$got" != "$status" ] || [ "$(cat "$room/err")" != "$line" ] || [ -n "$out" ]; then
+    wrong "\`vss $*\` of \"$input\" ended with $got and \"$(cat "$room/err")\", and not with $status and \"$line\""
   fi
-  rm -f "$err"
 }
 
 refuses 2 "vss: usage" "scenario 1\n"
@@ -36,5 +30,4 @@ refuses 9 "vss: area header Magic 0" "" inspect
 refuses 9 "vss: area header Magic 1852138355" "scenario 1\n" inspect
 refuses 9 "vss: area header Layout 3" "VSSAREA1\003\000\000\000" inspect
 refuses 9 "vss: area header Slots 2" "VSSAREA1\002\000\000\000\002\000\000\000" inspect
-[ "$failed" = 0 ] && echo "refusals: as written"
-exit "$failed"
+ends "as written"

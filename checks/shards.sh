@@ -1,45 +1,21 @@
 #!/usr/bin/env bash
 # Volumes behind locks of their own (`vss_shards`): each call with each of its answers, in the order in which causes are told; two writers and one
-# who makes a cut, in every order of their calls; the most images, cuts and entries; and writers and cuts in threads. The program is
-# `shards_trial`, as `rt ci` proved it. What has to be answered stands in checks/shards/, a line "CALL => REPLY" each, or is computed by the
-# scripts there, which know nothing of the program.
-set -u
-top="$(cd "$(dirname "$0")/.." && pwd)" || exit 70
-if [ "$#" != 0 ]; then
-  echo "shards: left out of a build without a proof"
-  exit 0
-fi
-trial="$top/crates/shards_trial/out/shards_trial"
-if [ ! -x "$trial" ]; then
-  echo "shards: there is no $trial: run rt ci first" >&2
-  exit 1
-fi
-cd "$top/checks/shards" || exit 70
-failed=0
-room="$(mktemp -d)"
-trap 'rm -rf "$room"' EXIT
+# who makes a cut, in every order of their calls; the most images, cuts and entries; and writers and cuts in threads. What has to be answered
+# stands in checks/shards/, or is computed by the scripts there, which know nothing of the program.
+. "$(dirname "${BASH_SOURCE[0]}")/prelude.sh" || exit 70
+trial="$(program storage_trial)" || exit 1
+cd checks/shards || exit 70
 
-wrong() {
-  echo "shards: $*" >&2
-  failed=1
-}
-
-# Makes the calls of the lines "CALL => REPLY" of a file, and holds each reply against the one that is told there.
-calls=0
-replied() {
-  local name="$1" file="$2"
-  grep -v '^#' "$file" | sed 's/ => .*//' > "$room/calls"
-  grep -v '^#' "$file" | sed 's/.* => //' > "$room/wanted"
-  calls=$((calls + $(grep -c ' => ' "$file")))
-  "$trial" < "$room/calls" > "$room/replies" || wrong "$name: status $?"
-  cmp -s "$room/wanted" "$room/replies" ||
-    wrong "$name: $(paste -d '|' "$room/calls" "$room/wanted" "$room/replies" | awk -F '|' '$2 != $3 { print "line " NR ": \"" $1 "\" is answered " $3 " and not " $2; exit }')"
+# Makes the calls of rows; an empty line begins anew.
+begun_anew() {
+  sed 's/^$/subject shards/' "$1" > "$room/anew_${1##*/}"
+  replied "$room/anew_${1##*/}" "$trial" shards
 }
 
 # ## each call
 
-for file in *.calls; do
-  replied "$file" "$file"
+for rows in *.rows; do
+  begun_anew "$rows"
 done
 
 # ## every order of the calls of two writers and a cut
@@ -47,7 +23,7 @@ done
 python3 orders.py > "$room/orders" || wrong "the orders were not made"
 orders="$(grep -c '^gather' "$room/orders")"
 [ "$orders" = 1176 ] || wrong "$orders orders"
-replied "orders" "$room/orders"
+begun_anew "$room/orders"
 
 # ## the most images, cuts and entries
 
@@ -58,7 +34,7 @@ awk 'BEGIN {
   print "fill 0 0 1 => Write(Ok(1))\nimage 0 1 0 => Image(Ok(Fill(0)))\nimage 0 512 0 => Image(Ok(Fill(0)))\nimage 0 513 0 => Image(Err(NoSuchImage))"
   print "cut 512 => Cut([Part { volume: 0, image: 512, count: 0 }])\ngather => Gather(Ok(()))"
 }' > "$room/images"
-replied "images" "$room/images"
+replied "$room/images" "$trial" shards
 
 awk 'BEGIN {
   print "volume 1 1 => Done\nshards => Done\nfill 0 0 1 => Write(Ok(1))\nvolume 1 1 => Done\nshards => Done"
@@ -67,7 +43,7 @@ awk 'BEGIN {
   print "group 0 => Done\ncollect 0 => Collect(Ok(()))\nrecord => Record(Err(Full))\nrecorded => Recorded(None)\ncuts => Cuts(65536)"
   print "journal 0 => Done\nrecord => Record(Ok(1))"
 }' > "$room/cuts"
-replied "cuts" "$room/cuts"
+replied "$room/cuts" "$trial" shards
 
 cat > "$room/entries" << 'END'
 volume 2 1 => Done
@@ -95,17 +71,16 @@ give_back 0 => GaveBack
 image 0 1 1 => Image(Ok(Fill(2)))
 gather => Gather(Err(Differs { volume: 1, at: 0, listed: Some(Entry { volume: 1, block: 0, payload: Fill(3) }), journalled: None }))
 END
-replied "entries" "$room/entries"
+replied "$room/entries" "$trial" shards
 
 # ## in threads
 
 between=0
 python3 in_threads.py calls > "$room/threads"
 for run in $(seq 12); do
-  "$trial" < "$room/threads" > "$room/replies" || wrong "run $run in threads: status $?"
+  "$trial" shards < "$room/threads" > "$room/replies" || wrong "run $run in threads: status $?"
   python3 in_threads.py so < "$room/replies" > "$room/so" || wrong "run $run in threads: $(grep -v ': true$' "$room/so" | tr '\n' ';')"
   between=$((between + $(awk '/^cuts between writes/ { print $4 }' "$room/so")))
 done
 
-[ "$failed" = 0 ] && echo "shards: $calls calls, $orders orders of two writers and a cut, 12 runs of three writers and 12 cuts in threads, $between of the cuts between writes"
-exit "$failed"
+ends "$replies calls, $orders orders of two writers and a cut, 12 runs of three writers and 12 cuts in threads, $between of the cuts between writes"

@@ -1,42 +1,23 @@
 #!/usr/bin/env bash
 # `vss_timeline` draws each example: as a drawing with one element for each move and no other, and as lines of at most 100 bytes. Two of
-# them are kept, and are drawn again byte for byte. A long report is drawn in seconds. What is no report, and words that ask for nothing,
-# have their status. It is the program that `rt ci` proved, as LLVM and, where that is there, as Rattle's own compiler builds it.
-set -u
-top="$(cd "$(dirname "$0")/.." && pwd)" || exit 70
-if [ "$#" != 0 ]; then
-  echo "timeline: left out of a build without a proof"
-  exit 0
-fi
-proved="$top/crates/vss_timeline/out/vss_timeline"
-if [ ! -x "$proved" ]; then
-  echo "timeline: there is no $proved: run rt ci first" >&2
-  exit 1
-fi
-programs=("$proved")
-[ -x "$proved.by-rattle" ] && programs+=("$proved.by-rattle")
-cd "$top" || exit 70
+# them are kept, and are drawn again byte for byte. A long report is drawn in less than a minute. What is no report, and words that ask for nothing,
+# have their status. It is drawn by the program as LLVM and, where that is there, as Rattle's own compiler builds it.
+. "$(dirname "${BASH_SOURCE[0]}")/prelude.sh" || exit 70
+builds="$(programs vss_timeline)" || exit 1
+mapfile -t builds <<< "$builds"
 scenarios=(examples/*.scenario)
-failed=0
-room="$(mktemp -d)"
-trap 'rm -rf "$room"' EXIT
-
-fail() {
-  echo "timeline: $*" >&2
-  failed=1
-}
 
 # draws an example by a program, in both forms, with the scenario beside it and without
 draws() {
   local program="$1" scenario="$2" report="${2%.scenario}.report" moves
   moves="$(grep -c '^[0-9]' "$report")"
-  "$program" "$scenario" "$report" > "$room/with.svg" || fail "$report is not drawn"
-  "$program" < "$report" > "$room/alone.svg" || fail "$report is not drawn alone"
-  "$program" --text "$scenario" "$report" > "$room/with.txt" || fail "$report has no lines"
-  [ "$(grep -c '^<g><title>' "$room/with.svg")" = "$moves" ] || fail "$report: a move is not drawn once"
-  [ "$(grep -c '^<g><title>' "$room/alone.svg")" = "$moves" ] || fail "$report: a move is not drawn once where it is alone"
-  grep -q '<script' "$room/with.svg" && fail "$report: a script is drawn"
-  LC_ALL=C awk 'length > 100 { exit 1 }' "$room/with.txt" || fail "$report: a line is longer than 100 bytes"
+  "$program" "$scenario" "$report" > "$room/with.svg" || wrong "$report is not drawn"
+  "$program" < "$report" > "$room/alone.svg" || wrong "$report is not drawn alone"
+  "$program" --text "$scenario" "$report" > "$room/with.txt" || wrong "$report has no lines"
+  [ "$(grep -c '^<g><title>' "$room/with.svg")" = "$moves" ] || wrong "$report: a move is not drawn once"
+  [ "$(grep -c '^<g><title>' "$room/alone.svg")" = "$moves" ] || wrong "$report: a move is not drawn once where it is alone"
+  grep -q '<script' "$room/with.svg" && wrong "$report: a script is drawn"
+  LC_ALL=C awk 'length > 100 { exit 1 }' "$room/with.txt" || wrong "$report: a line is longer than 100 bytes"
 }
 
 # answers a report with a status, and with this line
@@ -46,18 +27,18 @@ answers() {
   said="$("$program" "$@" 2>&1 > "$room/out" < "$room/in")"
   status=$?
   if [ "$status" != "$wanted" ] || [ "$said" != "$line" ] || [ -s "$room/out" ]; then
-    fail "\`vss_timeline $*\`: status $status, $said"
+    wrong "\`vss_timeline $*\`: status $status, $said"
   fi
 }
 
-for program in "${programs[@]}"; do
+for program in "${builds[@]}"; do
   for scenario in "${scenarios[@]}"; do
     draws "$program" "$scenario"
   done
   "$program" examples/database_and_log.scenario examples/database_and_log.report | cmp -s - docs/pictures/database_and_log.svg ||
-    fail "docs/pictures/database_and_log.svg is another drawing"
+    wrong "docs/pictures/database_and_log.svg is another drawing"
   "$program" --text examples/full_area.scenario examples/full_area.report | cmp -s - docs/pictures/full_area.txt ||
-    fail "docs/pictures/full_area.txt has other lines"
+    wrong "docs/pictures/full_area.txt has other lines"
   printf 'report 1\n1 idle 5\nscenario 1\n' > "$room/in"
   answers "$program" 3 "vss_timeline: line 3: no line of a report"
   printf 'report 1\n\377\n' > "$room/in"
@@ -90,7 +71,6 @@ awk 'BEGIN {
 for words in "" --text; do
   # no word is no word
   # shellcheck disable=SC2086
-  timeout 30 "$proved" $words < "$room/long.report" > "$room/long" || fail "a report of 200,000 moves is not drawn in 30 seconds"
+  (ulimit -t 60 && exec "${builds[0]}" $words) < "$room/long.report" > "$room/long" || wrong "a report of 200,000 moves is not drawn in a minute of a processor"
 done
-[ "$failed" = 0 ] && echo "timeline: ${#scenarios[@]} examples are drawn, by ${#programs[@]} builds"
-exit "$failed"
+ends "${#scenarios[@]} examples are drawn, by ${#builds[@]} builds"

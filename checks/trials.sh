@@ -1,27 +1,10 @@
 #!/usr/bin/env bash
 # The service over streams and devices in memory: runs in a given order of moves have their reports; both volumes of a set are cut at one moment
 # in each of 126 orders; each call of the source, the sink and the devices that fails, alone or with all that follow, leads to a status
-# that it may have; and each first part of a text is read or refused at its last line. The program is `vss_trial`, as `rt ci` proved it.
-set -u
-top="$(cd "$(dirname "$0")/.." && pwd)" || exit 70
-if [ "$#" != 0 ]; then
-  echo "trials: left out of a build without a proof"
-  exit 0
-fi
-trial="$top/crates/vss_trial/out/vss_trial"
-if [ ! -x "$trial" ]; then
-  echo "trials: there is no $trial: run rt ci first" >&2
-  exit 1
-fi
-cd "$top/checks/trials" || exit 70
-failed=0
-room="$(mktemp -d)"
-trap 'rm -rf "$room"' EXIT
-
-wrong() {
-  echo "trials: $*" >&2
-  failed=1
-}
+# that it may have; and each first part of a text is read or refused at its last line.
+. "$(dirname "${BASH_SOURCE[0]}")/prelude.sh" || exit 70
+trial="$(program service_trial)" || exit 1
+cd checks/trials || exit 70
 
 # ## a given order of moves
 
@@ -33,13 +16,6 @@ while read -r name words; do
   # shellcheck disable=SC2086
   "$trial" $words < "$name.scenario" 2>&1 | cmp -s - "$name.report" || wrong "$name: another report"
 done < rows
-
-rows=$((rows + 1))
-"$trial" moves aaaapppppppaaaaa < "$top/examples/first.scenario" 2>&1 | cmp -s - "$top/examples/first.report" || wrong "the first example: another report"
-
-# a device of which some read is to fail lends nothing, so that its blocks are read one by one: the same bytes come out
-"$trial" run -- C.vol read 1000000 C.area read 1000000 < "$top/examples/first.scenario" 2> /dev/null | cmp -s - "$top/examples/first.report" ||
-  wrong "another report where no device lends"
 
 # The letters of a set over two volumes with four writes at these places: each after so many of the other moves. Prints how many of
 # them come before the cut, whether one has to wait, and the letters. Writes 1 and 3 are of the first volume, which is held from move
@@ -93,7 +69,7 @@ report="$top/examples/first.report"
 
 # Runs the first example with failing calls, and holds its status against what was counted.
 fails() {
-  "$trial" run -- "$@" < "$first" > "$room/out" 2> "$room/err"
+  "$trial" run -- fails "$@" < "$first" > "$room/out" 2> "$room/err"
   local status=$? made back faults source sink marks
   read -r _ made _ back _ faults _ source _ sink _ < <(tail -n 1 "$room/err")
   marks="$(grep -c ' fault$' "$room/out")"
@@ -144,5 +120,4 @@ for ((n = 0; n < size; n++)); do
   case "$said" in "$wanted"*) ;; *) wrong "the first $n bytes: \"$said\" and not \"$wanted\"" ;; esac
 done
 
-[ "$failed" = 0 ] && echo "trials: $rows given orders, $count orders of one cut, ${statuses[*]} runs with failing calls, $size first parts"
-exit "$failed"
+ends "$rows given orders, $count orders of one cut, ${statuses[*]} runs with failing calls, $size first parts"

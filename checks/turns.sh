@@ -1,19 +1,8 @@
 #!/usr/bin/env bash
 # 64 lanes, 64 writers and the provider, each with a thread and a seat at one turn: the gate is told once before and once after each step, in each
-# of ten runs, whatever the threads do, and each lane line is made once. The program is `vss_trial`, as `rt ci` proved it.
-set -u
-top="$(cd "$(dirname "$0")/.." && pwd)" || exit 70
-if [ "$#" != 0 ]; then
-  echo "turns: left out of a build without a proof"
-  exit 0
-fi
-trial="$top/crates/vss_trial/out/vss_trial"
-if [ ! -x "$trial" ]; then
-  echo "turns: there is no $trial: run rt ci first" >&2
-  exit 1
-fi
-room="$(mktemp -d)"
-trap 'rm -rf "$room"' EXIT
+# of ten runs, whatever the threads do, and each lane line is made once.
+. "$(dirname "${BASH_SOURCE[0]}")/prelude.sh" || exit 70
+trial="$(program service_trial)" || exit 1
 {
   echo "scenario 1"
   echo "volume C 1 1"
@@ -31,20 +20,15 @@ trap 'rm -rf "$room"' EXIT
 } > "$room/scenario"
 lines=$((64 + 2 * 13))
 for run in 1 2 3 4 5 6 7 8 9 10; do
-  if ! "$trial" run < "$room/scenario" > "$room/report" 2> "$room/told"; then
-    echo "turns: run $run ended with another status than 0" >&2
-    exit 1
-  fi
+  "$trial" run < "$room/scenario" > "$room/report" 2> "$room/told" || wrong "run $run ended with another status than 0"
   read -r _ _ _ _ _ _ _ _ _ _ _ before _ after < "$room/told"
   if [ "$before" != "$after" ] || [ "$before" -lt 129 ]; then
-    echo "turns: run $run: the gate was told $before times before a step, and $after times after one" >&2
-    exit 1
+    wrong "run $run: the gate was told $before times before a step, and $after times after one"
   fi
   made="$(awk '$2 == "lane" { print $3, $4 }' "$room/report" | sort -u | wc -l)"
   all="$(grep -c '^[0-9]* lane ' "$room/report")"
   if [ "$made" != "$lines" ] || [ "$all" != "$lines" ]; then
-    echo "turns: run $run made $made of $lines lane lines, $all moves" >&2
-    exit 1
+    wrong "run $run made $made of $lines lane lines, $all moves"
   fi
 done
-echo "turns: 10 runs of 129 actors; the last gate was told $before times before a step, and as often after one"
+ends "10 runs of 129 actors; the last gate was told $before times before a step, and as often after one"

@@ -1,26 +1,18 @@
 #!/usr/bin/env bash
-# Which words are a command, of the program, the proved one or the one that is named; that ./vss takes none of them for wrong words; and
-# that a link to ./vss is ./vss.
-set -u
-top="$(cd "$(dirname "$0")/.." && pwd)" || exit 70
-. "$top/tools/program.sh"
-program="$(program_to_check "$@")" || exit 1
-program="$(readlink -f "$program")"
-failed=0
-room="$(mktemp -d)"
-trap 'rm -rf "$room"' EXIT
+# Which words are a command; that ./vss takes none of them for wrong words; and that a link to ./vss is ./vss.
+. "$(dirname "${BASH_SOURCE[0]}")/prelude.sh" || exit 70
+vss="$(program vss)" || exit 1
 cd "$room" || exit 70
 
 # holds what the program and ./vss take the words for against what they are
 holds() {
   local is="$1" said status
   shift
-  said="$(printf 'scenario 1\n' | "$program" "$@" 2>&1 > /dev/null)"
+  said="$(printf 'scenario 1\n' | "$vss" "$@" 2>&1 > /dev/null)"
   status=$?
   if [ "$is" = command ] && { [ "$status" = 2 ] || is_wrong_command "$@"; } ||
     [ "$is" = wrong ] && { [ "$status" != 2 ] || [ "$said" != "vss: usage" ]; }; then
-    echo "words: \`vss $*\` is $is, and ended with $status and \"$said\"" >&2
-    failed=1
+    wrong "\`vss $*\` is $is, and ended with $status and \"$said\""
   fi
 }
 
@@ -82,8 +74,6 @@ ln -s "$top/vss" "$room/link"
 "$room/link" gen > "$room/out" 2> "$room/err" < /dev/null
 status=$?
 if [ "$status" != 2 ] || [ "$(head -n 1 "$room/err")" != "vss: usage" ] || [ -s "$room/out" ]; then
-  echo "words: a link to ./vss is not ./vss" >&2
-  failed=1
+  wrong "a link to ./vss is not ./vss"
 fi
-[ "$failed" = 0 ] && echo "words: as the program has them"
-exit "$failed"
+ends "as the program has them"

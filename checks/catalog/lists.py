@@ -1,13 +1,10 @@
 #!/usr/bin/env python3
-"""Lines for catalog_trial, each with what it has to print by the rules of volumes.py, written to files in a folder.
+"""Rows for the subject `catalog` of the trials of storage, in a folder: lists.py FOLDER ROWS..
 
-    lists.py FOLDER
-
-open.lines: lists of calls of groups that are never closed. closed.lines: the same lists, but that each group is closed, loaded and taken
-up again after each sync; what that prints stands in lines.other. first.lines: the same lists of one volume, whose area is brought into the
-first layout before it is loaded. faults.lines: groups of which device calls fail after they are taken up. lacking.lines: groups that are taken
-up with lists of which one set is missing. bytes.lines: bytes that are a catalog, and those that are none. Beside each NAME.lines stands
-NAME.wanted.
+open.rows: lists of calls of groups that are never closed. closed.rows: the same lists, but that each group is closed, loaded and taken up again
+after each sync. alone.rows and first.rows: the same of one volume, whose area is brought into the first layout before it is loaded. faults.rows:
+groups of which device calls fail, also after they were taken up. lacking.rows: groups that are taken up with lists of which one set is missing.
+bytes.rows: bytes that are a catalog, and those that are none. limits.rows: as many volumes, images and blocks as there may be.
 """
 import hashlib
 import os
@@ -15,10 +12,12 @@ import random
 import struct
 import sys
 
+sys.dont_write_bytecode = True  # nothing is written beside the sources
 sys.path.insert(0, os.path.join(os.path.dirname(os.path.abspath(__file__)), ".."))
-from volumes import Failed, Group
+from rows import Subject, as_result, fails, main, written  # noqa: E402
+from volumes import BLOCK, Group, Refused, some  # noqa: E402
 
-NAMES = [b"C", b"D", b"E", b"F", b"G", b"H", b"I", b"J"]
+NAMES = [b"C", b"D", b"E", b"F", b"G", b"H", b"I", b"J"] + [b"V%d" % v for v in range(8, 128)]
 
 
 def sealed(body):
@@ -35,133 +34,158 @@ def body_of(names, blocks, images):
     return body
 
 
-def catalog(blocks, images):
-    """The bytes of the catalog of a group, two digits each."""
-    return sealed(body_of(NAMES, blocks, images))
+def record_of(copy):
+    """The record of a slot, as docs/FORMATS.md has it."""
+    return struct.pack("<4I", copy[0], copy[2], copy[1], 0) if copy else bytes(16)
 
 
-class Trial:
-    """A group, the lines about it, and what they print."""
+def area_of(group, slots):
+    """The bytes of a group's area whose records were written when its slots had these copies."""
+    header = b"VSSAREA1" + struct.pack("<4I", 2, len(slots), sum(copy is not None for copy in slots), len(group.devices))
+    header += b"".join(struct.pack("<I", len(device.blocks)) for device in group.devices)
+    table = b"".join(map(record_of, slots))
+    pages = table.ljust((group.first - 1) * BLOCK, b"\0")
+    return header.ljust(BLOCK, b"\0") + pages + b"".join(bytes([byte]) * BLOCK for byte in group.area.blocks[group.first:])
 
-    def __init__(self, blocks, slots, failing=None):
-        failing = failing or {}
-        self.lines = ["fails %s %s" % (name, " ".join(",".join(map(str, row)) or "-" for row in rows)) for name, rows in failing.items()]
-        self.lines.append("group %d %s" % (slots, " ".join(map(str, blocks))))
-        self.blocks = blocks
-        self.group = Group(blocks, slots, failing)
-        self.wanted = []
-        self.newest = 0
 
-    def tell(self, line, answer):
-        self.lines.append(line)
-        self.wanted.append(answer)
+def lists_in(digits):
+    """The sets of each volume that a good catalog names."""
+    body, at, lists = bytes.fromhex(digits), 12, []
+    for _ in range(int.from_bytes(body[8:12], "little")):
+        at += 4 + int.from_bytes(body[at:at + 4], "little") + 4
+        count = int.from_bytes(body[at:at + 4], "little")
+        lists.append([int.from_bytes(body[at + 4 * n:at + 4 * n + 4], "little") for n in range(1, count + 1)])
+        at += 4 + 4 * count
+    return lists
 
-    def tried(self, line, work, faults):
-        """Tells what work answers, or the fault of the first device that fails."""
-        before = self.group.area.made[0] + self.group.area.made[1] + self.group.area.made[2]
-        try:
-            self.tell(line, work())
-        except Failed:
-            area = self.group.area.made[0] + self.group.area.made[1] + self.group.area.made[2] != before
-            self.tell(line, "Err(%s)" % faults[area])
 
-    def write(self, v, block, byte):
-        cause, gone = self.group.write(v, block, byte) if block < self.blocks[v] else ("NoSuchBlock", 0)
-        answer = "Ok(Written { evicted_up_to: %d })" if cause is None else "Err(WriteFault { cause: " + cause + ", evicted_up_to: %d })"
-        self.tell("write %d %d %d" % (v, block, byte), answer % gone)
+class Catalog(Subject):
+    """Calls of a group that is closed, loaded and taken up again."""
 
-    def read(self, v, block):
-        self.tried("read %d %d" % (v, block), lambda: "Ok(Some(%d))" % self.group.read(v, block), ("Volume", "Area"))
+    group = None
+    synced = None
 
-    def image(self, v, set_, block):
-        line = "image %d %d %d" % (v, set_, block)
-        if set_ not in self.group.images[v]:
-            self.tell(line, "Err(NoSuchImage)")
-        elif block >= self.blocks[v]:
-            self.tell(line, "Err(NoSuchBlock)")
-        else:
-            self.tried(line, lambda: "Ok(Some(%d))" % self.group.image(v, set_, block), ("Volume", "Area"))
+    def reply(self, word, *rest):
+        if word in ("load", "resume"):
+            return getattr(self, word)(*rest)
+        values = [int(n) for n in rest]
+        if word == "group":
+            self.group = Group(values[1:], values[0], self.taken_failing())
+            return None
+        return getattr(self, word)(*values)
 
-    def cut(self, v, set_):
-        self.group.cut(v, set_)
-        self.tell("cut %d %d" % (v, set_), "()")
+    def write(self, *place):
+        return written(*self.group.write(*place))
 
-    def drop(self, v, set_):
-        self.named(v, set_, "drop", self.group.drop)
+    def read(self, *place):
+        return as_result(lambda: some(self.group.read(*place)))
 
-    def revert(self, v, set_):
-        self.named(v, set_, "revert", self.group.revert)
+    def image(self, *place):
+        return as_result(lambda: some(self.group.image(*place)))
 
-    def named(self, v, set_, word, work):
-        stands = set_ in self.group.images[v]
-        if stands:
-            work(v, set_)
-        self.tell("%s %d %d" % (word, v, set_), "Ok(())" if stands else "Err(NoSuchImage)")
+    def cut(self, *image):
+        self.group.cut(*image)
+        return "()"
+
+    def drop(self, *image):
+        return as_result(lambda: self.group.drop(*image))
+
+    def revert(self, *image):
+        return as_result(lambda: self.group.revert(*image), lambda done: "()")
 
     def sync(self):
-        def work():
-            self.group.sync()
-            return "Ok(())"
-        self.tried("sync", work, ("Volume", "Area"))
+        said = as_result(self.group.sync)
+        self.synced = list(self.group.slots)
+        return said
 
-    def counts(self, v):
-        used = [copy for copy in self.group.slots if copy]
-        self.tell("used_all", str(len(used)))
-        self.tell("used %d" % v, str(sum(copy[1] == v for copy in used)))
-        self.tell("images %d" % v, str(self.group.images[v]))
-        for s in self.group.images[v][:2]:
-            self.tell("used_by %d %d" % (v, s), "Some(%d)" % sum(copy[:2] == (s, v) for copy in used))
-        self.tell("used_by %d %d" % (v, self.newest + 1), "None")
-        block = (self.newest * 7 + v) % self.blocks[v]
-        self.tell("up_to %d %d" % (v, block), str(self.group.up_to(v, block)[0]))
+    def bytes(self, first, count):
+        return area_of(self.group, self.synced)[first:first + count].hex()
+
+    def record(self, slot):
+        return record_of(self.synced[slot]).hex()
+
+    def used_all(self):
+        return str(self.group.used())
+
+    def used(self, v):
+        return str(self.group.used(v))
+
+    def used_by(self, *image):
+        try:
+            self.group.has(*image)
+        except Refused:
+            return "None"
+        return some(self.group.used(*image))
+
+    def images(self, v):
+        return str(self.group.images[v])
+
+    def up_to(self, *place):
+        return str(self.group.goes_up_to(*place))
+
+    def blocks(self):
+        return [len(device.blocks) for device in self.group.devices]
 
     def close(self):
-        self.tell("close", catalog(self.blocks, self.group.images))
+        return sealed(body_of(NAMES, self.blocks(), self.group.images))
 
-    def load(self, *numbers):
+    def load(self, *_):
         try:
             self.group.load()
-            answer = "Ok(())"
-        except Failed:
-            answer = "Err(Device)"
-        self.tell(" ".join(("load",) + numbers), answer)
+            return "Ok(())"
+        except Refused:
+            return "Err(Device)"
 
-    def resume(self, lists=None):
-        if lists is None:
-            self.tell("resume", "Ok(())")
-            return
-        slot = self.group.without_image(lists)
-        answer = "Ok(())" if slot is None else "Err(NoImage { slot: %d, set: %d })" % (slot, self.group.slots[slot][0])
-        self.tell("resume " + catalog(self.blocks, lists), answer)
+    def resume(self, digits=None):
+        slot = None if digits is None else self.group.slot_without_image(lists_in(digits))
+        return "Ok(())" if slot is None else f"Err(NoImage {{ slot: {slot}, set: {self.group.slots[slot][0]} }})"
 
-    def all_images(self):
+    def catalog(self, _):
+        raise ValueError("what bytes say is not a rule of volumes")
+
+
+class Life(Catalog):
+    """A group with calls by chance."""
+
+    def __init__(self, blocks, slots, failing=None):
+        super().__init__()
+        for name, by_kind in (failing or {}).items():
+            self.make_all(fails(name, by_kind))
+        self.make(" ".join(map(str, ["group", slots] + blocks)))
+        self.newest = 0
+
+    def make_counts(self, v):
+        self.make_all(["used_all", f"used {v}", f"images {v}"])
+        self.make_all([f"used_by {v} {s}" for s in self.group.images[v][:2] + [self.newest + 1]])
+        self.make(f"up_to {v} {(self.newest * 7 + v) % self.blocks()[v]}")
+
+    def make_all_reads(self):
         for v, sets in enumerate(self.group.images):
-            for block in range(self.blocks[v]):
-                self.read(v, block)
-                for s in sets:
-                    self.image(v, s, block)
+            for block in range(self.blocks()[v]):
+                self.make_all([f"read {v} {block}"] + [f"image {v} {s} {block}" for s in sets])
 
-    def any_call(self, dice, reverts):
+    def make_any(self, dice, reverts):
         """One call of any kind: of a set that mostly stands, and of a block that mostly is there."""
-        v = dice.randrange(len(self.blocks))
-        sets, block = self.group.images[v], min(dice.randrange(self.blocks[v] * 8 + 1) // 8, self.blocks[v])
-        some = dice.choice(sets) if sets and dice.random() < 0.85 else self.newest + 1
+        v = dice.randrange(len(self.group.devices))
+        sets, size = self.group.images[v], self.blocks()[v]
+        block = min(dice.randrange(size * 8 + 1) // 8, size)
+        set_ = dice.choice(sets) if sets and dice.random() < 0.85 else self.newest + 1
         turn = dice.random()
         if turn < 0.2:
             self.newest += dice.randint(0, 2) if self.newest and self.newest not in sets else 1
-            self.cut(v, self.newest)
+            self.make(f"cut {v} {self.newest}")
         elif turn < 0.6:
-            self.write(v, block, dice.randint(0, 250))
+            self.make(f"write {v} {block} {dice.randint(0, 250)}")
         elif turn < 0.75:
-            self.image(v, some, block)
-        elif turn < 0.8 and block < self.blocks[v]:
-            self.read(v, block)
+            self.make(f"image {v} {set_} {block}")
+        elif turn < 0.8 and block < size:
+            self.make(f"read {v} {block}")
         elif turn < 0.87:
-            self.drop(v, some)
+            self.make(f"drop {v} {set_}")
         elif turn < 0.9 and reverts:
-            self.revert(v, some)
+            self.make(f"revert {v} {set_}")
         else:
-            self.counts(v)
+            self.make_counts(v)
 
 
 def groups(seeds, most):
@@ -171,96 +195,95 @@ def groups(seeds, most):
         yield [dice.randint(1, 5) for _ in range(dice.randint(1, most))], dice.randint(0, 9), dice
 
 
-def first_layout(blocks):
-    """The numbers that make an area's header one of the first layout: the layout, and the volume's blocks where their number was."""
-    return "0:8:1", "0:20:%d" % blocks, "0:24:0"
-
-
 def lives(most, layout=None):
-    """Forty lists of calls, with a sync now and then; after it the group is closed and taken up again, where a layout is named."""
+    """Forty lists of calls, with a sync now and then; after it the group is closed and taken up again, where a layout is named.
+
+    An area's header is one of the first layout with the layout 1, and the volume's blocks where their number was."""
     for blocks, slots, dice in groups(range(40), most):
-        trial = Trial(blocks, slots)
+        life = Life(blocks, slots)
         for turn in range(90):
-            trial.any_call(dice, True)
+            life.make_any(dice, True)
             if turn % 17 == 16:
-                trial.sync()
-                if layout is not None:
-                    trial.close()
-                    if layout == 1:
-                        trial.load(*first_layout(blocks[0]))
-                    elif turn % 2:
-                        trial.load()
-                    trial.resume()
-        trial.all_images()
-        yield trial
+                life.make("sync")
+                if layout == 1:
+                    life.make_all(["close", f"load 0:8:1 0:20:{blocks[0]} 0:24:0", "resume"])
+                elif layout == 2:
+                    life.make_all(["close"] + ["load"] * (turn % 2) + ["resume"])
+        life.make_all_reads()
+        yield life
 
 
-def faulty(seed_from):
+def faulty(seeds):
     """Groups of which device calls fail, some of them after the group was taken up."""
-    for blocks, slots, dice in groups(range(seed_from, seed_from + 40), 3):
+    for blocks, slots, dice in groups(seeds, 3):
         failing = {}
-        for name in ["area"] + ["volume%d" % v for v in range(len(blocks))]:
-            failing[name] = tuple(tuple(sorted(dice.sample(range(1, 25), dice.randint(0, 3)))) for _ in range(2)) + ((),)
-        trial = Trial(blocks, slots + 2, failing)
+        for name in ["area"] + [f"volume{v}" for v in range(len(blocks))]:
+            failing[name] = {kind: sorted(dice.sample(range(1, 25), dice.randint(0, 3))) for kind in ("read", "write")}
+        life = Life(blocks, slots + 2, failing)
         for turn in range(90):
-            trial.any_call(dice, False)
-            if turn % 23 == 22:
-                trial.sync()
-                if not trial.wanted[-1].startswith("Err"):
-                    trial.close()
-                    trial.resume()
-        trial.all_images()
-        yield trial
+            life.make_any(dice, False)
+            if turn % 23 == 22 and life.make("sync") == ["Ok(())"]:
+                life.make_all(["close", "resume"])
+        life.make_all_reads()
+        yield life
 
 
 def unread():
     """An area of which a read fails as it is loaded."""
     for number in (1, 2):
-        trial = Trial([3, 2], 4, {"area": ((number,), (), ())})
-        trial.cut(1, 1)
-        trial.write(1, 1, 6)
-        trial.sync()
-        trial.close()
-        trial.load()
-        yield trial
+        calls = ["cut 1 1", "write 1 1 6", "sync", "close", "load"]
+        yield Life([3, 2], 4, {"area": {"read": [number]}}).make_all(calls)
 
 
 def lacking():
     """Groups that are taken up with lists of which one set is missing: each set of each volume in turn."""
-    for blocks, slots, dice in groups(range(200, 212), 3):
+    for blocks, slots, _ in groups(range(200, 212), 3):
         for v in range(len(blocks)):
             for place in range(4):
                 again = random.Random(blocks[0] * 100 + slots)
-                trial = Trial(blocks, slots + 4)
+                life = Life(blocks, slots + 4)
                 for _ in range(60):
-                    trial.any_call(again, False)
-                trial.sync()
-                trial.close()
-                lists = [list(sets) for sets in trial.group.images]
+                    life.make_any(again, False)
+                life.make_all(["sync", "close"])
+                lists = [list(sets) for sets in life.group.images]
                 if place < len(lists[v]):
                     del lists[v][place]
-                trial.resume(lists)
-                yield trial
+                life.make("resume " + sealed(body_of(NAMES, blocks, lists)))
+                yield life
 
 
-class Catalogs:
+def limits():
+    """As many volumes as a group may have, of which the last one is written; volumes past 4,096 blocks; and as many images as there may be."""
+    life = Life([1] * 128, 128)
+    life.make_all(f"cut {v} 1" for v in range(128))
+    life.make_all(f"write {v} 0 {v + 1}" for v in range(64, 128))
+    life.make_all(["used_all", "sync", "close", f"bytes 0 {3 * BLOCK}", "record 0", "record 63", "record 127", "load", "resume"])
+    life.make_all(f"image {v} 1 0" for v in range(63, 128))
+    yield life
+    life = Life([5000, 4097], 4097)
+    life.make_all(["cut 0 1", "cut 1 1", "write 0 4999 7", "write 1 4096 8", "write 1 4097 9", "sync", "close", "load", "resume"])
+    life.make_all(["image 0 1 4999", "read 0 4999", "image 1 1 4096", "read 1 4096", "image 1 1 4097", "used_all"])
+    yield life
+    life = Life([2], 512)
+    for set_ in range(1, 513):
+        life.make_all([f"cut 0 {set_}", f"write 0 0 {set_ % 251}"])
+    yield life.make_all(["images 0", "used_all", "sync", "close", "load", "resume", "image 0 1 0", "image 0 512 0", "up_to 0 0", "up_to 0 1", "write 0 1 9"])
+
+
+class Bytes(Subject):
     """Bytes, and what they say as a catalog."""
 
-    def __init__(self):
-        self.lines, self.wanted = [], []
-
     def tell(self, digits, *answers):
-        self.lines.append("catalog " + digits)
-        self.wanted += answers
+        self.rows.append(("catalog " + digits, answers))
 
 
 def catalogs():
     """Catalogs of few and many volumes; one with each of its bytes changed alone; and one with a field out of range and its digest mended."""
-    told = Catalogs()
+    told = Bytes()
     for names, blocks, images in (
         ([b"C", b"D"], [2, 2], [[1], [1]]), ([b"a-_9" * 8], [65536], [list(range(1, 513))]), ([b"x"] * 128, [1] * 128, [[]] * 127 + [[4294967295]]),
     ):
-        told.tell(sealed(body_of(names, blocks, images)), *("%s %d %s" % (list(n), b, i) for n, b, i in zip(names, blocks, images)))
+        told.tell(sealed(body_of(names, blocks, images)), *(f"{list(n)} {b} {i}" for n, b, i in zip(names, blocks, images)))
     body = body_of(NAMES, [2, 2], [[1], [1]])
     whole = bytes.fromhex(sealed(body))
     for at in range(len(whole)):
@@ -274,21 +297,11 @@ def catalogs():
         (21, 513, "Images { volume: 0, found: 513 }"), (25, 0, "Order { volume: 0, at: 25 }"), (21, 2, "Order { volume: 0, at: 29 }"),
         (38, 2, "Short { at: 46 }"), (38, 0, "Rest { at: 42 }"),
     ):
-        told.tell(sealed(body[:at] + struct.pack("<I", number) + body[at + 4:]), "Err(%s)" % fault)
+        told.tell(sealed(body[:at] + struct.pack("<I", number) + body[at + 4:]), f"Err({fault})")
     return [told]
 
 
-def main(folder):
-    files = {
-        "bytes": catalogs(),
-        "open": lives(3), "closed": lives(3, 2), "first": lives(1, 1), "alone": lives(1),
-        "faults": list(faulty(100)) + list(unread()), "lacking": lacking(),
-    }
-    for name, trials in files.items():
-        trials = list(trials)
-        for ending in "lines", "wanted":
-            with open(os.path.join(folder, "%s.%s" % (name, ending)), "w") as file:
-                file.write("".join(text + "\n" for trial in trials for text in getattr(trial, ending)))
-
-
-main(sys.argv[1])
+main(Catalog, {
+    "bytes": catalogs(), "open": lives(3), "closed": lives(3, 2), "first": lives(1, 1), "alone": lives(1),
+    "faults": list(faulty(range(100, 140))) + list(unread()), "lacking": lacking(), "limits": limits(),
+})

@@ -20,3 +20,14 @@ pub mod Kept
 pub mod Contents
 pub mod Ending
 pub mod Exists
+pub mod Documents
+pub mod Words
+pub mod Reader
+pub mod Meant
+pub mod LaneLines
+pub mod SetTexts
+pub mod DeclaredLines
+pub mod WriteLines
+pub mod Lanes
+pub mod WholeTexts
+pub mod Short

@@ -5,3 +5,4 @@ pub mod Plans
 pub mod Spots
 pub mod Smooth
 pub mod EndsWell
+pub mod Reading

@@ -1,10 +1,11 @@
-//! How every run of a generated scenario ends: functions that do nothing, whose contracts are the laws.
+//! What the texts of the generated scenarios are read as, and how every run of one ends: functions that do nothing, whose contracts are the laws.
 
 ghost use Rattle.std.specs.Prelude.{◌≡◌, ◌<◌, ◌++◌, ◌∷◌, [], length, ℕ, List, true};
 ghost use Rattle.std.specs.List.{list_all};
 ghost use Rattle.write_history.specs.declared.move_item.Move.{Move};
 ghost use Rattle.write_history.specs.History.{contents};
 ghost use Rattle.scenario.specs.Plan.{Plan};
+ghost use Rattle.scenario.specs.Grammar.{reading_of, IsScenario};
 ghost use Rattle.vss_model.specs.State.{is_complete as is_complete_set, history_of};
 ghost use Rattle.vss_model.specs.Acts.{Act, state};
 ghost use Rattle.vss_model.specs.Effects.{evicted};
@@ -14,6 +15,8 @@ ghost use Rattle.generated.specs.Plans.{plan_of};
 ghost use Rattle.generated.specs.Smooth.{IsSmooth};
 ghost use Rattle.generator_text.specs.Draws.{volume_at, block_at, stamp_at};
 ghost use Rattle.generated.specs.EndsWell.{EndsWell};
+ghost use Rattle.generated.specs.Reading.{IsRead};
+ghost use Rattle.generator_text.specs.ScenarioText.{gen_text};
 ghost use Rattle.generator_text.specs.Contents.{final_blocks};
 
 /// In a smooth scenario each legal and complete trail without fault marks completes all its sets.
@@ -61,4 +64,19 @@ pub fn writes_of_seven()
     ensures stamp { stamp_at 1 0 ≡ 1000000 }
     ensures last_volume { volume_at 7 1 199 ≡ 0 }
     ensures last_block { block_at 7 1 199 ≡ 16 }
+{}
+
+/// The text of the generated scenario of a number is a scenario, and whatever scenario it is, it is the generated one of this
+/// number. It is short enough for the reader.
+pub fn generated_texts_are_read(number: u32)
+    ensures read { IsRead number }
+    ensures generated { (plan : Plan) → reading_of (gen_text number) ≡ IsScenario plan → IsGenerated number plan }
+    ensures short { length (gen_text number) < 4294967295 }
+{}
+
+/// Each legal and complete trail without fault marks of the scenario that the text of a number is ends as the generated
+/// scenario of this number does.
+pub fn generated_texts_run_well(number: u32)
+    ensures { (plan : Plan) (trail : List Move) → reading_of (gen_text number) ≡ IsScenario plan → is_legal plan trail ≡ true
+        → is_complete plan trail ≡ true → faults trail ≡ 0 → EndsWell number plan trail }
 {}

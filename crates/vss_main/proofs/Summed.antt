@@ -15,7 +15,7 @@ use Rattle.scenario.specs.declared.refused.Refused.{Refused}
 use Rattle.scenario.specs.declared.refused.Refused.TheVariants.{Line}
 use Rattle.scenario.specs.Grammar.{reading_of, IsScenario, IsBad, IsRefusal}
 use Rattle.generator_text.specs.ScenarioText.{gen_text}
-use Rattle.generated_reading.specs.Reading.{IsRead}
+use Rattle.generated.specs.Reading.{IsRead}
 use Rattle.generator_text.specs.Contents.{final_blocks}
 use Rattle.generator_text.specs.Summary.{summary, summary_with, final_digest, final_digests}
 use Rattle.vss_model.specs.Told.{IsDigestIf}

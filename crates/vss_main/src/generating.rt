@@ -9,7 +9,7 @@ ghost use Rattle.vss_main.specs.TopCall.{AreGivenBack};
 
 use crate::status::Status;
 use crate::stores::store_of;
-use generated_reading::laws::generated_texts_are_read;
+use generated::laws::generated_texts_are_read;
 use generator_text::{gen_scenario, summary_of};
 use io_edge::{Sink, write_all};
 use scenario::{Refused, Scenario, parse};

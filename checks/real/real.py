@@ -1,0 +1,214 @@
+#!/usr/bin/env python3
+"""Runs `vss` over streams and files as the system has them: real.py PROGRAM FOLDER. Says what is wrong, and ends with 1 then."""
+import ctypes
+import fcntl
+import hashlib
+import os
+import resource
+import socket
+import struct
+import subprocess
+import sys
+import time
+
+PROGRAM, FOLDER = sys.argv[1:]
+BLOCK = 16384
+SET_PIPE_SIZE = 1031  # F_SETPIPE_SZ
+# a report of some 70,000 bytes, which depends on nothing but the lines
+LONG = b"scenario 1\nlane a\n" + b"await\n" * 2500
+# three volumes over three areas, whose volumes are flushed for a set, and are written after its cut
+VOLUMES = {"C": 4, "D": 2, "E": 3}
+AREAS = ["C.area", "D.area", "G.shared"]
+SET = b"scenario 1\narea G 4\nvolume C 4 4\nvolume D 2 2\nvolume E 3 in G\nlane a\nbegin 25\nstart\nadd C\nadd D\nadd E\nsnapshot\nawait\nend\n"
+wrongs = 0
+
+
+def holds(condition, what):
+    global wrongs
+    if not condition:
+        print(f"real: {what}", file=sys.stderr)
+        wrongs += 1
+
+
+def folder(name):
+    path = os.path.join(FOLDER, name)
+    os.makedirs(path)
+    return path
+
+
+def run(text, *words, **others):
+    """Runs the program over a text. Python has signals of closed pipes and full files ignored, and so has the program."""
+    others.setdefault("stdout", subprocess.PIPE)
+    return subprocess.run([PROGRAM, "run", *words], input=text, stderr=subprocess.PIPE, restore_signals=False, check=False, **others)
+
+
+def ended(done, status, line=b""):
+    return done.returncode == status and done.stderr == line and (status == 0 or not done.stdout)
+
+
+# ## streams
+
+def is_read_slowly(report):
+    """Standard output is a pipe of the smallest capacity, whose reader takes few bytes at a time: all bytes come."""
+    ours, theirs = os.pipe()
+    capacity = fcntl.fcntl(theirs, SET_PIPE_SIZE, 4096)
+    program = subprocess.Popen([PROGRAM, "run"], stdin=subprocess.PIPE, stdout=theirs)
+    os.close(theirs)
+    program.stdin.write(LONG)
+    program.stdin.close()
+    came = b""
+    for part in iter(lambda: os.read(ours, 300), b""):
+        came += part
+        time.sleep(0.001)
+    os.close(ours)
+    holds(program.wait() == 0 and came == report, f"of {len(report)} bytes {len(came)} come through a pipe of {capacity} bytes")
+
+
+def is_full(report):
+    """Standard output takes no byte, or so many and no more, as a file of a limited size does: a write that comes short is gone on with."""
+    with open("/dev/full", "wb") as full:
+        holds(ended(run(LONG, stdout=full), 5, b"vss: write fault\n"), "a full device is not told")
+    for most in (1, 4096, len(report) - 1):
+        path = os.path.join(FOLDER, f"at_most_{most}")
+        with open(path, "wb") as out:
+            done = run(LONG, stdout=out, preexec_fn=lambda most=most: resource.setrlimit(resource.RLIMIT_FSIZE, (most, most)))
+        with open(path, "rb") as out:
+            holds(ended(done, 5, b"vss: write fault\n") and out.read() == report[:most], f"a file of at most {most} bytes is not told, or has others")
+
+
+def is_read_bytewise():
+    """Standard input gives one byte at each read."""
+    text = SET + b"write C 3 fill 7\nread C 3\n"
+    ours, theirs = socket.socketpair(socket.AF_UNIX, socket.SOCK_SEQPACKET)
+    path = os.path.join(FOLDER, "bytewise")
+    with open(path, "wb") as out:
+        program = subprocess.Popen([PROGRAM, "run"], stdin=theirs, stdout=out)
+    theirs.close()
+    for n in range(len(text)):
+        ours.send(text[n:n + 1])
+    ours.close()
+    status = program.wait()
+    with open(path, "rb") as out:
+        holds(status == 0 and out.read() == run(text).stdout, "a text that comes byte by byte has another report")
+
+
+def is_cut_off():
+    """Standard input fails behind a text that could be run: the other side is gone before it read what stood there for it."""
+    ours, theirs = socket.socketpair()
+    theirs.send(b"unread")
+    ours.send(SET)
+    ours.close()
+    holds(ended(run(None, stdin=theirs), 4, b"vss: read fault\n"), "an input that fails behind its first lines is not told")
+    theirs.close()
+    with open(os.path.join(FOLDER, "written"), "wb") as written:
+        holds(ended(run(None, stdin=written), 4, b"vss: read fault\n"), "an input that cannot be read is not told")
+
+
+# ## files
+
+def contents(path):
+    with open(path, "rb") as file:
+        data = file.read()
+    return [data[at:at + BLOCK] for at in range(0, len(data), BLOCK)]
+
+
+def payload(v, block):
+    return struct.pack("<Q", 1000 * v + block) * (BLOCK // 8)
+
+
+def is_in_files():
+    """Each block of each volume is where it has to be, with the report's digests; each area's file keeps its size; no other file is made."""
+    disks, place = folder("in_files/C.vol"), os.path.join(FOLDER, "in_files")
+    stamps = b"".join(b"write %s %d stamp %d\n" % (name.encode(), block, 1000 * v + block)
+                      for v, (name, blocks) in enumerate(VOLUMES.items()) for block in range(blocks))
+    reads = b"".join(b"read %s %d\n" % (name.encode(), block) for name, blocks in VOLUMES.items() for block in range(blocks))
+    done = run(SET + stamps + reads, "C.vol", cwd=place)
+    holds(ended(done, 0), f"a run in a folder ended with {done.returncode}")
+    holds(os.listdir(place) == ["C.vol"] and sorted(os.listdir(disks)) == sorted([f"{name}.vol" for name in VOLUMES] + AREAS), "other files are made")
+    told = [line.split() for line in done.stdout.decode().splitlines()]
+    read = [words[-1] for words in told if words[-3:-2] == ["data"]]
+    for v, (name, blocks) in enumerate(VOLUMES.items()):
+        wanted = [payload(v, block) for block in range(blocks)]
+        holds(contents(f"{disks}/{name}.vol") == wanted, f"{name}.vol has other blocks")
+        holds([read.pop(0) for _ in wanted] == [hashlib.sha256(block).hexdigest() for block in wanted], f"the reads of {name} have other digests")
+        digest = hashlib.sha256(b"".join(wanted)).hexdigest()
+        holds(any(words[:2] == ["volume", name] and words[-1] == digest for words in told), f"{name} has another digest in the report")
+    slots = {"C.area": (4, 4), "D.area": (2, 2), "G.shared": (4, 3)}
+    for name, (count, used) in slots.items():
+        blocks = contents(f"{disks}/{name}")
+        holds(len(blocks) == 2 + count and struct.unpack("<8s3I", blocks[0][:20]) == (b"VSSAREA1", 2, count, used), f"{name} has another header")
+        holds(blocks[2:] == [bytes(BLOCK)] * count, f"the old blocks in {name} are others")
+
+
+def is_refused_where_there_is():
+    """What has the name of a device already is no device, whatever it is, and is left as it is."""
+    for name in "C.vol", "E.vol", "G.shared":
+        for kind in "file", "folder", "link", "dead_link":
+            disks = folder(f"{kind}_{name}")
+            path, other = os.path.join(disks, name), os.path.join(FOLDER, f"other_{kind}_{name}")
+            if kind == "folder":
+                os.mkdir(path)
+            elif kind == "dead_link":
+                os.symlink(other, path)
+            else:
+                with open(path if kind == "file" else other, "wb") as file:
+                    file.write(b"mine")
+                if kind == "link":
+                    os.symlink(other, path)
+            holds(ended(run(SET, disks), 6, b"vss: device fault\n"), f"a {kind} {name} that is there is not told")
+            if kind == "folder":
+                holds(os.listdir(path) == [], f"a folder {name} that is there is changed")
+            elif kind == "dead_link":
+                holds(os.path.islink(path) and not os.path.exists(other), f"a {kind} {name} that is there is followed")
+            else:
+                with open(path, "rb") as file:
+                    holds(file.read() == b"mine", f"a {kind} {name} that is there is changed")
+    holds(ended(run(SET, os.path.join(FOLDER, "none")), 6, b"vss: device fault\n"), "a folder that is not there is not told")
+
+
+# ## what is made to last
+
+def refuse_syncs(descriptor):
+    """From now on this process's fsync and fdatasync of this descriptor fail (seccomp, by x86-64's numbers of calls)."""
+    load, equal, end = 0x20, 0x15, 0x06
+    allow, fault = 0x7FFF0000, 0x00050005
+    steps = [(load, 0, 0, 0), (equal, 1, 0, 74), (equal, 0, 3, 75), (load, 0, 0, 16), (equal, 0, 1, descriptor), (end, 0, 0, fault), (end, 0, 0, allow)]
+    code = ctypes.create_string_buffer(b"".join(struct.pack("<HBBI", *step) for step in steps))
+    program = ctypes.create_string_buffer(struct.pack("<H6xQ", len(steps), ctypes.addressof(code)))
+    system = ctypes.CDLL(None, use_errno=True).prctl
+    system.argtypes = [ctypes.c_int, ctypes.c_ulong, ctypes.c_void_p, ctypes.c_ulong, ctypes.c_ulong]
+    if system(38, 1, None, 0, 0) or system(22, 2, ctypes.addressof(program), 0, 0):
+        raise OSError(ctypes.get_errno(), "calls cannot be refused")
+
+
+def is_synced():
+    """Each volume is synced before the cut, and each area at the end: where that fails for one file alone, it is told of that one."""
+    try:
+        subprocess.run(["true"], preexec_fn=lambda: refuse_syncs(0), check=True)
+    except subprocess.SubprocessError:
+        return ", but the system lets no calls be refused, so it was not seen which files are synced"
+    came = []
+    for descriptor in range(3, 16):
+        done = run(SET, folder(f"synced_{descriptor}"), preexec_fn=lambda descriptor=descriptor: refuse_syncs(descriptor))
+        if ended(done, 6, b"vss: device fault\n"):
+            came.append("area")
+        else:
+            holds(ended(done, 0), f"where a sync fails the run ended with {done.returncode}")
+            came += [line.split()[-2] for line in done.stdout.decode().splitlines() if " provider flush " in line and line.endswith(" fault")]
+    holds(sorted(came) == sorted(list(VOLUMES) + ["area"] * len(AREAS)), f"where the sync of one file after another fails, it is told of {came}")
+    return ""
+
+
+def main():
+    report = run(LONG).stdout
+    is_read_slowly(report)
+    is_full(report)
+    is_read_bytewise()
+    is_cut_off()
+    is_in_files()
+    is_refused_where_there_is()
+    print("streams and files as promised" + is_synced())
+    return 1 if wrongs else 0
+
+
+sys.exit(main())

@@ -1,0 +1,194 @@
+-- The lanes that write: each line is read as the write that it is, whatever the number of the scenario.
+use Rattle.std.proofs.Common.{◌≡◌, ◌∙◌, ℕ, zero, suc, ◌+◌, ◌-◌, ◌/◌, ◌%◌, ◌<◌, ◌≤◌, Bool, true, List, [], ◌∷◌, ◌++◌, length, map, refl, ap, ap₂, sym, arith, codes, append_assoc}
+use Rattle.std.specs.Prelude.{◌&&◌, nat_lt, nat_le, if◌then◌else◌, slice_get, count_by, Result, Ok, Err}
+use Rattle.std.specs.List.{list_all, range_with_len, flat_map}
+use Rattle.std.specs.Str.{bytes_eq}
+use Rattle.std.specs.Fmt.{decimal}
+use Rattle.std.proofs.Math.Nat.{mod-lt}
+use Rattle.std.proofs.lemmas.Fmt.{decimal_digit}
+use Rattle.std.proofs.lemmas.Bool.Decides.{nat_tests}
+use Rattle.scenario.specs.declared.op.Op.{Op}
+use Rattle.scenario.specs.declared.op.Op.TheVariants.{WriteFill, WriteStamp}
+use Rattle.scenario.specs.declared.reason.Reason.{Reason}
+use Rattle.scenario.specs.declared.reason.Reason.TheVariants.{UnknownWord}
+use Rattle.scenario.specs.declared.volume_row.VolumeRow.{VolumeRow}
+use Rattle.scenario.specs.Plan.{LaneLine, blocks_in}
+use Rattle.scenario.specs.Lines.{span_from}
+use Rattle.scenario.specs.Fields.{bytes_of, fields_of}
+use Rattle.scenario.specs.Numbers.{number_in}
+use Rattle.scenario.specs.Words.{word_of}
+use Rattle.scenario.specs.Ops.{◌>>=◌, number_field, volume_field, block_field, payload_of, write_of, op_of}
+use Rattle.scenario.specs.SoFar.{SoFar}
+use Rattle.scenario.specs.Entries.{row_of}
+use Rattle.generator_text.specs.Draws.{drawn, volume_at, block_at, stamp_at}
+use Rattle.generator_text.specs.ScenarioText.{drawn_text, writes_text}
+use Rattle.generated.specs.Writes.{write_at}
+use Rattle.generated.specs.Scenario.{Shape, shape_of, own_shape}
+use Rattle.vss_report.proofs.Joined.{both}
+use Rattle.generated.proofs.Words.{is_word, are_words, spans_at, number_word, number_reads}
+use Rattle.generated.proofs.Reader.{head_is, tail_is, Then, line_then, same_rest}
+use Rattle.generated.proofs.Meant.{IsDeclared, Meaning, Does, AreMeant, begins, all_end, Run, IsSaid, with_meant}
+use Rattle.generated.proofs.LaneLines.{Makes, HasSpace, lane_line, lines_then, many_lines}
+use Rattle.generated.proofs.SetTexts.{all_declared, volume_is}
+
+-- ## a write
+
+-- a volume, a block and a number that a line may have
+pub record IsWrite (v b s : ℕ) : Type 0 where
+  pub volume : v < 8
+  pub block : b < 256
+  pub stamp : s ≤ 18446744073709551615
+
+abbrev pub write_words : ℕ → ℕ → ℕ → List (List ℕ)
+write_words v b s = codes "write" ∷ (118 ∷ decimal v) ∷ decimal b ∷ codes "stamp" ∷ decimal s ∷ []
+
+within : (low high n : ℕ) → low ≤ n → n ≤ high → (nat_le low n && nat_le n high) ≡ true
+within low high n l h = grind (arith, nat_tests)
+
+known : (v : ℕ) → v < 8 → nat_lt v 8 ≡ true
+known v l = grind (arith, nat_tests)
+
+write_are_words : (v b s : ℕ) → IsWrite v b s → are_words (write_words v b s) ≡ true
+write_are_words v b s w =
+    let volume = w.volume in
+    let block = w.block in
+    let stamp = w.stamp in
+    both (is_word (decimal v)) _ (number_word v (omega (arith, volume)))
+    (both (is_word (decimal b)) _ (number_word b (omega (arith, block)))
+    (both (is_word (decimal s)) true (number_word s (omega (arith, stamp))) refl))
+
+-- each volume has 256 blocks
+blocks_from : (g k v : ℕ) (rows : List VolumeRow) → map shape_of rows ≡ map own_shape (range_with_len g k) → v < k → blocks_in (slice_get rows v) ≡ 256
+blocks_from g zero v rows e l = absurd (omega (arith, l))
+blocks_from g (suc k) v [] e l = absurd cc
+blocks_from g (suc k) zero (r ∷ rows) e l = let first : shape_of r ≡ own_shape g = cc in ap (λ (x : Shape). x.blocks) first
+blocks_from g (suc k) (suc v) (r ∷ rows) e l = let rest : map shape_of rows ≡ map own_shape (range_with_len (g + 1) k) = cc in blocks_from (g + 1) k v rows rest (omega (arith, l))
+
+volume_reads : (text : List ℕ) (d : SoFar) (v start end : ℕ) → IsDeclared text all_declared d → v < 8 → bytes_of text (span_from start end) ≡ 118 ∷ decimal v → volume_field text d.volumes (span_from start end) ≡ Ok v
+unfolding volume_field
+volume_reads text d v start end h l e = volume_is text d v h (known v l) (bytes_of text (span_from start end)) (e ∙ ap (λ ds. 118 ∷ ds) (decimal_digit v (omega (arith, l))))
+
+block_reads : (text : List ℕ) (d : SoFar) (v b start end : ℕ) → IsDeclared text all_declared d → v < 8 → b < 256 → bytes_of text (span_from start end) ≡ decimal b → block_field text d.volumes v (span_from start end) ≡ Ok b
+unfolding block_field number_field
+block_reads text d v b start end h l m e =
+    ap₂ (λ n (bytes : List ℕ). number_in 0 (n - 1) bytes) (blocks_from 0 8 v d.volumes h.shapes l) e
+    ∙ number_reads 0 255 b (omega (arith, m)) (within 0 255 b (omega arith) (omega (arith, m)))
+
+stamp_reads : (text : List ℕ) (v b s at end start stop : ℕ) → s ≤ 18446744073709551615 → bytes_of text (span_from at end) ≡ codes "stamp" → bytes_of text (span_from start stop) ≡ decimal s
+    → payload_of text v b (span_from at end) (span_from start stop) ≡ Ok (WriteStamp v b s)
+unfolding number_field
+stamp_reads text v b s at end start stop small kind digits =
+    ap₂ (λ (name bytes : List ℕ). if bytes_eq name (codes "fill") then (number_in 0 255 bytes >>= (λ x. Ok (WriteFill v b x)))
+    else (if bytes_eq name (codes "stamp") then (number_in 0 18446744073709551615 bytes >>= (λ n. Ok (WriteStamp v b n))) else Err UnknownWord)) kind digits
+    ∙ ap (λ (r : Result ℕ Reason). r >>= (λ n. Ok (WriteStamp v b n))) (number_reads 0 18446744073709551615 s (omega (arith, small)) (within 0 18446744073709551615 s (omega arith) small))
+
+write_makes : (text : List ℕ) (d : SoFar) (v b s at : ℕ) → IsDeclared text all_declared d → IsWrite v b s
+    → map (bytes_of text) (spans_at at ((118 ∷ decimal v) ∷ decimal b ∷ codes "stamp" ∷ decimal s ∷ [])) ≡ (118 ∷ decimal v) ∷ decimal b ∷ codes "stamp" ∷ decimal s ∷ []
+    → Makes text (Does (WriteStamp v b s)) (write_of text d.volumes (fields_of (spans_at at ((118 ∷ decimal v) ∷ decimal b ∷ codes "stamp" ∷ decimal s ∷ []))))
+unfolding write_of
+write_makes text d v b s at h w parts =
+    let rest = tail_is _ _ _ _ parts in
+    let more = tail_is _ _ _ _ rest in
+    let last = tail_is _ _ _ _ more in
+    let a = at + length (118 ∷ decimal v) in
+    let b_end = a + 1 + length (decimal b) in
+    let kind_end = b_end + 1 + 5 in
+    let block_at = span_from (a + 1) b_end in
+    let kind = span_from (b_end + 1) kind_end in
+    let stamp = span_from (kind_end + 1) (kind_end + 1 + length (decimal s)) in
+    let volume = volume_reads text d v _ _ h w.volume (head_is _ _ _ _ parts) in
+    let block = block_reads text d v b _ _ h w.volume w.block (head_is _ _ _ _ rest) in
+    record {
+      op = WriteStamp v b s;
+      is = ap (λ (r : Result ℕ Reason). r >>= (λ x. block_field text d.volumes x block_at >>= (λ y. payload_of text x y kind stamp))) volume
+          ∙ ap (λ (r : Result ℕ Reason). r >>= (λ y. payload_of text v y kind stamp)) block
+          ∙ stamp_reads text v b s _ _ _ _ w.stamp (head_is _ _ _ _ more) (head_is _ _ _ _ last);
+      meant = refl;
+    }
+
+write_line : (text more : List ℕ) (run : Run) (v b s : ℕ) → IsWrite v b s → HasSpace 1 run
+    → Then text (line_then (write_words v b s) more) (IsSaid text all_declared run) → Then text more (IsSaid text all_declared (with_meant (Does (WriteStamp v b s) ∷ []) run))
+unfolding word_of row_of op_of
+write_line text more run v b s w space =
+    lane_line text more all_declared run 119 (codes "rite") ((118 ∷ decimal v) ∷ decimal b ∷ codes "stamp" ∷ decimal s ∷ []) _ (Does (WriteStamp v b s)) (write_are_words v b s w) refl refl
+    (record { stands = refl; row = λ t d n f. refl }) space (λ d h at parts. write_makes text d v b s at h w parts)
+
+-- ## the writes of a lane
+
+volume_below : (n i k : ℕ) → volume_at n i k < 8
+unfolding volume_at
+volume_below n i k = mod-lt (drawn n i k) (omega arith)
+
+block_below : (n i k : ℕ) → i < 16 → block_at n i k < 256
+unfolding block_at
+block_below n i k l = let h : (drawn n i k / 8) % 16 < 16 = mod-lt (drawn n i k / 8) (omega arith) in omega (arith, l, h)
+
+stamp_below : (i k : ℕ) → i < 16 → k < 200 → stamp_at i k ≤ 18446744073709551615
+unfolding stamp_at
+stamp_below i k l m = omega (arith, l, m)
+
+-- line k of lane i is a write
+abbrev pub is_early : ℕ → Bool
+is_early k = nat_lt k 200
+
+pub drawn_write : (n i k : ℕ) → i < 16 → is_early k ≡ true → IsWrite (volume_at n i k) (block_at n i k) (stamp_at i k)
+drawn_write n i k l early = record { volume = volume_below n i k; block = block_below n i k l; stamp = stamp_below i k l (less k early) }
+  where
+    less : (k : ℕ) → nat_lt k 200 ≡ true → k < 200
+    less k e = grind (arith, nat_tests)
+
+abbrev drawn_words : ℕ → ℕ → ℕ → List (List ℕ)
+drawn_words n i k = write_words (volume_at n i k) (block_at n i k) (stamp_at i k)
+
+abbrev pub does_write : ℕ → ℕ → ℕ → Meaning
+does_write n i k = Does (write_at n i k)
+
+-- what lane i writes
+abbrev pub writes_meant : ℕ → ℕ → List Meaning
+writes_meant n i = map (does_write n i) (range_with_len 0 200)
+
+-- seven parts one after another, and then the rest
+seven : (a b c d e f g rest : List ℕ) → (a ++ b ++ c ++ d ++ e ++ f ++ g) ++ rest ≡ a ++ (b ++ (c ++ (d ++ (e ++ (f ++ (g ++ rest))))))
+seven a b c d e f g rest = simp append_assoc
+
+line_text : (v b s rest : List ℕ)
+    → (codes "write v" ++ v ++ codes " " ++ b ++ codes " stamp " ++ s ++ codes "\n") ++ rest ≡ line_then (codes "write" ∷ (118 ∷ v) ∷ b ∷ codes "stamp" ∷ s ∷ []) rest
+line_text v b s rest = seven (codes "write v") v (codes " ") b (codes " stamp ") s (codes "\n") rest ∙ ap (λ xs. codes "write v" ++ xs) (sym outer)
+  where
+    outer : (v ++ (32 ∷ (b ++ (codes " stamp " ++ s)))) ++ 10 ∷ rest ≡ v ++ (32 ∷ (b ++ (codes " stamp " ++ (s ++ 10 ∷ rest))))
+    outer = append_assoc v _ (10 ∷ rest) ∙ ap (λ xs. v ++ 32 ∷ xs) (append_assoc b _ (10 ∷ rest))
+
+lines_text : (n i : ℕ) (ks : List ℕ) (rest : List ℕ) → flat_map (drawn_text n i) ks ++ rest ≡ lines_then (drawn_words n i) ks rest
+lines_text n i [] rest = refl
+lines_text n i (k ∷ ks) rest =
+    append_assoc (drawn_text n i k) (flat_map (drawn_text n i) ks) rest
+    ∙ ap (λ xs. drawn_text n i k ++ xs) (lines_text n i ks rest)
+    ∙ line_text (decimal (volume_at n i k)) (decimal (block_at n i k)) (decimal (stamp_at i k)) (lines_then (drawn_words n i) ks rest)
+
+all_early : list_all is_early (range_with_len 0 200) ≡ true
+all_early = refl
+
+pub write_lines : (text rest : List ℕ) (run : Run) (n i : ℕ) → i < 16 → HasSpace 200 run
+    → Then text (writes_text n i ++ rest) (IsSaid text all_declared run) → Then text rest (IsSaid text all_declared (with_meant (writes_meant n i) run))
+unfolding writes_text
+write_lines text rest run n i l space t =
+    many_lines text rest all_declared (drawn_words n i) (does_write n i) is_early
+    (λ k more r early room. write_line text more r (volume_at n i k) (block_at n i k) (stamp_at i k) (drawn_write n i k l early) room)
+    (range_with_len 0 200) run all_early space
+    (same_rest text (flat_map (drawn_text n i) (range_with_len 0 200) ++ rest) (lines_then (drawn_words n i) (range_with_len 0 200) rest) (IsSaid text all_declared run) (lines_text n i (range_with_len 0 200) rest) t)
+
+-- ## writes begin and end nothing
+
+pub writes_begin_none : (n i : ℕ) (ks : List ℕ) → count_by begins (map (does_write n i) ks) ≡ 0
+writes_begin_none n i [] = refl
+writes_begin_none n i (k ∷ ks) = writes_begin_none n i ks
+
+pub writes_end : (n i : ℕ) (ks : List ℕ) → all_end (map (does_write n i) ks) ≡ true
+writes_end n i [] = refl
+writes_end n i (k ∷ ks) = writes_end n i ks
+
+pub writes_are : (text : List ℕ) (n i : ℕ) (ks : List ℕ) (ls : List LaneLine) → AreMeant text (map (does_write n i) ks) ls → map (λ (l : LaneLine). l.op) ls ≡ map (write_at n i) ks
+writes_are text n i [] [] h = refl
+writes_are text n i [] (l ∷ ls) h = absurd h
+writes_are text n i (k ∷ ks) [] h = absurd h
+writes_are text n i (k ∷ ks) (l ∷ ls) h = ap₂ (λ (x : Op) (xs : List Op). x ∷ xs) h.0 (writes_are text n i ks ls h.1)
