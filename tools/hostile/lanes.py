@@ -7,7 +7,7 @@ import tempfile
 
 TOP = os.path.dirname(os.path.dirname(os.path.dirname(os.path.realpath(__file__))))
 PROVED = f"{TOP}/crates/vss/out/vss"
-TRIAL = f"{TOP}/crates/vss_trial/out/vss_trial"
+TRIAL = f"{TOP}/crates/service_trial/out/service_trial"
 
 
 class Hung(Exception):
@@ -122,7 +122,7 @@ def lane_numbers(report):
 
 
 def letters_of(report, lanes, writers):
-    """Returns the letters of the moves of a report, or of its first lines, as vss_trial takes them."""
+    """Returns the letters of the moves of a report, or of its first lines, as service_trial takes them."""
     letters = []
     for line in report.split(b"\n")[1:]:
         words = line.split(b" ")

@@ -1,0 +1,38 @@
+-- What a core that is driven keeps, and what it asks for.
+use Rattle.std.proofs.Common.{◌≡◌, ℕ, ◌+◌, ◌<◌, List, [], ◌∷◌, ◌++◌, Option, Some, arith, length-append}
+use Rattle.std.specs.Prelude.{slice_get}
+use Rattle.scenario.specs.Plan.{Plan, LaneLine, lines_of}
+use Rattle.scenario.specs.Bounds.{IsPlan}
+use Rattle.vss_model.specs.declared.event.Event.{Event}
+use Rattle.vss_model.specs.declared.event.Event.TheVariants.{Line}
+use Rattle.vss_model.specs.declared.outcome.Outcome.{Outcome}
+use Rattle.vss_model.specs.Outcome.{told_act}
+use Rattle.vss_world.specs.Stands.{WorldValue, IsOf, Stands}
+use Rattle.vss_world.specs.Moves.{IsMoved, IsEvent}
+use Rattle.vss_play.proofs.LaneLines.{lane_in, line_is_op}
+use Rattle.service_trial.specs.Keeps.{IsDriven}
+
+-- at first
+pub driven_new : {D : Type 0} (told : D → Option (List (List ℕ))) (s : Plan) (w : WorldValue D) → IsOf w s → Stands told w s [] → IsDriven told s w 0
+driven_new told s w of stands = record { of = of; standing = record { acts = []; few = omega arith; stands = stands }; many = omega arith }
+
+-- and after a move
+pub driven_on : {D : Type 0} (told : D → Option (List (List ℕ))) (count : D → ℕ) (s : Plan) (old new : WorldValue D) (n m : ℕ) (event : Event) (o : Outcome)
+    → n < 1000 → m ≡ n + 1 → IsDriven told s old n → IsMoved told count old new s event o → IsDriven told s new m
+driven_on told count s old new n m event o few next k moves =
+    let acts = k.standing.acts in
+    let more = length-append acts (told_act event o.told ∷ []) in
+    let many = k.many in
+    record {
+      of = moves.is_of;
+      standing = record {
+        acts = acts ++ told_act event o.told ∷ [];
+        few = omega arith;
+        stands = moves.stands_for acts k.standing.stands;
+      };
+      many = omega arith;
+    }
+
+-- a lane's line is an event of the scenario
+pub line_in : (s : Plan) (i k : ℕ) (l : LaneLine) → IsPlan s → slice_get (lines_of s i) k ≡ Some l → IsEvent s (Line i l.op)
+line_in s i k l plan e = (lane_in s i k l e, line_is_op s i k l plan e)
