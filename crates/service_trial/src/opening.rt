@@ -39,7 +39,6 @@ fn open_one<D: Device>(
 }
 
 /// A core over new devices for a scenario of one volume with an area of its own.
-#[tactic(auto, using(crate::proofs::OneGroup::one_new))]
 pub fn open(alloc: Global, scenario: Scenario) -> Result<Driven<MemDevice>, TrialError> {
     if scenario.volumes() != 1 || scenario.groups() != 1 {
         return Err(TrialError::Scenario);
