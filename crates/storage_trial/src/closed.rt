@@ -86,6 +86,21 @@ fn lists_in(alloc: Global, bytes: &[u8]) -> Result<Vec<Numbers>, TrialError>
     Ok(catalog.lists(alloc)?)
 }
 
+/// A group over these devices and this area is taken up with these lists.
+fn resumed(
+    alloc: Global,
+    devices: Vec<HostDevice>,
+    area: Area<HostDevice>,
+    lists: &[Numbers],
+) -> Result<Result<CowGroup<HostDevice>, ResumeFault>, TrialError>
+    requires { All AreImages lists.now }
+{
+    if lists.len() != area.volumes() as usize || !fit(&devices, &area) {
+        return Err(TrialError::NotAllowed);
+    }
+    Ok(CowGroup::resume(alloc, devices, area, lists))
+}
+
 /// Puts a number into a block of a device, as `BLOCK:AT:NUMBER` has it.
 fn put(alloc: Global, device: &mut HostDevice, word: &str) -> Result<(), TrialError> {
     let (block, rest) = word.split_once(':').ok_or(TrialError::Line)?;
@@ -208,9 +223,6 @@ impl Closed {
     ) -> Result<Result<CowGroup<HostDevice>, ResumeFault>, TrialError> {
         let lists = self.lists(alloc, bytes)?;
         let Closed { devices, area, .. } = self;
-        if lists.len() != area.volumes() as usize || !fit(&devices, &area) {
-            return Err(TrialError::NotAllowed);
-        }
-        Ok(CowGroup::resume(alloc, devices, area, &lists))
+        resumed(alloc, devices, area, &lists)
     }
 }
