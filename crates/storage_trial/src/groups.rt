@@ -103,6 +103,17 @@ impl Groups {
         }
     }
 
+    /// Makes the call of these words.
+    fn make_of(
+        &mut self,
+        rt: &HostRuntime,
+        plan: &mut Plan,
+        words: &[&str],
+    ) -> Result<(), TrialError> {
+        let call = Call::of(rt.alloc(), words)?;
+        self.make(rt, plan, &call)
+    }
+
     /// Takes a line.
     pub fn take(
         &mut self,
@@ -116,7 +127,7 @@ impl Groups {
             ["load" | "bytes" | "record", ..] => self.load(rt, words),
             ["resume"] => self.resume(rt, None),
             ["resume", digits] => self.resume(rt, Some(digits)),
-            _ => self.make(rt, plan, &Call::of(rt.alloc(), words)?),
+            _ => self.make_of(rt, plan, words),
         }
     }
 

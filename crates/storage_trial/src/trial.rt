@@ -50,6 +50,13 @@ impl Trial {
         })
     }
 
+    /// Another subject begins.
+    fn begin(&mut self, rt: &HostRuntime, words: &[&str]) -> Result<(), TrialError> {
+        self.subject = subject_of(rt, words)?;
+        self.plan = Plan::none(rt.alloc());
+        Ok(())
+    }
+
     /// Shards begin anew after an empty line; other subjects pass over it.
     fn take_empty(&mut self, rt: &HostRuntime) -> Result<(), TrialError> {
         if let Subject::Sharded(sharded) = &mut self.subject {
@@ -90,10 +97,7 @@ impl Trial {
         match *words {
             [] => self.take_empty(rt),
             [first, ..] if first.starts_with('#') => Ok(()),
-            ["subject", ..] => {
-                *self = Trial::of(rt, &words[1..])?;
-                Ok(())
-            }
+            ["subject", ..] => self.begin(rt, &words[1..]),
             ["fails", device, ..] => self.plan.add(rt.alloc(), device, &words[2..]),
             _ => self.make(rt, handle, words),
         }
