@@ -114,16 +114,25 @@ fn take_line<R: Threads + Wait + Sync>(
 }
 
 /// Takes all lines of the standard input, in order.
-fn take_lines<R: Threads + Wait + Sync>(rt: &HostRuntime, handle: &R) -> Result<(), TrialError> {
-    let mut trial = trial_of_words(rt)?;
+fn take_lines<R: Threads + Wait + Sync>(
+    rt: &HostRuntime,
+    handle: &R,
+    trial: &mut Trial,
+) -> Result<(), TrialError> {
     for line in rt.lines(rt.alloc()) {
-        take_line(rt, handle, &mut trial, line?.as_str())?;
+        take_line(rt, handle, trial, line?.as_str())?;
     }
     Ok(())
 }
 
+/// Makes the trial that the words of the command name.
+fn make_trial<R: Threads + Wait + Sync>(rt: &HostRuntime, handle: &R) -> Result<(), TrialError> {
+    let mut trial = trial_of_words(rt)?;
+    take_lines(rt, handle, &mut trial)
+}
+
 fn main(rt: HostRuntime) -> ExitCode {
-    match take_lines(&rt, &rt) {
+    match make_trial(&rt, &rt) {
         Ok(()) => ExitCode::SUCCESS,
         Err(error) => {
             let _ = eprintln!(rt; "storage_trial: {error}");
