@@ -120,15 +120,26 @@ fn put(alloc: Global, device: &mut HostDevice, word: &str) -> Result<(), TrialEr
         .map_err(|_| TrialError::NotAllowed)
 }
 
+/// Appends the bytes of a block of a device.
+fn append_block(
+    device: &mut HostDevice,
+    index: u32,
+    block: &mut BlockBuf,
+    bytes: &mut Vec<u8>,
+) -> Result<(), TrialError> {
+    if index >= device.blocks() || device.read_into(index, block.bytes_mut()).is_err() {
+        return Err(TrialError::NotAllowed);
+    }
+    bytes.extend_from_slice(block.bytes())?;
+    Ok(())
+}
+
 /// The bytes of all blocks of a device.
 fn all_bytes(alloc: Global, device: &mut HostDevice) -> Result<Vec<u8>, TrialError> {
     let mut bytes = Vec::new(alloc);
     let mut block = BlockBuf::zeroed(alloc)?;
     for index in 0..device.blocks() {
-        if device.read_into(index, block.bytes_mut()).is_err() {
-            return Err(TrialError::NotAllowed);
-        }
-        bytes.extend_from_slice(block.bytes())?;
+        append_block(device, index, &mut block, &mut bytes)?;
     }
     Ok(bytes)
 }
@@ -152,12 +163,13 @@ fn take_words(rt: &HostRuntime, device: &mut HostDevice, words: &[&str]) -> Resu
             tell_bytes(rt, part.ok_or(TrialError::NotAllowed)?)
         }
         ["record", slot] => tell_record(rt, &all_bytes(alloc, device)?, slot.parse()?),
-        _ => {
-            for word in &words[1..] {
+        [_, ref numbers @ ..] => {
+            for word in numbers {
                 put(alloc, device, word)?;
             }
             Ok(())
         }
+        [] => Err(TrialError::Line),
     }
 }
 

@@ -59,9 +59,10 @@ fn change(group: &mut Group, v: u32, name: &str, numbers: &[u32]) -> Option<Answ
 }
 
 /// A call that looks at a volume; None where it is another.
-fn look(group: &Group, v: u32, name: &str, numbers: &[u32]) -> Option<Answer>
-    requires { v < length group.now.area.volumes }
-{
+fn look(group: &Group, v: u32, name: &str, numbers: &[u32]) -> Option<Answer> {
+    if v >= group.volumes() {
+        return None;
+    }
     match (name, numbers) {
         ("lend", [block]) if *block < group.blocks(v) => {
             Some(Answer::of_lent(Ok(group.lend_block(v, *block))))

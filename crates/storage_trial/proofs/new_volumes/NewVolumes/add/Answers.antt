@@ -18,4 +18,4 @@ invariant_of-self c = subst (All IsFresh) (sym c.in_err-push.ensures.items) c.se
 pub invariant_of-self-2 : goal.invariant_of-self-2
 invariant_of-self-2 c =
     subst (All IsFresh) (sym c.in_ok-push.ensures.items)
-    (All-push IsFresh c.self.inside.volumes.items c.in_ok-volume.volume c.self.invariant c.in_ok-volume.ensures)
+    (All-push IsFresh c.self.inside.volumes.items c.in_ok-volume.volume c.self.invariant c.in_ok-volume.ensures.stands)
