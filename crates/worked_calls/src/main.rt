@@ -1,6 +1,6 @@
 //! Worked calls of the crates below the service: each call that may want memory, once with memory at hand; names and digests against outside
 //! vectors; devices and streams that fail in mid-stream; files; limits at their bound. The program writes a line for each answer, and
-//! `stdout` has the lines that are expected, which were worked out by hand. `stdin` has further calls, one a line: a first word that says what is
+//! `stdout` has the lines that are expected, each held against the formats by hand. `stdin` has further calls, one a line: a first word that says what is
 //! called, and what it is called on. There `|` stands for the end of a line, and `<3 TEXT>` for three times the text, with 0, 1 and 2 for `#`.
 //!
 //! They stand in a crate of their own, above all that they call: so each of those crates is proved once in a run of the gate,
