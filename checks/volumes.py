@@ -1,6 +1,6 @@
 """The rules of volumes with images, for the checks of storage: what each call answers, and what it leaves.
 
-Where the crates keep maps, queues and pools, the rules look at all there is. A block's content is any value. The rules come from docs/CRATES.md and
+Where the crates keep maps, queues and pools, the rules look at all there is. A block's content is any value. The rules come from the pages of the crates and
 docs/FORMATS.md; no output of a program went into them.
 """
 
