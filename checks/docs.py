@@ -1,0 +1,160 @@
+"""Holds the pages of the repository against what is there: links, files, identifiers, commands and counts. Prints what is wrong.
+
+Pages are README.md, docs/*.md, examples/README.md and crates/*/README.md. A name in backquotes is looked for in the sources, the definitions,
+the scripts and the examples; a path, from the top, from the page's own folder, from crates/, and from the crate that the page is of. A word
+of the scenario language, a line of a report and a piece of JSON are left alone.
+"""
+import glob
+import os
+import re
+import sys
+
+PAGES = ["README.md"] + sorted(glob.glob("docs/*.md")) + ["examples/README.md"] + sorted(glob.glob("crates/*/README.md"))
+SOURCES = ["crates/*/src/*.rt", "crates/*/specs/*.antt", "crates/*/proofs/*.antt", "crates.txt", "checks/*", "checks/*/*", "tools/*", "tools/*/*", "examples/*.scenario", "examples/*.report", "HANDLES",
+           "tests", "prove", "vss", "timeline", ".ci/run"]
+# Words of the kit, the host and the languages here, which no file of the repository need have.
+FOREIGN = set("""rt ci rattle-kit-13f rattle-kit-13b malloc realloc std serde_json json uuid sha2 clap hex itoa byteorder indexmap arrayvec atomic_table crossbeam_utils libc Send Sync Drop Copy Model
+sha256sum taskset rsync open ftruncate pread pwrite fdatasync close pthread_create fsync mount requires ensures crates.txt must-fail""".split())
+HEADINGS = ["Proved", "Tested only", "Trusted", "Limits", "Costs"]
+MOST_README, LEAST_LINES, MOST_LINES = 8192, 20, 60
+
+wrong = []
+
+
+def text_of(path):
+    with open(path, encoding="utf-8", errors="replace") as file:
+        return file.read()
+
+
+def anchors(path):
+    """The names that links to the headings of a page have."""
+    titles = re.findall(r"^#+ (.*)$", text_of(path), re.M)
+    return {re.sub(r"[^\w\- ]", "", title.lower()).replace(" ", "-") for title in titles}
+
+
+def links(page, text):
+    for shown, target in re.findall(r"\[([^\[\]]*)\]\(([^)\s]+)\)", text):
+        if "://" in target:
+            continue
+        path, _, anchor = target.partition("#")
+        path = os.path.normpath(os.path.join(os.path.dirname(page), path)) if path else page
+        if not os.path.exists(path):
+            wrong.append(f"{page}: a link leads to {target}, which is not there")
+        elif anchor and anchor not in anchors(path):
+            wrong.append(f"{page}: a link leads to {target}, and {path} has no such heading")
+        elif path.endswith((".rt", ".antt")):
+            there = set(re.findall(r"\w+", text_of(path)))
+            wrong.extend(f"{page}: `{name}` is not in {target}" for name in re.findall(r"`(\w+)`", shown) if name not in there)
+
+
+def is_there(page, path):
+    """Whether a path, which may have stars, names a file as a page speaks of files."""
+    home = os.path.dirname(page)
+    roots = ["", home, "crates", "crates/*", os.path.join(home, "src"), os.path.join(home, "specs")]
+    path = path.replace("NAME", "*")
+    if any(glob.glob(os.path.join(root, path)) for root in roots):
+        return True
+    return "/" not in path and bool(glob.glob(f"crates/*/*/{path}") + glob.glob(f"*/{path}"))
+
+
+PATH = re.compile(r"[\w.*-]*/[\w.*/-]*|[\w*-]+\.(?:rt|antt|sh|py|md|txt|scenario|report|summary|listing|svg|edit|awk)")
+NAME = re.compile(r"[A-Za-z_]\w*(?:(?:::|\.)[A-Za-z_]\w*)*")
+COMMAND = re.compile(r"(?:\$ )?(?:[A-Z_]+=\S+ )?(?:bash |nice |taskset -c \S+ )?((?:\./|tools/|checks/|\.ci/)[\w./-]+)(?: .*)?")
+NAMED = r"\b(?:examples|docs|checks|tools|crates)/[\w./-]+\w"
+
+
+def spans(page, text, words):
+    for span in re.findall(r"`([^`\n]+)`", re.sub(r"^( {4}|```).*?$", "", text, flags=re.M)):
+        command = COMMAND.fullmatch(span)
+        if command:
+            for path in [command.group(1)] + re.findall(NAMED, span):
+                if not os.path.exists(path) and not is_there(page, path):
+                    wrong.append(f"{page}: there is no `{path}`")
+        elif PATH.fullmatch(span):
+            if not span.startswith(("/", "disks/", "out/")) and "/out" not in span and not is_there(page, span):
+                wrong.append(f"{page}: there is no file `{span}`")
+        elif NAME.fullmatch(span):
+            for word in re.split(r"::|\.", span):
+                if word not in words and word not in FOREIGN and not re.fullmatch(r"[a-z]\d+", word):
+                    wrong.append(f"{page}: nothing is named `{word}` (in `{span}`)")
+
+
+def definitions(page, text):
+    """Each definition that a page says is in a file is made there."""
+    for names, path in re.findall(r"((?:`\w+`(?:, | and )?)+) in\s+`([\w/]+\.antt)`", text):
+        for found in glob.glob(os.path.join("crates", path)):
+            made = set(re.findall(r"^ *(?:abbrev |unfoldable )?pub (?:record |data )?(\w+)", text_of(found), re.M))
+            wrong.extend(f"{page}: `{name}` is not defined in `{path}`" for name in re.findall(r"`(\w+)`", names) if name not in made)
+
+
+def commands(page, text):
+    """The commands of indented and fenced lines."""
+    for line in re.findall(r"^ {4}(.*)$", text, re.M):
+        command = COMMAND.fullmatch(line.strip())
+        if command and not os.path.exists(command.group(1)):
+            wrong.append(f"{page}: there is no `{command.group(1)}` to run")
+        for path in re.findall(NAMED, line):
+            if not os.path.exists(path):
+                wrong.append(f"{page}: there is no `{path}`, which a command names")
+
+
+def counts():
+    """Numbers that pages say, each as a form of words and as it is."""
+    rows = [line for line in text_of("crates.txt").splitlines() if ":" in line and not line.startswith("#")]
+    scenarios, in_gate = len(glob.glob("examples/*.scenario")), len(glob.glob("crates/*/must-fail/*.edit"))
+    by_hand = len(glob.glob("crates/*/wrong/*.edit"))
+    laws = re.findall(r"pub fn (\w+)", text_of("crates/promises/src/laws.rt"))
+    kept = {
+        r"(\d+) crates of crates\.txt": len(rows),
+        r"(\d+) scenarios of examples/": scenarios,
+        r"(\d+) (?:edits )?of `must-fail/`": in_gate,
+        r"(\d+) (?:edits )?of `wrong/`": by_hand,
+        r"(\d+) laws of `promises`": len(laws),
+    }
+    for form, count in kept.items():
+        said = [(page, int(number)) for page in PAGES for number in re.findall(form, text_of(page))]
+        if not said:
+            wrong.append(f"no page says how many: {form}")
+        wrong.extend(f"{page}: says {number} where there are {count}: {form}" for page, number in said if number != count)
+
+
+def crate_pages():
+    names = [line.split(":")[0].split()[0] for line in text_of("crates.txt").splitlines() if ":" in line and not line.startswith("#")]
+    for name in names:
+        page = f"crates/{name}/README.md"
+        if not os.path.isfile(page):
+            wrong.append(f"there is no {page}")
+            continue
+        text = text_of(page)
+        if not text.startswith(f"# {name}\n\n"):
+            wrong.append(f"{page}: does not begin with its title")
+        if re.findall(r"^## (.*)$", text, re.M) != HEADINGS:
+            wrong.append(f"{page}: its headings are not {', '.join(HEADINGS)}")
+        if not LEAST_LINES <= text.count("\n") <= MOST_LINES:
+            wrong.append(f"{page}: has {text.count(chr(10))} lines, and not {LEAST_LINES} to {MOST_LINES}")
+
+
+def main():
+    files = {path for pattern in SOURCES for path in glob.glob(pattern) if os.path.isfile(path)}
+    words = set()
+    for path in files:
+        words.update(re.findall(r"[A-Za-z_]\w*", text_of(path)))
+        words.update(os.path.basename(path).split("."))
+    words.update(path.split("/")[1] for path in glob.glob("crates/*"))
+    for page in PAGES:
+        text = text_of(page)
+        links(page, text)
+        spans(page, text, words)
+        definitions(page, text)
+        commands(page, text)
+    counts()
+    crate_pages()
+    if len(text_of("README.md").encode()) > MOST_README:
+        wrong.append(f"README.md has more than {MOST_README} bytes")
+    for line in wrong:
+        print(line, file=sys.stderr)
+    print(f"{len(PAGES)} pages")
+    sys.exit(bool(wrong))
+
+
+main()
