@@ -99,7 +99,7 @@ fails C.vol make 1
 fails C.area make 1
 fails sink room 20
 [ "$(cat "$room/out")" = "report 1
-1 lane a 4 " ] || wrong "a sink of twenty bytes took others"
+1 lane a 6 " ] || wrong "a sink of twenty bytes took others"
 [ "${statuses[0]:-0}" -gt 0 ] && [ "${statuses[4]:-0}" -gt 0 ] && [ "${statuses[5]:-0}" -gt 0 ] && [ "${statuses[6]:-0}" -gt 0 ] || wrong "a status never came"
 
 # ## first parts of a text
