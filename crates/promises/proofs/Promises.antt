@@ -6,7 +6,7 @@ use Rattle.promises.specs.Promises.{IsAsPromised}
 use Rattle.promises.proofs.Accepted.{accepts_owner}
 use Rattle.promises.proofs.Answers.{answers_say}
 use Rattle.promises.proofs.Awaited.{await_tells}
-use Rattle.promises.proofs.Calls.{calls_are_owned, waits_are_few, stands_quiet, frozen_do_not_write}
+use Rattle.promises.proofs.Calls.{calls_are_owned, waits_are_few, waits_are_due, stands_quiet, frozen_do_not_write}
 use Rattle.promises.proofs.Clock.{clock_moves}
 use Rattle.promises.proofs.Completing.{completes_unfailed}
 use Rattle.promises.proofs.Contents.{contents_change}
@@ -56,5 +56,5 @@ as_promised s trail = record {
     tells = tells_failure s so_far act;
     loses = loses_the_late s so_far act;
   };
-  each_state = λ so_far rest e. record { waits = waits_are_few s so_far; quiet = stands_quiet s so_far; frozen = frozen_do_not_write s so_far; chosen = chosen_take_part s so_far; volumes = volumes_are_distinct s so_far; idles = idles_shortest s so_far; limits = stands_within_limits s so_far; numbers = has_its_numbers s so_far; orders = orders_end s so_far; completing = completes_unfailed s so_far; backups = backups_end s so_far; slots = slots_suffice s so_far; copies = copies_hold s so_far };
+  each_state = λ so_far rest e. record { waits = waits_are_few s so_far; due = waits_are_due s so_far; quiet = stands_quiet s so_far; frozen = frozen_do_not_write s so_far; chosen = chosen_take_part s so_far; volumes = volumes_are_distinct s so_far; idles = idles_shortest s so_far; limits = stands_within_limits s so_far; numbers = has_its_numbers s so_far; orders = orders_end s so_far; completing = completes_unfailed s so_far; backups = backups_end s so_far; slots = slots_suffice s so_far; copies = copies_hold s so_far };
 }

@@ -7,7 +7,7 @@ use Rattle.vss_model.specs.Trail.{acts}
 use Rattle.promises.specs.Accepted.{AcceptsOwner}
 use Rattle.promises.specs.Answers.{AnswersSay}
 use Rattle.promises.specs.Awaited.{AwaitTells}
-use Rattle.promises.specs.Calls.{CallsAreOwned, WaitsAreFew, StandsQuiet, FrozenDoNotWrite}
+use Rattle.promises.specs.Calls.{CallsAreOwned, WaitsAreFew, WaitsAreDue, StandsQuiet, FrozenDoNotWrite}
 use Rattle.promises.specs.Clock.{ClockMoves}
 use Rattle.promises.specs.Completing.{CompletesUnfailed}
 use Rattle.promises.specs.Contents.{ContentsChange}
@@ -58,6 +58,7 @@ pub record IsActAsPromised (s : Plan) (so_far : List Act) (act : Act) : Type 0 w
 -- of the state after these acts
 pub record IsStateAsPromised (s : Plan) (so_far : List Act) : Type 0 where
   pub waits : WaitsAreFew s so_far
+  pub due : WaitsAreDue s so_far
   pub quiet : StandsQuiet s so_far
   pub frozen : FrozenDoNotWrite s so_far
   pub chosen : ChosenTakePart s so_far

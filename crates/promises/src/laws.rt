@@ -9,7 +9,7 @@ ghost use Rattle.vss_model.specs.Trail.{is_legal, is_complete};
 ghost use Rattle.promises.specs.Accepted.{AcceptsOwner};
 ghost use Rattle.promises.specs.Answers.{AnswersSay};
 ghost use Rattle.promises.specs.Awaited.{AwaitTells};
-ghost use Rattle.promises.specs.Calls.{CallsAreOwned, WaitsAreFew, StandsQuiet, FrozenDoNotWrite};
+ghost use Rattle.promises.specs.Calls.{CallsAreOwned, WaitsAreFew, WaitsAreDue, StandsQuiet, FrozenDoNotWrite};
 ghost use Rattle.promises.specs.Clock.{ClockMoves};
 ghost use Rattle.promises.specs.Completing.{CompletesUnfailed};
 ghost use Rattle.promises.specs.Contents.{ContentsChange};
@@ -142,6 +142,7 @@ pub fn owners_are_accepted_in_their_stage()
 /// Only writes, `begin` and `await` wait; without a session no agenda runs; and no lane writes as a writer that stands frozen.
 pub fn few_lines_wait()
     ensures waits { (s : Plan) (so_far : List Act) → WaitsAreFew s so_far }
+    ensures due { (s : Plan) (so_far : List Act) → WaitsAreDue s so_far }
     ensures quiet { (s : Plan) (so_far : List Act) → StandsQuiet s so_far }
     ensures frozen { (s : Plan) (so_far : List Act) → FrozenDoNotWrite s so_far }
 {}
