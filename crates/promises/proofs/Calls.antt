@@ -8,7 +8,7 @@ use Rattle.requestor.specs.declared.session_call.SessionCall.TheVariants as call
 use Rattle.requestor.specs.declared.verdict.Verdict.{Verdict}
 use Rattle.requestor.specs.declared.verdict.Verdict.TheVariants.{Refused}
 use Rattle.requestor.specs.Session.{Session, has_writers, makes_set}
-use Rattle.requestor.specs.Check.{check, check_other, check_owner, owner_only, verdict_of, goes_beside_agenda, is_start, allows, is_await as awaits}
+use Rattle.requestor.specs.Check.{check, check_begin, begin_verdict, check_other, check_owner, owner_only, verdict_of, goes_beside_agenda, is_start, allows, is_await as awaits}
 use Rattle.scenario.specs.declared.op.Op.{Op}
 use Rattle.scenario.specs.declared.op.Op.TheVariants.{WriteFill, WriteStamp, Read, ImageDigest, ImageBlock, Query, Properties, Revert, DeleteSet, DeleteImage, Tick, Begin, Disable, Gather, Component, Document, Start, Add, Prepare, Snapshot, Await, Status, Complete, Abort, End}
 use Rattle.scenario.specs.Calls.{Target, target_of}
@@ -23,7 +23,7 @@ use Rattle.vss_model.specs.Acts.{Act, is_blocked, is_free, enabled, happens, aft
 use Rattle.vss_model.specs.Facts.{IsAgendaOf}
 use Rattle.vss_model.specs.Causes.{owns}
 use Rattle.vss_model.proofs.OrderlyActs.{orderly}
-use Rattle.promises.specs.Calls.{is_owners, CallsAreOwned, may_wait, WaitsAreFew, StandsQuiet, FrozenDoNotWrite}
+use Rattle.promises.specs.Calls.{is_owners, CallsAreOwned, may_wait, WaitsAreFew, WaitsAreDue, StandsQuiet, FrozenDoNotWrite}
 use Rattle.promises.proofs.ByEvent.{after_enabled, after_not_enabled}
 
 -- ## a call of another lane
@@ -152,3 +152,53 @@ frozen_waits s st lane w op t e f g = absurd cc
 
 pub frozen_do_not_write : (s : Plan) (so_far : List Act) → FrozenDoNotWrite s so_far
 frozen_do_not_write s so_far lane w op t e f g = frozen_waits s (state s so_far) lane w op t e f g
+
+-- ## who waits, and who need not
+
+volume_is : (v b : ℕ) (t : Target) → Some (record { volume = v; block = b }) ≡ Some t → v ≡ t.volume
+volume_is v b t e = let same : record { volume = v; block = b } ≡ t = cc in ap (λ (x : Target). x.volume) same
+
+held_waits : (s : Plan) (st : State) (lane : ℕ) (op : Op) (t : Target) → target_of op ≡ Some t → is_held st t.volume ≡ true → enabled s st (Line lane op) ≡ false
+held_waits s st lane (WriteFill v b x) t e f = ap (λ h. not h && is_free st (acts_as s lane)) (ap (is_held st) (volume_is v b t e) ∙ f)
+held_waits s st lane (WriteStamp v b x) t e f = ap (λ h. not h && is_free st (acts_as s lane)) (ap (is_held st) (volume_is v b t e) ∙ f)
+held_waits s st lane op t e f = absurd cc
+
+free_as : (st : State) (o : Option ℕ) → ((w : ℕ) → o ≡ Some w → is_frozen st w ≡ false) → is_free st o ≡ true
+free_as st None f = refl
+free_as st (Some w) f = ap not (f w refl)
+
+free_goes : (s : Plan) (st : State) (lane : ℕ) (op : Op) (t : Target) → target_of op ≡ Some t → is_held st t.volume ≡ false → ((w : ℕ) → acts_as s lane ≡ Some w → is_frozen st w ≡ false) → enabled s st (Line lane op) ≡ true
+free_goes s st lane (WriteFill v b x) t e f g = ap (λ h. not h && is_free st (acts_as s lane)) (ap (is_held st) (volume_is v b t e) ∙ f) ∙ free_as st (acts_as s lane) g
+free_goes s st lane (WriteStamp v b x) t e f g = ap (λ h. not h && is_free st (acts_as s lane)) (ap (is_held st) (volume_is v b t e) ∙ f) ∙ free_as st (acts_as s lane) g
+free_goes s st lane op t e f g = absurd cc
+
+begin_waits : (q : Option Session) (lane : ℕ) (p : Session) → q ≡ Some p → (p.owner == lane) ≡ false → not (is_blocked (check_begin q lane)) ≡ false
+begin_waits None lane p e f = absurd cc
+begin_waits (Some x) lane p e f = ap (λ b. not (is_blocked (begin_verdict b))) (ap (λ (y : Session). y.owner == lane) (same x p e) ∙ f)
+  where
+    same : (x p : Session) → Some x ≡ Some p → x ≡ p
+    same x p e = cc
+
+begin_goes : (q : Option Session) (lane : ℕ) → q ≡ None → not (is_blocked (check_begin q lane)) ≡ true
+begin_goes None lane e = refl
+begin_goes (Some x) lane e = absurd cc
+
+await_waits : (q : Option Session) (running : Bool) (lane : ℕ) → owns q lane ≡ true → not (is_blocked (check_other q running lane call.Await)) ≡ not running
+await_waits None running lane e = absurd cc
+await_waits (Some q) running lane e = by_owner (q.owner == lane) running e
+  where
+    by_owner : (b r : Bool) → b ≡ true → not (is_blocked (owner_only b (check_owner q r call.Await))) ≡ not r
+    by_owner true true e = refl
+    by_owner true false e = refl
+    by_owner false r e = absurd cc
+
+pub waits_are_due : (s : Plan) (so_far : List Act) → WaitsAreDue s so_far
+waits_are_due s so_far =
+    let st = state s so_far in
+    record {
+      held = λ lane op t e f. held_waits s st lane op t e f;
+      free = λ lane op t e f g. free_goes s st lane op t e f g;
+      begins = λ lane n all q e f. begin_waits st.session lane q e f;
+      first = λ lane n all e. begin_goes st.session lane e;
+      awaits = λ lane e. await_waits st.session (runs st) lane e;
+    }

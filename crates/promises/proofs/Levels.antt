@@ -1,5 +1,5 @@
--- The levels of the writers' rows and of the participants are those that the scenario gives the writers.
-use Rattle.std.proofs.Common.{◌≡◌, ◌∙◌, ℕ, ◌+◌, ◌≤◌, suc, List, [], ◌∷◌, ◌++◌, Option, Some, None, refl, Bool, true, false, ap, map, fold, arith}
+-- The levels and the freeze time-outs of the writers' rows, and the levels of the participants, are those that the scenario gives the writers.
+use Rattle.std.proofs.Common.{◌≡◌, ◌∙◌, ℕ, ◌+◌, ◌≤◌, zero, suc, sym, List, [], ◌∷◌, ◌++◌, Option, Some, None, refl, Bool, true, false, ap, map, fold, arith}
 use Rattle.std.specs.Prelude.{◌&&◌, not, if◌then◌else◌, slice_get}
 use Rattle.vss_names.specs.declared.context.Context.{Context}
 use Rattle.vss_names.specs.declared.level.Level.{Level}
@@ -33,7 +33,9 @@ use Rattle.vss_model.specs.Steps.{answered, step_made, is_flush, is_failed_step,
 use Rattle.vss_model.specs.Acts.{Act, after, state}
 use Rattle.vss_model.specs.Laws.{IsKeptByChanges, IsKeptByWrites}
 use Rattle.vss_model.proofs.Rule.{on_after}
+use Rattle.promises.specs.Numbers.{timeout_in, timeout_of, HasItsNumbers}
 use Rattle.promises.specs.Way.{level_in, level_of}
+use Rattle.tick_limits.specs.Time.{hold_limit, default_freeze, answer_limit}
 
 -- members in the order of their writers, from w on, each once
 abbrev pub Ascends : ℕ → List Member → Type 0
@@ -58,48 +60,52 @@ ascend_of_rows test w (r ∷ rs) = by_test (test w) (ascend_of_rows test (w + 1)
     by_test true h = (itself w, h)
     by_test false h = ascends_from w (members_from test (w + 1) rs) h
 
-module _ (l : ℕ → Level) where
+-- a change of a row that keeps its level and its time-out
+abbrev Same : WriterRow → WriterRow → Type 0
+Same r q = (q.level ≡ r.level) × (q.limit ≡ r.limit)
+
+abbrev pub MembersOf : (ℕ → Level) → List Member → Type 0
+MembersOf l [] = Unit {0}
+MembersOf l (m ∷ ms) = (m.level ≡ l m.writer) × MembersOf l ms
+
+module _ (l : ℕ → Level) (limit : ℕ → ℕ) where
   -- rows from writer w on
   abbrev pub RowsOf : ℕ → List WriterRow → Type 0
   RowsOf w [] = Unit {0}
-  RowsOf w (r ∷ rs) = (r.level ≡ l w) × RowsOf (w + 1) rs
+  RowsOf w (r ∷ rs) = ((r.level ≡ l w) × (r.limit ≡ limit w)) × RowsOf (w + 1) rs
 
-  abbrev pub MembersOf : List Member → Type 0
-  MembersOf [] = Unit {0}
-  MembersOf (m ∷ ms) = (m.level ≡ l m.writer) × MembersOf ms
-
-  rows_map : (f : WriterRow → WriterRow) → ((r : WriterRow) → (f r).level ≡ r.level) → (w : ℕ) (rs : List WriterRow) → RowsOf w rs → RowsOf w (map f rs)
+  rows_map : (f : WriterRow → WriterRow) → ((r : WriterRow) → Same r (f r)) → (w : ℕ) (rs : List WriterRow) → RowsOf w rs → RowsOf w (map f rs)
   rows_map f e w [] h = tt
-  rows_map f e w (r ∷ rs) h = (e r ∙ h.0, rows_map f e (w + 1) rs h.1)
+  rows_map f e w (r ∷ rs) h = (((e r).0 ∙ h.0.0, (e r).1 ∙ h.0.1), rows_map f e (w + 1) rs h.1)
 
-  rows_some : (f : WriterRow → WriterRow) → ((r : WriterRow) → (f r).level ≡ r.level) → (test : ℕ → Bool) (w u : ℕ) (rs : List WriterRow) → RowsOf w rs → RowsOf w (rows_where f test u rs)
+  rows_some : (f : WriterRow → WriterRow) → ((r : WriterRow) → Same r (f r)) → (test : ℕ → Bool) (w u : ℕ) (rs : List WriterRow) → RowsOf w rs → RowsOf w (rows_where f test u rs)
   rows_some f e test w u [] h = tt
-  rows_some f e test w u (r ∷ rs) h = (by_test (test u) ∙ h.0, rows_some f e test (w + 1) (u + 1) rs h.1)
+  rows_some f e test w u (r ∷ rs) h = (((by_test (test u)).0 ∙ h.0.0, (by_test (test u)).1 ∙ h.0.1), rows_some f e test (w + 1) (u + 1) rs h.1)
     where
-      by_test : (b : Bool) → (row_if b f r).level ≡ r.level
+      by_test : (b : Bool) → Same r (row_if b f r)
       by_test true = e r
-      by_test false = refl
+      by_test false = (refl, refl)
 
-  members_of_rows : (test : ℕ → Bool) (w : ℕ) (rs : List WriterRow) → RowsOf w rs → MembersOf (members_from test w rs)
+  members_of_rows : (test : ℕ → Bool) (w : ℕ) (rs : List WriterRow) → RowsOf w rs → MembersOf l (members_from test w rs)
   members_of_rows test w [] h = tt
   members_of_rows test w (r ∷ rs) h = by_test (test w) (members_of_rows test (w + 1) rs h.1)
     where
-      by_test : (b : Bool) → MembersOf (members_from test (w + 1) rs) → MembersOf (member_if b w r ++ members_from test (w + 1) rs)
-      by_test true ms = (h.0, ms)
+      by_test : (b : Bool) → MembersOf l (members_from test (w + 1) rs) → MembersOf l (member_if b w r ++ members_from test (w + 1) rs)
+      by_test true ms = (h.0.0, ms)
       by_test false ms = ms
 
-  aborted_level : (r : WriterRow) → (row_aborted r).level ≡ r.level
-  aborted_level r = by_state (is_failed r.state)
+  aborted_same : (r : WriterRow) → Same r (row_aborted r)
+  aborted_same r = by_state (is_failed r.state)
     where
-      by_state : (b : Bool) → (if b then r else record r { state = stable_again r.state; aborts = one_more r.aborts }).level ≡ r.level
-      by_state true = refl
-      by_state false = refl
+      by_state : (b : Bool) → Same r (if b then r else record r { state = stable_again r.state; aborts = one_more r.aborts })
+      by_state true = (refl, refl)
+      by_state false = (refl, refl)
 
   -- ## the course
 
   pub record Leveled (c : Course) : Type 0 where
     pub rows : RowsOf 0 c.rows
-    pub members : MembersOf c.members
+    pub members : MembersOf l c.members
     pub distinct : Ascends 0 c.members
 
   lev_posted : (before c : Course) → Leveled c → Leveled (posted before c)
@@ -108,7 +114,7 @@ module _ (l : ℕ → Level) where
 
   lev_failed : (why : VssResult) (c : Course) → Leveled c → Leveled (course_failed why c)
   unfolding course_failed
-  lev_failed why c h = record { rows = rows_some row_aborted aborted_level (is_member c.members) 0 0 c.rows h.rows; members = h.members; distinct = h.distinct }
+  lev_failed why c h = record { rows = rows_some row_aborted aborted_same (is_member c.members) 0 0 c.rows h.rows; members = h.members; distinct = h.distinct }
 
   lev_settled_if : (b : Bool) (k : Kind) (c : Course) → Leveled c → Leveled (settled_if b k c)
   lev_settled_if true k c h = record { rows = h.rows; members = h.members; distinct = h.distinct }
@@ -124,7 +130,7 @@ module _ (l : ℕ → Level) where
 
   lev_told : (o : Order) (said : Said) (now : ℕ) (ws : List ℕ) (c : Course) → Leveled c → Leveled (told o said now ws c)
   unfolding told
-  lev_told o said now ws c h = record { rows = rows_some (row_after o said) (λ r. refl) (λ w. is_among w ws) 0 0 c.rows h.rows; members = h.members; distinct = h.distinct }
+  lev_told o said now ws c h = record { rows = rows_some (row_after o said) (λ r. (refl, refl)) (λ w. is_among w ws) 0 0 c.rows h.rows; members = h.members; distinct = h.distinct }
 
   lev_worked : (now : ℕ) (c : Course) → Leveled c → Leveled (worked now c)
   unfolding worked
@@ -175,7 +181,7 @@ module _ (l : ℕ → Level) where
 
   lev_released : (c : Course) → Leveled c → Leveled (released c)
   unfolding released
-  lev_released c h = record { rows = rows_map row_ended (λ r. refl) 0 c.rows h.rows; members = tt; distinct = tt }
+  lev_released c h = record { rows = rows_map row_ended (λ r. (refl, refl)) 0 c.rows h.rows; members = tt; distinct = tt }
 
   -- ## the state
 
@@ -229,7 +235,7 @@ module _ (l : ℕ → Level) where
     steps = λ mark st e h. on_steps mark st h;
     ticks = on_ticks;
     fails = λ why st h. on_failed_in (in_progress st) why st h;
-    gathers = λ s q st e h. on_followed true _ st (lev_begun Gather _ [] st.clock _ (record { rows = rows_map row_gathered (λ r. refl) 0 st.course.rows h.rows; members = h.members; distinct = h.distinct }));
+    gathers = λ s q st e h. on_followed true _ st (lev_begun Gather _ [] st.clock _ (record { rows = rows_map row_gathered (λ r. (refl, refl)) 0 st.course.rows h.rows; members = h.members; distinct = h.distinct }));
     prepares = λ s q st e h. either (has_no_volume (in_progress st)) _ _ h (on_followed true _ st (lev_begun Prepare _ [] st.clock _ (record { rows = h.rows; members = members_of_rows _ 0 st.course.rows h.rows; distinct = ascend_of_rows _ 0 st.course.rows })));
     snapshots = λ q st e h. either (has_no_volume (in_progress st)) _ _ h (on_followed true _ st (lev_begun Snapshot st.course.members _ st.clock st.course h));
     completes = λ q st e h. on_followed true _ st (lev_begun Complete _ [] st.clock st.course h);
@@ -266,10 +272,12 @@ module _ (l : ℕ → Level) where
 
 -- ## at the start
 
-rows_at_start : (s : Plan) (ps : List WriterPlan) (k : ℕ) → ((j : ℕ) → level_in (slice_get ps j) ≡ level_of s (k + j)) → RowsOf (level_of s) k (map row_of_writer ps)
+rows_at_start : (s : Plan) (ps : List WriterPlan) (k : ℕ) → ((j : ℕ) → (level_in (slice_get ps j) ≡ level_of s (k + j)) × (timeout_in (slice_get ps j) ≡ timeout_of s (k + j))) → RowsOf (level_of s) (timeout_of s) k (map row_of_writer ps)
 rows_at_start s [] k e = tt
-rows_at_start s (p ∷ ps) k e =
-    (e 0 ∙ ap (level_of s) (no_more k), rows_at_start s ps (k + 1) (λ j. e (suc j) ∙ ap (level_of s) (one_more k j)))
+rows_at_start s (p ∷ ps) k e = (
+  ((e 0).0 ∙ ap (level_of s) (no_more k), (e 0).1 ∙ ap (timeout_of s) (no_more k)),
+  rows_at_start s ps (k + 1) (λ j. ((e (suc j)).0 ∙ ap (level_of s) (one_more k j), (e (suc j)).1 ∙ ap (timeout_of s) (one_more k j))),
+)
   where
     no_more : (k : ℕ) → k + 0 ≡ k
     no_more k = omega arith
@@ -280,11 +288,37 @@ rows_at_start s (p ∷ ps) k e =
 none_before : (j : ℕ) → j ≡ 0 + j
 none_before j = omega arith
 
-leveled_from_start : (s : Plan) (acts : List Act) → Leveled (level_of s) (state s acts).course
-leveled_from_start s acts = on_fold (level_of s) s (start s) acts (record { rows = rows_at_start s s.writers 0 (λ j. ap (level_of s) (none_before j)); members = tt; distinct = tt })
+leveled_from_start : (s : Plan) (acts : List Act) → Leveled (level_of s) (timeout_of s) (state s acts).course
+leveled_from_start s acts =
+    on_fold (level_of s) (timeout_of s) s (start s) acts
+    (record { rows = rows_at_start s s.writers 0 (λ j. (ap (level_of s) (none_before j), ap (timeout_of s) (none_before j))); members = tt; distinct = tt })
 
 pub levels_are : (s : Plan) (acts : List Act) → MembersOf (level_of s) (state s acts).course.members
 levels_are s acts = (leveled_from_start s acts).members
 
 pub members_ascend : (s : Plan) (acts : List Act) → Ascends 0 (state s acts).course.members
 members_ascend s acts = (leveled_from_start s acts).distinct
+
+-- ## the numbers
+
+own_timeout : (s : Plan) (w : ℕ) (p : WriterPlan) → slice_get s.writers w ≡ Some p → timeout_of s w ≡ p.meta.freeze_timeout
+own_timeout s w p e = ap timeout_in e
+
+row_at : (s : Plan) (rows : List WriterRow) (k w : ℕ) (r : WriterRow) → RowsOf (level_of s) (timeout_of s) k rows → slice_get rows w ≡ Some r → r.limit ≡ timeout_of s (k + w)
+row_at s [] k w r h e = absurd cc
+row_at s (q ∷ rows) k zero r h e = let same : q ≡ r = cc in ap (λ (x : WriterRow). x.limit) (sym same) ∙ h.0.1 ∙ ap (timeout_of s) (none_after k)
+  where
+    none_after : (k : ℕ) → k ≡ k + 0
+    none_after k = omega arith
+row_at s (q ∷ rows) k (suc w) r h e = row_at s rows (k + 1) w r h.1 e ∙ ap (timeout_of s) (one_more k w)
+  where
+    one_more : (k j : ℕ) → k + 1 + j ≡ k + suc j
+    one_more k j = omega arith
+
+pub has_its_numbers : (s : Plan) (so_far : List Act) → HasItsNumbers s so_far
+has_its_numbers s so_far = record {
+  hold = refl;
+  freeze = refl;
+  answer = refl;
+  own = λ w r p e f. row_at s (state s so_far).course.rows 0 w r (leveled_from_start s so_far).rows e ∙ ap (timeout_of s) (sym (none_before w)) ∙ own_timeout s w p f;
+}

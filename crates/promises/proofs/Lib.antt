@@ -16,6 +16,10 @@ pub mod Done
 pub mod Limits
 pub mod Times
 pub mod Failing
+pub mod SetRows
+pub mod Ends
+pub mod Refused
+pub mod Answers
 pub mod Restored
 pub mod Contents
 pub mod Calls
@@ -55,3 +59,4 @@ pub mod SetFailures
 pub mod LastResult
 pub mod Awaited
 pub mod Promises
+pub mod Headline

@@ -1,8 +1,9 @@
 -- Who may call, and what waits: a session call of a lane that does not own the session is refused and changes nothing; of all
 -- lines only writes, `begin` and `await` wait; without a session no agenda runs; and while a writer stands frozen, no lane that
 -- acts as it writes. (One session at a time is this project's own.)
-use Rattle.std.specs.Prelude.{ℕ, ◌≡◌, ◌||◌, Bool, true, false, List, Some, None, is_some}
+use Rattle.std.specs.Prelude.{ℕ, ◌≡◌, ◌==◌, ◌||◌, not, Bool, true, false, List, Some, None, is_some}
 use Rattle.vss_names.specs.declared.vss_result.VssResult.TheVariants.{BadState}
+use Rattle.requestor.specs.Session.{Session}
 use Rattle.scenario.specs.declared.op.Op.{Op}
 use Rattle.scenario.specs.declared.op.Op.TheVariants.{Begin, Await}
 use Rattle.scenario.specs.Bounds.{is_begin}
@@ -10,7 +11,7 @@ use Rattle.scenario.specs.Calls.{Target, call_of, target_of}
 use Rattle.scenario.specs.Plan.{Plan, acts_as}
 use Rattle.vss_model.specs.declared.event.Event.TheVariants.{Line}
 use Rattle.vss_model.specs.Reply.{Coded}
-use Rattle.vss_model.specs.State.{is_frozen}
+use Rattle.vss_model.specs.State.{is_frozen, is_held}
 use Rattle.vss_model.specs.Ending.{runs}
 use Rattle.vss_model.specs.Acts.{Act, enabled, reply, after, state}
 use Rattle.vss_model.specs.Causes.{owns}
@@ -39,6 +40,16 @@ WaitsAreFew s so_far = (lane : ℕ) (op : Op) → enabled s (state s so_far) (Li
 -- without a session no agenda runs
 abbrev pub StandsQuiet : Plan → List Act → Type 0
 StandsQuiet s so_far = (state s so_far).session ≡ None → runs (state s so_far) ≡ false
+
+-- Who waits, and who need not: a write exactly while its volume is held or its lane acts as a frozen writer; `begin` exactly while
+-- another lane's session stands; and `await` of the owner exactly while an agenda runs.
+pub record WaitsAreDue (s : Plan) (so_far : List Act) : Type 0 where
+  pub held : (lane : ℕ) (op : Op) (t : Target) → target_of op ≡ Some t → is_held (state s so_far) t.volume ≡ true → enabled s (state s so_far) (Line lane op) ≡ false
+  pub free : (lane : ℕ) (op : Op) (t : Target) → target_of op ≡ Some t → is_held (state s so_far) t.volume ≡ false
+      → ((w : ℕ) → acts_as s lane ≡ Some w → is_frozen (state s so_far) w ≡ false) → enabled s (state s so_far) (Line lane op) ≡ true
+  pub begins : (lane n : ℕ) (all : Bool) (q : Session) → (state s so_far).session ≡ Some q → (q.owner == lane) ≡ false → enabled s (state s so_far) (Line lane (Begin n all)) ≡ false
+  pub first : (lane n : ℕ) (all : Bool) → (state s so_far).session ≡ None → enabled s (state s so_far) (Line lane (Begin n all)) ≡ true
+  pub awaits : (lane : ℕ) → owns (state s so_far).session lane ≡ true → enabled s (state s so_far) (Line lane Await) ≡ not (runs (state s so_far))
 
 -- a lane that acts as a frozen writer waits with its writes
 abbrev pub FrozenDoNotWrite : Plan → List Act → Type 0

@@ -7,6 +7,10 @@ pub mod Clock
 pub mod Idle
 pub mod Calls
 pub mod Sets
+pub mod Ends
+pub mod Refused
+pub mod Answers
+pub mod Numbers
 pub mod Replies
 pub mod Within
 pub mod Unanswered
@@ -23,3 +27,4 @@ pub mod Evicted
 pub mod Properties
 pub mod Awaited
 pub mod Promises
+pub mod Headline

@@ -5,21 +5,25 @@ use Rattle.scenario.specs.Plan.{Plan}
 use Rattle.vss_model.specs.Acts.{Act}
 use Rattle.vss_model.specs.Trail.{acts}
 use Rattle.promises.specs.Accepted.{AcceptsOwner}
+use Rattle.promises.specs.Answers.{AnswersSay}
 use Rattle.promises.specs.Awaited.{AwaitTells}
-use Rattle.promises.specs.Calls.{CallsAreOwned, WaitsAreFew, StandsQuiet, FrozenDoNotWrite}
+use Rattle.promises.specs.Calls.{CallsAreOwned, WaitsAreFew, WaitsAreDue, StandsQuiet, FrozenDoNotWrite}
 use Rattle.promises.specs.Clock.{ClockMoves}
 use Rattle.promises.specs.Completing.{CompletesUnfailed}
 use Rattle.promises.specs.Contents.{ContentsChange}
 use Rattle.promises.specs.ContextZero.{BackupsEnd}
 use Rattle.promises.specs.Copies.{CopiesHold}
 use Rattle.promises.specs.Done.{IsDone}
+use Rattle.promises.specs.Ends.{KeepsRows}
 use Rattle.promises.specs.Evicted.{TellsEvicted}
 use Rattle.promises.specs.Failing.{FailsForCause}
 use Rattle.promises.specs.Gone.{ImagesGoForCause}
 use Rattle.promises.specs.Idle.{IdlesShortest}
 use Rattle.promises.specs.Lost.{LosesTheLate}
+use Rattle.promises.specs.Numbers.{HasItsNumbers}
 use Rattle.promises.specs.Participants.{ChosenTakePart, TakesPart}
 use Rattle.promises.specs.Properties.{PropertiesTell}
+use Rattle.promises.specs.Refused.{RefusalsChangeNothing}
 use Rattle.promises.specs.Replies.{RepliesTell}
 use Rattle.promises.specs.Rows.{RowsTell}
 use Rattle.promises.specs.Sets.{VolumesAreDistinct}
@@ -34,6 +38,7 @@ pub record IsActAsPromised (s : Plan) (so_far : List Act) (act : Act) : Type 0 w
   pub participants : TakesPart s so_far act
   pub completes : CompletesByTheWay s so_far act
   pub fails : FailsForCause s so_far act
+  pub sets : KeepsRows s so_far act
   pub images : ImagesGoForCause s so_far act
   pub evicted : TellsEvicted s so_far act
   pub done : IsDone s so_far act
@@ -41,6 +46,8 @@ pub record IsActAsPromised (s : Plan) (so_far : List Act) (act : Act) : Type 0 w
   pub clock : ClockMoves s so_far act
   pub calls : CallsAreOwned s so_far act
   pub accepts : AcceptsOwner s so_far act
+  pub refuses : RefusalsChangeNothing s so_far act
+  pub answers : AnswersSay s so_far act
   pub replies : RepliesTell s so_far act
   pub properties : PropertiesTell s so_far act
   pub awaits : AwaitTells s so_far act
@@ -51,12 +58,14 @@ pub record IsActAsPromised (s : Plan) (so_far : List Act) (act : Act) : Type 0 w
 -- of the state after these acts
 pub record IsStateAsPromised (s : Plan) (so_far : List Act) : Type 0 where
   pub waits : WaitsAreFew s so_far
+  pub due : WaitsAreDue s so_far
   pub quiet : StandsQuiet s so_far
   pub frozen : FrozenDoNotWrite s so_far
   pub chosen : ChosenTakePart s so_far
   pub volumes : VolumesAreDistinct s so_far
   pub idles : IdlesShortest s so_far
   pub limits : StandsWithinLimits s so_far
+  pub numbers : HasItsNumbers s so_far
   pub orders : OrdersEnd s so_far
   pub completing : CompletesUnfailed s so_far
   pub backups : BackupsEnd s so_far

@@ -1,26 +1,33 @@
 //! The promises: functions that do nothing, whose contracts are the laws.
 
-ghost use Rattle.std.specs.Prelude.{List};
+ghost use Rattle.std.specs.Prelude.{◌≡◌, true, List};
 ghost use Rattle.write_history.specs.declared.move_item.Move.{Move};
 ghost use Rattle.scenario.specs.Plan.{Plan};
+ghost use Rattle.scenario.specs.Bounds.{IsPlan};
 ghost use Rattle.vss_model.specs.Acts.{Act};
+ghost use Rattle.vss_model.specs.Trail.{is_legal, is_complete};
 ghost use Rattle.promises.specs.Accepted.{AcceptsOwner};
+ghost use Rattle.promises.specs.Answers.{AnswersSay};
 ghost use Rattle.promises.specs.Awaited.{AwaitTells};
-ghost use Rattle.promises.specs.Calls.{CallsAreOwned, WaitsAreFew, StandsQuiet, FrozenDoNotWrite};
+ghost use Rattle.promises.specs.Calls.{CallsAreOwned, WaitsAreFew, WaitsAreDue, StandsQuiet, FrozenDoNotWrite};
 ghost use Rattle.promises.specs.Clock.{ClockMoves};
 ghost use Rattle.promises.specs.Completing.{CompletesUnfailed};
 ghost use Rattle.promises.specs.Contents.{ContentsChange};
 ghost use Rattle.promises.specs.ContextZero.{BackupsEnd};
 ghost use Rattle.promises.specs.Copies.{CopiesHold};
 ghost use Rattle.promises.specs.Done.{IsDone};
+ghost use Rattle.promises.specs.Ends.{KeepsRows, EndsEachSet, CompletesWhereCalm};
 ghost use Rattle.promises.specs.Evicted.{TellsEvicted};
 ghost use Rattle.promises.specs.Failing.{FailsForCause};
 ghost use Rattle.promises.specs.Gone.{ImagesGoForCause};
+ghost use Rattle.promises.specs.Headline.{Headline};
 ghost use Rattle.promises.specs.Idle.{IdlesShortest};
 ghost use Rattle.promises.specs.Lost.{LosesTheLate};
+ghost use Rattle.promises.specs.Numbers.{HasItsNumbers};
 ghost use Rattle.promises.specs.Participants.{ChosenTakePart, TakesPart};
 ghost use Rattle.promises.specs.Promises.{IsAsPromised};
 ghost use Rattle.promises.specs.Properties.{PropertiesTell};
+ghost use Rattle.promises.specs.Refused.{RefusalsChangeNothing};
 ghost use Rattle.promises.specs.Replies.{RepliesTell};
 ghost use Rattle.promises.specs.Rows.{RowsTell};
 ghost use Rattle.promises.specs.Sets.{VolumesAreDistinct};
@@ -79,6 +86,23 @@ pub fn sets_fail_for_cause()
     ensures { (s : Plan) (so_far : List Act) (act : Act) → FailsForCause s so_far act }
 {}
 
+/// A set keeps its row whatever comes, with its number, its context and its volumes; and one that is over stays as it is.
+pub fn sets_keep_their_rows()
+    ensures { (s : Plan) (so_far : List Act) (act : Act) → KeepsRows s so_far act }
+{}
+
+/// In a legal and complete trail each set that was started ends: it is complete, or it has failed.
+pub fn each_set_ends()
+    ensures { (s : Plan) (trail : List Move) → IsPlan s → is_legal s trail ≡ true → is_complete s trail ≡ true → EndsEachSet s trail }
+{}
+
+/// In a legal and complete trail a set in progress that nothing disturbs completes: no writer vetoes what needs its consent, no limit is
+/// outrun, no device fails a flush, no image of the set goes for want of a slot, and its owner calls neither `abort` nor `end`.
+pub fn calm_sets_complete()
+    ensures { (s : Plan) (trail : List Move) → IsPlan s → is_legal s trail ≡ true → is_complete s trail ≡ true
+        → CompletesWhereCalm s trail }
+{}
+
 /// After a `delete` what it names is gone, and after a revert the images of later sets on its volume are.
 pub fn what_is_asked_is_done()
     ensures { (s : Plan) (so_far : List Act) (act : Act) → IsDone s so_far act }
@@ -105,6 +129,11 @@ pub fn calls_are_the_owners()
     ensures { (s : Plan) (so_far : List Act) (act : Act) → CallsAreOwned s so_far act }
 {}
 
+/// A refusal changes nothing, and neither does a line that only looks.
+pub fn refusals_change_nothing()
+    ensures { (s : Plan) (so_far : List Act) (act : Act) → RefusalsChangeNothing s so_far act }
+{}
+
 /// In its stage and below its maxima the owner's call is accepted.
 pub fn owners_are_accepted_in_their_stage()
     ensures { (s : Plan) (so_far : List Act) (act : Act) → AcceptsOwner s so_far act }
@@ -113,8 +142,15 @@ pub fn owners_are_accepted_in_their_stage()
 /// Only writes, `begin` and `await` wait; without a session no agenda runs; and no lane writes as a writer that stands frozen.
 pub fn few_lines_wait()
     ensures waits { (s : Plan) (so_far : List Act) → WaitsAreFew s so_far }
+    ensures due { (s : Plan) (so_far : List Act) → WaitsAreDue s so_far }
     ensures quiet { (s : Plan) (so_far : List Act) → StandsQuiet s so_far }
     ensures frozen { (s : Plan) (so_far : List Act) → FrozenDoNotWrite s so_far }
+{}
+
+/// An answer says what was done: a write whether its block was written, a step whether a device failed in it, an idle stretch how long it
+/// was, and a `delete` how many images went.
+pub fn answers_say_what_was_done()
+    ensures { (s : Plan) (so_far : List Act) (act : Act) → AnswersSay s so_far act }
 {}
 
 /// `read` tells a block as it is, `image` one or all as they were at the set's cut, and `query` exactly the sets that are kept.
@@ -153,6 +189,12 @@ pub fn nothing_stands_late()
     ensures { (s : Plan) (so_far : List Act) → StandsWithinLimits s so_far }
 {}
 
+/// Volumes may be held for 10,000 ticks, an order may stay unanswered for 300,000, writers may stand frozen for 60,000 at most, and each for no
+/// longer than its own metadata state.
+pub fn limits_are_these_numbers()
+    ensures { (s : Plan) (so_far : List Act) → HasItsNumbers s so_far }
+{}
+
 /// After no act has an order of Identify, Thaw, PostSnapshot or BackupComplete been open for more than 300,000 ticks.
 pub fn no_order_stays_open()
     ensures { (s : Plan) (so_far : List Act) → OrdersEnd s so_far }
@@ -166,4 +208,9 @@ pub fn backups_end_with_their_session()
 /// Every run is as promised: each act of a trail, and each state on its way.
 pub fn every_run_is_as_promised()
     ensures { (s : Plan) (trail : List Move) → IsAsPromised s trail }
+{}
+
+/// The headline holds of every legal and complete trail of a scenario within its limits.
+pub fn every_run_has_the_headline()
+    ensures { (s : Plan) (trail : List Move) → IsPlan s → is_legal s trail ≡ true → is_complete s trail ≡ true → Headline s trail }
 {}

@@ -11,9 +11,10 @@ use Rattle.command_words.specs.declared.task.Task.TheVariants.{Run, Generate, In
 use Rattle.vss_main.specs.Command.{most_bytes_for, most_for_task}
 use Rattle.vss_main.specs.Inspected.{status_of}
 use Rattle.vss_main.specs.Tasks.{IsTask, IsTaskWhereItCan, IsAnswer, IsAnsweredWhereItCan}
-use Rattle.vss_main.specs.TopCall.{Around, IsUntouched}
+use Rattle.vss_main.specs.Outside.{Around}
+use Rattle.vss_main.specs.TopCall.{IsDone, IsUntouched}
 use Rattle.vss_main.specs.declared.status.Status.{Status}
-use Rattle.vss_main.specs.declared.status.Status.TheVariants.{Usage, OutOfMemory, TooLong}
+use Rattle.vss_main.specs.declared.status.Status.TheVariants.{Done, Usage, OutOfMemory, TooLong}
 
 no_less : (a b : ℕ) → b ≡ a → a ≤ b
 no_less a b e = omega arith
@@ -93,3 +94,8 @@ where_as task other a status e h = subst (λ (t : Task). IsTaskWhereItCan t a st
 
 pub most_as : (before after : Option (List ℕ)) (A : Type 0) (task other : Task) → task ≡ other → IfGave before after (λ n. A ↔ (most_for_task other < n)) → IfGave before after (λ n. A ↔ (most_for_task task < n))
 most_as before after A task other e h = subst (λ (t : Task). IfGave before after (λ n. A ↔ (most_for_task t < n))) (sym e) h
+
+-- where a run was asked for, and ended well
+pub done_by : {D : Type 0} (told : D → Option (List (List ℕ))) (tells : Store → Bool) (asked : Option Asked) (folder : Option (List ℕ)) (a : Around D) (status : Status)
+    → IsAnswer told tells asked a status → asked ≡ Some (record { task = Run; folder = folder }) → status ≡ Done → IsDone told tells folder a
+done_by told tells asked folder a status h e f = subst (λ o. IsAnswer told tells o a Done) e (subst (λ x. IsAnswer told tells asked a x) f h)

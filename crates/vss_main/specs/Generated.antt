@@ -20,7 +20,8 @@ use Rattle.vss_play.specs.declared.play_fault.PlayFault.{PlayFault}
 use Rattle.vss_play.specs.Digested.{AreDigests}
 use Rattle.vss_play.specs.Played.{Played, AnyRose, AreNamed, AreasHold, IsKept, IsQuietPlay, device_names, tells_in}
 use Rattle.vss_main.specs.Command.{IsStoreOf}
-use Rattle.vss_main.specs.TopCall.{Around, AreGivenBack, IsDoneOrWantsMemory}
+use Rattle.vss_main.specs.Outside.{SinkAndMaker}
+use Rattle.vss_main.specs.TopCall.{AreGivenBack, IsDoneOrWantsMemory}
 use Rattle.vss_main.specs.declared.status.Status.{Status}
 use Rattle.vss_main.specs.declared.status.Status.TheVariants.{Done, WriteFault, DeviceFault, OutOfMemory}
 
@@ -91,33 +92,6 @@ pub record IsDigested {D : Type 0} (told : D → Option (List (List ℕ))) (coun
   pub count_is : count_now ≡ all_counted count_before (map count new.devices)
 
 -- ## each status with its cause
-
--- the sink and the maker before the call and after it
-pub record SinkAndMaker (D : Type 0) : Type 0 where
-  pub taken_first : Option (List ℕ)
-  pub taken_last : Option (List ℕ)
-  pub writes_first : ℕ
-  pub writes_last : ℕ
-  pub named_first : Option (List (List ℕ))
-  pub named_last : Option (List (List ℕ))
-  pub kept_first : Option (List D)
-  pub kept_last : Option (List D)
-  pub count_first : ℕ
-  pub count_last : ℕ
-
-abbrev pub sink_and_maker : {D : Type 0} → Around D → SinkAndMaker D
-sink_and_maker a = record {
-  taken_first = a.taken_first;
-  taken_last = a.taken_last;
-  writes_first = a.writes_first;
-  writes_last = a.writes_last;
-  named_first = a.named_first;
-  named_last = a.named_last;
-  kept_first = a.kept_first;
-  kept_last = a.kept_last;
-  count_first = a.count_first;
-  count_last = a.count_last;
-}
 
 pub record IsNothingTaken {D : Type 0} (o : SinkAndMaker D) : Type 0 where
   pub taken : o.taken_last ≡ o.taken_first

@@ -4,7 +4,7 @@ use Rattle.std.specs.Prelude.{◌≡◌}
 use Rattle.area_listing.specs.Inspected.{Edges, IsInspected, IsListedWhereItCan}
 use Rattle.area_listing.specs.declared.inspection.Inspection.{Inspection}
 use Rattle.area_listing.specs.declared.inspection.Inspection.TheVariants as ended
-use Rattle.vss_main.specs.TopCall.{Around, IsUnmade}
+use Rattle.vss_main.specs.Outside.{Around, IsUnmade}
 use Rattle.vss_main.specs.declared.status.Status.{Status}
 use Rattle.vss_main.specs.declared.status.Status.TheVariants.{Done, ReadFault, WriteFault, OutOfMemory, TooLong, AreaRefused}
 

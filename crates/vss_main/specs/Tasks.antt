@@ -4,9 +4,10 @@ use Rattle.volume_device.specs.declared.store.Store.{Store}
 use Rattle.command_words.specs.Command.{Asked}
 use Rattle.command_words.specs.declared.task.Task.{Task}
 use Rattle.command_words.specs.declared.task.Task.TheVariants.{Run, Generate, Inspect}
-use Rattle.vss_main.specs.Generated.{IsGeneration, IsSummedWhereItCan, sink_and_maker}
+use Rattle.vss_main.specs.Generated.{IsGeneration, IsSummedWhereItCan}
 use Rattle.vss_main.specs.Inspected.{IsListing}
-use Rattle.vss_main.specs.TopCall.{Around, IsUntouched, IsStatus, IsRunWhereItCan}
+use Rattle.vss_main.specs.Outside.{Around, sink_and_maker}
+use Rattle.vss_main.specs.TopCall.{IsUntouched, IsStatus, IsRunWhereItCan}
 use Rattle.vss_main.specs.declared.status.Status.{Status}
 use Rattle.vss_main.specs.declared.status.Status.TheVariants.{Usage, OutOfMemory}
 

@@ -5,6 +5,7 @@ ghost use Rattle.std.specs.List.{list_any};
 ghost use Rattle.vss_names.specs.Faults.{Rose};
 ghost use Rattle.vss_model.specs.Trail.{is_fault, faults};
 ghost use Rattle.vss_main.specs.Generated.{IsOfNumber, IsSummed, IsDigested, IsGeneration, IsSummedWhereItCan};
+ghost use Rattle.vss_main.specs.Outside.{sink_and_maker_of};
 ghost use Rattle.vss_main.specs.TopCall.{AreGivenBack};
 
 use crate::status::Status;
@@ -119,30 +120,8 @@ pub fn run_generated<R: Threads + Wait + Sync, K: Sink, M: Maker, G: Gate>(
     maker: &mut M,
     gate: &G,
 ) -> Status
-    ensures status { IsGeneration M.Made.told (λ store. M.tells maker.old store) (option_map (λ s. s.now) folder.entry) number (record {
-      taken_first = K.taken sink.old;
-      taken_last = K.taken sink.new;
-      writes_first = K.count sink.old;
-      writes_last = K.count sink.new;
-      named_first = M.named maker.old;
-      named_last = M.named maker.new;
-      kept_first = M.kept maker.old;
-      kept_last = M.kept maker.new;
-      count_first = M.count maker.old;
-      count_last = M.count maker.new;
-    }) result }
-    ensures answered { IsSummedWhereItCan (record {
-      taken_first = K.taken sink.old;
-      taken_last = K.taken sink.new;
-      writes_first = K.count sink.old;
-      writes_last = K.count sink.new;
-      named_first = M.named maker.old;
-      named_last = M.named maker.new;
-      kept_first = M.kept maker.old;
-      kept_last = M.kept maker.new;
-      count_first = M.count maker.old;
-      count_last = M.count maker.new;
-    }) result }
+    ensures status { IsGeneration M.Made.told (λ store. M.tells maker.old store) (option_map (λ s. s.now) folder.entry) number (sink_and_maker_of K.taken K.count M.named M.kept M.count sink.old sink.new maker.old maker.new) result }
+    ensures answered { IsSummedWhereItCan (sink_and_maker_of K.taken K.count M.named M.kept M.count sink.old sink.new maker.old maker.new) result }
 {
     let scenario = match scenario_of(alloc, number) {
         Ok(scenario) => scenario,

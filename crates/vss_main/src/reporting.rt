@@ -4,7 +4,8 @@ ghost use Rattle.std.specs.Prelude.{◌≡◌, ◌<◌, ◌≤◌, ◌↔◌, If
 ghost use Rattle.vss_names.specs.Faults.{Rose};
 ghost use Rattle.io_edge.specs.Streams.{IfGave};
 ghost use Rattle.vss_main.specs.Command.{most_bytes};
-ghost use Rattle.vss_main.specs.TopCall.{IsRun, AreGivenBack, IsStatus, IsRunWhereItCan};
+ghost use Rattle.vss_main.specs.Outside.{around};
+ghost use Rattle.vss_main.specs.TopCall.{Ran, AreGivenBack, IsStatus, IsRunWhereItCan};
 
 use crate::status::Status;
 use crate::stores::store_of;
@@ -29,11 +30,12 @@ fn report_of<R: Threads + Wait + Sync, M: Maker, G: Gate>(
     maker: &mut M,
     gate: &G,
 ) -> Result<Text, PlayFault>
-    ensures ran { IfOk result (λ report. IsRun M.Made.told (M.tells maker.old store.now) (M.named maker.old) (M.named maker.new) (M.kept maker.old) (M.kept maker.new) (M.count maker.old) (M.count maker.new) scenario report.bytes) }
+    ensures ran { IfOk result (λ report. Ran M.Made.told (M.tells maker.old store.now) (M.named maker.old) (M.named maker.new) (M.kept maker.old) (M.kept maker.new) (M.count maker.old) (M.count maker.new) scenario report.bytes) }
     ensures later { M.count maker.old ≤ M.count maker.new }
     ensures given_back { IsErrOf result PlayFault.Failed → AreGivenBack scenario (M.named maker.old) (M.named maker.new) (M.kept maker.old) (M.kept maker.new) }
     ensures rose { IsErrOf result PlayFault.Failed → Rose (M.count maker.old) (M.count maker.new) }
 {
+    let _facts = scenario.volumes();
     let play = Play::new(alloc, scenario, store, maker)?;
     let Ok(played) = play_all(rt, alloc, play, gate) else {
         return Err(PlayFault::OutOfMemory);
@@ -52,38 +54,8 @@ pub fn run_input<R: Threads + Wait + Sync, S: Source, K: Sink, M: Maker, G: Gate
     gate: &G,
 ) -> Status
     ensures too_long { IfGave (S.left source.old) (S.left source.new) (λ n. (result ≡ Status.TooLong) ↔ (most_bytes < n)) }
-    ensures status { IsStatus M.Made.told (λ store. M.tells maker.old store) (option_map (λ s. s.now) folder.entry) (record {
-      left_first = S.left source.old;
-      left_last = S.left source.new;
-      reads_first = S.count source.old;
-      reads_last = S.count source.new;
-      taken_first = K.taken sink.old;
-      taken_last = K.taken sink.new;
-      writes_first = K.count sink.old;
-      writes_last = K.count sink.new;
-      named_first = M.named maker.old;
-      named_last = M.named maker.new;
-      kept_first = M.kept maker.old;
-      kept_last = M.kept maker.new;
-      count_first = M.count maker.old;
-      count_last = M.count maker.new;
-    }) result }
-    ensures answered { IsRunWhereItCan (record {
-      left_first = S.left source.old;
-      left_last = S.left source.new;
-      reads_first = S.count source.old;
-      reads_last = S.count source.new;
-      taken_first = K.taken sink.old;
-      taken_last = K.taken sink.new;
-      writes_first = K.count sink.old;
-      writes_last = K.count sink.new;
-      named_first = M.named maker.old;
-      named_last = M.named maker.new;
-      kept_first = M.kept maker.old;
-      kept_last = M.kept maker.new;
-      count_first = M.count maker.old;
-      count_last = M.count maker.new;
-    }) result }
+    ensures status { IsStatus M.Made.told (λ store. M.tells maker.old store) (option_map (λ s. s.now) folder.entry) (around S.left S.count K.taken K.count M.named M.kept M.count source.old source.new sink.old sink.new maker.old maker.new) result }
+    ensures answered { IsRunWhereItCan (around S.left S.count K.taken K.count M.named M.kept M.count source.old source.new sink.old sink.new maker.old maker.new) result }
 {
     let text = match read_all(alloc, source, MOST_BYTES) {
         Ok(text) => text,

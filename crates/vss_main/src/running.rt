@@ -1,6 +1,9 @@
-ghost use Rattle.std.specs.Prelude.{◌≡◌, ◌<◌, ◌≤◌, ◌↔◌, None, option_map};
+ghost use Rattle.std.specs.Prelude.{ℕ, ◌≡◌, ◌<◌, ◌≤◌, ◌↔◌, List, Option, None, Some, option_map};
 ghost use Rattle.io_edge.specs.Streams.{IfGave};
 ghost use Rattle.vss_main.specs.Command.{asked_by, most_for_task, most_bytes_for};
+ghost use Rattle.vss_main.specs.Outside.{around};
+ghost use Rattle.command_words.specs.declared.task.Task.TheVariants.{Run};
+ghost use Rattle.vss_main.specs.TopCall.{IsDone};
 ghost use Rattle.vss_main.specs.Tasks.{IsTask, IsTaskWhereItCan, IsAnswer, IsAnsweredWhereItCan, IsUsageOrWantsMemory};
 
 use crate::generating::run_generated;
@@ -28,38 +31,8 @@ fn run_task<R: Threads + Wait + Sync, S: Source, K: Sink, M: Maker, G: Gate>(
     gate: &G,
 ) -> Status
     ensures too_long { IfGave (S.left source.old) (S.left source.new) (λ n. (result ≡ Status.TooLong) ↔ (most_for_task command.entry.task < n)) }
-    ensures task { IsTask M.Made.told (λ store. M.tells maker.old store) (option_map (λ s. s.now) command.entry.folder) command.entry.task (record {
-      left_first = S.left source.old;
-      left_last = S.left source.new;
-      reads_first = S.count source.old;
-      reads_last = S.count source.new;
-      taken_first = K.taken sink.old;
-      taken_last = K.taken sink.new;
-      writes_first = K.count sink.old;
-      writes_last = K.count sink.new;
-      named_first = M.named maker.old;
-      named_last = M.named maker.new;
-      kept_first = M.kept maker.old;
-      kept_last = M.kept maker.new;
-      count_first = M.count maker.old;
-      count_last = M.count maker.new;
-    }) result }
-    ensures answered { IsTaskWhereItCan command.entry.task (record {
-      left_first = S.left source.old;
-      left_last = S.left source.new;
-      reads_first = S.count source.old;
-      reads_last = S.count source.new;
-      taken_first = K.taken sink.old;
-      taken_last = K.taken sink.new;
-      writes_first = K.count sink.old;
-      writes_last = K.count sink.new;
-      named_first = M.named maker.old;
-      named_last = M.named maker.new;
-      kept_first = M.kept maker.old;
-      kept_last = M.kept maker.new;
-      count_first = M.count maker.old;
-      count_last = M.count maker.new;
-    }) result }
+    ensures task { IsTask M.Made.told (λ store. M.tells maker.old store) (option_map (λ s. s.now) command.entry.folder) command.entry.task (around S.left S.count K.taken K.count M.named M.kept M.count source.old source.new sink.old sink.new maker.old maker.new) result }
+    ensures answered { IsTaskWhereItCan command.entry.task (around S.left S.count K.taken K.count M.named M.kept M.count source.old source.new sink.old sink.new maker.old maker.new) result }
 {
     match command.task {
         Task::Run => run_input(rt, alloc, command.folder, source, sink, maker, gate),
@@ -89,41 +62,14 @@ pub fn run<R: Threads + Wait + Sync, S: Source, K: Sink, M: Maker, G: Gate>(
     maker: &mut M,
     gate: &G,
 ) -> Status
-    ensures usage { result ≡ Status.Usage → asked_by words.now ≡ None }
-    ensures refused { asked_by words.now ≡ None → IsUsageOrWantsMemory result }
+    ensures words { result ≡ Status.Usage → asked_by words.now ≡ None }
+    ensures no_words { asked_by words.now ≡ None → IsUsageOrWantsMemory result }
     ensures too_long { IfGave (S.left source.old) (S.left source.new) (λ n. (result ≡ Status.TooLong) ↔ (most_bytes_for (asked_by words.now) < n)) }
-    ensures status { IsAnswer M.Made.told (λ store. M.tells maker.old store) (asked_by words.now) (record {
-      left_first = S.left source.old;
-      left_last = S.left source.new;
-      reads_first = S.count source.old;
-      reads_last = S.count source.new;
-      taken_first = K.taken sink.old;
-      taken_last = K.taken sink.new;
-      writes_first = K.count sink.old;
-      writes_last = K.count sink.new;
-      named_first = M.named maker.old;
-      named_last = M.named maker.new;
-      kept_first = M.kept maker.old;
-      kept_last = M.kept maker.new;
-      count_first = M.count maker.old;
-      count_last = M.count maker.new;
-    }) result }
-    ensures answered { IsAnsweredWhereItCan (asked_by words.now) (record {
-      left_first = S.left source.old;
-      left_last = S.left source.new;
-      reads_first = S.count source.old;
-      reads_last = S.count source.new;
-      taken_first = K.taken sink.old;
-      taken_last = K.taken sink.new;
-      writes_first = K.count sink.old;
-      writes_last = K.count sink.new;
-      named_first = M.named maker.old;
-      named_last = M.named maker.new;
-      kept_first = M.kept maker.old;
-      kept_last = M.kept maker.new;
-      count_first = M.count maker.old;
-      count_last = M.count maker.new;
-    }) result }
+    ensures done { (folder : Option (List ℕ)) → asked_by words.now ≡ Some (record { task = Run; folder = folder }) → result ≡ Status.Done
+        → IsDone M.Made.told (λ store. M.tells maker.old store) folder
+        (around S.left S.count K.taken K.count M.named M.kept M.count source.old source.new sink.old sink.new maker.old maker.new) }
+    ensures otherwise { IsAnswer M.Made.told (λ store. M.tells maker.old store) (asked_by words.now) (around S.left S.count K.taken K.count M.named M.kept M.count source.old source.new sink.old sink.new maker.old maker.new) result }
+    ensures completes { IsAnsweredWhereItCan (asked_by words.now) (around S.left S.count K.taken K.count M.named M.kept M.count source.old source.new sink.old sink.new maker.old maker.new) result }
 {
     match command_of(alloc, words) {
         Err(OutOfMemory) => Status::OutOfMemory,

@@ -19,7 +19,7 @@ running_found (q ∷ rows) r e = by_head (is_running q.result) refl e (running_f
     by_head true f e ih = subst (λ x. is_running x.result ≡ true) (some_row q r e) f
     by_head false f e ih = ih e
 
-found_above : (m : ℕ) (rows : List SetRow) (r : SetRow) → NumberedFrom m rows → find (λ q. is_running q.result) rows ≡ Some r → m ≤ r.number
+pub found_above : (m : ℕ) (rows : List SetRow) (r : SetRow) → NumberedFrom m rows → find (λ q. is_running q.result) rows ≡ Some r → m ≤ r.number
 found_above m [] r h e = absurd cc
 found_above m (q ∷ rows) r h e = by_head (is_running q.result) e (found_above (m + 1) rows r h.1)
   where

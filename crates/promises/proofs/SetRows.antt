@@ -1,0 +1,297 @@
+-- The rows of sets go on: no act loses one, and one that is over stays as it is.
+use Rattle.std.proofs.Common.{◌≡◌, ◌∙◌, ℕ, ◌+◌, ◌==◌, ◌<◌, ◌≤◌, List, [], ◌∷◌, ◌++◌, Option, Some, None, refl, Bool, true, false, ap, sym, subst, map, find, fold, arith}
+use Rattle.std.specs.Prelude.{◌||◌, if◌then◌else◌}
+use Rattle.std.proofs.lemmas.List.{append_assoc}
+use Rattle.std.proofs.lemmas.List.Folds.{list_any-append}
+use Rattle.vss_names.specs.declared.set_outcome.SetOutcome.{SetOutcome}
+use Rattle.vss_names.specs.declared.vss_result.VssResult.{VssResult}
+use Rattle.vss_names.specs.declared.vss_result.VssResult.TheVariants.{InsufficientStorage, AsyncCancelled}
+use Rattle.writer_state.specs.declared.said.Said.{Said}
+use Rattle.write_history.specs.declared.mark.Mark.{Mark}
+use Rattle.write_history.specs.declared.mark.Mark.TheVariants.{Clean, Fault, FaultAfter}
+use Rattle.write_history.specs.History.{Write}
+use Rattle.writer_calls.specs.Script.{said_of}
+use Rattle.set_agenda.specs.declared.group.Group.{Group}
+use Rattle.set_agenda.specs.declared.group.Group.TheVariants.{Orders, PreCommit, Flush, Hold, Cut, Commit, Release, PostCommit}
+use Rattle.set_agenda.specs.Agenda.{is_among, open_group}
+use Rattle.set_agenda.specs.Course.{Course, answered as course_answered, stepped as course_stepped, timed as course_timed}
+use Rattle.requestor.specs.Session.{Session}
+use Rattle.scenario.specs.Plan.{Plan}
+use Rattle.vss_model.specs.declared.event.Event.{Event}
+use Rattle.vss_model.specs.State.{State, SetRow, Kept, is_running, in_progress, row_changed, row_of, left_now}
+use Rattle.vss_model.specs.Ending.{Ending, NothingEnds, AgendaEnds, SetFails, ending, row_settled, concluded, followed, runs, failed_in, failed}
+use Rattle.vss_model.specs.Images.{Replied, cleared, set_loses_image, with_room_if, put, write, reverted_as}
+use Rattle.vss_model.specs.Sessions.{new_set, new_number, with_volume, has_no_volume, closed}
+use Rattle.vss_model.specs.Steps.{answered, with_cut, cut_set, step_made, is_flush, is_failed_step, stepped_as, stepped, ticked, later}
+use Rattle.vss_model.specs.Facts.{NumberedFrom}
+use Rattle.vss_model.specs.Acts.{Act, enabled, idle_now, after, state}
+use Rattle.vss_model.proofs.Appending.{state-append}
+use Rattle.vss_model.proofs.OrderlyActs.{orderly}
+use Rattle.vss_model.proofs.Rows.{found_above}
+use Rattle.promises.specs.Ends.{IsLaterRow, HasLaterRow, KeepsRows}
+use Rattle.promises.proofs.ByEvent.{Covers, covered, after_enabled, after_not_enabled}
+
+-- ## one row
+
+pub same_row : (r : SetRow) → IsLaterRow r r
+same_row r = record { number = refl; context = refl; volumes = λ v e. e; over = λ e. refl }
+
+over_still : (r q p : SetRow) → IsLaterRow r q → IsLaterRow q p → is_running r.result ≡ false → p ≡ r
+over_still r q p h k e = let same = h.over e in k.over (subst (λ (x : SetRow). is_running x.result ≡ false) (sym same) e) ∙ same
+
+pub later_again : (r q p : SetRow) → IsLaterRow r q → IsLaterRow q p → IsLaterRow r p
+later_again r q p h k = record { number = k.number ∙ h.number; context = k.context ∙ h.context; volumes = λ v e. k.volumes v (h.volumes v e); over = over_still r q p h k }
+
+settled_row : (p : SetOutcome) (r : SetRow) → IsLaterRow r (row_settled p r)
+settled_row p r = by_case (is_running r.result) refl
+  where
+    by_case : (b : Bool) → is_running r.result ≡ b → IsLaterRow r (if b then record r { result = p } else r)
+    by_case true e = record { number = refl; context = refl; volumes = λ v e. e; over = λ f. absurd cc }
+    by_case false e = same_row r
+
+or_left : (a b : Bool) → a ≡ true → (a || b) ≡ true
+or_left true b e = refl
+or_left false b e = absurd cc
+
+more_volumes : (v : ℕ) (r : SetRow) → is_running r.result ≡ true → IsLaterRow r (with_volume v r)
+more_volumes v r e = record {
+  number = refl;
+  context = refl;
+  volumes = λ u f. list_any-append (λ (x : ℕ). x == u) r.volumes (v ∷ []) ∙ or_left (is_among u r.volumes) ((v == u) || false) f;
+  over = λ f. absurd cc;
+}
+
+row_with_cut : (now : ℕ) (r : SetRow) → is_running r.result ≡ true → IsLaterRow r (with_cut now r)
+row_with_cut now r e = record { number = refl; context = refl; volumes = λ v f. f; over = λ f. absurd cc }
+
+-- ## all rows
+
+-- each row is there at a later time; new ones may have come behind them
+abbrev pub GoOn : List SetRow → List SetRow → Type 0
+GoOn [] qs = Unit {0}
+GoOn (r ∷ rs) [] = ⊥
+GoOn (r ∷ rs) (q ∷ qs) = IsLaterRow r q × GoOn rs qs
+
+pub go_on_same : (rows : List SetRow) → GoOn rows rows
+go_on_same [] = tt
+go_on_same (r ∷ rows) = (same_row r, go_on_same rows)
+
+pub go_on_again : (rs qs ps : List SetRow) → GoOn rs qs → GoOn qs ps → GoOn rs ps
+go_on_again [] qs ps h k = tt
+go_on_again (r ∷ rs) [] ps h k = absurd h
+go_on_again (r ∷ rs) (q ∷ qs) [] h k = absurd k
+go_on_again (r ∷ rs) (q ∷ qs) (p ∷ ps) h k = (later_again r q p h.0 k.0, go_on_again rs qs ps h.1 k.1)
+
+go_on_settled : (p : SetOutcome) (rows : List SetRow) → GoOn rows (map (row_settled p) rows)
+go_on_settled p [] = tt
+go_on_settled p (r ∷ rows) = (settled_row p r, go_on_settled p rows)
+
+go_on_more : (rows : List SetRow) (r : SetRow) → GoOn rows (rows ++ r ∷ [])
+go_on_more [] r = tt
+go_on_more (q ∷ rows) r = (same_row q, go_on_more rows r)
+
+pub go_on_found : (n : ℕ) (rs qs : List SetRow) (r : SetRow) (X : Type 0) → GoOn rs qs → find (λ (x : SetRow). x.number == n) rs ≡ Some r
+    → ((q : SetRow) → find (λ (x : SetRow). x.number == n) qs ≡ Some q → IsLaterRow r q → X) → X
+go_on_found n [] qs r X h e f = absurd cc
+go_on_found n (x ∷ rs) [] r X h e f = absurd h
+go_on_found n (x ∷ rs) (y ∷ qs) r X h e f = by_head (x.number == n) (y.number == n) (ap (λ k. k == n) h.0.number) e f (go_on_found n rs qs r X h.1)
+  where
+    some_same : (a b : SetRow) → Some a ≡ Some b → a ≡ b
+    some_same a b e = cc
+
+    by_head : (b c : Bool) → c ≡ b → (if b then Some x else find (λ (z : SetRow). z.number == n) rs) ≡ Some r
+        → ((q : SetRow) → (if c then Some y else find (λ (z : SetRow). z.number == n) qs) ≡ Some q → IsLaterRow r q → X)
+        → (find (λ (z : SetRow). z.number == n) rs ≡ Some r → ((q : SetRow) → find (λ (z : SetRow). z.number == n) qs ≡ Some q → IsLaterRow r q → X) → X) → X
+    by_head true true g e f ih = f y refl (subst (λ z. IsLaterRow z y) (some_same x r e) h.0)
+    by_head false false g e f ih = ih e f
+    by_head true false g e f ih = absurd cc
+    by_head false true g e f ih = absurd cc
+
+-- ## a change of the set in progress
+
+unchanged : (k n : ℕ) (f : SetRow → SetRow) (rows : List SetRow) → NumberedFrom k rows → n < k → GoOn rows (map (row_changed n f) rows)
+unchanged k n f [] num l = tt
+unchanged k n f (r ∷ rows) num l = (by_case (r.number == n) (differs r.number k n num.0 l), unchanged (k + 1) n f rows num.1 (next k n l))
+  where
+    differs : (a k n : ℕ) → a ≡ k → n < k → (a == n) ≡ false
+    differs a k n e l = grind arith
+
+    next : (k n : ℕ) → n < k → n < k + 1
+    next k n l = omega arith
+
+    by_case : (b : Bool) → b ≡ false → IsLaterRow r (if b then f r else r)
+    by_case true e = absurd cc
+    by_case false e = same_row r
+
+pub changed_in_progress : (k : ℕ) (f : SetRow → SetRow) (rows : List SetRow) (r : SetRow) → NumberedFrom k rows → find (λ (q : SetRow). is_running q.result) rows ≡ Some r
+    → ((q : SetRow) → is_running q.result ≡ true → IsLaterRow q (f q)) → GoOn rows (map (row_changed r.number f) rows)
+changed_in_progress k f [] r num e h = tt
+changed_in_progress k f (q ∷ rows) r num e h = by_head (is_running q.result) refl e (changed_in_progress (k + 1) f rows r num.1) (found_above (k + 1) rows r num.1)
+  where
+    some_same : (a b : SetRow) → Some a ≡ Some b → a ≡ b
+    some_same a b e = cc
+
+    below_next : (a k n : ℕ) → a ≡ k → a ≡ n → n < k + 1
+    below_next a k n e f = omega (arith, e, f)
+
+    below : (a k n : ℕ) → a ≡ k → k + 1 ≤ n → (a == n) ≡ false
+    below a k n e l = grind arith
+
+    at_head : (b : Bool) → is_running q.result ≡ true → IsLaterRow q (if b then f q else q)
+    at_head true e = h q e
+    at_head false e = same_row q
+
+    left_alone : (b : Bool) → b ≡ false → IsLaterRow q (if b then f q else q)
+    left_alone true e = absurd cc
+    left_alone false e = same_row q
+
+    by_head : (b : Bool) → is_running q.result ≡ b → (if b then Some q else find (λ (x : SetRow). is_running x.result) rows) ≡ Some r
+        → (find (λ (x : SetRow). is_running x.result) rows ≡ Some r → ((x : SetRow) → is_running x.result ≡ true → IsLaterRow x (f x)) → GoOn rows (map (row_changed r.number f) rows))
+        → (find (λ (x : SetRow). is_running x.result) rows ≡ Some r → k + 1 ≤ r.number) → IsLaterRow q (row_changed r.number f q) × GoOn rows (map (row_changed r.number f) rows)
+    by_head true g e ih above =
+        (at_head (q.number == r.number) g, unchanged (k + 1) r.number f rows num.1 (below_next q.number k r.number num.0 (ap (λ (x : SetRow). x.number) (some_same q r e))))
+    by_head false g e ih above = (left_alone (q.number == r.number) (below q.number k r.number num.0 (above e)), ih e h)
+
+-- ## every act
+
+module _ (s : Plan) (st : State) (num : NumberedFrom 1 st.sets) where
+  in_concluded : (e : Ending) (x : State) → GoOn st.sets x.sets → GoOn st.sets (concluded e x).sets
+  in_concluded NothingEnds x g = g
+  in_concluded AgendaEnds x g = go_on_again st.sets x.sets _ g (go_on_settled x.course.outcome x.sets)
+  in_concluded (SetFails why) x g = go_on_again st.sets x.sets _ g (go_on_settled x.course.outcome x.sets)
+
+  in_followed : (ran : Bool) (c : Course) (x : State) → GoOn st.sets x.sets → GoOn st.sets (followed ran c x).sets
+  unfolding followed
+  in_followed ran c x g = in_concluded (ending x.course.outcome c.outcome ran c.agenda) (record x { course = c }) g
+
+  in_failed : (o : Option SetRow) (why : VssResult) (x : State) → GoOn st.sets x.sets → GoOn st.sets (failed_in o why x).sets
+  in_failed None why x g = g
+  in_failed (Some r) why x g = go_on_again st.sets x.sets _ g (go_on_settled _ x.sets)
+
+  in_room : (b : Bool) (x : State) → GoOn st.sets x.sets → GoOn st.sets (with_room_if b x).sets
+  in_room true x g = in_failed (in_progress x) InsufficientStorage x g
+  in_room false x g = g
+
+  in_put : (v : ℕ) (w : Write) (mark : Mark) (x : State) → GoOn st.sets x.sets → GoOn st.sets (put v w mark x).sets
+  in_put v w Clean x g = g
+  in_put v w Fault x g = g
+  in_put v w (FaultAfter k) x g = g
+
+  in_write : (v : ℕ) (w : Write) (mark : Mark) → GoOn st.sets (write s v w mark st).1.sets
+  unfolding write
+  in_write v w mark = in_put v w mark _ (in_room (set_loses_image (in_progress st) st.volumes (cleared s v w.block st).volumes) (cleared s v w.block st) (go_on_same st.sets))
+
+  in_revert : (v : ℕ) (k : Kept) (mark : Mark) → GoOn st.sets (reverted_as s v k mark st).1.sets
+  in_revert v k Clean = go_on_same st.sets
+  in_revert v k Fault = go_on_same st.sets
+  in_revert v k (FaultAfter n) = go_on_same st.sets
+
+  in_closed : (q : Session) (x : State) → GoOn st.sets x.sets → GoOn st.sets (closed q x).sets
+  unfolding closed
+  in_closed q x g = g
+
+  in_cut : (o : Option SetRow) → in_progress st ≡ o → GoOn st.sets (cut_set o st).sets
+  in_cut None e = go_on_same st.sets
+  in_cut (Some r) e = changed_in_progress 1 (with_cut st.clock) st.sets r num e (row_with_cut st.clock)
+
+  in_made : (g : Option Group) → GoOn st.sets (step_made g st).sets
+  in_made None = go_on_same st.sets
+  in_made (Some (Orders o)) = go_on_same st.sets
+  in_made (Some PreCommit) = go_on_same st.sets
+  in_made (Some Flush) = go_on_same st.sets
+  in_made (Some Hold) = go_on_same st.sets
+  in_made (Some Cut) = in_cut (in_progress st) refl
+  in_made (Some Commit) = go_on_same st.sets
+  in_made (Some Release) = go_on_same st.sets
+  in_made (Some PostCommit) = go_on_same st.sets
+
+  in_answers : (w : ℕ) (said : Said) → GoOn st.sets (answered w said st).sets
+  unfolding answered
+  in_answers w said = in_followed (runs st) (course_answered w said st.clock st.course) st (go_on_same st.sets)
+
+  in_ticks : (n : ℕ) → GoOn st.sets (ticked n st).sets
+  unfolding ticked
+  in_ticks n = in_followed (runs st) (course_timed (st.clock + n) st.course) (later n st) (go_on_same st.sets)
+
+  in_step_as : (f : Bool) (g : Option Group) → GoOn st.sets (stepped_as f g st).sets
+  in_step_as true g = in_followed (runs st) (course_stepped false st.clock st.course) st (go_on_same st.sets)
+  in_step_as false g = in_followed (runs st) (course_stepped true st.clock st.course) (step_made g st) (in_made g)
+
+  in_steps : (mark : Mark) → GoOn st.sets (stepped mark st).sets
+  unfolding stepped
+  in_steps mark = in_step_as (is_failed_step (is_flush (open_group (left_now st))) mark) (open_group (left_now st))
+
+  abbrev RowsGoOn : Event → Mark → Replied → Type 0
+  RowsGoOn event mark x = GoOn st.sets x.1.sets
+
+  either : (b : Bool) (x y : Replied) → GoOn st.sets x.1.sets → GoOn st.sets y.1.sets → GoOn st.sets (if b then x else y).1.sets
+  either true x y g h = g
+  either false x y g h = h
+
+  rows_go_on : Covers RowsGoOn s st
+  rows_go_on = record {
+    stays = λ lane o mark told e f. go_on_same st.sets;
+    writes = λ lane o v w mark e f. in_write v w mark;
+    reverts = λ lane n v k mark e f. in_revert v k mark;
+    deletes_set = λ lane n c mark e. go_on_same st.sets;
+    deletes_image = λ lane n v k mark e. go_on_same st.sets;
+    ticks = λ lane n mark. in_ticks n;
+    begins = λ lane n all c mark e. go_on_same st.sets;
+    disables = λ lane w q mark g. go_on_same st.sets;
+    gathers = λ lane q mark g. in_followed true _ st (go_on_same st.sets);
+    names = λ lane w full q explicit mark g named. go_on_same st.sets;
+    starts = λ lane q mark g e. go_on_more st.sets (new_set (new_number st) q.context);
+    adds = λ lane v r q mark g e f. changed_in_progress 1 (with_volume v) st.sets r num e (more_volumes v);
+    prepares = λ lane q mark g. either (has_no_volume (in_progress st)) _ _ (go_on_same st.sets) (in_followed true _ st (go_on_same st.sets));
+    snapshots = λ lane q mark g. either (has_no_volume (in_progress st)) _ _ (go_on_same st.sets) (in_followed true _ st (go_on_same st.sets));
+    completes = λ lane q mark g. in_followed true _ st (go_on_same st.sets);
+    aborts = λ lane q mark e. in_failed (in_progress st) AsyncCancelled st (go_on_same st.sets);
+    ends = λ lane q mark e. in_closed q (failed AsyncCancelled st) (in_failed (in_progress st) AsyncCancelled st (go_on_same st.sets));
+    answers = λ w answer mark e. in_answers w (said_of answer);
+    steps = λ mark e. in_steps mark;
+    idles = λ mark e. in_ticks (idle_now st);
+  }
+
+  go_on_if : (b : Bool) (act : Act) → enabled s st act.event ≡ b → GoOn st.sets (after s st act).sets
+  go_on_if true act e = subst (λ (x : State). GoOn st.sets x.sets) (sym (after_enabled s st act e)) (covered RowsGoOn s st rows_go_on act.event act.mark e)
+  go_on_if false act e = subst (λ (x : State). GoOn st.sets x.sets) (sym (after_not_enabled s st act e)) (go_on_same st.sets)
+
+  pub go_on_after : (act : Act) → GoOn st.sets (after s st act).sets
+  go_on_after act = go_on_if (enabled s st act.event) act refl
+
+-- ## the row of a set
+
+own_number : (rows : List SetRow) (n : ℕ) (r : SetRow) → find (λ (x : SetRow). x.number == n) rows ≡ Some r → r.number ≡ n
+own_number [] n r e = absurd cc
+own_number (q ∷ rows) n r e = by_head (q.number == n) refl e (own_number rows n r)
+  where
+    some_same : (a b : SetRow) → Some a ≡ Some b → a ≡ b
+    some_same a b e = cc
+
+    equal : (a b : ℕ) → (a == b) ≡ true → a ≡ b
+    equal a b e = grind arith
+
+    by_head : (b : Bool) → (q.number == n) ≡ b → (if b then Some q else find (λ (x : SetRow). x.number == n) rows) ≡ Some r → (find (λ (x : SetRow). x.number == n) rows ≡ Some r → r.number ≡ n) → r.number ≡ n
+    by_head true f e ih = subst (λ (x : SetRow). x.number ≡ n) (some_same q r e) (equal q.number n f)
+    by_head false f e ih = ih e
+
+pub later_row : (rows : List SetRow) (st : State) (n : ℕ) (r : SetRow) → GoOn rows st.sets → find (λ (x : SetRow). x.number == n) rows ≡ Some r → HasLaterRow st r
+later_row rows st n r g e =
+    go_on_found n rows st.sets r (HasLaterRow st r) g e
+    (λ q f h. record { row = q; is_row = ap (λ k. find (λ (x : SetRow). x.number == k) st.sets) (own_number rows n r e) ∙ f; later = h })
+
+pub keeps_rows : (s : Plan) (so_far : List Act) (act : Act) → KeepsRows s so_far act
+keeps_rows s so_far act n r e = later_row (state s so_far).sets (after s (state s so_far) act) n r (go_on_after s (state s so_far) (orderly s so_far).numbered act) e
+
+-- over more acts
+pub go_on_from : (s : Plan) (so_far rest : List Act) → GoOn (state s so_far).sets (state s (so_far ++ rest)).sets
+go_on_from s so_far [] = subst (λ acts. GoOn (state s so_far).sets (state s acts).sets) (sym (append_nothing so_far)) (go_on_same (state s so_far).sets)
+  where
+    append_nothing : (xs : List Act) → xs ++ [] ≡ xs
+    append_nothing [] = refl
+    append_nothing (x ∷ xs) = ap (λ ys. x ∷ ys) (append_nothing xs)
+go_on_from s so_far (act ∷ rest) =
+    let next : GoOn (state s so_far).sets (state s (so_far ++ act ∷ [])).sets =
+    subst (λ (x : State). GoOn (state s so_far).sets x.sets) (sym (state-append s so_far act)) (go_on_after s (state s so_far) (orderly s so_far).numbered act) in
+    go_on_again (state s so_far).sets (state s (so_far ++ act ∷ [])).sets (state s (so_far ++ act ∷ rest)).sets next
+    (subst (λ acts. GoOn (state s (so_far ++ act ∷ [])).sets (state s acts).sets) (append_assoc so_far (act ∷ []) rest) (go_on_from s (so_far ++ act ∷ []) rest))
