@@ -1,5 +1,8 @@
 -- What is seen of the outside: the source, the sink and the maker before the call and after it. (This project's own.)
 use Rattle.std.specs.Prelude.{ℕ, ◌≡◌, List, Option}
+use Rattle.io_edge.specs.declared.sink.Sink.{Ghosts as SinkGhosts}
+use Rattle.io_edge.specs.declared.source.Source.{Ghosts as SourceGhosts}
+use Rattle.volume_device.specs.declared.maker.Maker.{Ghosts as MakerGhosts}
 
 -- the source, the sink and the maker before the call and after it
 pub record Around (D : Type 0) : Type 0 where
@@ -20,23 +23,22 @@ pub record Around (D : Type 0) : Type 0 where
 
 -- as their ghosts have it: what is left of the source and how many of its calls failed; what the sink took and how many failed; which
 -- devices the maker made, which it got back, and how often it failed
-abbrev pub around : {S K M D : Type 0} → (S → Option (List ℕ)) → (S → ℕ) → (K → Option (List ℕ)) → (K → ℕ) → (M → Option (List (List ℕ))) → (M → Option (List D)) → (M → ℕ)
-    → S → S → K → K → M → M → Around D
-around left reads taken writes named kept count source source_after sink sink_after maker maker_after = record {
-  left_first = left source;
-  left_last = left source_after;
-  reads_first = reads source;
-  reads_last = reads source_after;
-  taken_first = taken sink;
-  taken_last = taken sink_after;
-  writes_first = writes sink;
-  writes_last = writes sink_after;
-  named_first = named maker;
-  named_last = named maker_after;
-  kept_first = kept maker;
-  kept_last = kept maker_after;
-  count_first = count maker;
-  count_last = count maker_after;
+abbrev pub around : {S K M D : Type 0} → SourceGhosts S → SinkGhosts K → MakerGhosts M D → S → S → K → K → M → M → Around D
+around source sink maker s t k l m n = record {
+  left_first = source.left s;
+  left_last = source.left t;
+  reads_first = source.count s;
+  reads_last = source.count t;
+  taken_first = sink.taken k;
+  taken_last = sink.taken l;
+  writes_first = sink.count k;
+  writes_last = sink.count l;
+  named_first = maker.named m;
+  named_last = maker.named n;
+  kept_first = maker.kept m;
+  kept_last = maker.kept n;
+  count_first = maker.count m;
+  count_last = maker.count n;
 }
 
 -- nothing was written
@@ -79,16 +81,16 @@ sink_and_maker a = record {
   count_last = a.count_last;
 }
 
-abbrev pub sink_and_maker_of : {K M D : Type 0} → (K → Option (List ℕ)) → (K → ℕ) → (M → Option (List (List ℕ))) → (M → Option (List D)) → (M → ℕ) → K → K → M → M → SinkAndMaker D
-sink_and_maker_of taken writes named kept count sink sink_after maker maker_after = record {
-  taken_first = taken sink;
-  taken_last = taken sink_after;
-  writes_first = writes sink;
-  writes_last = writes sink_after;
-  named_first = named maker;
-  named_last = named maker_after;
-  kept_first = kept maker;
-  kept_last = kept maker_after;
-  count_first = count maker;
-  count_last = count maker_after;
+abbrev pub sink_and_maker_of : {K M D : Type 0} → SinkGhosts K → MakerGhosts M D → K → K → M → M → SinkAndMaker D
+sink_and_maker_of sink maker k l m n = record {
+  taken_first = sink.taken k;
+  taken_last = sink.taken l;
+  writes_first = sink.count k;
+  writes_last = sink.count l;
+  named_first = maker.named m;
+  named_last = maker.named n;
+  kept_first = maker.kept m;
+  kept_last = maker.kept n;
+  count_first = maker.count m;
+  count_last = maker.count n;
 }

@@ -120,8 +120,8 @@ pub fn run_generated<R: Threads + Wait + Sync, K: Sink, M: Maker, G: Gate>(
     maker: &mut M,
     gate: &G,
 ) -> Status
-    ensures status { IsGeneration M.Made.told (λ store. M.tells maker.old store) (option_map (λ s. s.now) folder.entry) number (sink_and_maker_of K.taken K.count M.named M.kept M.count sink.old sink.new maker.old maker.new) result }
-    ensures answered { IsSummedWhereItCan (sink_and_maker_of K.taken K.count M.named M.kept M.count sink.old sink.new maker.old maker.new) result }
+    ensures status { IsGeneration M.Made.told (λ store. M.tells maker.old store) (option_map (λ s. s.now) folder.entry) number (sink_and_maker_of K.Sink M.Maker sink.old sink.new maker.old maker.new) result }
+    ensures answered { IsSummedWhereItCan (sink_and_maker_of K.Sink M.Maker sink.old sink.new maker.old maker.new) result }
 {
     let scenario = match scenario_of(alloc, number) {
         Ok(scenario) => scenario,

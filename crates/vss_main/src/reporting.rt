@@ -54,8 +54,8 @@ pub fn run_input<R: Threads + Wait + Sync, S: Source, K: Sink, M: Maker, G: Gate
     gate: &G,
 ) -> Status
     ensures too_long { IfGave (S.left source.old) (S.left source.new) (λ n. (result ≡ Status.TooLong) ↔ (most_bytes < n)) }
-    ensures status { IsStatus M.Made.told (λ store. M.tells maker.old store) (option_map (λ s. s.now) folder.entry) (around S.left S.count K.taken K.count M.named M.kept M.count source.old source.new sink.old sink.new maker.old maker.new) result }
-    ensures answered { IsRunWhereItCan (around S.left S.count K.taken K.count M.named M.kept M.count source.old source.new sink.old sink.new maker.old maker.new) result }
+    ensures status { IsStatus M.Made.told (λ store. M.tells maker.old store) (option_map (λ s. s.now) folder.entry) (around S.Source K.Sink M.Maker source.old source.new sink.old sink.new maker.old maker.new) result }
+    ensures answered { IsRunWhereItCan (around S.Source K.Sink M.Maker source.old source.new sink.old sink.new maker.old maker.new) result }
 {
     let text = match read_all(alloc, source, MOST_BYTES) {
         Ok(text) => text,

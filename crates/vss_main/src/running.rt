@@ -31,8 +31,8 @@ fn run_task<R: Threads + Wait + Sync, S: Source, K: Sink, M: Maker, G: Gate>(
     gate: &G,
 ) -> Status
     ensures too_long { IfGave (S.left source.old) (S.left source.new) (λ n. (result ≡ Status.TooLong) ↔ (most_for_task command.entry.task < n)) }
-    ensures task { IsTask M.Made.told (λ store. M.tells maker.old store) (option_map (λ s. s.now) command.entry.folder) command.entry.task (around S.left S.count K.taken K.count M.named M.kept M.count source.old source.new sink.old sink.new maker.old maker.new) result }
-    ensures answered { IsTaskWhereItCan command.entry.task (around S.left S.count K.taken K.count M.named M.kept M.count source.old source.new sink.old sink.new maker.old maker.new) result }
+    ensures task { IsTask M.Made.told (λ store. M.tells maker.old store) (option_map (λ s. s.now) command.entry.folder) command.entry.task (around S.Source K.Sink M.Maker source.old source.new sink.old sink.new maker.old maker.new) result }
+    ensures answered { IsTaskWhereItCan command.entry.task (around S.Source K.Sink M.Maker source.old source.new sink.old sink.new maker.old maker.new) result }
 {
     match command.task {
         Task::Run => run_input(rt, alloc, command.folder, source, sink, maker, gate),
@@ -67,9 +67,9 @@ pub fn run<R: Threads + Wait + Sync, S: Source, K: Sink, M: Maker, G: Gate>(
     ensures too_long { IfGave (S.left source.old) (S.left source.new) (λ n. (result ≡ Status.TooLong) ↔ (most_bytes_for (asked_by words.now) < n)) }
     ensures done { (folder : Option (List ℕ)) → asked_by words.now ≡ Some (record { task = Run; folder = folder }) → result ≡ Status.Done
         → IsDone M.Made.told (λ store. M.tells maker.old store) folder
-        (around S.left S.count K.taken K.count M.named M.kept M.count source.old source.new sink.old sink.new maker.old maker.new) }
-    ensures otherwise { IsAnswer M.Made.told (λ store. M.tells maker.old store) (asked_by words.now) (around S.left S.count K.taken K.count M.named M.kept M.count source.old source.new sink.old sink.new maker.old maker.new) result }
-    ensures completes { IsAnsweredWhereItCan (asked_by words.now) (around S.left S.count K.taken K.count M.named M.kept M.count source.old source.new sink.old sink.new maker.old maker.new) result }
+        (around S.Source K.Sink M.Maker source.old source.new sink.old sink.new maker.old maker.new) }
+    ensures otherwise { IsAnswer M.Made.told (λ store. M.tells maker.old store) (asked_by words.now) (around S.Source K.Sink M.Maker source.old source.new sink.old sink.new maker.old maker.new) result }
+    ensures completes { IsAnsweredWhereItCan (asked_by words.now) (around S.Source K.Sink M.Maker source.old source.new sink.old sink.new maker.old maker.new) result }
 {
     match command_of(alloc, words) {
         Err(OutOfMemory) => Status::OutOfMemory,
