@@ -101,21 +101,30 @@ def commands(page, text):
 def counts():
     """Numbers that pages say, each as a form of words and as it is."""
     rows = [line for line in text_of("crates.txt").splitlines() if ":" in line and not line.startswith("#")]
-    scenarios, in_gate = len(glob.glob("examples/*.scenario")), len(glob.glob("crates/*/must-fail/*.edit"))
+    scenarios, in_gate = glob.glob("examples/*.scenario"), len(glob.glob("crates/*/must-fail/*.edit"))
+    wrong.extend(f"{path}: does not begin with its story" for path in scenarios if not text_of(path).startswith("# "))
     by_hand = len(glob.glob("crates/*/wrong/*.edit"))
-    laws = re.findall(r"pub fn (\w+)", text_of("crates/promises/src/laws.rt"))
+    promised = re.findall(r"^pub fn (\w+)", text_of("crates/promises/src/laws.rt"), re.M)
     kept = {
         r"(\d+) crates of crates\.txt": len(rows),
-        r"(\d+) scenarios of examples/": scenarios,
+        r"(\d+) scenarios of examples/": len(scenarios),
         r"(\d+) (?:edits )?of `must-fail/`": in_gate,
         r"(\d+) (?:edits )?of `wrong/`": by_hand,
-        r"(\d+) laws of `promises`": len(laws),
+        r"(\d+) laws of `promises`": len(promised),
     }
     for form, count in kept.items():
         said = [(page, int(number)) for page in PAGES for number in re.findall(form, text_of(page))]
         if not said:
             wrong.append(f"no page says how many: {form}")
         wrong.extend(f"{page}: says {number} where there are {count}: {form}" for page, number in said if number != count)
+
+
+def laws():
+    """Each law of the model and of the promises is on the page that has them."""
+    for crate, page in ("promises", "docs/PROMISES.md"), ("vss_model", "docs/MODEL.md"):
+        for law in re.findall(r"^pub fn (\w+)", text_of(f"crates/{crate}/src/laws.rt"), re.M):
+            if not re.search(rf"\b{law}\b", text_of(page)):
+                wrong.append(f"{page}: the law `{law}` of {crate} is not there")
 
 
 def crate_pages():
@@ -148,6 +157,7 @@ def main():
         definitions(page, text)
         commands(page, text)
     counts()
+    laws()
     crate_pages()
     if len(text_of("README.md").encode()) > MOST_README:
         wrong.append(f"README.md has more than {MOST_README} bytes")
