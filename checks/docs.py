@@ -10,11 +10,12 @@ import re
 import sys
 
 PAGES = ["README.md"] + sorted(glob.glob("docs/*.md")) + ["examples/README.md"] + sorted(glob.glob("crates/*/README.md"))
-SOURCES = ["crates/*/src/*.rt", "crates/*/specs/*.antt", "crates/*/proofs/*.antt", "crates.txt", "checks/*", "checks/*/*", "tools/*", "tools/*/*", "examples/*.scenario", "examples/*.report", "HANDLES",
-           "tests", "prove", "vss", "timeline", ".ci/run"]
+SOURCES = """crates/*/src/*.rt crates/*/specs/*.antt crates/*/proofs/*.antt crates.txt checks/* checks/*/* tools/* tools/*/* examples/*.scenario
+    examples/*.report HANDLES tests prove vss timeline .ci/run""".split()
 # Words of the kit, the host and the languages here, which no file of the repository need have.
-FOREIGN = set("""rt ci rattle-kit-13f rattle-kit-13b malloc realloc std serde_json json uuid sha2 clap hex itoa byteorder indexmap arrayvec atomic_table crossbeam_utils libc Send Sync Drop Copy Model
-sha256sum taskset rsync open ftruncate pread pwrite fdatasync close pthread_create fsync mount requires ensures crates.txt must-fail""".split())
+FOREIGN = set("""rt ci rattle-kit-13f rattle-kit-13b malloc realloc std serde_json json uuid sha2 clap hex itoa byteorder indexmap arrayvec
+    atomic_table crossbeam_utils libc Send Sync Drop Copy Model sha256sum taskset rsync open ftruncate pread pwrite fdatasync close
+    pthread_create fsync mount requires ensures crates.txt must-fail""".split())
 HEADINGS = ["Proved", "Tested only", "Trusted", "Limits", "Costs"]
 MOST_README, LEAST_LINES, MOST_LINES = 8192, 20, 60
 
@@ -67,9 +68,9 @@ def spans(page, text, words):
     for span in re.findall(r"`([^`\n]+)`", re.sub(r"^( {4}|```).*?$", "", text, flags=re.M)):
         command = COMMAND.fullmatch(span)
         if command:
-            for path in [command.group(1)] + re.findall(NAMED, span):
-                if not os.path.exists(path) and not is_there(page, path):
-                    wrong.append(f"{page}: there is no `{path}`")
+            path = command.group(1)
+            if not os.path.exists(path) and not is_there(page, path):
+                wrong.append(f"{page}: there is no `{path}`")
         elif PATH.fullmatch(span):
             if not span.startswith(("/", "disks/", "out/")) and "/out" not in span and not is_there(page, span):
                 wrong.append(f"{page}: there is no file `{span}`")
@@ -88,34 +89,45 @@ def definitions(page, text):
 
 
 def commands(page, text):
-    """The commands of indented and fenced lines."""
+    """The commands of indented lines, and all paths from the top."""
     for line in re.findall(r"^ {4}(.*)$", text, re.M):
         command = COMMAND.fullmatch(line.strip())
         if command and not os.path.exists(command.group(1)):
             wrong.append(f"{page}: there is no `{command.group(1)}` to run")
-        for path in re.findall(NAMED, line):
-            if not os.path.exists(path):
-                wrong.append(f"{page}: there is no `{path}`, which a command names")
+    for path in sorted(set(re.findall(NAMED, text))):
+        if "NAME" not in path and not os.path.exists(path):
+            wrong.append(f"{page}: there is no `{path}`")
 
 
 def counts():
     """Numbers that pages say, each as a form of words and as it is."""
     rows = [line for line in text_of("crates.txt").splitlines() if ":" in line and not line.startswith("#")]
-    scenarios, in_gate = len(glob.glob("examples/*.scenario")), len(glob.glob("crates/*/must-fail/*.edit"))
+    scenarios, in_gate = glob.glob("examples/*.scenario"), len(glob.glob("crates/*/must-fail/*.edit"))
+    wrong.extend(f"{path}: does not begin with its story" for path in scenarios if not text_of(path).startswith("# "))
     by_hand = len(glob.glob("crates/*/wrong/*.edit"))
-    laws = re.findall(r"pub fn (\w+)", text_of("crates/promises/src/laws.rt"))
+    promised = re.findall(r"^pub fn (\w+)", text_of("crates/promises/src/laws.rt"), re.M)
     kept = {
         r"(\d+) crates of crates\.txt": len(rows),
-        r"(\d+) scenarios of examples/": scenarios,
-        r"(\d+) (?:edits )?of `must-fail/`": in_gate,
-        r"(\d+) (?:edits )?of `wrong/`": by_hand,
-        r"(\d+) laws of `promises`": len(laws),
+        r"(\d+) scenarios of examples/": len(scenarios),
+        r"(\d+) of `must-fail/`": in_gate,
+        r"(\d+) of `wrong/`": by_hand,
+        r"(\d+) of \d+ wrong bodies": in_gate,
+        r"\d+ of (\d+) wrong bodies": in_gate + by_hand,
+        r"(\d+) laws of `promises`": len(promised),
     }
     for form, count in kept.items():
         said = [(page, int(number)) for page in PAGES for number in re.findall(form, text_of(page))]
         if not said:
             wrong.append(f"no page says how many: {form}")
         wrong.extend(f"{page}: says {number} where there are {count}: {form}" for page, number in said if number != count)
+
+
+def laws():
+    """Each law of the model and of the promises is on the page that has them."""
+    for crate, page in ("promises", "docs/PROMISES.md"), ("vss_model", "docs/MODEL.md"):
+        for law in re.findall(r"^pub fn (\w+)", text_of(f"crates/{crate}/src/laws.rt"), re.M):
+            if not re.search(rf"\b{law}\b", text_of(page)):
+                wrong.append(f"{page}: the law `{law}` of {crate} is not there")
 
 
 def crate_pages():
@@ -148,6 +160,7 @@ def main():
         definitions(page, text)
         commands(page, text)
     counts()
+    laws()
     crate_pages()
     if len(text_of("README.md").encode()) > MOST_README:
         wrong.append(f"README.md has more than {MOST_README} bytes")
