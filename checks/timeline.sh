@@ -1,23 +1,29 @@
 #!/usr/bin/env bash
-# `vss_timeline` draws each example: as a drawing with one element for each move and no other, and as lines of at most 100 bytes. Two of
-# them are kept, and are drawn again byte for byte. A long report is drawn in less than a minute. What is no report, and words that ask for nothing,
-# have their status. It is drawn by the program as LLVM and, where that is there, as Rattle's own compiler builds it.
+# `vss_timeline` draws each example: as a drawing with one element for each line of the report but the first, in bands of at most 40, and as
+# lines of at most 100 bytes. Those in docs/pictures are drawn again byte for byte. A long report is drawn in 20 seconds of a processor
+# and 1 GB of addresses. What is no report, what is another scenario's, and words that ask for nothing, have their status, and a line that names
+# file and line. It is drawn by the program as LLVM and, where that is there, as Rattle's own compiler builds it.
 . "$(dirname "${BASH_SOURCE[0]}")/prelude.sh" || exit 70
 builds="$(programs vss_timeline)" || exit 1
 mapfile -t builds <<< "$builds"
 scenarios=(examples/*.scenario)
+usage="vss_timeline: usage: vss_timeline [--text] [--from N] [--to N] [SCENARIO REPORT]"
+
+# the elements of marks in the last drawing
+marks() { grep -c "^<g transform='translate([0-9]*,[0-9]*)'><title>" "$room/out"; }
 
 # draws an example by a program, in both forms, with the scenario beside it and without
 draws() {
-  local program="$1" scenario="$2" report="${2%.scenario}.report" moves
-  moves="$(grep -c '^[0-9]' "$report")"
-  "$program" "$scenario" "$report" > "$room/with.svg" || wrong "$report is not drawn"
-  "$program" < "$report" > "$room/alone.svg" || wrong "$report is not drawn alone"
-  "$program" --text "$scenario" "$report" > "$room/with.txt" || wrong "$report has no lines"
-  [ "$(grep -c '^<g><title>' "$room/with.svg")" = "$moves" ] || wrong "$report: a move is not drawn once"
-  [ "$(grep -c '^<g><title>' "$room/alone.svg")" = "$moves" ] || wrong "$report: a move is not drawn once where it is alone"
-  grep -q '<script' "$room/with.svg" && wrong "$report: a script is drawn"
-  LC_ALL=C awk 'length > 100 { exit 1 }' "$room/with.txt" || wrong "$report: a line is longer than 100 bytes"
+  local program="$1" scenario="$2" report="${2%.scenario}.report" lines
+  lines=$(($(wc -l < "$report") - 1))
+  "$program" < "$report" > "$room/out" || wrong "$report is not drawn alone"
+  [ "$(marks)" = "$lines" ] || wrong "$report: a line is not drawn once where it is alone"
+  "$program" "$scenario" "$report" > "$room/out" || wrong "$report is not drawn"
+  [ "$(marks)" = "$lines" ] || wrong "$report: a line is not drawn once"
+  grep -q '<script' "$room/out" && wrong "$report: a script is drawn"
+  awk -F"[(,]" '/><title>/ && $2 > 960 { exit 1 }' "$room/out" || wrong "$report: a band is wider than 40 marks"
+  "$program" --text "$scenario" "$report" > "$room/out" || wrong "$report has no lines"
+  LC_ALL=C awk 'length > 100 { exit 1 }' "$room/out" || wrong "$report: a line is longer than 100 bytes"
 }
 
 # answers a report with a status, and with this line
@@ -31,24 +37,77 @@ answers() {
   fi
 }
 
+# refuses texts, files and words
+refuses() {
+  local program="$1" first=examples/first.scenario report="$room/report"
+  printf 'report 1\n1 idle 5\nscenario 1\n' > "$room/in"
+  answers "$program" 3 "vss_timeline: standard input: line 3: no line of a report"
+  printf 'report 1\n\n\377\n' > "$room/in"
+  answers "$program" 3 "vss_timeline: standard input: line 3: no text"
+  : > "$room/in"
+  answers "$program" 3 "vss_timeline: standard input: line 1: no line of a report"
+  answers "$program" 2 "$usage" examples/first.report
+  answers "$program" 2 "$usage" -x "$first" examples/first.report
+  answers "$program" 2 "$usage" --from 0 "$first" examples/first.report
+  answers "$program" 2 "$usage" "$first" examples/first.report --to
+  answers "$program" 4 "vss_timeline: $room/none: read fault" "$first" "$room/none"
+  answers "$program" 4 "vss_timeline: $room/none: read fault" "$room/none" examples/first.report
+  answers "$program" 8 "vss_timeline: /dev/zero: too long" /dev/zero examples/first.report
+  answers "$program" 3 "vss_timeline: examples/first.report: line 1: no scenario; are they swapped?" examples/first.report "$first"
+  answers "$program" 3 "vss_timeline: $first: line 1: no line of a report" "$first" "$first"
+  answers "$program" 3 "vss_timeline: $room/in: line 1: no scenario" "$room/in" examples/first.report
+  printf 'report 1\n1 lane r 1 ok\n' > "$report"
+  { echo "scenario 1"; seq 300 | sed 's/.*/volume V& 1 1/'; } > "$room/many"
+  answers "$program" 3 "vss_timeline: $room/many: line 258: more than 256 lanes, writers and volumes" "$room/many" "$report"
+  printf 'scenario 1\nvolume C 1 1\nwriter w {}\nlane r\n# here\nbegin 25\nlane s\nend\n' > "$room/other"
+  while read -r line; do
+    echo "report 1"$'\n'"1 lane r 6 ok"$'\n'"$line" > "$report"
+    answers "$program" 3 "vss_timeline: $report: line 3: a name that the scenario does not declare" "$room/other" "$report"
+  done << 'END'
+2 lane x 6 ok
+2 writer x freeze ok
+2 provider hold X
+= evicted 1 X
+= writer x lost freeze
+volume X used 0 of 1 0
+image 1 X 0
+writer x VSS_WS_STABLE aborts 0
+END
+  for line in 4 5 7 8 9 1; do
+    printf 'report 1\n1 lane r 6 ok\n2 lane r 0 ok\n3 lane r %s ok\n' "$line" > "$report"
+    answers "$program" 3 "vss_timeline: $report: line 4: a line that the scenario does not have in this lane" "$room/other" "$report"
+  done
+}
+
+# draws what is asked for, and escapes each text
+shows() {
+  local program="$1"
+  "$program" --from 30 --to 32 examples/full_area.scenario examples/full_area.report > "$room/out" || wrong "three moves are not drawn"
+  [ "$(marks)" = 6 ] || wrong "three moves and an effect are not drawn with the two closing lines"
+  grep -q '>properties 2 C: context 25 cut 0 used 1<' "$room/out" || wrong "a label is cut"
+  "$program" --from 100 examples/full_area.scenario examples/full_area.report > "$room/out" || wrong "no move is not drawn"
+  [ "$(marks)" = 2 ] || wrong "without a move the closing lines are not drawn"
+  printf 'report 1\n1 lane <b>&"\x27\x01 4 set <b>\n= set <b> failed <b>\n= writer <b> lost <b>\nvolume <b> <b>\nimage 1 <b> <b>\nwriter <b> <b>\n' > "$room/in"
+  "$program" < "$room/in" > "$room/out" || wrong "signs of markup are not drawn"
+  grep -q '<b>' "$room/out" && wrong "a text is not escaped"
+  python3 -c 'import sys, xml.dom.minidom as x; x.parse(sys.argv[1])' "$room/out" || wrong "what is drawn is no XML"
+}
+
 for program in "${builds[@]}"; do
   for scenario in "${scenarios[@]}"; do
     draws "$program" "$scenario"
   done
-  "$program" examples/database_and_log.scenario examples/database_and_log.report | cmp -s - docs/pictures/database_and_log.svg ||
-    wrong "docs/pictures/database_and_log.svg is another drawing"
-  "$program" --text examples/full_area.scenario examples/full_area.report | cmp -s - docs/pictures/full_area.txt ||
-    wrong "docs/pictures/full_area.txt has other lines"
-  printf 'report 1\n1 idle 5\nscenario 1\n' > "$room/in"
-  answers "$program" 3 "vss_timeline: line 3: no line of a report"
-  printf 'report 1\n\377\n' > "$room/in"
-  answers "$program" 3 "vss_timeline: no text"
-  : > "$room/in"
-  answers "$program" 2 "vss_timeline: usage: vss_timeline [--text] [SCENARIO REPORT]" examples/first.report
-  answers "$program" 2 "vss_timeline: usage: vss_timeline [--text] [SCENARIO REPORT]" -x examples/first.report
-  answers "$program" 4 "vss_timeline: read fault" examples/first.scenario "$room/none"
+  for picture in docs/pictures/*.svg; do
+    run="examples/$(basename "$picture" .svg)"
+    "$program" "$run.scenario" "$run.report" | cmp -s - "$picture" || wrong "$picture is another drawing"
+  done
+  for picture in docs/pictures/*.txt; do
+    run="examples/$(basename "$picture" .txt)"
+    "$program" --text "$run.scenario" "$run.report" | cmp -s - "$picture" || wrong "$picture has other lines"
+  done
+  refuses "$program"
+  shows "$program"
 done
-
 # a report of 200,000 moves, one set after another; each image goes once the next stands
 awk 'BEGIN {
   print "report 1"
@@ -71,6 +130,6 @@ awk 'BEGIN {
 for words in "" --text; do
   # no word is no word
   # shellcheck disable=SC2086
-  (ulimit -t 60 && exec "${builds[0]}" $words) < "$room/long.report" > "$room/long" || wrong "a report of 200,000 moves is not drawn in a minute of a processor"
+  (ulimit -t 20 -v 1000000 && exec "${builds[0]}" $words) < "$room/long.report" > "$room/long" || wrong "a report of 200,000 moves is not drawn in 20 seconds and 1 GB"
 done
 ends "${#scenarios[@]} examples are drawn, by ${#builds[@]} builds"

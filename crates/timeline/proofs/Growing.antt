@@ -1,26 +1,76 @@
--- A text that grows by a line.
-use Rattle.std.proofs.Common.{◌≡◌, ℕ, ◌≤◌, List, [], ◌∷◌, ◌++◌, ◌+◌, length, refl, ap, sym, arith, length-append, ◌∙◌, append-nil, append_assoc, rules}
+-- A text that grows.
+use Rattle.std.proofs.Common.{◌≡◌, ℕ, ◌≤◌, List, [], ◌∷◌, ◌++◌, length, map, refl, ap, sym, ◌∙◌, ◌+◌, ◌-◌, append-nil, append_assoc, arith, drop, rules, subst, take}
+use Rattle.std.specs.Prelude.{All}
 use Rattle.std.specs.List.{flat_map}
 use Rattle.std.proofs.lemmas.Grind.{flat_map-append}
+use Rattle.std.proofs.lemmas.List.{drop-take, length-take, map-append, take-append-drop, take-take}
 use Rattle.std.proofs.lemmas.List.Elements.{All-append}
-use Rattle.timeline.specs.Narrow.{IsNarrow, with_newline}
+use Rattle.timeline.specs.Grown.{Grown}
+use Rattle.timeline.specs.Narrow.{AddsLines, IsInLines, IsLines, with_newline}
+use Rattle.timeline.specs.declared.mark.Mark.{Mark}
 
-pub narrow_none : IsNarrow [] 0
-narrow_none = record { lines = []; many = search rules; each = search rules; all = refl }
+pub grown_none : {X : Type 0} (text_of : X → List ℕ) (mark_of : X → Mark) (old new : List ℕ) → new ≡ old → Grown text_of mark_of old new []
+grown_none text_of mark_of old new e = record { pieces = []; all = refl; text = e ∙ sym (append-nil old) }
 
--- a text with so many lines has so many of them less one
-pub narrow_fewer : (text : List ℕ) (least : ℕ) → IsNarrow text (least + 1) → IsNarrow text least
-narrow_fewer text least h = record { lines = h.lines; many = omega (arith, h.many); each = h.each; all = h.all }
+pub grown_one : {X : Type 0} (text_of : X → List ℕ) (mark_of : X → Mark) (x : X) (old new : List ℕ) → new ≡ old ++ text_of x → Grown text_of mark_of old new (mark_of x ∷ [])
+grown_one text_of mark_of x old new e = record { pieces = x ∷ []; all = refl; text = e ∙ ap (λ t. old ++ t) (sym (append-nil (text_of x))) }
 
-pub narrow_more : (text line one two : List ℕ) (least : ℕ) → length line ≤ 100 → one ≡ text ++ line → two ≡ one ++ 10 ∷ [] → IsNarrow text least → IsNarrow two (least + 1)
-narrow_more text line one two least short e f h = record {
-  lines = h.lines ++ line ∷ [];
-  many = omega (arith, h.many, length-append h.lines (line ∷ []));
-  each = All-append (λ (l : List ℕ). length l ≤ 100) h.lines (line ∷ []) h.each (search rules);
-  all = f ∙ ap (λ t. t ++ 10 ∷ []) (e ∙ ap (λ t. t ++ line) h.all) ∙ append_assoc (flat_map with_newline h.lines) line (10 ∷ [])
-      ∙ ap (λ t. flat_map with_newline h.lines ++ t) (sym (append-nil (line ++ 10 ∷ []))) ∙ sym (flat_map-append with_newline h.lines (line ∷ []));
+pub grown_more : {X : Type 0} (text_of : X → List ℕ) (mark_of : X → Mark) (old mid new : List ℕ) (ms ns : List Mark)
+    → Grown text_of mark_of old mid ms → Grown text_of mark_of mid new ns → Grown text_of mark_of old new (ms ++ ns)
+grown_more text_of mark_of old mid new ms ns g h = record {
+  pieces = g.pieces ++ h.pieces;
+  all = map-append mark_of g.pieces h.pieces ∙ ap (λ xs. xs ++ map mark_of h.pieces) g.all ∙ ap (λ xs. ms ++ xs) h.all;
+  text = h.text ∙ ap (λ t. t ++ flat_map text_of h.pieces) g.text ∙ append_assoc old (flat_map text_of g.pieces) (flat_map text_of h.pieces)
+      ∙ ap (λ t. old ++ t) (sym (flat_map-append text_of g.pieces h.pieces));
 }
 
--- three texts behind another
-pub three_pieces : (first a b c one two three : List ℕ) → one ≡ first ++ a → two ≡ one ++ b → three ≡ two ++ c → three ≡ first ++ (a ++ b ++ c)
-three_pieces first a b c one two three e f g = g ∙ ap (λ t. t ++ c) (f ∙ ap (λ t. t ++ b) e) ∙ simp append_assoc
+-- ## in lines
+
+pub lines_none : IsInLines [] []
+lines_none = record { parts = []; each = search rules; all = refl; lines = refl }
+
+pub lines_one : (part : List ℕ) → length part ≤ 100 → IsInLines (part ++ 10 ∷ []) part
+lines_one part short = record {
+  parts = part ∷ [];
+  each = search (rules, short);
+  all = sym (append-nil part);
+  lines = sym (append-nil (part ++ 10 ∷ []));
+}
+
+pub lines_join : (one two a b : List ℕ) → IsInLines one a → IsInLines two b → IsInLines (one ++ two) (a ++ b)
+lines_join one two a b g h = record {
+  parts = g.parts ++ h.parts;
+  each = All-append (λ (l : List ℕ). length l ≤ 100) g.parts h.parts g.each h.each;
+  all = ap (λ t. t ++ b) g.all ∙ ap (λ t. flat_map (λ part. part) g.parts ++ t) h.all ∙ sym (flat_map-append (λ part. part) g.parts h.parts);
+  lines = ap (λ t. t ++ two) g.lines ∙ ap (λ t. flat_map with_newline g.parts ++ t) h.lines ∙ sym (flat_map-append with_newline g.parts h.parts);
+}
+
+pub adds_none : (old : List ℕ) → AddsLines old old []
+adds_none old = record { bytes = []; lines = lines_none; all = sym (append-nil old) }
+
+pub adds_more : (old mid one two text part whole : List ℕ) → AddsLines old mid text → length part ≤ 100 → one ≡ mid ++ part → two ≡ one ++ 10 ∷ [] → text ++ part ≡ whole → AddsLines old two whole
+adds_more old mid one two text part whole h short e f w = record {
+  bytes = h.bytes ++ (part ++ 10 ∷ []);
+  lines = subst (IsInLines (h.bytes ++ (part ++ 10 ∷ []))) w (lines_join h.bytes (part ++ 10 ∷ []) text part h.lines (lines_one part short));
+  all = f ∙ ap (λ t. t ++ 10 ∷ []) (e ∙ ap (λ t. t ++ part) h.all) ∙ simp append_assoc;
+}
+
+pub is_lines_more : (old new text : List ℕ) → AddsLines old new text → IsLines old → IsLines new
+is_lines_more old new text a h = record {
+  text = h.text ++ text;
+  lines = subst (λ t. IsInLines t (h.text ++ text)) (sym a.all) (lines_join old a.bytes h.text text h.lines a.lines);
+}
+
+pub is_lines_none : IsLines []
+is_lines_none = record { text = []; lines = lines_none }
+
+-- ## a part of a line
+
+pub part_short : (a b : ℕ) (line : List ℕ) → b - a ≤ 100 → length (take (b - a) (drop a line)) ≤ 100
+part_short a b line le = omega (arith, length-take (b - a) (drop a line))
+
+pub part_next : (a b : ℕ) (line : List ℕ) → a ≤ b → take a line ++ take (b - a) (drop a line) ≡ take b line
+part_next a b line le =
+    let e : a + (b - a) ≡ b = omega arith in
+    ap (λ t. take a line ++ t) (sym (drop-take a (b - a) line) ∙ ap (λ k. drop a (take k line)) e) ∙ ap (λ t. t ++ drop a (take b line)) (sym (take-take a b line le))
+    ∙ take-append-drop a (take b line)

@@ -1,38 +1,56 @@
--- What the drawing of a report promises, by how it ended: where it is written, each line of the text is one that a report has, and the
--- sink took a drawing with a mark for each move, once and in order, or narrow lines; where the text is refused, its first bad line is
--- told, and nothing is written. (This project's own.)
-use Rattle.std.specs.Prelude.{ℕ, ◌≡◌, ◌+◌, List, length, Option, Some, None}
+-- What the drawing of a report promises, by how it ended: where it is written, no line of the report is refused, and the sink took a
+-- drawing, or lines, of all that is told of it, in order; where the report is refused, its first refusal is told, and nothing is
+-- written. (This project's own.)
+use Rattle.std.specs.Prelude.{ℕ, ◌≡◌, List, map, Option, Some, None}
 use Rattle.vss_names.specs.Faults.{Rose}
 use Rattle.io_edge.specs.Streams.{Took, TookPart}
 use Rattle.timeline.specs.Drawn.{IsDrawn}
-use Rattle.timeline.specs.Moves.{bad_line, move_lines, texts_of}
 use Rattle.timeline.specs.Narrow.{IsNarrow}
+use Rattle.timeline.specs.Refused.{refusal}
+use Rattle.timeline.specs.Told.{told, told_of}
 use Rattle.timeline.specs.declared.ended.Ended.{Ended}
-use Rattle.timeline.specs.declared.ended.Ended.TheVariants.{Written, BadLine, WriteFault, OutOfMemory}
+use Rattle.timeline.specs.declared.ended.Ended.TheVariants.{Written, Refused, WriteFault, OutOfMemory}
 use Rattle.timeline.specs.declared.form.Form.{Form}
 use Rattle.timeline.specs.declared.form.Form.TheVariants.{Drawing, Lines}
 use Rattle.timeline.specs.declared.mark.Mark.{Mark}
+use Rattle.timeline.specs.declared.picture_error.PictureError.{PictureError}
+use Rattle.timeline.specs.declared.picture_error.PictureError.TheVariants as error
+use Rattle.timeline.specs.declared.refusal.Refusal.{Refusal}
+use Rattle.timeline.specs.declared.span.Span.{Span}
 
 -- what is asked for, and the sink before the call and after it
 pub record Edges : Type 0 where
   pub form : Form
+  pub span : Span
+  pub scenario : List ℕ
   pub report : List ℕ
   pub taken_first : Option (List ℕ)
   pub taken_last : Option (List ℕ)
   pub writes_first : ℕ
   pub writes_last : ℕ
 
--- a text of these marks in a form: a drawing, or lines, of which two stand before those of the moves
+-- a text of these marks in a form
 abbrev pub IsPage : List Mark → List ℕ → Form → Type 0
 IsPage marks text Drawing = IsDrawn text marks
-IsPage marks text Lines = IsNarrow text (2 + length marks)
+IsPage marks text Lines = IsNarrow text marks
 
--- a text of the moves of the report, of which each line is one that a report has
+-- these marks tell all of a report that is not refused
+pub record AreMarks (marks : List Mark) (scenario report : List ℕ) (span : Span) : Type 0 where
+  pub told : map told marks ≡ told_of scenario report span
+  pub good : refusal scenario report ≡ None
+
 pub record IsPicture (e : Edges) (text : List ℕ) : Type 0 where
   pub marks : List Mark
-  pub moves : texts_of marks ≡ move_lines e.report
-  pub good : bad_line e.report ≡ None
+  pub all : AreMarks marks e.scenario e.report e.span
   pub page : IsPage marks text e.form
+
+-- why a report has no picture; want of memory says nothing of it
+abbrev pub IsRefusal : Option Refusal → PictureError → Type 0
+IsRefusal first (error.Refused why) = first ≡ Some why
+IsRefusal first error.OutOfMemory = Unit {0}
+
+abbrev pub IsCause : List ℕ → List ℕ → PictureError → Type 0
+IsCause scenario report e = IsRefusal (refusal scenario report) e
 
 pub record IsWritten (e : Edges) : Type 0 where
   pub text : List ℕ
@@ -50,12 +68,12 @@ pub record IsSilent (e : Edges) : Type 0 where
   pub taken : e.taken_last ≡ e.taken_first
   pub writes : e.writes_last ≡ e.writes_first
 
-pub record IsRefused (e : Edges) (number : ℕ) : Type 0 where
-  pub first : bad_line e.report ≡ Some number
+pub record IsRefused (e : Edges) (why : Refusal) : Type 0 where
+  pub first : refusal e.scenario e.report ≡ Some why
   pub silent : IsSilent e
 
 abbrev pub IsEnded : Edges → Ended → Type 0
 IsEnded e Written = IsWritten e
-IsEnded e (BadLine number) = IsRefused e number
+IsEnded e (Refused why) = IsRefused e why
 IsEnded e WriteFault = IsWrittenInPart e
 IsEnded e OutOfMemory = IsSilent e

@@ -1,13 +1,42 @@
--- A text whose lines fit a terminal: each is at most 100 bytes long, and ends with a newline. It has so many lines at least, as one for
--- each move. (This project's own.)
+-- Lines for a terminal: each is at most 100 bytes long, and ends with a newline. What is longer goes on in the next line. Each mark has
+-- its own, in order, which end with its label. (This project's own.)
 use Rattle.std.specs.Prelude.{ℕ, ◌≡◌, ◌≤◌, List, [], ◌∷◌, ◌++◌, length, All}
 use Rattle.std.specs.List.{flat_map}
+use Rattle.timeline.specs.declared.mark.Mark.{Mark}
+use Rattle.timeline.specs.Grown.{Grown}
+use Rattle.timeline.specs.Told.{written}
 
 abbrev pub with_newline : List ℕ → List ℕ
 with_newline line = line ++ 10 ∷ []
 
-pub record IsNarrow (bytes : List ℕ) (least : ℕ) : Type 0 where
-  pub lines : List (List ℕ)
-  pub many : least ≤ length lines
-  pub each : All (λ line. length line ≤ 100) lines
-  pub all : bytes ≡ flat_map with_newline lines
+-- a text in lines of at most 100 bytes
+pub record IsInLines (out text : List ℕ) : Type 0 where
+  pub parts : List (List ℕ)
+  pub each : All (λ part. length part ≤ 100) parts
+  pub all : text ≡ flat_map (λ part. part) parts
+  pub lines : out ≡ flat_map with_newline parts
+
+-- a text that grew by the lines of another
+pub record AddsLines (old new text : List ℕ) : Type 0 where
+  pub bytes : List ℕ
+  pub lines : IsInLines bytes text
+  pub all : new ≡ old ++ bytes
+
+pub record IsLines (bytes : List ℕ) : Type 0 where
+  pub text : List ℕ
+  pub lines : IsInLines bytes text
+
+-- the lines of a mark: how it stands, and its label
+pub record Shown : Type 0 where
+  pub mark : Mark
+  pub front : List ℕ
+  pub bytes : List ℕ
+  pub lines : IsInLines bytes (front ++ written mark.label)
+
+abbrev pub ShowsOn : List ℕ → List ℕ → List Mark → Type 0
+ShowsOn old new marks = Grown (λ (s : Shown). s.bytes) (λ (s : Shown). s.mark) old new marks
+
+pub record IsNarrow (bytes : List ℕ) (marks : List Mark) : Type 0 where
+  pub before : List ℕ
+  pub heading : IsLines before
+  pub shown : ShowsOn before bytes marks

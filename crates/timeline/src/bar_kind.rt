@@ -1,4 +1,4 @@
-/// What lasts for a while.
+/// What lasts for a while, or is noted on a row.
 #[derive(Clone, Copy, PartialEq, Eq)]
 pub enum BarKind {
     /// A session of a lane, which the scenario alone tells.
@@ -13,6 +13,14 @@ pub enum BarKind {
     Making,
     /// An image that can be read.
     Image,
+    /// A block of a volume is written.
+    Write,
+    /// A block is written, and what it had is copied before for the newest image.
+    Copy,
+    /// So many slots are used by an image.
+    Used,
+    /// So many images are not drawn.
+    More,
 }
 
 impl BarKind {
@@ -25,6 +33,28 @@ impl BarKind {
             BarKind::Held => "held",
             BarKind::Making => "making",
             BarKind::Image => "image",
+            BarKind::Write => "write",
+            BarKind::Copy => "copy",
+            BarKind::Used => "used",
+            BarKind::More => "more",
+        }
+    }
+
+    /// Whether it is a sign on the line of its row, and no bar.
+    pub fn is_sign(self) -> bool {
+        matches!(self, BarKind::Write | BarKind::Copy)
+    }
+
+    /// Whether it is words alone.
+    pub fn is_words(self) -> bool {
+        matches!(self, BarKind::Used | BarKind::More)
+    }
+
+    /// How many of it a row has at once at most.
+    pub fn most(self) -> u64 {
+        match self {
+            BarKind::Making | BarKind::Image => 512,
+            _ => 1,
         }
     }
 }

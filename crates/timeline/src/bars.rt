@@ -2,75 +2,34 @@ use crate::bar::Bar;
 use crate::bar_kind::BarKind;
 use crate::ending::Ending;
 use crate::pick::Pick;
-use crate::row_state::RowState;
-use crate::track::Track;
+use crate::row_bars::RowBars;
 use std::alloc::Global;
 use vss_names::OutOfMemory;
 
-/// How many pixels a letter of a bar's words takes.
-const LETTER: u64 = 6;
-
-/// All that lasts: bars that have ended, those that have not, and where there is room for one more.
+/// All that lasts, by rows, and what of it has ended, in the order of the bands in which it is drawn.
 #[derive(Drop)]
 pub struct Bars<'a> {
+    rows: Vec<RowBars<'a>>,
     done: Vec<Bar<'a>>,
-    open: Vec<Bar<'a>>,
-    tracks: Vec<Track>,
-    states: Vec<RowState>,
-}
-
-/// The first place on the right of a bar that is free of its words.
-fn end_of_words(bar: &Bar<'_>) -> u64 {
-    let own = bar.from.saturating_add(14 * LETTER);
-    let words = bar
-        .ending
-        .words()
-        .len()
-        .saturating_add(bar.ending.result().len());
-    let behind = words as u64;
-    let end = bar
-        .to
-        .saturating_add(behind.saturating_mul(LETTER))
-        .saturating_add(2 * LETTER);
-    own.max(end)
+    /// Whether a write was the last that was noted as one that copies: where in `done`.
+    copied: Option<usize>,
 }
 
 impl<'a> Bars<'a> {
     /// None yet, in so many rows.
-    pub fn new(alloc: Global, rows: usize) -> Result<Bars<'a>, OutOfMemory> {
-        let mut states = Vec::new(alloc);
-        for _ in 0..rows {
-            states.push(RowState::EMPTY)?;
+    pub fn new(alloc: Global, count: usize) -> Result<Bars<'a>, OutOfMemory> {
+        let mut rows = Vec::new(alloc);
+        for _ in 0..count {
+            rows.push(RowBars::new(alloc))?;
         }
         Ok(Bars {
+            rows,
             done: Vec::new(alloc),
-            open: Vec::new(alloc),
-            tracks: Vec::new(alloc),
-            states,
+            copied: None,
         })
     }
 
-    /// Takes the first track of a row that is free from `x` on.
-    fn take_track(&mut self, row: usize, x: u64) -> Result<u64, OutOfMemory> {
-        let mut number = 0u64;
-        for track in self.tracks.iter_mut() {
-            if track.row == row {
-                if track.free_from <= x {
-                    track.free_from = u64::MAX;
-                    return Ok(track.number);
-                }
-                number = track.number.saturating_add(1);
-            }
-        }
-        self.tracks.push(Track {
-            row,
-            number,
-            free_from: u64::MAX,
-        })?;
-        Ok(number)
-    }
-
-    /// Begins a bar.
+    /// Begins a bar of a row.
     pub fn begin(
         &mut self,
         kind: BarKind,
@@ -78,15 +37,135 @@ impl<'a> Bars<'a> {
         number: u64,
         x: u64,
     ) -> Result<(), OutOfMemory> {
-        let track = self.take_track(row, x)?;
-        if let Some(state) = self.states.get_mut(row) {
-            state.begins(kind);
+        let bar = Bar {
+            kind,
+            row,
+            track: 0,
+            number,
+            cut: 0,
+            from: x,
+            to: x,
+            ending: Ending::Stands,
+        };
+        match self.rows.get_mut(row) {
+            Some(bars) => bars.begin(bar),
+            None => Ok(()),
         }
-        self.open.push(Bar {
+    }
+
+    /// Ends the bars of a row that are picked.
+    pub fn end_in(
+        &mut self,
+        row: usize,
+        pick: Pick,
+        x: u64,
+        ending: Ending<'a>,
+    ) -> Result<(), OutOfMemory> {
+        match self.rows.get_mut(row) {
+            Some(bars) => bars.end(&mut self.done, pick, x, ending),
+            None => Ok(()),
+        }
+    }
+
+    /// Ends the bars of all rows that are picked.
+    pub fn end(&mut self, pick: Pick, x: u64, ending: Ending<'a>) -> Result<(), OutOfMemory> {
+        for bars in self.rows.iter_mut() {
+            bars.end(&mut self.done, pick, x, ending)?;
+        }
+        Ok(())
+    }
+
+    /// Begins an image of a set in each row that is held, at the cut in this line of the report.
+    pub fn cut(&mut self, set: u64, x: u64, cut: u64) -> Result<(), OutOfMemory> {
+        for (row, bars) in self.rows.iter_mut().enumerate() {
+            if bars.count(BarKind::Held) > 0 {
+                bars.begin(Bar {
+                    kind: BarKind::Making,
+                    row,
+                    track: 0,
+                    number: set,
+                    cut,
+                    from: x,
+                    to: x,
+                    ending: Ending::Stands,
+                })?;
+            }
+        }
+        Ok(())
+    }
+
+    /// Makes of each image that is made one that stands.
+    pub fn stand(&mut self, x: u64) -> Result<(), OutOfMemory> {
+        for bars in self.rows.iter_mut() {
+            bars.stand(&mut self.done, x)?;
+        }
+        Ok(())
+    }
+
+    /// Ends a band at its right edge.
+    pub fn turn(&mut self, x: u64) -> Result<(), OutOfMemory> {
+        for bars in self.rows.iter_mut() {
+            bars.turn(&mut self.done, x)?;
+        }
+        Ok(())
+    }
+
+    /// The latest cut of an image of a row.
+    fn newest_cut(&self, row: usize) -> Option<u64> {
+        match self.rows.get(row) {
+            Some(bars) => bars.newest_cut(),
+            None => None,
+        }
+    }
+
+    /// Notes that a block of a volume is written; for its newest image what it had is copied before, where that is not done yet.
+    pub fn write(&mut self, row: usize, written: u64, x: u64) -> Result<(), OutOfMemory> {
+        let newest = self.newest_cut(row);
+        let copies = matches!(newest, Some(cut) if written <= cut);
+        self.copied = if copies { Some(self.done.len()) } else { None };
+        let kind = if copies {
+            BarKind::Copy
+        } else {
+            BarKind::Write
+        };
+        self.note(kind, row, 0, 0, x)
+    }
+
+    /// Notes that the last write copied nothing, where it left no image in a row.
+    pub fn evict(&mut self, row: usize) {
+        let is_left = self.newest_cut(row).is_some();
+        if let (false, Some(at)) = (is_left, self.copied) {
+            if let Some(bar) = self.done.get_mut(at) {
+                bar.kind = BarKind::Write;
+            }
+        }
+    }
+
+    /// Notes how many slots the image of a set uses.
+    pub fn used(&mut self, row: usize, set: u64, used: u64, x: u64) -> Result<(), OutOfMemory> {
+        let Some(bars) = self.rows.get(row) else {
+            return Ok(());
+        };
+        match bars.track_of(set) {
+            Some(track) => self.note(BarKind::Used, row, track, used, x),
+            None => Ok(()),
+        }
+    }
+
+    fn note(
+        &mut self,
+        kind: BarKind,
+        row: usize,
+        track: usize,
+        number: u64,
+        x: u64,
+    ) -> Result<(), OutOfMemory> {
+        self.done.push(Bar {
             kind,
             row,
             track,
             number,
+            cut: 0,
             from: x,
             to: x,
             ending: Ending::Stands,
@@ -94,80 +173,15 @@ impl<'a> Bars<'a> {
         Ok(())
     }
 
-    /// Keeps a bar that has ended, and frees its track.
-    fn keep(&mut self, bar: Bar<'a>) -> Result<(), OutOfMemory> {
-        let free_from = end_of_words(&bar);
-        for track in self.tracks.iter_mut() {
-            if track.row == bar.row && track.number == bar.track {
-                track.free_from = free_from;
-            }
+    /// How many bars of a kind a row has now.
+    pub fn count(&self, row: usize, kind: BarKind) -> u64 {
+        match self.rows.get(row) {
+            Some(bars) => bars.count(kind),
+            None => 0,
         }
-        if let Some(state) = self.states.get_mut(bar.row) {
-            state.ends(bar.kind);
-        }
-        self.done.push(bar)?;
-        Ok(())
     }
 
-    /// Ends the bars that are picked.
-    pub fn end(&mut self, pick: Pick, x: u64, ending: Ending<'a>) -> Result<(), OutOfMemory> {
-        for at in 0..self.open.len() {
-            if let Some(bar) = self.open.get(at).copied() {
-                if pick.takes(&bar) {
-                    self.keep(Bar {
-                        to: x,
-                        ending,
-                        ..bar
-                    })?;
-                }
-            }
-        }
-        self.open.retain(|bar| !pick.takes(bar));
-        Ok(())
-    }
-
-    /// Begins an image that is made, in each row that is held.
-    pub fn cut(&mut self, set: u64, x: u64) -> Result<(), OutOfMemory> {
-        for at in 0..self.open.len() {
-            if let Some(bar) = self.open.get(at).copied() {
-                if bar.kind == BarKind::Held {
-                    self.begin(BarKind::Making, bar.row, set, x)?;
-                }
-            }
-        }
-        Ok(())
-    }
-
-    /// Makes of each image that is made one that stands, in the same place.
-    pub fn stand(&mut self, x: u64) -> Result<(), OutOfMemory> {
-        for bar in self.open.iter_mut() {
-            if bar.kind == BarKind::Making {
-                self.done.push(Bar {
-                    to: x,
-                    ending: Ending::Done,
-                    ..*bar
-                })?;
-                bar.kind = BarKind::Image;
-                bar.from = x;
-                if let Some(state) = self.states.get_mut(bar.row) {
-                    state.begins(BarKind::Image);
-                }
-            }
-        }
-        Ok(())
-    }
-
-    /// How many tracks a row has.
-    pub fn tracks(&self, row: usize) -> u64 {
-        self.tracks.iter().filter(|track| track.row == row).count() as u64
-    }
-
-    /// How it stands with a row.
-    pub fn state(&self, row: usize) -> RowState {
-        self.states.get(row).copied().unwrap_or(RowState::EMPTY)
-    }
-
-    /// The bars that have ended, in the order of their ends.
+    /// What has ended.
     pub fn done(&self) -> &[Bar<'a>] {
         &self.done
     }

@@ -1,10 +1,14 @@
-use crate::act::Act;
+use crate::lines::is_move;
+use crate::named::named_in;
 use crate::row::Row;
 use crate::row_kind::RowKind;
-use crate::told::Told;
+use crate::script::Script;
 use crate::words::parted;
 use std::alloc::Global;
 use vss_names::OutOfMemory;
+
+/// The most rows: those of the time, the provider, 64 lanes, 64 writers, 128 volumes.
+const MOST_ROWS: usize = 258;
 
 /// Who and what has a row, from top to bottom: the time, the lanes, the provider, the writers, the volumes.
 #[derive(Drop)]
@@ -12,104 +16,94 @@ pub struct Cast<'a> {
     rows: Vec<Row<'a>>,
 }
 
-/// The name of this kind that a line of a scenario declares.
-fn declared(kind: RowKind, line: &str) -> Option<&str> {
-    let (word, said) = parted(line);
-    let (name, _) = parted(said);
-    match (kind, word) {
-        (RowKind::Lane, "lane") => Some(name),
-        (RowKind::Writer, "writer") => Some(name),
-        (RowKind::Volume, "volume") => Some(name),
-        _ => None,
-    }
-}
-
-/// The name of this kind that a closing line of a report has.
-fn closed(kind: RowKind, line: &str) -> Option<&str> {
-    match (kind, Told::of(line)) {
-        (RowKind::Writer, Told::Writer { writer }) => Some(writer),
-        (RowKind::Volume, Told::Volume { volume }) => Some(volume),
-        _ => None,
-    }
-}
-
-/// The name of this kind that the line of a move has.
-fn moved(kind: RowKind, line: &str) -> Option<&str> {
-    match (kind, Act::of(line)) {
-        (RowKind::Lane, Act::Lane { lane, .. }) => Some(lane),
-        (RowKind::Writer, Act::Writer { writer, .. }) => Some(writer),
-        (RowKind::Volume, Act::Provider { volume, .. }) => Some(volume),
-        _ => None,
-    }
+/// What a line of a scenario declares.
+fn declared_in(line: &str) -> Row<'_> {
+    let (word, rest) = parted(line);
+    let (name, _) = parted(rest);
+    let kind = match word {
+        "lane" => RowKind::Lane,
+        "writer" => RowKind::Writer,
+        "volume" => RowKind::Volume,
+        _ => RowKind::Time,
+    };
+    Row { kind, name }
 }
 
 impl<'a> Cast<'a> {
-    /// Those of a report, and of its scenario, which comes first; it may be empty.
-    pub fn of(alloc: Global, scenario: &'a str, report: &'a str) -> Result<Cast<'a>, OutOfMemory> {
+    /// Those of a scenario, or, where there is none, of a report.
+    pub fn of(
+        alloc: Global,
+        script: &Script<'a>,
+        report: &[&'a str],
+    ) -> Result<Cast<'a>, OutOfMemory> {
         let mut cast = Cast {
             rows: Vec::new(alloc),
         };
-        cast.add(RowKind::Time, "")?;
-        cast.add_all(RowKind::Lane, scenario, report)?;
-        cast.add(RowKind::Provider, "")?;
-        cast.add_all(RowKind::Writer, scenario, report)?;
-        cast.add_all(RowKind::Volume, scenario, report)?;
+        cast.add(Row::time())?;
+        cast.add_all(RowKind::Lane, script, report)?;
+        cast.add(Row::provider())?;
+        cast.add_all(RowKind::Writer, script, report)?;
+        cast.add_all(RowKind::Volume, script, report)?;
         Ok(cast)
     }
 
     /// Adds a row, where there is none of its kind and name.
-    fn add(&mut self, kind: RowKind, name: &'a str) -> Result<(), OutOfMemory> {
-        if self.find(kind, name).is_none() {
-            self.rows.push(Row { kind, name })?;
+    fn add(&mut self, row: Row<'a>) -> Result<(), OutOfMemory> {
+        if self.find(row).is_none() && self.rows.len() < MOST_ROWS {
+            self.rows.push(row)?;
         }
         Ok(())
     }
 
-    fn add_named(&mut self, kind: RowKind, name: Option<&'a str>) -> Result<(), OutOfMemory> {
-        match name {
-            None | Some("") => Ok(()),
-            Some(name) => self.add(kind, name),
+    /// Adds a row, where it is of a kind and has a name.
+    fn add_of(&mut self, kind: RowKind, row: Row<'a>) -> Result<(), OutOfMemory> {
+        if row.kind != kind || row.name.is_empty() {
+            return Ok(());
         }
+        self.add(row)
     }
 
+    /// Adds the rows of a kind: as a scenario declares them, or else as the closing lines and then the moves have them.
     fn add_all(
         &mut self,
         kind: RowKind,
-        scenario: &'a str,
-        report: &'a str,
+        script: &Script<'a>,
+        report: &[&'a str],
     ) -> Result<(), OutOfMemory> {
-        for line in scenario.lines() {
-            self.add_named(kind, declared(kind, line))?;
+        for line in script.declarations() {
+            self.add_of(kind, declared_in(line))?;
         }
-        for line in report.lines() {
-            self.add_named(kind, closed(kind, line))?;
+        if !script.is_empty() {
+            return Ok(());
         }
-        for line in report.lines() {
-            self.add_named(kind, moved(kind, line))?;
+        for line in report {
+            if !is_move(line) {
+                self.add_of(kind, named_in(line))?;
+            }
+        }
+        for line in report {
+            self.add_of(kind, named_in(line))?;
         }
         Ok(())
     }
 
-    fn find(&self, kind: RowKind, name: &str) -> Option<usize> {
+    fn find(&self, wanted: Row<'_>) -> Option<usize> {
         self.rows
             .iter()
-            .position(|row| row.kind == kind && row.name == name)
+            .position(|row| row.kind == wanted.kind && row.name == wanted.name)
     }
 
-    /// The row of this kind and name, or that of the time.
-    pub fn row(&self, kind: RowKind, name: &str) -> usize {
-        self.find(kind, name).unwrap_or(0)
+    /// The place of a row, or that of the time.
+    pub fn place(&self, row: Row<'_>) -> usize {
+        self.find(row).unwrap_or(0)
     }
 
-    /// The row in which the mark of a move lies.
-    pub fn row_of(&self, act: Act<'_>) -> usize {
-        match act {
-            Act::Lane { lane, .. } => self.row(RowKind::Lane, lane),
-            Act::Writer { writer, .. } => self.row(RowKind::Writer, writer),
-            Act::Provider { volume: "", .. } => self.row(RowKind::Provider, ""),
-            Act::Provider { volume, .. } => self.row(RowKind::Volume, volume),
-            Act::Idle { .. } | Act::Other => 0,
-        }
+    /// The row of a volume.
+    pub fn volume(&self, name: &str) -> usize {
+        self.place(Row {
+            kind: RowKind::Volume,
+            name,
+        })
     }
 
     /// What a row is of.

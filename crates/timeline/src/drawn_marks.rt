@@ -1,48 +1,116 @@
-//! The elements of the moves in a drawing.
+//! The elements of the marks in a drawing.
 
-ghost use Rattle.std.specs.Prelude.{◌≡◌, ◌++◌, OnOk};
-ghost use Rattle.std.specs.List.{flat_map};
-ghost use Rattle.timeline.specs.Drawn.{mark_element, placed, told_of};
+ghost use Rattle.std.specs.Prelude.{◌≡◌, ◌++◌, OnOk, IfOk};
+ghost use Rattle.timeline.specs.Drawn.{element, element_at, front_of, label_of_words, label_place, sign};
+ghost use Rattle.timeline.specs.Told.{written};
 
-use crate::escaping::{add_escaped, add_number};
+use crate::labels::{add_cut, add_label};
 use crate::layout::Layout;
 use crate::mark::Mark;
+use crate::part::{Part, add_parts};
+use crate::shape::Shape;
+use std::alloc::Global;
 use vss_names::{OutOfMemory, Text};
 
-/// Appends what is told of a move.
-fn add_told(out: &mut Text, mark: &Mark<'_>) -> Result<(), OutOfMemory>
-    ensures { OnOk result (out.new.bytes ≡ out.old.bytes ++ told_of mark.now) }
-{
-    out.add(b"<g><title>")?;
-    add_escaped(out, mark.text.as_bytes())?;
-    out.add(b"</title><use href='#")?;
-    Ok(())
-}
+/// The most bytes of a label that are shown.
+const LABEL: usize = 112;
 
-/// Appends the shape of a move, and its place.
-fn add_placed(out: &mut Text, mark: &Mark<'_>, y: u64) -> Result<(), OutOfMemory>
-    ensures { OnOk result (out.new.bytes ≡ out.old.bytes ++ placed mark.now y) }
+/// Appends as much of a label as is shown, and two dots where that is not all.
+fn add_front(out: &mut Text, label: &[u8]) -> Result<(), OutOfMemory>
+    ensures { OnOk result (out.new.bytes ≡ out.old.bytes ++ front_of label.now) }
 {
-    out.add(mark.shape.name().as_bytes())?;
-    add_number(out, b"' x='", mark.x)?;
-    add_number(out, b"' y='", y)?;
-    out.add(b"'/></g>\n")
-}
-
-/// Appends the element of a move.
-fn add_mark(out: &mut Text, mark: &Mark<'_>, layout: &Layout) -> Result<(), OutOfMemory>
-    ensures { OnOk result (out.new.bytes ≡ out.old.bytes ++ mark_element layout.now.heights.items mark.now) }
-{
-    add_told(out, mark)?;
-    add_placed(out, mark, layout.mark(mark.row))
-}
-
-/// Appends the elements of the moves, in order.
-pub fn add_marks(out: &mut Text, marks: &[Mark<'_>], layout: &Layout) -> Result<(), OutOfMemory>
-    ensures { OnOk result (out.new.bytes ≡ out.old.bytes ++ flat_map (mark_element layout.now.heights.items) marks.now) }
-{
-    for mark in marks {
-        add_mark(out, mark, layout)?;
+    if label.len() <= LABEL {
+        return out.add(label);
     }
-    Ok(())
+    add_cut(out, label, LABEL - 2)
+}
+
+/// As much of the label of a mark as is shown.
+fn front(alloc: Global, mark: &Mark<'_>) -> Result<Text, OutOfMemory>
+    ensures { IfOk result (λ text. text.bytes ≡ front_of (written mark.now.label)) }
+{
+    let mut label = Text::new(alloc);
+    let mut front = Text::new(alloc);
+    add_label(&mut label, &mark.label)?;
+    add_front(&mut front, label.bytes())?;
+    Ok(front)
+}
+
+/// Appends the sign of a mark at its place, with its line as what is told there.
+fn add_sign(out: &mut Text, mark: &Mark<'_>, y: u64) -> Result<(), OutOfMemory>
+    ensures { OnOk result (out.new.bytes ≡ out.old.bytes ++ sign mark.now y) }
+{
+    add_parts(
+        out,
+        &[
+            Part::Markup("<g transform='translate("),
+            Part::Number(mark.place.x),
+            Part::Markup(","),
+            Part::Number(y),
+            Part::Markup(")'><title>"),
+            Part::Words(mark.text.as_bytes()),
+            Part::Markup("</title><use href='#"),
+            Part::Markup(mark.shape.name()),
+            Part::Markup("'/></g><g transform='translate("),
+            Part::Number(mark.place.x),
+        ],
+    )
+}
+
+/// Appends where the label of a mark begins.
+fn add_label_place(out: &mut Text, shape: Shape, y: u64) -> Result<(), OutOfMemory>
+    ensures { OnOk result (out.new.bytes ≡ out.old.bytes ++ label_place shape y) }
+{
+    match shape {
+        Shape::Closing => add_parts(
+            out,
+            &[Part::Markup(","), Part::Number(y), Part::Markup(")")],
+        ),
+        _ => out.add(b",0)rotate(-55)"),
+    }
+}
+
+/// Appends the label of a mark, of which so much is shown.
+fn add_words(out: &mut Text, mark: &Mark<'_>, front: &[u8]) -> Result<(), OutOfMemory>
+    ensures { OnOk result (out.new.bytes ≡ out.old.bytes ++ label_of_words mark.now front.now) }
+{
+    add_parts(
+        out,
+        &[
+            Part::Markup("'><text class='"),
+            Part::Markup(mark.shape.name()),
+            Part::Markup("' x='12' y='4'>"),
+            Part::Words(front),
+            Part::Markup("</text></g>\n"),
+        ],
+    )
+}
+
+/// Appends the label of a mark.
+fn add_mark_label(alloc: Global, out: &mut Text, mark: &Mark<'_>) -> Result<(), OutOfMemory>
+    ensures { OnOk result (out.new.bytes ≡ out.old.bytes ++ label_of_words mark.now (front_of (written mark.now.label))) }
+{
+    let front = front(alloc, mark)?;
+    add_words(out, mark, front.bytes())
+}
+
+/// Appends the element of a mark at a height.
+fn add_element_at(alloc: Global, out: &mut Text, mark: &Mark<'_>, y: u64) -> Result<(), OutOfMemory>
+    ensures { OnOk result (out.new.bytes ≡ out.old.bytes ++ element_at mark.now y) }
+{
+    add_sign(out, mark, y)?;
+    add_label_place(out, mark.shape, y)?;
+    add_mark_label(alloc, out, mark)
+}
+
+/// Appends the element of a mark.
+pub fn add_element(
+    alloc: Global,
+    out: &mut Text,
+    mark: &Mark<'_>,
+    layout: &Layout,
+) -> Result<(), OutOfMemory>
+    ensures { OnOk result (out.new.bytes ≡ out.old.bytes ++ element layout.now.heights.items mark.now) }
+{
+    add_element_at(alloc, out, mark, layout.mark(mark.place.row))
 }

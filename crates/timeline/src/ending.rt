@@ -3,7 +3,7 @@
 pub enum Ending<'a> {
     /// As it should.
     Done,
-    /// It lasts to the report's end.
+    /// It lasts to the report's end, or goes on in the next band.
     Stands,
     /// The image went since its slots were needed.
     Evicted,
@@ -41,8 +41,16 @@ impl<'a> Ending<'a> {
         }
     }
 
-    /// Whether something went wrong, or went.
-    pub fn is_loss(self) -> bool {
-        !matches!(self, Ending::Done | Ending::Stands)
+    /// The sign at the end, and the class of the words, where it is not as it should: what failed or was evicted looks other than
+    /// what was asked for.
+    pub fn sign(self) -> Option<(&'static str, &'static str)> {
+        match self {
+            Ending::Done | Ending::Stands => None,
+            Ending::Failed(_) => Some(("refused", "loss")),
+            Ending::Evicted => Some(("gone", "loss")),
+            Ending::Deleted | Ending::Reverted | Ending::SessionEnded | Ending::Unknown => {
+                Some(("deleted", "small"))
+            }
+        }
     }
 }

@@ -32,11 +32,10 @@ pub fn add_escaped(out: &mut Text, text: &[u8]) -> Result<(), OutOfMemory>
     Ok(())
 }
 
-/// Appends a word, and a number in decimal digits.
-pub fn add_number(out: &mut Text, word: &[u8], number: u64) -> Result<(), OutOfMemory>
-    ensures { OnOk result (out.new.bytes ≡ out.old.bytes ++ word.now ++ decimal number) }
+/// Appends a number in decimal digits.
+pub fn add_number(out: &mut Text, number: u64) -> Result<(), OutOfMemory>
+    ensures { OnOk result (out.new.bytes ≡ out.old.bytes ++ decimal number) }
 {
-    out.add(word)?;
     let mut buffer = Buffer::new();
     out.add(buffer.format(number).as_bytes())
 }

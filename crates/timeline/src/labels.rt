@@ -1,93 +1,81 @@
-//! What a move is called.
+//! Labels as bytes.
 
-use crate::act::Act;
-use crate::mark::Mark;
-use crate::narrow_line::NarrowLine;
-use crate::words::parted;
-use vss_names::OutOfMemory;
+ghost use Rattle.std.specs.Prelude.{◌≡◌, ◌≤◌, ◌++◌, length, take, codes, OnOk};
+ghost use Rattle.std.specs.List.{list_all};
+ghost use Rattle.timeline.specs.Told.{colon_between, has_digest, is_hex_digit, shortened, written};
 
-/// Appends what a lane's line says, or its number where that is not known.
-fn add_asked(line: &mut NarrowLine, mark: &Mark<'_>, number: u64) -> Result<(), OutOfMemory> {
-    if !mark.said.is_empty() {
-        return line.add(mark.said.as_bytes());
+use crate::label::Label;
+use crate::lines::is_digit;
+use vss_names::{OutOfMemory, Text};
+
+/// How many bytes of a text that ends with a digest are not shown.
+const HIDDEN: usize = 56;
+
+/// How many bytes a digest has in hexadecimal digits.
+const DIGEST: usize = 64;
+
+fn is_hex_digit(byte: u8) -> bool
+    ensures { result ≡ is_hex_digit byte }
+{
+    is_digit(byte) || (b'a' <= byte && byte <= b'f')
+}
+
+fn are_hex_digits(text: &[u8]) -> bool
+    ensures { result ≡ list_all is_hex_digit text.now }
+{
+    text.iter().all(|byte| is_hex_digit(*byte))
+}
+
+/// Whether a digest stands at the end of a text.
+fn has_digest(text: &[u8]) -> bool
+    ensures { result ≡ has_digest text.now }
+{
+    DIGEST <= text.len() && are_hex_digits(&text[text.len() - DIGEST..])
+}
+
+/// How many bytes are shown of a text.
+pub fn shown_length(text: &[u8]) -> usize {
+    if has_digest(text) {
+        text.len() - HIDDEN + 2
+    } else {
+        text.len()
     }
-    line.add(b"line ")?;
-    line.add_number(number, 0)
 }
 
-/// An answer without its first word, where that is what was asked for.
-fn news<'a>(asked: &str, answer: &'a str) -> &'a str {
-    let (word, _) = parted(asked);
-    let (first, said) = parted(answer);
-    if first == word { said } else { answer }
+/// Appends so many bytes of a text, and two dots.
+pub fn add_cut(out: &mut Text, text: &[u8], most: usize) -> Result<(), OutOfMemory>
+    requires { most ≤ length text.now }
+    ensures { OnOk result (out.new.bytes ≡ out.old.bytes ++ (take most text.now ++ codes "..")) }
+{
+    out.add(&text[..most])?;
+    out.add(b"..")
 }
 
-/// Appends an answer behind what was asked, where it says more than that it was done.
-fn add_answer(line: &mut NarrowLine, answer: &str) -> Result<(), OutOfMemory> {
-    if answer == "ok" {
+/// Appends a text, of a digest at its end eight digits and two dots.
+fn add_shortened(out: &mut Text, text: &[u8]) -> Result<(), OutOfMemory>
+    ensures { OnOk result (out.new.bytes ≡ out.old.bytes ++ shortened text.now) }
+{
+    if !has_digest(text) {
+        return out.add(text);
+    }
+    add_cut(out, text, text.len() - HIDDEN)
+}
+
+fn add_colon(out: &mut Text, label: &Label<'_>) -> Result<(), OutOfMemory>
+    ensures { OnOk result (out.new.bytes ≡ out.old.bytes ++ colon_between label.now.asked.now label.now.answer.now) }
+{
+    if label.asked.is_empty() || label.answer.is_empty() {
         return Ok(());
     }
-    line.add(b": ")?;
-    line.add(answer.as_bytes())
+    out.add(b": ")
 }
 
-fn add_step(
-    line: &mut NarrowLine,
-    step: &str,
-    volume: &str,
-    is_fault: bool,
-) -> Result<(), OutOfMemory> {
-    line.add(step.as_bytes())?;
-    if !volume.is_empty() {
-        line.add(b" ")?;
-        line.add(volume.as_bytes())?;
-    }
-    if is_fault {
-        line.add(b": fault")?;
-    }
-    Ok(())
-}
-
-/// Appends what was done in a move.
-pub fn add_deed(line: &mut NarrowLine, mark: &Mark<'_>) -> Result<(), OutOfMemory> {
-    match Act::of(mark.text) {
-        Act::Lane {
-            line: number,
-            reply,
-            ..
-        } => {
-            add_asked(line, mark, number)?;
-            add_answer(line, news(mark.said, reply))
-        }
-        Act::Writer { order, answer, .. } => {
-            line.add(order.as_bytes())?;
-            add_answer(line, answer)
-        }
-        Act::Provider {
-            step,
-            volume,
-            is_fault,
-        } => add_step(line, step, volume, is_fault),
-        Act::Idle { ticks } => {
-            line.add(b"idle ")?;
-            line.add_number(ticks, 0)
-        }
-        Act::Other => line.add(mark.text.as_bytes()),
-    }
-}
-
-/// Appends who made a move.
-pub fn add_actor(line: &mut NarrowLine, mark: &Mark<'_>) -> Result<(), OutOfMemory> {
-    match Act::of(mark.text) {
-        Act::Lane { lane, .. } => {
-            line.add(b"lane ")?;
-            line.add(lane.as_bytes())
-        }
-        Act::Writer { writer, .. } => {
-            line.add(b"writer ")?;
-            line.add(writer.as_bytes())
-        }
-        Act::Provider { .. } => line.add(b"provider"),
-        Act::Idle { .. } | Act::Other => line.add(b"time"),
-    }
+/// Appends a label.
+pub fn add_label(out: &mut Text, label: &Label<'_>) -> Result<(), OutOfMemory>
+    ensures { OnOk result (out.new.bytes ≡ out.old.bytes ++ written label.now) }
+{
+    out.add(label.before.as_bytes())?;
+    out.add(label.asked.as_bytes())?;
+    add_colon(out, label)?;
+    add_shortened(out, label.answer.as_bytes())
 }

@@ -1,51 +1,64 @@
 //! A picture of a run, drawn of its report.
 //!
-//! `draw` writes the picture of a report to a sink. `Picture::of` reads the report line by line, and the scenario beside it where
-//! there is one, into a model: who took part (`Cast`), a `Mark` for each move, an `Effect` for each effect, and a `Bar` for whatever
-//! lasts (a set in the making, a frozen writer, a held volume, an image). `to_svg` writes the model as a drawing for a browser,
-//! `to_lines` as lines for a terminal.
+//! `draw` writes the picture of a run to a sink. `Picture::of` reads the report line by line, and the scenario beside it where
+//! there is one, into a model: who took part (`Cast`), a `Mark` for each line of a move, an effect or the end, and a `Bar` for whatever
+//! lasts (a set in the making, a frozen writer, a held volume, an image). `to_svg` writes the model as a drawing for a browser, in bands
+//! of at most 40 marks one below another, `to_lines` as lines for a terminal.
 //!
-//! Contracts promise that the marks are the moves of the report, each once and in order (`specs/Moves.antt`), that the drawing has
-//! the element of each mark once and in order (`specs/Drawn.antt`) with its text escaped (`specs/Escaped.antt`), and that no line of
-//! the other form is longer than 100 bytes (`specs/Narrow.antt`). What the bars show is tested only.
+//! Contracts promise that the marks tell all that the report does, in order (`specs/Told.antt`): each the line, its label and its shape;
+//! that a report is refused exactly at its first line that is none or is another scenario's (`specs/Refused.antt`); that the drawing
+//! has the element of each mark once and in order, and that each text in it is escaped (`specs/Drawn.antt`); and that the other form
+//! has the label of each mark, in lines of at most 100 bytes (`specs/Narrow.antt`). Which rows and bars there are, and where, is tested only.
 #![tactic(auto)]
 
-mod act;
+mod band;
+mod band_row;
 mod bar;
 mod bar_kind;
 mod bars;
 mod cast;
 mod drawing;
-mod drawn_bars;
-mod drawn_columns;
+mod drawn_bands;
 mod drawn_marks;
-mod drawn_rows;
-mod effect;
 mod ended;
 mod ending;
 mod escaping;
+mod fault;
 mod form;
+mod frame;
+mod label;
 mod labels;
 mod layout;
+mod letters;
+mod lines;
 mod mark;
-mod moves;
-mod narrow_line;
+mod named;
+mod part;
 mod pick;
 mod picture;
 mod picture_error;
+mod place;
 mod plain;
+mod refusal;
+mod refusing;
 mod row;
+mod row_bars;
 mod row_kind;
-mod row_state;
+mod row_use;
+mod run;
 mod script;
 mod shape;
 mod sheet;
+mod span;
 mod stage;
 mod svg;
-mod told;
-mod track;
 mod words;
+mod writes;
 
 pub use drawing::draw;
 pub use ended::Ended;
+pub use fault::Fault;
 pub use form::Form;
+pub use refusal::Refusal;
+pub use run::Run;
+pub use span::Span;

@@ -1,18 +1,15 @@
+use crate::label::Label;
+use crate::place::Place;
 use crate::shape::Shape;
 
-/// The mark of a move.
+/// The mark of a line of a report.
 #[derive(Clone, Copy)]
 pub struct Mark<'a> {
-    /// The move's line in the report.
+    /// The line.
     pub text: &'a str,
-    /// The line of the scenario that a lane made, where it is known.
-    pub said: &'a str,
+    pub label: Label<'a>,
     pub shape: Shape,
-    /// The row in which it lies, from 0.
-    pub row: usize,
-    /// Its place from left to right, in pixels.
-    pub x: u64,
-    /// The clock after the move, and by how much it went on in it, in ticks.
-    pub clock: u64,
-    pub passed: u64,
+    pub place: Place,
+    /// How many moves were made with it.
+    pub moves: u64,
 }

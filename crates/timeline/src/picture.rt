@@ -1,86 +1,123 @@
-ghost use Rattle.std.specs.Prelude.{◌≡◌, ◌++◌, [], ◌∷◌, None, IfOk, IfErr, OnOk, if◌then◌else◌};
-ghost use Rattle.timeline.specs.Moves.{bad_line, is_line, is_move, move_lines, texts_of, IsCause};
+ghost use Rattle.std.specs.Prelude.{◌≡◌, ◌+◌, ◌<◌, ◌≤◌, ◌^◌, ◌++◌, None, map, IfOk, IfErr, OnOk};
+ghost use Rattle.timeline.specs.Ended.{AreMarks, IsCause, IsRefusal};
+ghost use Rattle.timeline.specs.Refused.{refusal_from};
+ghost use Rattle.timeline.specs.Told.{is_drawn, moves_after, told, told_from, told_here};
 
+use crate::lines::{is_effect, is_move};
 use crate::mark::Mark;
-use crate::moves::{is_move, is_other};
 use crate::picture_error::PictureError;
+use crate::refusal::Refusal;
+use crate::refusing::fault_of;
+use crate::script::Script;
+use crate::span::Span;
 use crate::stage::Stage;
 use crate::words::lines_of;
 use std::alloc::Global;
 use vss_names::OutOfMemory;
 
-/// A picture of a run: the marks of its moves, and what lasted.
+/// A picture of a run: a mark of each line that is drawn, and what lasted.
 #[derive(Drop)]
 pub struct Picture<'a> {
-    /// The marks of the moves, in order.
+    /// The marks, in the order of the report.
     pub marks: Vec<Mark<'a>>,
     stage: Stage<'a>,
 }
 
-/// Takes a line of a report, with its mark where it is a move's, and answers whether a report has such a line.
+/// How many moves there are after a line, where there are so many before it.
+fn moves_after(moves: u64, line: &str) -> u64
+    requires { moves + 1 < 2 ^ 64 }
+    ensures value { result ≡ moves_after moves line.now }
+    ensures few { result ≤ moves + 1 }
+{
+    if is_move(line) { moves + 1 } else { moves }
+}
+
+/// Whether a line has a mark, where so many moves were made with it.
+fn is_drawn(span: Span, moves: u64, line: &str) -> bool
+    ensures { result ≡ is_drawn span moves line.now }
+{
+    if is_move(line) || is_effect(line) {
+        return span.from <= moves && moves <= span.to;
+    }
+    line != "report 1"
+}
+
+/// Takes a line of a report, with its mark where it has one.
 fn take_line<'a>(
+    script: &Script<'a>,
     stage: &mut Stage<'a>,
     marks: &mut Vec<Mark<'a>>,
     line: &'a str,
-) -> Result<bool, OutOfMemory>
-    ensures moves { OnOk result (texts_of marks.new.items ≡ texts_of marks.old.items ++ (if is_move line.now then line.now ∷ [] else [])) }
-    ensures lines { IfOk result (λ is_one. is_one ≡ is_line line.now) }
+    moves: u64,
+    span: Span,
+) -> Result<(), OutOfMemory>
+    ensures { OnOk result (map told marks.new.items ≡ map told marks.old.items ++ told_here script.now span moves line.now) }
 {
-    if is_move(line) {
-        let mark = stage.mark_of(line)?;
+    if is_drawn(span, moves, line) {
+        let mark = stage.draws(script, line, moves)?;
         marks.push(mark)?;
-        return Ok(true);
+        return Ok(());
     }
-    if !is_other(line) {
-        return Ok(false);
-    }
-    stage.takes(line)?;
-    Ok(true)
+    stage.passes(script, line)
 }
 
 /// Takes the lines of a report, in order.
 fn take_lines<'a>(
     alloc: Global,
+    script: &Script<'a>,
     stage: &mut Stage<'a>,
-    report: &'a str,
+    lines: &[&'a str],
+    span: Span,
 ) -> Result<Vec<Mark<'a>>, PictureError>
-    ensures moves { IfOk result (λ marks. texts_of marks.items ≡ move_lines report.now) }
-    ensures lines { OnOk result (bad_line report.now ≡ None) }
-    ensures refused { IfErr result (IsCause report.now) }
+    ensures told { IfOk result (λ marks. map told marks.items ≡ told_from script.now span 0 (map (λ line. line.now) lines.now)) }
+    ensures good { OnOk result (refusal_from script.now 1 (map (λ line. line.now) lines.now) ≡ None) }
+    ensures refused { IfErr result (IsRefusal (refusal_from script.now 1 (map (λ line. line.now) lines.now))) }
 {
-    let lines = match lines_of(alloc, report) {
-        Ok(lines) => lines,
-        Err(_) => return Err(PictureError::OutOfMemory),
-    };
     let mut marks = Vec::new(alloc);
+    let mut moves = 0u64;
     for (at, line) in lines.iter().enumerate() {
-        let is_one = match take_line(stage, &mut marks, line) {
-            Ok(is_one) => is_one,
+        match fault_of(script, line) {
+            Some(fault) => {
+                return Err(PictureError::Refused(Refusal {
+                    line: at as u64 + 1,
+                    fault,
+                }));
+            }
+            None => {}
+        }
+        moves = moves_after(moves, line);
+        match take_line(script, stage, &mut marks, line, moves, span) {
+            Ok(()) => {}
             Err(OutOfMemory) => return Err(PictureError::OutOfMemory),
-        };
-        if !is_one {
-            return Err(PictureError::BadLine(at as u64 + 1));
         }
     }
     Ok(marks)
 }
 
 impl<'a> Picture<'a> {
-    /// The picture of a report. The scenario, which may be empty, tells what the lanes' lines say.
+    /// The picture of the moves that are asked for, of a report, beside its scenario, which may be empty.
     pub fn of(
         alloc: Global,
         scenario: &'a str,
         report: &'a str,
+        span: Span,
     ) -> Result<Picture<'a>, PictureError>
-        ensures moves { IfOk result (λ picture. texts_of picture.marks.items ≡ move_lines report.now) }
-        ensures lines { OnOk result (bad_line report.now ≡ None) }
-        ensures refused { IfErr result (IsCause report.now) }
+        ensures marks { IfOk result (λ picture. AreMarks picture.marks.items scenario.now report.now span) }
+        ensures refused { IfErr result (IsCause scenario.now report.now) }
     {
-        let mut stage = match Stage::new(alloc, scenario, report) {
+        let script = match Script::of(alloc, scenario) {
+            Ok(script) => script,
+            Err(OutOfMemory) => return Err(PictureError::OutOfMemory),
+        };
+        let lines = match lines_of(alloc, report) {
+            Ok(lines) => lines,
+            Err(_) => return Err(PictureError::OutOfMemory),
+        };
+        let mut stage = match Stage::new(alloc, &script, &lines) {
             Ok(stage) => stage,
             Err(OutOfMemory) => return Err(PictureError::OutOfMemory),
         };
-        let marks = match take_lines(alloc, &mut stage, report) {
+        let marks = match take_lines(alloc, &script, &mut stage, &lines, span) {
             Ok(marks) => marks,
             Err(error) => return Err(error),
         };
@@ -90,7 +127,7 @@ impl<'a> Picture<'a> {
         }
     }
 
-    /// What was read.
+    /// What lasted.
     pub(crate) fn stage(&self) -> &Stage<'a> {
         &self.stage
     }

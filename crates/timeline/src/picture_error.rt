@@ -1,7 +1,9 @@
-/// Why a text has no picture.
+use crate::refusal::Refusal;
+
+/// Why a report has no picture.
 #[derive(Clone, Copy)]
 pub enum PictureError {
-    /// This line, counted from 1, is the first that no report has.
-    BadLine(u64),
+    /// A line of it is refused.
+    Refused(Refusal),
     OutOfMemory,
 }

@@ -1,60 +1,98 @@
 //! A picture as lines for a terminal.
 
-ghost use Rattle.std.specs.Prelude.{ℕ, ◌+◌, length, IfOk, OnOk};
-ghost use Rattle.timeline.specs.Narrow.{IsNarrow};
+ghost use Rattle.std.specs.Prelude.{◌∷◌, [], IfOk, OnOk};
+ghost use Rattle.timeline.specs.Narrow.{AddsLines, IsLines, IsNarrow, ShowsOn};
 
-use crate::effect::Effect;
-use crate::labels::{add_actor, add_deed};
+use crate::labels::add_label;
+use crate::lines::is_effect;
 use crate::mark::Mark;
-use crate::narrow_line::NarrowLine;
 use crate::picture::Picture;
+use crate::row::Row;
+use crate::shape::Shape;
+use crate::words::{parted, rest_of, word_of};
+use itoa::Buffer;
 use std::alloc::Global;
 use vss_names::{OutOfMemory, Text};
 
-/// Ends a line.
-fn add_line(out: &mut Text, line: &NarrowLine) -> Result<(), OutOfMemory>
-    ensures { OnOk result ((least : ℕ) → IsNarrow out.old.bytes least → IsNarrow out.new.bytes (least + 1)) }
+/// The most bytes of a line.
+const WIDTH: usize = 100;
+
+/// Appends a line of the picture, in as many lines as it needs.
+fn add_line(out: &mut Text, line: &[u8]) -> Result<(), OutOfMemory>
+    ensures { OnOk result (AddsLines out.old.bytes out.new.bytes line.now) }
 {
-    out.add(line.bytes())?;
+    let count = line.len() / WIDTH;
+    for at in 0..count {
+        out.add(&line[at * WIDTH..at * WIDTH + WIDTH])?;
+        out.add(b"\n")?;
+    }
+    out.add(&line[count * WIDTH..])?;
     out.add(b"\n")?;
     Ok(())
 }
 
-/// Appends what the letters of the states mean.
-fn add_key(alloc: Global, out: &mut Text) -> Result<(), OutOfMemory>
-    ensures { OnOk result ((least : ℕ) → IsNarrow out.old.bytes least → IsNarrow out.new.bytes (least + 1)) }
+/// Appends a line above the moves.
+fn add_heading_line(out: &mut Text, line: &[u8]) -> Result<(), OutOfMemory>
+    ensures { OnOk result (IsLines out.old.bytes → IsLines out.new.bytes) }
 {
-    let mut line = NarrowLine::new(alloc);
-    line.add(b"A run, move by move. F: frozen; H: held; 1 to 9 and +: so many images stand.")?;
-    add_line(out, &line)
+    add_line(out, line)?;
+    Ok(())
+}
+
+/// Appends a number with spaces before it, as many digits wide as `width` at least.
+fn add_wide(line: &mut Text, number: u64, width: usize) -> Result<(), OutOfMemory> {
+    let mut buffer = Buffer::new();
+    let digits = buffer.format(number).as_bytes();
+    for _ in digits.len()..width {
+        line.add(b" ")?;
+    }
+    line.add(digits)
+}
+
+/// Appends what a row is of, and its name.
+fn add_row(line: &mut Text, row: Row<'_>) -> Result<(), OutOfMemory> {
+    line.add(row.kind.title().as_bytes())?;
+    line.add(row.name.as_bytes())
+}
+
+/// Appends whose run it is, and what the letters of the states mean.
+fn add_title(alloc: Global, out: &mut Text, name: &str) -> Result<(), OutOfMemory>
+    ensures { OnOk result (IsLines out.old.bytes → IsLines out.new.bytes) }
+{
+    let mut line = Text::new(alloc);
+    line.add(name.as_bytes())?;
+    add_heading_line(out, line.bytes())?;
+    add_heading_line(
+        out,
+        b"F: frozen; H: held; S, m: a set, an image in the making; 1 to 9 and +: so many images stand.",
+    )
 }
 
 /// Appends a line for each row whose state is shown: its letter, and what it is.
 fn add_shown(alloc: Global, out: &mut Text, picture: &Picture<'_>) -> Result<(), OutOfMemory>
-    ensures { OnOk result ((least : ℕ) → IsNarrow out.old.bytes least → IsNarrow out.new.bytes least) }
+    ensures { OnOk result (IsLines out.old.bytes → IsLines out.new.bytes) }
 {
     let (first, shown) = picture.stage().shown();
+    let rows = picture.stage().cast().rows();
+    let rows = rows.get(first..).unwrap_or(&[]);
     let mut letter = b'a';
-    for (at, row) in picture.stage().cast().rows().iter().enumerate() {
-        if at >= first && at - first < shown {
-            let mut line = NarrowLine::new(alloc);
-            line.add(b"    ")?;
-            line.add(&[letter])?;
-            line.add(b"  ")?;
-            line.add(row.kind.title().as_bytes())?;
-            line.add(row.name.as_bytes())?;
-            add_line(out, &line)?;
-            letter = letter.saturating_add(1);
-        }
+    for row in rows.get(..shown).unwrap_or(&[]) {
+        let mut line = Text::new(alloc);
+        line.add(b"    ")?;
+        line.add(&[letter])?;
+        line.add(b"  ")?;
+        add_row(&mut line, *row)?;
+        add_heading_line(out, line.bytes())?;
+        letter = letter.saturating_add(1);
     }
     Ok(())
 }
 
 /// Appends the line above the moves.
 fn add_heading(alloc: Global, out: &mut Text, shown: usize) -> Result<(), OutOfMemory>
-    ensures { OnOk result ((least : ℕ) → IsNarrow out.old.bytes least → IsNarrow out.new.bytes (least + 1)) }
+    ensures { OnOk result (IsLines out.old.bytes → IsLines out.new.bytes) }
 {
-    let mut line = NarrowLine::new(alloc);
+    let mut line = Text::new(alloc);
     let mut letter = b'a';
     line.add(b" move      clock  ")?;
     for _ in 0..shown {
@@ -62,98 +100,101 @@ fn add_heading(alloc: Global, out: &mut Text, shown: usize) -> Result<(), OutOfM
         letter = letter.saturating_add(1);
     }
     line.add(b"  who: what")?;
-    add_line(out, &line)
+    add_heading_line(out, line.bytes())
 }
 
-/// Appends the line of a move.
-fn add_move(
+/// Appends who makes the move of a mark, or the sign of an effect.
+fn add_actor(line: &mut Text, mark: &Mark<'_>) -> Result<(), OutOfMemory> {
+    if is_effect(mark.text) {
+        return line.add(b"= ");
+    }
+    let (actor, said) = parted(rest_of(mark.text));
+    match actor {
+        "lane" | "writer" => {
+            line.add(actor.as_bytes())?;
+            line.add(b" ")?;
+            line.add(word_of(said).as_bytes())?;
+            line.add(b": ")
+        }
+        "provider" => line.add(b"provider: "),
+        _ => line.add(b"time: "),
+    }
+}
+
+/// Appends the number of a move and the clock after it, or as much room where they are not told.
+fn add_number(line: &mut Text, mark: &Mark<'_>) -> Result<(), OutOfMemory> {
+    if is_effect(mark.text) {
+        return line.add(b"                  ");
+    }
+    add_wide(line, mark.moves, 5)?;
+    add_wide(line, mark.place.clock, 11)?;
+    line.add(b"  ")
+}
+
+/// What stands before the label of a mark: the move and the clock, how it stands with the rows, and who moves.
+fn front_of(alloc: Global, mark: &Mark<'_>, letters: &[u8]) -> Result<Text, OutOfMemory> {
+    let mut line = Text::new(alloc);
+    match mark.shape {
+        Shape::Closing => Ok(line),
+        _ => {
+            add_number(&mut line, mark)?;
+            line.add(letters)?;
+            line.add(b"  ")?;
+            add_actor(&mut line, mark)?;
+            Ok(line)
+        }
+    }
+}
+
+/// Appends the lines of a mark.
+fn add_mark(
     alloc: Global,
     out: &mut Text,
-    number: u64,
     mark: &Mark<'_>,
     letters: &[u8],
 ) -> Result<(), OutOfMemory>
-    ensures { OnOk result ((least : ℕ) → IsNarrow out.old.bytes least → IsNarrow out.new.bytes (least + 1)) }
+    ensures { OnOk result (ShowsOn out.old.bytes out.new.bytes (mark.now ∷ [])) }
 {
-    let mut line = NarrowLine::new(alloc);
-    line.add_number(number, 5)?;
-    line.add_number(mark.clock, 11)?;
-    line.add(b"  ")?;
-    line.add(letters)?;
-    line.add(b"  ")?;
-    add_actor(&mut line, mark)?;
-    line.add(b": ")?;
-    add_deed(&mut line, mark)?;
-    add_line(out, &line)
+    let mut line = front_of(alloc, mark, letters)?;
+    add_label(&mut line, &mark.label)?;
+    add_line(out, line.bytes())?;
+    Ok(())
 }
 
-/// Appends the line of an effect, below its move.
-fn add_effect(
+/// Appends the lines of all marks.
+fn add_marks(
     alloc: Global,
     out: &mut Text,
-    effect: &Effect<'_>,
+    marks: &[Mark<'_>],
+    letters: &[u8],
     shown: usize,
 ) -> Result<(), OutOfMemory>
-    ensures { OnOk result ((least : ℕ) → IsNarrow out.old.bytes least → IsNarrow out.new.bytes (least + 1)) }
+    ensures { OnOk result (ShowsOn out.old.bytes out.new.bytes marks.now) }
 {
-    let mut line = NarrowLine::new(alloc);
-    line.add(b"                    ")?;
-    for _ in 0..shown {
-        line.add(b" ")?;
-    }
-    line.add(effect.text.as_bytes())?;
-    add_line(out, &line)
-}
-
-/// Appends the lines of the first effects, those of one move, and answers how many there are.
-fn add_effects(
-    alloc: Global,
-    out: &mut Text,
-    effects: &[Effect<'_>],
-    number: u64,
-    shown: usize,
-) -> Result<usize, OutOfMemory>
-    ensures { OnOk result ((least : ℕ) → IsNarrow out.old.bytes least → IsNarrow out.new.bytes least) }
-{
-    let mut count = 0usize;
-    for effect in effects {
-        if effect.of != number {
-            return Ok(count);
-        }
-        add_effect(alloc, out, effect, shown)?;
-        count = count.saturating_add(1);
-    }
-    Ok(count)
-}
-
-/// Appends the lines of all moves and their effects.
-fn add_moves(alloc: Global, out: &mut Text, picture: &Picture<'_>) -> Result<(), OutOfMemory>
-    ensures { OnOk result ((least : ℕ) → IsNarrow out.old.bytes least → IsNarrow out.new.bytes (least + length picture.now.marks.items)) }
-{
-    let (_, shown) = picture.stage().shown();
-    let mut letters = picture.stage().letters();
-    let mut effects = picture.stage().effects();
-    let mut number = 0u64;
-    for mark in &picture.marks {
-        number = number.saturating_add(1);
+    let mut letters = letters;
+    for mark in marks {
         let own = letters.get(..shown).unwrap_or(&[]);
         letters = letters.get(shown..).unwrap_or(&[]);
-        add_move(alloc, out, number, mark, own)?;
-        let count = add_effects(alloc, out, effects, number, shown)?;
-        effects = effects.get(count..).unwrap_or(&[]);
+        add_mark(alloc, out, mark, own)?;
     }
     Ok(())
 }
 
-/// The picture as lines: whose states are shown, and then a line for each move and each effect.
-pub fn to_lines(alloc: Global, picture: &Picture<'_>) -> Result<Text, OutOfMemory>
-    ensures { IfOk result (λ text. IsNarrow text.bytes (2 + length picture.now.marks.items)) }
+/// The picture as lines: whose run it is, whose states are shown, and then those of each mark.
+pub fn to_lines(alloc: Global, name: &str, picture: &Picture<'_>) -> Result<Text, OutOfMemory>
+    ensures { IfOk result (λ text. IsNarrow text.bytes picture.now.marks.items) }
 {
     let (_, shown) = picture.stage().shown();
     let mut out = Text::new(alloc);
-    add_key(alloc, &mut out)?;
+    add_title(alloc, &mut out, name)?;
     add_shown(alloc, &mut out, picture)?;
     add_heading(alloc, &mut out, shown)?;
-    add_moves(alloc, &mut out, picture)?;
+    add_marks(
+        alloc,
+        &mut out,
+        &picture.marks,
+        picture.stage().letters(),
+        shown,
+    )?;
     Ok(out)
 }

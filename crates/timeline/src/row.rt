@@ -7,3 +7,29 @@ pub struct Row<'a> {
     /// Its name; empty where there is one of its kind.
     pub name: &'a str,
 }
+
+impl Row<'_> {
+    ghost use Rattle.std.specs.Prelude.{◌≡◌, []};
+    ghost use Rattle.timeline.specs.Named.{named_of};
+    ghost use Rattle.timeline.specs.declared.row_kind.RowKind.TheVariants.{Provider, Time};
+
+    /// The row of the time.
+    pub fn time() -> Row<'static>
+        ensures { named_of result ≡ (Time, []) }
+    {
+        Row {
+            kind: RowKind::Time,
+            name: "",
+        }
+    }
+
+    /// The provider's row.
+    pub fn provider() -> Row<'static>
+        ensures { named_of result ≡ (Provider, []) }
+    {
+        Row {
+            kind: RowKind::Provider,
+            name: "",
+        }
+    }
+}

@@ -11,6 +11,21 @@ pub enum RowKind {
 }
 
 impl RowKind {
+    ghost use Rattle.std.specs.Prelude.{◌≡◌};
+    ghost use Rattle.timeline.specs.Refused.{declaring};
+
+    /// The word that declares one in a scenario; empty where nothing does.
+    pub fn declaring(self) -> &'static str
+        ensures { result.now ≡ declaring self }
+    {
+        match self {
+            RowKind::Time | RowKind::Provider => "",
+            RowKind::Lane => "lane",
+            RowKind::Writer => "writer",
+            RowKind::Volume => "volume",
+        }
+    }
+
     /// What stands before the row's name.
     pub fn title(self) -> &'static str {
         match self {

@@ -1,6 +1,8 @@
 ghost use Rattle.std.specs.Prelude.{◌≡◌};
+ghost use Rattle.timeline.specs.Told.{effect_shape, is_refusal, move_shape, step_shape};
 
-use crate::act::Act;
+use crate::lines::{begins, is_effect, is_move};
+use crate::words::{parted, rest_of};
 
 /// How a mark looks.
 #[derive(Clone, Copy)]
@@ -15,29 +17,94 @@ pub enum Shape {
     Cut,
     /// Time passes.
     Time,
+    /// A writer's answer is lost.
+    Lost,
+    /// An image is evicted.
+    Gone,
+    /// A set is complete.
+    Complete,
+    /// What is told at the end.
+    Closing,
 }
 
 /// Whether a reply tells that something was not done.
-fn is_refusal(reply: &str) -> bool {
-    reply.starts_with("VSS_E_")
-        || reply.starts_with("VSS_S_ASYNC_CANCELLED")
-        || reply.starts_with("NOT_SELECTABLE")
-        || reply.starts_with("fault")
+fn is_refusal(reply: &str) -> bool
+    ensures { result ≡ is_refusal reply.now }
+{
+    begins(reply, b"VSS_E_")
+        || begins(reply, b"VSS_S_ASYNC_CANCELLED")
+        || begins(reply, b"NOT_SELECTABLE")
+        || begins(reply, b"fault")
+}
+
+fn step_shape(step: &str, fault: &str) -> Shape
+    ensures { result ≡ step_shape step.now fault.now }
+{
+    if fault == "fault" {
+        return Shape::Refused;
+    }
+    if step == "cut" {
+        return Shape::Cut;
+    }
+    Shape::Done
+}
+
+fn move_shape(actor: &str, what: &str) -> Shape
+    ensures { result ≡ move_shape actor.now what.now }
+{
+    let (first, said) = parted(what);
+    let answer = rest_of(said);
+    if actor == "lane" {
+        return if is_refusal(answer) {
+            Shape::Refused
+        } else {
+            Shape::Done
+        };
+    }
+    if actor == "writer" {
+        return if answer == "ok" {
+            Shape::Done
+        } else {
+            Shape::Veto
+        };
+    }
+    if actor == "provider" {
+        return step_shape(first, answer);
+    }
+    Shape::Time
+}
+
+fn effect_shape(what: &str, said: &str) -> Shape
+    ensures { result ≡ effect_shape what.now said.now }
+{
+    if what == "evicted" {
+        return Shape::Gone;
+    }
+    if what == "writer" {
+        return Shape::Lost;
+    }
+    if rest_of(said) == "complete" {
+        return Shape::Complete;
+    }
+    Shape::Refused
 }
 
 impl Shape {
     ghost use Rattle.timeline.specs.Drawn.{name_of};
+    ghost use Rattle.timeline.specs.Told.{shape_of};
 
-    /// How the mark of a move looks.
-    pub fn of(act: Act<'_>) -> Shape {
-        match act {
-            Act::Lane { reply, .. } if is_refusal(reply) => Shape::Refused,
-            Act::Writer { answer, .. } if answer != "ok" => Shape::Veto,
-            Act::Provider { is_fault: true, .. } => Shape::Refused,
-            Act::Provider { step: "cut", .. } => Shape::Cut,
-            Act::Idle { .. } => Shape::Time,
-            _ => Shape::Done,
+    /// How the mark of a line of a report looks.
+    pub fn of(line: &str) -> Shape
+        ensures { result ≡ shape_of line.now }
+    {
+        let (first, said) = parted(rest_of(line));
+        if is_move(line) {
+            return move_shape(first, said);
         }
+        if is_effect(line) {
+            return effect_shape(first, said);
+        }
+        Shape::Closing
     }
 
     /// The name of its drawing.
@@ -50,6 +117,10 @@ impl Shape {
             Shape::Veto => "veto",
             Shape::Cut => "cut",
             Shape::Time => "time",
+            Shape::Lost => "lost",
+            Shape::Gone => "gone",
+            Shape::Complete => "complete",
+            Shape::Closing => "closing",
         }
     }
 }

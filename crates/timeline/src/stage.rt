@@ -1,26 +1,34 @@
 ghost use Rattle.std.specs.Prelude.{◌≡◌, IfOk};
+ghost use Rattle.timeline.specs.Told.{told, told_by};
 
-use crate::act::Act;
+use crate::band::Band;
 use crate::bar_kind::BarKind;
 use crate::bars::Bars;
 use crate::cast::Cast;
-use crate::effect::Effect;
 use crate::ending::Ending;
+use crate::label::Label;
+use crate::letters::letter_of;
+use crate::lines::{is_effect, is_move};
 use crate::mark::Mark;
+use crate::named::named_in;
 use crate::pick::Pick;
-use crate::row_kind::RowKind;
+use crate::place::Place;
+use crate::row::Row;
 use crate::script::Script;
 use crate::shape::Shape;
-use crate::told::Told;
-use crate::words::{number, parted};
+use crate::words::{number, parted, rest_of, word_of};
+use crate::writes::Writes;
 use std::alloc::Global;
 use vss_names::OutOfMemory;
 
-/// How far one move is from the next, in pixels.
+/// How far one mark is from the next, in pixels.
 const STEP: u64 = 24;
 
 /// How much farther where the clock went on.
 const PASSING: u64 = 72;
+
+/// How wide a band is at most: 40 marks.
+const BAND: u64 = 40 * STEP;
 
 /// Of how many rows a terminal shows the state at most.
 const MOST_SHOWN: usize = 20;
@@ -29,283 +37,360 @@ const MOST_SHOWN: usize = 20;
 #[derive(Drop)]
 pub struct Stage<'a> {
     cast: Cast<'a>,
-    script: Script<'a>,
     bars: Bars<'a>,
-    effects: Vec<Effect<'a>>,
-    moves: u64,
-    row: usize,
+    writes: Writes,
+    bands: Vec<Band>,
+    /// How many lines of the report were read.
+    lines: u64,
+    /// How many of them have marks, without the closing lines, and of those.
+    marks: usize,
+    closing: usize,
+    /// Whether the last line had a mark, and whether the last move is over.
+    is_drawn: bool,
+    is_over: bool,
     x: u64,
     clock: u64,
     /// The set that was started last, and the context of the session.
     set: u64,
-    context: u64,
-    /// Whether the last move is over.
-    is_over: bool,
-    /// The rows of writers and volumes of which letters are kept: the first, and how many.
-    first_shown: usize,
-    shown: usize,
-    /// For each move, a letter of each of these rows.
+    context: Option<u64>,
+    /// For each mark, a letter of each row whose state is shown.
     letters: Vec<u8>,
 }
 
 impl<'a> Stage<'a> {
-    /// Before the first move.
+    /// Before the first line of a report.
     pub fn new(
         alloc: Global,
-        scenario: &'a str,
-        report: &'a str,
+        script: &Script<'a>,
+        report: &[&'a str],
     ) -> Result<Stage<'a>, OutOfMemory> {
-        let cast = Cast::of(alloc, scenario, report)?;
-        let bars = Bars::new(alloc, cast.rows().len())?;
-        let script = Script::of(alloc, scenario)?;
-        let first_shown = cast.row(RowKind::Provider, "").saturating_add(1);
-        let shown = cast
-            .rows()
-            .len()
-            .saturating_sub(first_shown)
-            .min(MOST_SHOWN);
+        let cast = Cast::of(alloc, script, report)?;
+        let count = cast.rows().len();
         Ok(Stage {
             cast,
-            script,
-            bars,
-            effects: Vec::new(alloc),
-            moves: 0,
-            row: 0,
+            bars: Bars::new(alloc, count)?,
+            writes: Writes::new(alloc, count)?,
+            bands: Vec::new(alloc),
+            lines: 0,
+            marks: 0,
+            closing: 0,
+            is_drawn: false,
+            is_over: false,
             x: 0,
             clock: 0,
             set: 0,
-            context: 0,
-            is_over: false,
-            first_shown,
-            shown,
+            context: None,
             letters: Vec::new(alloc),
         })
     }
 
-    /// The line of the scenario that a move made, or nothing.
-    fn said(&self, act: Act<'a>) -> &'a str {
-        match act {
-            Act::Lane { line, .. } => self.script.line(line),
-            _ => "",
-        }
-    }
-
-    /// What a lane's line changes of what lasts, where it was answered so.
-    fn lane_acts(&mut self, said: &'a str, reply: &'a str) -> Result<(), OutOfMemory> {
-        let (word, fields) = parted(said);
-        let (answer, value) = parted(reply);
-        let x = self.x;
-        match (word, answer) {
-            (_, "set") => {
-                self.set = number(value);
-                let row = self.cast.row(RowKind::Provider, "");
-                self.bars.begin(BarKind::Set, row, self.set, x)
-            }
-            ("begin", "ok") => self.session_begins(fields),
-            ("end", "ok") => self.session_ends(),
-            ("delete", "deleted") => self.deleted(fields),
-            ("revert", "ok") | ("revert", "fault") => self.reverted(fields),
-            _ => Ok(()),
-        }
-    }
-
-    fn session_begins(&mut self, fields: &'a str) -> Result<(), OutOfMemory> {
-        let (context, _) = parted(fields);
-        self.context = number(context);
-        self.set = 0;
-        self.bars
-            .begin(BarKind::Session, self.row, self.context, self.x)
-    }
-
-    fn session_ends(&mut self) -> Result<(), OutOfMemory> {
-        let pick = Pick::Row {
-            kind: BarKind::Session,
-            row: self.row,
+    /// Takes a line of a report that has a mark, and answers that. `moves` is how many moves were made with it.
+    pub fn draws(
+        &mut self,
+        script: &Script<'a>,
+        line: &'a str,
+        moves: u64,
+    ) -> Result<Mark<'a>, OutOfMemory>
+        ensures { IfOk result (λ mark. told mark ≡ told_by script.now line.now) }
+    {
+        let label = Label::of(script, line);
+        let shape = Shape::of(line);
+        let place = match shape {
+            Shape::Closing => self.closes_with(script, line)?,
+            _ => self.goes_on_with(script, line, label.length())?,
         };
-        self.bars.end(pick, self.x, Ending::Done)?;
-        if self.context == 0 && self.script.is_there() && self.set != 0 {
-            return self
-                .bars
-                .end(Pick::ImagesOf(self.set), self.x, Ending::SessionEnded);
+        Ok(Mark {
+            text: line,
+            label,
+            shape,
+            place,
+            moves,
+        })
+    }
+
+    /// Takes a line of a report that has no mark.
+    pub fn passes(&mut self, script: &Script<'a>, line: &'a str) -> Result<(), OutOfMemory> {
+        if self.is_drawn && (is_move(line) || is_effect(line)) {
+            self.ends_band()?;
+        }
+        self.clock = self.clock.saturating_add(ticks_of(script, line));
+        self.takes(script, line)
+    }
+
+    /// Nothing more is to come. What has not ended lasts to the right edge; of an image that is not among those at the end nobody
+    /// told when it went.
+    pub fn closes(&mut self) -> Result<(), OutOfMemory> {
+        if self.is_over {
+            self.bars
+                .end(Pick::Kind(BarKind::Image), self.x, Ending::Unknown)?;
+        }
+        if self.is_drawn {
+            self.ends_band()?;
         }
         Ok(())
     }
 
-    fn deleted(&mut self, fields: &'a str) -> Result<(), OutOfMemory> {
-        let (set, volume) = parted(fields);
-        let set = number(set);
-        let pick = match volume {
-            "" => Pick::ImagesOf(set),
-            _ => Pick::ImageOf {
-                set,
-                row: self.cast.row(RowKind::Volume, volume),
-            },
-        };
-        self.bars.end(pick, self.x, Ending::Deleted)
+    /// Takes a closing line.
+    fn closes_with(&mut self, script: &Script<'a>, line: &'a str) -> Result<Place, OutOfMemory> {
+        self.takes(script, line)?;
+        let band = self.bands.len();
+        let row = self.row_in(band, self.closing);
+        self.closing = self.closing.saturating_add(1);
+        Ok(Place {
+            band,
+            row,
+            x: 0,
+            clock: self.clock,
+            passed: 0,
+        })
     }
 
-    fn reverted(&mut self, fields: &'a str) -> Result<(), OutOfMemory> {
-        let (set, volume) = parted(fields);
-        let pick = Pick::NewerThan {
-            set: number(set),
-            row: self.cast.row(RowKind::Volume, volume),
-        };
-        self.bars.end(pick, self.x, Ending::Reverted)
-    }
-
-    fn writer_acts(&mut self, order: &'a str, answer: &'a str) -> Result<(), OutOfMemory> {
-        match (order, answer) {
-            ("freeze", "ok") => self.bars.begin(BarKind::Frozen, self.row, 0, self.x),
-            ("thaw", _) => self.ends_here(BarKind::Frozen),
-            _ => Ok(()),
-        }
-    }
-
-    fn provider_acts(&mut self, step: &'a str) -> Result<(), OutOfMemory> {
-        match step {
-            "hold" => self.bars.begin(BarKind::Held, self.row, 0, self.x),
-            "release" => self.ends_here(BarKind::Held),
-            "cut" => self.bars.cut(self.set, self.x),
-            _ => Ok(()),
-        }
-    }
-
-    /// Ends what lasts in the row of the move.
-    fn ends_here(&mut self, kind: BarKind) -> Result<(), OutOfMemory> {
-        let row = self.row;
-        self.bars.end(Pick::Row { kind, row }, self.x, Ending::Done)
-    }
-
-    fn acts(&mut self, act: Act<'a>, said: &'a str) -> Result<(), OutOfMemory> {
-        match act {
-            Act::Lane { reply, .. } => self.lane_acts(said, reply),
-            Act::Writer { order, answer, .. } => self.writer_acts(order, answer),
-            Act::Provider { step, .. } => self.provider_acts(step),
-            Act::Idle { .. } | Act::Other => Ok(()),
-        }
-    }
-
-    /// Takes the line of a move, and answers its mark.
-    pub fn mark_of(&mut self, text: &'a str) -> Result<Mark<'a>, OutOfMemory>
-        ensures { IfOk result (λ mark. mark.text.now ≡ text.now) }
-    {
-        self.snapshot()?;
-        let act = Act::of(text);
-        let said = self.said(act);
-        let passed = act.ticks(said);
-        let wide = if passed == 0 { 0 } else { PASSING };
-        self.moves = self.moves.saturating_add(1);
-        self.x = self.x.saturating_add(STEP).saturating_add(wide);
+    /// Takes the line of a move or of an effect.
+    fn goes_on_with(
+        &mut self,
+        script: &Script<'a>,
+        line: &'a str,
+        length: usize,
+    ) -> Result<Place, OutOfMemory> {
+        let passed = ticks_of(script, line);
+        self.steps(if passed == 0 { STEP } else { STEP + PASSING }, length)?;
         self.clock = self.clock.saturating_add(passed);
-        self.row = self.cast.row_of(act);
-        self.acts(act, said)?;
-        Ok(Mark {
-            text,
-            said,
-            shape: Shape::of(act),
-            row: self.row,
+        self.takes(script, line)?;
+        self.adds_letters()?;
+        let band = self.bands.len().saturating_sub(1);
+        Ok(Place {
+            band,
+            row: self.row_in(band, self.cast.place(named_in(line))),
             x: self.x,
             clock: self.clock,
             passed,
         })
     }
 
-    /// Keeps an effect of the last move, in a row.
-    fn keep(&mut self, text: &'a str, row: usize, lost: &'a str) -> Result<(), OutOfMemory> {
-        self.effects.push(Effect {
-            of: self.moves,
-            text,
-            row,
-            x: self.x,
-            lost,
+    /// The number of a row of a band among those of all bands, one below another.
+    fn row_in(&self, band: usize, row: usize) -> usize {
+        band.saturating_mul(self.cast.rows().len())
+            .saturating_add(row)
+    }
+
+    /// Goes on to the place of the next mark, whose label has so many bytes.
+    fn steps(&mut self, wide: u64, length: usize) -> Result<(), OutOfMemory> {
+        if self.is_drawn && BAND < self.x.saturating_add(wide) {
+            self.ends_band()?;
+        }
+        if !self.is_drawn {
+            self.begins_band()?;
+        }
+        self.x = self.x.saturating_add(wide);
+        self.marks = self.marks.saturating_add(1);
+        if let Some(band) = self.bands.last_mut() {
+            band.longest = band.longest.max(length);
+            band.edge = band.edge.max(self.x);
+        }
+        Ok(())
+    }
+
+    fn begins_band(&mut self) -> Result<(), OutOfMemory> {
+        self.bars.turn(self.x)?;
+        self.x = 0;
+        self.is_drawn = true;
+        self.bands.push(Band {
+            edge: 0,
+            longest: 0,
+            marks: (self.marks, self.marks),
+            bars: (self.bars.done().len(), self.bars.done().len()),
         })?;
         Ok(())
     }
 
-    fn lost(&mut self, text: &'a str, writer: &'a str, order: &'a str) -> Result<(), OutOfMemory> {
-        let row = self.cast.row(RowKind::Writer, writer);
-        self.keep(text, row, order)?;
-        let kind = BarKind::Frozen;
-        match order {
-            "thaw" => self.bars.end(Pick::Row { kind, row }, self.x, Ending::Done),
+    /// Ends a band; what lasts goes on at the left edge of the next.
+    fn ends_band(&mut self) -> Result<(), OutOfMemory> {
+        let more = if self.is_over { 0 } else { STEP };
+        self.bars.turn(self.x.saturating_add(more))?;
+        self.x = 0;
+        self.is_drawn = false;
+        if let Some(band) = self.bands.last_mut() {
+            band.marks = (band.marks.0, self.marks);
+            band.bars = (band.bars.0, self.bars.done().len());
+        }
+        Ok(())
+    }
+
+    /// Appends the letters of how it stands with the rows.
+    fn adds_letters(&mut self) -> Result<(), OutOfMemory> {
+        let (first, count) = self.shown();
+        for row in 0..count {
+            let row = row.saturating_add(first);
+            self.letters
+                .push(letter_of(&self.bars, row, self.cast.kind(row)))?;
+        }
+        Ok(())
+    }
+
+    /// The first row whose state a terminal shows, and how many of them there are.
+    pub fn shown(&self) -> (usize, usize) {
+        let first = self.cast.place(Row::provider());
+        let count = self.cast.rows().len().saturating_sub(first);
+        (first, count.min(MOST_SHOWN))
+    }
+
+    /// Takes what a line tells of what lasts.
+    fn takes(&mut self, script: &Script<'a>, line: &'a str) -> Result<(), OutOfMemory> {
+        self.lines = self.lines.saturating_add(1);
+        let row = self.cast.place(named_in(line));
+        let (first, said) = parted(line);
+        let (what, rest) = parted(said);
+        match first {
+            "=" => self.takes_effect(row, what, rest),
+            "end" => {
+                self.is_over = true;
+                self.x = self.x.saturating_add(STEP);
+                Ok(())
+            }
+            "image" => self.ends(row, Pick::ImageOf(number(what)), Ending::Stands),
+            _ if is_move(line) => self.takes_move(script, row, what, rest),
             _ => Ok(()),
         }
     }
 
-    fn evicted(&mut self, text: &'a str, set: u64, volume: &'a str) -> Result<(), OutOfMemory> {
-        let row = self.cast.row(RowKind::Volume, volume);
-        self.keep(text, row, "")?;
-        self.bars
-            .end(Pick::ImageOf { set, row }, self.x, Ending::Evicted)
+    /// Takes the move of an actor.
+    fn takes_move(
+        &mut self,
+        script: &Script<'a>,
+        row: usize,
+        actor: &str,
+        said: &'a str,
+    ) -> Result<(), OutOfMemory> {
+        let (step, what) = parted(said);
+        let (first, answer) = parted(what);
+        match actor {
+            "lane" => self.takes_lane(row, script.said(number(first)), answer),
+            "writer" => self.takes_writer(row, first, answer),
+            "provider" => self.takes_step(row, step),
+            _ => Ok(()),
+        }
     }
 
-    fn completed(&mut self, text: &'a str) -> Result<(), OutOfMemory> {
-        let row = self.cast.row(RowKind::Provider, "");
-        self.keep(text, row, "")?;
-        self.bars
-            .end(Pick::Kind(BarKind::Set), self.x, Ending::Done)?;
-        self.bars.stand(self.x)
+    /// Takes what a lane's line changes of what lasts, where it was answered so.
+    fn takes_lane(&mut self, row: usize, said: &'a str, reply: &'a str) -> Result<(), OutOfMemory> {
+        let (word, fields) = parted(said);
+        let (answer, value) = parted(reply);
+        match (word, answer) {
+            (_, "set") => {
+                self.set = number(value);
+                let row = self.cast.place(Row::provider());
+                self.bars.begin(BarKind::Set, row, self.set, self.x)
+            }
+            ("begin", "ok") => {
+                let context = number(word_of(fields));
+                self.context = Some(context);
+                self.set = 0;
+                self.bars.begin(BarKind::Session, row, context, self.x)
+            }
+            ("end", "ok") => self.ends_session(row),
+            ("delete", "deleted") => self.deletes(fields),
+            ("revert", "ok") | ("revert", "fault") => self.reverts(fields),
+            ("write", "ok") => self.writes(fields),
+            ("properties", "properties") => self.tells_used(fields, value),
+            _ => Ok(()),
+        }
     }
 
-    fn failed(&mut self, text: &'a str, why: &'a str) -> Result<(), OutOfMemory> {
-        let row = self.cast.row(RowKind::Provider, "");
+    fn ends(&mut self, row: usize, pick: Pick, ending: Ending<'a>) -> Result<(), OutOfMemory> {
+        self.bars.end_in(row, pick, self.x, ending)
+    }
+
+    fn ends_session(&mut self, row: usize) -> Result<(), OutOfMemory> {
+        self.ends(row, Pick::Kind(BarKind::Session), Ending::Done)?;
+        if self.context == Some(0) && self.set != 0 {
+            return self
+                .bars
+                .end(Pick::ImageOf(self.set), self.x, Ending::SessionEnded);
+        }
+        Ok(())
+    }
+
+    fn deletes(&mut self, fields: &str) -> Result<(), OutOfMemory> {
+        let (set, volume) = parted(fields);
+        let pick = Pick::ImageOf(number(set));
+        match volume {
+            "" => self.bars.end(pick, self.x, Ending::Deleted),
+            _ => {
+                let row = self.cast.volume(volume);
+                self.ends(row, pick, Ending::Deleted)
+            }
+        }
+    }
+
+    fn reverts(&mut self, fields: &str) -> Result<(), OutOfMemory> {
+        let (set, volume) = parted(fields);
+        let row = self.cast.volume(volume);
+        self.ends(row, Pick::NewerThan(number(set)), Ending::Reverted)
+    }
+
+    fn writes(&mut self, fields: &str) -> Result<(), OutOfMemory> {
+        let (volume, rest) = parted(fields);
+        let row = self.cast.volume(volume);
+        let before = self.writes.write(row, number(word_of(rest)), self.lines)?;
+        self.bars.write(row, before, self.x)
+    }
+
+    fn tells_used(&mut self, fields: &str, reply: &str) -> Result<(), OutOfMemory> {
+        let (set, volume) = parted(fields);
+        let row = self.cast.volume(volume);
+        let used = match reply.rsplit_once(' ') {
+            Some((_, used)) => number(used),
+            None => return Ok(()),
+        };
+        self.bars.used(row, number(set), used, self.x)
+    }
+
+    fn takes_writer(&mut self, row: usize, order: &str, answer: &str) -> Result<(), OutOfMemory> {
+        match (order, answer) {
+            ("freeze", "ok") => self.bars.begin(BarKind::Frozen, row, 0, self.x),
+            ("thaw", _) => self.ends(row, Pick::Kind(BarKind::Frozen), Ending::Done),
+            _ => Ok(()),
+        }
+    }
+
+    fn takes_step(&mut self, row: usize, step: &str) -> Result<(), OutOfMemory> {
+        match step {
+            "hold" => self.bars.begin(BarKind::Held, row, 0, self.x),
+            "release" => self.ends(row, Pick::Kind(BarKind::Held), Ending::Done),
+            "cut" => self.bars.cut(self.set, self.x, self.lines),
+            _ => Ok(()),
+        }
+    }
+
+    /// Takes an effect.
+    fn takes_effect(&mut self, row: usize, what: &str, said: &'a str) -> Result<(), OutOfMemory> {
+        let (first, rest) = parted(said);
+        match what {
+            "evicted" => {
+                self.ends(row, Pick::ImageOf(number(first)), Ending::Evicted)?;
+                self.bars.evict(row);
+                Ok(())
+            }
+            "writer" if rest == "lost thaw" => {
+                self.ends(row, Pick::Kind(BarKind::Frozen), Ending::Done)
+            }
+            "set" if rest == "complete" => {
+                self.ends(row, Pick::Kind(BarKind::Set), Ending::Done)?;
+                self.bars.stand(self.x)
+            }
+            "set" => self.fails(row, rest_of(rest)),
+            _ => Ok(()),
+        }
+    }
+
+    /// The set that is being made fails.
+    fn fails(&mut self, row: usize, why: &'a str) -> Result<(), OutOfMemory> {
         let x = self.x;
-        self.keep(text, row, "")?;
-        self.bars
-            .end(Pick::Kind(BarKind::Set), x, Ending::Failed(why))?;
+        self.ends(row, Pick::Kind(BarKind::Set), Ending::Failed(why))?;
         self.bars
             .end(Pick::Kind(BarKind::Making), x, Ending::Failed(""))?;
         self.bars.end(Pick::Kind(BarKind::Held), x, Ending::Done)?;
         self.bars.end(Pick::Kind(BarKind::Frozen), x, Ending::Done)
-    }
-
-    /// Takes a line of the report that is none of a move.
-    pub fn takes(&mut self, text: &'a str) -> Result<(), OutOfMemory> {
-        match Told::of(text) {
-            Told::Evicted { set, volume } => self.evicted(text, set, volume),
-            Told::Lost { writer, order } => self.lost(text, writer, order),
-            Told::Complete { .. } => self.completed(text),
-            Told::Failed { result, .. } => self.failed(text, result),
-            Told::End => self.ends(),
-            Told::Image { set, volume } => self.stands(set, volume),
-            Told::Volume { .. } | Told::Writer { .. } | Told::Nothing => Ok(()),
-        }
-    }
-
-    /// The last move is over.
-    fn ends(&mut self) -> Result<(), OutOfMemory> {
-        self.snapshot()?;
-        self.is_over = true;
-        self.x = self.x.saturating_add(STEP);
-        Ok(())
-    }
-
-    /// Nothing more is to come. What has not ended lasts to the right edge; of an image that is not among those at the end nobody
-    /// told when it went.
-    pub fn closes(&mut self) -> Result<(), OutOfMemory> {
-        let x = self.x;
-        self.snapshot()?;
-        if self.is_over {
-            self.bars
-                .end(Pick::Kind(BarKind::Image), x, Ending::Unknown)?;
-        }
-        self.bars.end(Pick::All, x, Ending::Stands)
-    }
-
-    /// Keeps the letters of how it stands with the rows, after the last move.
-    fn snapshot(&mut self) -> Result<(), OutOfMemory> {
-        if self.moves == 0 || self.is_over {
-            return Ok(());
-        }
-        for row in 0..self.shown {
-            let kind = self.cast.kind(row.saturating_add(self.first_shown));
-            self.letters.push(
-                self.bars
-                    .state(row.saturating_add(self.first_shown))
-                    .letter(kind),
-            )?;
-        }
-        Ok(())
     }
 
     /// Who has a row.
@@ -318,30 +403,32 @@ impl<'a> Stage<'a> {
         &self.bars
     }
 
-    /// The effects, in the order of the report.
-    pub fn effects(&self) -> &[Effect<'a>] {
-        &self.effects
+    /// The bands, from top to bottom.
+    pub fn bands(&self) -> &[Band] {
+        &self.bands
     }
 
-    /// The right edge, in pixels.
-    pub fn edge(&self) -> u64 {
-        self.x
+    /// How many closing lines there are.
+    pub fn closing(&self) -> usize {
+        self.closing
     }
 
-    /// The first row of which letters are kept, and of how many.
-    pub fn shown(&self) -> (usize, usize) {
-        (self.first_shown, self.shown)
-    }
-
-    /// The letters of all moves.
+    /// The letters of all marks but those of closing lines.
     pub fn letters(&self) -> &[u8] {
         &self.letters
     }
+}
 
-    /// An image stands at the end.
-    fn stands(&mut self, set: u64, volume: &'a str) -> Result<(), OutOfMemory> {
-        let row = self.cast.row(RowKind::Volume, volume);
-        self.bars
-            .end(Pick::ImageOf { set, row }, self.x, Ending::Stands)
+/// How many ticks go by in a line.
+fn ticks_of(script: &Script<'_>, line: &str) -> u64 {
+    let (actor, said) = parted(rest_of(line));
+    match actor {
+        _ if !is_move(line) => 0,
+        "idle" => number(said),
+        "lane" => match parted(script.said(number(word_of(rest_of(said))))) {
+            ("tick", ticks) => number(ticks),
+            _ => 0,
+        },
+        _ => 0,
     }
 }

@@ -1,88 +1,128 @@
 //! A picture as a drawing for a browser.
 
-ghost use Rattle.std.specs.Prelude.{IfOk};
-ghost use Rattle.timeline.specs.Drawn.{IsDrawn};
+ghost use Rattle.std.specs.Prelude.{◌≡◌, ◌∷◌, ◌++◌, [], IfOk, OnOk};
+ghost use Rattle.timeline.specs.Drawn.{DrawsOn, IsDrawn, element, parts_text};
 
-use crate::drawn_bars::{add_all_lost, add_bars};
-use crate::drawn_columns::add_columns;
-use crate::drawn_marks::add_marks;
-use crate::drawn_rows::{add_rows, left_of};
-use crate::escaping::add_number;
+use crate::drawn_bands::add_band;
+use crate::drawn_marks::add_element;
+use crate::frame::Frame;
 use crate::layout::Layout;
+use crate::mark::Mark;
+use crate::part::{Part, add_parts};
 use crate::picture::Picture;
-use crate::sheet::{KEY, STYLE};
+use crate::sheet::STYLE;
 use std::alloc::Global;
 use vss_names::{OutOfMemory, Text};
 
-/// The room above the rows for what the moves are called, and below them for the key.
-const HEAD: u64 = 236;
-
-const FOOT: u64 = 78;
-
-/// The room on the right of the last move.
-const RIGHT: u64 = 190;
-
-/// The least width of the rows, which the key needs.
-const LEAST: u64 = 640;
-
-/// Appends the first lines, and what stands for all.
-fn add_head(out: &mut Text, width: u64, height: u64) -> Result<(), OutOfMemory> {
-    add_number(
-        out,
-        b"<svg xmlns='http://www.w3.org/2000/svg' viewBox='0 0 ",
-        width,
-    )?;
-    add_number(out, b" ", height)?;
-    add_number(out, b"' width='", width)?;
-    add_number(out, b"' height='", height)?;
-    out.add(b"'>\n<title>A run of the shadow copy service, move by move</title>\n")?;
-    out.add(STYLE)?;
-    out.add(b"<rect width='100%' height='100%' fill='#fff'/>\n")
+/// What is drawn first: the head, what stands for all, and the title.
+fn head<'a>(alloc: Global, name: &'a str, layout: &Layout) -> Result<Frame<'a>, OutOfMemory> {
+    let mut frame = Frame::new(alloc);
+    let name = Part::Words(name.as_bytes());
+    frame.add(&[
+        Part::Markup("<svg xmlns='http://www.w3.org/2000/svg' viewBox='0 0 "),
+        Part::Number(layout.width),
+        Part::Markup(" "),
+        Part::Number(layout.height),
+        Part::Markup("' width='"),
+        Part::Number(layout.width),
+        Part::Markup("' height='"),
+        Part::Number(layout.height),
+        Part::Markup("'>\n<title>"),
+        name,
+        Part::Markup("</title>\n"),
+        Part::Markup(STYLE),
+    ])?;
+    frame.words("title", 10, 26, "", name)?;
+    Ok(frame)
 }
 
-/// What is drawn before the moves: the head, the rows, what the moves are called, and the bars.
-fn before_marks(
+/// What is drawn between the mark before and this one, where so many bands are begun: the next one, if it is the mark's.
+fn frame_before<'a>(
     alloc: Global,
-    picture: &Picture<'_>,
+    picture: &Picture<'a>,
     layout: &Layout,
-) -> Result<Text, OutOfMemory> {
-    let left = left_of(picture);
-    let narrow = left.saturating_add(LEAST);
-    let edge = left
-        .saturating_add(picture.stage().edge())
-        .saturating_add(RIGHT);
-    let width = edge.max(narrow);
-    let mut out = Text::new(alloc);
-    add_head(&mut out, width, layout.bottom().saturating_add(HEAD + FOOT))?;
-    add_number(&mut out, b"<g transform='translate(", left)?;
-    add_number(&mut out, b",", HEAD)?;
-    out.add(b")'>\n")?;
-    add_rows(&mut out, picture, layout, left, width)?;
-    add_columns(alloc, &mut out, picture, layout.bottom())?;
-    add_bars(&mut out, picture, layout)?;
-    Ok(out)
+    mark: &Mark<'_>,
+    begun: usize,
+) -> Result<Frame<'a>, OutOfMemory> {
+    let mut frame = Frame::new(alloc);
+    if mark.place.band < begun {
+        return Ok(frame);
+    }
+    if begun > 0 {
+        frame.end()?;
+    }
+    add_band(&mut frame, picture, layout, begun)?;
+    Ok(frame)
 }
 
-/// What is drawn after them: lost answers and the key.
-fn after_marks(alloc: Global, picture: &Picture<'_>, layout: &Layout) -> Result<Text, OutOfMemory> {
-    let mut out = Text::new(alloc);
-    add_all_lost(&mut out, picture, layout)?;
-    let y = layout.bottom().saturating_add(HEAD + 26);
-    add_number(&mut out, b"</g>\n<g transform='translate(10,", y)?;
-    out.add(b")'>\n")?;
-    out.add(KEY)?;
-    out.add(b"</g>\n</svg>\n")?;
-    Ok(out)
+/// What is drawn last, where so many bands are begun.
+fn foot(alloc: Global, begun: usize) -> Result<Frame<'static>, OutOfMemory> {
+    let mut frame = Frame::new(alloc);
+    if begun > 0 {
+        frame.end()?;
+    }
+    frame.add(&[Part::Markup("</svg>\n")])?;
+    Ok(frame)
 }
 
-/// The drawing of a picture, as a document of SVG: what a mark stands for is told where a pointer rests on it.
-pub fn to_svg(alloc: Global, picture: &Picture<'_>) -> Result<Text, OutOfMemory>
+/// Appends what is drawn before a mark, and its element.
+fn add_framed(
+    alloc: Global,
+    out: &mut Text,
+    frame: &[Part<'_>],
+    mark: &Mark<'_>,
+    layout: &Layout,
+) -> Result<(), OutOfMemory>
+    ensures { OnOk result (out.new.bytes ≡ out.old.bytes ++ (parts_text frame.now ++ element layout.now.heights.items mark.now)) }
+{
+    add_parts(out, frame)?;
+    add_element(alloc, out, mark, layout)
+}
+
+/// Appends a mark, where so many bands are begun.
+fn add_piece(
+    alloc: Global,
+    out: &mut Text,
+    picture: &Picture<'_>,
+    mark: &Mark<'_>,
+    layout: &Layout,
+    begun: usize,
+) -> Result<(), OutOfMemory>
+    ensures { OnOk result (DrawsOn layout.now.heights.items out.old.bytes out.new.bytes (mark.now ∷ [])) }
+{
+    let frame = frame_before(alloc, picture, layout, mark, begun)?;
+    add_framed(alloc, out, &frame.parts, mark, layout)?;
+    Ok(())
+}
+
+/// Appends marks, and answers how many bands are begun.
+fn add_marks(
+    alloc: Global,
+    out: &mut Text,
+    picture: &Picture<'_>,
+    marks: &[Mark<'_>],
+    layout: &Layout,
+) -> Result<usize, OutOfMemory>
+    ensures { OnOk result (DrawsOn layout.now.heights.items out.old.bytes out.new.bytes marks.now) }
+{
+    let mut begun = 0usize;
+    for mark in marks {
+        add_piece(alloc, out, picture, mark, layout, begun)?;
+        begun = begun.max(mark.place.band.min(begun).saturating_add(1));
+    }
+    Ok(begun)
+}
+
+/// The drawing of a picture of this name, as a document of SVG: a mark's line is told where a pointer rests on it.
+pub fn to_svg(alloc: Global, name: &str, picture: &Picture<'_>) -> Result<Text, OutOfMemory>
     ensures { IfOk result (λ text. IsDrawn text.bytes picture.now.marks.items) }
 {
     let layout = Layout::of(alloc, picture)?;
-    let mut out = before_marks(alloc, picture, &layout)?;
-    let after = after_marks(alloc, picture, &layout)?;
-    add_marks(&mut out, &picture.marks, &layout)?;
-    out.add(after.bytes())?;
+    let head = head(alloc, name, &layout)?;
+    let mut out = Text::new(alloc);
+    add_parts(&mut out, &head.parts)?;
+    let begun = add_marks(alloc, &mut out, picture, &picture.marks, &layout)?;
+    let foot = foot(alloc, begun)?;
+    add_parts(&mut out, &foot.parts)?;
     Ok(out)
 }

@@ -1,11 +1,15 @@
 //! The program: `vss_timeline` draws a picture of a run, of the report of `vss`.
 //!
 //! `vss_timeline SCENARIO REPORT` reads the two files and writes a drawing (SVG) to the standard output; without the two names it
-//! reads the report alone from the standard input. With `--text` before them it writes lines for a terminal. `timeline::draw` has
-//! what the picture promises. For a status other than 0 one line goes to the standard error.
+//! reads the report alone from the standard input. Before them, `--text` asks for lines for a terminal, `--from N` and `--to N`
+//! for the moves from N on and up to N. `timeline::draw` has what the picture promises. For a status other than 0 one line goes
+//! to the standard error.
 #![tactic(auto)]
 
+mod bad;
+mod problem;
 mod request;
+mod scenario_text;
 mod status;
 mod texts;
 
@@ -14,8 +18,14 @@ use request::Request;
 use status::Status;
 use std::process::ExitCode;
 use std::{env, io};
-use texts::{text_given, text_of};
-use timeline::draw;
+use texts::Texts;
+use timeline::{Ended, Fault, Refusal, Run, draw};
+
+/// Of an empty report.
+const NO_LINE: Refusal = Refusal {
+    line: 1,
+    fault: Fault::NoLine,
+};
 
 /// The words after the program's name.
 fn words_given(rt: &HostRuntime) -> io::Result<Vec<String>> {
@@ -26,37 +36,45 @@ fn words_given(rt: &HostRuntime) -> io::Result<Vec<String>> {
     Ok(words)
 }
 
-/// The scenario, which may be empty, and the report.
-fn texts_for(rt: &HostRuntime, request: &Request<'_>) -> Result<(String, String), Status> {
-    match request.files {
-        Some((scenario, report)) => Ok((text_of(rt, scenario)?, text_of(rt, report)?)),
-        None => Ok((String::new(rt.alloc()), text_given(rt)?)),
+/// Draws what was read.
+fn drawn<'a>(rt: &HostRuntime, request: &Request<'a>, texts: &Texts<'a>) -> Status<'a> {
+    let mut sink = OutSink::new(rt.stdout());
+    let run = Run {
+        name: request.name(),
+        scenario: texts.scenario.as_str(),
+        report: texts.report.as_str(),
+        span: request.span,
+    };
+    match draw(rt.alloc(), request.form, run, &mut sink) {
+        Ended::Written => Status::Done,
+        Ended::Refused(why) => Status::Bad(texts.refused(why)),
+        Ended::WriteFault => Status::WriteFault,
+        Ended::OutOfMemory => Status::OutOfMemory,
     }
 }
 
 /// Does what the words ask for.
-fn run(rt: &HostRuntime, words: &[String]) -> Status {
+fn run<'a>(rt: &HostRuntime, words: &'a [String]) -> Status<'a> {
     let Some(request) = Request::of(words) else {
         return Status::Usage;
     };
-    let (scenario, report) = match texts_for(rt, &request) {
+    let texts = match Texts::of(rt, &request) {
         Ok(texts) => texts,
         Err(status) => return status,
     };
-    if report.is_empty() {
-        return Status::BadLine(1);
+    if texts.report.is_empty() {
+        return Status::Bad(texts.refused(NO_LINE));
     }
-    let mut sink = OutSink::new(rt.stdout());
-    let (scenario, report) = (scenario.as_str(), report.as_str());
-    Status::from(draw(rt.alloc(), request.form, scenario, report, &mut sink))
+    drawn(rt, &request, &texts)
 }
 
 fn main(rt: HostRuntime) -> ExitCode {
-    let status = match words_given(&rt) {
-        Ok(words) => run(&rt, &words),
+    let words = words_given(&rt);
+    let status = match &words {
+        Ok(words) => run(&rt, words),
         Err(_) => Status::OutOfMemory,
     };
-    if status != Status::Done {
+    if !status.is_done() {
         let _ = eprintln!(rt; "vss_timeline: {status}");
     }
     ExitCode::from(status.code())

@@ -1,40 +1,66 @@
-use timeline::Form;
+use timeline::{Form, Span};
 
 /// What the words of the program ask for.
 #[derive(Clone, Copy)]
 pub struct Request<'a> {
     pub form: Form,
+    pub span: Span,
     /// The names of the files of the scenario and of its report; without them the report comes by the standard input.
     pub files: Option<(&'a str, &'a str)>,
 }
 
-/// Whether a word may be the name of a file.
-fn is_name(word: &str) -> bool {
-    !word.is_empty() && !word.starts_with("-")
+/// The number of a move that a word is.
+fn move_of(word: Option<&String>) -> Option<u64> {
+    let number = word?.as_str().parse::<u64>().ok()?;
+    if number == 0 { None } else { Some(number) }
 }
 
-/// The form that the first word asks for, and how many words that takes.
-fn form_of(words: &[String]) -> (Form, usize) {
-    match words.first() {
-        Some(first) if first.as_str() == "--text" => (Form::Lines, 1),
-        _ => (Form::Drawing, 0),
+/// The names of the two files, where there are these words and no more.
+fn files_of(words: &[String]) -> Option<Option<(&str, &str)>> {
+    let Some(scenario) = words.first() else {
+        return Some(None);
+    };
+    let report = words.get(1)?;
+    if words.len() > 2 || scenario.is_empty() || report.is_empty() || report.starts_with("-") {
+        return None;
     }
+    Some(Some((scenario.as_str(), report.as_str())))
 }
 
 impl<'a> Request<'a> {
-    /// What these words ask for: `--text` or not, and then two names of files or none.
+    /// What these words ask for: options, and then two names of files or none.
     pub fn of(words: &'a [String]) -> Option<Request<'a>> {
-        let (form, at) = form_of(words);
-        let Some(scenario) = words.get(at) else {
-            return Some(Request { form, files: None });
+        let mut request = Request {
+            form: Form::Drawing,
+            span: Span::ALL,
+            files: None,
         };
-        let report = words.get(at + 1)?;
-        if words.len() > at + 2 || !is_name(scenario.as_str()) || !is_name(report.as_str()) {
-            return None;
+        let mut at = 0usize;
+        for _ in 0..words.len() {
+            match words.get(at).map(|word| word.as_str()) {
+                Some("--text") => request.form = Form::Lines,
+                Some("--from") => {
+                    at = at.saturating_add(1);
+                    request.span.from = move_of(words.get(at))?;
+                }
+                Some("--to") => {
+                    at = at.saturating_add(1);
+                    request.span.to = move_of(words.get(at))?;
+                }
+                Some(word) if word.starts_with("-") => return None,
+                _ => break,
+            }
+            at = at.saturating_add(1);
         }
-        Some(Request {
-            form,
-            files: Some((scenario.as_str(), report.as_str())),
-        })
+        request.files = files_of(words.get(at..)?)?;
+        Some(request)
+    }
+
+    /// What the picture is called: as the file of the scenario.
+    pub fn name(&self) -> &'a str {
+        match self.files {
+            Some((scenario, _)) => scenario,
+            None => "A run of the shadow copy service",
+        }
     }
 }

@@ -1,11 +1,13 @@
-use denote.Ref.{Bor}
-use Rattle.std.proofs.Common.{◌≡◌, ℕ, ◌+◌, List, ◌++◌, drop, map}
-use Rattle.timeline.specs.Moves.{bad_line, first_bad, move_lines, moves_among, texts_of}
+use Rattle.std.proofs.Common.{◌≡◌, ◌+◌, ◌≤◌, ◌++◌, drop, map}
+use Rattle.timeline.specs.Refused.{refusal_from}
+use Rattle.timeline.specs.Told.{told, told_from}
+use Rattle.timeline.proofs.Reading.{texts}
 use Rattle.timeline.proofs.picture.take_lines.Given as goal
 
--- the moves that have their marks and those still to come, and the first bad line, which is still to come
+-- what is told and what is still to come, and the first refusal, which is still to come
 abbrev pub invariant-loop-at : goal.invariant-loop-at
 invariant-loop-at l = record {
-  moves : texts_of l.marks.items ++ moves_among (map (λ (line : Bor (List ℕ)). line.now) (drop l.at l.line-items)) ≡ move_lines l.report;
-  bad : first_bad (l.at + 1) (map (λ (line : Bor (List ℕ)). line.now) (drop l.at l.line-items)) ≡ bad_line l.report;
+  told : map told l.marks.items ++ told_from l.script l.span l.moves (texts (drop l.at l.lines)) ≡ told_from l.script l.span 0 (texts l.lines);
+  refused : refusal_from l.script (l.at + 1) (texts (drop l.at l.lines)) ≡ refusal_from l.script 1 (texts l.lines);
+  few : l.moves ≤ l.at;
 }

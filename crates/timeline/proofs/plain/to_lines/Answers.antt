@@ -1,9 +1,12 @@
-use Rattle.std.proofs.Common.{ℕ, List, subst, sym}
-use Rattle.timeline.specs.Narrow.{IsNarrow}
-use Rattle.timeline.proofs.Growing.{narrow_none}
+use Rattle.std.proofs.Common.{List, subst, sym}
+use Rattle.timeline.specs.Narrow.{IsLines, ShowsOn}
+use Rattle.timeline.specs.declared.mark.Mark.{Mark}
+use Rattle.timeline.proofs.Growing.{is_lines_none}
 use Rattle.timeline.proofs.plain.to_lines.Goals as goal
 
 pub returns : goal.returns
-returns c =
-    let P : List ℕ → Type 0 = λ text. IsNarrow text 0 in
-    c.in_ok-add_moves.ensures 2 (c.in_ok-add_heading.ensures 1 (c.in_ok-add_shown.ensures 1 (c.in_ok-add_key.ensures 0 (subst P (sym c.new-out.ensures) narrow_none))))
+returns c = record {
+  before = c.add_heading.new.out.bytes;
+  heading = c.in_ok-add_heading.ensures (c.in_ok-add_shown.ensures (c.in_ok-add_title.ensures (subst IsLines (sym c.new-out.ensures) is_lines_none)));
+  shown = subst (λ (ms : List Mark). ShowsOn c.add_heading.new.out.bytes c.add_marks.new.out.bytes ms) c.deref.ensures.value c.in_ok-add_marks.ensures;
+}

@@ -1,0 +1,182 @@
+//! What a band of a drawing has beside the elements of marks: its rows, its columns, and what lasts.
+
+use crate::band_row::BandRow;
+use crate::bar::Bar;
+use crate::bar_kind::BarKind;
+use crate::frame::Frame;
+use crate::layout::Layout;
+use crate::mark::Mark;
+use crate::part::Part;
+use crate::picture::Picture;
+use crate::shape::Shape;
+use vss_names::OutOfMemory;
+
+/// Nothing behind fixed words.
+const NOTHING: Part<'static> = Part::Markup("");
+
+/// Adds the stripes and the titles of the rows, and the key below them.
+fn add_rows<'a>(
+    frame: &mut Frame<'a>,
+    picture: &Picture<'a>,
+    rows: &[BandRow],
+    width: u64,
+) -> Result<(), OutOfMemory> {
+    let mut is_even = true;
+    for (row, at) in picture.stage().cast().rows().iter().zip(rows.iter()) {
+        let height = at.bottom.saturating_sub(at.top);
+        if height > 0 {
+            if is_even {
+                frame.rect("even", 0, at.top, width, height)?;
+            }
+            is_even = !is_even;
+            let name = Part::Words(row.name.as_bytes());
+            let y = at.top.saturating_add(17);
+            frame.words("name", 10, y, row.kind.title(), name)?;
+        }
+    }
+    frame.sign("key", 10, bottom_of(rows).saturating_add(14))
+}
+
+/// The lower edge of the rows of a band.
+fn bottom_of(rows: &[BandRow]) -> u64 {
+    match rows.last() {
+        Some(row) => row.bottom,
+        None => 0,
+    }
+}
+
+/// Adds the band of a mark in which the clock goes on.
+fn add_passing(frame: &mut Frame<'_>, mark: &Mark<'_>, bottom: u64) -> Result<(), OutOfMemory> {
+    if mark.place.passed == 0 {
+        return Ok(());
+    }
+    let x = mark.place.x.saturating_sub(82);
+    let text = x.saturating_add(2);
+    frame.rect("passing", x, 0, 72, bottom)?;
+    frame.words("small", text, 11, "+", Part::Number(mark.place.passed))?;
+    frame.words("small", text, 22, "at ", Part::Number(mark.place.clock))
+}
+
+/// Adds the line of a cut through all rows, or the fine line of another mark.
+fn add_upright(frame: &mut Frame<'_>, mark: &Mark<'_>, bottom: u64) -> Result<(), OutOfMemory> {
+    let class = match mark.shape {
+        Shape::Cut => "cutline",
+        _ => "grid",
+    };
+    frame.upright(class, mark.place.x, bottom)
+}
+
+/// Adds what stands behind the marks of a band: each fifth move has its number, and the first one.
+fn add_columns(frame: &mut Frame<'_>, marks: &[Mark<'_>], bottom: u64) -> Result<(), OutOfMemory> {
+    let mut last = 0;
+    let mut is_first = true;
+    for mark in marks {
+        add_passing(frame, mark, bottom)?;
+        add_upright(frame, mark, bottom)?;
+        let is_told = is_first || mark.moves % 5 == 0 && mark.moves != last;
+        if is_told && mark.place.passed == 0 {
+            frame.words("number", mark.place.x, 17, "", Part::Number(mark.moves))?;
+        }
+        is_first = false;
+        last = mark.moves;
+    }
+    Ok(())
+}
+
+/// Where a bar lies from top to bottom.
+fn height_of(bar: &Bar<'_>, rows: &[BandRow]) -> u64 {
+    match rows.get(bar.row) {
+        Some(row) if bar.kind.is_sign() => row.top.saturating_add(13),
+        Some(row) => row
+            .bars
+            .saturating_add((bar.track as u64).saturating_mul(16)),
+        None => 0,
+    }
+}
+
+/// Adds a bar without its words, or a sign.
+fn add_bar(frame: &mut Frame<'_>, bar: &Bar<'_>, y: u64) -> Result<(), OutOfMemory> {
+    if bar.kind.is_sign() {
+        return frame.sign(bar.kind.class(), bar.from, y);
+    }
+    if bar.kind.is_words() {
+        return Ok(());
+    }
+    let width = bar.to.saturating_sub(bar.from).max(4);
+    frame.rect(bar.class(), bar.from, y, width, 13)
+}
+
+/// Adds what a bar is.
+fn add_name(frame: &mut Frame<'_>, bar: &Bar<'_>, y: u64) -> Result<(), OutOfMemory> {
+    let number = Part::Number(bar.number);
+    let (class, fixed, more) = match bar.kind {
+        BarKind::Session => ("small", "session, context ", number),
+        BarKind::Set => ("small", "set ", number),
+        BarKind::Frozen => ("small", "frozen", NOTHING),
+        BarKind::Held => ("small", "held", NOTHING),
+        BarKind::Making => ("small", "image of set ", number),
+        BarKind::Image => ("light", "image of set ", number),
+        BarKind::Used => ("used", "used ", number),
+        BarKind::More => ("small", "images that are not drawn: ", number),
+        BarKind::Write | BarKind::Copy => return Ok(()),
+    };
+    frame.words(class, bar.from.saturating_add(6), y, fixed, more)
+}
+
+/// Adds how a bar ends, where it is not as it should or goes on.
+fn add_ending<'a>(frame: &mut Frame<'a>, bar: &Bar<'a>, y: u64) -> Result<(), OutOfMemory> {
+    let Some((sign, class)) = bar.ending.sign() else {
+        return Ok(());
+    };
+    frame.sign(sign, bar.to, y.saturating_sub(4))?;
+    let result = Part::Words(bar.ending.result().as_bytes());
+    frame.words(
+        class,
+        bar.to.saturating_add(8),
+        y,
+        bar.ending.words(),
+        result,
+    )
+}
+
+/// Adds what lasts in a band, and then its words, so that no bar hides the words of another.
+fn add_bars<'a>(
+    frame: &mut Frame<'a>,
+    bars: &[Bar<'a>],
+    rows: &[BandRow],
+) -> Result<(), OutOfMemory> {
+    for bar in bars {
+        add_bar(frame, bar, height_of(bar, rows))?;
+    }
+    for bar in bars {
+        let y = height_of(bar, rows).saturating_add(10);
+        add_name(frame, bar, y)?;
+        add_ending(frame, bar, y)?;
+    }
+    Ok(())
+}
+
+/// Adds a band up to the elements of its marks.
+pub fn add_band<'a>(
+    frame: &mut Frame<'a>,
+    picture: &Picture<'a>,
+    layout: &Layout,
+    at: usize,
+) -> Result<(), OutOfMemory> {
+    let top = layout.band(at);
+    let Some(band) = picture.stage().bands().get(at) else {
+        let y = top.saturating_sub(14);
+        frame.words("strong", 10, y, "At the end:", NOTHING)?;
+        return frame.group(10, top);
+    };
+    let rows = layout.rows(at, picture.stage().cast().rows().len());
+    let marks = picture.marks.get(band.marks.0..band.marks.1).unwrap_or(&[]);
+    let bars = picture.stage().bars().done();
+    let bars = bars.get(band.bars.0..band.bars.1).unwrap_or(&[]);
+    frame.group(0, top)?;
+    add_rows(frame, picture, rows, layout.width)?;
+    frame.end()?;
+    frame.group(layout.left, top)?;
+    add_columns(frame, marks, bottom_of(rows))?;
+    add_bars(frame, bars, rows)
+}

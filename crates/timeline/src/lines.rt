@@ -1,0 +1,54 @@
+//! Which lines a report has.
+
+ghost use Rattle.std.specs.Prelude.{◌≡◌, nat_eq};
+ghost use Rattle.std.specs.List.{starts_with};
+ghost use Rattle.timeline.specs.Lines.{is_closing, is_effect, is_line, is_move};
+ghost use Rattle.timeline.specs.Words.{is_digit};
+
+/// Whether a byte is a decimal digit.
+pub fn is_digit(byte: u8) -> bool
+    ensures { result ≡ is_digit byte }
+{
+    b'0' <= byte && byte <= b'9'
+}
+
+/// Whether a line is that of a move: it begins with a digit.
+pub fn is_move(line: &str) -> bool
+    ensures { result ≡ is_move line.now }
+{
+    match line.as_bytes().first() {
+        None => false,
+        Some(first) => is_digit(*first),
+    }
+}
+
+/// Whether a text begins with these bytes.
+pub fn begins(text: &str, word: &[u8]) -> bool
+    ensures { result ≡ starts_with nat_eq text.now word.now }
+{
+    text.as_bytes().starts_with(word)
+}
+
+/// Whether a line is that of an effect.
+pub fn is_effect(line: &str) -> bool
+    ensures { result ≡ is_effect line.now }
+{
+    begins(line, b"= ")
+}
+
+/// Whether a line is one of those behind the last move.
+fn is_closing(line: &str) -> bool
+    ensures { result ≡ is_closing line.now }
+{
+    begins(line, b"end ")
+        || begins(line, b"volume ")
+        || begins(line, b"image ")
+        || begins(line, b"writer ")
+}
+
+/// Whether a line is one that a report has.
+pub fn is_line(line: &str) -> bool
+    ensures { result ≡ is_line line.now }
+{
+    is_move(line) || is_effect(line) || is_closing(line) || line == "report 1"
+}
