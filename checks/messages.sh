@@ -1,77 +1,310 @@
 #!/usr/bin/env bash
-# What ./vss says below the program's line: the text of a refused line, where the input is a file, and what the reason asks for; how
-# the program is used, where the words are wrong. And that it leaves line, status and report as they are.
+# What a person is told of a text or of words that `vss` refuses: the place, the reason, and what helps to go on. The program refuses each text here,
+# and `vss_explain` says of the same text what is wrong, as ./vss has it; some go through ./vss itself, by a file, a pipe or a closed stream.
 . "$(dirname "${BASH_SOURCE[0]}")/prelude.sh" || exit 70
-. tools/explain.sh
+vss="$(program vss)" || exit 1
+explainer="$(program vss_explain)" || exit 1
+trials=0
 
-# what has to be said, a line and its reason, and the input with \n for newlines
-tells() {
-  local wanted="$1" line="$2" said
-  printf "$3" > "$room/input"
-  said="$(explain 3 "vss: line $line" run < "$room/input")"
-  case "$said" in
-    *"$wanted"*) ;;
-    *) wrong "of \"$3\" and $line it is said: $said" ;;
-  esac
+# what was said, and what has to stand in it
+has() {
+  local of="$1" said="$2" wanted
+  shift 2
+  trials=$((trials + 1))
+  for wanted in "$@"; do
+    case "$said" in
+      *"$wanted"*) ;;
+      *) wrong "of $of it is said \"$said\", and not \"$wanted\"" ;;
+    esac
+  done
 }
 
-start='scenario 1\nvolume C 4 4\nvolume D 2 0\nwriter w {}\nlane a\n'
-tells "     6 | write C 4 fill 1" "6: OutOfRange" "${start}write C 4 fill 1\n"
-tells "block is 0 to 3 on C here, and not 4" "6: OutOfRange" "${start}write C 4 fill 1\n"
-tells "block is 0 to 1 on D here, and not 2" "6: OutOfRange" "${start}image 1 D 2\n"
-tells "byte is 0 to 255 here, and not 256" "6: OutOfRange" "${start}write C 3 fill 256\n"
-tells "slots is 0 to 65536 here, and not 65537" "2: OutOfRange" 'scenario 1\nvolume C 4 65537\n'
-tells "number is 0 to 18446744073709551615 here" "6: OutOfRange" "${start}write C 3 stamp 18446744073709551616\n"
-tells "the number after \`scenario\` is 1" "1: OutOfRange" 'scenario 2\n'
-tells "the line ends in CR LF" "1: BadByte" 'scenario 1\r\n'
-tells "character 7 is a tab" "2: BadByte" 'scenario 1\nvolume\tC 4 4\n'
-tells "gr??n" "1: BadByte" '# gr\303\274n\n'
-tells "no newline at its end" "2: NoNewline" 'scenario 1\nvolume C 4 4'
-tells "the line begins with a space" "6: UnknownWord" "${start} read C 0\n"
-tells "a comment is a line of its own" "6: BadCount" "${start}read C 0 # first\n"
-tells "no line begins with \`volum\`" "2: UnknownWord" 'scenario 1\nvolum C 4 4\n'
-tells "the forms are \`write VOLUME BLOCK fill BYTE\` or \`write VOLUME BLOCK stamp NUMBER\`" "6: UnknownWord" "${start}write C 1 full 3\n"
-tells "above the first lane" "6: Misplaced" "${start}volume E 1 1\n"
-tells "before each field stands one space" "2: BadCount" 'scenario 1\nvolume C  4 4\n'
-tells "there is no lane above" "3: Misplaced" 'scenario 1\nvolume C 4 4\nread C 1\n'
-tells "a number is decimal digits" "2: BadNumber" 'scenario 1\nvolume C 04 4\n'
-tells "begins with a letter" "2: BadName" 'scenario 1\nvolume 1C 4 4\n'
-tells "there is an area G already, from line 2" "3: DoubleName" 'scenario 1\narea G 4\narea G 1\n'
-tells "there is a volume C already, from line 2" "3: DoubleName" 'scenario 1\nvolume C 4 4\nvolume C 1 1\n'
-tells "no volume \`E\` is declared above; there are C, D" "6: UnknownName" "${start}read E 0\n"
-tells "no volume \`E\` is declared above" "6: UnknownName" "${start}write E 0 full 3\n"
-tells "no writer \`v\` is declared above; there are w" "6: UnknownName" "${start}component v main log\n"
-tells "no writer \`v\` is declared above; there are w" "6: UnknownName" "${start}disable v\n"
-tells "no writer \`v\` is declared above; there are w" "6: UnknownName" "${start}lane b as v\n"
-tells "no area \`H\` is declared above; there are G" "3: UnknownName" 'scenario 1\narea G 2\nvolume C 4 in H\n'
-tells "docs/FORMATS.md has its members" "2: BadDocument" 'scenario 1\nwriter w {}\n'
-tells "it has no \"name\" \"components\"" "2: BadDocument" 'scenario 1\nwriter w {"class":1,"level":1,"usage":1,"source":1}\n'
-tells "64 lanes at most" "6: TooMany" "${start}lane b\n"
-tells "131,072 at most" "3: TooMany" 'scenario 1\narea G 65536\nvolume C 65536 65536\n'
-tells "there is no \`scenario 1\` line" "1: Empty" ''
-# lines of the writers' scripts
-declared='scenario 1\nwriter w {}\n'
-tells "no writer \`v\` is declared above; there are w" "3: UnknownName" "${declared}answer v freeze 1 lost\n"
-tells "nth is 1 to 2000 here, and not 0" "3: OutOfRange" "${declared}answer w freeze 0 lost\n"
-tells "orders are identify" "3: UnknownWord" "${declared}answer w freze 1 lost\n"
-tells "has an answer to this order and number already" "4: DoubleName" "${declared}answer w freeze 1 lost\nanswer w freeze 1 lost\n"
+# the line and its reason, the text with \n for newlines, and what has to be said
+tells() {
+  local line="$1" text="$2"
+  shift 2
+  printf '%b' "$text" > "$room/input"
+  "$vss" run < "$room/input" > "$room/out" 2> "$room/err"
+  [ "$?" = 3 ] && [ "$(cat "$room/err")" = "vss: line $line" ] || wrong "\"$text\" is refused by \"$(cat "$room/err")\", and not by $line"
+  has "\"$text\"" "$("$explainer" scenario < "$room/input")" "$@"
+}
 
-# ./vss leaves the program's line first, the status and the report
-printf 'scenario 1\nvolume C 4 4\nlane a\nwrite C 4 fill 1\n' > "$room/bad"
-"$top/vss" run < "$room/bad" > "$room/out" 2> "$room/err"
-status=$?
-if [ "$status" != 3 ] || [ -s "$room/out" ] || ! grep -qx 'vss: line 4: OutOfRange' "$room/err" || ! grep -q '^     block is 0 to 3' "$room/err"; then
-  wrong "./vss ended with $status and said: $(cat "$room/err")"
+start='scenario 1\nvolume C 4 4\nvolume D 2 0\n'
+lane="${start}lane a\n"
+document='{"class":"22222222-2222-4222-8222-222222222222","components":[{"name":"main","path":"","selectable":true,"type":1}],"level":2,"name":"Database","source":1,"usage":3}'
+writer="scenario 1\nvolume C 4 4\nwriter db $document\n"
+
+# words
+tells "2: UnknownWord" 'scenario 1\nvoluem C 4 4\n' "     2 | voluem C 4 4" "       | ^" "no line begins with \`voluem\`; did you mean \`volume\`?"
+tells "2: UnknownWord" 'scenario 1\nVOLUME C 4 4\n' "did you mean \`volume\`?"
+tells "5: UnknownWord" "${lane}snapshto\n" "did you mean \`snapshot\`?"
+tells "2: UnknownWord" 'scenario 1\nfinish\n' "no line begins with \`finish\`" "docs/FORMATS.md has all words"
+tells "5: UnknownWord" "${lane} read C 0\n" "the line begins with a space"
+tells "1: UnknownWord" 'report 1\n1 idle 7\n' "this is a report of a run and no scenario: are two files swapped?"
+tells "5: UnknownWord" "${lane}write C 1 full 3\n" "     5 | write C 1 full 3" "       |           ^" "\`full\` stands where \`fill\` or \`stamp\` has to" "the forms are \`write VOLUME BLOCK fill BYTE\` or \`write VOLUME BLOCK stamp NUMBER\`"
+tells "2: UnknownWord" 'scenario 1\nvolume C 4 4 4\n' "\`4\` stands where \`in\` has to" "the forms are \`volume NAME BLOCKS SLOTS\` or \`volume NAME BLOCKS in AREA\`"
+tells "2: UnknownWord" 'scenario 1\nvolume C 4 slots 4\n' "\`slots\` stands where \`in\` has to"
+tells "5: UnknownWord" "${lane}begin 9 some\n" "\`some\` stands where \`all\` has to"
+tells "4: UnknownWord" "${writer}lane a is db\n" "\`is\` stands where \`as\` has to"
+tells "4: UnknownWord" "${writer}answer db freze 1 lost\n" "       |           ^" "\`freze\` is no order; did you mean \`freeze\`?" "orders are identify, prepare_backup, prepare_snapshot, freeze, thaw, post_snapshot, backup_complete"
+tells "4: UnknownWord" "${writer}answer db freeze 1 late\n" "\`late\` stands where \`lost\` has to"
+tells "4: UnknownWord" "${writer}answer db freeze 1 vote VSS_E_WRITERERROR_TIMEOUT\n" "\`vote\` stands where \`veto\` has to"
+tells "4: UnknownWord" "${writer}answer db freeze 1 veto 0x800423F3\n" "did you mean \`VSS_E_WRITERERROR_RETRYABLE\`?"
+tells "4: UnknownWord" "${writer}answer db freeze 1 veto TIMEOUT\n" "did you mean \`VSS_E_WRITERERROR_TIMEOUT\`?" "codes are VSS_E_WRITERERROR_INCONSISTENTSNAPSHOT, VSS_E_WRITERERROR_OUTOFRESOURCES, VSS_E_WRITERERROR_TIMEOUT, VSS_E_WRITERERROR_RETRYABLE, VSS_E_WRITERERROR_NONRETRYABLE"
+
+# the place of a line, and texts without a scenario
+tells "2: Misplaced" 'scenario 1\nread C 1\n' "\`read\` is a line of a lane, and there is no lane above: \`lane NAME\` begins one"
+tells "5: Misplaced" "${lane}volume E 1 1\n" "\`volume\` stands above the first lane, which begins in line 4"
+tells "5: Misplaced" "${lane}answer w freeze 1 lost\n" "\`answer\` stands above the first lane"
+tells "1: Misplaced" 'volume C 4 4\nscenario 1\n' "     1 | volume C 4 4" "\`scenario 1\` comes first: put it into a line above"
+tells "2: Misplaced" 'scenario 1\nscenario 1\n' "\`scenario 1\` stands once"
+tells "1: Empty" '' "the input is empty; a scenario begins with the line \`scenario 1\`"
+tells "3: Empty" '# nothing\n\n' "there is no line \`scenario 1\`"
+
+# bytes
+tells "2: NoNewline" 'scenario 1\nvolume C 4 4' "     2 | volume C 4 4" "no newline at its end"
+tells "1: BadByte" 'scenario 1\r\n' "       |           ^" "CR LF" "tr -d"
+tells "2: BadByte" 'scenario 1\nvolume\tC 4 4\n' "       |       ^" "character 7 is a tab"
+tells "1: BadByte" '\0357\0273\0277scenario 1\n' "byte order mark (BOM)"
+tells "1: BadByte" '\0377\0376s\0000c\0000' "UTF-16"
+tells "1: BadByte" 's\0000c\0000e\0000' "as UTF-16 has"
+tells "1: BadByte" 'VSSAREA1\0002\0000\n' "a diff area and no scenario: ./vss inspect"
+tells "2: BadByte" 'scenario 1\nvolume\0302\0240C 4 4\n' "character 7 is a no-break space (U+00A0)"
+tells "1: BadByte" '# gr\0303\0274n\n' "# gr??n" "character 5 is U+00FC" "comments too"
+tells "2: BadByte" 'scenario 1\nvolu\0000me\n' "character 5 is a zero byte"
+tells "2: BadByte" 'scenario 1\n\0377\0377\n' "character 1 is the byte 0xFF"
+
+# spaces and the number of fields
+tells "2: BadNumber" 'scenario 1\nvolume C  4\n' "       |          ^" "character 10 is a second space; before each field stands one"
+tells "2: UnknownWord" 'scenario 1\nvolume C 4 4 \n' "       |             ^" "a space stands at the end of the line"
+tells "2: BadName" 'scenario 1\nvolume  4 4\n' "character 8 is a second space"
+tells "5: BadCount" "${lane}start \n" "a space stands at the end of the line"
+tells "5: BadCount" "${lane}read  C 0\n" "a second space"
+tells "2: BadName" 'scenario 1\nwriter  {}\n' "a second space"
+tells "5: BadCount" "${lane}read C 0 # first\n" "so many fields, 4" "the form is \`read VOLUME BLOCK\`" "a comment is a line of its own"
+tells "5: BadCount" "${lane}read C\n" "so many fields, 1" "the form is \`read VOLUME BLOCK\`"
+tells "5: BadCount" "${lane}add C D\n" "so many fields, 2" "the form is \`add VOLUME\`"
+tells "5: BadCount" "${lane}gather now\n" "the form is \`gather\`"
+tells "4: BadCount" "${writer}writer w \n" "the rest of the line is missing"
+
+# numbers
+tells "5: OutOfRange" "${lane}write C 4 fill 1\n" "       |         ^" "BLOCK is 0 to 3 on C here, and not 4"
+tells "5: OutOfRange" "${lane}image 1 D 2\n" "BLOCK is 0 to 1 on D here, and not 2"
+tells "5: OutOfRange" "${lane}write C 3 fill 256\n" "BYTE is 0 to 255 here, and not 256"
+tells "5: OutOfRange" "${lane}write C 3 stamp 18446744073709551616\n" "NUMBER is 0 to 18446744073709551615 here"
+tells "2: OutOfRange" 'scenario 1\nvolume C 4 65537\n' "SLOTS is 0 to 65536 here, and not 65537"
+tells "2: OutOfRange" 'scenario 1\nvolume C 0 4\n' "BLOCKS is 1 to 65536 here, and not 0"
+tells "5: OutOfRange" "${lane}tick 0\n" "TICKS is 1 to 1000000000 here, and not 0"
+tells "5: OutOfRange" "${lane}begin 4294967296\n" "CONTEXT is 0 to 4294967295 here"
+tells "5: OutOfRange" "${lane}image 0 C\n" "SET is 1 to 4294967295 here, and not 0"
+tells "4: OutOfRange" "${writer}answer db freeze 2001 lost\n" "NTH is 1 to 2000 here, and not 2001"
+tells "1: OutOfRange" 'scenario 2\n' "the number after \`scenario\` is 1, and not 2"
+tells "2: BadNumber" 'scenario 1\nvolume C 04 4\n' "       |          ^" "BLOCKS (field 2) is \`04\`: a number has no zeros before it"
+tells "2: BadNumber" 'scenario 1\nvolume C 4 -1\n' "SLOTS (field 3) is \`-1\`: a number has no sign"
+tells "2: BadNumber" 'scenario 1\nvolume C 0x10 4\n' "BLOCKS (field 2) is \`0x10\`: a number is decimal"
+tells "5: BadNumber" "${lane}tick 1s\n" "TICKS (field 1) is \`1s\`: a number is decimal digits alone"
+tells "5: BadNumber" "${lane}delete C 1\n" "SET (field 1) is \`C\`" "the forms are \`delete SET\` or \`delete SET VOLUME\`"
+
+# names
+tells "2: BadName" 'scenario 1\nvolume 1C 4 4\n' "       |        ^" "the name of the volume (field 1) is \`1C\`" "a name has 1 to 32 letters" "begins with a letter"
+tells "3: DoubleName" 'scenario 1\narea G 4\narea G 1\n' "there is an area G already, from line 2"
+tells "4: DoubleName" "${start}volume C 1 1\n" "       |        ^" "there is a volume C already, from line 2"
+tells "5: DoubleName" "${lane}lane a\n" "there is a lane a already, from line 4"
+tells "4: DoubleName" "${writer}writer db {}\n" "there is a writer db already, from line 3"
+tells "5: DoubleName" "${writer}answer db freeze 1 lost\nanswer db freeze 1 lost\n" "an answer to this order and number already, from line 4"
+tells "5: UnknownName" "${lane}read E 0\n" "no volume \`E\` is declared above; there are C, D"
+tells "5: UnknownName" "${lane}add c\n" "there are C, D; did you mean \`C\`?"
+tells "5: UnknownName" "${lane}write E 0 full 3\n" "no volume \`E\` is declared above"
+tells "5: UnknownName" "${lane}disable v\n" "no writer \`v\` is declared above; there is none"
+tells "4: UnknownName" "${writer}lane b as bd\n" "no writer \`bd\` is declared above; there are db"
+tells "4: UnknownName" "${writer}answer v freeze 1 lost\n" "no writer \`v\` is declared above; there are db"
+tells "5: UnknownName" "${writer}lane a\ncomponent v main log\n" "no writer \`v\` is declared above; there are db"
+tells "3: UnknownName" 'scenario 1\narea G 2\nvolume C 4 in H\n' "no area \`H\` is declared above; there are G"
+
+# metadata documents: the wrong document, and what is said of it
+says_of() {
+  local made="$1"
+  shift
+  [ "$made" != "$document" ] || wrong "this document is the right one"
+  tells "4: BadDocument" "${writer}writer w $made\n" "$@"
+}
+says_of '{}' '"class" is missing'
+says_of '[]' 'the document is []; it has to be an object'
+says_of "${document/\"name\":\"main\",/}" '"name" of component 1 is missing'
+says_of "${document/\"selectable\":true,/}" '"selectable" of component 1 is missing; it has to be true or false'
+says_of "${document/\"level\":2/\"level\":\"2\"}" '"level" is "2"; it has to be 1 (system), 2 (back end) or 3 (front end)'
+says_of "${document/\"level\":2/\"level\":4}" '"level" is 4; it has to be 1'
+says_of "${document/\"level\":2/\"level\":\"VSS_APP_SYSTEM\"}" '"level" is "VSS_APP_SYSTEM"; it has to be 1'
+says_of "${document/22222222-/2222-}" '"class" is "2222-2222-4222-8222-222222222222"; it has to be a class id'
+says_of "${document/\"source\"/\"freeze_timout\":1,\"source\"}" '"freeze_timout" is no member; did you mean `freeze_timeout`?'
+says_of "${document/\"source\"/\"version\":1,\"source\"}" '"version" is no member' 'the members are class, name, level, usage, source'
+says_of "${document/\"source\"/\"freeze_timeout\":0,\"source\"}" '"freeze_timeout" is 0; it has to be a number of ticks from 1 to 60000'
+says_of "${document/\"path\":\"\"/\"path\":\"a\\\\\\\\\"}" '"path" of component 1 is "a\\"; it has to be'
+says_of "${document/\}]/\},\{\"name\":\"main\",\"selectable\":true,\"type\":2\}]}" 'two components have the full name `main`'
+says_of "${document/\}]/\},\{\"name\":\"log\",\"selectable\":true,\"type\":3\}]}" '"type" of component 2 is 3; it has to be 1 (database) or 2 (file group)'
+says_of "${document/\"type\":1/\"type\":1,\"level\":2}" '"level" of component 1 is no member'
+says_of "${document/3\}/3,\}}" 'this is no JSON: a comma stands before `}`'
+says_of "${document%\}}" 'the JSON ends too early'
+says_of '{"class":"x"' 'the JSON ends too early'
+says_of "${document//\"/\'}" 'strings and names stand in double quotes'
+says_of "${document/\"level\":2/\"level\":}" 'this is no JSON from the character `,` on'
+says_of "${document/2,/2 }" 'this is no JSON from the character `"` on'
+
+# limits
+many() { for ((i = 1; i <= $1; i++)); do printf '%s' "${2//#/$i}\\n"; done; }
+tells "130: TooMany" "scenario 1\n$(many 129 'volume v# 1 1')" "a scenario has at most 128 volumes"
+tells "130: TooMany" "scenario 1\n$(many 129 'area v# 1')" "a scenario has at most 128 areas"
+tells "66: TooMany" "scenario 1\n$(many 65 'lane l#')" "a scenario has at most 64 lanes"
+tells "66: TooMany" "scenario 1\n$(many 65 "writer w# $document")" "a scenario has at most 64 writers"
+tells "3: TooMany" 'scenario 1\narea G 65536\nvolume C 65536 65536\n' "at most 131072 blocks of all volumes and slots of all areas together"
+tells "2005: TooMany" "${lane}$(many 2001 gather)$(many 5 end)" "at most 2000 \`gather\`, \`prepare\`, \`snapshot\` and \`complete\` lines"
+tells "100005: TooMany" "${lane}$(printf 'end\\n%.0s' {1..100001})" "at most 100000 lines of all lanes together"
+
+# the forms that are told are read by the program
+forms=0
+while read -r word; do
+  case "$word" in
+    scenario | area | volume | writer | answer) before="$writer" ;;
+    *) before="${writer}area G 4\nlane a\n" ;;
+  esac
+  [ "$word" != scenario ] || before=""
+  printf '%b' "$before$word\n" > "$room/input"
+  case "$word" in gather | document | start | prepare | snapshot | await | status | complete | abort | end) printf '%b' "$before$word x\n" > "$room/input" ;; esac
+  told="$("$explainer" scenario < "$room/input" | sed -nE 's/^     the forms? (is|are) `(.*)`$/\2/p')"
+  [ -n "$told" ] || wrong "no form of $word is told"
+  while IFS= read -r form; do
+    forms=$((forms + 1))
+    line="$(sed -e "s/DOCUMENT/${document//&/\\&}/" -e 's/FULL-NAME/main/' -e 's/WRITER/db/' -e 's/ORDER/freeze/' -e 's/NTH/2/' -e 's/CODE/VSS_E_WRITERERROR_TIMEOUT/' \
+      -e 's/VOLUME/C/' -e 's/NAME/n/' -e 's/BLOCKS/2/' -e 's/SLOTS/1/' -e 's/AREA/G/' -e 's/BLOCK/1/' -e 's/BYTE/7/' -e 's/NUMBER/9/' -e 's/SET/1/' \
+      -e 's/TICKS/5/' -e 's/CONTEXT/9/' <<< "$form")"
+    case "$form" in *AREA*) printf '%b' "${before}area G 4\n$line\n" ;; *) printf '%b' "$before$line\n" ;; esac > "$room/input"
+    "$vss" run < "$room/input" > /dev/null 2> "$room/err" || wrong "the form \"$form\" is told, and \"$line\" gets \"$(cat "$room/err")\""
+  done <<< "${told//\` or \`/$'\n'}"
+done <<< "$(sed -n '/^## Scenario/,/^## Generated/p' docs/FORMATS.md | sed -nE 's/^\| (`[^|]*) \|.*/\1/p' | grep -o '`[a-z][a-z]*' | tr -d '`' | sort -u)"
+[ "$forms" = 35 ] || wrong "$forms forms are told, and not 35"
+
+# words of the command
+says_words() {
+  local wanted="$1"
+  shift
+  "$vss" "$@" > "$room/out" 2> "$room/err" < /dev/null
+  [ "$?" = 2 ] || wrong "the words $* are a command"
+  has "the words $*" "$("$explainer" words "$@")" "$wanted"
+}
+says_words "a command is missing"
+says_words "\`runs\` is no command; did you mean \`run\`?" runs
+says_words "\`Run\` is no command; did you mean \`run\`?" Run
+says_words "\`inspekt\` is no command; did you mean \`inspect\`?" inspekt
+says_words "\`start\` is no command" start
+says_words "\`07\` is no number: 0 to 4294967295" gen 07
+says_words "\`4294967296\` is too large: the number is 0 to 4294967295" gen 4294967296
+says_words "behind \`gen\` a number is missing: 0 to 4294967295" gen
+says_words "\`-x\` begins with \`-\`" run -x
+says_words "the folder's name is empty" run ''
+says_words "\`d2\` is one word too many" run d1 d2
+says_words "\`more\` is one word too many" gen 7 disks more
+says_words "behind \`inspect\` stands no word" inspect area
+
+# how ./vss ends, and what it says; the words follow, and the input is $room/input
+ran() {
+  local wanted="$1" status
+  shift
+  "$top/vss" "$@" > "$room/out" 2> "$room/err"
+  status=$?
+  [ "$status" = "$wanted" ] || wrong "\`./vss $*\` ended with $status, and not $wanted: $(cat "$room/err")"
+}
+said() { has "./vss" "$(cat "$room/err")" "$@"; }
+printf 'scenario 1\nvolume C 4 4\nlane a\nwrite C 4 fill 1\n' > "$room/bad.scenario"
+ran 3 run < "$room/bad.scenario"
+said "vss: line 4: OutOfRange" "in $room/bad.scenario:" "     4 | write C 4 fill 1" "BLOCK is 0 to 3 on C here, and not 4"
+(cd "$room" && "$top/vss" run < bad.scenario 2> err)
+said "in bad.scenario:"
+ran 3 run < <(cat "$room/bad.scenario")
+said "vss: line 4: OutOfRange" "     4 | write C 4 fill 1" "BLOCK is 0 to 3 on C here, and not 4"
+{ read -r _; ran 3 run; } < <(printf 'more\n'; cat "$room/bad.scenario")
+said "vss: line 4: OutOfRange" "     4 | write C 4 fill 1"
+{ read -r _; ran 3 run; } < "$room/bad.scenario"
+said "vss: line 1: Misplaced" "     1 | volume C 4 4"
+ran 3 run < "$top/examples/first.report"
+said "are two files swapped?"
+ran 3 run "$room/bad.scenario" < "$room/bad.scenario"
+said "./vss run < $room/bad.scenario"
+ran 6 run "$room/none" < "$top/examples/first.scenario"
+said "vss: device fault" "mkdir $room/none"
+ran 4 run < "$room"
+said "vss: read fault" "could not be read to its end"
+ran 4 run <&-
+said "vss: read fault"
+timeout 60 "$top/vss" run < "$top/examples/first.scenario" >&- 2> "$room/err"
+[ "$?" = 5 ] || wrong "a closed output: $(cat "$room/err")"
+said "vss: write fault"
+if [ -w /dev/full ]; then
+  "$top/vss" run < "$top/examples/first.scenario" > /dev/full 2> "$room/err"
+  [ "$?" = 5 ] || wrong "a full disk: $(cat "$room/err")"
+  said "vss: write fault" "is the disk full"
 fi
-"$top/vss" run "$room/bad" < "$room/bad" > "$room/out" 2> "$room/err"
-if [ "$?" != 3 ] || [ -s "$room/out" ] || ! grep -qF "./vss run < $room/bad" "$room/err"; then
-  wrong "of the words \`run FILE\` ./vss said: $(cat "$room/err")"
-fi
-"$top/vss" run "$room/none" < "$top/examples/first.scenario" > "$room/out" 2> "$room/err"
-if [ "$?" != 6 ] || [ -s "$room/out" ] || ! grep -qx 'vss: device fault' "$room/err" || ! grep -qF "mkdir $room/none" "$room/err"; then
-  wrong "of a folder that is not there ./vss said: $(cat "$room/err")"
-fi
-if ! "$top/vss" run < "$top/examples/first.scenario" 2> /dev/null | cmp -s - "$top/examples/first.report"; then
-  wrong "./vss has another report than the program"
-fi
-ends "as a person needs them"
+head -c 16777217 /dev/zero | tr '\0' '\n' > "$room/long"
+ran 8 run < "$room/long"
+said "vss: input too long" "16,777,216 bytes at most"
+ran 8 run < <(cat "$room/long")
+said "vss: input too long"
+ran 2 runs < /dev/null
+said "vss: usage" "\`runs\` is no command" "./vss gen N"
+ran 2 inspect "$room/bad.scenario" < /dev/null
+said "./vss inspect < $room/bad.scenario"
+for word in help --help -h; do
+  ran 0 "$word" < /dev/null
+  has "./vss $word" "$(cat "$room/out")" "./vss run < FILE" "./vss inspect < FILE"
+  [ ! -s "$room/err" ] || wrong "./vss $word says on the standard error: $(cat "$room/err")"
+done
+ran 0 --version < /dev/null
+has "./vss --version" "$(cat "$room/out")" "vss, of the sources "
+
+# areas that were cut, or have a byte too many, or are something else
+mkdir "$room/disks"
+ran 0 run "$room/disks" < "$top/examples/first.scenario"
+area="$(find "$room/disks" -name '*.area' | head -n 1)"
+size="$(stat -c %s "$area")"
+head -c $((size - 5000)) "$area" > "$room/cut.area"
+ran 9 inspect < "$room/cut.area"
+said "in $room/cut.area:" "it has $((size - 5000)) bytes" "an area has $size"
+{ cat "$area"; echo; } > "$room/longer.area"
+ran 9 inspect < "$room/longer.area"
+said "it has $((size + 1)) bytes" "an area has $size"
+ran 9 inspect < "$top/examples/first.scenario"
+said "it is a scenario: ./vss run < FILE"
+
+# on a terminal `run` says where the scenario comes from
+python3 - "$top/vss" > "$room/err" << 'END' || wrong "of a terminal: $(cat "$room/err")"
+import os, pty, sys
+said = b""
+child, terminal = pty.fork()
+if child == 0:
+    os.execv(sys.argv[1], [sys.argv[1], "run"])
+os.write(terminal, b"scenario 1\nvoluem C 4 4\n\x04")
+while True:
+    try:
+        piece = os.read(terminal, 4096)
+    except OSError:
+        break
+    if not piece:
+        break
+    said += piece
+print(said.decode(errors="replace"))
+status = os.waitstatus_to_exitcode(os.waitpid(child, 0)[1])
+sys.exit(0 if status == 3 and b"from this terminal" in said and b"did you mean `volume`?" in said else 1)
+END
+
+# how long an explanation takes, in milliseconds: of a short text, and of one of 16 MiB
+took() {
+  local began
+  began="$(date +%s%N)"
+  "$explainer" scenario < "$1" > "$room/out"
+  echo $((($(date +%s%N) - began) / 1000000))
+}
+{ printf 'scenario 1\n'; yes '# a comment of forty bytes, or about that' | head -c 16777000; printf '\nvoluem\n'; } > "$room/long"
+short="$(took "$room/bad.scenario")" long="$(took "$room/long")"
+grep -q 'did you mean' "$room/out" || wrong "of a long text it is said: $(cat "$room/out")"
+[ "$short" -le 100 ] || wrong "an explanation takes $short ms"
+[ "$long" -le 1000 ] || wrong "an explanation of 16 MiB takes $long ms"
+ends "$trials trials, each with its place, its reason and what helps; $forms forms; $short ms, and $long ms for 16 MiB"

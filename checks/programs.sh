@@ -5,7 +5,7 @@
 small="$room/a small one"
 mkdir -p "$small/tools" "$small/crates/low/src" "$small/crates/vss/src" "$small/crates/vss/out"
 cp "$top/vss" "$small/"
-cp "$top/tools/program.sh" "$top/tools/explain.sh" "$top/tools/explain.awk" "$small/tools/"
+cp "$top/tools/program.sh" "$small/tools/"
 printf 'low: # below\nother: low\nvss may_wait=1: low\n' > "$small/crates.txt"
 echo one > "$small/crates/low/src/lib.rt"
 echo two > "$small/crates/vss/src/main.rt"

@@ -1,16 +1,16 @@
 #!/usr/bin/env bash
-# Which words are a command; that ./vss takes none of them for wrong words; and that a link to ./vss is ./vss.
+# Which words are a command, and that a link to ./vss is ./vss.
 . "$(dirname "${BASH_SOURCE[0]}")/prelude.sh" || exit 70
 vss="$(program vss)" || exit 1
 cd "$room" || exit 70
 
-# holds what the program and ./vss take the words for against what they are
+# holds what the program takes the words for against what they are
 holds() {
   local is="$1" said status
   shift
   said="$(printf 'scenario 1\n' | "$vss" "$@" 2>&1 > /dev/null)"
   status=$?
-  if [ "$is" = command ] && { [ "$status" = 2 ] || is_wrong_command "$@"; } ||
+  if [ "$is" = command ] && [ "$status" = 2 ] ||
     [ "$is" = wrong ] && { [ "$status" != 2 ] || [ "$said" != "vss: usage" ]; }; then
     wrong "\`vss $*\` is $is, and ended with $status and \"$said\""
   fi
@@ -73,7 +73,7 @@ holds wrong "$(printf '\377')"
 ln -s "$top/vss" "$room/link"
 "$room/link" gen > "$room/out" 2> "$room/err" < /dev/null
 status=$?
-if [ "$status" != 2 ] || [ "$(head -n 1 "$room/err")" != "vss: usage" ] || [ -s "$room/out" ]; then
+if [ "$status" != 2 ] || ! grep -qx "vss: usage" "$room/err" || [ -s "$room/out" ]; then
   wrong "a link to ./vss is not ./vss"
 fi
 ends "as the program has them"

@@ -8,6 +8,7 @@ use Rattle.writer_calls.specs.Script.{is_row_for}
 use Rattle.scenario.specs.declared.op.Op.{Op}
 use Rattle.scenario.specs.declared.op.Op.TheVariants.{WriteFill, WriteStamp, Read, ImageDigest, ImageBlock, Query, Properties, Revert, DeleteSet, DeleteImage, Tick, Begin, Disable, Gather, Component, Document, Start, Add, Prepare, Snapshot, Await, Status, Complete, Abort, End}
 use Rattle.scenario.specs.declared.reason.Reason.{Reason}
+use Rattle.scenario.specs.declared.cause.Cause.{Cause}
 use Rattle.scenario.specs.declared.unread.Unread.{Unread}
 use Rattle.scenario.specs.declared.unread.Unread.TheVariants.{Bad, OutOfMemory}
 use Rattle.scenario.specs.declared.span.Span.{Span}
@@ -244,11 +245,16 @@ IsEntry text d (entry.Line line) = IsNewLine (length text) d.said line
 
 -- ## what was read of a line
 
-abbrev pub told : Result Entry Reason → Result Saying Reason
+-- of why a line is refused the definitions speak of the reason alone
+abbrev pub by_reason : {A : Type 0} → Result A Cause → Result A Reason
+by_reason (Ok it) = Ok it
+by_reason (Err cause) = Err cause.reason
+
+abbrev pub told : Result Entry Cause → Result Saying Reason
 told (Ok entry) = Ok (saying_in entry)
-told (Err reason) = Err reason
+told (Err cause) = Err cause.reason
 
 -- why a line was not taken
 abbrev pub IsUnread : Result Saying Reason → Unread → Type 0
-IsUnread said (Bad reason) = said ≡ Err reason
+IsUnread said (Bad cause) = said ≡ Err cause.reason
 IsUnread said OutOfMemory = Unit {0}

@@ -1,10 +1,13 @@
 -- Which text is which scenario: its lines are read one after another, and the first bad one is refused. (This project's
 -- own format.)
-use Rattle.std.specs.Prelude.{ℕ, ◌≡◌, ◌+◌, List, [], ◌∷◌, Result, Ok, Err, if◌then◌else◌}
+use Rattle.std.specs.Prelude.{ℕ, ◌≡◌, ◌+◌, List, [], ◌∷◌, Option, Some, None, Result, Ok, Err, if◌then◌else◌}
 use Rattle.scenario.specs.declared.reason.Reason.{Reason}
 use Rattle.scenario.specs.declared.reason.Reason.TheVariants.{Empty}
 use Rattle.scenario.specs.declared.refused.Refused.{Refused}
 use Rattle.scenario.specs.declared.refused.Refused.TheVariants.{Line, OutOfMemory}
+use Rattle.scenario.specs.declared.unread.Unread.{Unread}
+use Rattle.scenario.specs.declared.unread.Unread.TheVariants as unread
+use Rattle.scenario.specs.declared.refusal.Refusal.{Refusal}
 use Rattle.scenario.specs.declared.text_line.TextLine.{TextLine}
 use Rattle.scenario.specs.Plan.{Plan}
 use Rattle.scenario.specs.Lines.{lines_in}
@@ -41,3 +44,17 @@ IsRefused reading OutOfMemory = Unit {0}
 -- why a text was refused
 abbrev pub IsRefusal : List ℕ → Refused → Type 0
 IsRefusal text refused = IsRefused (reading_of text) refused
+
+-- the first bad line, with its reason
+abbrev pub first_bad : Reading → Option (ℕ × Reason)
+first_bad (IsScenario plan) = None
+first_bad (IsBad line reason) = Some (line, reason)
+
+-- what a refusal tells of the reading
+abbrev pub told_bad : Refusal → ℕ × Reason
+told_bad refusal = (refusal.line, refusal.cause.reason)
+
+-- why the reading stopped at this line
+abbrev pub IsUnreadAt : ℕ → Reading → Unread → Type 0
+IsUnreadAt line reading (unread.Bad cause) = reading ≡ IsBad line cause.reason
+IsUnreadAt line reading unread.OutOfMemory = Unit {0}

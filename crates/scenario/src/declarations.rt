@@ -1,19 +1,23 @@
 //! The lines before the lanes, but for writers and answers, and the line that begins a lane.
-ghost use Rattle.std.specs.Prelude.{◌≡◌, ◌<◌, ◌≤◌, ◌+◌, ◌^◌, ◌&&◌, false, [], None, Some, nat_le, nat_lt, length, slice_get, is_some, IfOk, IfSome, IsTrue};
+ghost use Rattle.std.specs.Prelude.{◌≡◌, ◌<◌, ◌≤◌, ◌+◌, ◌^◌, ◌&&◌, false, [], None, Some, nat_le, nat_lt, length, slice_get, is_some, true, IfOk, IfErr, IfSome, IsTrue};
 ghost use Rattle.scenario.specs.declared.entry.Entry.TheVariants as entry;
 ghost use Rattle.scenario.specs.Fields.{bytes_of, IsPart, AreParts};
 ghost use Rattle.scenario.specs.Names.{place_of, area_named};
 ghost use Rattle.scenario.specs.SoFar.{group_for};
-ghost use Rattle.scenario.specs.Drafts.{DraftValue, IsDraft, IsEntry, IsShortPart, told};
+ghost use Rattle.scenario.specs.Drafts.{DraftValue, by_reason, IsDraft, IsEntry, IsShortPart, told};
 ghost use Rattle.scenario.specs.Declarations.{name_field, opening_of, has_space, has_volume_room, area_of, area_field, new_volume, own_volume_of, shared_volume_of, volume_of, new_lane, lane_if, free_lane_of, acting_lane_of, lane_of};
 
 use crate::area_row::AreaRow;
+use crate::cause::Cause;
 use crate::draft::Draft;
 use crate::entry::Entry;
+use crate::expected::Expected;
 use crate::field_values::{is_word, number_field, writer_field};
 use crate::fields::{Fields, bytes_of};
 use crate::group_row::GroupRow;
+use crate::name_kind::NameKind;
 use crate::names::is_name;
+use crate::quantity::Quantity;
 use crate::reason::Reason;
 use crate::span::Span;
 use crate::volume_row::VolumeRow;
@@ -30,35 +34,41 @@ const MOST_SIZE: u64 = 131_072;
 
 const MOST_LANES: usize = 64;
 
-/// A new name, where `taken` says whether one of its kind has it.
+/// A new name, where `taken` is the place of the one of its kind that has it.
 #[tactic(auto, unfolding(crate::specs::Declarations::name_field))]
-pub(crate) fn name_field(text: &[u8], taken: bool, span: Span) -> Result<Span, Reason>
+pub(crate) fn name_field(
+    text: &[u8],
+    kind: NameKind,
+    taken: Option<usize>,
+    span: Span,
+) -> Result<Span, Cause>
     requires { IsPart (length text.now) span }
-    ensures value { result ≡ name_field text.now taken span }
+    ensures value { by_reason result ≡ name_field text.now (is_some taken) span }
     ensures short { IfOk result (IsShortPart (length text.now)) }
     ensures same { IfOk result (λ name. name ≡ span) }
-    ensures new { IfOk result (λ name. taken ≡ false) }
+    ensures new { IfOk result (λ name. taken ≡ None) }
 {
+    let expected = Expected::NewName { kind, taken };
     if !is_name(bytes_of(text, span)) {
-        return Err(Reason::BadName);
+        return Err(Cause::field(Reason::BadName, span, expected));
     }
-    if taken {
-        return Err(Reason::DoubleName);
+    if taken.is_some() {
+        return Err(Cause::field(Reason::DoubleName, span, expected));
     }
     Ok(span)
 }
 
 /// `scenario 1`.
 #[tactic(auto, unfolding(crate::specs::Declarations::opening_of))]
-pub(crate) fn opening_of(text: &[u8], fields: Fields) -> Result<Entry, Reason>
+pub(crate) fn opening_of(text: &[u8], fields: Fields) -> Result<Entry, Cause>
     requires { AreParts (length text.now) fields }
     ensures value { told result ≡ opening_of text.now fields }
     ensures kept { (d : DraftValue) → IfOk result (IsEntry text.now d) }
 {
     let Fields::One(version) = fields else {
-        return Err(Reason::BadCount);
+        return Err(Cause::no_form());
     };
-    number_field(text, 1, 1, version)?;
+    number_field(text, Quantity::Version, 1, 1, version)?;
     Ok(Entry::Opening)
 }
 
@@ -70,57 +80,78 @@ fn has_space(draft: &Draft, size: u32) -> bool
     draft.size() + u64::from(size) <= MOST_SIZE
 }
 
+/// More blocks and slots than there may be.
+fn no_space() -> Cause
+    ensures { result.reason ≡ Reason.TooMany }
+{
+    Cause::too_many(
+        "blocks of all volumes and slots of all areas together",
+        MOST_SIZE,
+    )
+}
+
 /// The name of an area that is new.
 #[tactic(auto, unfolding(crate::specs::Names::area_named))]
-fn new_area(text: &[u8], draft: &Draft, name: Span) -> Result<Span, Reason>
+fn new_area(text: &[u8], draft: &Draft, name: Span) -> Result<Span, Cause>
     requires part { IsPart (length text.now) name }
     requires draft { IsDraft text.now draft.now }
-    ensures value { result ≡ name_field text.now (is_some (area_named text.now draft.now.said.areas (bytes_of text.now name))) name }
+    ensures value { by_reason result ≡ name_field text.now (is_some (area_named text.now draft.now.said.areas (bytes_of text.now name))) name }
     ensures short { IfOk result (IsShortPart (length text.now)) }
     ensures new { IfOk result (λ n. place_of (bytes_of text.now n) draft.now.names.areas ≡ None) }
 {
-    let taken = draft.area_named(bytes_of(text, name)).is_some();
-    name_field(text, taken, name)
+    let taken = draft.area_named(bytes_of(text, name));
+    name_field(text, NameKind::Area, taken, name)
 }
 
 /// `area name slots`.
 #[tactic(auto, unfolding(crate::specs::Declarations::area_of))]
-pub(crate) fn area_of(text: &[u8], draft: &Draft, fields: Fields) -> Result<Entry, Reason>
+pub(crate) fn area_of(text: &[u8], draft: &Draft, fields: Fields) -> Result<Entry, Cause>
     requires parts { AreParts (length text.now) fields }
     requires draft { IsDraft text.now draft.now }
     ensures value { told result ≡ area_of text.now draft.now.said fields }
     ensures kept { IfOk result (IsEntry text.now draft.now) }
 {
     let Fields::Two(name, slots) = fields else {
-        return Err(Reason::BadCount);
+        return Err(Cause::no_form());
     };
     let name = new_area(text, draft, name)?;
-    let slots = number_field(text, 0, MOST_SLOTS, slots)?;
-    if draft.areas().len() >= MOST_AREAS || !has_space(draft, slots) {
-        return Err(Reason::TooMany);
+    let slots = number_field(text, Quantity::Slots, 0, MOST_SLOTS, slots)?;
+    if draft.areas().len() >= MOST_AREAS {
+        return Err(Cause::too_many("areas", MOST_AREAS as u64));
+    }
+    if !has_space(draft, slots) {
+        return Err(no_space());
     }
     Ok(Entry::Area(GroupRow { name, slots }))
 }
 
 /// The name of a volume that is new.
 #[tactic(auto, unfolding(crate::specs::Names::volume_named))]
-fn new_volume(text: &[u8], draft: &Draft, name: Span) -> Result<Span, Reason>
+fn new_volume(text: &[u8], draft: &Draft, name: Span) -> Result<Span, Cause>
     requires part { IsPart (length text.now) name }
     requires draft { IsDraft text.now draft.now }
-    ensures value { result ≡ new_volume text.now draft.now.said name }
+    ensures value { by_reason result ≡ new_volume text.now draft.now.said name }
     ensures short { IfOk result (IsShortPart (length text.now)) }
     ensures new { IfOk result (λ n. place_of (bytes_of text.now n) draft.now.names.volumes ≡ None) }
 {
-    let taken = draft.volume_named(bytes_of(text, name)).is_some();
-    name_field(text, taken, name)
+    let taken = draft.volume_named(bytes_of(text, name));
+    name_field(text, NameKind::Volume, taken, name)
 }
 
-/// Whether one more volume, of so many blocks and slots, has its place.
-fn has_volume_room(draft: &Draft, size: u32) -> bool
+/// Goes on where one more volume, of so many blocks and slots, has its place.
+fn volume_room(draft: &Draft, size: u32) -> Result<(), Cause>
     requires { draft.now.said.size ≤ 131072 }
-    ensures { result ≡ has_volume_room draft.now.said size }
+    ensures ok { IfOk result (λ it. has_volume_room draft.now.said size ≡ true) }
+    ensures full { IfErr result (λ cause. has_volume_room draft.now.said size ≡ false) }
+    ensures reason { IfErr result (λ cause. cause.reason ≡ Reason.TooMany) }
 {
-    draft.volumes().len() < MOST_VOLUMES && has_space(draft, size)
+    if draft.volumes().len() >= MOST_VOLUMES {
+        return Err(Cause::too_many("volumes", MOST_VOLUMES as u64));
+    }
+    if !has_space(draft, size) {
+        return Err(no_space());
+    }
+    Ok(())
 }
 
 /// `volume name blocks slots`.
@@ -131,7 +162,7 @@ fn own_volume_of(
     name: Span,
     blocks: Span,
     slots: Span,
-) -> Result<Entry, Reason>
+) -> Result<Entry, Cause>
     requires name { IsPart (length text.now) name }
     requires blocks { IsPart (length text.now) blocks }
     requires slots { IsPart (length text.now) slots }
@@ -141,11 +172,9 @@ fn own_volume_of(
     ensures kept { IfOk result (IsEntry text.now draft.now) }
 {
     let name = new_volume(text, draft, name)?;
-    let blocks = number_field(text, 1, MOST_BLOCKS, blocks)?;
-    let slots = number_field(text, 0, MOST_SLOTS, slots)?;
-    if !has_volume_room(draft, blocks + slots) {
-        return Err(Reason::TooMany);
-    }
+    let blocks = number_field(text, Quantity::Blocks, 1, MOST_BLOCKS, blocks)?;
+    let slots = number_field(text, Quantity::Slots, 0, MOST_SLOTS, slots)?;
+    volume_room(draft, blocks + slots)?;
     Ok(Entry::OwnVolume(VolumeRow {
         name,
         blocks,
@@ -156,16 +185,16 @@ fn own_volume_of(
 
 /// A declared area, with its number.
 #[tactic(auto, unfolding(crate::specs::Declarations::area_field, crate::specs::Names::area_named), using(crate::proofs::Taken::count_areas))]
-fn area_field(text: &[u8], draft: &Draft, span: Span) -> Result<(u32, AreaRow), Reason>
+fn area_field(text: &[u8], draft: &Draft, span: Span) -> Result<(u32, AreaRow), Cause>
     requires part { IsPart (length text.now) span }
     requires draft { IsDraft text.now draft.now }
-    ensures value { result ≡ area_field text.now draft.now.said.areas span }
+    ensures value { by_reason result ≡ area_field text.now draft.now.said.areas span }
     ensures found { IfOk result (λ p. slice_get draft.now.said.areas p.0 ≡ Some p.1) }
     ensures few_slots { IfOk result (λ p. p.1.slots ≤ 65536) }
 {
     match draft.area_named(bytes_of(text, span)) {
         Some(a) => Ok((a as u32, draft.areas()[a])),
-        None => Err(Reason::UnknownName),
+        None => Err(Cause::undeclared(span, NameKind::Area)),
     }
 }
 
@@ -189,7 +218,7 @@ fn shared_volume_of(
     blocks: Span,
     kind: Span,
     area: Span,
-) -> Result<Entry, Reason>
+) -> Result<Entry, Cause>
     requires name { IsPart (length text.now) name }
     requires blocks { IsPart (length text.now) blocks }
     requires kind { IsPart (length text.now) kind }
@@ -200,14 +229,12 @@ fn shared_volume_of(
     ensures kept { IfOk result (IsEntry text.now draft.now) }
 {
     let name = new_volume(text, draft, name)?;
-    let blocks = number_field(text, 1, MOST_BLOCKS, blocks)?;
+    let blocks = number_field(text, Quantity::Blocks, 1, MOST_BLOCKS, blocks)?;
     if !is_word(text, kind, b"in") {
-        return Err(Reason::UnknownWord);
+        return Err(Cause::no_word(kind, "`in`"));
     }
     let (a, area) = area_field(text, draft, area)?;
-    if !has_volume_room(draft, blocks) {
-        return Err(Reason::TooMany);
-    }
+    volume_room(draft, blocks)?;
     let row = VolumeRow {
         name,
         blocks,
@@ -218,7 +245,7 @@ fn shared_volume_of(
 }
 
 /// `volume name blocks slots`, `volume name blocks in area`.
-pub(crate) fn volume_of(text: &[u8], draft: &Draft, fields: Fields) -> Result<Entry, Reason>
+pub(crate) fn volume_of(text: &[u8], draft: &Draft, fields: Fields) -> Result<Entry, Cause>
     requires parts { AreParts (length text.now) fields }
     requires draft { IsDraft text.now draft.now }
     requires no_lane { draft.now.said.lanes ≡ [] }
@@ -230,38 +257,38 @@ pub(crate) fn volume_of(text: &[u8], draft: &Draft, fields: Fields) -> Result<En
         Fields::Four(name, blocks, kind, area) => {
             shared_volume_of(text, draft, name, blocks, kind, area)
         }
-        _ => Err(Reason::BadCount),
+        _ => Err(Cause::no_form()),
     }
 }
 
 /// The name of a lane that is new.
 #[tactic(auto, unfolding(crate::specs::Names::lane_named))]
-fn new_lane(text: &[u8], draft: &Draft, name: Span) -> Result<Span, Reason>
+fn new_lane(text: &[u8], draft: &Draft, name: Span) -> Result<Span, Cause>
     requires part { IsPart (length text.now) name }
     requires draft { IsDraft text.now draft.now }
-    ensures value { result ≡ new_lane text.now draft.now.said name }
+    ensures value { by_reason result ≡ new_lane text.now draft.now.said name }
     ensures short { IfOk result (IsShortPart (length text.now)) }
     ensures new { IfOk result (λ n. place_of (bytes_of text.now n) draft.now.names.lanes ≡ None) }
 {
-    let taken = draft.lane_named(bytes_of(text, name)).is_some();
-    name_field(text, taken, name)
+    let taken = draft.lane_named(bytes_of(text, name));
+    name_field(text, NameKind::Lane, taken, name)
 }
 
 /// One lane more.
-fn lane_if(draft: &Draft, name: Span, whom: Option<u32>) -> Result<Entry, Reason>
+fn lane_if(draft: &Draft, name: Span, whom: Option<u32>) -> Result<Entry, Cause>
     ensures value { told result ≡ lane_if draft.now.said name whom }
     ensures same { IfOk result (λ e. e ≡ entry.Lane name whom) }
     ensures few { IfOk result (λ e. length draft.now.said.lanes < 64) }
 {
     if draft.lanes() >= MOST_LANES {
-        return Err(Reason::TooMany);
+        return Err(Cause::too_many("lanes", MOST_LANES as u64));
     }
     Ok(Entry::Lane(name, whom))
 }
 
 /// `lane name`.
 #[tactic(auto, unfolding(crate::specs::Declarations::free_lane_of))]
-fn free_lane_of(text: &[u8], draft: &Draft, name: Span) -> Result<Entry, Reason>
+fn free_lane_of(text: &[u8], draft: &Draft, name: Span) -> Result<Entry, Cause>
     requires part { IsPart (length text.now) name }
     requires draft { IsDraft text.now draft.now }
     ensures value { told result ≡ free_lane_of text.now draft.now.said name }
@@ -279,7 +306,7 @@ fn acting_lane_of(
     name: Span,
     kind: Span,
     writer: Span,
-) -> Result<Entry, Reason>
+) -> Result<Entry, Cause>
     requires name { IsPart (length text.now) name }
     requires kind { IsPart (length text.now) kind }
     requires writer { IsPart (length text.now) writer }
@@ -289,14 +316,14 @@ fn acting_lane_of(
 {
     let name = new_lane(text, draft, name)?;
     if !is_word(text, kind, b"as") {
-        return Err(Reason::UnknownWord);
+        return Err(Cause::no_word(kind, "`as`"));
     }
     let writer = writer_field(text, draft, writer)?;
     lane_if(draft, name, Some(writer))
 }
 
 /// `lane name`, `lane name as writer`.
-pub(crate) fn lane_of(text: &[u8], draft: &Draft, fields: Fields) -> Result<Entry, Reason>
+pub(crate) fn lane_of(text: &[u8], draft: &Draft, fields: Fields) -> Result<Entry, Cause>
     requires parts { AreParts (length text.now) fields }
     requires draft { IsDraft text.now draft.now }
     ensures value { told result ≡ lane_of text.now draft.now.said fields }
@@ -305,6 +332,6 @@ pub(crate) fn lane_of(text: &[u8], draft: &Draft, fields: Fields) -> Result<Entr
     match fields {
         Fields::One(name) => free_lane_of(text, draft, name),
         Fields::Three(name, kind, writer) => acting_lane_of(text, draft, name, kind, writer),
-        _ => Err(Reason::BadCount),
+        _ => Err(Cause::no_form()),
     }
 }

@@ -12,6 +12,7 @@ use crate::group_row::GroupRow;
 use crate::kept_rows::{add_answer, add_group, add_line, set_group};
 use crate::lane::Lane;
 use crate::lane_line::LaneLine;
+use crate::name_kind::NameKind;
 use crate::name_table::NameTable;
 use crate::parts::Parts;
 use crate::script::Script;
@@ -338,6 +339,39 @@ impl Draft {
         add_line(&mut self.lanes, line)?;
         self.counts = self.counts.with_line(line.op);
         Ok(())
+    }
+
+    /// Where the names of a kind were declared, in order.
+    pub(crate) fn declared(
+        &self,
+        alloc: Global,
+        kind: Option<NameKind>,
+    ) -> Result<Vec<Span>, OutOfMemory> {
+        let mut names = Vec::new(alloc);
+        match kind {
+            None => {}
+            Some(NameKind::Area) => {
+                for area in &self.areas {
+                    names.push(area.name)?;
+                }
+            }
+            Some(NameKind::Volume) => {
+                for volume in &self.volumes {
+                    names.push(volume.name)?;
+                }
+            }
+            Some(NameKind::Writer) => {
+                for writer in &self.writers {
+                    names.push(writer.name)?;
+                }
+            }
+            Some(NameKind::Lane) => {
+                for lane in &self.lanes {
+                    names.push(lane.name)?;
+                }
+            }
+        }
+        Ok(names)
     }
 
     /// What a scenario is made of: the lanes with the `end` lines that they have not written.

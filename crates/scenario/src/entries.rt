@@ -6,10 +6,12 @@ ghost use Rattle.scenario.specs.Drafts.{IsDraft, IsEntry, saying_in, told, IsUnr
 ghost use Rattle.scenario.specs.Words.{takes_document};
 ghost use Rattle.scenario.specs.Entries.{is_printable, is_skipped, has_lane, may_stand, has_line_room, line_of, row_of, said_of, saying_of};
 
+use crate::cause::Cause;
 use crate::counts::{Counts, begins_agenda};
 use crate::declarations::{area_of, lane_of, opening_of, volume_of};
 use crate::draft::Draft;
 use crate::entry::Entry;
+use crate::expected::Expected;
 use crate::fields::{Fields, bytes_of, fields_for, word_at};
 use crate::lane_line::LaneLine;
 use crate::op::Op;
@@ -68,6 +70,34 @@ fn has_line_room(counts: Counts, op: Op) -> bool
     counts.lines < MOST_LINES && (!begins_agenda(op) || counts.agenda_lines < MOST_AGENDA_LINES)
 }
 
+/// More lines than there may be, of all or of those that may begin an agenda.
+fn no_line_room(counts: Counts) -> Cause
+    ensures { result.reason ≡ Reason.TooMany }
+{
+    if counts.lines >= MOST_LINES {
+        return Cause::too_many("lines of all lanes together", MOST_LINES as u64);
+    }
+    Cause::too_many(
+        "`gather`, `prepare`, `snapshot` and `complete` lines of all lanes together",
+        MOST_AGENDA_LINES as u64,
+    )
+}
+
+/// What has to stand above a line with this word that may not stand here, or must not.
+fn missed_place(draft: &Draft, word: Word) -> Expected {
+    if let Word::Scenario = word {
+        return Expected::OneOpening;
+    }
+    if !draft.is_opened() {
+        return Expected::Opening;
+    }
+    if has_lane(draft) {
+        Expected::NoLane
+    } else {
+        Expected::Lane
+    }
+}
+
 /// A line of the lane at hand.
 #[tactic(auto, unfolding(crate::specs::Entries::line_of))]
 fn line_of(
@@ -76,7 +106,7 @@ fn line_of(
     number: u32,
     word: Word,
     fields: Fields,
-) -> Result<Entry, Reason>
+) -> Result<Entry, Cause>
     requires parts { AreParts (length text.now) fields }
     requires draft { IsDraft text.now draft.now }
     requires in_lane { 0 < length draft.now.said.lanes }
@@ -85,7 +115,7 @@ fn line_of(
 {
     let op = op_of(text, draft, word, fields)?;
     if !has_line_room(draft.counts(), op) {
-        return Err(Reason::TooMany);
+        return Err(no_line_room(draft.counts()));
     }
     Ok(Entry::Line(LaneLine { number, op }))
 }
@@ -98,7 +128,7 @@ fn row_of(
     number: u32,
     word: Word,
     fields: Fields,
-) -> Result<Entry, Reason>
+) -> Result<Entry, Cause>
     requires parts { AreParts (length text.now) fields }
     requires draft { IsDraft text.now draft.now }
     requires placed { IsTrue (may_stand draft.now.said.opened (has_lane draft.now.said.lanes) word) }
@@ -138,7 +168,7 @@ fn placed_row_of(
     }
     match row_of(text, draft, number, word, fields) {
         Ok(entry) => Ok(entry),
-        Err(reason) => Err(Unread::Bad(reason)),
+        Err(cause) => Err(Unread::Bad(cause)),
     }
 }
 
@@ -159,10 +189,10 @@ fn said_of(
 {
     let first = word_at(text, span.start, span.end);
     let Some(word) = Word::of(bytes_of(text, first)) else {
-        return Err(Unread::Bad(Reason::UnknownWord));
+        return Err(Unread::Bad(Cause::field(Reason::UnknownWord, first, Expected::FirstWord)));
     };
     if !may_stand(draft, word) {
-        return Err(Unread::Bad(Reason::Misplaced));
+        return Err(Unread::Bad(Cause::field(Reason::Misplaced, first, missed_place(draft, word))));
     }
     let fields = fields_for(text, word, first.end, span.end);
     placed_row_of(alloc, text, draft, number, word, fields)
@@ -186,10 +216,10 @@ pub(crate) fn entry_of(
 {
     let bytes = bytes_of(text, line.span);
     if !are_printable(bytes) {
-        return Err(Unread::Bad(Reason::BadByte));
+        return Err(Unread::Bad(Cause::line(Reason::BadByte, Expected::Printable)));
     }
     if !line.ended {
-        return Err(Unread::Bad(Reason::NoNewline));
+        return Err(Unread::Bad(Cause::line(Reason::NoNewline, Expected::Newline)));
     }
     if is_skipped(bytes) {
         return Ok(Entry::Skipped);

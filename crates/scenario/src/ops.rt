@@ -2,17 +2,19 @@
 ghost use Rattle.std.specs.Prelude.{◌≡◌, List, ℕ, length, IfOk};
 ghost use Rattle.scenario.specs.declared.volume_row.VolumeRow.{VolumeRow as Row};
 ghost use Rattle.scenario.specs.Fields.{AreParts};
-ghost use Rattle.scenario.specs.Drafts.{IsDraft, IsRanged};
+ghost use Rattle.scenario.specs.Drafts.{IsDraft, IsRanged, by_reason};
 ghost use Rattle.scenario.specs.Ops.{write_of, read_of, image_of, query_of, add_of, properties_of, revert_of, disable_of, delete_of, tick_of, begin_of, component_of, alone, op_of};
 
+use crate::cause::Cause;
 use crate::draft::Draft;
+use crate::expected::Expected;
 use crate::field_values::{
-    block_field, is_word, number_field, set_and_volume, set_field, volume_alone, volume_field,
-    writer_alone, writer_field,
+    block_field, is_word, long_field, number_field, set_and_volume, set_field, volume_alone,
+    volume_field, writer_alone, writer_field,
 };
-use crate::fields::{Fields, bytes_of};
-use crate::numbers::number_in;
+use crate::fields::Fields;
 use crate::op::Op;
+use crate::quantity::Quantity;
 use crate::reason::Reason;
 use crate::word::Word;
 
@@ -20,19 +22,19 @@ const MOST_TICKS: u32 = 1_000_000_000;
 
 /// `write volume block fill x`, `write volume block stamp n`.
 #[tactic(auto, unfolding(crate::specs::Ops::write_of, crate::specs::Ops::number_field))]
-fn write_of(text: &[u8], draft: &Draft, fields: Fields) -> Result<Op, Reason>
+fn write_of(text: &[u8], draft: &Draft, fields: Fields) -> Result<Op, Cause>
     requires parts { AreParts (length text.now) fields }
     requires draft { IsDraft text.now draft.now }
-    ensures value { result ≡ write_of text.now draft.now.said.volumes fields }
+    ensures value { by_reason result ≡ write_of text.now draft.now.said.volumes fields }
     ensures ranged { IfOk result (IsRanged (length text.now) draft.now.said.volumes (length draft.now.said.writers)) }
 {
     let Fields::Four(volume, block, kind, number) = fields else {
-        return Err(Reason::BadCount);
+        return Err(Cause::no_form());
     };
     let volume = volume_field(text, draft, volume)?;
     let block = block_field(text, draft, volume, block)?;
     if is_word(text, kind, b"fill") {
-        let byte = number_field(text, 0, 255, number)? as u8;
+        let byte = number_field(text, Quantity::Byte, 0, 255, number)? as u8;
         return Ok(Op::WriteFill {
             volume,
             block,
@@ -40,9 +42,9 @@ fn write_of(text: &[u8], draft: &Draft, fields: Fields) -> Result<Op, Reason>
         });
     }
     if !is_word(text, kind, b"stamp") {
-        return Err(Reason::UnknownWord);
+        return Err(Cause::no_word(kind, "`fill` or `stamp`"));
     }
-    let number = number_in(bytes_of(text, number), 0, u64::MAX)?;
+    let number = long_field(text, Quantity::Stamp, 0, u64::MAX, number)?;
     Ok(Op::WriteStamp {
         volume,
         block,
@@ -52,14 +54,14 @@ fn write_of(text: &[u8], draft: &Draft, fields: Fields) -> Result<Op, Reason>
 
 /// `read volume block`.
 #[tactic(auto, unfolding(crate::specs::Ops::read_of))]
-fn read_of(text: &[u8], draft: &Draft, fields: Fields) -> Result<Op, Reason>
+fn read_of(text: &[u8], draft: &Draft, fields: Fields) -> Result<Op, Cause>
     requires parts { AreParts (length text.now) fields }
     requires draft { IsDraft text.now draft.now }
-    ensures value { result ≡ read_of text.now draft.now.said.volumes fields }
+    ensures value { by_reason result ≡ read_of text.now draft.now.said.volumes fields }
     ensures ranged { IfOk result (IsRanged (length text.now) draft.now.said.volumes (length draft.now.said.writers)) }
 {
     let Fields::Two(volume, block) = fields else {
-        return Err(Reason::BadCount);
+        return Err(Cause::no_form());
     };
     let volume = volume_field(text, draft, volume)?;
     let block = block_field(text, draft, volume, block)?;
@@ -68,10 +70,10 @@ fn read_of(text: &[u8], draft: &Draft, fields: Fields) -> Result<Op, Reason>
 
 /// `image set volume`, `image set volume block`.
 #[tactic(auto, unfolding(crate::specs::Ops::image_of))]
-fn image_of(text: &[u8], draft: &Draft, fields: Fields) -> Result<Op, Reason>
+fn image_of(text: &[u8], draft: &Draft, fields: Fields) -> Result<Op, Cause>
     requires parts { AreParts (length text.now) fields }
     requires draft { IsDraft text.now draft.now }
-    ensures value { result ≡ image_of text.now draft.now.said.volumes fields }
+    ensures value { by_reason result ≡ image_of text.now draft.now.said.volumes fields }
     ensures ranged { IfOk result (IsRanged (length text.now) draft.now.said.volumes (length draft.now.said.writers)) }
 {
     match fields {
@@ -86,15 +88,15 @@ fn image_of(text: &[u8], draft: &Draft, fields: Fields) -> Result<Op, Reason>
             let block = block_field(text, draft, volume, block)?;
             Ok(Op::ImageBlock { set, volume, block })
         }
-        _ => Err(Reason::BadCount),
+        _ => Err(Cause::no_form()),
     }
 }
 
 /// `query volume`.
-fn query_of(text: &[u8], draft: &Draft, fields: Fields) -> Result<Op, Reason>
+fn query_of(text: &[u8], draft: &Draft, fields: Fields) -> Result<Op, Cause>
     requires parts { AreParts (length text.now) fields }
     requires draft { IsDraft text.now draft.now }
-    ensures value { result ≡ query_of text.now draft.now.said.volumes fields }
+    ensures value { by_reason result ≡ query_of text.now draft.now.said.volumes fields }
     ensures ranged { IfOk result (IsRanged (length text.now) draft.now.said.volumes (length draft.now.said.writers)) }
 {
     let volume = volume_alone(text, draft, fields)?;
@@ -102,10 +104,10 @@ fn query_of(text: &[u8], draft: &Draft, fields: Fields) -> Result<Op, Reason>
 }
 
 /// `add volume`.
-fn add_of(text: &[u8], draft: &Draft, fields: Fields) -> Result<Op, Reason>
+fn add_of(text: &[u8], draft: &Draft, fields: Fields) -> Result<Op, Cause>
     requires parts { AreParts (length text.now) fields }
     requires draft { IsDraft text.now draft.now }
-    ensures value { result ≡ add_of text.now draft.now.said.volumes fields }
+    ensures value { by_reason result ≡ add_of text.now draft.now.said.volumes fields }
     ensures ranged { IfOk result (IsRanged (length text.now) draft.now.said.volumes (length draft.now.said.writers)) }
 {
     let volume = volume_alone(text, draft, fields)?;
@@ -113,10 +115,10 @@ fn add_of(text: &[u8], draft: &Draft, fields: Fields) -> Result<Op, Reason>
 }
 
 /// `properties set volume`.
-fn properties_of(text: &[u8], draft: &Draft, fields: Fields) -> Result<Op, Reason>
+fn properties_of(text: &[u8], draft: &Draft, fields: Fields) -> Result<Op, Cause>
     requires parts { AreParts (length text.now) fields }
     requires draft { IsDraft text.now draft.now }
-    ensures value { result ≡ properties_of text.now draft.now.said.volumes fields }
+    ensures value { by_reason result ≡ properties_of text.now draft.now.said.volumes fields }
     ensures ranged { IfOk result (IsRanged (length text.now) draft.now.said.volumes (length draft.now.said.writers)) }
 {
     let (set, volume) = set_and_volume(text, draft, fields)?;
@@ -124,10 +126,10 @@ fn properties_of(text: &[u8], draft: &Draft, fields: Fields) -> Result<Op, Reaso
 }
 
 /// `revert set volume`.
-fn revert_of(text: &[u8], draft: &Draft, fields: Fields) -> Result<Op, Reason>
+fn revert_of(text: &[u8], draft: &Draft, fields: Fields) -> Result<Op, Cause>
     requires parts { AreParts (length text.now) fields }
     requires draft { IsDraft text.now draft.now }
-    ensures value { result ≡ revert_of text.now draft.now.said.volumes fields }
+    ensures value { by_reason result ≡ revert_of text.now draft.now.said.volumes fields }
     ensures ranged { IfOk result (IsRanged (length text.now) draft.now.said.volumes (length draft.now.said.writers)) }
 {
     let (set, volume) = set_and_volume(text, draft, fields)?;
@@ -135,10 +137,10 @@ fn revert_of(text: &[u8], draft: &Draft, fields: Fields) -> Result<Op, Reason>
 }
 
 /// `disable writer`.
-fn disable_of(text: &[u8], draft: &Draft, fields: Fields) -> Result<Op, Reason>
+fn disable_of(text: &[u8], draft: &Draft, fields: Fields) -> Result<Op, Cause>
     requires parts { AreParts (length text.now) fields }
     requires draft { IsDraft text.now draft.now }
-    ensures value { result ≡ disable_of text.now draft.now.said.writers fields }
+    ensures value { by_reason result ≡ disable_of text.now draft.now.said.writers fields }
     ensures ranged { IfOk result (IsRanged (length text.now) draft.now.said.volumes (length draft.now.said.writers)) }
 {
     let writer = writer_alone(text, draft, fields)?;
@@ -147,10 +149,10 @@ fn disable_of(text: &[u8], draft: &Draft, fields: Fields) -> Result<Op, Reason>
 
 /// `delete set`, `delete set volume`.
 #[tactic(auto, unfolding(crate::specs::Ops::delete_of))]
-fn delete_of(text: &[u8], draft: &Draft, fields: Fields) -> Result<Op, Reason>
+fn delete_of(text: &[u8], draft: &Draft, fields: Fields) -> Result<Op, Cause>
     requires parts { AreParts (length text.now) fields }
     requires draft { IsDraft text.now draft.now }
-    ensures value { result ≡ delete_of text.now draft.now.said.volumes fields }
+    ensures value { by_reason result ≡ delete_of text.now draft.now.said.volumes fields }
     ensures ranged { IfOk result (IsRanged (length text.now) draft.now.said.volumes (length draft.now.said.writers)) }
 {
     match fields {
@@ -163,83 +165,83 @@ fn delete_of(text: &[u8], draft: &Draft, fields: Fields) -> Result<Op, Reason>
             let volume = volume_field(text, draft, volume)?;
             Ok(Op::DeleteImage { set, volume })
         }
-        _ => Err(Reason::BadCount),
+        _ => Err(Cause::no_form()),
     }
 }
 
 /// `tick n`.
 #[tactic(auto, unfolding(crate::specs::Ops::tick_of))]
-fn tick_of(text: &[u8], fields: Fields) -> Result<Op, Reason>
+fn tick_of(text: &[u8], fields: Fields) -> Result<Op, Cause>
     requires { AreParts (length text.now) fields }
-    ensures value { result ≡ tick_of text.now fields }
+    ensures value { by_reason result ≡ tick_of text.now fields }
     ensures ranged { (n writers : ℕ) (rows : List Row) → IfOk result (IsRanged n rows writers) }
 {
     let Fields::One(ticks) = fields else {
-        return Err(Reason::BadCount);
+        return Err(Cause::no_form());
     };
-    let ticks = number_field(text, 1, MOST_TICKS, ticks)?;
+    let ticks = number_field(text, Quantity::Ticks, 1, MOST_TICKS, ticks)?;
     Ok(Op::Tick { ticks })
 }
 
 /// `begin n`, `begin n all`.
 #[tactic(auto, unfolding(crate::specs::Ops::begin_of))]
-fn begin_of(text: &[u8], fields: Fields) -> Result<Op, Reason>
+fn begin_of(text: &[u8], fields: Fields) -> Result<Op, Cause>
     requires { AreParts (length text.now) fields }
-    ensures value { result ≡ begin_of text.now fields }
+    ensures value { by_reason result ≡ begin_of text.now fields }
     ensures ranged { (n writers : ℕ) (rows : List Row) → IfOk result (IsRanged n rows writers) }
 {
     match fields {
         Fields::One(context) => {
-            let context = number_field(text, 0, u32::MAX, context)?;
+            let context = number_field(text, Quantity::Context, 0, u32::MAX, context)?;
             Ok(Op::Begin {
                 context,
                 all: false,
             })
         }
         Fields::Two(context, all) => {
-            let context = number_field(text, 0, u32::MAX, context)?;
+            let context = number_field(text, Quantity::Context, 0, u32::MAX, context)?;
             if !is_word(text, all, b"all") {
-                return Err(Reason::UnknownWord);
+                return Err(Cause::no_word(all, "`all`"));
             }
             Ok(Op::Begin { context, all: true })
         }
-        _ => Err(Reason::BadCount),
+        _ => Err(Cause::no_form()),
     }
 }
 
 /// `component writer rest`.
 #[tactic(auto, unfolding(crate::specs::Ops::component_of))]
-fn component_of(text: &[u8], draft: &Draft, fields: Fields) -> Result<Op, Reason>
+fn component_of(text: &[u8], draft: &Draft, fields: Fields) -> Result<Op, Cause>
     requires parts { AreParts (length text.now) fields }
     requires draft { IsDraft text.now draft.now }
-    ensures value { result ≡ component_of text.now draft.now.said.writers fields }
+    ensures value { by_reason result ≡ component_of text.now draft.now.said.writers fields }
     ensures ranged { IfOk result (IsRanged (length text.now) draft.now.said.volumes (length draft.now.said.writers)) }
 {
     let Fields::Two(writer, full) = fields else {
-        return Err(Reason::BadCount);
+        return Err(Cause::no_form());
     };
     let writer = writer_field(text, draft, writer)?;
     Ok(Op::Component { writer, full })
 }
 
 /// A word alone.
-fn alone(op: Op, fields: Fields) -> Result<Op, Reason>
-    ensures value { result ≡ alone op fields }
+fn alone(op: Op, fields: Fields) -> Result<Op, Cause>
+    ensures value { by_reason result ≡ alone op fields }
     ensures same { IfOk result (λ o. o ≡ op) }
 {
     if let Fields::Zero = fields {
         Ok(op)
     } else {
-        Err(Reason::BadCount)
+        Err(Cause::no_form())
     }
 }
 
 /// What a line of a lane says, by its first word.
 #[tactic(auto, unfolding(crate::specs::Ops::op_of))]
-pub(crate) fn op_of(text: &[u8], draft: &Draft, word: Word, fields: Fields) -> Result<Op, Reason>
+pub(crate) fn op_of(text: &[u8], draft: &Draft, word: Word, fields: Fields) -> Result<Op, Cause>
     requires parts { AreParts (length text.now) fields }
     requires draft { IsDraft text.now draft.now }
-    ensures value { result ≡ op_of text.now draft.now.said.volumes draft.now.said.writers word fields }
+    ensures value { by_reason result ≡ op_of text.now draft.now.said.volumes draft.now.said.writers word fields }
     ensures ranged { IfOk result (IsRanged (length text.now) draft.now.said.volumes (length draft.now.said.writers)) }
 {
     match word {
@@ -266,6 +268,6 @@ pub(crate) fn op_of(text: &[u8], draft: &Draft, word: Word, fields: Fields) -> R
         Word::Abort => alone(Op::Abort, fields),
         Word::End => alone(Op::End, fields),
         Word::Scenario | Word::Area | Word::Volume | Word::Writer | Word::Answer | Word::Lane =>
-            Err(Reason::Misplaced),
+            Err(Cause::line(Reason::Misplaced, Expected::NoLane)),
     }
 }

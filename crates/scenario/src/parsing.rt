@@ -1,16 +1,20 @@
-ghost use Rattle.std.specs.Prelude.{◌≡◌, ◌<◌, ◌+◌, ◌∷◌, List, length, IfOk, IfErr, OnOk};
+ghost use Rattle.std.specs.Prelude.{◌≡◌, ◌<◌, ◌+◌, ◌∷◌, List, length, option_map, IfOk, IfErr, OnOk};
 ghost use Rattle.scenario.specs.declared.text_line.TextLine.{TextLine as Line};
 ghost use Rattle.scenario.specs.Fields.{IsPart};
 ghost use Rattle.scenario.specs.SoFar.{plan_in};
 ghost use Rattle.scenario.specs.Drafts.{IsDraft};
 ghost use Rattle.scenario.specs.Named.{HasNames};
-ghost use Rattle.scenario.specs.Grammar.{reading_of, read_from, IsScenario, IsRefusal, IsRefused};
+ghost use Rattle.scenario.specs.Grammar.{Reading, reading_of, read_from, first_bad, told_bad, IsScenario, IsRefusal, IsUnreadAt};
 
+use crate::cause::Cause;
 use crate::draft::Draft;
 use crate::entries::entry_of;
+use crate::expected::Expected;
 use crate::reason::Reason;
+use crate::refusal::Refusal;
 use crate::refused::Refused;
 use crate::scenario::Scenario;
+use crate::stopped::Stopped;
 use crate::text_line::{TextLine, line_at};
 use crate::unread::Unread;
 use std::alloc::Global;
@@ -23,7 +27,7 @@ fn take_in(
     draft: &mut Draft,
     number: u32,
     line: TextLine,
-) -> Result<(), Refused>
+) -> Result<(), Unread>
     requires short { length text.now < 4294967295 }
     requires part { IsPart (length text.now) line.span }
     requires draft { IsDraft text.now draft.old }
@@ -31,32 +35,26 @@ fn take_in(
         read_from text.now number draft.old.said (line ∷ rest)
         ≡ read_from text.now (number + 1) draft.new.said rest) }
     ensures kept { OnOk result (IsDraft text.now draft.new) }
-    ensures refused { IfErr result (λ refused. (rest : List Line) →
-        IsRefused (read_from text.now number draft.old.said (line ∷ rest)) refused) }
+    ensures refused { IfErr result (λ unread. (rest : List Line) →
+        IsUnreadAt number (read_from text.now number draft.old.said (line ∷ rest)) unread) }
 {
     let entry = match entry_of(alloc, text, draft, number, line) {
         Ok(entry) => entry,
-        Err(Unread::Bad(reason)) => {
-            return Err(Refused::Line {
-                line: number,
-                reason,
-            });
-        }
-        Err(Unread::OutOfMemory) => return Err(Refused::OutOfMemory),
+        Err(unread) => return Err(unread),
     };
     match draft.add(alloc, text, entry) {
         Ok(()) => Ok(()),
-        Err(_) => Err(Refused::OutOfMemory),
+        Err(_) => Err(Unread::OutOfMemory),
     }
 }
 
 /// What all lines say.
 #[tactic(auto, unfolding(crate::specs::Grammar::reading_of))]
-fn read(alloc: Global, text: &[u8]) -> Result<Draft, Refused>
+fn read(alloc: Global, text: &[u8]) -> Result<Draft, Stopped>
     requires { length text.now < 4294967295 }
     ensures read { IfOk result (λ draft. reading_of text.now ≡ IsScenario (plan_in text.now draft.said)) }
     ensures kept { IfOk result (IsDraft text.now) }
-    ensures refused { IfErr result (IsRefusal text.now) }
+    ensures refused { IfErr result (λ stopped. IsUnreadAt stopped.line (reading_of text.now) stopped.unread) }
 {
     let mut draft = Draft::new(alloc);
     let mut at = 0usize;
@@ -65,15 +63,23 @@ fn read(alloc: Global, text: &[u8]) -> Result<Draft, Refused>
         let line = line_at(text, at);
         match take_in(alloc, text, &mut draft, number, line) {
             Ok(()) => {}
-            Err(refused) => return Err(refused),
+            Err(unread) => {
+                return Err(Stopped {
+                    line: number,
+                    unread,
+                    draft,
+                });
+            }
         }
         at = line.span.end as usize + 1;
         number += 1;
     }
     if !draft.is_opened() {
-        return Err(Refused::Line {
+        let cause = Cause::line(Reason::Empty, Expected::Opening);
+        return Err(Stopped {
             line: number,
-            reason: Reason::Empty,
+            unread: Unread::Bad(cause),
+            draft,
         });
     }
     Ok(draft)
@@ -99,9 +105,40 @@ pub fn parse(alloc: Global, text: &[u8]) -> Result<Scenario, Refused>
     ensures read { IfOk result (λ scenario. reading_of text.now ≡ IsScenario scenario) }
     ensures refused { IfErr result (IsRefusal text.now) }
 {
-    let draft = read(alloc, text)?;
+    let draft = match read(alloc, text) {
+        Ok(draft) => draft,
+        Err(stopped) => return Err(Refused::at(stopped.line, stopped.unread)),
+    };
     match finish(alloc, text, draft) {
         Ok(scenario) => Ok(scenario),
         Err(_) => Err(Refused::OutOfMemory),
+    }
+}
+
+/// Why the line is refused at which the reading stopped, in full.
+fn refusal_at(alloc: Global, stopped: Stopped) -> Result<Option<Refusal>, OutOfMemory>
+    ensures { IfOk result (λ refusal. (reading : Reading) →
+        IsUnreadAt stopped.line reading stopped.unread → option_map told_bad refusal ≡ first_bad reading) }
+{
+    let Unread::Bad(cause) = stopped.unread else {
+        return Err(OutOfMemory);
+    };
+    let declared = stopped.draft.declared(alloc, cause.expected.kind())?;
+    Ok(Some(Refusal {
+        line: stopped.line,
+        cause,
+        declared,
+    }))
+}
+
+/// Why `parse` refuses a text, in full; none exactly where the text is a scenario. Line and reason are those of `parse`. Memory is taken
+/// as by `parse`, and for the list of the names.
+pub fn refusal_of(alloc: Global, text: &[u8]) -> Result<Option<Refusal>, OutOfMemory>
+    requires { length text.now < 4294967295 }
+    ensures { IfOk result (λ refusal. option_map told_bad refusal ≡ first_bad (reading_of text.now)) }
+{
+    match read(alloc, text) {
+        Ok(_) => Ok(None),
+        Err(stopped) => refusal_at(alloc, stopped),
     }
 }

@@ -1,4 +1,7 @@
+ghost use Rattle.scenario.specs.Grammar.{Reading, IsRefused, IsUnreadAt};
+
 use crate::reason::Reason;
+use crate::unread::Unread;
 
 /// Why a text is no scenario.
 #[derive(Clone, Copy, Debug, PartialEq, Eq)]
@@ -7,4 +10,19 @@ pub enum Refused {
     /// is no `scenario` line, this is the line after the last.
     Line { line: u32, reason: Reason },
     OutOfMemory,
+}
+
+impl Refused {
+    /// Why a text is refused whose line of this number was not taken.
+    pub(crate) fn at(line: u32, unread: Unread) -> Refused
+        ensures { (reading : Reading) → IsUnreadAt line reading unread → IsRefused reading result }
+    {
+        match unread {
+            Unread::Bad(cause) => Refused::Line {
+                line,
+                reason: cause.reason,
+            },
+            Unread::OutOfMemory => Refused::OutOfMemory,
+        }
+    }
 }

@@ -1,9 +1,9 @@
-use crate::reason::Reason;
+use crate::cause::Cause;
 
 /// Why a line is not taken.
 #[derive(Clone, Copy)]
 pub(crate) enum Unread {
     /// The first check that it does not pass.
-    Bad(Reason),
+    Bad(Cause),
     OutOfMemory,
 }

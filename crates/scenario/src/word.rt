@@ -3,7 +3,7 @@ ghost use Rattle.scenario.specs.Words.{name_of, word_of, takes_rest};
 
 /// The first word of a line.
 #[derive(Clone, Copy)]
-pub(crate) enum Word {
+pub enum Word {
     Scenario,
     Area,
     Volume,
@@ -35,7 +35,8 @@ pub(crate) enum Word {
 }
 
 impl Word {
-    const ALL: [Word; 28] = [
+    /// All words.
+    pub const ALL: [Word; 28] = [
         Word::Scenario,
         Word::Area,
         Word::Volume,
@@ -66,7 +67,7 @@ impl Word {
         Word::End,
     ];
 
-    fn name(self) -> &'static str
+    pub fn name(self) -> &'static str
         ensures { result.now ≡ name_of self }
     {
         match self {
@@ -101,8 +102,42 @@ impl Word {
         }
     }
 
+    /// The forms of the lines that begin with it. Names of fields are in upper case, and stand as they are everywhere else.
+    pub fn forms(self) -> &'static str {
+        match self {
+            Word::Scenario => "`scenario 1`",
+            Word::Area => "`area NAME SLOTS`",
+            Word::Volume => "`volume NAME BLOCKS SLOTS` or `volume NAME BLOCKS in AREA`",
+            Word::Writer => "`writer NAME DOCUMENT`",
+            Word::Answer => "`answer WRITER ORDER NTH lost` or `answer WRITER ORDER NTH veto CODE`",
+            Word::Lane => "`lane NAME` or `lane NAME as WRITER`",
+            Word::Write => "`write VOLUME BLOCK fill BYTE` or `write VOLUME BLOCK stamp NUMBER`",
+            Word::Read => "`read VOLUME BLOCK`",
+            Word::Image => "`image SET VOLUME` or `image SET VOLUME BLOCK`",
+            Word::Query => "`query VOLUME`",
+            Word::Properties => "`properties SET VOLUME`",
+            Word::Revert => "`revert SET VOLUME`",
+            Word::Delete => "`delete SET` or `delete SET VOLUME`",
+            Word::Tick => "`tick TICKS`",
+            Word::Begin => "`begin CONTEXT` or `begin CONTEXT all`",
+            Word::Disable => "`disable WRITER`",
+            Word::Component => "`component WRITER FULL-NAME`",
+            Word::Add => "`add VOLUME`",
+            Word::Gather => "`gather`",
+            Word::Document => "`document`",
+            Word::Start => "`start`",
+            Word::Prepare => "`prepare`",
+            Word::Snapshot => "`snapshot`",
+            Word::Await => "`await`",
+            Word::Status => "`status`",
+            Word::Complete => "`complete`",
+            Word::Abort => "`abort`",
+            Word::End => "`end`",
+        }
+    }
+
     /// The word that these bytes are, if a line may begin with them.
-    pub(crate) fn of(bytes: &[u8]) -> Option<Word>
+    pub fn of(bytes: &[u8]) -> Option<Word>
         ensures { result ≡ word_of bytes.now }
     {
         Word::ALL
@@ -112,7 +147,7 @@ impl Word {
     }
 
     /// Whether the last field is the rest of the line.
-    pub(crate) fn takes_rest(self) -> bool
+    pub fn takes_rest(self) -> bool
         ensures { result ≡ takes_rest self }
     {
         match self {

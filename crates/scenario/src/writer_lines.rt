@@ -4,15 +4,19 @@ ghost use Rattle.scenario.specs.declared.entry.Entry.TheVariants as entry;
 ghost use Rattle.scenario.specs.Fields.{bytes_of, IsPart, AreParts};
 ghost use Rattle.scenario.specs.Names.{place_of};
 ghost use Rattle.scenario.specs.SoFar.{answer_count};
-ghost use Rattle.scenario.specs.Drafts.{AreCounts, IsDraft, IsEntry, IsShortPart, saying_in, told, IsUnread};
+ghost use Rattle.scenario.specs.Drafts.{AreCounts, by_reason, IsDraft, IsEntry, IsShortPart, saying_in, told, IsUnread};
 ghost use Rattle.scenario.specs.Declarations.{order_field, code_field, is_answered, nth_field, asked_of, row_for, answer_if, lost_if, veto_if, answer_of, new_writer, writer_of};
 
 use crate::asked::Asked;
+use crate::cause::Cause;
 use crate::declarations::name_field;
 use crate::draft::Draft;
 use crate::entry::Entry;
+use crate::expected::Expected;
 use crate::field_values::{is_word, number_field, writer_field};
 use crate::fields::{Fields, bytes_of};
+use crate::name_kind::NameKind;
+use crate::quantity::Quantity;
 use crate::reason::Reason;
 use crate::span::Span;
 use crate::unread::Unread;
@@ -29,15 +33,15 @@ const MOST_ANSWERS: usize = 10_000;
 
 /// The name of a writer that is new.
 #[tactic(auto, unfolding(crate::specs::Names::writer_named))]
-fn new_writer(text: &[u8], draft: &Draft, name: Span) -> Result<Span, Reason>
+fn new_writer(text: &[u8], draft: &Draft, name: Span) -> Result<Span, Cause>
     requires part { IsPart (length text.now) name }
     requires draft { IsDraft text.now draft.now }
-    ensures value { result ≡ new_writer text.now draft.now.said name }
+    ensures value { by_reason result ≡ new_writer text.now draft.now.said name }
     ensures short { IfOk result (IsShortPart (length text.now)) }
     ensures new { IfOk result (λ n. place_of (bytes_of text.now n) draft.now.names.writers ≡ None) }
 {
-    let taken = draft.writer_named(bytes_of(text, name)).is_some();
-    name_field(text, taken, name)
+    let taken = draft.writer_named(bytes_of(text, name));
+    name_field(text, NameKind::Writer, taken, name)
 }
 
 /// `writer name rest`, the rest a metadata document.
@@ -56,37 +60,49 @@ pub(crate) fn writer_of(
     ensures refused { IfErr result (IsUnread (writer_of text.now draft.now.said fields)) }
 {
     let Fields::Two(name, document) = fields else {
-        return Err(Unread::Bad(Reason::BadCount));
+        return Err(Unread::Bad(Cause::no_form()));
     };
     let name = match new_writer(text, draft, name) {
         Ok(name) => name,
-        Err(reason) => return Err(Unread::Bad(reason)),
+        Err(cause) => return Err(Unread::Bad(cause)),
     };
     let metadata = match Metadata::from_json(alloc, bytes_of(text, document)) {
         Ok(metadata) => metadata,
         Err(MetaFault::OutOfMemory) => return Err(Unread::OutOfMemory),
-        Err(_) => return Err(Unread::Bad(Reason::BadDocument)),
+        Err(_) => {
+            return Err(Unread::Bad(Cause::field(
+                Reason::BadDocument,
+                document,
+                Expected::Document,
+            )));
+        }
     };
     if draft.writers() >= MOST_WRITERS {
-        return Err(Unread::Bad(Reason::TooMany));
+        return Err(Unread::Bad(Cause::too_many("writers", MOST_WRITERS as u64)));
     }
     Ok(Entry::Writer(name, metadata))
 }
 
 /// An order by its name.
-fn order_field(text: &[u8], span: Span) -> Result<Order, Reason>
+fn order_field(text: &[u8], span: Span) -> Result<Order, Cause>
     requires { IsPart (length text.now) span }
-    ensures { result ≡ order_field text.now span }
+    ensures { by_reason result ≡ order_field text.now span }
 {
-    Order::of_name(bytes_of(text, span)).ok_or(Reason::UnknownWord)
+    match Order::of_name(bytes_of(text, span)) {
+        Some(order) => Ok(order),
+        None => Err(Cause::field(Reason::UnknownWord, span, Expected::Order)),
+    }
 }
 
 /// The code of a veto by its name.
-fn code_field(text: &[u8], span: Span) -> Result<WriterError, Reason>
+fn code_field(text: &[u8], span: Span) -> Result<WriterError, Cause>
     requires { IsPart (length text.now) span }
-    ensures { result ≡ code_field text.now span }
+    ensures { by_reason result ≡ code_field text.now span }
 {
-    WriterError::of_name(bytes_of(text, span)).ok_or(Reason::UnknownWord)
+    match WriterError::of_name(bytes_of(text, span)) {
+        Some(error) => Ok(error),
+        None => Err(Cause::field(Reason::UnknownWord, span, Expected::Code)),
+    }
 }
 
 /// Which order of its kind a line speaks of, where no line before it does.
@@ -96,17 +112,17 @@ fn nth_field(
     writer: u32,
     order: Order,
     span: Span,
-) -> Result<u32, Reason>
+) -> Result<u32, Cause>
     requires part { IsPart (length text.now) span }
     requires writer { writer < length draft.now.said.writers }
-    ensures value { result ≡ nth_field text.now draft.now.said.writers writer order span }
+    ensures value { by_reason result ≡ nth_field text.now draft.now.said.writers writer order span }
     ensures least { IfOk result (λ n. 0 < n) }
     ensures most { IfOk result (λ n. n ≤ 2000) }
     ensures new { IfOk result (λ n. is_answered draft.now.said.writers writer order n ≡ false) }
 {
-    let nth = number_field(text, 1, MOST_NTH, span)?;
+    let nth = number_field(text, Quantity::Nth, 1, MOST_NTH, span)?;
     if draft.is_answered(writer, order, nth) {
-        return Err(Reason::DoubleName);
+        return Err(Cause::field(Reason::DoubleName, span, Expected::NewAnswer));
     }
     Ok(nth)
 }
@@ -119,12 +135,12 @@ fn asked_of(
     writer: Span,
     order: Span,
     nth: Span,
-) -> Result<Asked, Reason>
+) -> Result<Asked, Cause>
     requires writer { IsPart (length text.now) writer }
     requires order { IsPart (length text.now) order }
     requires nth { IsPart (length text.now) nth }
     requires draft { IsDraft text.now draft.now }
-    ensures value { result ≡ asked_of text.now draft.now.said.writers writer order nth }
+    ensures value { by_reason result ≡ asked_of text.now draft.now.said.writers writer order nth }
     ensures known { IfOk result (λ a. a.writer < length draft.now.said.writers) }
     ensures least { IfOk result (λ a. 0 < a.nth) }
     ensures most { IfOk result (λ a. a.nth ≤ 2000) }
@@ -137,14 +153,14 @@ fn asked_of(
 }
 
 /// One row more.
-fn answer_if(draft: &Draft, asked: Asked, answer: Option<Answer>) -> Result<Entry, Reason>
+fn answer_if(draft: &Draft, asked: Asked, answer: Option<Answer>) -> Result<Entry, Cause>
     requires { AreCounts draft.now.said draft.now.counts }
     ensures value { told result ≡ answer_if draft.now.said asked answer }
     ensures same { IfOk result (λ e. e ≡ entry.Answer asked.writer (row_for asked answer)) }
     ensures few { IfOk result (λ e. answer_count draft.now.said.writers < 10000) }
 {
     if draft.counts().answers >= MOST_ANSWERS {
-        return Err(Reason::TooMany);
+        return Err(Cause::too_many("`answer` lines", MOST_ANSWERS as u64));
     }
     Ok(Entry::Answer(
         asked.writer,
@@ -157,7 +173,7 @@ fn answer_if(draft: &Draft, asked: Asked, answer: Option<Answer>) -> Result<Entr
 }
 
 /// A lost answer.
-fn lost_if(text: &[u8], draft: &Draft, kind: Span, asked: Asked) -> Result<Entry, Reason>
+fn lost_if(text: &[u8], draft: &Draft, kind: Span, asked: Asked) -> Result<Entry, Cause>
     requires part { IsPart (length text.now) kind }
     requires draft { IsDraft text.now draft.now }
     requires known { asked.writer < length draft.now.said.writers }
@@ -169,19 +185,13 @@ fn lost_if(text: &[u8], draft: &Draft, kind: Span, asked: Asked) -> Result<Entry
     ensures kept { IfOk result (IsEntry text.now draft.now) }
 {
     if !is_word(text, kind, b"lost") {
-        return Err(Reason::UnknownWord);
+        return Err(Cause::no_word(kind, "`lost`"));
     }
     answer_if(draft, asked, None)
 }
 
 /// A veto.
-fn veto_if(
-    text: &[u8],
-    draft: &Draft,
-    kind: Span,
-    code: Span,
-    asked: Asked,
-) -> Result<Entry, Reason>
+fn veto_if(text: &[u8], draft: &Draft, kind: Span, code: Span, asked: Asked) -> Result<Entry, Cause>
     requires kind { IsPart (length text.now) kind }
     requires code { IsPart (length text.now) code }
     requires draft { IsDraft text.now draft.now }
@@ -194,7 +204,7 @@ fn veto_if(
     ensures kept { IfOk result (IsEntry text.now draft.now) }
 {
     if !is_word(text, kind, b"veto") {
-        return Err(Reason::UnknownWord);
+        return Err(Cause::no_word(kind, "`veto`"));
     }
     let error = code_field(text, code)?;
     answer_if(draft, asked, Some(Answer::Veto(error)))
@@ -202,7 +212,7 @@ fn veto_if(
 
 /// `answer writer order nth lost`, `answer writer order nth veto code`.
 #[tactic(auto, unfolding(crate::specs::Declarations::answer_of))]
-pub(crate) fn answer_of(text: &[u8], draft: &Draft, fields: Fields) -> Result<Entry, Reason>
+pub(crate) fn answer_of(text: &[u8], draft: &Draft, fields: Fields) -> Result<Entry, Cause>
     requires parts { AreParts (length text.now) fields }
     requires draft { IsDraft text.now draft.now }
     requires no_lane { draft.now.said.lanes ≡ [] }
@@ -218,6 +228,6 @@ pub(crate) fn answer_of(text: &[u8], draft: &Draft, fields: Fields) -> Result<En
             let asked = asked_of(text, draft, writer, order, nth)?;
             veto_if(text, draft, kind, code, asked)
         }
-        _ => Err(Reason::BadCount),
+        _ => Err(Cause::no_form()),
     }
 }

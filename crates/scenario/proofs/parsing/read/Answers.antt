@@ -19,4 +19,4 @@ pub returns-then-not-is_opened-clause-refused : goal.returns-then-not-is_opened-
 returns-then-not-is_opened-clause-refused c =
     c.lines.invariant.0
     ∙ ap (λ (ls : List TextLine). read_from c.args.text.now c.lines.number c.lines.draft.said ls) (no_lines c.args.text.now c.lines.at c.lines-test.false)
-    ∙ rw (sym c.is_opened.ensures, c.if-not-is_opened.true) refl
+    ∙ rw (sym c.is_opened.ensures, c.if-not-is_opened.true, c.line-cause.ensures) refl
