@@ -1,6 +1,6 @@
 -- Digests of volumes and of images: what is told of them, and that nothing but counts of devices changes.
 use Rattle.std.proofs.Common.{◌≡◌, ℕ, ◌<◌, ◌==◌, List, [], ◌∷◌, length, refl, ap, sym, ◌∙◌, subst, arith, Bool, true, false, Option, Some, None, map, slice_get}
-use Rattle.std.specs.Prelude.{is_some, filter, if◌then◌else◌, Err, IfSome, All}
+use Rattle.std.specs.Prelude.{is_some, filter, if◌then◌else◌, Result, Ok, Err, IfOk, IfSome, All}
 use Rattle.std.specs.List.{concat}
 use Rattle.std.proofs.lemmas.Bool.Decides.{nat_tests}
 use Rattle.std.proofs.lemmas.List.Elements.{All-weaker}
@@ -16,21 +16,19 @@ use Rattle.vss_model.specs.Acts.{Act, state}
 use Rattle.vss_model.specs.Told.{IsDigestIf}
 use Rattle.provider.specs.Groups.{AreGroups, history_at}
 use Rattle.provider.specs.Devices.{devices_of, counts_of, AreKept}
-use Rattle.provider.specs.Calls.{IsDigestNow, IsDigestShown, HasImage, HasImageCause}
+use Rattle.provider.specs.Calls.{IsDigestNow, IsDigestShown, HasImage}
 use Rattle.provider.specs.Calls.{IsQuiet as IsGroupsQuiet}
 use Rattle.provider.specs.Lending.{IsDigestOfRow, IsDigestedAt}
 use Rattle.provider.specs.Preparing.{ProviderValue}
-use Rattle.provider.specs.declared.image_fault.ImageFault.{ImageFault}
-use Rattle.provider.specs.declared.image_fault.ImageFault.TheVariants.{NoSuchImage, Device}
+use Rattle.provider.specs.declared.device_fault.DeviceFault.{DeviceFault}
 use Rattle.sessions.specs.Keeps.{SessionsValue}
-use Rattle.vss_world.specs.Devices.{tells_of, RoseFor}
+use Rattle.vss_world.specs.Devices.{tells_of}
 use Rattle.vss_world.specs.Digests.{IsDigestOf, IsDigestedIf}
 use Rattle.vss_world.specs.Stands.{WorldValue, IsOf, Stands, IfStands, IsStanding}
-use Rattle.vss_world.specs.Quiet.{IsQuiet}
+use Rattle.vss_world.specs.Quiet.{IsQuiet, AreDevicesAlone}
 use Rattle.vss_world.proofs.Moved.{world_of, stands_at, parts_of, of_kept, tells_kept}
 use Rattle.vss_world.proofs.Simple.{same_parts}
 use Rattle.vss_world.proofs.Seen.{digest_slot}
-use Rattle.vss_world.proofs.Rising.{rose_for}
 
 -- ## nothing but counts changes
 
@@ -45,14 +43,18 @@ stands_still told size count lending s p q x g l e of kept stand acts stands = r
   early = stands.early;
 }
 
+pub devices_alone : {D : Type 0} (p q : ProviderValue D) (x : SessionsValue) (g : Flags) (l : List ℕ) (e : List Evicted) → q ≡ record p { groups = q.groups } → AreDevicesAlone (world_of p x g l e) (world_of q x g l e)
+devices_alone {D = D} p q x g l e same = ap (λ (r : ProviderValue D). record { devices = devices_of q.groups; listed = l; evicted = e; provider = r; sessions = x; gate = g }) same
+
 pub quiet_is : {D : Type 0} (told : D → Option (List (List ℕ))) (size count : D → ℕ) (lending : D → Bool) (s : Plan) (v : ℕ) (p q : ProviderValue D) (x : SessionsValue) (g : Flags) (l : List ℕ) (e : List Evicted)
-    → IsOf (world_of p x g l e) s → IsGroupsQuiet told size count lending s p.groups q.groups v → IsQuiet told count (world_of p x g l e) (world_of q x g l e) s
-quiet_is told size count lending s v p q x g l e of quiet = record {
+    → IsOf (world_of p x g l e) s → IsGroupsQuiet told size count lending s p.groups q.groups v → q ≡ record p { groups = q.groups } → IsQuiet told count (world_of p x g l e) (world_of q x g l e) s
+quiet_is told size count lending s v p q x g l e of quiet same = record {
   stands_for = stands_still told size count lending s p q x g l e of quiet.call.kept quiet.stands;
   is_of = of_kept told size count lending s p q x x g g l l e e of quiet.call.kept of.writers;
   blocks = quiet.blocks;
   tells = tells_kept told size count lending s p.groups q.groups of.groups quiet.call.kept;
   later = quiet.call.kept.later;
+  rest = devices_alone p q x g l e same;
 }
 
 -- ## a volume
@@ -72,6 +74,13 @@ pub now_told_of : {D : Type 0} (told : D → Option (List (List ℕ))) (s : Plan
 now_told_of {D = D} told s v digest p x g l e w is of within now wide =
     subst (λ (z : WorldValue D). IfStands told z s (λ st. IsDigestIf (slice_get (tells_of told s z.devices) v) (concat (contents (blocks_of s v) (history_of st v).writes (length (history_of st v).writes))) digest)) is
     (now_told told s v digest p x g l e (subst (λ (z : WorldValue D). IsOf z s) (sym is) of) within now wide)
+
+-- whatever the call answers
+pub now_told_if : {D : Type 0} (told : D → Option (List (List ℕ))) (s : Plan) (v : ℕ) (result : Result (List ℕ) DeviceFault) (p : ProviderValue D) (x : SessionsValue) (g : Flags) (l : List ℕ) (e : List Evicted) (w : WorldValue D) → world_of p x g l e ≡ w
+    → IsOf w s → v < length s.volumes → IfOk result (IsDigestNow told s p.groups v) → IfOk result (λ (digest : List ℕ). (length digest ≡ 32) × IsBytes digest)
+    → IfOk result (λ digest. IfStands told w s (λ st. IsDigestIf (slice_get (tells_of told s w.devices) v) (concat (contents (blocks_of s v) (history_of st v).writes (length (history_of st v).writes))) digest))
+now_told_if told s v (Ok digest) p x g l e w is of within now wide = now_told_of told s v digest p x g l e w is of within now wide
+now_told_if told s v (Err fault) p x g l e w is of within now wide = tt
 
 -- ## an image
 
@@ -153,16 +162,9 @@ stands_image told s set v p x g l e standing is none =
     let here : is_some (point_in set (history_of st v).images) ≡ true = ap is_some (point_stands st set v k.0 k.1) in
     never (sym here ∙ none st.volumes standing.stands.at.groups)
 
-pub image_rose : {D : Type 0} (told : D → Option (List (List ℕ))) (count : D → ℕ) (s : Plan) (set v : ℕ) (fault : ImageFault) (p q : ProviderValue D) → (HasImage told s p.groups v set false → ⊥)
-    → HasImageCause told count s v set (Err fault) p.groups q.groups → RoseFor s (Some v) (counts_of count p.groups) (counts_of count q.groups)
-image_rose told count s set v NoSuchImage p q stands cause = absurd (stands cause.0)
-image_rose told count s set v (Device fault) p q stands cause = rose_for count s v fault p.groups q.groups cause.1
-
-pub image_rose_of : {D : Type 0} (told : D → Option (List (List ℕ))) (count : D → ℕ) (s : Plan) (set v : ℕ) (fault : ImageFault) (p q : ProviderValue D) (x : SessionsValue) (g : Flags) (l : List ℕ) (e : List Evicted) (w : WorldValue D) → world_of p x g l e ≡ w
-    → IsStanding told w s → IfStands told w s (λ st. is_some (point_in set (kept st (history_of st v))) ≡ true)
-    → HasImageCause told count s v set (Err fault) p.groups q.groups → RoseFor s (Some v) (map count w.devices) (counts_of count q.groups)
-image_rose_of {D = D} told count s set v fault p q x g l e w is standing kept_so cause =
-    subst (λ (z : WorldValue D). RoseFor s (Some v) (map count z.devices) (counts_of count q.groups)) is
-    (image_rose told count s set v fault p q
-    (stands_image told s set v p x g l e (subst (λ (z : WorldValue D). IsStanding told z s) (sym is) standing)
-    (subst (λ (z : WorldValue D). IfStands told z s (λ st. is_some (point_in set (kept st (history_of st v))) ≡ true)) (sym is) kept_so)) cause)
+-- so a call on one that is kept finds it
+pub stands_image_of : {D : Type 0} (told : D → Option (List (List ℕ))) (s : Plan) (set v : ℕ) (p : ProviderValue D) (x : SessionsValue) (g : Flags) (l : List ℕ) (e : List Evicted) (w : WorldValue D) → world_of p x g l e ≡ w → IsStanding told w s
+    → IfStands told w s (λ st. is_some (point_in set (kept st (history_of st v))) ≡ true) → HasImage told s p.groups v set false → ⊥
+stands_image_of {D = D} told s set v p x g l e w is standing kept_so =
+    stands_image told s set v p x g l e (subst (λ (z : WorldValue D). IsStanding told z s) (sym is) standing)
+    (subst (λ (z : WorldValue D). IfStands told z s (λ st. is_some (point_in set (kept st (history_of st v))) ≡ true)) (sym is) kept_so)

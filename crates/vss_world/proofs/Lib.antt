@@ -30,3 +30,4 @@ pub mod Registering
 pub mod Going
 pub mod Holders
 pub mod Listing
+pub mod Listed

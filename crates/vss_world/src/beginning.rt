@@ -1,6 +1,6 @@
 //! What a core begins with beside its groups.
 
-ghost use Rattle.std.specs.Prelude.{◌<◌, ◌+◌, length, IfOk, OnOk};
+ghost use Rattle.std.specs.Prelude.{◌≡◌, ◌<◌, ◌+◌, [], length, IfOk, OnOk};
 ghost use Rattle.scenario.specs.Bounds.{IsPlan};
 ghost use Rattle.scenario.specs.Named.{HasNames};
 ghost use Rattle.vss_world.specs.Beginning.{AreBegun, AreFirst, HasRegistered};
@@ -28,7 +28,8 @@ pub(crate) struct Rest {
 impl Rest {
     /// As they are before any act.
     pub(crate) fn new(alloc: Global, scenario: &Scenario) -> Result<Rest, OutOfMemory>
-        ensures { IfOk result (λ rest. AreBegun scenario.now rest.sessions rest.gate) }
+        ensures begun { IfOk result (λ rest. AreBegun scenario.now rest.sessions rest.gate) }
+        ensures empty { IfOk result (λ rest. (rest.listed ≡ []) × (rest.evicted ≡ [])) }
     {
         let sessions = first_sessions(alloc, scenario)?;
         let gate = HoldGate::new(alloc, scenario.volumes(), scenario.writers())?;
