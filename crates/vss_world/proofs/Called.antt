@@ -100,14 +100,14 @@ same_clock a b e = omega arith
 -- a session line that is made
 pub call_moves : {D : Type 0} (blocks_told : D → Option (List (List ℕ))) (size count : D → ℕ) (lending : D → Bool) (s : Plan) (lane : ℕ) (op : Op) (m : SessionMove) (images : ℕ) (p q : ProviderValue D) (x y : SessionsValue) (g h : Flags) (l : List ℕ) (e f : List Evicted)
     → IsOf (world_of p x g l e) s → IsStanding blocks_told (world_of p x g l e) s → is_some (call_of op) ≡ true → IsOp s op → IfStandFor blocks_told s p.groups (AreImagesFor op images) → f ≡ []
-    → IsMove (IsAtWith images op x s) s y (Line lane op) m → IsDroppedFor blocks_told size count lending m.change p q → IsOpened y g h → Leaves x y → y.clock ≡ x.clock
+    → IsMove (IsAtWith images op x s) s y (Line lane op) m → IsDroppedFor blocks_told size count lending m p q → IsOpened y g h → Leaves x y → y.clock ≡ x.clock
     → IsMoved blocks_told count (world_of p x g l e) (world_of q y h l f) s (Line lane op) m.outcome
 call_moves blocks_told size count lending s lane op m images p q x y g h l e f of standing call is_op are none move drops opened leaves clock =
     let at = call_at blocks_told s op images p x g l e of are in
     let mark = mark_of m.outcome.told in
     let to : (acts : List Act) → Stands blocks_told (world_of p x g l e) s acts → after s (state s acts) (told_act (Line lane op) m.outcome.told) ≡ (line s lane op mark (state s acts)).1
     = λ acts stands. after_line s (state s acts) lane op mark (move.is_enabled (state s acts) (at acts stands)) in
-    session_moves blocks_told size count lending s (Line lane op) m (IsAtWith images op x s) p q x y g h l e f of none move drops opened leaves (same_clock y.clock x.clock clock)
+    session_moves blocks_told size count lending s (Line lane op) m (IsAtWith images op x s) p q x y g h l e f of none move (λ st. refl) drops opened leaves (same_clock y.clock x.clock clock)
     (is_clean s (state s standing.acts) op mark call (move.is_allowed (state s standing.acts) (at standing.acts standing.stands)))
     at
     (λ acts stands. subst (λ (z : State). HeldAs (state s acts).course.agenda z.course.agenda) (sym (to acts stands)) (line_held s lane op mark (state s acts) call))

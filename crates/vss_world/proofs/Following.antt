@@ -20,16 +20,15 @@ use Rattle.vss_model.proofs.Waiting.{working_or_asking}
 use Rattle.provider.specs.Groups.{AreGroups}
 use Rattle.provider.specs.Devices.{devices_of, counts_of, AreKept}
 use Rattle.provider.specs.Preparing.{ProviderValue}
-use Rattle.provider.proofs.Kept.{kept_same}
+use Rattle.provider.proofs.Kept.{kept_same, kept_trans}
 use Rattle.sessions.specs.Keeps.{SessionsValue, Keeps, IsAt, IsStanding as IsSessionsStanding, IsStandingIn, IsOf as IsSessionsOf, Leaves}
-use Rattle.sessions.specs.Moves.{IsMove, IsWait, images_changed}
-use Rattle.sessions.specs.declared.image_change.ImageChange.{ImageChange}
-use Rattle.sessions.specs.declared.image_change.ImageChange.TheVariants.{NoChange, Cut, Drop}
+use Rattle.sessions.specs.Concluded.{failed_set, without_images}
+use Rattle.sessions.specs.Moves.{IsMove, IsWait, event_volumes, images_after}
 use Rattle.sessions.specs.declared.session_move.SessionMove.{SessionMove}
 use Rattle.vss_world.specs.Devices.{tells_of}
 use Rattle.vss_world.specs.Stands.{IsOf, IsGateOf, IsInPlan, Stands, IsStanding}
 use Rattle.vss_world.specs.Moves.{IsMoved, IsBlocked}
-use Rattle.vss_world.specs.Settling.{IsDroppedFor, IsOpened}
+use Rattle.vss_world.specs.Settling.{IsDroppedFor, IsOpened, IsWithout}
 use Rattle.vss_world.proofs.Moved.{world_of, in_order, moved, clean_devices, goes_on, leaves_of}
 use Rattle.vss_world.proofs.Failing.{gate_open}
 use Rattle.vss_world.proofs.Held.{HeldAs}
@@ -140,33 +139,42 @@ gate_next s x g h acts act long flags keeps opened =
 
 -- ## the images
 
-dropped_kept : {D : Type 0} (blocks_told : D → Option (List (List ℕ))) (size count : D → ℕ) (lending : D → Bool) (p q : ProviderValue D) (c : ImageChange) → IsDroppedFor blocks_told size count lending c p q → AreKept blocks_told size count lending p.groups q.groups
-dropped_kept blocks_told size count lending p q NoChange h = subst (λ (z : ProviderValue _). AreKept blocks_told size count lending p.groups z.groups) (sym h) (kept_same blocks_told size count lending p.groups)
-dropped_kept blocks_told size count lending p q (Cut n) h = absurd h
-dropped_kept blocks_told size count lending p q (Drop n) h = h.1.kept
+-- the images of a set went, where there is one
+module _ {D : Type 0} (blocks_told : D → Option (List (List ℕ))) (size count : D → ℕ) (lending : D → Bool) where
+  without_kept : (n : Option ℕ) (p q : ProviderValue D) → IsWithout blocks_told size count lending n p q → AreKept blocks_told size count lending p.groups q.groups
+  without_kept None p q h = subst (λ (z : ProviderValue _). AreKept blocks_told size count lending p.groups z.groups) (sym h) (kept_same blocks_told size count lending p.groups)
+  without_kept (Some n) p q h = h.1.kept
 
-dropped_counts : {D : Type 0} (blocks_told : D → Option (List (List ℕ))) (size count : D → ℕ) (lending : D → Bool) (p q : ProviderValue D) (c : ImageChange) → IsDroppedFor blocks_told size count lending c p q → counts_of count q.groups ≡ counts_of count p.groups
-dropped_counts blocks_told size count lending p q NoChange h = ap (λ (z : ProviderValue _). counts_of count z.groups) h
-dropped_counts blocks_told size count lending p q (Cut n) h = absurd h
-dropped_counts blocks_told size count lending p q (Drop n) h = ap (map count) h.1.devices
+  without_counts : (n : Option ℕ) (p q : ProviderValue D) → IsWithout blocks_told size count lending n p q → counts_of count q.groups ≡ counts_of count p.groups
+  without_counts None p q h = ap (λ (z : ProviderValue _). counts_of count z.groups) h
+  without_counts (Some n) p q h = ap (map count) h.1.devices
 
-dropped_groups : {D : Type 0} (blocks_told : D → Option (List (List ℕ))) (size count : D → ℕ) (lending : D → Bool) (s : Plan) (st : State) (p q : ProviderValue D) (c : ImageChange) → IsDroppedFor blocks_told size count lending c p q → AreGroups blocks_told s p.groups st.volumes
-    → AreGroups blocks_told s q.groups (images_changed c st)
-dropped_groups blocks_told size count lending s st p q NoChange h groups = subst (λ (z : ProviderValue _). AreGroups blocks_told s z.groups st.volumes) (sym h) groups
-dropped_groups blocks_told size count lending s st p q (Cut n) h groups = absurd h
-dropped_groups blocks_told size count lending s st p q (Drop n) h groups = h.1.stands s st.volumes groups
+  without_groups : (s : Plan) (hs : List History) (n : Option ℕ) (p q : ProviderValue D) → IsWithout blocks_told size count lending n p q → AreGroups blocks_told s p.groups hs → AreGroups blocks_told s q.groups (without_images n hs)
+  without_groups s hs None p q h groups = subst (λ (z : ProviderValue _). AreGroups blocks_told s z.groups hs) (sym h) groups
+  without_groups s hs (Some n) p q h groups = h.1.stands s hs groups
+
+  -- those of the set that failed, and then those of the set that is released
+  dropped_kept : (m : SessionMove) (p q : ProviderValue D) → IsDroppedFor blocks_told size count lending m p q → AreKept blocks_told size count lending p.groups q.groups
+  dropped_kept m p q h = kept_trans blocks_told size count lending p.groups h.0.groups q.groups (without_kept (failed_set m.outcome.result m.outcome.set) p h.0 h.1) (without_kept m.released h.0 q h.2)
+
+  dropped_counts : (m : SessionMove) (p q : ProviderValue D) → IsDroppedFor blocks_told size count lending m p q → counts_of count q.groups ≡ counts_of count p.groups
+  dropped_counts m p q h = without_counts m.released h.0 q h.2 ∙ without_counts (failed_set m.outcome.result m.outcome.set) p h.0 h.1
+
+  dropped_groups : (s : Plan) (hs : List History) (m : SessionMove) (p q : ProviderValue D) → IsDroppedFor blocks_told size count lending m p q → AreGroups blocks_told s p.groups hs → AreGroups blocks_told s q.groups (images_after m hs)
+  dropped_groups s hs m p q h groups =
+      without_groups s (without_images (failed_set m.outcome.result m.outcome.set) hs) m.released h.0 q h.2 (without_groups s hs (failed_set m.outcome.result m.outcome.set) p h.0 h.1 groups)
 
 -- ## the move
 
 pub session_moves : {D : Type 0} (blocks_told : D → Option (List (List ℕ))) (size count : D → ℕ) (lending : D → Bool) (s : Plan) (event : Event) (m : SessionMove) (P : State → Type 0) (p q : ProviderValue D) (x y : SessionsValue) (g h : Flags) (l : List ℕ) (e f : List Evicted)
-    → IsOf (world_of p x g l e) s → f ≡ [] → IsMove P s y event m → IsDroppedFor blocks_told size count lending m.change p q → IsOpened y g h → Leaves x y → y.clock ≤ x.clock + 1000000000 → is_fault (mark_of m.outcome.told) ≡ false
+    → IsOf (world_of p x g l e) s → f ≡ [] → IsMove P s y event m → ((st : State) → event_volumes event m.outcome.told st ≡ st.volumes) → IsDroppedFor blocks_told size count lending m p q → IsOpened y g h → Leaves x y → y.clock ≤ x.clock + 1000000000 → is_fault (mark_of m.outcome.told) ≡ false
     → ((acts : List Act) → Stands blocks_told (world_of p x g l e) s acts → P (state s acts))
     → ((acts : List Act) → Stands blocks_told (world_of p x g l e) s acts → HeldAs (state s acts).course.agenda (after s (state s acts) (told_act event m.outcome.told)).course.agenda)
     → ((acts : List Act) → Stands blocks_told (world_of p x g l e) s acts → IsInPlan s (after s (state s acts) (told_act event m.outcome.told)))
     → IsMoved blocks_told count (world_of p x g l e) (world_of q y h l f) s event m.outcome
-session_moves blocks_told size count lending s event m P p q x y g h l e f of none move drops opened leaves clock clean at held plan =
+session_moves blocks_told size count lending s event m P p q x y g h l e f of none move still drops opened leaves clock clean at held plan =
     moved blocks_told count s event m.outcome p q x y g h l l e f
-    (clean_devices blocks_told size count lending s event m.outcome p q x y g h l l e f of (dropped_kept blocks_told size count lending p q m.change drops) (leaves_of s x y of.writers leaves) (dropped_counts blocks_told size count lending p q m.change drops) clean)
+    (clean_devices blocks_told size count lending s event m.outcome p q x y g h l l e f of (dropped_kept blocks_told size count lending m p q drops) (leaves_of s x y of.writers leaves) (dropped_counts blocks_told size count lending m p q drops) clean)
     (goes_on x y leaves clock)
     (λ acts stands.
     let st = state s acts in
@@ -176,7 +184,7 @@ session_moves blocks_told size count lending s event m P p q x y g h l e f of no
       is_allowed = move.is_allowed st here;
       outcome = λ rows are. subst (λ (z : List Evicted). IsOutcome (tells_of blocks_told s (devices_of p.groups)) s st event m.outcome l z rows) (sym none) (move.outcome st (tells_of blocks_told s (devices_of p.groups)) l rows here are);
       parts = record {
-        groups = subst (λ (hs : List History). AreGroups blocks_told s q.groups hs) (sym (move.volumes st here)) (dropped_groups blocks_told size count lending s st p q m.change drops stands.at.groups);
+        groups = subst (λ (hs : List History). AreGroups blocks_told s q.groups hs) (sym (move.volumes st here ∙ ap (images_after m) (still st))) (dropped_groups blocks_told size count lending s st.volumes m p q drops stands.at.groups);
         sessions = move.keeps st here;
         gate = gate_after s y g h acts (told_act event m.outcome.told) stands.at.gate (held acts stands) (move.keeps st here) opened;
         plan = plan acts stands;

@@ -87,14 +87,14 @@ none_gone a b e = omega arith
 
 pub tick_moves : {D : Type 0} (blocks_told : D → Option (List (List ℕ))) (size count : D → ℕ) (lending : D → Bool) (s : Plan) (lane n : ℕ) (m : SessionMove) (p q : ProviderValue D) (x y : SessionsValue) (g h : Flags) (l : List ℕ) (e f : List Evicted)
     → IsOf (world_of p x g l e) s → IsStanding blocks_told (world_of p x g l e) s → n ≤ 1000000000 → f ≡ []
-    → IsMove (IsAt x s) s y (Line lane (Tick n)) m → IsDroppedFor blocks_told size count lending m.change p q → IsOpened y g h → Leaves x y → y.clock ≡ x.clock + n
+    → IsMove (IsAt x s) s y (Line lane (Tick n)) m → IsDroppedFor blocks_told size count lending m p q → IsOpened y g h → Leaves x y → y.clock ≡ x.clock + n
     → IsMoved blocks_told count (world_of p x g l e) (world_of q y h l f) s (Line lane (Tick n)) m.outcome
 tick_moves blocks_told size count lending s lane n m p q x y g h l e f of standing few none move drops opened leaves clock =
     let at : (acts : List Act) → Stands blocks_told (world_of p x g l e) s acts → IsAt x s (state s acts) = λ acts stands. at_of blocks_told s p x g l e acts of stands in
     let mark = mark_of m.outcome.told in
     let to : (acts : List Act) → Stands blocks_told (world_of p x g l e) s acts → after s (state s acts) (told_act (Line lane (Tick n)) m.outcome.told) ≡ ticked n (state s acts)
     = λ acts stands. after_line s (state s acts) lane (Tick n) mark refl in
-    session_moves blocks_told size count lending s (Line lane (Tick n)) m (IsAt x s) p q x y g h l e f of none move drops opened leaves (ticks_few y.clock x.clock n few clock)
+    session_moves blocks_told size count lending s (Line lane (Tick n)) m (IsAt x s) p q x y g h l e f of none move (λ st. refl) drops opened leaves (ticks_few y.clock x.clock n few clock)
     (tick_clean s (state s standing.acts) n mark (move.is_allowed (state s standing.acts) (at standing.acts standing.stands)))
     at
     (λ acts stands. subst (λ (z : State). HeldAs (state s acts).course.agenda z.course.agenda) (sym (to acts stands)) (ticked_held n (state s acts)))
@@ -102,14 +102,14 @@ tick_moves blocks_told size count lending s lane n m p q x y g h l e f of standi
 
 pub answer_moves : {D : Type 0} (blocks_told : D → Option (List (List ℕ))) (size count : D → ℕ) (lending : D → Bool) (s : Plan) (w : ℕ) (answer : Answer) (m : SessionMove) (p q : ProviderValue D) (x y : SessionsValue) (g h : Flags) (l : List ℕ) (e f : List Evicted)
     → IsOf (world_of p x g l e) s → IsStanding blocks_told (world_of p x g l e) s → f ≡ []
-    → IsMove (IsAt x s) s y (AnswerEvent w answer) m → IsDroppedFor blocks_told size count lending m.change p q → IsOpened y g h → Leaves x y → y.clock ≡ x.clock
+    → IsMove (IsAt x s) s y (AnswerEvent w answer) m → IsDroppedFor blocks_told size count lending m p q → IsOpened y g h → Leaves x y → y.clock ≡ x.clock
     → IsMoved blocks_told count (world_of p x g l e) (world_of q y h l f) s (AnswerEvent w answer) m.outcome
 answer_moves blocks_told size count lending s w answer m p q x y g h l e f of standing none move drops opened leaves clock =
     let at : (acts : List Act) → Stands blocks_told (world_of p x g l e) s acts → IsAt x s (state s acts) = λ acts stands. at_of blocks_told s p x g l e acts of stands in
     let mark = mark_of m.outcome.told in
     let to : (acts : List Act) → Stands blocks_told (world_of p x g l e) s acts → after s (state s acts) (told_act (AnswerEvent w answer) m.outcome.told) ≡ answered w (said_of answer) (state s acts)
     = λ acts stands. after_answer s (state s acts) w answer mark (move.is_enabled (state s acts) (at acts stands)) in
-    session_moves blocks_told size count lending s (AnswerEvent w answer) m (IsAt x s) p q x y g h l e f of none move drops opened leaves (none_gone y.clock x.clock clock)
+    session_moves blocks_told size count lending s (AnswerEvent w answer) m (IsAt x s) p q x y g h l e f of none move (λ st. refl) drops opened leaves (none_gone y.clock x.clock clock)
     (other_clean mark (move.is_allowed (state s standing.acts) (at standing.acts standing.stands)))
     at
     (λ acts stands. subst (λ (z : State). HeldAs (state s acts).course.agenda z.course.agenda) (sym (to acts stands)) (said_held w (said_of answer) (state s acts)))
@@ -117,14 +117,14 @@ answer_moves blocks_told size count lending s w answer m p q x y g h l e f of st
 
 pub idle_moves : {D : Type 0} (blocks_told : D → Option (List (List ℕ))) (size count : D → ℕ) (lending : D → Bool) (s : Plan) (m : SessionMove) (p q : ProviderValue D) (x y : SessionsValue) (g h : Flags) (l : List ℕ) (e f : List Evicted)
     → IsOf (world_of p x g l e) s → IsStanding blocks_told (world_of p x g l e) s → f ≡ []
-    → IsMove (IsAt x s) s y Idle m → IsDroppedFor blocks_told size count lending m.change p q → IsOpened y g h → Leaves x y → y.clock ≤ x.clock + (300000 + 1)
+    → IsMove (IsAt x s) s y Idle m → IsDroppedFor blocks_told size count lending m p q → IsOpened y g h → Leaves x y → y.clock ≤ x.clock + (300000 + 1)
     → IsMoved blocks_told count (world_of p x g l e) (world_of q y h l f) s Idle m.outcome
 idle_moves blocks_told size count lending s m p q x y g h l e f of standing none move drops opened leaves clock =
     let at : (acts : List Act) → Stands blocks_told (world_of p x g l e) s acts → IsAt x s (state s acts) = λ acts stands. at_of blocks_told s p x g l e acts of stands in
     let mark = mark_of m.outcome.told in
     let to : (acts : List Act) → Stands blocks_told (world_of p x g l e) s acts → after s (state s acts) (told_act Idle m.outcome.told) ≡ ticked (idle_now (state s acts)) (state s acts)
     = λ acts stands. after_idle s (state s acts) mark (move.is_enabled (state s acts) (at acts stands)) in
-    session_moves blocks_told size count lending s Idle m (IsAt x s) p q x y g h l e f of none move drops opened leaves (limit_few y.clock x.clock clock)
+    session_moves blocks_told size count lending s Idle m (IsAt x s) p q x y g h l e f of none move (λ st. refl) drops opened leaves (limit_few y.clock x.clock clock)
     (other_clean mark (move.is_allowed (state s standing.acts) (at standing.acts standing.stands)))
     at
     (λ acts stands. subst (λ (z : State). HeldAs (state s acts).course.agenda z.course.agenda) (sym (to acts stands)) (ticked_held (idle_now (state s acts)) (state s acts)))

@@ -41,7 +41,7 @@ impl<D: Device> World<D> {
         match self.sessions.call(alloc, scenario, lane, op, images)? {
             Called::Waits => Ok(Reply::Blocked),
             Called::Moves(item) => {
-                drop_images(&mut self.provider, item.change);
+                drop_images(&mut self.provider, item);
                 open_gate(&mut self.gate, &self.sessions);
                 self.evicted.clear();
                 Ok(Reply::Moved(item.outcome))

@@ -23,7 +23,7 @@ impl<D: Device> World<D> {
         ensures { IsStepped D.told D.count self.old self.new scenario.now (Line lane (Tick ticks)) result }
     {
         let item = self.sessions.time(ticks);
-        drop_images(&mut self.provider, item.change);
+        drop_images(&mut self.provider, item);
         open_gate(&mut self.gate, &self.sessions);
         self.evicted.clear();
         Reply::Moved(item.outcome)
@@ -39,7 +39,7 @@ impl<D: Device> World<D> {
         match self.sessions.answer(writer, answer) {
             Called::Waits => Reply::Blocked,
             Called::Moves(item) => {
-                drop_images(&mut self.provider, item.change);
+                drop_images(&mut self.provider, item);
                 open_gate(&mut self.gate, &self.sessions);
                 self.evicted.clear();
                 Reply::Moved(item.outcome)
@@ -56,7 +56,7 @@ impl<D: Device> World<D> {
         match self.sessions.idle() {
             Called::Waits => Reply::Blocked,
             Called::Moves(item) => {
-                drop_images(&mut self.provider, item.change);
+                drop_images(&mut self.provider, item);
                 open_gate(&mut self.gate, &self.sessions);
                 self.evicted.clear();
                 Reply::Moved(item.outcome)
