@@ -1,6 +1,7 @@
 -- A session line: what its numbers and its checks say of it at a state.
 use Rattle.std.proofs.Common.{◌≡◌, ℕ, ◌+◌, ◌≤◌, List, [], refl, sym, subst, arith, Bool, true, false, Option}
 use Rattle.std.specs.Prelude.{is_some}
+use Rattle.write_history.specs.declared.evicted.Evicted.{Evicted}
 use Rattle.write_history.specs.declared.mark.Mark.{Mark}
 use Rattle.write_history.specs.declared.mark.Mark.TheVariants.{Clean, Fault, FaultAfter}
 use Rattle.hold_gate.specs.Gate.{Flags}
@@ -10,7 +11,6 @@ use Rattle.scenario.specs.Calls.{call_of}
 use Rattle.scenario.specs.Bounds.{IsOp}
 use Rattle.scenario.specs.Plan.{Plan}
 use Rattle.vss_model.specs.declared.event.Event.TheVariants.{Line}
-use Rattle.vss_model.specs.declared.evicted.Evicted.{Evicted}
 use Rattle.vss_model.specs.State.{State}
 use Rattle.vss_model.specs.Acts.{Act, state, after, line_allows}
 use Rattle.vss_model.specs.Lines.{line}

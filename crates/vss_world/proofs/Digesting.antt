@@ -8,9 +8,9 @@ use Rattle.block_data.specs.Digest.{sha256}
 use Rattle.hex.specs.Hex.{IsBytes}
 use Rattle.hold_gate.specs.Gate.{Flags}
 use Rattle.lent_digests.specs.declared.digested.Digested.{Digested}
+use Rattle.write_history.specs.declared.evicted.Evicted.{Evicted}
 use Rattle.write_history.specs.History.{Image, History, contents, point_in}
 use Rattle.scenario.specs.Plan.{Plan, blocks_of}
-use Rattle.vss_model.specs.declared.evicted.Evicted.{Evicted}
 use Rattle.vss_model.specs.State.{State, history_of, kept, is_kept_set}
 use Rattle.vss_model.specs.Acts.{Act, state}
 use Rattle.vss_model.specs.Told.{IsDigestIf}

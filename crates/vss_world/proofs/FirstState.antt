@@ -1,6 +1,7 @@
 -- What the core stands for before any act.
 use Rattle.std.proofs.Common.{◌≡◌, ℕ, ◌<◌, List, [], length, refl, ap, sym, ◌∙◌, subst, arith, Option, Some, map, slice_get}
 use Rattle.std.proofs.lemmas.Option.{slice_get_within, get_or_from_slice_get}
+use Rattle.write_history.specs.declared.evicted.Evicted.{Evicted}
 use Rattle.write_history.specs.History.{fresh}
 use Rattle.hold_gate.specs.Gate.{Flags}
 use Rattle.scenario.specs.declared.volume_row.VolumeRow.{VolumeRow}
@@ -8,7 +9,6 @@ use Rattle.scenario.specs.Plan.{Plan}
 use Rattle.scenario.specs.Bounds.{IsPlan, IsInGroup, group_slots}
 use Rattle.cow_volume.specs.GroupValue.{GroupValue}
 use Rattle.cow_volume.proofs.Group.{slice_get_inside}
-use Rattle.vss_model.specs.declared.evicted.Evicted.{Evicted}
 use Rattle.vss_model.specs.State.{start}
 use Rattle.provider.specs.Groups.{AreFresh, AreGroups, AreWhole, HasGroups}
 use Rattle.provider.specs.Devices.{devices_of}

@@ -1,13 +1,13 @@
 -- A move of the sessions, against the acts: what they come to, with the images that go and the gate that opens.
 use Rattle.std.proofs.Common.{◌≡◌, ℕ, ◌+◌, ◌*◌, ◌<◌, ◌≤◌, ◌^◌, ◌-◌, List, [], ◌∷◌, ◌++◌, length, refl, ap, sym, ◌∙◌, subst, arith, Bool, true, false, ◌||◌, Option, Some, None, ◌⊎◌, inl, inr, map}
 use Rattle.std.specs.Prelude.{is_some, if◌then◌else◌}
+use Rattle.write_history.specs.declared.evicted.Evicted.{Evicted}
 use Rattle.write_history.specs.History.{History}
 use Rattle.hold_gate.specs.Gate.{Flags, all_open}
 use Rattle.set_agenda.specs.Agenda.{Agenda, left, is_asking, is_working}
 use Rattle.set_agenda.specs.Agenda.{is_held as agenda_holds}
 use Rattle.scenario.specs.Plan.{Plan}
 use Rattle.vss_model.specs.declared.event.Event.{Event}
-use Rattle.vss_model.specs.declared.evicted.Evicted.{Evicted}
 use Rattle.vss_model.specs.State.{State, left_now}
 use Rattle.vss_model.specs.Ending.{runs}
 use Rattle.vss_model.specs.Acts.{Act, state, after}

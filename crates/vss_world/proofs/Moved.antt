@@ -3,10 +3,10 @@ use Rattle.std.proofs.Common.{◌≡◌, ℕ, ◌+◌, ◌≤◌, List, [], ◌�
 use Rattle.std.proofs.lemmas.List.{length-append}
 use Rattle.writer_state.specs.declared.writer_row.WriterRow.{WriterRow}
 use Rattle.hold_gate.specs.Gate.{Flags}
+use Rattle.write_history.specs.declared.evicted.Evicted.{Evicted}
 use Rattle.scenario.specs.Plan.{Plan}
 use Rattle.cow_volume.specs.GroupValue.{GroupValue}
 use Rattle.vss_model.specs.declared.event.Event.{Event}
-use Rattle.vss_model.specs.declared.evicted.Evicted.{Evicted}
 use Rattle.vss_model.specs.declared.outcome.Outcome.{Outcome}
 use Rattle.vss_model.specs.State.{State}
 use Rattle.vss_model.specs.Acts.{Act, state, after, enabled, event_allows}

@@ -3,13 +3,13 @@ use Rattle.std.proofs.Common.{◌≡◌, ℕ, ◌+◌, ◌<◌, ◌≤◌, ◌==
 use Rattle.std.specs.Prelude.{IfSome, if◌then◌else◌, option_map}
 use Rattle.std.specs.List.{find}
 use Rattle.std.proofs.lemmas.List.Elements.{All-nil, All-cons}
+use Rattle.write_history.specs.declared.evicted.Evicted.{Evicted}
 use Rattle.write_history.specs.History.{Image, point_in}
 use Rattle.hold_gate.specs.Gate.{Flags}
 use Rattle.set_agenda.specs.declared.group.Group.{Group}
 use Rattle.set_agenda.specs.declared.group.Group.TheVariants.{Cut}
 use Rattle.set_agenda.specs.Agenda.{open_group, next_volume, is_among}
 use Rattle.scenario.specs.Plan.{Plan}
-use Rattle.vss_model.specs.declared.evicted.Evicted.{Evicted}
 use Rattle.vss_model.specs.State.{State, SetRow, in_progress, left_now, history_of, is_running}
 use Rattle.vss_model.specs.Acts.{Act, state}
 use Rattle.vss_model.specs.Cut.{is_cut_group}

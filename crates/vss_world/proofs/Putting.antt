@@ -6,6 +6,7 @@ use Rattle.vss_names.specs.declared.set_outcome.SetOutcome.{SetOutcome}
 use Rattle.vss_names.specs.declared.set_outcome.SetOutcome.TheVariants.{Running, Failed}
 use Rattle.vss_names.specs.declared.vss_result.VssResult.TheVariants.{InsufficientStorage}
 use Rattle.writer_state.specs.declared.writer_row.WriterRow.{WriterRow}
+use Rattle.write_history.specs.declared.evicted.Evicted.{Evicted}
 use Rattle.write_history.specs.declared.mark.Mark.{Mark}
 use Rattle.write_history.specs.History.{Write, Image, History, point_in, written, dropped}
 use Rattle.write_history.specs.Slots.{Placed, gone_up_to, evicted_up_to}
@@ -20,7 +21,6 @@ use Rattle.scenario.specs.Bounds.{IsPlan, IsBlock}
 use Rattle.std.specs.List.{slice_index_or}
 use Rattle.scenario.specs.Plan.{Plan, LanePlan, placed, placed_in, slots_of, group_of, acts_as, writer_in}
 use Rattle.vss_model.specs.declared.event.Event.TheVariants.{Line}
-use Rattle.vss_model.specs.declared.evicted.Evicted.{Evicted}
 use Rattle.vss_model.specs.declared.told.Told.TheVariants as told
 use Rattle.vss_model.specs.Reply.{Reply, Fine, Faulted}
 use Rattle.vss_model.specs.State.{State, SetRow, in_progress, is_running, history_in, left_now, is_held, is_frozen}

@@ -4,6 +4,7 @@ use Rattle.std.specs.Prelude.{is_some, is_none, nat_lt, option_map, if◌then◌
 use Rattle.std.proofs.lemmas.Bool.Decides.{nat_tests}
 use Rattle.vss_names.specs.declared.vss_result.VssResult.{VssResult}
 use Rattle.vss_names.specs.declared.vss_result.VssResult.TheVariants.{ObjectNotFound, UnsupportedContext, SnapshotSetInProgress}
+use Rattle.write_history.specs.declared.evicted.Evicted.{Evicted}
 use Rattle.write_history.specs.declared.mark.Mark.{Mark}
 use Rattle.write_history.specs.declared.mark.Mark.TheVariants.{Clean, FaultAfter}
 use Rattle.write_history.specs.History.{point_in, dropped, reverted, reverted_in_part, to_restore}
@@ -13,7 +14,6 @@ use Rattle.set_agenda.specs.Course.{change_at}
 use Rattle.scenario.specs.declared.op.Op.TheVariants.{DeleteSet, DeleteImage, Revert}
 use Rattle.scenario.specs.Plan.{Plan, blocks_of}
 use Rattle.vss_model.specs.declared.event.Event.TheVariants.{Line}
-use Rattle.vss_model.specs.declared.evicted.Evicted.{Evicted}
 use Rattle.vss_model.specs.declared.told.Told.TheVariants as told
 use Rattle.vss_model.specs.Reply.{Fine, FaultedAfter, Coded, Deleted}
 use Rattle.vss_model.specs.State.{State, SetRow, Kept, kept_of, kept_image, is_kept_set, row_of, in_progress, history_of}

@@ -1,6 +1,7 @@
 -- A step of the provider, made or failed: what it comes to.
 use Rattle.std.proofs.Common.{◌≡◌, ℕ, zero, suc, List, [], ◌∷◌, length, refl, ap, sym, ◌∙◌, subst, Bool, true, false, ◌&&◌, Option, Some, None, inl, map}
 use Rattle.std.specs.Prelude.{not, is_ok, IfSome, OnOk, Result, Ok, Err, slice_get, slice_set, option_map}
+use Rattle.write_history.specs.declared.evicted.Evicted.{Evicted}
 use Rattle.write_history.specs.declared.mark.Mark.{Mark}
 use Rattle.write_history.specs.declared.mark.Mark.TheVariants.{Clean, Fault}
 use Rattle.write_history.specs.History.{History, dropped}
@@ -13,7 +14,6 @@ use Rattle.coordinator.specs.Coordinator.{works}
 use Rattle.scenario.specs.Plan.{Plan}
 use Rattle.writer_state.specs.declared.writer_row.WriterRow.{WriterRow}
 use Rattle.vss_model.specs.declared.event.Event.TheVariants.{Provider}
-use Rattle.vss_model.specs.declared.evicted.Evicted.{Evicted}
 use Rattle.vss_model.specs.declared.told.Told.{Told}
 use Rattle.vss_model.specs.declared.told.Told.TheVariants as told
 use Rattle.vss_model.specs.State.{State, SetRow, in_progress, left_now}

@@ -4,6 +4,7 @@ use Rattle.std.specs.Prelude.{is_some, if◌then◌else◌, Result, Ok, Err, OnO
 use Rattle.std.proofs.lemmas.Option.{slice_get_within}
 use Rattle.diff_area.specs.Copies.{AreStored}
 use Rattle.hold_gate.specs.Gate.{Flags}
+use Rattle.write_history.specs.declared.evicted.Evicted.{Evicted}
 use Rattle.write_history.specs.History.{History}
 use Rattle.write_history.specs.Slots.{Copy, copies, copies_of, copies_from}
 use Rattle.scenario.specs.declared.volume_row.VolumeRow.{VolumeRow}
@@ -11,7 +12,6 @@ use Rattle.scenario.specs.Plan.{Plan, placed}
 use Rattle.cow_volume.specs.GroupValue.{GroupValue, placed as all_placed}
 use Rattle.cow_volume.specs.Ending.{AllTell as AllDevicesTell}
 use Rattle.cow_volume.proofs.Group.{slice_get_inside}
-use Rattle.vss_model.specs.declared.evicted.Evicted.{Evicted}
 use Rattle.vss_model.specs.Acts.{state}
 use Rattle.provider.specs.Groups.{HasGroups, of_group, of_group_if, blocks_in_group}
 use Rattle.provider.specs.Devices.{devices_of, first_place, area_place, RoseAlone}

@@ -1,5 +1,6 @@
 -- Time that goes by, and what writers answer, against the acts.
 use Rattle.std.proofs.Common.{◌≡◌, ℕ, ◌+◌, ◌<◌, ◌≤◌, List, [], length, refl, ap, sym, subst, arith, Bool, true, false, Option}
+use Rattle.write_history.specs.declared.evicted.Evicted.{Evicted}
 use Rattle.write_history.specs.declared.mark.Mark.{Mark}
 use Rattle.write_history.specs.declared.mark.Mark.TheVariants.{Clean, Fault, FaultAfter}
 use Rattle.writer_state.specs.declared.said.Said.{Said}
@@ -11,7 +12,6 @@ use Rattle.scenario.specs.declared.op.Op.TheVariants.{Tick}
 use Rattle.scenario.specs.Plan.{Plan}
 use Rattle.vss_model.specs.declared.event.Event.{Event}
 use Rattle.vss_model.specs.declared.event.Event.TheVariants.{Line, Answer as AnswerEvent, Idle}
-use Rattle.vss_model.specs.declared.evicted.Evicted.{Evicted}
 use Rattle.vss_model.specs.State.{State}
 use Rattle.vss_model.specs.Ending.{runs}
 use Rattle.vss_model.specs.Steps.{answered, ticked, later}

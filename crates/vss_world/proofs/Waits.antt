@@ -3,6 +3,7 @@ use Rattle.std.proofs.Common.{◌≡◌, ℕ, ◌<◌, List, length, refl, ap, s
 use Rattle.std.specs.Prelude.{is_some, option_map}
 use Rattle.hold_gate.specs.Gate.{Flags}
 use Rattle.vss_names.specs.declared.order.Order.{Order}
+use Rattle.write_history.specs.declared.evicted.Evicted.{Evicted}
 use Rattle.scenario.specs.declared.op.Op.{Op}
 use Rattle.scenario.specs.declared.op.Op.TheVariants.{WriteFill, WriteStamp, Read, ImageDigest, ImageBlock, Query, Properties, Revert, DeleteSet, DeleteImage, Tick, Begin, Disable, Gather, Component, Document, Start, Add, Prepare, Snapshot, Await, Status, Complete, Abort, End}
 use Rattle.scenario.specs.Calls.{call_of}
@@ -12,7 +13,6 @@ use Rattle.set_agenda.specs.Agenda.{is_working, left, open_order}
 use Rattle.coordinator.specs.Coordinator.{works}
 use Rattle.coordinator.specs.OpenOrders.{standing_in}
 use Rattle.coordinator.proofs.Following.{left-is}
-use Rattle.vss_model.specs.declared.evicted.Evicted.{Evicted}
 use Rattle.vss_model.specs.State.{State, left_now}
 use Rattle.vss_model.specs.Acts.{state, may_write, may_call, line_enabled, order_of_writer}
 use Rattle.provider.specs.Preparing.{ProviderValue}

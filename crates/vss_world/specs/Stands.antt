@@ -5,7 +5,7 @@ use Rattle.set_agenda.specs.declared.member.Member.{Member}
 use Rattle.set_agenda.specs.Agenda.{Agenda}
 use Rattle.scenario.specs.Plan.{Plan}
 use Rattle.hold_gate.specs.Gate.{Flags, is_held as holds}
-use Rattle.vss_model.specs.declared.evicted.Evicted.{Evicted}
+use Rattle.write_history.specs.declared.evicted.Evicted.{Evicted}
 use Rattle.vss_model.specs.State.{State, SetRow, is_held}
 use Rattle.vss_model.specs.Acts.{Act, state}
 use Rattle.provider.specs.Groups.{AreGroups, HasGroups}
