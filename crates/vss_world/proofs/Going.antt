@@ -88,7 +88,8 @@ unfolding total pick
 total_is F [] = refl
 total_is F (r ∷ rows) = by_test (is_complete r.result) (total_is F rows)
   where
-    by_test : (b : Bool) → flat_map (λ (q : SetRow). F q.number) (filter (λ (q : SetRow). is_complete q.result) rows) ≡ total F rows → flat_map (λ (q : SetRow). F q.number) (if b then r ∷ filter (λ (q : SetRow). is_complete q.result) rows else filter (λ (q : SetRow). is_complete q.result) rows) ≡ pick b (F r.number) ++ total F rows
+    by_test : (b : Bool) → flat_map (λ (q : SetRow). F q.number) (filter (λ (q : SetRow). is_complete q.result) rows) ≡ total F rows → flat_map (λ (q : SetRow). F q.number)
+        (if b then r ∷ filter (λ (q : SetRow). is_complete q.result) rows else filter (λ (q : SetRow). is_complete q.result) rows) ≡ pick b (F r.number) ++ total F rows
     by_test true rest = ap (λ (xs : List Evicted). F r.number ++ xs) rest
     by_test false rest = rest
 

@@ -13,13 +13,11 @@ pub mod InPlan
 pub mod Losing
 pub mod Failing
 pub mod Putting
-pub mod Held
 pub mod Following
 pub mod Called
 pub mod Timed
 pub mod Waits
 pub mod Provided
-pub mod Holding
 pub mod Made
 pub mod Step
 pub mod Joining

@@ -3,7 +3,6 @@ use Rattle.std.proofs.Common.{◌≡◌, ℕ, zero, suc, ◌+◌, ◌<◌, ◌==
 use Rattle.std.specs.Prelude.{is_some, if◌then◌else◌, Result, Ok, Err, OnOk, IfErr, IsErr}
 use Rattle.std.proofs.lemmas.Option.{slice_get_within}
 use Rattle.diff_area.specs.Copies.{AreStored}
-use Rattle.hold_gate.specs.Gate.{Flags}
 use Rattle.write_history.specs.declared.evicted.Evicted.{Evicted}
 use Rattle.write_history.specs.History.{History}
 use Rattle.write_history.specs.Slots.{Copy, copies, copies_of, copies_from}
@@ -94,17 +93,17 @@ elsewhere_same {D = D} (x ∷ old) (y ∷ new) lens (suc g) place long same devi
 
 -- ## the call
 
-pub synced_is : {D : Type 0} (told : D → Option (List (List ℕ))) (size count : D → ℕ) (lending : D → Bool) (s : Plan) (group : ℕ) (p q : ProviderValue D) (x : SessionsValue) (g : Flags) (l : List ℕ) (e : List Evicted)
-    → IsOf (world_of p x g l e) s → AreSynced told size count lending p.groups q.groups group → q ≡ record p { groups = q.groups } → IsSynced told count (world_of p x g l e) (world_of q x g l e) s group
-synced_is told size count lending s group p q x g l e of synced same = record {
-  stands_for = stands_still told size count lending s p q x g l e of synced.kept (synced.stands s);
-  is_of = of_kept told size count lending s p q x x g g l l e e of synced.kept of.writers;
+pub synced_is : {D : Type 0} (told : D → Option (List (List ℕ))) (size count : D → ℕ) (lending : D → Bool) (s : Plan) (group : ℕ) (p q : ProviderValue D) (x : SessionsValue) (l : List ℕ) (e : List Evicted)
+    → IsOf (world_of p x l e) s → AreSynced told size count lending p.groups q.groups group → q ≡ record p { groups = q.groups } → IsSynced told count (world_of p x l e) (world_of q x l e) s group
+synced_is told size count lending s group p q x l e of synced same = record {
+  stands_for = stands_still told size count lending s p q x l e of synced.kept (synced.stands s);
+  is_of = of_kept told size count lending s p q x x l l e e of synced.kept of.writers;
   elsewhere = λ place apart. ap (told_of told) (elsewhere_same p.groups q.groups (λ k. length (blocks_in_group k s.volumes)) group place synced.kept.number synced.elsewhere synced.devices
       (λ k z at. of.groups.devices k z at ∙ ap length (of.groups.volumes k z at))
       (λ f. apart (f ∙ ap (λ n. n + length (blocks_in_group group s.volumes)) (sym (first_begins group s.volumes)))));
   tells = tells_kept told size count lending s p.groups q.groups of.groups synced.kept;
   later = synced.kept.later;
-  rest = devices_alone p q x g l e same;
+  rest = devices_alone p q x l e same;
 }
 
 -- ## what the area's device holds
@@ -147,9 +146,9 @@ device_there {D = D} (z ∷ groups) lens (suc g) u x d wide at e =
     past (c ∷ ds) zero j h = absurd (omega (arith, h))
     past (c ∷ ds) (suc i) j h = past ds i j (omega (arith, h))
 
-held_is : {D : Type 0} (told lasting : D → Option (List (List ℕ))) (size count : D → ℕ) (lending : D → Bool) (s : Plan) (group : ℕ) (p q : ProviderValue D) (x : SessionsValue) (g : Flags) (l : List ℕ) (e : List Evicted)
-    → IsOf (world_of p x g l e) s → group < length s.groups → AreSynced told size count lending p.groups q.groups group → AreLasting told lasting s p.groups q.groups group → IsAreaHeld told (world_of q x g l e) s group
-held_is {D = D} told lasting size count lending s group p q x g l e of within synced lasts acts stands tells =
+held_is : {D : Type 0} (told lasting : D → Option (List (List ℕ))) (size count : D → ℕ) (lending : D → Bool) (s : Plan) (group : ℕ) (p q : ProviderValue D) (x : SessionsValue) (l : List ℕ) (e : List Evicted)
+    → IsOf (world_of p x l e) s → group < length s.groups → AreSynced told size count lending p.groups q.groups group → AreLasting told lasting s p.groups q.groups group → IsAreaHeld told (world_of q x l e) s group
+held_is {D = D} told lasting size count lending s group p q x l e of within synced lasts acts stands tells =
     let hs = (state s acts).volumes in
     let number = of.number in
     let more = synced.kept.number in
@@ -170,9 +169,9 @@ held_is {D = D} told lasting size count lending s group p q x g l e of within sy
     (subst (AreStored (told is.0.area.device)) (copies_in_group group 0 s.volumes hs) stored)
 
 -- what the area's device tells lasts
-area_lasts : {D : Type 0} (told lasting : D → Option (List (List ℕ))) (size count : D → ℕ) (lending : D → Bool) (s : Plan) (group : ℕ) (p q : ProviderValue D) (x : SessionsValue) (g : Flags) (l : List ℕ) (e : List Evicted)
-    → IsOf (world_of p x g l e) s → group < length s.groups → AreSynced told size count lending p.groups q.groups group → AreLasting told lasting s p.groups q.groups group → LastsAt told lasting (area_place group s.volumes) (devices_of q.groups)
-area_lasts {D = D} told lasting size count lending s group p q x g l e of within synced lasts d at =
+area_lasts : {D : Type 0} (told lasting : D → Option (List (List ℕ))) (size count : D → ℕ) (lending : D → Bool) (s : Plan) (group : ℕ) (p q : ProviderValue D) (x : SessionsValue) (l : List ℕ) (e : List Evicted)
+    → IsOf (world_of p x l e) s → group < length s.groups → AreSynced told size count lending p.groups q.groups group → AreLasting told lasting s p.groups q.groups group → LastsAt told lasting (area_place group s.volumes) (devices_of q.groups)
+area_lasts {D = D} told lasting size count lending s group p q x l e of within synced lasts d at =
     let number = of.number in
     let more = synced.kept.number in
     let was = slice_get_inside p.groups group (omega (arith, within, number)) in
@@ -189,17 +188,17 @@ pub record IsSyncOf {D : Type 0} (told lasting : D → Option (List (List ℕ)))
   pub fault : IfErr result (λ f. f ≡ Area)
   pub cause : IsErr result → RoseAlone (area_place group s.volumes) (map count old.devices) (map count new.devices)
 
-pub sync_is : {D : Type 0} (told lasting : D → Option (List (List ℕ))) (size count : D → ℕ) (lending : D → Bool) (s : Plan) (group : ℕ) (result : Result Unit DeviceFault) (p q : ProviderValue D) (x : SessionsValue) (g : Flags) (l : List ℕ) (e : List Evicted)
-    → IsOf (world_of p x g l e) s → group < length s.groups → AreSynced told size count lending p.groups q.groups group → OnOk result ((r : Plan) → AreLasting told lasting r p.groups q.groups group)
-    → ((r : Plan) → HasGroups r p.groups → HasSyncCause count r group result p.groups q.groups) → IsSyncOf told lasting count s group result (world_of p x g l e) (world_of q x g l e)
-sync_is told lasting size count lending s group (Ok done) p q x g l e of within synced lasts cause = record {
-  held = held_is told lasting size count lending s group p q x g l e of within synced (lasts s);
-  lasts = area_lasts told lasting size count lending s group p q x g l e of within synced (lasts s);
+pub sync_is : {D : Type 0} (told lasting : D → Option (List (List ℕ))) (size count : D → ℕ) (lending : D → Bool) (s : Plan) (group : ℕ) (result : Result Unit DeviceFault) (p q : ProviderValue D) (x : SessionsValue) (l : List ℕ) (e : List Evicted)
+    → IsOf (world_of p x l e) s → group < length s.groups → AreSynced told size count lending p.groups q.groups group → OnOk result ((r : Plan) → AreLasting told lasting r p.groups q.groups group)
+    → ((r : Plan) → HasGroups r p.groups → HasSyncCause count r group result p.groups q.groups) → IsSyncOf told lasting count s group result (world_of p x l e) (world_of q x l e)
+sync_is told lasting size count lending s group (Ok done) p q x l e of within synced lasts cause = record {
+  held = held_is told lasting size count lending s group p q x l e of within synced (lasts s);
+  lasts = area_lasts told lasting size count lending s group p q x l e of within synced (lasts s);
   same = cause s of.groups;
   fault = tt;
   cause = λ none. cc;
 }
-sync_is told lasting size count lending s group (Err fault) p q x g l e of within synced lasts cause = record {
+sync_is told lasting size count lending s group (Err fault) p q x l e of within synced lasts cause = record {
   held = tt;
   lasts = tt;
   same = tt;

@@ -10,7 +10,7 @@ ghost use Rattle.vss_world.specs.Moves.{IsStepped, takes_for};
 ghost use Rattle.vss_world.specs.Settling.{AreImagesFor};
 
 use crate::reply::Reply;
-use crate::settling::{drop_images, open_gate};
+use crate::settling::drop_images;
 use crate::world::World;
 use provider::Provider;
 use scenario::{Op, Scenario};
@@ -42,7 +42,6 @@ impl<D: Device> World<D> {
             Called::Waits => Ok(Reply::Blocked),
             Called::Moves(item) => {
                 drop_images(&mut self.provider, item);
-                open_gate(&mut self.gate, &self.sessions);
                 self.evicted.clear();
                 Ok(Reply::Moved(item.outcome))
             }

@@ -7,7 +7,7 @@ ghost use Rattle.vss_world.specs.Stands.{IsOf, IsStanding};
 ghost use Rattle.vss_world.specs.Moves.{IsStepped};
 
 use crate::reply::Reply;
-use crate::settling::{drop_images, open_gate};
+use crate::settling::drop_images;
 use crate::world::World;
 use scenario::Scenario;
 use sessions::Called;
@@ -24,7 +24,6 @@ impl<D: Device> World<D> {
     {
         let item = self.sessions.time(ticks);
         drop_images(&mut self.provider, item);
-        open_gate(&mut self.gate, &self.sessions);
         self.evicted.clear();
         Reply::Moved(item.outcome)
     }
@@ -40,7 +39,6 @@ impl<D: Device> World<D> {
             Called::Waits => Reply::Blocked,
             Called::Moves(item) => {
                 drop_images(&mut self.provider, item);
-                open_gate(&mut self.gate, &self.sessions);
                 self.evicted.clear();
                 Reply::Moved(item.outcome)
             }
@@ -57,7 +55,6 @@ impl<D: Device> World<D> {
             Called::Waits => Reply::Blocked,
             Called::Moves(item) => {
                 drop_images(&mut self.provider, item);
-                open_gate(&mut self.gate, &self.sessions);
                 self.evicted.clear();
                 Reply::Moved(item.outcome)
             }

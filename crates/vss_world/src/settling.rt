@@ -1,12 +1,11 @@
-//! What follows from a move of the sessions for the images and for the volumes that are held.
+//! What follows from a move of the sessions for the images.
 
 ghost use Rattle.std.specs.Prelude.{◌≡◌};
 ghost use Rattle.sessions.specs.Concluded.{failed_set};
-ghost use Rattle.vss_world.specs.Settling.{IsDroppedFor, IsOpened, IsWithout};
+ghost use Rattle.vss_world.specs.Settling.{IsDroppedFor, IsWithout};
 
-use hold_gate::HoldGate;
 use provider::Provider;
-use sessions::{SessionMove, Sessions};
+use sessions::SessionMove;
 use volume_device::Device;
 use vss_model::Outcome;
 use vss_names::SetOutcome;
@@ -39,17 +38,4 @@ fn failed_set(outcome: Outcome) -> Option<u32>
         SetOutcome::Failed(_) => Some(outcome.set),
         SetOutcome::Running | SetOutcome::Complete => None,
     }
-}
-
-/// Where no agenda runs, no volume is held.
-pub(crate) fn open_gate(gate: &mut HoldGate, sessions: &Sessions)
-    ensures { IsOpened sessions.now gate.old gate.new }
-{
-    if sessions.is_working() {
-        return;
-    }
-    if sessions.is_asking() {
-        return;
-    }
-    gate.clear();
 }

@@ -25,7 +25,6 @@ use crate::reply::Reply;
 use crate::showing::kept_sets;
 use block_data::BlockBuf;
 use cow_volume::CowGroup;
-use hold_gate::HoldGate;
 use lent_digests::{DigestsOf, ReadyDigests};
 use provider::{DeviceFault, ImageFault, Provider};
 use scenario::Scenario;
@@ -44,8 +43,6 @@ use writer_state::WriterRow;
 pub struct World<D: Device> {
     pub(crate) provider: Provider<D>,
     pub(crate) sessions: Sessions,
-    /// Which volumes' writes are held.
-    pub(crate) gate: HoldGate,
     pub(crate) listed: ListedSets,
     pub(crate) evicted: EvictedImages,
     /// A block of a device that does not lend.
@@ -58,7 +55,7 @@ impl<D: Device> Model for World<D> {
 
     ghost Value = { WorldValue D };
 
-    ghost view = { λ w. record { devices = devices_of w.provider.groups; listed = w.listed; evicted = w.evicted; provider = w.provider; sessions = w.sessions; gate = w.gate } };
+    ghost view = { λ w. record { devices = devices_of w.provider.groups; listed = w.listed; evicted = w.evicted; provider = w.provider; sessions = w.sessions } };
 }
 
 impl<D: Device> World<D> {
@@ -85,7 +82,6 @@ impl<D: Device> World<D> {
             Ok(provider) => Ok(World {
                 provider,
                 sessions: rest.sessions,
-                gate: rest.gate,
                 listed: rest.listed,
                 evicted: rest.evicted,
                 block: rest.block,

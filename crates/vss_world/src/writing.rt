@@ -62,7 +62,6 @@ impl<D: Device> World<D> {
         let why = VssResult::InsufficientStorage;
         let _ = self.sessions.fail(why);
         let _ = self.provider.drop_set(set);
-        self.gate.clear();
         Reply::Moved(Outcome {
             told: answer,
             lost: 0,
