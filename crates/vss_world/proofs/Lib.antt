@@ -29,3 +29,7 @@ pub mod Going
 pub mod Holders
 pub mod Listing
 pub mod Listed
+pub mod Unnamed
+pub mod WithoutImages
+pub mod CommitLog
+pub mod ToCome
