@@ -8,11 +8,12 @@ use Rattle.writer_state.specs.WriterState.{is_ok}
 use Rattle.set_agenda.specs.declared.group.Group.{Group}
 use Rattle.set_agenda.specs.declared.group.Group.TheVariants.{Orders, PreCommit, Flush, Hold, Cut, Commit, Release, PostCommit}
 use Rattle.set_agenda.specs.declared.place.Place.{Place}
-use Rattle.set_agenda.specs.Agenda.{Agenda, Entry, Open, all_say, at_place, group_code, groups_left, has_frozen, has_thawed, is_among, is_freeze, is_frozen, is_orders, is_snapshot, is_thaw, is_working, level_code, open_place, same_place}
+use Rattle.set_agenda.specs.Agenda.{Agenda, Entry, HoldsOwn, Open, all_say, at_place, group_code, groups_left, has_frozen, has_thawed, is_among, is_freeze, is_frozen, is_orders, is_snapshot, is_thaw, is_working, level_code, open_place, same_place, waits_now}
 use Rattle.set_agenda.specs.Advance.{advance, others}
 use Rattle.set_agenda.specs.Limits.{first_hold, first_time, is_hold, is_prepare_snapshot, last_time}
 use Rattle.set_agenda.specs.WriterSet.{is_nil, writers}
 use Rattle.set_agenda.proofs.GroupsLeft.{any-among, any-append, any-map, groups_left-all_say}
+use Rattle.set_agenda.proofs.Held.{own-said}
 use Rattle.set_agenda.proofs.WriterSets.{among-writers, or-false, others-writers, writers-agree, writers-none}
 use Rattle.coordinator.specs.declared.running_agenda.RunningAgenda.{RunningAgenda}
 use Rattle.coordinator.specs.RunningAgenda.{Fits, entered, freeze_opened_after, held_after, opened_after, taken_if}
@@ -105,8 +106,8 @@ pub record Keeps (r n : RunningAgenda) (p : Place) (whos : List ℕ) (said : Sai
   pub held : n.held ≡ held_after p r.held now
 
 fits-at : (r n : RunningAgenda) (a b : Agenda) (p : Place) (whos : List ℕ) (said : Said) (now : ℕ) → b.kind ≡ a.kind → b.begun ≡ a.begun → b.log ≡ a.log ++ map (at_place p said now) whos
-    → is_nil whos ≡ false → p ≡ open_place (groups_left a) → Keeps r n p whos said now → Fits r a → n.agenda ≡ groups_left b → Fits n b
-fits-at r n a b p whos said now bk bb bl y e k f l = record {
+    → is_nil whos ≡ false → p ≡ open_place (groups_left a) → Keeps r n p whos said now → Fits r a → n.agenda ≡ groups_left b → HoldsOwn b → Fits n b
+fits-at r n a b p whos said now bk bb bl y e k f l own = record {
   kind = k.kind ∙ f.kind ∙ sym bk;
   left = l;
   froze = k.froze (has_frozen a.log) f.froze ∙ froze-said a.log p said now whos ∙ ap (λ es. writers (has_frozen es)) (sym bl);
@@ -120,15 +121,16 @@ fits-at r n a b p whos said now bk bb bl y e k f l = record {
       ∙ ap (λ t. last_time t (filter (λ (x : Entry). is_prepare_snapshot x.place.group) (a.log ++ map (at_place p said now) whos))) (sym bb)
       ∙ ap (λ es. last_time b.begun (filter (λ (x : Entry). is_prepare_snapshot x.place.group) es)) (sym bl);
   held = k.held ∙ ap (λ t. held_after p t now) f.held ∙ held-said a.log p said now whos y ∙ ap first_hold (sym bl);
+  own = own;
 }
 
--- what is kept fits the log in which these said it
+-- what is kept fits the log in which these said it, who were waited for
 pub fits-all_say : (r n : RunningAgenda) (p : Place) (whos : List ℕ) (said : Said) (now : ℕ) → is_nil whos ≡ false → p ≡ open_place r.agenda → Keeps r n p whos said now
-    → (a : Agenda) → Fits r a → Fits n (all_say said now whos a)
-fits-all_say r n p whos said now y e k a f =
+    → (a : Agenda) → Fits r a → ((v : ℕ) → is_among v whos ≡ true → is_among v (waits_now (groups_left a)) ≡ true) → Fits n (all_say said now whos a)
+fits-all_say r n p whos said now y e k a f waited =
     let q : p ≡ open_place (groups_left a) = e ∙ ap open_place f.left in
     fits-at r n a (all_say said now whos a) p whos said now refl refl (ap (λ x. a.log ++ map (at_place x said now) whos) (sym q)) y q k f
-    (k.left ∙ ap (advance whos (not (is_ok said))) f.left ∙ sym (groups_left-all_say said now whos a))
+    (k.left ∙ ap (advance whos (not (is_ok said))) f.left ∙ sym (groups_left-all_say said now whos a)) (own-said said now whos a waited f.own)
 
 -- ## the provider's groups
 

@@ -70,6 +70,11 @@ pub record IsSound (k : KeptCourse) : Type 0 where
   pub course : Course
   pub stands : StandsFor k course
 
+-- no order is sent or answered, and no writer is registered
+pub record KeepsBoxes (old new : KeptCourse) : Type 0 where
+  pub mailboxes : new.mailboxes ≡ old.mailboxes
+  pub len : length new.rows ≡ length old.rows
+
 -- the writer's answer to its open order was taken: what is kept follows the course before, and its mailbox is closed
 pub record IsTaken (o : Order) (w : ℕ) (k : KeptCourse) (c : Course) : Type 0 where
   pub order : open_order (left c.agenda) w ≡ Some o

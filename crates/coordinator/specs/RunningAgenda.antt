@@ -3,7 +3,7 @@
 -- (This project's own.)
 use Rattle.std.specs.Prelude.{ℕ, ◌≡◌, ◌||◌, Bool, true, false, not, List, [], filter, Option, Some, None, if◌then◌else◌}
 use Rattle.set_agenda.specs.declared.place.Place.{Place}
-use Rattle.set_agenda.specs.Agenda.{Agenda, groups_left, has_frozen, has_thawed, is_among, open_place, same_place}
+use Rattle.set_agenda.specs.Agenda.{Agenda, HoldsOwn, groups_left, has_frozen, has_thawed, is_among, open_place, same_place}
 use Rattle.set_agenda.specs.Limits.{first_hold, freeze_opened_at, is_hold, is_prepare_snapshot, last_time}
 use Rattle.set_agenda.specs.WriterSet.{writers}
 use Rattle.coordinator.specs.declared.running_agenda.RunningAgenda.{RunningAgenda}
@@ -20,6 +20,7 @@ pub record Fits (r : RunningAgenda) (a : Agenda) : Type 0 where
   pub opened : r.opened ≡ place_opened_at a
   pub freeze_opened : r.freeze_opened ≡ freeze_opened_at a
   pub held : r.held ≡ first_hold a.log
+  pub own : HoldsOwn a
 
 -- ## after something is said at a place
 

@@ -1,7 +1,7 @@
 ghost use Rattle.std.specs.Prelude.{◌≡◌, ◌↔◌, ◌+◌, ◌++◌, ◌<◌, ◌≤◌, ◌∷◌, [], ℕ, None, Some, false, is_some, length, slice_get, true, IfOk, IfSome, IsTrue, OnErr, OnOk};
 ghost use Rattle.writer_calls.specs.Mailbox.{answer_to};
 ghost use Rattle.writer_calls.specs.Script.{said_of};
-ghost use Rattle.set_agenda.specs.Agenda.{is_frozen, left, next_volume, open_group, order_now};
+ghost use Rattle.set_agenda.specs.Agenda.{is_frozen, is_held, left, next_step, next_volume, open_group, order_now};
 ghost use Rattle.set_agenda.specs.Course.{Course, answered, course_start, idle_ticks, lost_writers, released, stepped, timed};
 ghost use Rattle.set_agenda.specs.Begin.{are_distinct};
 ghost use Rattle.tick_limits.specs.Time.{answer_limit};
@@ -167,6 +167,16 @@ impl Coordinator {
         frozen_now(&self.kept.running).contains(writer)
     }
 
+    /// Whether the writes of the volume are held.
+    pub fn is_held(&self, volume: u32) -> bool
+        ensures { (c : Course) → Stands self.now c → result ≡ is_held c.agenda volume }
+    {
+        match &self.kept.running {
+            None => false,
+            Some(running) => running.agenda.is_held(volume),
+        }
+    }
+
     /// A writer's row.
     pub fn row(&self, writer: u32) -> WriterRow
         requires { writer < writer_count self.now }
@@ -201,6 +211,18 @@ impl Coordinator {
         match &self.kept.running {
             None => None,
             Some(running) => running.agenda.next_volume(),
+        }
+    }
+
+    /// The provider's next step, with its volume where the open group has one step for each; none where the provider
+    /// has no step to make.
+    pub fn next_step(&self) -> Option<(Group, Option<u32>)>
+        ensures step { (c : Course) → Stands self.now c → result ≡ next_step (left c.agenda) }
+        ensures works { is_some result ≡ works self.now }
+    {
+        match &self.kept.running {
+            None => None,
+            Some(running) => running.agenda.next_step(),
         }
     }
 

@@ -11,7 +11,7 @@ ghost use Rattle.coordinator.specs.KeptLimits.{NoneAfter};
 ghost use Rattle.coordinator.specs.Beginning.{ready_for};
 ghost use Rattle.tick_limits.specs.Time.{answer_limit, default_freeze};
 ghost use Rattle.coordinator.specs.Coordinator.{failed_if_running, is_running};
-ghost use Rattle.coordinator.specs.KeptCourse.{Follows, IsBy, IsSound, IsTaken, StandsFor, kind_if_done, least_if, least_limit, left_now, lost_by, ticks_if, treated_by};
+ghost use Rattle.coordinator.specs.KeptCourse.{Follows, IsBy, IsSound, IsTaken, KeepsBoxes, StandsFor, kind_if_done, least_if, least_limit, left_now, lost_by, ticks_if, treated_by};
 ghost use Rattle.coordinator.specs.OpenOrders.{AreFit, AreReady, HasRoom, SentAtMost, refusal, standing_in};
 
 use crate::posting::{close_all, post};
@@ -45,8 +45,7 @@ impl KeptCourse {
         ensures follows { (c : Course) → Follows self.old c → Follows self.new (failed why c) }
         ensures times { (now : ℕ) → IsBy now self.new.running }
         ensures live { kind_if_done self.new.running ≡ None }
-        ensures mailboxes { self.new.mailboxes ≡ self.old.mailboxes }
-        ensures len { length self.new.rows ≡ length self.old.rows }
+        ensures keeps { KeepsBoxes self.old self.new }
     {
         self.rows.change_each(RowChange::Aborted, &self.members);
         self.running = None;
@@ -58,8 +57,7 @@ impl KeptCourse {
         ensures follows { (c : Course) → Follows self.old c → Follows self.new (settled c) }
         ensures times { (now : ℕ) → IsBy now self.old.running → IsBy now self.new.running }
         ensures live { kind_if_done self.new.running ≡ None }
-        ensures mailboxes { self.new.mailboxes ≡ self.old.mailboxes }
-        ensures len { length self.new.rows ≡ length self.old.rows }
+        ensures keeps { KeepsBoxes self.old self.new }
     {
         if let Some(kind) = kind_if_done(&self.running) {
             self.outcome = outcome_after(kind, self.outcome);
@@ -74,8 +72,7 @@ impl KeptCourse {
         requires open { is_asked writer (left_now self.old.running) ≡ true }
         ensures follows { (c : Course) → Follows self.old c → Follows self.new (told order said now (writer ∷ []) c) }
         ensures times { IsBy now self.old.running → IsBy now self.new.running }
-        ensures mailboxes { self.new.mailboxes ≡ self.old.mailboxes }
-        ensures len { length self.new.rows ≡ length self.old.rows }
+        ensures keeps { KeepsBoxes self.old self.new }
     {
         if let Some(running) = &mut self.running {
             self.rows.change(RowChange::Told(order, said), writer);
@@ -89,8 +86,7 @@ impl KeptCourse {
         requires open { is_asking (left_now self.old.running) ≡ true }
         ensures follows { (c : Course) → Follows self.old c → Follows self.new (told order Lost now (waits_now (left_now self.old.running)) c) }
         ensures times { IsBy now self.old.running → IsBy now self.new.running }
-        ensures mailboxes { self.new.mailboxes ≡ self.old.mailboxes }
-        ensures len { length self.new.rows ≡ length self.old.rows }
+        ensures keeps { KeepsBoxes self.old self.new }
     {
         if let Some(running) = &mut self.running {
             let writers = running.agenda.waited();
@@ -105,8 +101,7 @@ impl KeptCourse {
         requires working { is_working (left_now self.old.running) ≡ true }
         ensures follows { (c : Course) → Follows self.old c → Follows self.new (worked now c) }
         ensures times { IsBy now self.old.running → IsBy now self.new.running }
-        ensures mailboxes { self.new.mailboxes ≡ self.old.mailboxes }
-        ensures len { length self.new.rows ≡ length self.old.rows }
+        ensures keeps { KeepsBoxes self.old self.new }
     {
         if let Some(running) = &mut self.running {
             running.work(now);
@@ -119,8 +114,7 @@ impl KeptCourse {
         ensures follows { (c : Course) → Follows self.old c → Follows self.new (decided fails said c) }
         ensures times { (now : ℕ) → IsBy now self.old.running → IsBy now self.new.running }
         ensures live { kind_if_done self.new.running ≡ None }
-        ensures mailboxes { self.new.mailboxes ≡ self.old.mailboxes }
-        ensures len { length self.new.rows ≡ length self.old.rows }
+        ensures keeps { KeepsBoxes self.old self.new }
     {
         if fails {
             self.fail_set(VssResult::Writer(error_of(said)));
@@ -137,8 +131,7 @@ impl KeptCourse {
         ensures follows { (c : Course) → Follows self.old c → Follows self.new (answered_to (Some order) writer said now c) }
         ensures times { IsBy now self.old.running → IsBy now self.new.running }
         ensures live { kind_if_done self.new.running ≡ None }
-        ensures mailboxes { self.new.mailboxes ≡ self.old.mailboxes }
-        ensures len { length self.new.rows ≡ length self.old.rows }
+        ensures keeps { KeepsBoxes self.old self.new }
     {
         self.tell(order, said, writer, now);
         self.decide(fails(order, said), said);
@@ -151,8 +144,7 @@ impl KeptCourse {
         ensures follows { (c : Course) → Follows self.old c → Follows self.new (stepped_as ok now c) }
         ensures times { IsBy now self.old.running → IsBy now self.new.running }
         ensures live { kind_if_done self.new.running ≡ None }
-        ensures mailboxes { self.new.mailboxes ≡ self.old.mailboxes }
-        ensures len { length self.new.rows ≡ length self.old.rows }
+        ensures keeps { KeepsBoxes self.old self.new }
     {
         if ok {
             self.work(now);
@@ -167,8 +159,7 @@ impl KeptCourse {
         requires few { length self.old.rows ≤ 64 }
         ensures follows { (c : Course) → Follows self.old c → Follows self.new (lost now c) }
         ensures times { IsBy now self.old.running → IsBy now self.new.running }
-        ensures mailboxes { self.new.mailboxes ≡ self.old.mailboxes }
-        ensures len { length self.new.rows ≡ length self.old.rows }
+        ensures keeps { KeepsBoxes self.old self.new }
     {
         if let Some(order) = open_order(&self.running) {
             self.lose(order, now);
@@ -181,8 +172,7 @@ impl KeptCourse {
         ensures follows { (c : Course) → Follows self.old c → Follows self.new (lost_decided fails c) }
         ensures times { (now : ℕ) → IsBy now self.old.running → IsBy now self.new.running }
         ensures live { kind_if_done self.new.running ≡ None }
-        ensures mailboxes { self.new.mailboxes ≡ self.old.mailboxes }
-        ensures len { length self.new.rows ≡ length self.old.rows }
+        ensures keeps { KeepsBoxes self.old self.new }
     {
         if fails {
             self.fail_set(VssResult::WriterNotResponding);
@@ -197,8 +187,7 @@ impl KeptCourse {
         ensures follows { (c : Course) → Follows self.old c → Follows self.new (treated_by limit now c) }
         ensures times { IsBy now self.old.running → IsBy now self.new.running }
         ensures live { kind_if_done self.old.running ≡ None → kind_if_done self.new.running ≡ None }
-        ensures mailboxes { self.new.mailboxes ≡ self.old.mailboxes }
-        ensures len { length self.new.rows ≡ length self.old.rows }
+        ensures keeps { KeepsBoxes self.old self.new }
     {
         match limit {
             None => {}
@@ -240,8 +229,7 @@ impl KeptCourse {
     pub fn release(&mut self)
         ensures follows { (c : Course) → Follows self.old c → Follows self.new (released c) }
         ensures rests { self.new.running ≡ None }
-        ensures mailboxes { self.new.mailboxes ≡ self.old.mailboxes }
-        ensures len { length self.new.rows ≡ length self.old.rows }
+        ensures keeps { KeepsBoxes self.old self.new }
     {
         self.rows.change_all(RowChange::Ended);
         self.members = WriterSet::new();
@@ -254,8 +242,7 @@ impl KeptCourse {
     pub fn prepare_for(&mut self, kind: Kind, asked: WriterSet)
         ensures follows { (c : Course) → Follows self.old c → asked ≡ writers (is_member (members_from (λ w. is_among w asked) 0 c.rows))
             → Follows self.new (ready_for kind (members_from (λ w. is_among w asked) 0 c.rows) c) }
-        ensures mailboxes { self.new.mailboxes ≡ self.old.mailboxes }
-        ensures len { length self.new.rows ≡ length self.old.rows }
+        ensures keeps { KeepsBoxes self.old self.new }
     {
         match kind {
             Kind::Gather => self.rows.change_all(RowChange::Gathered),
@@ -269,8 +256,7 @@ impl KeptCourse {
         ensures follows { (c : Course) (a : Agenda) → Follows self.old c → Fits running a → Follows self.new (settled (record c { agenda = Some a })) }
         ensures times { (now : ℕ) → NoneAfter now running → IsBy now self.new.running }
         ensures live { kind_if_done self.new.running ≡ None }
-        ensures mailboxes { self.new.mailboxes ≡ self.old.mailboxes }
-        ensures len { length self.new.rows ≡ length self.old.rows }
+        ensures keeps { KeepsBoxes self.old self.new }
     {
         self.running = Some(running);
         self.settle();

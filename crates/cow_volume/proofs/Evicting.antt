@@ -18,6 +18,7 @@ use Rattle.cow_volume.specs.GroupValue.{GroupValue, placed}
 use Rattle.cow_volume.specs.StandsFor.{StandsFor, is_named, record_of, told_in, IsVolume}
 use Rattle.cow_volume.specs.Changes.{gone_row, gone_to}
 use Rattle.cow_volume.specs.Calls.{is_among, history_at, IsEvicted}
+use Rattle.cow_volume.specs.Room.{gone_group}
 use Rattle.cow_volume.proofs.Group.{place_at, slice_get_inside, slice_get_map, set_above, same_number, other_number, number_is, number_is_other}
 use Rattle.cow_volume.proofs.Merging.{AreImages-filter, sets_of-filter, point_before, point_passes, was_row, point_of, free_set, record_is, and_left, and_right, true_not_false}
 use Rattle.cow_volume.proofs.Writing.{no_image}
@@ -549,9 +550,6 @@ room_made told g hs v b m stands lacked has =
       at_most sets all false after = ltb-false sets m after
 
 -- ## the group without the images up to a set
-
-abbrev pub gone_group : {D : Type 0} → ℕ → GroupValue D → GroupValue D
-gone_group m g = record { devices = g.devices; area = record { device = g.area.device; volumes = g.area.volumes; records = gone_to m g.area.records }; images = map (filter (λ s. nat_lt m s)) g.images }
 
 pub is_gone : {D : Type 0} → (m : ℕ) (g : GroupValue D) → AreGone m g (gone_group m g)
 is_gone m g = record { devices = refl; device = refl; volumes = refl; records = refl; images = refl }

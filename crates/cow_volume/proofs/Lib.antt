@@ -41,3 +41,4 @@ pub mod MixedRows
 pub mod TakingUp
 pub mod KeptParts
 pub mod OneVolume
+pub mod Listed

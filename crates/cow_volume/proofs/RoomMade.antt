@@ -8,12 +8,16 @@ use Rattle.diff_map.specs.MapValue.{newest}
 use Rattle.cow_volume.specs.GroupValue.{GroupValue, placed}
 use Rattle.cow_volume.specs.StandsFor.{StandsFor, record_of}
 use Rattle.cow_volume.specs.Changes.{has_record, gone_to}
-use Rattle.cow_volume.specs.Calls.{blocks_at, sets_in, sets_at, IsEvicted}
-use Rattle.cow_volume.specs.Room.{lacks_copy, lacks_after, all_after, IsRoomMade}
+use Rattle.cow_volume.specs.Calls.{blocks_at, sets_in, sets_at, made_room, IsEvicted}
+use Rattle.cow_volume.specs.Room.{lacks_copy, lacks_slot, lacks_after, all_after, gone_group, IsRoomMade, HasRoom}
+use Rattle.cow_volume.specs.Tied.{CopiesValue, AreOfImages}
+use Rattle.cow_volume.specs.CopiesAfter.{after_gone}
+use Rattle.cow_volume.specs.Parts.{group_of}
 use Rattle.cow_volume.proofs.Writing.{newest_is, group_needs, group_needs_none, group_needs_not}
 use Rattle.cow_volume.proofs.Counting.{group_used_of}
-use Rattle.cow_volume.proofs.Evicting.{gone_group, is_gone, gone_stands, gone_records, lacks_by_records, room_made}
+use Rattle.cow_volume.proofs.Evicting.{is_gone, gone_stands, gone_records, lacks_by_records, room_made}
 use Rattle.cow_volume.proofs.Rows.{lacks_newest, has_slot, has_from_slot}
+use Rattle.cow_volume.proofs.CopiedOnce.{lacked}
 
 -- a write needs a slot just where the newest image lacks a copy of the block
 pub needs_by_records : {D : Type 0} (told : D → Option (List (List ℕ))) (g : GroupValue D) (hs : List History) (v b : ℕ) → StandsFor told g hs → b < blocks_at g v → lacks_copy g.area.records v (sets_at g v) b ≡ needs_slot_in (slice_get hs v) b
@@ -48,3 +52,17 @@ room_lift told g hs v b m stands are within room =
     room_made told g hs v b m stands
     (λ k low. sym (lacks_lift told g hs v b k stands are within) ∙ room.needed k low)
     (sym (lacks_lift told g hs v b m stands are within) ∙ room.enough)
+
+-- where the images went that had to, there is room
+pub room_is : {D : Type 0} (told : D → Option (List (List ℕ))) (devices : List D) (old new : CopiesValue D) (v b up_to : ℕ) → AreRecords old.area.volumes old.area.records → AreOfImages old.area.records old.images
+    → b < blocks_at (group_of devices old) v → IsRoomMade old.area.records old.images v b up_to → new ≡ after_gone old up_to → HasRoom told (group_of devices old) (group_of devices new) v b up_to
+room_is told devices old new v b up_to are of within made gone =
+    let g = group_of devices old in
+    let left : group_of devices new ≡ gone_group up_to g = ap (group_of devices) gone in
+    record {
+      enough = ap (λ x. lacks_slot x.area.records v (sets_at x v) b) left ∙ made.enough;
+      left = left;
+      lacked = lacked old new v b up_to are of made gone;
+      evicted = λ hs stood. room_lift told g hs v b up_to stood are within made;
+      stands = λ hs stood. rw left (gone_stands told g (gone_group up_to g) hs up_to (is_gone up_to g) stood);
+    }

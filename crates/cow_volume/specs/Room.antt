@@ -1,13 +1,17 @@
--- When a write needs a slot for a copy, and lacks it, by the records; and which images go so that it has one. (That the oldest go
--- is the Volume Shadow Copy Service's; that those of the group's least set go together is this project's own.)
-use Rattle.std.specs.Prelude.{ℕ, ◌≡◌, ◌<◌, ◌≤◌, ◌⊎◌, Some, ◌==◌, ◌&&◌, not, Bool, true, false, List, [], ◌∷◌, length, map, filter, nat_lt, if◌then◌else◌, Option, None, slice_get}
+-- When a write needs a slot for a copy, and lacks it, by the records; and which images go so that it has one, in the order in which
+-- they are told. (That the oldest go is the Volume Shadow Copy Service's; that those of the group's least set go together is this project's own.)
+use Rattle.std.specs.Prelude.{ℕ, ◌≡◌, ◌<◌, ◌≤◌, ◌⊎◌, ◌+◌, Some, ◌==◌, ◌&&◌, not, Bool, true, false, List, [], ◌∷◌, length, map, filter, find, nat_lt, if◌then◌else◌, Option, None, slice_get}
+use Rattle.std.specs.List.{flat_map, range_with_len}
+use Rattle.write_history.specs.declared.evicted.Evicted.{Evicted}
+use Rattle.write_history.specs.History.{History}
+use Rattle.write_history.specs.Slots.{evicted_of}
 use Rattle.diff_area.specs.Records.{used_in}
 use Rattle.diff_area.specs.declared.table_record.Record.{Record}
 use Rattle.diff_map.specs.MapValue.{newest}
 use Rattle.cow_volume.specs.GroupValue.{GroupValue}
-use Rattle.cow_volume.specs.StandsFor.{record_of}
+use Rattle.cow_volume.specs.StandsFor.{StandsFor, record_of}
 use Rattle.cow_volume.specs.Changes.{has_record, gone_to}
-use Rattle.cow_volume.specs.Calls.{sets_in}
+use Rattle.cow_volume.specs.Calls.{IsEvicted, made_room, is_among, sets_at, sets_in}
 
 -- the newest of these images of volume v lacks a copy of block b; where no image stands, none lacks one
 abbrev pub lacks_copy : List Record → ℕ → List ℕ → ℕ → Bool
@@ -70,3 +74,32 @@ gone_group up_to g = record {
   area = record { device = g.area.device; volumes = g.area.volumes; records = gone_to up_to g.area.records };
   images = all_after up_to g.images;
 }
+
+-- there is room for a write of block b to volume v: the images of the sets up to this one went, and no more than had to
+pub record HasRoom {D : Type 0} (told : D → Option (List (List ℕ))) (old new : GroupValue D) (v b up_to : ℕ) : Type 0 where
+  pub enough : lacks_slot new.area.records v (sets_at new v) b ≡ false
+  pub left : new ≡ gone_group up_to old
+  pub lacked : lacks_copy new.area.records v (sets_at new v) b ≡ true → lacks_copy old.area.records v (sets_at old v) b ≡ true
+  pub evicted : (hs : List History) → StandsFor told old hs → IsEvicted old v b hs up_to
+  pub stands : (hs : List History) → StandsFor told old hs → StandsFor told new (made_room old up_to hs)
+
+-- ## the images that go
+
+-- the volumes, numbered from v on, that have an image of set n
+abbrev pub holders : ℕ → ℕ → List (List ℕ) → List ℕ
+holders n v [] = []
+holders n v (sets ∷ images) = if is_among n sets then v ∷ holders n (v + 1) images else holders n (v + 1) images
+
+-- the images of the sets up to this one, in order of sets and then of volumes
+abbrev pub images_going : ℕ → List (List ℕ) → List Evicted
+images_going up_to images = flat_map (λ n. evicted_of n (holders n 0 images)) (range_with_len 1 up_to)
+
+-- the first of these sets that is above one
+abbrev pub first_above : ℕ → List ℕ → Option ℕ
+first_above above sets = find (λ s. nat_lt above s) sets
+
+-- a set is above one, and not above a bound, and no volume has an image of a set between
+pub record IsNextSet (images : List (List ℕ)) (above up_to set : ℕ) : Type 0 where
+  pub higher : above < set
+  pub within : set ≤ up_to
+  pub none : (n : ℕ) → above < n → n < set → holders n 0 images ≡ []

@@ -292,22 +292,6 @@ impl<D: Device> Copies<D> {
         self.area
     }
 
-    /// Makes room for a write of the block: where it needs a slot for a copy and none is free, the images up to a set go from all
-    /// volumes, and no more than have to. That set is answered, 0 where none went.
-    pub(crate) fn make_room(&mut self, v: u32, block: u32) -> u32
-        requires { v < length self.old.area.volumes }
-        ensures gone { self.new ≡ after_gone self.old result }
-        ensures room { IsRoomMade self.old.area.records self.old.images v block result }
-    {
-        let _facts = self.volumes();
-        let _facts = self.slots();
-        let up_to = self.goes_up_to(v, block);
-        if up_to > 0 {
-            self.drop_up_to(up_to);
-        }
-        up_to
-    }
-
     /// The set up to which images have to go for a write of the block, 0 where none has to.
     pub(crate) fn goes_up_to(&self, v: u32, block: u32) -> u32
         requires { v < length self.now.area.volumes }
@@ -338,10 +322,14 @@ impl<D: Device> Copies<D> {
     }
 
     /// The images up to a set go from all volumes, with their copies.
-    fn drop_up_to(&mut self, set: u32)
+    pub(crate) fn drop_up_to(&mut self, set: u32)
         ensures { self.new ≡ after_gone self.old set }
     {
+        let _facts = self.volumes();
         let _facts = self.slots();
+        if set == 0 {
+            return;
+        }
         for v in 0..self.volumes() {
             self.drop_up_to_on(v, set);
         }
@@ -406,7 +394,7 @@ fn newest(images: &[u32]) -> u32
 }
 
 /// The lesser of a set and of another, where there is another.
-fn lesser(set: u32, other: Option<u32>) -> u32
+pub(crate) fn lesser(set: u32, other: Option<u32>) -> u32
     ensures { result ≡ lesser set other }
 {
     match other {

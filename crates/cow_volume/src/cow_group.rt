@@ -1,4 +1,4 @@
-ghost use Rattle.std.specs.Prelude.{ℕ, ◌≡◌, ◌<◌, ◌≤◌, ◌++◌, ◌∷◌, List, [], true, false, Some, length, replicate, map, slice_get, slice_set, is_some, All, IfOk, IfErr, IfSome, OnOk};
+ghost use Rattle.std.specs.Prelude.{ℕ, ◌≡◌, ◌<◌, ◌≤◌, ◌*◌, ◌++◌, ◌∷◌, List, [], true, false, Some, length, replicate, map, slice_get, slice_set, is_some, vec_capacity, All, IfOk, IfErr, IfSome, OnOk};
 ghost use Rattle.block_data.specs.Runs.{zeros};
 ghost use Rattle.block_data.specs.PayloadBytes.{payload_bytes};
 ghost use Rattle.write_history.specs.History.{History, fresh, cut};
@@ -7,11 +7,11 @@ ghost use Rattle.diff_area.specs.Records.{free, AreVolumes};
 ghost use Rattle.diff_map.specs.MapValue.{AreImages};
 ghost use Rattle.cow_volume.specs.GroupValue.{placed};
 ghost use Rattle.cow_volume.specs.StandsFor.{StandsFor};
-ghost use Rattle.cow_volume.specs.Calls.{HasCauseAt, HasImageCause, IsNow, IsShown, IsQuiet, IsUnfailed, IsWrite, IsDropped, IsRevert, IsEvicted, VolumeRose, made_room, history_at, changed_at, is_among, sets_at, blocks_at};
+ghost use Rattle.cow_volume.specs.Calls.{HasCauseAt, HasImageCause, IsNow, IsShown, IsQuiet, IsUnfailed, IsWrite, IsDropped, IsRevert, IsEvicted, VolumeRose, history_at, changed_at, is_among, sets_at, blocks_at};
 ghost use Rattle.cow_volume.specs.Parts.{IsLentBy, IsUnseen};
 ghost use Rattle.cow_volume.specs.Ending.{IsSync};
 ghost use Rattle.cow_volume.specs.Resuming.{AllHaveImages, IsResumeFault, AreKept};
-ghost use Rattle.cow_volume.specs.Room.{lacks_copy, lacks_slot, is_full, gone_group};
+ghost use Rattle.cow_volume.specs.Room.{HasRoom, lacks_copy, lacks_slot, is_full, images_going};
 ghost use Rattle.cow_volume.specs.Steps.{IsPutOr};
 ghost use Rattle.cow_volume.specs.CopiedOnce.{IsCopiedOnce};
 
@@ -20,6 +20,7 @@ use crate::copies::Copies;
 use crate::copying::{copy_block, put_block};
 use crate::ending::{flush_one, sync_all};
 use crate::image_fault::ImageFault;
+use crate::listing::list_going;
 use crate::reads::{has_image, lend_now, lend_shown, read_now, read_shown};
 use crate::resume_fault::ResumeFault;
 use crate::revert_fault::RevertFault;
@@ -32,6 +33,7 @@ use std::alloc::Global;
 use std::marker::Model;
 use volume_device::Device;
 use vss_names::{Numbers, OutOfMemory};
+use write_history::Evicted;
 
 /// A group of volumes over one diff area, with the images that stand of them. Contracts see its devices, its area, and
 /// for each volume the sets of its images.
@@ -263,14 +265,49 @@ impl<D: Device> CowGroup<D> {
                 evicted_up_to: 0,
             });
         }
-        let evicted_up_to = self.make_room(v, block);
-        match self.write_with_room(v, block, payload) {
+        let evicted_up_to = self.drop_for(v, block);
+        match self.put(v, block, payload) {
             Ok(()) => Ok(Written { evicted_up_to }),
             Err(cause) => Err(WriteFault {
                 cause,
                 evicted_up_to,
             }),
         }
+    }
+
+    /// Makes room for a write of a block. Where its old bytes need a slot for a copy and none is free, images go, those of the
+    /// group's least set together, until one is. The set up to which they went is answered, 0 where none did; `gone` then has
+    /// them, in order of sets and then of volumes, and no memory is taken for it.
+    pub fn make_room(&mut self, v: u32, block: u32, gone: &mut Vec<Evicted>) -> u32
+        requires volume { v < length self.old.area.volumes }
+        requires in_range { block < blocks_at self.old v }
+        requires space { 512 * length self.old.area.volumes ≤ vec_capacity gone.old }
+        ensures room { HasRoom D.told self.old self.new v block result }
+        ensures told { gone.new.items ≡ images_going result self.old.images }
+        ensures space { vec_capacity gone.new ≡ vec_capacity gone.old }
+    {
+        let _facts = self.copies.slots();
+        let _facts = self.copies.volumes();
+        let up_to = self.copies.goes_up_to(v, block);
+        list_going(&self.copies, up_to, gone);
+        self.copies.drop_up_to(up_to);
+        up_to
+    }
+
+    /// Writes a block that lacks no slot. Its old bytes are copied into the lowest free slot where they have to be, and then it is
+    /// overwritten; a fault in either gives the slot back.
+    pub fn put(&mut self, v: u32, block: u32, payload: &Payload) -> Result<(), Cause>
+        requires volume { v < length self.old.area.volumes }
+        requires in_range { block < blocks_at self.old v }
+        requires room { lacks_slot self.old.area.records v (sets_at self.old v) block ≡ false }
+        ensures put { IsPutOr D.told D.size D.count D.lending self.old self.new v (record { block = block; bytes = payload_bytes payload.now }) result }
+        ensures once { IsCopiedOnce D.told self.old self.new v block }
+    {
+        if self.copies.lacks_copy(v, block) {
+            return self.write_first(v, block, payload);
+        }
+        let device = &mut self.devices[v as usize];
+        put_block(device, &mut self.scratch, block, payload)
     }
 
     /// The image of a set goes. Its copies go to the next older image, where that lacks them.
@@ -333,34 +370,17 @@ impl<D: Device> CowGroup<D> {
         (devices, copies.into_area())
     }
 
-    /// Makes room for a copy of the block, where a write of it lacks its slot.
-    fn make_room(&mut self, v: u32, block: u32) -> u32
+    /// The images go that have to for a write of the block. The set up to which they go is answered.
+    fn drop_for(&mut self, v: u32, block: u32) -> u32
         requires volume { v < length self.old.area.volumes }
         requires in_range { block < blocks_at self.old v }
-        ensures room { lacks_slot self.new.area.records v (sets_at self.new v) block ≡ false }
-        ensures gone { self.new ≡ gone_group result self.old }
-        ensures lacked { lacks_copy self.new.area.records v (sets_at self.new v) block ≡ true → lacks_copy self.old.area.records v (sets_at self.old v) block ≡ true }
-        ensures evicted { (hs : List History) → StandsFor D.told self.old hs → IsEvicted self.old v block hs result }
-        ensures stands { (hs : List History) → StandsFor D.told self.old hs → StandsFor D.told self.new (made_room self.old result hs) }
+        ensures { HasRoom D.told self.old self.new v block result }
     {
         let _facts = self.copies.slots();
         let _facts = self.copies.volumes();
-        self.copies.make_room(v, block)
-    }
-
-    /// Writes a block for which no slot is lacking.
-    fn write_with_room(&mut self, v: u32, block: u32, payload: &Payload) -> Result<(), Cause>
-        requires volume { v < length self.old.area.volumes }
-        requires in_range { block < blocks_at self.old v }
-        requires room { lacks_slot self.old.area.records v (sets_at self.old v) block ≡ false }
-        ensures put { IsPutOr D.told D.size D.count D.lending self.old self.new v (record { block = block; bytes = payload_bytes payload.now }) result }
-        ensures once { IsCopiedOnce D.told self.old self.new v block }
-    {
-        if self.copies.lacks_copy(v, block) {
-            return self.write_first(v, block, payload);
-        }
-        let device = &mut self.devices[v as usize];
-        put_block(device, &mut self.scratch, block, payload)
+        let up_to = self.copies.goes_up_to(v, block);
+        self.copies.drop_up_to(up_to);
+        up_to
     }
 
     /// Writes a block whose old bytes are copied first.

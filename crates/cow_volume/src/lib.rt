@@ -16,6 +16,7 @@ mod cow_volume;
 mod ending;
 mod image_fault;
 mod laws;
+mod listing;
 mod reads;
 mod renewing;
 mod resume_fault;

@@ -13,6 +13,7 @@ use Rattle.write_history.specs.declared.mark.Mark.{Mark}
 use Rattle.write_history.specs.declared.mark.Mark.TheVariants.{Clean}
 use Rattle.write_history.specs.declared.move_item.Move.{Move}
 use Rattle.write_history.specs.History.{Write, History, written as with_write}
+use Rattle.write_history.specs.Slots.{evicted_of}
 use Rattle.writer_calls.specs.declared.answer.Answer.TheVariants.{Ok}
 use Rattle.writer_calls.specs.declared.scripted.Scripted.{Scripted}
 use Rattle.writer_calls.specs.Script.{scripted_answer}
@@ -33,7 +34,7 @@ use Rattle.vss_model.specs.Images.{cleared, set_loses_image, with_room_if, put, 
 use Rattle.vss_model.specs.Steps.{cut_if, cut_each, cut_set, step_made, answered, stepped}
 use Rattle.vss_model.specs.Lines.{line}
 use Rattle.vss_model.specs.Acts.{order_of_writer, line_enabled, enabled, happens, after}
-use Rattle.vss_model.specs.Effects.{volumes_losing, evicted_of, evicted_for, evicted_at, evicted}
+use Rattle.vss_model.specs.Effects.{volumes_losing, evicted_for, evicted_at, evicted}
 use Rattle.vss_model.specs.Trail.{Run, cursor, next_line, line_event, answer_event, script_event, event_of, act_of, event_enabled, none_can_act, may_move}
 use Rattle.generated.specs.Asked.{Asked, Begins, Gathers, Awaits, Names, Starts, Adds, Prepares, Snapshots, Completes, Ends, IsAsked, AreAsked}
 use Rattle.generated.specs.Spots.{Spot, spot_after, completes_sets, is_full}

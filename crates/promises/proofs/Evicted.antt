@@ -5,8 +5,10 @@ use Rattle.std.specs.List.{list_any, list_all, flat_map}
 use Rattle.std.proofs.lemmas.List.Folds.{list_any-append}
 use Rattle.block_data.specs.declared.payload.Payload.TheVariants.{Fill, Stamp}
 use Rattle.block_data.specs.PayloadBytes.{payload_bytes}
+use Rattle.write_history.specs.declared.evicted.Evicted.{Evicted}
 use Rattle.write_history.specs.declared.mark.Mark.{Mark}
 use Rattle.write_history.specs.History.{Write, History}
+use Rattle.write_history.specs.Slots.{evicted_of}
 use Rattle.set_agenda.specs.Agenda.{is_among}
 use Rattle.scenario.specs.declared.op.Op.{Op}
 use Rattle.scenario.specs.declared.op.Op.TheVariants as op
@@ -14,12 +16,11 @@ use Rattle.scenario.specs.Calls.{Target, target_of}
 use Rattle.scenario.specs.Plan.{Plan}
 use Rattle.vss_model.specs.declared.event.Event.{Event}
 use Rattle.vss_model.specs.declared.event.Event.TheVariants.{Line, Answer as AnswerEvent, Provider, Idle}
-use Rattle.vss_model.specs.declared.evicted.Evicted.{Evicted}
 use Rattle.vss_model.specs.State.{State, SetRow, is_complete, in_progress, has_image, is_kept_set}
 use Rattle.vss_model.specs.Images.{cleared, set_loses_image, with_room, put, write}
 use Rattle.vss_model.specs.Facts.{NumberedFrom}
 use Rattle.vss_model.specs.Acts.{Act, enabled, happens, after, state}
-use Rattle.vss_model.specs.Effects.{volumes_losing, evicted_of, evicted_for, evicted_at, evicted}
+use Rattle.vss_model.specs.Effects.{volumes_losing, evicted_for, evicted_at, evicted}
 use Rattle.vss_model.proofs.Orderly.{true_not_false}
 use Rattle.vss_model.proofs.OrderlyActs.{orderly}
 use Rattle.vss_model.proofs.Rows.{running_incomplete}

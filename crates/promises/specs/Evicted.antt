@@ -2,12 +2,12 @@
 -- and, of one set, of their volumes. No other act tells any. (This project's own.)
 use Rattle.std.specs.Prelude.{ℕ, ◌≡◌, ◌==◌, ◌&&◌, ◌||◌, not, nat_lt, Bool, true, false, List, [], ◌∷◌, Some, is_some}
 use Rattle.std.specs.List.{list_any, list_all}
+use Rattle.write_history.specs.declared.evicted.Evicted.{Evicted}
 use Rattle.scenario.specs.declared.op.Op.{Op}
 use Rattle.scenario.specs.Calls.{Target, target_of}
 use Rattle.scenario.specs.Plan.{Plan}
 use Rattle.vss_model.specs.declared.event.Event.{Event}
 use Rattle.vss_model.specs.declared.event.Event.TheVariants.{Line}
-use Rattle.vss_model.specs.declared.evicted.Evicted.{Evicted}
 use Rattle.vss_model.specs.State.{is_kept_set}
 use Rattle.vss_model.specs.Acts.{Act, enabled, after, state}
 use Rattle.vss_model.specs.Effects.{evicted}

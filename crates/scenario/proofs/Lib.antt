@@ -9,3 +9,4 @@ pub mod Kept
 pub mod Whole
 pub mod Stored
 pub mod Named
+pub mod Places

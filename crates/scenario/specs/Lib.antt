@@ -1,4 +1,5 @@
 pub mod Plan
+pub mod Places
 pub mod Calls
 pub mod Bounds
 pub mod Keys

@@ -5,7 +5,7 @@
 //! (`specs/Entries.antt`, with `specs/Declarations.antt` for what is declared and `specs/Ops.antt` for the lines of a lane),
 //! and the first refused line is told: `reading_of`. `parse` is proved to answer exactly that, unless memory runs out.
 //! Contracts see a `Scenario` as its plan, which keeps to the limits of `specs/Bounds.antt` and has names by
-//! `specs/Named.antt`.
+//! `specs/Named.antt`. Where each volume is among the groups (`specs/Places.antt`) is found once, when the text is read.
 //!
 //! The reader holds what every line says (`specs/Drafts.antt`); names are found in tables, and so are the rows of a
 //! writer's script.
@@ -36,6 +36,7 @@ mod op;
 mod ops;
 mod parsing;
 mod parts;
+mod place;
 mod quantity;
 mod reason;
 mod refusal;
@@ -58,6 +59,7 @@ pub use lane_line::LaneLine;
 pub use name_kind::NameKind;
 pub use op::Op;
 pub use parsing::{parse, refusal_of};
+pub use place::Place;
 pub use quantity::Quantity;
 pub use reason::Reason;
 pub use refusal::Refusal;

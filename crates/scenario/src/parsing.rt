@@ -10,6 +10,7 @@ use crate::cause::Cause;
 use crate::draft::Draft;
 use crate::entries::entry_of;
 use crate::expected::Expected;
+use crate::place::places_of;
 use crate::reason::Reason;
 use crate::refusal::Refusal;
 use crate::refused::Refused;
@@ -94,12 +95,13 @@ fn finish(alloc: Global, text: &[u8], draft: Draft) -> Result<Scenario, OutOfMem
 {
     let source = Text::copy(alloc, text)?;
     let parts = draft.into_parts(alloc)?;
-    Ok(Scenario::of(source, parts))
+    let places = places_of(alloc, &parts.volumes)?;
+    Ok(Scenario::of(source, parts, places))
 }
 
 /// Reads a scenario from its text, forward and once. A text is refused at its first bad line, with the first check that
 /// this does not pass. Memory is taken for a copy of the text, for all that it declares, the names among it, for each metadata document that is read,
-/// and for the lines of the lanes.
+/// for the lines of the lanes, and for the places of the volumes.
 pub fn parse(alloc: Global, text: &[u8]) -> Result<Scenario, Refused>
     requires { length text.now < 4294967295 }
     ensures read { IfOk result (λ scenario. reading_of text.now ≡ IsScenario scenario) }

@@ -4,12 +4,14 @@ ghost use Rattle.writer_calls.specs.Script.{scripted_answer};
 ghost use Rattle.scenario.specs.Plan.{token, lines_of, acts_as, script_of};
 ghost use Rattle.scenario.specs.Bounds.{IsPlan, IsSpan};
 ghost use Rattle.scenario.specs.Named.{HasNames};
+ghost use Rattle.scenario.specs.Places.{ArePlaces, IsPlaceOf, volume_in};
 
 use crate::group_row::GroupRow;
 use crate::lane::Lane;
 use crate::lane_line::LaneLine;
 use crate::op::Op;
 use crate::parts::Parts;
+use crate::place::{Place, find_place};
 use crate::span::Span;
 use crate::volume_row::VolumeRow;
 use crate::writer::Writer;
@@ -23,6 +25,8 @@ use writer_meta::Metadata;
 pub struct Scenario {
     source: Text,
     volumes: Vec<VolumeRow>,
+    /// Where each volume is.
+    places: Vec<Place>,
     groups: Vec<GroupRow>,
     writers: Vec<Writer>,
     lanes: Vec<Lane>,
@@ -33,26 +37,31 @@ impl Model for Scenario {
     ghost use Rattle.scenario.specs.Views.{plan_of};
     ghost use Rattle.scenario.specs.Bounds.{IsPlan};
     ghost use Rattle.scenario.specs.Named.{HasNames};
+    ghost use Rattle.std.specs.Prelude.{length};
+    ghost use Rattle.scenario.specs.Places.{ArePlaces};
 
     ghost Value = { Plan };
 
     ghost view = { plan_of };
 
-    ghost invariant = { λ a. IsPlan (plan_of a) × HasNames (plan_of a) };
+    ghost invariant = { λ a. IsPlan (plan_of a) × HasNames (plan_of a)
+        × ArePlaces a.volumes.items (length a.volumes.items) a.places.items };
 }
 
 impl Scenario {
     ghost use Rattle.scenario.specs.Views.{plan_from};
 
     /// The scenario of a text, without taking memory.
-    pub(crate) fn of(source: Text, parts: Parts) -> Scenario
+    pub(crate) fn of(source: Text, parts: Parts, places: Vec<Place>) -> Scenario
         requires plan { IsPlan (plan_from source.bytes parts.volumes.items parts.groups.items parts.writers.items parts.lanes.items) }
         requires names { HasNames (plan_from source.bytes parts.volumes.items parts.groups.items parts.writers.items parts.lanes.items) }
+        requires places { ArePlaces parts.volumes.items (length parts.volumes.items) places.items }
         ensures { result ≡ plan_from source.bytes parts.volumes.items parts.groups.items parts.writers.items parts.lanes.items }
     {
         Scenario {
             source,
             volumes: parts.volumes,
+            places,
             groups: parts.groups,
             writers: parts.writers,
             lanes: parts.lanes,
@@ -74,6 +83,24 @@ impl Scenario {
         ensures { slice_get self.now.volumes v ≡ Some result }
     {
         self.volumes[v as usize]
+    }
+
+    /// Where a declared volume is: its group, and its number within the group.
+    pub fn place(&self, v: u32) -> Place
+        requires { v < length self.now.volumes }
+        ensures { IsPlaceOf self.now v result.group result.volume }
+    {
+        self.places[v as usize]
+    }
+
+    /// Which volume is at a place; how many volumes there are where none is.
+    pub fn volume_at(&self, place: Place) -> u32
+        ensures { result ≡ volume_in place.group self.now.volumes place.volume }
+    {
+        match find_place(&self.places, place) {
+            Some(v) => v as u32,
+            None => self.volumes.len() as u32,
+        }
     }
 
     /// How many groups of volumes there are. They are numbered by their first volumes.

@@ -26,18 +26,17 @@ use Rattle.vss_model.specs.Effects.{lost_after, lost_order_if}
 use Rattle.vss_model.specs.Sessions.{volumes_of}
 use Rattle.vss_model.specs.Told.{mark_of}
 use Rattle.sessions.specs.declared.ended.Ended.{Ended}
-use Rattle.sessions.specs.declared.image_change.ImageChange.{ImageChange}
 use Rattle.sessions.specs.declared.session_move.SessionMove.{SessionMove}
 use Rattle.sessions.specs.Keeps.{SessionsValue, Keeps, IsInOrder}
 use Rattle.sessions.specs.Concluded.{IsTold}
-use Rattle.sessions.specs.Told.{told_of, told_with, change_after}
+use Rattle.sessions.specs.Told.{told_of, told_with}
 use Rattle.sessions.specs.Moves.{CameTo, LosesNobody}
 use Rattle.sessions.proofs.Moving.{Happens}
 use Rattle.sessions.proofs.CourseSteps.{came_to}
 
 -- ## an agenda begins
 
-pub begun_so : (new : SessionsValue) (st : State) (c : Course) (e : Ended) (m : SessionMove) → m ≡ told_with (told.Result AsyncPending) e (change_after e) → Keeps new (followed true c st) → IsTold e st (followed true c st)
+pub begun_so : (new : SessionsValue) (st : State) (c : Course) (e : Ended) (m : SessionMove) → m ≡ told_with (told.Result AsyncPending) e → Keeps new (followed true c st) → IsTold e st (followed true c st)
     → (m.outcome.told ≡ told.Result AsyncPending) × LosesNobody m × CameTo st (followed true c st) new m
 begun_so new st c e m is kept tells = subst (λ (x : SessionMove). (x.outcome.told ≡ told.Result AsyncPending) × LosesNobody x × CameTo st (followed true c st) new x) (sym is)
     (refl, record { lost = refl; order = refl }, came_to new e st (followed true c st) (told.Result AsyncPending) 0 None kept tells)
@@ -82,21 +81,20 @@ later_keeps x st n clock e kept = record {
 }
 
 -- with `now` the clock afterwards, and as it was before with `n` more
-pub gone_on_so : (new : SessionsValue) (st : State) (t : Told) (n now : ℕ) (e : Ended) (lost : ℕ) (order : Option Order) (change : ImageChange) → change ≡ change_after e → now ≡ st.clock + n
+pub gone_on_so : (new : SessionsValue) (st : State) (t : Told) (n now : ℕ) (e : Ended) (lost : ℕ) (order : Option Order) → now ≡ st.clock + n
     → writers_of lost ≡ lost_writers now st.course → order ≡ lost_order_kept (lost_writers now st.course) (order_now (left st.course.agenda))
     → Keeps new (followed (runs st) (course_timed now st.course) (later n st)) → IsTold e (later n st) (followed (runs st) (course_timed now st.course) (later n st))
-    → (t ≡ t) × (writers_of lost ≡ lost_after (Some n) st) × (order ≡ lost_order_if (lost_after (Some n) st) (order_now (left_now st))) × CameTo st (ticked n st) new (told_of t lost order e change)
-gone_on_so new st t n now e lost order change changed clock gone at kept tells = (
+    → (t ≡ t) × (writers_of lost ≡ lost_after (Some n) st) × (order ≡ lost_order_if (lost_after (Some n) st) (order_now (left_now st))) × CameTo st (ticked n st) new (told_of t lost order e)
+gone_on_so new st t n now e lost order clock gone at kept tells = (
   refl,
   gone ∙ ap (λ (k : ℕ). lost_writers k st.course) clock,
   at ∙ ap (λ (k : ℕ). lost_order_kept (lost_writers k st.course) (order_now (left st.course.agenda))) clock ∙ same_order (lost_writers (st.clock + n) st.course) (order_now (left st.course.agenda)),
-  subst (λ (x : State). CameTo st x new (told_of t lost order e change)) (sym (ticked_is n st))
-      (subst (λ (k : ℕ). CameTo st (followed (runs st) (course_timed k st.course) (later n st)) new (told_of t lost order e change)) clock
-      (subst (λ (x : ImageChange). CameTo st (followed (runs st) (course_timed now st.course) (later n st)) new (told_of t lost order e x)) (sym changed)
-      (came_later new e st n (followed (runs st) (course_timed now st.course) (later n st)) t lost order kept tells))),
+  subst (λ (x : State). CameTo st x new (told_of t lost order e)) (sym (ticked_is n st))
+      (subst (λ (k : ℕ). CameTo st (followed (runs st) (course_timed k st.course) (later n st)) new (told_of t lost order e)) clock
+      (came_later new e st n (followed (runs st) (course_timed now st.course) (later n st)) t lost order kept tells)),
 )
   where
-    came_later : (new : SessionsValue) (e : Ended) (st : State) (n : ℕ) (after : State) (t : Told) (lost : ℕ) (order : Option Order) → Keeps new after → IsTold e (later n st) after → CameTo st after new (told_of t lost order e (change_after e))
+    came_later : (new : SessionsValue) (e : Ended) (st : State) (n : ℕ) (after : State) (t : Told) (lost : ℕ) (order : Option Order) → Keeps new after → IsTold e (later n st) after → CameTo st after new (told_of t lost order e)
     came_later new e st n after t lost order kept tells = came_to new e st after t lost order kept (record { ends = tells.ends; volumes = tells.volumes })
 
 -- ## the events

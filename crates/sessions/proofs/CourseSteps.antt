@@ -3,24 +3,19 @@ use Rattle.std.proofs.Common.{◌≡◌, ℕ, suc, ◌==◌, length, List, [], �
 use Rattle.std.specs.Prelude.{is_some, not, ◌&&◌, find, option_map, if◌then◌else◌}
 use Rattle.vss_names.specs.declared.order.Order.{Order}
 use Rattle.vss_names.specs.declared.set_outcome.SetOutcome.{SetOutcome}
-use Rattle.vss_names.specs.declared.set_outcome.SetOutcome.TheVariants.{Running, Complete, Failed}
 use Rattle.write_history.specs.declared.mark.Mark.{Mark}
-use Rattle.write_history.specs.History.{History, dropped}
 use Rattle.writer_state.specs.declared.said.Said.{Said}
 use Rattle.writer_calls.specs.declared.answer.Answer.{Answer}
 use Rattle.writer_calls.specs.declared.standing.Standing.{Standing}
 use Rattle.writer_calls.specs.Script.{said_of}
-use Rattle.set_agenda.specs.declared.kind.Kind.{Kind}
-use Rattle.set_agenda.specs.declared.kind.Kind.TheVariants as kind
 use Rattle.set_agenda.specs.declared.group.Group.{Group}
 use Rattle.set_agenda.specs.declared.group.Group.TheVariants.{Orders, PreCommit, Flush, Hold, Commit, Release, PostCommit}
 use Rattle.set_agenda.specs.declared.group.Group.TheVariants as group
-use Rattle.set_agenda.specs.Agenda.{Agenda, left, open_order, open_group, next_volume, is_working, groups_left, is_done}
-use Rattle.set_agenda.specs.Course.{Course, sent, posted, settled, settled_in, settled_if, worked, answered as course_answered, stepped as course_stepped}
+use Rattle.set_agenda.specs.Agenda.{left, open_order, open_group, next_volume, is_working}
+use Rattle.set_agenda.specs.Course.{Course, sent, answered as course_answered, stepped as course_stepped}
 use Rattle.set_agenda.specs.WriterSet.{writers_of}
 use Rattle.requestor.specs.Session.{Session}
 use Rattle.coordinator.specs.OpenOrders.{standing_in, number_in}
-use Rattle.coordinator.specs.Effects.{outcome_told}
 use Rattle.scenario.specs.Plan.{Plan}
 use Rattle.vss_model.specs.declared.event.Event.TheVariants.{Answer as AnswerEvent, Provider}
 use Rattle.vss_model.specs.declared.told.Told.{Told}
@@ -28,34 +23,27 @@ use Rattle.vss_model.specs.declared.told.Told.TheVariants as told
 use Rattle.vss_model.specs.Reply.{Answered, Stepped}
 use Rattle.vss_model.specs.State.{State, SetRow, in_progress, is_running, left_now}
 use Rattle.vss_model.specs.Ending.{runs, followed}
-use Rattle.vss_model.specs.Steps.{answered, stepped, stepped_as, step_made, cut_set, row_cut, with_cut, is_flush, is_failed_step, cut_each}
+use Rattle.vss_model.specs.Steps.{answered, stepped, stepped_as, step_made, cut_set, row_cut, with_cut, is_flush, is_failed_step}
 use Rattle.vss_model.specs.Acts.{order_of_writer, answer_reply, step_reply, flush_allows}
 use Rattle.vss_model.specs.Effects.{ended_of}
 use Rattle.vss_model.specs.Facts.{IsOfSession, has_failed}
-use Rattle.vss_model.specs.Sessions.{volumes_of}
 use Rattle.vss_model.specs.Outcome.{EndsAs}
 use Rattle.vss_model.specs.Told.{mark_if, mark_of}
 use Rattle.vss_model.proofs.Orderly.{IsSameRow, numbered-map, newest-map, find-map}
 use Rattle.sessions.specs.declared.ended.Ended.{Ended}
-use Rattle.sessions.specs.declared.image_change.ImageChange.{ImageChange}
-use Rattle.sessions.specs.declared.image_change.ImageChange.TheVariants.{Cut}
 use Rattle.sessions.specs.declared.session_move.SessionMove.{SessionMove}
-use Rattle.sessions.specs.Sets.{current_of, running_changed}
+use Rattle.sessions.specs.Sets.{running_changed}
 use Rattle.sessions.specs.Keeps.{SessionsValue, Keeps, IsInOrder}
 use Rattle.sessions.specs.Concluded.{IsTold}
-use Rattle.sessions.specs.Told.{told_of, told_with, change_after, drop_if}
-use Rattle.sessions.specs.Moves.{CameTo, CameToStep, LosesNobody, images_changed, is_cut}
+use Rattle.sessions.specs.Told.{told_of, told_with}
+use Rattle.sessions.specs.Moves.{CameFrom, CameTo, LosesNobody, is_cut, stepped_volumes, volumes_by_step}
 use Rattle.sessions.proofs.Moving.{Happens, nobody}
-use Rattle.sessions.proofs.Newest.{changed_by_number}
+use Rattle.sessions.proofs.Newest.{changed_by_number, changed_none}
 
 -- ## what ends is told, and its images go where it failed
 
-drop_is : (b : Bool) (n : ℕ) (st : State) → (if b then map (dropped n) st.volumes else st.volumes) ≡ images_changed (drop_if b n) st
-drop_is true n st = refl
-drop_is false n st = refl
-
-pub came_to : (new : SessionsValue) (e : Ended) (st after : State) (t : Told) (lost : ℕ) (order : Option Order) → Keeps new after → IsTold e st after → CameTo st after new (told_of t lost order e (change_after e))
-came_to new e st after t lost order kept tells = record { keeps = kept; ends = tells.ends; volumes = tells.volumes ∙ drop_is (has_failed e.result) e.set st }
+pub came_to : (new : SessionsValue) (e : Ended) (st after : State) (t : Told) (lost : ℕ) (order : Option Order) → Keeps new after → IsTold e st after → CameTo st after new (told_of t lost order e)
+came_to new e st after t lost order kept tells = record { keeps = kept; ends = tells.ends; volumes = tells.volumes }
 
 -- ## a writer answers
 
@@ -71,7 +59,7 @@ unfolding answered
 answered_is w said st = refl
 
 pub answer_happens : (s : Plan) (new : SessionsValue) (w : ℕ) (a : Answer) (o : Order) (e : Ended) (st : State) → order_of_writer st w ≡ Some o
-    → Keeps new (answered w (said_of a) st) → IsTold e st (answered w (said_of a) st) → Happens s st (AnswerEvent w a) new (told_with (told.Answered o a) e (change_after e))
+    → Keeps new (answered w (said_of a) st) → IsTold e st (answered w (said_of a) st) → Happens s st (AnswerEvent w a) new (told_with (told.Answered o a) e)
 answer_happens s new w a o e st order kept tells = record {
   on = ap is_some order;
   allowed = refl;
@@ -85,33 +73,6 @@ answer_happens s new w a o e st order kept tells = record {
   order = refl;
   came = came_to new e st (answered w (said_of a) st) (told.Answered o a) 0 None kept tells;
 }
-
--- ## a step that is made fails no set
-
-not_worse : (o p : SetOutcome) → has_failed p ≡ false → has_failed (outcome_told o p) ≡ false
-not_worse Running p e = e
-not_worse Complete p e = refl
-not_worse (Failed why) p e = refl
-
-told_itself : (o : SetOutcome) → has_failed (outcome_told o o) ≡ false
-told_itself Running = refl
-told_itself Complete = refl
-told_itself (Failed why) = refl
-
-settles_well : (b : Bool) (k : Kind) (c : Course) → has_failed (outcome_told c.outcome (settled_if b k c).outcome) ≡ false
-settles_well false k c = told_itself c.outcome
-settles_well true kind.Gather c = told_itself c.outcome
-settles_well true kind.Prepare c = told_itself c.outcome
-settles_well true kind.Snapshot c = not_worse c.outcome Complete refl
-settles_well true kind.Complete c = told_itself c.outcome
-
-settles_in : (a : Option Agenda) (c : Course) → has_failed (outcome_told c.outcome (settled_in a c).outcome) ≡ false
-settles_in None c = told_itself c.outcome
-settles_in (Some a) c = settles_well (is_done (groups_left a)) a.kind c
-
-pub steps_well : (now : ℕ) (c : Course) → has_failed (outcome_told c.outcome (course_stepped true now c).outcome) ≡ false
-unfolding posted settled worked
-steps_well now c = settles_in (worked now c).agenda (worked now c)
 
 -- ## the Cut step
 
@@ -195,49 +156,51 @@ set_cut x st r now found clock order kept = record {
   disabled = kept.disabled;
 }
 
-cut_in : (x : SessionsValue) (st : State) (o : Option SetRow) (n now : ℕ) → in_progress st ≡ o → Some n ≡ option_map (λ (r : SetRow). r.number) o → now ≡ st.clock → IsInOrder st → Keeps x st
+set_in : (x : SessionsValue) (st : State) (o : Option SetRow) (now : ℕ) → in_progress st ≡ o → now ≡ st.clock → IsInOrder st → Keeps x st
     → Keeps (record { requestor = x.requestor; coordinator = x.coordinator; sets = map (running_changed (with_cut now)) x.sets; clock = x.clock; selection = x.selection }) (cut_set o st)
-    × ((cut_set o st).volumes ≡ cut_each n (volumes_of o) 0 st.volumes)
-cut_in x st None n now e current clock order kept = absurd cc
-cut_in x st (Some r) n now e current clock order kept = (set_cut x st r now e clock order kept, let same : r.number ≡ n = cc in ap (λ (k : ℕ). cut_each k r.volumes 0 st.volumes) same)
+set_in x st None now e clock order kept = record {
+  session = kept.session;
+  made = kept.made;
+  course = kept.course;
+  sets = ap (map (running_changed (with_cut now))) kept.sets ∙ changed_none (with_cut now) st.sets e;
+  clock = kept.clock;
+  explicit = kept.explicit;
+  over = kept.over;
+  on_time = kept.on_time;
+  disabled = kept.disabled;
+}
+set_in x st (Some r) now e clock order kept = set_cut x st r now e clock order kept
 
-pub is_cut_now : (x : SessionsValue) (st : State) (g : Group) (n now : ℕ) → is_cut g ≡ true → Some n ≡ current_of x.sets → now ≡ st.clock → IsInOrder st → Keeps x st
-    → CameToStep st g (record { requestor = x.requestor; coordinator = x.coordinator; sets = map (running_changed (with_cut now)) x.sets; clock = x.clock; selection = x.selection }) (Cut n)
-is_cut_now x st (Orders o) n now e current clock order kept = cc
-is_cut_now x st PreCommit n now e current clock order kept = cc
-is_cut_now x st Flush n now e current clock order kept = cc
-is_cut_now x st Hold n now e current clock order kept = cc
-is_cut_now x st group.Cut n now e current clock order kept =
-    let h = cut_in x st (in_progress st) n now refl (current ∙ ap current_of kept.sets) clock order kept in
-    record { keeps = h.0; volumes = h.1 }
-is_cut_now x st Commit n now e current clock order kept = cc
-is_cut_now x st Release n now e current clock order kept = cc
-is_cut_now x st PostCommit n now e current clock order kept = cc
+pub is_cut_now : (x : SessionsValue) (st : State) (g : Group) (now : ℕ) → is_cut g ≡ true → now ≡ st.clock → IsInOrder st → Keeps x st
+    → Keeps (record { requestor = x.requestor; coordinator = x.coordinator; sets = map (running_changed (with_cut now)) x.sets; clock = x.clock; selection = x.selection }) (step_made (Some g) st)
+is_cut_now x st (Orders o) now e clock order kept = cc
+is_cut_now x st PreCommit now e clock order kept = cc
+is_cut_now x st Flush now e clock order kept = cc
+is_cut_now x st Hold now e clock order kept = cc
+is_cut_now x st group.Cut now e clock order kept = set_in x st (in_progress st) now refl clock order kept
+is_cut_now x st Commit now e clock order kept = cc
+is_cut_now x st Release now e clock order kept = cc
+is_cut_now x st PostCommit now e clock order kept = cc
 
 -- ## what a step comes to
 
-pub step_fails_so : (new : SessionsValue) (st : State) (g : Group) (v : Option ℕ) (e : Ended) (m : SessionMove) → m ≡ told_with (told.Step g v true) e (change_after e)
+pub step_fails_so : (new : SessionsValue) (st : State) (g : Group) (v : Option ℕ) (e : Ended) (m : SessionMove) → m ≡ told_with (told.Step g v true) e
     → Keeps new (followed (runs st) (course_stepped false st.clock st.course) st) → IsTold e st (followed (runs st) (course_stepped false st.clock st.course) st)
     → (m.outcome.told ≡ told.Step g v true) × LosesNobody m × CameTo st (stepped_as true (Some g) st) new m
 step_fails_so new st g v e m is kept tells = subst (λ (x : SessionMove). (x.outcome.told ≡ told.Step g v true) × LosesNobody x × CameTo st (stepped_as true (Some g) st) new x) (sym is)
     (refl, record { lost = refl; order = refl }, came_to new e st _ (told.Step g v true) 0 None kept tells)
 
-not_dropped : (b : Bool) (n : ℕ) (hs : List History) → b ≡ false → (if b then map (dropped n) hs else hs) ≡ hs
-not_dropped true n hs e = cc
-not_dropped false n hs e = refl
-
 -- of the state x after what the step does beside its entry
-pub step_made_so : (new : SessionsValue) (st x : State) (v : Option ℕ) (g : Group) (e : Ended) (change : ImageChange) (m : SessionMove) → m ≡ told_with (told.Step g v false) e change
-    → step_made (Some g) st ≡ x → IsBesides st x → x.volumes ≡ images_changed change st → has_failed e.result ≡ false
+pub step_made_so : (new : SessionsValue) (st x : State) (v : Option ℕ) (g : Group) (e : Ended) (m : SessionMove) → m ≡ told_with (told.Step g v false) e → step_made (Some g) st ≡ x → IsBesides st x
     → Keeps new (followed (runs st) (course_stepped true st.clock st.course) x) → IsTold e x (followed (runs st) (course_stepped true st.clock st.course) x)
-    → (m.outcome.told ≡ told.Step g v false) × LosesNobody m × CameTo st (stepped_as false (Some g) st) new m
-step_made_so new st x v g e change m is made h volumes well kept tells = subst (λ (y : SessionMove). (y.outcome.told ≡ told.Step g v false) × LosesNobody y × CameTo st (stepped_as false (Some g) st) new y) (sym is) (
+    → (m.outcome.told ≡ told.Step g v false) × LosesNobody m × CameFrom (stepped_volumes false g st) st (stepped_as false (Some g) st) new m
+step_made_so new st x v g e m is made h kept tells = subst (λ (y : SessionMove). (y.outcome.told ≡ told.Step g v false) × LosesNobody y × CameFrom (stepped_volumes false g st) st (stepped_as false (Some g) st) new y) (sym is) (
   refl,
   record { lost = refl; order = refl },
-  subst (λ (y : State). CameTo st (followed (runs st) (course_stepped true st.clock st.course) y) new (told_with (told.Step g v false) e change)) (sym made) (record {
+  subst (λ (y : State). CameFrom y.volumes st (followed (runs st) (course_stepped true st.clock st.course) y) new (told_with (told.Step g v false) e)) (sym made) (record {
     keeps = kept;
     ends = subst (λ (o : Option SetRow). EndsAs o e.set e.result) (h.ended (followed (runs st) (course_stepped true st.clock st.course) x).sets) tells.ends;
-    volumes = tells.volumes ∙ not_dropped (has_failed e.result) e.set x.volumes well ∙ volumes;
+    volumes = tells.volumes;
   }),
 )
 
@@ -256,7 +219,7 @@ allowed_if b true h = h refl
 allowed_if b false h = refl
 
 pub step_happens : (s : Plan) (new : SessionsValue) (st : State) (g : Group) (v : Option ℕ) (fails : Bool) (m : SessionMove) → is_working (left_now st) ≡ true → open_group (left_now st) ≡ Some g → next_volume (left_now st) ≡ v
-    → (fails ≡ true → is_flush (Some g) ≡ true) → (m.outcome.told ≡ told.Step g v fails) × LosesNobody m × CameTo st (stepped_as fails (Some g) st) new m → Happens s st Provider new m
+    → (fails ≡ true → is_flush (Some g) ≡ true) → (m.outcome.told ≡ told.Step g v fails) × LosesNobody m × CameFrom (stepped_volumes fails g st) st (stepped_as fails (Some g) st) new m → Happens s st Provider new m
 step_happens s new st g v fails m works at volume flushes h =
     let marked : mark_of m.outcome.told ≡ mark_if fails = ap mark_of h.0 in
     let failed : is_failed_step (is_flush (open_group (left_now st))) (mark_if fails) ≡ fails = ap (λ (o : Option Group). is_failed_step (is_flush o) (mark_if fails)) at ∙ failed_if (is_flush (Some g)) fails flushes in
@@ -276,5 +239,5 @@ step_happens s new st g v fails m works at volume flushes h =
       evicts = refl;
       loses = ap writers_of h.1.lost ∙ nobody;
       order = h.1.order;
-      came = h.2;
+      came = subst (λ (t : Told). CameFrom (volumes_by_step t st) st (stepped_as fails (Some g) st) new m) (sym h.0) h.2;
     }

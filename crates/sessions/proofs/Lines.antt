@@ -9,7 +9,7 @@ use Rattle.vss_names.specs.declared.set_outcome.SetOutcome.TheVariants.{Running,
 use Rattle.vss_names.specs.declared.vss_result.VssResult.{VssResult}
 use Rattle.vss_names.specs.declared.vss_result.VssResult.TheVariants.{BadState, AsyncCancelled, UnsupportedContext}
 use Rattle.write_history.specs.declared.mark.Mark.TheVariants.{Clean}
-use Rattle.write_history.specs.History.{History, Image, dropped, without_set}
+use Rattle.write_history.specs.History.{History}
 use Rattle.writer_state.specs.declared.writer_row.WriterRow.{WriterRow}
 use Rattle.set_agenda.specs.Course.{Course, released}
 use Rattle.requestor.specs.declared.verdict.Verdict.{Verdict}
@@ -25,24 +25,24 @@ use Rattle.coordinator.specs.Coordinator.{CoordinatorState, Stands, IsOnTime, wr
 use Rattle.scenario.specs.declared.op.Op.{Op}
 use Rattle.scenario.specs.declared.op.Op.TheVariants as op
 use Rattle.scenario.specs.Plan.{Plan}
+use Rattle.vss_model.specs.declared.outcome.Outcome.{Outcome}
 use Rattle.vss_model.specs.declared.told.Told.{Told}
 use Rattle.vss_model.specs.declared.told.Told.TheVariants as told
 use Rattle.vss_model.specs.Reply.{Reply, Fine, Coded, Numbered, StatusOf}
 use Rattle.vss_model.specs.State.{State, SetRow, in_progress, is_running, row_changed, history_of}
 use Rattle.vss_model.specs.Ending.{runs, failed}
 use Rattle.vss_model.specs.Effects.{ended_of}
-use Rattle.vss_model.specs.Facts.{IsOfSession, has_failed}
+use Rattle.vss_model.specs.Facts.{IsOfSession}
 use Rattle.vss_model.specs.Sessions.{line_in, session_line, begin_in, start_set, new_set, new_number, add, add_to, add_refusal, with_volume, change_set, images_released, closed, await_last}
 use Rattle.vss_model.specs.Outcome.{HasLists, EndsAs}
 use Rattle.vss_model.specs.Told.{Fits, mark_of}
 use Rattle.sessions.specs.declared.ended.Ended.{Ended}
-use Rattle.sessions.specs.declared.image_change.ImageChange.{ImageChange}
 use Rattle.sessions.specs.declared.session_move.SessionMove.{SessionMove}
-use Rattle.sessions.specs.Sets.{current_of, running_in, running_changed, refusal_of}
+use Rattle.sessions.specs.Sets.{running_in, running_changed, refusal_of}
 use Rattle.sessions.specs.Keeps.{SessionsValue, Keeps, IsInOrder}
-use Rattle.sessions.specs.Concluded.{IsTold, ends_as, volumes_after}
-use Rattle.sessions.specs.Told.{told_alone, told_with, change_after, change_at_end, change_released, drop_or}
-use Rattle.sessions.specs.Moves.{CameTo, ComesTo, images_changed}
+use Rattle.sessions.specs.Concluded.{IsTold, failed_set, without_images}
+use Rattle.sessions.specs.Told.{told_alone, told_with, released_by}
+use Rattle.sessions.specs.Moves.{CameTo, ComesTo}
 use Rattle.sessions.proofs.Telling.{ends_none}
 use Rattle.sessions.proofs.CourseSteps.{came_to}
 use Rattle.sessions.proofs.Newest.{changed_by_number}
@@ -300,7 +300,7 @@ disables s lane w st x k m goes order kept known stands count times is =
 -- ## abort and end
 
 pub aborts : (s : Plan) (lane : ℕ) (st : State) (y : SessionsValue) (m : SessionMove) (e : Ended) → check_other st.session (runs st) lane call.Abort ≡ Go → Keeps y (failed AsyncCancelled st) → IsTold e st (failed AsyncCancelled st)
-    → m ≡ told_with told.Ok e (change_after e) → ComesTo s lane op.Abort st y m
+    → m ≡ told_with told.Ok e → ComesTo s lane op.Abort st y m
 aborts s lane st y m e goes kept tells is =
     let owner = owners st.session (runs st) lane call.Abort goes in
     subst (ComesTo s lane op.Abort st y) (sym is) (record {
@@ -328,51 +328,22 @@ closed_is : (q : Session) (st : State) → closed q st ≡ record { session = No
 unfolding closed
 closed_is q st = refl
 
-kept_if : (b : Bool) (n : ℕ) (i : Image) (images : List Image) → not (i.set == n) ≡ b → without_set n (without_set n images) ≡ without_set n images
-    → without_set n (if b then i ∷ without_set n images else without_set n images) ≡ (if b then i ∷ without_set n images else without_set n images)
-kept_if true n i images e h = ap (λ (b : Bool). if b then i ∷ without_set n (without_set n images) else without_set n (without_set n images)) e ∙ ap (λ (xs : List Image). i ∷ xs) h
-kept_if false n i images e h = h
+released_is : (c : Context) (set : Option ℕ) (hs : List History) → images_released c set hs ≡ without_images (released_by (Some c) set) hs
+released_is Backup None hs = refl
+released_is Backup (Some n) hs = refl
+released_is AppRollback set hs = refl
+released_is NasRollback set hs = refl
 
-without_twice : (n : ℕ) (images : List Image) → without_set n (without_set n images) ≡ without_set n images
-without_twice n [] = refl
-without_twice n (i ∷ images) = kept_if (not (i.set == n)) n i images refl (without_twice n images)
-
-dropped_twice : (n : ℕ) (hs : List History) → map (dropped n) (map (dropped n) hs) ≡ map (dropped n) hs
-dropped_twice n [] = refl
-dropped_twice n (h ∷ hs) = ap (λ (is : List Image). (record { writes = h.writes; images = is }) ∷ map (dropped n) (map (dropped n) hs)) (without_twice n h.images) ∙ ap (λ (xs : List History). dropped n h ∷ xs) (dropped_twice n hs)
-
-released_twice : (c : Context) (n : ℕ) (hs : List History) → images_released c (Some n) (map (dropped n) hs) ≡ map (dropped n) hs
-released_twice Backup n hs = dropped_twice n hs
-released_twice AppRollback n hs = refl
-released_twice NasRollback n hs = refl
-
-released_is : (c : Context) (set : Option ℕ) (st : State) → images_released c set st.volumes ≡ images_changed (change_released c set) st
-released_is Backup None st = refl
-released_is Backup (Some n) st = refl
-released_is AppRollback set st = refl
-released_is NasRollback set st = refl
-
--- the set that fails is the session's own
-end_volumes : (st : State) (q : Session) (o : SetOutcome) (found : Option SetRow) → IsOfSession (Some q) o found
-    → (e : Ended) → e ≡ ends_as (option_map (λ (r : SetRow). r.number) found) (Failed AsyncCancelled)
-    → images_released q.context q.set (volumes_after e st.volumes) ≡ images_changed (drop_or (has_failed e.result) e.set (change_released q.context q.set)) st
-end_volumes st q o None h e is = subst (λ (x : Ended). images_released q.context q.set (volumes_after x st.volumes) ≡ images_changed (drop_or (has_failed x.result) x.set (change_released q.context q.set)) st) (sym is) (released_is q.context q.set st)
-end_volumes st q o (Some r) h e is = subst (λ (x : Ended). images_released q.context q.set (volumes_after x st.volumes) ≡ images_changed (drop_or (has_failed x.result) x.set (change_released q.context q.set)) st) (sym is)
-    (ap (λ (set : Option ℕ). images_released q.context set (map (dropped r.number) st.volumes)) h.1 ∙ released_twice q.context r.number st.volumes)
-
-pub ends : (s : Plan) (lane : ℕ) (st : State) (old y : SessionsValue) (m : SessionMove) (e : Ended) (released_change : ImageChange) → check_other st.session (runs st) lane call.End ≡ Go → IsInOrder st → Keeps old st
-    → e ≡ ends_as (current_of old.sets) (Failed AsyncCancelled) → IsTold e st (failed AsyncCancelled st)
-    → released_change ≡ change_at_end (option_map (λ (q : Session). q.context) old.requestor.session) (option_and_then (λ (q : Session). q.set) old.requestor.session)
+pub ends : (s : Plan) (lane : ℕ) (st : State) (old y : SessionsValue) (o : Outcome) (set : Option ℕ) (e : Ended) → check_other st.session (runs st) lane call.End ≡ Go → Keeps old st
+    → IsTold e st (failed AsyncCancelled st) → set ≡ released_by (option_map (λ (q : Session). q.context) old.requestor.session) (option_and_then (λ (q : Session). q.set) old.requestor.session)
     → ((hs : List History) → Keeps y (record { session = None; explicit = []; sets = (failed AsyncCancelled st).sets; course = released (failed AsyncCancelled st).course; volumes = hs; clock = (failed AsyncCancelled st).clock }))
-    → m ≡ told_with told.Ok e (drop_or (has_failed e.result) e.set released_change) → ComesTo s lane op.End st y m
-ends s lane st old y m e change goes order kept is tells released_is closes moved =
+    → o ≡ (told_with told.Ok e).outcome → ComesTo s lane op.End st y (record { outcome = o; released = set })
+ends s lane st old y o set e goes kept tells set_is closes is =
     let owner = owners st.session (runs st) lane call.End goes in
     let q = owner.session in
-    let same : old.requestor.session ≡ Some q = kept.session ∙ owner.is in
-    let change_is : change ≡ change_released q.context q.set = released_is ∙ ap (λ (o : Option Session). change_at_end (option_map (λ (z : Session). z.context) o) (option_and_then (λ (z : Session). z.set) o)) same in
-    let ended_is : e ≡ ends_as (option_map (λ (r : SetRow). r.number) (in_progress st)) (Failed AsyncCancelled) = is ∙ ap (λ (rows : List SetRow). ends_as (current_of rows) (Failed AsyncCancelled)) kept.sets in
-    let of_session : IsOfSession (Some q) st.course.outcome (in_progress st) = subst (λ (o : Option Session). IsOfSession o st.course.outcome (in_progress st)) owner.is order.session in
-    subst (ComesTo s lane op.End st y) (sym (moved ∙ ap (λ (c : ImageChange). told_with told.Ok e (drop_or (has_failed e.result) e.set c)) change_is)) (record {
+    let set_of : set ≡ released_by (Some q.context) q.set = set_is ∙ ap (λ (p : Option Session). released_by (option_map (λ (z : Session). z.context) p) (option_and_then (λ (z : Session). z.set) p)) (kept.session ∙ owner.is) in
+    subst (λ (p : Outcome). ComesTo s lane op.End st y (record { outcome = p; released = set })) (sym is)
+    (subst (λ (n : Option ℕ). ComesTo s lane op.End st y (record { outcome = (told_with told.Ok e).outcome; released = n })) (sym set_of) (record {
       reply = Fine;
       after = closed q (failed AsyncCancelled st);
       does = line_of s lane op.End st q owner.is;
@@ -380,12 +351,12 @@ ends s lane st old y m e change goes order kept is tells released_is closes move
       lists = λ listed rows e. tt;
       clean = refl;
       loses = record { lost = refl; order = refl };
-      came = subst (λ (x : State). CameTo st x y (told_with told.Ok e (drop_or (has_failed e.result) e.set (change_released q.context q.set)))) (sym (closed_is q (failed AsyncCancelled st))) (record {
+      came = subst (λ (x : State). CameTo st x y (record { outcome = (told_with told.Ok e).outcome; released = released_by (Some q.context) q.set })) (sym (closed_is q (failed AsyncCancelled st))) (record {
         keeps = closes (images_released q.context q.set (failed AsyncCancelled st).volumes);
         ends = tells.ends;
-        volumes = ap (images_released q.context q.set) tells.volumes ∙ end_volumes st q st.course.outcome (in_progress st) of_session e ended_is;
+        volumes = ap (images_released q.context q.set) tells.volumes ∙ released_is q.context q.set (without_images (failed_set e.result e.set) st.volumes);
       });
-    })
+    }))
 
 pub owner_kept : (o : SetOutcome) (q : Option Session) → option_map (λ (z : Session). z.owner) (option_map (ended_session o) q) ≡ option_map (λ (z : Session). z.owner) q
 owner_kept o None = refl

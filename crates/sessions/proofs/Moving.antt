@@ -36,7 +36,7 @@ use Rattle.vss_model.specs.Outcome.{HasLists, EndsAs, told_act}
 use Rattle.sessions.specs.declared.session_move.SessionMove.{SessionMove}
 use Rattle.sessions.specs.Told.{told_alone}
 use Rattle.sessions.specs.Keeps.{SessionsValue, Keeps, IsInOrder}
-use Rattle.sessions.specs.Moves.{IsMove, CameTo, ComesTo, LosesNobody, after_move}
+use Rattle.sessions.specs.Moves.{IsMove, CameFrom, CameTo, ComesTo, LosesNobody, after_move, event_volumes}
 use Rattle.sessions.proofs.Telling.{ends_none}
 
 -- ## an event
@@ -53,7 +53,7 @@ pub record Happens (s : Plan) (st : State) (event : Event) (new : SessionsValue)
   pub evicts : [] ≡ evicted s st event
   pub loses : writers_of m.outcome.lost ≡ lost st event
   pub order : m.outcome.lost_order ≡ lost_order st event
-  pub came : CameTo st after new m
+  pub came : CameFrom (event_volumes event m.outcome.told st) st after new m
 
 after_enabled : (s : Plan) (st : State) (act : Act) → enabled s st act.event ≡ true → after s st act ≡ (happens s act.event act.mark st).1
 unfolding after

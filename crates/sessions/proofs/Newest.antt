@@ -26,6 +26,21 @@ changed_last f (q ∷ p ∷ rows) (suc n) r h e long =
     let rest : length (p ∷ rows) ≡ suc n = cc in
     ap (λ (x : SetRow). x ∷ map (running_changed f) (p ∷ rows)) (unchanged f q h.0) ∙ ap (λ (xs : List SetRow). q ∷ xs) (changed_last f (p ∷ rows) n r h.1 e rest)
 
+-- where none is in progress, all stay as they are
+pub changed_none : (f : SetRow → SetRow) (rows : List SetRow) → running_in rows ≡ None → map (running_changed f) rows ≡ rows
+changed_none f [] e = refl
+changed_none f (r ∷ rows) e =
+    ap (λ (x : SetRow). x ∷ map (running_changed f) rows) (unchanged f r (not_found (is_running r.result) r _ e))
+    ∙ ap (λ (xs : List SetRow). r ∷ xs) (changed_none f rows (rest_none (is_running r.result) r _ e))
+  where
+    not_found : (b : Bool) (x : SetRow) (other : Option SetRow) → (if b then Some x else other) ≡ None → b ≡ false
+    not_found true x other e = cc
+    not_found false x other e = refl
+
+    rest_none : (b : Bool) (x : SetRow) (other : Option SetRow) → (if b then Some x else other) ≡ None → other ≡ None
+    rest_none true x other e = cc
+    rest_none false x other e = e
+
 found_if : (b : Bool) (r : SetRow) (found : Option SetRow) → b ≡ false → (if b then Some r else found) ≡ found
 found_if true r found e = cc
 found_if false r found e = refl

@@ -18,7 +18,7 @@ use Rattle.sessions.specs.declared.ended.Ended.{Ended}
 use Rattle.sessions.specs.Sets.{current_of}
 use Rattle.sessions.proofs.Concluding.{ending_other, fails, ends_if, goes_if, either, neither, over_stage, rows_as_told}
 use Rattle.sessions.specs.Keeps.{SessionsValue, Keeps, IsInOrder}
-use Rattle.sessions.specs.Concluded.{IsTold, IsConcludedTold, ends_as, nothing_ends, volumes_after}
+use Rattle.sessions.specs.Concluded.{IsTold, IsConcludedTold, ends_as, failed_set, nothing_ends, without_images}
 
 -- ## the row that ended
 
@@ -122,6 +122,10 @@ ends_after rows (Some r) (Failed why) n h e = subst (λ (x : Option SetRow). End
 pub ends_none : (rows : List SetRow) (found : Option SetRow) → NumberedFrom 1 rows → OverButNewest rows → find (λ q. is_running q.result) rows ≡ found → EndsAs (ended_of found rows) 0 Running
 ends_none rows None n h e = refl
 ends_none rows (Some r) n h e = subst (λ (x : Option SetRow). EndsAs x 0 Running) (sym (none_ended 1 rows r n h e)) refl
+
+-- the images of what ends go, where it failed
+abbrev volumes_after : Ended → List History → List History
+volumes_after e hs = without_images (failed_set e.result e.set) hs
 
 volumes_failed : (found : Option SetRow) (why : VssResult) (hs : List History) → images_dropped found hs ≡ volumes_after (ends_as (option_map (λ (r : SetRow). r.number) found) (Failed why)) hs
 volumes_failed None why hs = refl

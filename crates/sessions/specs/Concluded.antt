@@ -1,6 +1,6 @@
 -- What follows from a step of the course: an agenda ends, or the set in progress fails, and the session and the row of
 -- the set say so. (This project's own.)
-use Rattle.std.specs.Prelude.{ℕ, ◌≡◌, ◌&&◌, not, Bool, List, map, if◌then◌else◌, Option, Some, None, is_some}
+use Rattle.std.specs.Prelude.{ℕ, ◌≡◌, ◌&&◌, not, Bool, List, map, Option, Some, None, is_some}
 use Rattle.vss_names.specs.declared.set_outcome.SetOutcome.{SetOutcome}
 use Rattle.vss_names.specs.declared.vss_result.VssResult.{VssResult}
 use Rattle.vss_names.specs.declared.set_outcome.SetOutcome.TheVariants.{Running, Complete, Failed}
@@ -11,7 +11,6 @@ use Rattle.coordinator.specs.Effects.{outcome_told}
 use Rattle.vss_model.specs.State.{State, in_progress}
 use Rattle.vss_model.specs.Ending.{failed_in, followed, row_settled}
 use Rattle.vss_model.specs.Effects.{ended_of}
-use Rattle.vss_model.specs.Facts.{has_failed}
 use Rattle.vss_model.specs.Outcome.{EndsAs}
 use Rattle.sessions.specs.declared.ended.Ended.{Ended}
 use Rattle.sessions.specs.Keeps.{SessionsValue, Keeps, IsInOrder}
@@ -40,13 +39,21 @@ abbrev pub ends_as : Option ℕ → SetOutcome → Ended
 ends_as None o = nothing_ends
 ends_as (Some n) o = ends_with n o
 
--- the images of the set go where it failed
-abbrev pub volumes_after : Ended → List History → List History
-volumes_after e hs = if has_failed e.result then map (dropped e.set) hs else hs
+-- the set that failed, by its number and its end
+abbrev pub failed_set : SetOutcome → ℕ → Option ℕ
+failed_set Running n = None
+failed_set Complete n = None
+failed_set (Failed why) n = Some n
 
+-- the images of a set go, where there is one
+abbrev pub without_images : Option ℕ → List History → List History
+without_images None hs = hs
+without_images (Some n) hs = map (dropped n) hs
+
+-- a set that failed loses its images
 pub record IsTold (e : Ended) (st after : State) : Type 0 where
   pub ends : EndsAs (ended_of (in_progress st) after.sets) e.set e.result
-  pub volumes : after.volumes ≡ volumes_after e st.volumes
+  pub volumes : after.volumes ≡ without_images (failed_set e.result e.set) st.volumes
 
 abbrev pub IsConcludedTold : SessionsValue → SetOutcome → Bool → Ended → Type 0
 IsConcludedTold old outcome over e = (st : State) (c : Course) (ran : Bool) → IsInOrder st → Keeps old (record st { course = c })

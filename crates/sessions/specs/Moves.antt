@@ -1,10 +1,10 @@
 -- What a call promises of an event: that it waits exactly as the definitions say, or that it is an enabled move, whose
 -- reply and effects are those of the definitions, and after which what is kept stands for the state after it. (This
 -- project's own.)
-use Rattle.std.specs.Prelude.{ℕ, ◌≡◌, Bool, true, false, List, [], map, length, Option, Some, None}
+use Rattle.std.specs.Prelude.{ℕ, ◌≡◌, Bool, true, false, List, [], length, Option, Some, None}
 use Rattle.vss_names.specs.declared.vss_result.VssResult.{VssResult}
 use Rattle.vss_names.specs.declared.vss_result.VssResult.TheVariants.{AsyncPending}
-use Rattle.write_history.specs.History.{History, dropped}
+use Rattle.write_history.specs.History.{History}
 use Rattle.write_history.specs.declared.mark.Mark.TheVariants.{Clean}
 use Rattle.writer_state.specs.declared.writer_row.WriterRow.{WriterRow}
 use Rattle.set_agenda.specs.declared.group.Group.{Group}
@@ -24,6 +24,7 @@ use Rattle.scenario.specs.declared.op.Op.{Op}
 use Rattle.scenario.specs.declared.op.Op.TheVariants.{Add, Component, Document, Start, Gather, Prepare, Snapshot, Complete}
 use Rattle.scenario.specs.Plan.{Plan}
 use Rattle.vss_model.specs.declared.event.Event.{Event}
+use Rattle.vss_model.specs.declared.event.Event.TheVariants.{Line, Answer, Provider, Idle}
 use Rattle.vss_model.specs.declared.told.Told.{Told}
 use Rattle.vss_model.specs.declared.told.Told.TheVariants as told
 use Rattle.vss_model.specs.State.{State, in_progress, history_of, left_now}
@@ -31,32 +32,36 @@ use Rattle.vss_model.specs.Reply.{Reply}
 use Rattle.vss_model.specs.Effects.{ended_of, lost_after, lost_order_if}
 use Rattle.vss_model.specs.Sessions.{known_metas, line_in, selected, volumes_of}
 use Rattle.vss_model.specs.Ending.{failed_in, followed}
-use Rattle.vss_model.specs.Steps.{cut_each, step_made, stepped_as, ticked}
+use Rattle.vss_model.specs.Steps.{step_made, stepped_as, ticked}
 use Rattle.vss_model.specs.Acts.{after, enabled, event_allows}
 use Rattle.vss_model.specs.Told.{Fits, mark_of}
 use Rattle.vss_model.specs.Outcome.{EndsAs, HasLists, IsOutcome, told_act}
 use Rattle.sessions.specs.declared.called.Called.{Called}
 use Rattle.sessions.specs.declared.called.Called.TheVariants.{Waits, Moves}
-use Rattle.sessions.specs.declared.image_change.ImageChange.{ImageChange}
-use Rattle.sessions.specs.declared.image_change.ImageChange.TheVariants.{NoChange, Cut, Drop}
 use Rattle.sessions.specs.declared.session_move.SessionMove.{SessionMove}
 use Rattle.sessions.specs.Keeps.{SessionsValue, Keeps, IsInOrder, IsAt}
+use Rattle.sessions.specs.Concluded.{failed_set, without_images}
 
--- what a move does to the images: those of a set are cut on its volumes, or all that stand of a set go
-abbrev pub images_changed : ImageChange → State → List History
-images_changed NoChange st = st.volumes
-images_changed (Cut n) st = cut_each n (volumes_of (in_progress st)) 0 st.volumes
-images_changed (Drop n) st = map (dropped n) st.volumes
+-- The images after a move, of those after what its event does itself: a set that fails in it loses its images, and so
+-- does the set that is released with its session.
+abbrev pub images_after : SessionMove → List History → List History
+images_after m hs = without_images m.released (without_images (failed_set m.outcome.result m.outcome.set) hs)
 
--- it cuts images; only a step of the provider does
-abbrev pub cuts : ImageChange → Bool
-cuts NoChange = false
-cuts (Cut n) = true
-cuts (Drop n) = false
+-- what a step of the provider in this group does itself, where no device fails it
+abbrev pub stepped_volumes : Bool → Group → State → List History
+stepped_volumes true g st = st.volumes
+stepped_volumes false g st = (step_made (Some g) st).volumes
 
-abbrev pub IsUncut : Called → Type 0
-IsUncut Waits = Unit {0}
-IsUncut (Moves m) = cuts m.change ≡ false
+abbrev pub volumes_by_step : Told → State → List History
+volumes_by_step (told.Step g v fails) st = stepped_volumes fails g st
+volumes_by_step _ st = st.volumes
+
+-- what an event does itself to the volumes: a step of the provider alone does something
+abbrev pub event_volumes : Event → Told → State → List History
+event_volumes (Line lane op) t st = st.volumes
+event_volumes (Answer w a) t st = st.volumes
+event_volumes Provider t st = volumes_by_step t st
+event_volumes Idle t st = st.volumes
 
 abbrev pub after_move : Plan → State → Event → SessionMove → State
 after_move s st event m = after s st (told_act event m.outcome.told)
@@ -69,7 +74,7 @@ pub record IsMove (P : State → Type 0) (s : Plan) (new : SessionsValue) (event
   pub outcome : (st : State) (tells : List Bool) (listed : List ℕ) (rows : List WriterRow) → P st → rows ≡ (after_move s st event m).course.rows
       → IsOutcome tells s st event m.outcome listed [] rows
   pub keeps : (st : State) → P st → Keeps new (after_move s st event m)
-  pub volumes : (st : State) → P st → (after_move s st event m).volumes ≡ images_changed m.change st
+  pub volumes : (st : State) → P st → (after_move s st event m).volumes ≡ images_after m (event_volumes event m.outcome.told st)
 
 -- the event waits, and nothing changes
 pub record IsWait (P : State → Type 0) (s : Plan) (old new : SessionsValue) (event : Event) : Type 0 where
@@ -82,12 +87,16 @@ IsCall P s old new event (Moves m) = IsMove P s new event m
 
 -- ## what follows, whatever the event
 
--- The state went on from st to this one: what is kept stands for it, and the move tells which set ended and what
--- becomes of the images.
-pub record CameTo (st after : State) (new : SessionsValue) (m : SessionMove) : Type 0 where
+-- The state went on from st to this one, after its event made these volumes: what is kept stands for it, and the move
+-- tells which set ended and whose images go.
+pub record CameFrom (made : List History) (st after : State) (new : SessionsValue) (m : SessionMove) : Type 0 where
   pub keeps : Keeps new after
   pub ends : EndsAs (ended_of (in_progress st) after.sets) m.outcome.set m.outcome.result
-  pub volumes : after.volumes ≡ images_changed m.change st
+  pub volumes : after.volumes ≡ images_after m made
+
+-- the event did nothing to the volumes
+abbrev pub CameTo : State → State → SessionsValue → SessionMove → Type 0
+CameTo st after new m = CameFrom st.volumes st after new m
 
 -- it tells no lost writer
 pub record LosesNobody (m : SessionMove) : Type 0 where
@@ -158,17 +167,13 @@ is_cut Release = false
 is_cut PostCommit = false
 
 -- what a step of this group does beside its entry in the log was done
-pub record CameToStep (st : State) (g : Group) (new : SessionsValue) (change : ImageChange) : Type 0 where
-  pub keeps : Keeps new (step_made (Some g) st)
-  pub volumes : (step_made (Some g) st).volumes ≡ images_changed change st
-
-abbrev pub IsCut : Group → SessionsValue → SessionsValue → ImageChange → Type 0
-IsCut g old new change = (st : State) → IsInOrder st → Keeps old st → CameToStep st g new change
+abbrev pub HasCut : Group → SessionsValue → SessionsValue → Type 0
+HasCut g old new = (st : State) → IsInOrder st → Keeps old st → Keeps new (step_made (Some g) st)
 
 -- the provider made its step, or a device failed it
 abbrev pub HasStepped : Bool → Group → Option ℕ → SessionsValue → SessionsValue → SessionMove → Type 0
 HasStepped fails g v old new m = (st : State) → IsInOrder st → Keeps old st → open_group (left_now st) ≡ Some g
-    → (m.outcome.told ≡ told.Step g v fails) × LosesNobody m × CameTo st (stepped_as fails (Some g) st) new m
+    → (m.outcome.told ≡ told.Step g v fails) × LosesNobody m × CameFrom (stepped_volumes fails g st) st (stepped_as fails (Some g) st) new m
 
 -- ## time
 

@@ -3,7 +3,7 @@ ghost use Rattle.coordinator.specs.Coordinator.{MayPost, runs, writer_count};
 ghost use Rattle.requestor.specs.Check.{check};
 ghost use Rattle.scenario.specs.declared.op.Op.TheVariants as op;
 ghost use Rattle.sessions.specs.Keeps.{Leaves};
-ghost use Rattle.sessions.specs.Moves.{IsGone, cuts};
+ghost use Rattle.sessions.specs.Moves.{IsGone};
 
 use crate::session_move::SessionMove;
 use crate::sessions::Sessions;
@@ -20,7 +20,6 @@ impl Sessions {
         requires over { self.old.selection.writers ≡ writer_count self.old.coordinator }
         requires goes { check self.old.requestor.session (runs self.old.coordinator) lane SessionCall.Gather ≡ Verdict.Go }
         ensures gone { IfOk result (IsGone self.old self.new lane op.Gather) }
-        ensures uncut { IfOk result (λ moved. cuts moved.change ≡ false) }
         ensures unchanged { OnErr result (self.new ≡ self.old) }
         ensures leaves { Leaves self.old self.new }
         ensures clock { self.new.clock ≡ self.old.clock }
@@ -35,7 +34,6 @@ impl Sessions {
         requires over { self.old.selection.writers ≡ writer_count self.old.coordinator }
         requires goes { check self.old.requestor.session (runs self.old.coordinator) lane SessionCall.Complete ≡ Verdict.Go }
         ensures gone { IfOk result (IsGone self.old self.new lane op.Complete) }
-        ensures uncut { IfOk result (λ moved. cuts moved.change ≡ false) }
         ensures unchanged { OnErr result (self.new ≡ self.old) }
         ensures leaves { Leaves self.old self.new }
         ensures clock { self.new.clock ≡ self.old.clock }
@@ -50,7 +48,6 @@ impl Sessions {
         requires over { self.old.selection.writers ≡ writer_count self.old.coordinator }
         requires goes { check self.old.requestor.session (runs self.old.coordinator) lane SessionCall.Snapshot ≡ Verdict.Go }
         ensures gone { IfOk result (IsGone self.old self.new lane op.Snapshot) }
-        ensures uncut { IfOk result (λ moved. cuts moved.change ≡ false) }
         ensures unchanged { OnErr result (self.new ≡ self.old) }
         ensures leaves { Leaves self.old self.new }
         ensures clock { self.new.clock ≡ self.old.clock }

@@ -6,10 +6,10 @@ ghost use Rattle.scenario.specs.declared.op.Op.TheVariants.{Tick};
 ghost use Rattle.tick_limits.specs.Time.{answer_limit};
 ghost use Rattle.vss_model.specs.declared.event.Event.TheVariants.{Line, Idle};
 ghost use Rattle.sessions.specs.Keeps.{IsAt, IsStanding, Leaves};
-ghost use Rattle.sessions.specs.Moves.{HasBegun, HasGoneOn, IsCall, IsMove, IsUncut, cuts};
+ghost use Rattle.sessions.specs.Moves.{HasBegun, HasGoneOn, IsCall, IsMove};
 
 use crate::called::Called;
-use crate::session_move::{SessionMove, change_after};
+use crate::session_move::SessionMove;
 use crate::sessions::Sessions;
 use component_doc::Selection;
 use set_agenda::Kind;
@@ -29,7 +29,6 @@ impl Sessions {
         requires room { MayPost self.old.coordinator }
         requires over { self.old.selection.writers ≡ writer_count self.old.coordinator }
         ensures begun { IfOk result (HasBegun kind self.old.selection self.old self.new) }
-        ensures uncut { IfOk result (λ moved. cuts moved.change ≡ false) }
         ensures unchanged { OnErr result (self.new ≡ self.old) }
         ensures leaves { Leaves self.old self.new }
         ensures clock { self.new.clock ≡ self.old.clock }
@@ -40,7 +39,7 @@ impl Sessions {
             .begin_agenda(alloc, kind, 0, self.sets.volumes(), &self.selection, now)?;
         let ended = self.conclude(effects.outcome, effects.agenda_ended);
         let told = Told::Result(VssResult::AsyncPending);
-        Ok(SessionMove::with(told, ended, change_after(ended)))
+        Ok(SessionMove::with(told, ended))
     }
 
     /// The same, over a selection that the session does not keep.
@@ -54,7 +53,6 @@ impl Sessions {
         requires room { MayPost self.old.coordinator }
         requires over { selection.now.writers ≡ writer_count self.old.coordinator }
         ensures begun { IfOk result (HasBegun kind selection.now self.old self.new) }
-        ensures uncut { IfOk result (λ moved. cuts moved.change ≡ false) }
         ensures unchanged { OnErr result (self.new ≡ self.old) }
         ensures leaves { Leaves self.old self.new }
         ensures clock { self.new.clock ≡ self.old.clock }
@@ -65,14 +63,13 @@ impl Sessions {
             .begin_agenda(alloc, kind, 0, self.sets.volumes(), selection, now)?;
         let ended = self.conclude(effects.outcome, effects.agenda_ended);
         let told = Told::Result(VssResult::AsyncPending);
-        Ok(SessionMove::with(told, ended, change_after(ended)))
+        Ok(SessionMove::with(told, ended))
     }
 
     /// So many ticks go by: the line `tick`. A limit that is spent is treated in the same move.
     pub fn time(&mut self, ticks: u32) -> SessionMove
         requires standing { IsStanding self.old }
         ensures moves { (s : Plan) (lane : ℕ) → IsMove (IsAt self.old s) s self.new (Line lane (Tick ticks)) result }
-        ensures uncut { cuts result.change ≡ false }
         ensures leaves { Leaves self.old self.new }
         ensures clock { self.new.clock ≡ self.old.clock + ticks }
     {
@@ -83,7 +80,6 @@ impl Sessions {
     pub fn idle(&mut self) -> Called
         requires standing { IsStanding self.old }
         ensures called { (s : Plan) → IsCall (IsAt self.old s) s self.old self.new Idle result }
-        ensures uncut { IsUncut result }
         ensures leaves { Leaves self.old self.new }
         ensures clock { self.new.clock ≤ self.old.clock + (answer_limit + 1) }
     {
@@ -104,7 +100,6 @@ impl Sessions {
         requires few { ticks < 2 ^ 32 }
         requires on_time { IsOnTime self.old.clock self.old.coordinator }
         ensures gone { HasGoneOn told ticks self.old self.new result }
-        ensures uncut { cuts result.change ≡ false }
         ensures leaves { Leaves self.old self.new }
         ensures clock { self.new.clock ≡ self.old.clock + ticks }
     {
@@ -120,7 +115,7 @@ impl Sessions {
                 set: ended.set,
                 result: ended.result,
             },
-            change: change_after(ended),
+            released: None,
         }
     }
 }

@@ -7,11 +7,10 @@ ghost use Rattle.vss_model.specs.Steps.{is_flush};
 ghost use Rattle.vss_model.specs.Told.{mark_if, mark_of};
 ghost use Rattle.vss_model.specs.declared.event.Event.TheVariants.{Answer as AnswerEvent, Provider};
 ghost use Rattle.sessions.specs.Keeps.{IsAt, IsStanding, Keeps, Leaves};
-ghost use Rattle.sessions.specs.Moves.{HasStepped, IsCall, IsCut, IsMove, IsUncut, is_cut};
+ghost use Rattle.sessions.specs.Moves.{HasStepped, IsCall, HasCut, IsMove, is_cut};
 
 use crate::called::Called;
-use crate::image_change::ImageChange;
-use crate::session_move::{SessionMove, change_after};
+use crate::session_move::SessionMove;
 use crate::sessions::Sessions;
 use set_agenda::Group;
 use vss_model::Told;
@@ -23,7 +22,6 @@ impl Sessions {
         requires standing { IsStanding self.old }
         requires known { writer < writer_count self.old.coordinator }
         ensures called { (s : Plan) → IsCall (IsAt self.old s) s self.old self.new (AnswerEvent writer answer) result }
-        ensures uncut { IsUncut result }
         ensures leaves { Leaves self.old self.new }
         ensures clock { self.new.clock ≡ self.old.clock }
     {
@@ -42,7 +40,7 @@ impl Sessions {
                     order: standing.order,
                     answer,
                 };
-                Called::Moves(SessionMove::with(told, ended, change_after(ended)))
+                Called::Moves(SessionMove::with(told, ended))
             }
         }
     }
@@ -87,7 +85,7 @@ impl Sessions {
             volume,
             fault: true,
         };
-        SessionMove::with(told, ended, change_after(ended))
+        SessionMove::with(told, ended)
     }
 
     /// The step is made. At the Cut step the set in progress gets the time of its cut.
@@ -99,7 +97,7 @@ impl Sessions {
         ensures clock { self.new.clock ≡ self.old.clock }
     {
         let now = self.clock.now();
-        let change = self.cut_at(group, now);
+        self.cut_at(group, now);
         let effects = self.coordinator.stepped(true, now);
         let ended = self.conclude(effects.outcome, effects.agenda_ended);
         let told = Told::Step {
@@ -107,25 +105,21 @@ impl Sessions {
             volume,
             fault: false,
         };
-        SessionMove::with(told, ended, change)
+        SessionMove::with(told, ended)
     }
 
-    /// At the Cut step the images of the set in progress are cut.
-    fn cut_at(&mut self, group: Group, now: u64) -> ImageChange
+    /// At the Cut step the set in progress gets the time of its cut.
+    fn cut_at(&mut self, group: Group, now: u64)
         requires { now ≡ self.old.clock }
-        ensures cut { IsCut group self.old self.new result }
+        ensures cut { HasCut group self.old self.new }
         ensures coordinator { self.new.coordinator ≡ self.old.coordinator }
         ensures sets { length self.new.sets ≡ length self.old.sets }
         ensures clock { self.new.clock ≡ self.old.clock }
     {
         if !is_cut(group) {
-            return ImageChange::NoChange;
+            return;
         }
-        let Some(set) = self.sets.current() else {
-            return ImageChange::NoChange;
-        };
         self.sets.cut(now);
-        ImageChange::Cut(set)
     }
 }
 

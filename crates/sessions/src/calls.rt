@@ -5,7 +5,7 @@ ghost use Rattle.scenario.specs.Bounds.{IsOp, IsPlan};
 ghost use Rattle.scenario.specs.Calls.{call_of};
 ghost use Rattle.vss_model.specs.declared.event.Event.TheVariants.{Line};
 ghost use Rattle.sessions.specs.Keeps.{IsStandingIn, Leaves};
-ghost use Rattle.sessions.specs.Moves.{IsAtWith, IsCall, IsGoneAs, IsUncut, cuts, takes_memory};
+ghost use Rattle.sessions.specs.Moves.{IsAtWith, IsCall, IsGoneAs, takes_memory};
 
 use crate::called::Called;
 use crate::session_move::SessionMove;
@@ -32,7 +32,6 @@ impl Sessions {
         requires is_call { is_some (call_of op) ≡ true }
         requires is_op { IsOp scenario.now op }
         ensures called { IfOk result (IsCall (IsAtWith images op self.old scenario.now) scenario.now self.old self.new (Line lane op)) }
-        ensures uncut { IfOk result IsUncut }
         ensures unchanged { OnErr result (self.new ≡ self.old) }
         ensures memory { IsErr result → takes_memory op ≡ true }
         ensures leaves { Leaves self.old self.new }
@@ -68,7 +67,6 @@ impl Sessions {
         requires goes { IfSome (call_of op) (λ call. check self.old.requestor.session (runs self.old.coordinator) lane call ≡ Verdict.Go) }
         requires at_rest { IfSome (call_of op) (λ call. check self.old.requestor.session false lane call ≡ Verdict.Go) }
         ensures gone { IfOk result (IsGoneAs scenario.now images self.old self.new lane op) }
-        ensures uncut { IfOk result (λ moved. cuts moved.change ≡ false) }
         ensures unchanged { OnErr result (self.new ≡ self.old) }
         ensures memory { IsErr result → takes_memory op ≡ true }
         ensures leaves { Leaves self.old self.new }

@@ -24,7 +24,6 @@ impl Sessions {
     pub(crate) fn conclude(&mut self, outcome: SetOutcome, agenda_ended: bool) -> Ended
         ensures keeps { IsConcluded self.old self.new outcome agenda_ended }
         ensures told { IsConcludedTold self.old outcome agenda_ended result }
-        ensures fails { has_failed outcome ≡ false → has_failed result.result ≡ false }
         ensures coordinator { self.new.coordinator ≡ self.old.coordinator }
         ensures clock { self.new.clock ≡ self.old.clock }
         ensures sets { length self.new.sets ≡ length self.old.sets }
@@ -57,7 +56,6 @@ impl Sessions {
     pub(crate) fn fail_so(&mut self, why: VssResult) -> Ended
         ensures failed { IsFailed self.old self.new why }
         ensures told { IsFailedTold self.old why result }
-        ensures ended { result ≡ ends_as (current_of self.old.sets) (SetOutcome.Failed why) }
         ensures owner { option_map (λ session. session.owner) self.new.requestor.session ≡ option_map (λ session. session.owner) self.old.requestor.session }
         ensures posts { self.new.coordinator.posts ≡ self.old.coordinator.posts }
         ensures sets { length self.new.sets ≡ length self.old.sets }
@@ -91,8 +89,7 @@ pub(crate) fn nothing_ends() -> Ended
 
 /// What ends where this set was in progress.
 pub(crate) fn ends_as(current: Option<u32>, outcome: SetOutcome) -> Ended
-    ensures ended { result ≡ ends_as current outcome }
-    ensures fails { has_failed outcome ≡ false → has_failed result.result ≡ false }
+    ensures { result ≡ ends_as current outcome }
 {
     let Some(set) = current else {
         return nothing_ends();

@@ -4,8 +4,8 @@
 //! Contracts see a `Sessions` as its parts, and `specs/Keeps.antt` says for which states of the definitions they stand:
 //! for all of a state but the volumes. Each call promises that its event waits exactly as the definitions say, or that
 //! it is an enabled move: its reply and effects are those of the definitions, and what is kept afterwards stands for the
-//! state after it (`specs/Moves.antt`). What becomes of the images is told, for the layer above to carry out; no device
-//! is known here.
+//! state after it (`specs/Moves.antt`). The images of a set that fails go, and those of a set that is released with its
+//! session; the layer above drops them, since no device is known here.
 //!
 //! A call asks only that what is kept stands for some state that acts lead to; which one, the caller need not say. Of
 //! the session lines only `component`, `document`, `start`, `gather`, `prepare`, `snapshot` and `complete` may want
@@ -19,7 +19,6 @@ mod called;
 mod calls;
 mod ended;
 mod endings;
-mod image_change;
 mod known_writers;
 mod naming_lines;
 mod session_lines;
@@ -30,7 +29,6 @@ mod set_facts;
 mod set_rows;
 
 pub use called::Called;
-pub use image_change::ImageChange;
 pub use session_move::SessionMove;
 pub use sessions::Sessions;
 pub use set_facts::SetFacts;

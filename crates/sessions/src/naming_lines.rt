@@ -5,7 +5,7 @@ ghost use Rattle.scenario.specs.Bounds.{IsPlan, IsSpan};
 ghost use Rattle.scenario.specs.declared.op.Op.TheVariants as op;
 ghost use Rattle.sessions.specs.Keeps.{IsStandingIn, Leaves};
 ghost use Rattle.block_data.specs.Digest.{sha256};
-ghost use Rattle.sessions.specs.Moves.{IsDocumentIn, IsGoneIn, cuts, takes_all_of};
+ghost use Rattle.sessions.specs.Moves.{IsDocumentIn, IsGoneIn, takes_all_of};
 ghost use Rattle.sessions.specs.Told.{told_named};
 
 use crate::session_move::SessionMove;
@@ -31,7 +31,6 @@ impl Sessions {
         requires plan { IsPlan scenario.now }
         requires goes { check self.old.requestor.session (runs self.old.coordinator) lane SessionCall.Prepare ≡ Verdict.Go }
         ensures gone { IfOk result (IsGoneIn scenario.now self.old self.new lane op.Prepare) }
-        ensures uncut { IfOk result (λ moved. cuts moved.change ≡ false) }
         ensures unchanged { OnErr result (self.new ≡ self.old) }
         ensures leaves { Leaves self.old self.new }
         ensures clock { self.new.clock ≡ self.old.clock }
@@ -72,7 +71,6 @@ impl Sessions {
         requires span { IsSpan scenario.now full }
         requires goes { check self.old.requestor.session (runs self.old.coordinator) lane SessionCall.Component ≡ Verdict.Go }
         ensures gone { IfOk result (IsGoneIn scenario.now self.old self.new lane (op.Component writer full)) }
-        ensures uncut { IfOk result (λ moved. cuts moved.change ≡ false) }
         ensures unchanged { OnErr result (self.new ≡ self.old) }
         ensures leaves { Leaves self.old self.new }
         ensures clock { self.new.clock ≡ self.old.clock }
@@ -98,7 +96,6 @@ impl Sessions {
         requires plan { IsPlan scenario.now }
         requires goes { check self.old.requestor.session (runs self.old.coordinator) lane SessionCall.Document ≡ Verdict.Go }
         ensures gone { IfOk result (IsGoneIn scenario.now self.old self.new lane op.Document) }
-        ensures uncut { IfOk result (λ moved. cuts moved.change ≡ false) }
         ensures unchanged { OnErr result (self.new ≡ self.old) }
         ensures leaves { Leaves self.old self.new }
         ensures clock { self.new.clock ≡ self.old.clock }

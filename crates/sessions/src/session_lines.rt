@@ -3,25 +3,21 @@ ghost use Rattle.coordinator.specs.Coordinator.{runs, writer_count};
 ghost use Rattle.requestor.specs.Check.{check};
 ghost use Rattle.scenario.specs.declared.op.Op.TheVariants as op;
 ghost use Rattle.sessions.specs.Keeps.{IsStanding, Leaves, nothing_named_in};
-ghost use Rattle.sessions.specs.Moves.{IsClosed, IsGone, IsGoneWith, cuts};
-ghost use Rattle.sessions.specs.Told.{change_at_end, drop_or};
-ghost use Rattle.vss_model.specs.Facts.{has_failed};
+ghost use Rattle.sessions.specs.Moves.{IsClosed, IsGone, IsGoneWith};
+ghost use Rattle.sessions.specs.Told.{released_by};
 
-use crate::ended::Ended;
-use crate::image_change::ImageChange;
-use crate::session_move::{SessionMove, change_after};
+use crate::session_move::SessionMove;
 use crate::sessions::{Sessions, nothing_named};
 use requestor::{SessionCall, Verdict, context_of};
 use std::alloc::Global;
 use vss_model::Told;
-use vss_names::{Context, OutOfMemory, SetOutcome, VssResult};
+use vss_names::{Context, OutOfMemory, VssResult};
 
 impl Sessions {
     /// A session begins, in which nothing is named.
     pub(crate) fn begin(&mut self, alloc: Global, lane: u32, context: u32, all: bool) -> SessionMove
         requires goes { check self.old.requestor.session (runs self.old.coordinator) lane (SessionCall.Begin context all) ≡ Verdict.Go }
         ensures gone { IsGone self.old self.new lane (op.Begin context all) result }
-        ensures uncut { cuts result.change ≡ false }
         ensures leaves { Leaves self.old self.new }
         ensures clock { self.new.clock ≡ self.old.clock }
     {
@@ -47,7 +43,6 @@ impl Sessions {
         requires goes { check self.old.requestor.session (runs self.old.coordinator) lane SessionCall.Start ≡ Verdict.Go }
         requires at_rest { check self.old.requestor.session false lane SessionCall.Start ≡ Verdict.Go }
         ensures gone { IfOk result (IsGone self.old self.new lane op.Start) }
-        ensures uncut { IfOk result (λ moved. cuts moved.change ≡ false) }
         ensures unchanged { OnErr result (self.new ≡ self.old) }
         ensures leaves { Leaves self.old self.new }
         ensures clock { self.new.clock ≡ self.old.clock }
@@ -66,7 +61,6 @@ impl Sessions {
     pub(crate) fn add(&mut self, lane: u32, volume: u32, images: u32) -> SessionMove
         requires goes { check self.old.requestor.session (runs self.old.coordinator) lane SessionCall.Add ≡ Verdict.Go }
         ensures gone { IsGoneWith images self.old self.new lane (op.Add volume) result }
-        ensures uncut { cuts result.change ≡ false }
         ensures leaves { Leaves self.old self.new }
         ensures clock { self.new.clock ≡ self.old.clock }
     {
@@ -82,7 +76,6 @@ impl Sessions {
     pub(crate) fn await_last(&mut self, lane: u32) -> SessionMove
         requires goes { check self.old.requestor.session (runs self.old.coordinator) lane SessionCall.Await ≡ Verdict.Go }
         ensures gone { IsGone self.old self.new lane op.Await result }
-        ensures uncut { cuts result.change ≡ false }
         ensures leaves { Leaves self.old self.new }
         ensures clock { self.new.clock ≡ self.old.clock }
     {
@@ -95,7 +88,6 @@ impl Sessions {
     pub(crate) fn status(&mut self, lane: u32) -> SessionMove
         requires goes { check self.old.requestor.session (runs self.old.coordinator) lane SessionCall.Status ≡ Verdict.Go }
         ensures gone { IsGone self.old self.new lane op.Status result }
-        ensures uncut { cuts result.change ≡ false }
         ensures leaves { Leaves self.old self.new }
         ensures clock { self.new.clock ≡ self.old.clock }
     {
@@ -108,7 +100,6 @@ impl Sessions {
         requires known { writer < writer_count self.old.coordinator }
         requires goes { check self.old.requestor.session (runs self.old.coordinator) lane SessionCall.Disable ≡ Verdict.Go }
         ensures gone { IsGone self.old self.new lane (op.Disable writer) result }
-        ensures uncut { cuts result.change ≡ false }
         ensures leaves { Leaves self.old self.new }
         ensures clock { self.new.clock ≡ self.old.clock }
     {
@@ -121,27 +112,28 @@ impl Sessions {
     pub(crate) fn abort(&mut self, lane: u32) -> SessionMove
         requires goes { check self.old.requestor.session (runs self.old.coordinator) lane SessionCall.Abort ≡ Verdict.Go }
         ensures gone { IsGone self.old self.new lane op.Abort result }
-        ensures uncut { cuts result.change ≡ false }
         ensures leaves { Leaves self.old self.new }
         ensures clock { self.new.clock ≡ self.old.clock }
     {
         let _lane = lane;
         let ended = self.fail_so(VssResult::AsyncCancelled);
-        SessionMove::with(Told::Ok, ended, change_after(ended))
+        SessionMove::with(Told::Ok, ended)
     }
 
     /// The session ends. A set in progress fails; of a context whose images go with the session, those of its set go.
     pub(crate) fn end(&mut self, alloc: Global, lane: u32) -> SessionMove
         requires goes { check self.old.requestor.session (runs self.old.coordinator) lane SessionCall.End ≡ Verdict.Go }
         ensures gone { IsGone self.old self.new lane op.End result }
-        ensures uncut { cuts result.change ≡ false }
         ensures leaves { Leaves self.old self.new }
         ensures clock { self.new.clock ≡ self.old.clock }
     {
-        let released = change_at_end(self.requestor.context(), self.requestor.set());
+        let released = released_by(self.requestor.context(), self.requestor.set());
         let ended = self.fail_so(VssResult::AsyncCancelled);
         self.close(alloc, lane);
-        SessionMove::with(Told::Ok, ended, drop_or(ended, released))
+        SessionMove {
+            released,
+            ..SessionMove::with(Told::Ok, ended)
+        }
     }
 
     /// The session is over: no writer is disabled any more, and nothing is named.
@@ -160,25 +152,12 @@ impl Sessions {
     }
 }
 
-/// The images that go as the session ends: those of its set, in the context whose images go with the session.
-fn change_at_end(context: Option<Context>, set: Option<u32>) -> ImageChange
-    ensures change { result ≡ change_at_end context set }
-    ensures uncut { cuts result ≡ false }
+/// The set whose images go as the session ends: its own, in the context whose images go with the session.
+fn released_by(context: Option<Context>, set: Option<u32>) -> Option<u32>
+    ensures { result ≡ released_by context set }
 {
-    match (context, set) {
-        (Some(Context::Backup), Some(set)) => ImageChange::Drop(set),
-        _ => ImageChange::NoChange,
-    }
-}
-
-/// The images of a set go where it failed, and else those that go as the session ends.
-fn drop_or(ended: Ended, released: ImageChange) -> ImageChange
-    requires { cuts released ≡ false }
-    ensures change { result ≡ drop_or (has_failed ended.result) ended.set released }
-    ensures uncut { cuts result ≡ false }
-{
-    match ended.result {
-        SetOutcome::Failed(_) => ImageChange::Drop(ended.set),
-        SetOutcome::Running | SetOutcome::Complete => released,
+    match context {
+        Some(Context::Backup) => set,
+        _ => None,
     }
 }

@@ -1,17 +1,16 @@
-ghost use Rattle.std.specs.Prelude.{◌≡◌, false};
-ghost use Rattle.sessions.specs.Moves.{cuts};
-ghost use Rattle.sessions.specs.Told.{change_after, told_alone, told_with};
+ghost use Rattle.std.specs.Prelude.{◌≡◌};
+ghost use Rattle.sessions.specs.Told.{told_alone, told_with};
 
 use crate::ended::Ended;
-use crate::image_change::ImageChange;
+use crate::endings::nothing_ends;
 use vss_model::{Outcome, Told};
-use vss_names::SetOutcome;
 
-/// What a move of a session, of a writer, of the provider or of time comes to.
+/// What a move of a session, of a writer, of the provider or of time comes to. The images of a set that fails in it go.
 #[derive(Clone, Copy)]
 pub struct SessionMove {
     pub outcome: Outcome,
-    pub change: ImageChange,
+    /// The set whose images go since its session ends.
+    pub released: Option<u32>,
 }
 
 impl SessionMove {
@@ -19,16 +18,12 @@ impl SessionMove {
     pub(crate) fn alone(told: Told) -> SessionMove
         ensures { result ≡ told_alone told }
     {
-        let ended = Ended {
-            set: 0,
-            result: SetOutcome::Running,
-        };
-        SessionMove::with(told, ended, ImageChange::NoChange)
+        SessionMove::with(told, nothing_ends())
     }
 
-    /// A move in which this ends, with this change of the images.
-    pub(crate) fn with(told: Told, ended: Ended, change: ImageChange) -> SessionMove
-        ensures { result ≡ told_with told ended change }
+    /// A move in which this ends.
+    pub(crate) fn with(told: Told, ended: Ended) -> SessionMove
+        ensures { result ≡ told_with told ended }
     {
         SessionMove {
             outcome: Outcome {
@@ -38,18 +33,7 @@ impl SessionMove {
                 set: ended.set,
                 result: ended.result,
             },
-            change,
+            released: None,
         }
-    }
-}
-
-/// The images of a set go where it failed.
-pub(crate) fn change_after(ended: Ended) -> ImageChange
-    ensures change { result ≡ change_after ended }
-    ensures uncut { cuts result ≡ false }
-{
-    match ended.result {
-        SetOutcome::Failed(_) => ImageChange::Drop(ended.set),
-        SetOutcome::Running | SetOutcome::Complete => ImageChange::NoChange,
     }
 }

@@ -9,7 +9,7 @@ ghost use Rattle.set_agenda.specs.Begin.{are_distinct};
 ghost use Rattle.vss_model.specs.Acts.{may_call};
 ghost use Rattle.vss_model.specs.Images.{is_in_set};
 ghost use Rattle.vss_model.specs.Sessions.{volumes_of};
-ghost use Rattle.vss_model.specs.State.{State, in_progress, is_frozen, is_kept_set, left_now, row_of, start};
+ghost use Rattle.vss_model.specs.State.{State, in_progress, is_frozen, is_held, is_kept_set, left_now, row_of, start};
 ghost use Rattle.sessions.specs.Keeps.{Keeps};
 ghost use Rattle.sessions.specs.Sets.{current_of, facts_of};
 
@@ -118,6 +118,13 @@ impl Sessions {
         ensures { result ≡ writer_count self.now.coordinator }
     {
         self.coordinator.writers()
+    }
+
+    /// Whether the writes of the volume are held.
+    pub fn is_held(&self, volume: u32) -> bool
+        ensures { (st : State) → Keeps self.now st → result ≡ is_held st volume }
+    {
+        self.coordinator.is_held(volume)
     }
 
     /// Whether the writer stands frozen.

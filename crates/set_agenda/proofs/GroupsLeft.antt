@@ -223,7 +223,7 @@ waits-from : (p : Place) (ws : List ℕ) (rest os : List Open) (o : Open) → (r
 waits-from p [] rest os o h e = h e
 waits-from p (w ∷ ws) rest os o h e = let f : record { place = p; waits = w ∷ ws } ≡ o = cc in ap (λ (x : Open). is_nil x.waits) (sym f)
 
-left_from-waits : (a : Agenda) (ps : List Place) (o : Open) (os : List Open) → left_from a ps ≡ o ∷ os → is_nil o.waits ≡ false
+pub left_from-waits : (a : Agenda) (ps : List Place) (o : Open) (os : List Open) → left_from a ps ≡ o ∷ os → is_nil o.waits ≡ false
 left_from-waits a [] o os e = cc
 left_from-waits a (p ∷ ps) o os e = waits-from p (waited_for a p) (left_from a ps) os o (λ f. left_from-waits a ps o os f) e
 

@@ -1,5 +1,6 @@
 pub mod GroupsLeft
 pub mod WriterSets
 pub mod Cursors
+pub mod Held
 pub mod Closings
 pub mod Beginnings

@@ -1,7 +1,7 @@
 -- An agenda: its groups in order, and the log of what was said since it began. From these follow the groups that are
 -- not closed, the one that is open, and who is waited for; nothing else is kept. (The groups of a snapshot set and
 -- their order are those of the SDK's DoSnapshotSet; the order of the Thaw groups is this project's own.)
-use Rattle.std.specs.Prelude.{ℕ, Bool, true, false, List, [], ◌∷◌, ◌++◌, map, filter, ◌==◌, ◌&&◌, not, Option, Some, None}
+use Rattle.std.specs.Prelude.{ℕ, ◌≡◌, Bool, true, false, List, [], ◌∷◌, ◌++◌, map, filter, ◌==◌, ◌&&◌, not, Option, Some, None}
 use Rattle.std.specs.List.{list_any}
 use Rattle.vss_names.specs.declared.order.Order.{Order}
 use Rattle.vss_names.specs.declared.order.Order.TheVariants.{Identify, PrepareBackup, PrepareSnapshot, Freeze, Thaw, PostSnapshot, BackupComplete}
@@ -259,6 +259,15 @@ abbrev pub next_volume : List Open → Option ℕ
 next_volume [] = None
 next_volume (o ∷ os) = volume_if (is_over_volumes o.place.group) (head_or_0 o.waits)
 
+-- the provider's next step: its group, and its volume where that has one step for each
+abbrev pub step_of : Bool → Group → Option ℕ → Option (Group × Option ℕ)
+step_of true g v = None
+step_of false g v = Some (g, v)
+
+abbrev pub next_step : List Open → Option (Group × Option ℕ)
+next_step [] = None
+next_step (o ∷ os) = step_of (is_orders o.place.group) o.place.group (next_volume (o ∷ os))
+
 abbrev pub is_done : List Open → Bool
 is_done [] = true
 is_done (o ∷ os) = false
@@ -311,3 +320,15 @@ is_frozen (Some a) w = is_snapshot a.kind && has_frozen a.log w && not (has_thaw
 abbrev pub is_held : Option Agenda → ℕ → Bool
 is_held None v = false
 is_held (Some a) v = is_snapshot a.kind && has_said a.log (plain Hold) v && not (has_said a.log (plain Release) v)
+
+-- somebody is waited for at a place, of the groups left
+abbrev pub is_waited_at : Place → ℕ → List Open → Bool
+is_waited_at p who os = list_any (λ o. same_place o.place p && is_among who o.waits) os
+
+-- Of the groups left, a held volume waits to be released and waits to be held no more.
+abbrev pub is_held_now : List Open → ℕ → Bool
+is_held_now os v = is_waited_at (plain Release) v os && not (is_waited_at (plain Hold) v os)
+
+-- what is said of a volume at Hold is said of one of the agenda's volumes, as in every agenda that has come about
+abbrev pub HoldsOwn : Agenda → Type 0
+HoldsOwn a = (v : ℕ) → has_said a.log (plain Hold) v ≡ true → is_among v a.volumes ≡ true

@@ -1,7 +1,7 @@
 -- How the code keeps an agenda: rows of its members by level, and a cursor, which is the number of the open group with
 -- those that it waits for, or the number of its steps that are made. From these follow the groups that are left; the
 -- groups after the open one are still as they open. (This project's own.)
-use Rattle.std.specs.Prelude.{ℕ, ◌≡◌, ◌≤◌, Bool, true, List, [], ◌∷◌, drop, ◌==◌, ◌&&◌, not, Option, Some, None, if◌then◌else◌}
+use Rattle.std.specs.Prelude.{ℕ, ◌≡◌, ◌≤◌, Bool, true, false, List, [], ◌∷◌, drop, ◌==◌, ◌&&◌, not, Option, Some, None, if◌then◌else◌}
 use Rattle.std.specs.List.{list_any}
 use Rattle.vss_names.specs.declared.level.Level.{Level}
 use Rattle.vss_names.specs.declared.level.Level.TheVariants.{System, BackEnd, FrontEnd}
@@ -13,7 +13,7 @@ use Rattle.set_agenda.specs.declared.place.Place.{Place}
 use Rattle.set_agenda.specs.declared.member.Member.{Member}
 use Rattle.set_agenda.specs.declared.rows.Rows.{Rows}
 use Rattle.set_agenda.specs.declared.cursor.Cursor.{Cursor}
-use Rattle.set_agenda.specs.Agenda.{Open, with_group, is_at, is_orders, is_over_volumes, places}
+use Rattle.set_agenda.specs.Agenda.{Open, with_group, is_among, is_at, is_orders, is_over_volumes, places}
 use Rattle.set_agenda.specs.Begin.{are_distinct}
 use Rattle.set_agenda.specs.WriterSet.{is_nil, writers}
 
@@ -105,3 +105,20 @@ pub record IsSound (k : Kind) (vs : List ℕ) (c : Cursor) : Type 0 where
   pub at_most : c.group ≤ 16
   pub live : is_live vs c (drop c.group (places k)) ≡ true
   pub distinct : are_distinct vs ≡ true
+
+-- ## held volumes
+
+-- whether a volume is held where this group is open, so many of whose steps are made
+abbrev pub is_held_at : Group → ℕ → List ℕ → ℕ → Bool
+is_held_at (Orders o) next vs v = false
+is_held_at PreCommit next vs v = false
+is_held_at Flush next vs v = false
+is_held_at Hold next vs v = is_among v vs && not (is_among v (drop next vs))
+is_held_at Cut next vs v = is_among v vs
+is_held_at Commit next vs v = is_among v vs
+is_held_at Release next vs v = is_among v (drop next vs)
+is_held_at PostCommit next vs v = false
+
+abbrev pub is_held_in : Option Place → ℕ → List ℕ → ℕ → Bool
+is_held_in None next vs v = false
+is_held_in (Some p) next vs v = is_held_at p.group next vs v

@@ -1,5 +1,5 @@
 ghost use Rattle.std.specs.Prelude.{◌≡◌, ℕ, ◌<◌, ◌∷◌, [], All, IfOk, List, map, true, false};
-ghost use Rattle.set_agenda.specs.Agenda.{Open, groups_left, is_asked, is_asking, is_done, is_working, next_member, next_volume, open_group, open_level, open_place, waits_now};
+ghost use Rattle.set_agenda.specs.Agenda.{Open, groups_left, is_asked, is_asking, is_done, is_held_now, is_working, next_member, next_step, next_volume, open_group, open_level, open_place, waits_now};
 ghost use Rattle.set_agenda.specs.Advance.{advance};
 ghost use Rattle.set_agenda.specs.Begin.{are_distinct, by_writer, unspoken};
 ghost use Rattle.set_agenda.specs.Cursor.{IsSound, left_of};
@@ -147,6 +147,33 @@ impl Agenda {
                     None
                 }
             }
+        }
+    }
+
+    /// The provider's next step, with its volume where the open group has one step for each; none where the provider
+    /// has no step to make.
+    pub fn next_step(&self) -> Option<(Group, Option<u32>)>
+        ensures { result ≡ next_step self.now }
+    {
+        match Place::of_number(self.kind, self.cursor.group) {
+            None => None,
+            Some(place) => {
+                if place.group.is_orders() {
+                    None
+                } else {
+                    Some((place.group, self.next_volume()))
+                }
+            }
+        }
+    }
+
+    /// Whether the writes of the volume are held: its Hold step is made, and its Release step is not.
+    pub fn is_held(&self, volume: u32) -> bool
+        ensures { result ≡ is_held_now self.now volume }
+    {
+        match Place::of_number(self.kind, self.cursor.group) {
+            None => false,
+            Some(place) => self.cursor.holds(place, &self.volumes, volume),
         }
     }
 

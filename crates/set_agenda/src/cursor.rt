@@ -1,7 +1,7 @@
-ghost use Rattle.std.specs.Prelude.{◌≡◌, ◌≤◌, drop, length, true};
-ghost use Rattle.set_agenda.specs.Agenda.{places};
+ghost use Rattle.std.specs.Prelude.{◌≡◌, ◌≤◌, Some, drop, length, true};
+ghost use Rattle.set_agenda.specs.Agenda.{is_over_volumes, places};
 ghost use Rattle.set_agenda.specs.WriterSet.{is_nil};
-ghost use Rattle.set_agenda.specs.Cursor.{fresh, here, is_fresh_live, is_live, left_fresh, left_here, steps};
+ghost use Rattle.set_agenda.specs.Cursor.{fresh, here, is_fresh_live, is_held_in, is_live, left_fresh, left_here, steps};
 
 use crate::group::Group;
 use crate::kind::Kind;
@@ -61,6 +61,19 @@ impl Cursor {
             self.waits.is_empty()
         } else {
             step_count(place.group, volumes) <= self.next
+        }
+    }
+
+    /// Whether a volume is held where this place is open.
+    pub fn holds(&self, place: Place, volumes: &[u32], volume: u32) -> bool
+        requires { is_over_volumes place.group ≡ true → self.now.next ≤ length volumes.now }
+        ensures { result ≡ is_held_in (Some place) self.now.next volumes.now volume }
+    {
+        match place.group {
+            Group::Hold => volumes.contains(&volume) && !volumes[self.next..].contains(&volume),
+            Group::Cut | Group::Commit => volumes.contains(&volume),
+            Group::Release => volumes[self.next..].contains(&volume),
+            Group::Orders(_) | Group::PreCommit | Group::Flush | Group::PostCommit => false,
         }
     }
 }

@@ -577,6 +577,24 @@ unused s acts v = unused_fold s v [] acts tt
 
 -- ## what it means
 
+-- an image of the set in progress stands only on its volumes, while its snapshot agenda runs, and from the volume's Hold step on
+pub record RunsWithImage (st : State) (r : SetRow) (v : ℕ) : Type 0 where
+  pub agenda : Agenda
+  pub runs : st.course.agenda ≡ Some agenda
+  pub snapshot : is_snapshot agenda.kind ≡ true
+  pub among : is_among v r.volumes ≡ true
+  pub hold : has_said agenda.log (plain Hold) v ≡ true
+
+runs_with_image : (v : ℕ) (a : Option Agenda) (r : SetRow) (p : ℕ) (ws : List Write) (st : State) → st.course.agenda ≡ a → AgendaUnused true v a r p ws → RunsWithImage st r v
+runs_with_image v None r p ws st e h = absurd h
+runs_with_image v (Some a) r p ws st e h = record { agenda = a; runs = e; snapshot = h.snapshot; among = h.among; hold = h.hold }
+
+pub image_runs : (s : Plan) (acts : List Act) (r : SetRow) (v p : ℕ) → in_progress (state s acts) ≡ Some r → point_in r.number (history_of (state s acts) v).images ≡ Some p → RunsWithImage (state s acts) r v
+image_runs s acts r v p e g =
+    let st = state s acts in
+    runs_with_image v st.course.agenda r p (history_of st v).writes st refl
+    (subst (λ o. ImageUnused true v st.course.agenda r o (history_of st v).writes) g (subst (λ o. SetUnused true v st.course.agenda o (history_of st v)) e (unused s acts v)))
+
 point_of : (v : ℕ) (a : Option Agenda) (r : SetRow) (p : ℕ) (ws : List Write) → holds a v ≡ true → AgendaUnused true v a r p ws → p ≡ length ws
 point_of v None r p ws e h = absurd h
 point_of v (Some a) r p ws e h = h.since (held_parts (is_snapshot a.kind) (has_said a.log (plain Hold) v) (has_said a.log (plain Release) v) e).2

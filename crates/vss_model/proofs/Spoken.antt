@@ -176,7 +176,7 @@ abbrev pub HoldsFirst : Agenda → Type 0
 HoldsFirst a = is_cut_made a.log ≡ true → waited_for a (plain Hold) ≡ []
 
 -- who is not waited for will not be
-fewer_wait : (log new : List Entry) (p : Place) (xs : List ℕ) → filter (λ x. not (has_said log p x)) xs ≡ [] → filter (λ x. not (has_said (log ++ new) p x)) xs ≡ []
+pub fewer_wait : (log new : List Entry) (p : Place) (xs : List ℕ) → filter (λ x. not (has_said log p x)) xs ≡ [] → filter (λ x. not (has_said (log ++ new) p x)) xs ≡ []
 fewer_wait log new p [] e = refl
 fewer_wait log new p (x ∷ xs) e = by_head (has_said log p x) (has_said (log ++ new) p x) (said_stays log new p x) e (fewer_wait log new p xs)
   where

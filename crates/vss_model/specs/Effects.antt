@@ -1,9 +1,11 @@
 -- The effects of an enabled act beside its reply: the kept images that it evicts, the writers that it loses, and the
 -- set that completes or fails in it. (This project's own.)
-use Rattle.std.specs.Prelude.{ℕ, ◌+◌, List, [], ◌∷◌, map, filter, find, ◌==◌, ◌&&◌, not, if◌then◌else◌, Option, Some, None}
+use Rattle.std.specs.Prelude.{ℕ, ◌+◌, List, [], ◌∷◌, filter, find, ◌==◌, ◌&&◌, not, if◌then◌else◌, Option, Some, None}
 use Rattle.std.specs.List.{flat_map}
 use Rattle.vss_names.specs.declared.order.Order.{Order}
+use Rattle.write_history.specs.declared.evicted.Evicted.{Evicted}
 use Rattle.write_history.specs.History.{History}
+use Rattle.write_history.specs.Slots.{evicted_of}
 use Rattle.set_agenda.specs.Agenda.{order_now}
 use Rattle.set_agenda.specs.Course.{lost_writers}
 use Rattle.scenario.specs.declared.op.Op.{Op}
@@ -12,7 +14,6 @@ use Rattle.scenario.specs.Calls.{Target, target_of}
 use Rattle.scenario.specs.Plan.{Plan}
 use Rattle.vss_model.specs.declared.event.Event.{Event}
 use Rattle.vss_model.specs.declared.event.Event.TheVariants.{Line, Answer as AnswerEvent, Provider, Idle}
-use Rattle.vss_model.specs.declared.evicted.Evicted.{Evicted}
 use Rattle.vss_model.specs.State.{State, SetRow, in_progress, left_now, has_image, is_complete, is_running}
 use Rattle.vss_model.specs.Images.{cleared}
 use Rattle.vss_model.specs.Acts.{Act, after, idle_now}
@@ -25,9 +26,6 @@ volumes_losing n v [] ks = []
 volumes_losing n v (h ∷ hs) [] = []
 volumes_losing n v (h ∷ hs) (k ∷ ks) =
     if has_image n h && not (has_image n k) then v ∷ volumes_losing n (v + 1) hs ks else volumes_losing n (v + 1) hs ks
-
-abbrev pub evicted_of : ℕ → List ℕ → List Evicted
-evicted_of n vs = map (λ v. record { set = n; volume = v }) vs
 
 -- the kept images that go for a write of block b to volume v, in order of sets and then of volumes
 abbrev pub evicted_for : Plan → State → ℕ → ℕ → List Evicted

@@ -7,7 +7,6 @@
 
 mod closing_row;
 mod event;
-mod evicted;
 pub mod laws;
 mod lists;
 mod outcome;
@@ -15,7 +14,7 @@ mod told;
 
 pub use closing_row::ClosingRow;
 pub use event::Event;
-pub use evicted::Evicted;
 pub use lists::Lists;
 pub use outcome::Outcome;
 pub use told::Told;
+pub use write_history::Evicted;

@@ -1,4 +1,4 @@
-use crate::evicted::Evicted;
+use write_history::Evicted;
 use writer_state::WriterRow;
 
 /// The lists that a reply or the effects of a move show.

@@ -55,9 +55,12 @@ pub(crate) fn digest_volume<D: Device>(
     ensures same { OnOk result (map D.count world.new.devices ≡ map D.count world.old.devices) }
     ensures rose { IsErr result → AnyRose (map D.count world.old.devices) (map D.count world.new.devices) }
 {
-    match ready.take(volume, None) {
-        Some(digest) => Ok(digest),
-        None => world.digest(scenario, volume),
+    if let Some(digest) = ready.take(volume, None) {
+        return Ok(digest);
+    }
+    match world.digest(scenario, volume) {
+        Ok(digest) => Ok(digest),
+        Err(_fault) => Err(Failed),
     }
 }
 
@@ -80,8 +83,11 @@ pub(crate) fn digest_image<D: Device>(
     ensures same { OnOk result (map D.count world.new.devices ≡ map D.count world.old.devices) }
     ensures rose { IsErr result → AnyRose (map D.count world.old.devices) (map D.count world.new.devices) }
 {
-    match ready.take(volume, Some(set)) {
-        Some(digest) => Ok(digest),
-        None => world.digest_image(scenario, set, volume),
+    if let Some(digest) = ready.take(volume, Some(set)) {
+        return Ok(digest);
+    }
+    match world.digest_image(scenario, set, volume) {
+        Ok(digest) => Ok(digest),
+        Err(_fault) => Err(Failed),
     }
 }

@@ -15,6 +15,7 @@ use Rattle.vss_names.specs.declared.set_outcome.SetOutcome.TheVariants.{Running,
 use Rattle.vss_names.specs.VssResult as result
 use Rattle.vss_names.specs.WriterError as error
 use Rattle.vss_names.specs.Order as order
+use Rattle.write_history.specs.declared.evicted.Evicted.{Evicted}
 use Rattle.write_history.specs.declared.actor.Actor.TheVariants.{Lane, Writer}
 use Rattle.write_history.specs.declared.mark.Mark.{Mark}
 use Rattle.write_history.specs.declared.mark.Mark.TheVariants.{Clean, Fault}
@@ -25,7 +26,6 @@ use Rattle.writer_calls.specs.declared.answer.Answer.TheVariants.{Ok, Veto}
 use Rattle.set_agenda.specs.declared.group.Group.{Group}
 use Rattle.set_agenda.specs.declared.group.Group.TheVariants.{Orders, PreCommit, Flush, Hold, Cut, Commit, Release, PostCommit}
 use Rattle.scenario.specs.Plan.{Plan}
-use Rattle.vss_model.specs.declared.evicted.Evicted.{Evicted}
 use Rattle.vss_model.specs.State.{is_running}
 use Rattle.vss_report.specs.declared.line_kind.LineKind.{LineKind}
 use Rattle.vss_report.specs.declared.line_kind.LineKind.TheVariants.{Move, Effect, End, Bad}

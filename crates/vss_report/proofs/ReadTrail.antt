@@ -7,6 +7,7 @@ use Rattle.std.proofs.lemmas.List.{append_assoc, append-nil, length-append}
 use Rattle.std.proofs.lemmas.List.Elements.{All-head, All-tail}
 use Rattle.vss_names.specs.declared.order.Order.{Order}
 use Rattle.vss_names.specs.Order as order
+use Rattle.write_history.specs.declared.evicted.Evicted.{Evicted}
 use Rattle.write_history.specs.declared.actor.Actor.{Actor}
 use Rattle.write_history.specs.declared.actor.Actor.TheVariants.{Lane, Writer, Advance, Idle}
 use Rattle.write_history.specs.declared.mark.Mark.{Mark}
@@ -14,7 +15,6 @@ use Rattle.write_history.specs.declared.move_item.Move.{Move as Step}
 use Rattle.write_history.specs.declared.trail.TheConstants.{MOST_MOVES}
 use Rattle.scenario.specs.Plan.{Plan, LaneLine}
 use Rattle.vss_model.specs.declared.event.Event.{Event}
-use Rattle.vss_model.specs.declared.evicted.Evicted.{Evicted}
 use Rattle.vss_model.specs.Reply.{Reply, Answered, Stepped, Idled}
 use Rattle.vss_model.specs.State.{State, SetRow}
 use Rattle.vss_model.specs.Acts.{Act, reply}

@@ -5,6 +5,7 @@ use Rattle.hex.specs.Hex.{IsBytes}
 use Rattle.vss_names.specs.declared.writer_error.WriterError.{WriterError}
 use Rattle.writer_state.specs.declared.writer_row.WriterRow.{WriterRow}
 use Rattle.writer_state.specs.WriterState.{is_failed}
+use Rattle.write_history.specs.declared.evicted.Evicted.{Evicted}
 use Rattle.write_history.specs.declared.actor.Actor.{Actor}
 use Rattle.write_history.specs.declared.actor.Actor.TheVariants.{Lane, Writer, Advance, Idle}
 use Rattle.write_history.specs.declared.mark.Mark.{Mark}
@@ -16,7 +17,6 @@ use Rattle.set_agenda.specs.declared.group.Group.TheVariants.{Orders, PreCommit,
 use Rattle.scenario.specs.Names.{is_name}
 use Rattle.scenario.specs.Plan.{Plan, LaneLine, lines_of}
 use Rattle.vss_model.specs.declared.event.Event.{Event}
-use Rattle.vss_model.specs.declared.evicted.Evicted.{Evicted}
 use Rattle.vss_model.specs.Reply.{Reply, Fine, Faulted, FaultedAfter, Numbered, Coded, NotSelectable, BlockOf, BlocksOf, KeptSets, PropertiesOf, Deleted, DocumentOf, StatusOf, Answered, Stepped, Idled}
 use Rattle.vss_model.specs.State.{State, SetRow, is_running}
 use Rattle.vss_model.specs.Acts.{Act, reply}

@@ -8,6 +8,7 @@ use Rattle.vss_names.specs.VssResult as result
 use Rattle.vss_names.specs.Order as order
 use Rattle.vss_names.specs.declared.set_outcome.SetOutcome.{SetOutcome}
 use Rattle.writer_state.specs.declared.writer_row.WriterRow.{WriterRow}
+use Rattle.write_history.specs.declared.evicted.Evicted.{Evicted}
 use Rattle.write_history.specs.declared.actor.Actor.{Actor}
 use Rattle.write_history.specs.declared.actor.Actor.TheVariants.{Lane, Writer, Advance, Idle}
 use Rattle.write_history.specs.declared.move_item.Move.{Move}
@@ -15,7 +16,6 @@ use Rattle.set_agenda.specs.WriterSet.{writers_of}
 use Rattle.scenario.specs.Plan.{Plan, slots_of}
 use Rattle.vss_model.specs.declared.closing_row.ClosingRow.{ClosingRow}
 use Rattle.vss_model.specs.declared.closing_row.ClosingRow.TheVariants as closing
-use Rattle.vss_model.specs.declared.evicted.Evicted.{Evicted}
 use Rattle.vss_model.specs.declared.event.Event.{Event}
 use Rattle.vss_model.specs.declared.outcome.Outcome.{Outcome}
 use Rattle.vss_model.specs.declared.told.Told.{Told}

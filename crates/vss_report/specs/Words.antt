@@ -13,6 +13,7 @@ use Rattle.vss_names.specs.VssResult as result
 use Rattle.vss_names.specs.WriterError as error
 use Rattle.vss_names.specs.WriterState as state
 use Rattle.vss_names.specs.Order as order
+use Rattle.write_history.specs.declared.evicted.Evicted.{Evicted}
 use Rattle.writer_state.specs.declared.writer_row.WriterRow.{WriterRow}
 use Rattle.writer_calls.specs.declared.answer.Answer.{Answer}
 use Rattle.writer_calls.specs.declared.answer.Answer.TheVariants.{Ok, Veto}
@@ -20,7 +21,6 @@ use Rattle.set_agenda.specs.declared.group.Group.{Group}
 use Rattle.set_agenda.specs.declared.group.Group.TheVariants.{Orders, PreCommit, Flush, Hold, Cut, Commit, Release, PostCommit}
 use Rattle.scenario.specs.declared.volume_row.VolumeRow.{VolumeRow}
 use Rattle.scenario.specs.Plan.{Plan, WriterPlan, LanePlan, token}
-use Rattle.vss_model.specs.declared.evicted.Evicted.{Evicted}
 
 -- a space, and the text
 abbrev pub spaced : List ℕ → List ℕ

@@ -6,7 +6,6 @@ use Rattle.std.proofs.lemmas.Bool.Decides.{nat_tests}
 use Rattle.vss_names.specs.declared.vss_result.VssResult.{VssResult}
 use Rattle.vss_names.specs.declared.set_outcome.SetOutcome.{SetOutcome}
 use Rattle.vss_names.specs.declared.set_outcome.SetOutcome.TheVariants.{Failed}
-use Rattle.hold_gate.specs.Gate.{all_open}
 use Rattle.set_agenda.specs.Agenda.{Agenda}
 use Rattle.set_agenda.specs.Agenda.{is_held as agenda_holds}
 use Rattle.set_agenda.specs.Course.{Course, failed as course_failed}
@@ -15,7 +14,6 @@ use Rattle.vss_model.specs.State.{State, SetRow, in_progress, is_running}
 use Rattle.vss_model.specs.Ending.{failed_in, row_settled}
 use Rattle.vss_model.specs.Effects.{ended_of}
 use Rattle.vss_model.specs.Facts.{NumberedFrom}
-use Rattle.vss_world.specs.Stands.{IsGateOf}
 
 pub failed_course : (why : VssResult) (c : Course) → ((course_failed why c).agenda ≡ None) × ((course_failed why c).outcome ≡ Failed why)
 unfolding course_failed
@@ -23,24 +21,6 @@ failed_course why c = (refl, refl)
 
 pub failed_agenda : (r : SetRow) (why : VssResult) (st : State) → (failed_in (Some r) why st).course.agenda ≡ None
 failed_agenda r why st = (failed_course why st.course).0
-
--- ## the gate
-
-open_at : (n v : ℕ) → slice_index_or (replicate n false) v false ≡ false
-open_at zero v = refl
-open_at (suc n) zero = refl
-open_at (suc n) (suc v) = open_at n v
-
-length_open : (n : ℕ) → length (replicate n false) ≡ n
-length_open zero = refl
-length_open (suc n) = ap (λ m. suc m) (length_open n)
-
--- where no agenda runs, an open gate is right
-pub gate_open : (s : Plan) (n k : ℕ) (st : State) → n ≡ length s.volumes → st.course.agenda ≡ None → IsGateOf (all_open n k) s st
-gate_open s n k st long none = record {
-  volumes = length_open n ∙ long;
-  held = λ v l. open_at n v ∙ sym (ap (λ (a : Option Agenda). agenda_holds a v) none);
-}
 
 -- ## the row
 

@@ -1,24 +1,22 @@
 -- What the core stands for before any act.
 use Rattle.std.proofs.Common.{◌≡◌, ℕ, ◌<◌, List, [], length, refl, ap, sym, ◌∙◌, subst, arith, Option, Some, map, slice_get}
 use Rattle.std.proofs.lemmas.Option.{slice_get_within, get_or_from_slice_get}
+use Rattle.write_history.specs.declared.evicted.Evicted.{Evicted}
 use Rattle.write_history.specs.History.{fresh}
-use Rattle.hold_gate.specs.Gate.{Flags}
 use Rattle.scenario.specs.declared.volume_row.VolumeRow.{VolumeRow}
 use Rattle.scenario.specs.Plan.{Plan}
 use Rattle.scenario.specs.Bounds.{IsPlan, IsInGroup, group_slots}
 use Rattle.cow_volume.specs.GroupValue.{GroupValue}
 use Rattle.cow_volume.proofs.Group.{slice_get_inside}
-use Rattle.vss_model.specs.declared.evicted.Evicted.{Evicted}
 use Rattle.vss_model.specs.State.{start}
 use Rattle.provider.specs.Groups.{AreFresh, AreGroups, AreWhole, HasGroups}
 use Rattle.provider.specs.Devices.{devices_of}
 use Rattle.provider.specs.Preparing.{ProviderValue}
 use Rattle.sessions.specs.Keeps.{SessionsValue}
-use Rattle.vss_world.specs.Beginning.{AreBegun}
-use Rattle.vss_world.specs.Stands.{IsOf, IsGateOf, Stands}
+use Rattle.vss_world.specs.Beginning.{AreFirst}
+use Rattle.vss_world.specs.Stands.{IsOf, Stands}
 use Rattle.vss_world.specs.Quiet.{AreNew}
 use Rattle.vss_world.proofs.Moved.{world_of, stands_at}
-use Rattle.vss_world.proofs.Failing.{gate_open}
 
 in_group : (s : Plan) (v : ℕ) (r : VolumeRow) → IsPlan s → slice_get s.volumes v ≡ Some r → IsInGroup s.groups r
 in_group s v r plan e = subst (IsInGroup s.groups) (get_or_from_slice_get s.volumes v r r e) (plan.grouped.rows v r (slice_get_within s.volumes v r e))
@@ -43,30 +41,29 @@ has_groups told s groups plan new whole = record {
 pub no_groups_more : {D : Type 0} (told : D → Option (List (List ℕ))) (s : Plan) (groups : List (GroupValue D)) (count : ℕ) → count ≡ length s.groups → count < 4294967296 → AreNew told s groups → length groups < 4294967296
 no_groups_more told s groups count is few new = let number = new.number in omega (arith, is, few, number)
 
-pub made_of : {D : Type 0} (told : D → Option (List (List ℕ))) (s : Plan) (groups : List (GroupValue D)) (p : ProviderValue D) (x : SessionsValue) (g : Flags) (l : List ℕ) (e : List Evicted) → IsPlan s → AreNew told s groups
-    → p ≡ record { groups = groups; set = 0; volumes = [] } → AreWhole p.groups → AreBegun s x g → IsOf (world_of p x g l e) s
-made_of {D = D} told s groups p x g l e plan new is whole begun =
+pub made_of : {D : Type 0} (told : D → Option (List (List ℕ))) (s : Plan) (groups : List (GroupValue D)) (p : ProviderValue D) (x : SessionsValue) (l : List ℕ) (e : List Evicted) → IsPlan s → AreNew told s groups
+    → p ≡ record { groups = groups; set = 0; volumes = [] } → AreWhole p.groups → AreFirst s x → IsOf (world_of p x l e) s
+made_of {D = D} told s groups p x l e plan new is whole begun =
     let same : p.groups ≡ groups = ap (λ (z : ProviderValue D). z.groups) is in
     record {
       devices = refl;
       number = ap length same ∙ new.number;
       groups = subst (HasGroups s) (sym same) (has_groups told s groups plan new (subst AreWhole same whole));
-      writers = begun.sessions.writers;
+      writers = begun.writers;
     }
 
-pub made_stands : {D : Type 0} (told : D → Option (List (List ℕ))) (s : Plan) (groups : List (GroupValue D)) (p : ProviderValue D) (x : SessionsValue) (g : Flags) (l : List ℕ) (e : List Evicted) → IsPlan s → AreNew told s groups
-    → p ≡ record { groups = groups; set = 0; volumes = [] } → AreWhole p.groups → AreBegun s x g → (AreFresh told s groups → AreGroups told s p.groups (map (λ (r : VolumeRow). fresh) s.volumes))
-    → Stands told (world_of p x g l e) s []
-made_stands {D = D} told s groups p x g l e plan new is whole begun stand =
-    let of = made_of told s groups p x g l e plan new is whole begun in
-    let sets : length x.sets ≡ 0 = ap length begun.sessions.keeps.sets in
-    let posts = begun.sessions.posts in
-    let clock = begun.sessions.clock in
+pub made_stands : {D : Type 0} (told : D → Option (List (List ℕ))) (s : Plan) (groups : List (GroupValue D)) (p : ProviderValue D) (x : SessionsValue) (l : List ℕ) (e : List Evicted) → IsPlan s → AreNew told s groups
+    → p ≡ record { groups = groups; set = 0; volumes = [] } → AreWhole p.groups → AreFirst s x → (AreFresh told s groups → AreGroups told s p.groups (map (λ (r : VolumeRow). fresh) s.volumes))
+    → Stands told (world_of p x l e) s []
+made_stands {D = D} told s groups p x l e plan new is whole begun stand =
+    let of = made_of told s groups p x l e plan new is whole begun in
+    let sets : length x.sets ≡ 0 = ap length begun.keeps.sets in
+    let posts = begun.posts in
+    let clock = begun.clock in
     record {
-      at = stands_at told p x g l e s (start s) of.groups (record {
+      at = stands_at told p x l e s (start s) of.groups (record {
         groups = stand (fresh_groups told s groups plan new);
-        sessions = begun.sessions.keeps;
-        gate = subst (λ (f : Flags). IsGateOf f s (start s)) (sym begun.gate) (gate_open s (length s.volumes) (length s.writers) (start s) refl refl);
+        sessions = begun.keeps;
         plan = record { sets = tt; agenda = tt; members = tt; disabled = tt };
       });
       sets = omega (arith, sets);

@@ -3,13 +3,13 @@ use Rattle.std.proofs.Common.{◌≡◌, ℕ, zero, suc, ◌+◌, ◌<◌, ◌�
 use Rattle.std.specs.Prelude.{filter, not, if◌then◌else◌, is_some, nat_le, nat_lt}
 use Rattle.std.specs.List.{flat_map, list_any}
 use Rattle.std.proofs.lemmas.Bool.Decides.{nat_tests}
+use Rattle.write_history.specs.declared.evicted.Evicted.{Evicted}
 use Rattle.write_history.specs.History.{Image, History, AreInTime, AreLater, point_in, sets_of, after_set}
-use Rattle.write_history.specs.Slots.{gone_up_to}
+use Rattle.write_history.specs.Slots.{gone_up_to, evicted_of}
 use Rattle.scenario.specs.declared.volume_row.VolumeRow.{VolumeRow}
 use Rattle.scenario.specs.Plan.{Plan, placed}
-use Rattle.vss_model.specs.declared.evicted.Evicted.{Evicted}
 use Rattle.vss_model.specs.State.{SetRow, has_image, is_complete, history_in}
-use Rattle.vss_model.specs.Effects.{volumes_losing, evicted_of}
+use Rattle.vss_model.specs.Effects.{volumes_losing}
 use Rattle.vss_model.specs.Facts.{NumberedFrom}
 use Rattle.provider.specs.Groups.{history_at}
 use Rattle.vss_world.specs.Evicting.{is_member_row, is_member, lesser, first_above, first_if, first_on, least_above, is_holder, one_more, holders}
@@ -88,7 +88,8 @@ unfolding total pick
 total_is F [] = refl
 total_is F (r ∷ rows) = by_test (is_complete r.result) (total_is F rows)
   where
-    by_test : (b : Bool) → flat_map (λ (q : SetRow). F q.number) (filter (λ (q : SetRow). is_complete q.result) rows) ≡ total F rows → flat_map (λ (q : SetRow). F q.number) (if b then r ∷ filter (λ (q : SetRow). is_complete q.result) rows else filter (λ (q : SetRow). is_complete q.result) rows) ≡ pick b (F r.number) ++ total F rows
+    by_test : (b : Bool) → flat_map (λ (q : SetRow). F q.number) (filter (λ (q : SetRow). is_complete q.result) rows) ≡ total F rows → flat_map (λ (q : SetRow). F q.number)
+        (if b then r ∷ filter (λ (q : SetRow). is_complete q.result) rows else filter (λ (q : SetRow). is_complete q.result) rows) ≡ pick b (F r.number) ++ total F rows
     by_test true rest = ap (λ (xs : List Evicted). F r.number ++ xs) rest
     by_test false rest = rest
 

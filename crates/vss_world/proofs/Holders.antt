@@ -2,11 +2,11 @@
 use Rattle.std.proofs.Common.{◌≡◌, ℕ, zero, suc, ◌+◌, ◌*◌, ◌<◌, ◌≤◌, ◌==◌, List, [], ◌∷◌, ◌++◌, length, refl, ap, sym, ◌∙◌, subst, arith, append_assoc, Bool, true, false, ◌&&◌, Option, Some, None}
 use Rattle.std.specs.Prelude.{if◌then◌else◌, is_some, nat_le, nat_lt, IfSome}
 use Rattle.std.proofs.lemmas.List.{length-append, length-map, map-append}
+use Rattle.write_history.specs.declared.evicted.Evicted.{Evicted}
 use Rattle.write_history.specs.History.{Image, History, point_in}
+use Rattle.write_history.specs.Slots.{evicted_of}
 use Rattle.scenario.specs.Plan.{Plan}
-use Rattle.vss_model.specs.declared.evicted.Evicted.{Evicted}
 use Rattle.vss_model.specs.State.{SetRow, has_image, is_complete}
-use Rattle.vss_model.specs.Effects.{evicted_of}
 use Rattle.vss_model.specs.Facts.{NumberedFrom}
 use Rattle.provider.specs.Groups.{history_at}
 use Rattle.vss_world.specs.Evicting.{is_member, lesser, first_on, least_above, is_holder, one_more, holders, IsAdded, AreAddedTo, AreAddedIf}

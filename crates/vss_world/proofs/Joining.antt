@@ -118,7 +118,8 @@ join_within told s p x vs i v room are at = below_at (length s.volumes) vs i v (
 pub join_has : {D : Type 0} (told : D → Option (List (List ℕ))) (s : Plan) (p q : ProviderValue D) (x : SessionsValue) (us : List ℕ) → HasRoom told s p x → q ≡ record { groups = p.groups; set = p.set; volumes = us } → HasGroups s q.groups
 join_has told s p q x us room is = subst (λ (z : ProviderValue _). HasGroups s z.groups) (sym is) room.has
 
-pub join_next : {D : Type 0} (told : D → Option (List (List ℕ))) (s : Plan) (p q r : ProviderValue D) (x : SessionsValue) (vs : List ℕ) (i v : ℕ) (result : Result Unit VssResult) → HasRoom told s p x → ((st : State) → Keeps x st → vs ≡ volumes_of (in_progress st)) → are_distinct vs ≡ true → length vs ≤ 64
+pub join_next : {D : Type 0} (told : D → Option (List (List ℕ))) (s : Plan) (p q r : ProviderValue D) (x : SessionsValue) (vs : List ℕ) (i v : ℕ) (result : Result Unit VssResult) → HasRoom told s p x → ((st : State) → Keeps x st → vs ≡ volumes_of (in_progress st))
+    → are_distinct vs ≡ true → length vs ≤ 64
     → slice_get vs i ≡ Some v → i < length vs → q ≡ record { groups = p.groups; set = p.set; volumes = take i vs } → HasJoined q r v result → IfStandFor told s q.groups (λ hs. refused_as result ≡ refusal v q.volumes (length (history_at hs v).images))
     → r ≡ record { groups = p.groups; set = p.set; volumes = take (i + 1) vs }
 join_next told s p q r x vs i v result room are distinct few at within is joined refused =
@@ -137,7 +138,8 @@ join_end p q vs i l is = is ∙ ap (λ us. record { groups = p.groups; set = p.s
 
 -- ## how many images went
 
-pub few_gone : {D : Type 0} (told : D → Option (List (List ℕ))) (size count : D → ℕ) (lending : D → Bool) (s : Plan) (old new : List (GroupValue D)) (set stood : ℕ) (hs : List History) → IsPlan s → HasGroups s old → AreGroups told s old hs → AreWithout told size count lending old new set stood → stood < 4294967296
+pub few_gone : {D : Type 0} (told : D → Option (List (List ℕ))) (size count : D → ℕ) (lending : D → Bool) (s : Plan) (old new : List (GroupValue D)) (set stood : ℕ) (hs : List History) → IsPlan s → HasGroups s old → AreGroups told s old hs
+    → AreWithout told size count lending old new set stood → stood < 4294967296
 few_gone told size count lending s old new set stood hs plan has groups without =
     fits stood (length s.volumes) plan.few_volumes (subst (λ n. stood ≤ n) groups.histories (subst (λ n. n ≤ length hs) (sym (without.number s has hs groups)) (few_images set hs)))
   where

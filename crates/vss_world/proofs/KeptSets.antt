@@ -111,7 +111,8 @@ kept_sets_are s acts v k sets b are long is =
     let o = orderly s acts in
     let images = (history_of st v).images in
     let count : length sets ≡ length images = ap length are ∙ length_sets images in
-    let decides = kept_by_newest st (length (history_of st v).writes) images k b o.numbered o.newest (live_at st.sets st.volumes v o.live) (images_in_time s acts v) (images_up_to st.sets st.volumes v o.numbered o.live) (long ∙ count) (ap (λ (ns : List ℕ). is_kept_set st (slice_index ns k)) (sym are) ∙ sym is) in
+    let decides = kept_by_newest st (length (history_of st v).writes) images k b o.numbered o.newest (live_at st.sets st.volumes v o.live) (images_in_time s acts v) (images_up_to st.sets st.volumes v o.numbered o.live) (long ∙ count)
+    (ap (λ (ns : List ℕ). is_kept_set st (slice_index ns k)) (sym are) ∙ sym is) in
     ap (λ (ns : List ℕ). if b then ns else take k ns) are ∙ sym (decided b images k) ∙ ap sets_of (sym decides)
   where
     length_sets : (images : List Image) → length (sets_of images) ≡ length images

@@ -27,7 +27,8 @@ lent_now blocks_told size count lending s p v b bytes f now exact wide = (
   },
 )
 
-pub lent_shown : {D : Type 0} (blocks_told : D → Option (List (List ℕ))) (size count : D → ℕ) (lending : D → Bool) (s : Plan) (p : ProviderValue D) (v set b : ℕ) (bytes : List ℕ) (f : Fingerprint) → HasImage blocks_told s p.groups v set true → IsShown blocks_told s p.groups v set b bytes → IsFingerprint bytes f → IsWide f
+pub lent_shown : {D : Type 0} (blocks_told : D → Option (List (List ℕ))) (size count : D → ℕ) (lending : D → Bool) (s : Plan) (p : ProviderValue D) (v set b : ℕ) (bytes : List ℕ) (f : Fingerprint) → HasImage blocks_told s p.groups v set true
+    → IsShown blocks_told s p.groups v set b bytes → IsFingerprint bytes f → IsWide f
     → IsSeenIf blocks_told s p p v set (IsBlockSeen blocks_told size count lending s p p v (AreShown v set b)) (Some (told.Block f.first f.digest))
 lent_shown blocks_told size count lending s p v set b bytes f has shown exact wide = (
   has,

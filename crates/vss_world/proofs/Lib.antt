@@ -13,13 +13,11 @@ pub mod InPlan
 pub mod Losing
 pub mod Failing
 pub mod Putting
-pub mod Held
 pub mod Following
 pub mod Called
 pub mod Timed
 pub mod Waits
 pub mod Provided
-pub mod Holding
 pub mod Made
 pub mod Step
 pub mod Joining
@@ -30,3 +28,8 @@ pub mod Registering
 pub mod Going
 pub mod Holders
 pub mod Listing
+pub mod Listed
+pub mod Unnamed
+pub mod WithoutImages
+pub mod CommitLog
+pub mod ToCome

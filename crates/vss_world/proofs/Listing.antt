@@ -4,15 +4,15 @@ use Rattle.std.specs.Prelude.{filter}
 use Rattle.std.specs.List.{flat_map}
 use Rattle.std.proofs.lemmas.List.{length-append, length-map}
 use Rattle.std.proofs.lemmas.Option.{slice_get_within}
+use Rattle.write_history.specs.declared.evicted.Evicted.{Evicted}
 use Rattle.write_history.specs.History.{History}
-use Rattle.write_history.specs.Slots.{Placed, gone_up_to}
+use Rattle.write_history.specs.Slots.{Placed, gone_up_to, evicted_of}
 use Rattle.scenario.specs.declared.volume_row.VolumeRow.{VolumeRow}
 use Rattle.scenario.specs.Plan.{Plan, placed, placed_in, group_of}
 use Rattle.cow_volume.specs.GroupValue.{GroupValue}
 use Rattle.cow_volume.proofs.Group.{slice_get_inside}
-use Rattle.vss_model.specs.declared.evicted.Evicted.{Evicted}
 use Rattle.vss_model.specs.State.{State, SetRow, is_complete, is_kept_set, history_in}
-use Rattle.vss_model.specs.Effects.{volumes_losing, evicted_of, evicted_for}
+use Rattle.vss_model.specs.Effects.{volumes_losing, evicted_for}
 use Rattle.vss_model.specs.Images.{going_up_to}
 use Rattle.vss_model.specs.Acts.{Act, state}
 use Rattle.vss_model.proofs.OneCut.{images_in_time}

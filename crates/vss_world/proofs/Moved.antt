@@ -2,11 +2,10 @@
 use Rattle.std.proofs.Common.{◌≡◌, ℕ, ◌+◌, ◌≤◌, List, [], ◌∷◌, ◌++◌, length, refl, ap, sym, ◌∙◌, subst, arith, Bool, true, false, Option, map}
 use Rattle.std.proofs.lemmas.List.{length-append}
 use Rattle.writer_state.specs.declared.writer_row.WriterRow.{WriterRow}
-use Rattle.hold_gate.specs.Gate.{Flags}
+use Rattle.write_history.specs.declared.evicted.Evicted.{Evicted}
 use Rattle.scenario.specs.Plan.{Plan}
 use Rattle.cow_volume.specs.GroupValue.{GroupValue}
 use Rattle.vss_model.specs.declared.event.Event.{Event}
-use Rattle.vss_model.specs.declared.evicted.Evicted.{Evicted}
 use Rattle.vss_model.specs.declared.outcome.Outcome.{Outcome}
 use Rattle.vss_model.specs.State.{State}
 use Rattle.vss_model.specs.Acts.{Act, state, after, enabled, event_allows}
@@ -22,35 +21,33 @@ use Rattle.provider.proofs.Kept.{later_same}
 use Rattle.coordinator.specs.Coordinator.{Registered}
 use Rattle.sessions.specs.Keeps.{SessionsValue, Keeps, IsInOrder, Leaves, IsOf as IsSessionsOf}
 use Rattle.vss_world.specs.Devices.{tells_of, RoseFor}
-use Rattle.vss_world.specs.Stands.{WorldValue, IsOf, IsGateOf, IsInPlan, StandsAt, Stands}
+use Rattle.vss_world.specs.Stands.{WorldValue, IsOf, IsInPlan, StandsAt, Stands}
 use Rattle.vss_world.specs.Moves.{IsMoved, volume_of}
 use Rattle.vss_world.proofs.Tied.{tied, tells_are}
 
 -- the core with these parts
-abbrev pub world_of : {D : Type 0} → ProviderValue D → SessionsValue → Flags → List ℕ → List Evicted → WorldValue D
-world_of p x g l e = record { devices = devices_of p.groups; listed = l; evicted = e; provider = p; sessions = x; gate = g }
+abbrev pub world_of : {D : Type 0} → ProviderValue D → SessionsValue → List ℕ → List Evicted → WorldValue D
+world_of p x l e = record { devices = devices_of p.groups; listed = l; evicted = e; provider = p; sessions = x }
 
 -- ## what it stands for
 
-pub record Parts {D : Type 0} (told : D → Option (List (List ℕ))) (p : ProviderValue D) (x : SessionsValue) (g : Flags) (s : Plan) (st : State) : Type 0 where
+pub record Parts {D : Type 0} (told : D → Option (List (List ℕ))) (p : ProviderValue D) (x : SessionsValue) (s : Plan) (st : State) : Type 0 where
   pub groups : AreGroups told s p.groups st.volumes
   pub sessions : Keeps x st
-  pub gate : IsGateOf g s st
   pub plan : IsInPlan s st
 
-pub stands_at : {D : Type 0} (told : D → Option (List (List ℕ))) (p : ProviderValue D) (x : SessionsValue) (g : Flags) (l : List ℕ) (e : List Evicted) (s : Plan) (st : State)
-    → HasGroups s p.groups → Parts told p x g s st → StandsAt told (world_of p x g l e) s st
-stands_at told p x g l e s st has parts = record {
+pub stands_at : {D : Type 0} (told : D → Option (List (List ℕ))) (p : ProviderValue D) (x : SessionsValue) (l : List ℕ) (e : List Evicted) (s : Plan) (st : State)
+    → HasGroups s p.groups → Parts told p x s st → StandsAt told (world_of p x l e) s st
+stands_at told p x l e s st has parts = record {
   groups = parts.groups;
   sessions = parts.sessions;
-  gate = parts.gate;
   plan = parts.plan;
   holds = tied told s p.groups st.volumes has parts.groups;
 }
 
-pub parts_of : {D : Type 0} (told : D → Option (List (List ℕ))) (p : ProviderValue D) (x : SessionsValue) (g : Flags) (l : List ℕ) (e : List Evicted) (s : Plan) (st : State)
-    → StandsAt told (world_of p x g l e) s st → Parts told p x g s st
-parts_of told p x g l e s st stands = record { groups = stands.groups; sessions = stands.sessions; gate = stands.gate; plan = stands.plan }
+pub parts_of : {D : Type 0} (told : D → Option (List (List ℕ))) (p : ProviderValue D) (x : SessionsValue) (l : List ℕ) (e : List Evicted) (s : Plan) (st : State)
+    → StandsAt told (world_of p x l e) s st → Parts told p x s st
+parts_of told p x l e s st stands = record { groups = stands.groups; sessions = stands.sessions; plan = stands.plan }
 
 pub in_order : (s : Plan) (acts : List Act) → IsInOrder (state s acts)
 in_order s acts = let o = orderly s acts in record { numbered = o.numbered; newest = o.newest; session = o.session }
@@ -84,9 +81,9 @@ pub record OfDevices {D : Type 0} (told : D → Option (List (List ℕ))) (count
   pub unfailed : is_fault (mark_of o.told) ≡ false → map count new.devices ≡ map count old.devices
 
 -- the groups go on to others of the same devices
-pub of_kept : {D : Type 0} (told : D → Option (List (List ℕ))) (size count : D → ℕ) (lending : D → Bool) (s : Plan) (p q : ProviderValue D) (x y : SessionsValue) (g h : Flags) (l k : List ℕ) (e f : List Evicted)
-    → IsOf (world_of p x g l e) s → AreKept told size count lending p.groups q.groups → IsSessionsOf y s → IsOf (world_of q y h k f) s
-of_kept told size count lending s p q x y g h l k e f of kept writers = record {
+pub of_kept : {D : Type 0} (told : D → Option (List (List ℕ))) (size count : D → ℕ) (lending : D → Bool) (s : Plan) (p q : ProviderValue D) (x y : SessionsValue) (l k : List ℕ) (e f : List Evicted)
+    → IsOf (world_of p x l e) s → AreKept told size count lending p.groups q.groups → IsSessionsOf y s → IsOf (world_of q y k f) s
+of_kept told size count lending s p q x y l k e f of kept writers = record {
   devices = refl;
   number = kept.number ∙ of.number;
   groups = kept.has s of.groups;
@@ -98,11 +95,11 @@ pub tells_kept : {D : Type 0} (told : D → Option (List (List ℕ))) (size coun
 tells_kept told size count lending s old new has kept = tells_are told s new (kept.has s has) ∙ kept.tells s ∙ sym (tells_are told s old has)
 
 -- no device failed
-pub clean_devices : {D : Type 0} (told : D → Option (List (List ℕ))) (size count : D → ℕ) (lending : D → Bool) (s : Plan) (event : Event) (o : Outcome) (p q : ProviderValue D) (x y : SessionsValue) (g h : Flags) (l k : List ℕ) (e f : List Evicted)
-    → IsOf (world_of p x g l e) s → AreKept told size count lending p.groups q.groups → IsSessionsOf y s → counts_of count q.groups ≡ counts_of count p.groups → is_fault (mark_of o.told) ≡ false
-    → OfDevices told count s event o (world_of p x g l e) (world_of q y h k f)
-clean_devices told size count lending s event o p q x y g h l k e f of kept writers same clean = record {
-  is_of = of_kept told size count lending s p q x y g h l k e f of kept writers;
+pub clean_devices : {D : Type 0} (told : D → Option (List (List ℕ))) (size count : D → ℕ) (lending : D → Bool) (s : Plan) (event : Event) (o : Outcome) (p q : ProviderValue D) (x y : SessionsValue) (l k : List ℕ) (e f : List Evicted)
+    → IsOf (world_of p x l e) s → AreKept told size count lending p.groups q.groups → IsSessionsOf y s → counts_of count q.groups ≡ counts_of count p.groups → is_fault (mark_of o.told) ≡ false
+    → OfDevices told count s event o (world_of p x l e) (world_of q y k f)
+clean_devices told size count lending s event o p q x y l k e f of kept writers same clean = record {
+  is_of = of_kept told size count lending s p q x y l k e f of kept writers;
   tells = tells_kept told size count lending s p.groups q.groups of.groups kept;
   later = later_same (counts_of count p.groups) (counts_of count q.groups) same;
   rose = λ fault. absurd (not_both (is_fault (mark_of o.told)) fault clean);
@@ -113,11 +110,11 @@ clean_devices told size count lending s event o p q x y g h l k e f of kept writ
   not_both false d c = cc
 
 -- a device of the event's volume failed
-pub failed_devices : {D : Type 0} (told : D → Option (List (List ℕ))) (size count : D → ℕ) (lending : D → Bool) (s : Plan) (event : Event) (o : Outcome) (p q : ProviderValue D) (x y : SessionsValue) (g h : Flags) (l k : List ℕ) (e f : List Evicted)
-    → IsOf (world_of p x g l e) s → AreKept told size count lending p.groups q.groups → IsSessionsOf y s → RoseFor s (volume_of event o.told) (counts_of count p.groups) (counts_of count q.groups) → is_fault (mark_of o.told) ≡ true
-    → OfDevices told count s event o (world_of p x g l e) (world_of q y h k f)
-failed_devices told size count lending s event o p q x y g h l k e f of kept writers rose fault = record {
-  is_of = of_kept told size count lending s p q x y g h l k e f of kept writers;
+pub failed_devices : {D : Type 0} (told : D → Option (List (List ℕ))) (size count : D → ℕ) (lending : D → Bool) (s : Plan) (event : Event) (o : Outcome) (p q : ProviderValue D) (x y : SessionsValue) (l k : List ℕ) (e f : List Evicted)
+    → IsOf (world_of p x l e) s → AreKept told size count lending p.groups q.groups → IsSessionsOf y s → RoseFor s (volume_of event o.told) (counts_of count p.groups) (counts_of count q.groups) → is_fault (mark_of o.told) ≡ true
+    → OfDevices told count s event o (world_of p x l e) (world_of q y k f)
+failed_devices told size count lending s event o p q x y l k e f of kept writers rose fault = record {
+  is_of = of_kept told size count lending s p q x y l k e f of kept writers;
   tells = tells_kept told size count lending s p.groups q.groups of.groups kept;
   later = kept.later;
   rose = λ yes. rose;
@@ -130,20 +127,20 @@ failed_devices told size count lending s event o p q x y g h l k e f of kept wri
 -- ## the move
 
 -- what an event comes to at a state
-pub record Comes {D : Type 0} (told : D → Option (List (List ℕ))) (s : Plan) (event : Event) (o : Outcome) (tells : List Bool) (q : ProviderValue D) (y : SessionsValue) (h : Flags) (listed_sets : List ℕ) (evicted_images : List Evicted) (st : State) : Type 0 where
+pub record Comes {D : Type 0} (told : D → Option (List (List ℕ))) (s : Plan) (event : Event) (o : Outcome) (tells : List Bool) (q : ProviderValue D) (y : SessionsValue) (listed_sets : List ℕ) (evicted_images : List Evicted) (st : State) : Type 0 where
   pub is_enabled : enabled s st event ≡ true
   pub is_allowed : event_allows s st event (mark_of o.told) ≡ true
   pub outcome : (rows : List WriterRow) → rows ≡ (after s st (told_act event o.told)).course.rows → IsOutcome tells s st event o listed_sets evicted_images rows
-  pub parts : Parts told q y h s (after s st (told_act event o.told))
+  pub parts : Parts told q y s (after s st (told_act event o.told))
 
 one_more : (acts : List Act) (act : Act) → length (acts ++ act ∷ []) ≡ length acts + 1
 one_more acts act = length-append acts (act ∷ [])
 
-pub moved : {D : Type 0} (told : D → Option (List (List ℕ))) (count : D → ℕ) (s : Plan) (event : Event) (o : Outcome) (p q : ProviderValue D) (x y : SessionsValue) (g h : Flags) (l k : List ℕ) (e f : List Evicted)
-    → OfDevices told count s event o (world_of p x g l e) (world_of q y h k f) → Goes x y
-    → ((acts : List Act) → Stands told (world_of p x g l e) s acts → Comes told s event o (tells_of told s (devices_of p.groups)) q y h k f (state s acts))
-    → IsMoved told count (world_of p x g l e) (world_of q y h k f) s event o
-moved told count s event o p q x y g h l k e f devices goes comes = record {
+pub moved : {D : Type 0} (told : D → Option (List (List ℕ))) (count : D → ℕ) (s : Plan) (event : Event) (o : Outcome) (p q : ProviderValue D) (x y : SessionsValue) (l k : List ℕ) (e f : List Evicted)
+    → OfDevices told count s event o (world_of p x l e) (world_of q y k f) → Goes x y
+    → ((acts : List Act) → Stands told (world_of p x l e) s acts → Comes told s event o (tells_of told s (devices_of p.groups)) q y k f (state s acts))
+    → IsMoved told count (world_of p x l e) (world_of q y k f) s event o
+moved told count s event o p q x y l k e f devices goes comes = record {
   is_enabled = λ acts stands. (comes acts stands).is_enabled;
   is_allowed = λ acts stands. (comes acts stands).is_allowed;
   outcome = λ acts rows stands are. (comes acts stands).outcome rows are;
@@ -158,7 +155,7 @@ moved told count s event o p q x y g h l k e f devices goes comes = record {
       let go_posts = goes.posts in
       let go_clock = goes.clock in
       record {
-        at = subst (λ (z : State). StandsAt told (world_of q y h k f) s z) (sym more) (stands_at told q y h k f s (after s (state s acts) (told_act event o.told)) devices.is_of.groups c.parts);
+        at = subst (λ (z : State). StandsAt told (world_of q y k f) s z) (sym more) (stands_at told q y k f s (after s (state s acts) (told_act event o.told)) devices.is_of.groups c.parts);
         sets = omega (arith, long, sets, go_sets);
         posts = omega (arith, long, posts, go_posts);
         early = omega (arith, long, early, go_clock);

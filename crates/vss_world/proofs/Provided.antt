@@ -3,13 +3,12 @@ use Rattle.std.proofs.Common.{◌≡◌, ℕ, ◌+◌, ◌<◌, ◌≤◌, ◌==
 use Rattle.std.specs.Prelude.{IfSome, if◌then◌else◌, option_map}
 use Rattle.std.specs.List.{find}
 use Rattle.std.proofs.lemmas.List.Elements.{All-nil, All-cons}
+use Rattle.write_history.specs.declared.evicted.Evicted.{Evicted}
 use Rattle.write_history.specs.History.{Image, point_in}
-use Rattle.hold_gate.specs.Gate.{Flags}
 use Rattle.set_agenda.specs.declared.group.Group.{Group}
 use Rattle.set_agenda.specs.declared.group.Group.TheVariants.{Cut}
 use Rattle.set_agenda.specs.Agenda.{open_group, next_volume, is_among}
 use Rattle.scenario.specs.Plan.{Plan}
-use Rattle.vss_model.specs.declared.evicted.Evicted.{Evicted}
 use Rattle.vss_model.specs.State.{State, SetRow, in_progress, left_now, history_of, is_running}
 use Rattle.vss_model.specs.Acts.{Act, state}
 use Rattle.vss_model.specs.Cut.{is_cut_group}
@@ -50,8 +49,8 @@ found_above m test (q ∷ rows) r h e = at_head (test q) e (λ f. less m r.numbe
 over_zero : (k n : ℕ) → 1 ≤ k → k ≡ n → 0 < n
 over_zero k n l e = omega arith
 
-pub set_above : {D : Type 0} (blocks_told : D → Option (List (List ℕ))) (s : Plan) (p : ProviderValue D) (x : SessionsValue) (g : Flags) (l : List ℕ) (e : List Evicted) (acts : List Act) → Stands blocks_told (world_of p x g l e) s acts → (n : ℕ) → current_of x.sets ≡ Some n → 0 < n
-set_above blocks_told s p x g l e acts stands n is =
+pub set_above : {D : Type 0} (blocks_told : D → Option (List (List ℕ))) (s : Plan) (p : ProviderValue D) (x : SessionsValue) (l : List ℕ) (e : List Evicted) (acts : List Act) → Stands blocks_told (world_of p x l e) s acts → (n : ℕ) → current_of x.sets ≡ Some n → 0 < n
+set_above blocks_told s p x l e acts stands n is =
     let st = state s acts in
     let r = some_current (in_progress st) n (sym is ∙ ap current_of stands.at.sessions.sets) in
     over_zero r.0.number n (found_above 1 (λ (q : SetRow). is_running q.result) st.sets r.0 (orderly s acts).numbered r.1) r.2
@@ -110,9 +109,9 @@ cutting s acts x group p q keeps opens taken cut =
     let current : current_of x.sets ≡ Some r.set.number = ap current_of keeps.sets ∙ ap (option_map (λ (q : SetRow). q.number)) r.is in
     record { row = r.set; is = r.is; set = taken.set cut r.set.number current; volumes = taken.volumes cut r.set.number current st keeps ∙ ap volumes_of r.is }
 
-pub can_cut : {D : Type 0} (blocks_told : D → Option (List (List ℕ))) (s : Plan) (p q : ProviderValue D) (x : SessionsValue) (g : Flags) (l : List ℕ) (e : List Evicted) (acts : List Act) (group : Group) → Stands blocks_told (world_of p x g l e) s acts
+pub can_cut : {D : Type 0} (blocks_told : D → Option (List (List ℕ))) (s : Plan) (p q : ProviderValue D) (x : SessionsValue) (l : List ℕ) (e : List Evicted) (acts : List Act) (group : Group) → Stands blocks_told (world_of p x l e) s acts
     → open_group (left_now (state s acts)) ≡ Some group → IsTakenUp x group p q → group ≡ Cut → CanCut blocks_told s q.groups q.volumes q.set
-can_cut blocks_told s p q x g l e acts group stands opens taken cut =
+can_cut blocks_told s p q x l e acts group stands opens taken cut =
     let st = state s acts in
     let o = orderly s acts in
     let c = cuts s acts (ap is_cut_group (opens ∙ ap Some cut)) in
@@ -133,9 +132,9 @@ can_cut blocks_told s p q x g l e acts group stands opens taken cut =
     number_of st r numbered newest is = let n = newest_number 1 st.sets r numbered newest is in omega (arith, n)
 
 -- at the Cut step each volume of the set has room for its image
-pub has_room : {D : Type 0} (blocks_told : D → Option (List (List ℕ))) (s : Plan) (p : ProviderValue D) (x : SessionsValue) (g : Flags) (l : List ℕ) (e : List Evicted) (acts : List Act) (group : Group) → IsOf (world_of p x g l e) s → Stands blocks_told (world_of p x g l e) s acts
+pub has_room : {D : Type 0} (blocks_told : D → Option (List (List ℕ))) (s : Plan) (p : ProviderValue D) (x : SessionsValue) (l : List ℕ) (e : List Evicted) (acts : List Act) (group : Group) → IsOf (world_of p x l e) s → Stands blocks_told (world_of p x l e) s acts
     → open_group (left_now (state s acts)) ≡ Some group → group ≡ Cut → HasRoom blocks_told s p x
-has_room blocks_told s p x g l e acts group of stands opens cut =
+has_room blocks_told s p x l e acts group of stands opens cut =
     let st = state s acts in
     let is_cut = ap is_cut_group (opens ∙ ap Some cut) in
     let r = has_set st (cuts s acts is_cut) in
@@ -144,7 +143,7 @@ has_room blocks_told s p x g l e acts group of stands opens cut =
       keeps = stands.at.sessions;
       has = of.groups;
       groups = stands.at.groups;
-      above = set_above blocks_told s p x g l e acts stands;
+      above = set_above blocks_told s p x l e acts stands;
       below = volumes_below (length s.volumes) st stands.at.plan.sets;
       room = λ v among. room_at_cut s acts r.set v is_cut r.is (sym (ap (λ (o : Option SetRow). is_among v (volumes_of o)) r.is) ∙ among);
     }

@@ -6,10 +6,10 @@ use Rattle.vss_names.specs.declared.set_outcome.SetOutcome.{SetOutcome}
 use Rattle.vss_names.specs.declared.set_outcome.SetOutcome.TheVariants.{Running, Failed}
 use Rattle.vss_names.specs.declared.vss_result.VssResult.TheVariants.{InsufficientStorage}
 use Rattle.writer_state.specs.declared.writer_row.WriterRow.{WriterRow}
+use Rattle.write_history.specs.declared.evicted.Evicted.{Evicted}
 use Rattle.write_history.specs.declared.mark.Mark.{Mark}
 use Rattle.write_history.specs.History.{Write, Image, History, point_in, written, dropped}
 use Rattle.write_history.specs.Slots.{Placed, gone_up_to, evicted_up_to}
-use Rattle.hold_gate.specs.Gate.{Flags, all_open, is_held as holds}
 use Rattle.set_agenda.specs.Agenda.{order_now}
 use Rattle.set_agenda.proofs.WriterSets.{new-is}
 use Rattle.set_agenda.specs.Course.{change_at}
@@ -20,7 +20,6 @@ use Rattle.scenario.specs.Bounds.{IsPlan, IsBlock}
 use Rattle.std.specs.List.{slice_index_or}
 use Rattle.scenario.specs.Plan.{Plan, LanePlan, placed, placed_in, slots_of, group_of, acts_as, writer_in}
 use Rattle.vss_model.specs.declared.event.Event.TheVariants.{Line}
-use Rattle.vss_model.specs.declared.evicted.Evicted.{Evicted}
 use Rattle.vss_model.specs.declared.told.Told.TheVariants as told
 use Rattle.vss_model.specs.Reply.{Reply, Fine, Faulted}
 use Rattle.vss_model.specs.State.{State, SetRow, in_progress, is_running, history_in, left_now, is_held, is_frozen}
@@ -46,13 +45,13 @@ use Rattle.sessions.specs.Sets.{current_of}
 use Rattle.sessions.specs.Keeps.{SessionsValue, Keeps, IsInOrder, Leaves, IsOf as IsSessionsOf}
 use Rattle.sessions.specs.Moves.{IsFailed}
 use Rattle.vss_world.specs.Devices.{tells_of, RoseFor}
-use Rattle.vss_world.specs.Stands.{IsOf, IsGateOf, IsInPlan, Stands, IsStanding, IfStands}
+use Rattle.vss_world.specs.Stands.{IsOf, IsInPlan, Stands, IsStanding, IfStands}
 use Rattle.vss_world.specs.Moves.{IsMoved, IsBlocked, simple_outcome, volume_of_line}
 use Rattle.vss_world.specs.Puts.{IsWriteLine, told_if, AreEvicted}
 use Rattle.vss_world.proofs.Moved.{world_of, Parts, OfDevices, Comes, goes_on, leaves_of, in_order, moved, clean_devices, failed_devices}
 use Rattle.vss_world.proofs.Simple.{LineComes, line_moves, after_line}
 use Rattle.vss_world.proofs.Rising.{rose_for}
-use Rattle.vss_world.proofs.Failing.{failed_agenda, gate_open, failed_ends}
+use Rattle.vss_world.proofs.Failing.{failed_agenda, failed_ends}
 use Rattle.vss_world.proofs.InPlan.{in_failed_in}
 use Rattle.vss_world.proofs.Losing.{AreUpTo, AllUpTo, not_lost, lost_at, up_to_most}
 
@@ -135,13 +134,13 @@ written_is s v w mark st next room = ap (λ (z : State). (reply_of_mark mark, pu
 
 -- ## devices
 
-pub put_devices : {D : Type 0} (blocks_told : D → Option (List (List ℕ))) (size count : D → ℕ) (lending : D → Bool) (s : Plan) (lane v : ℕ) (op : Op) (set : ℕ) (result : SetOutcome) (fault : Option DeviceFault) (p q r : ProviderValue D) (x y : SessionsValue) (g h : Flags) (l k : List ℕ) (e f : List Evicted)
-    → IsOf (world_of p x g l e) s → IsSessionsOf y s → volume_of_line op ≡ Some v → AreKept blocks_told size count lending p.groups r.groups → counts_of count r.groups ≡ counts_of count q.groups → HasCause count s v fault p.groups q.groups
-    → OfDevices blocks_told count s (Line lane op) (record { told = told_if fault; lost = 0; lost_order = None; set = set; result = result }) (world_of p x g l e) (world_of r y h k f)
-put_devices blocks_told size count lending s lane v op set result None p q r x y g h l k e f of writers at kept same cause =
-    clean_devices blocks_told size count lending s (Line lane op) (record { told = told.Ok; lost = 0; lost_order = None; set = set; result = result }) p r x y g h l k e f of kept writers (same ∙ cause) refl
-put_devices blocks_told size count lending s lane v op set result (Some fault) p q r x y g h l k e f of writers at kept same cause =
-    failed_devices blocks_told size count lending s (Line lane op) (record { told = told.Fault; lost = 0; lost_order = None; set = set; result = result }) p r x y g h l k e f of kept writers
+pub put_devices : {D : Type 0} (blocks_told : D → Option (List (List ℕ))) (size count : D → ℕ) (lending : D → Bool) (s : Plan) (lane v : ℕ) (op : Op) (set : ℕ) (result : SetOutcome) (fault : Option DeviceFault) (p q r : ProviderValue D) (x y : SessionsValue) (l k : List ℕ) (e f : List Evicted)
+    → IsOf (world_of p x l e) s → IsSessionsOf y s → volume_of_line op ≡ Some v → AreKept blocks_told size count lending p.groups r.groups → counts_of count r.groups ≡ counts_of count q.groups → HasCause count s v fault p.groups q.groups
+    → OfDevices blocks_told count s (Line lane op) (record { told = told_if fault; lost = 0; lost_order = None; set = set; result = result }) (world_of p x l e) (world_of r y k f)
+put_devices blocks_told size count lending s lane v op set result None p q r x y l k e f of writers at kept same cause =
+    clean_devices blocks_told size count lending s (Line lane op) (record { told = told.Ok; lost = 0; lost_order = None; set = set; result = result }) p r x y l k e f of kept writers (same ∙ cause) refl
+put_devices blocks_told size count lending s lane v op set result (Some fault) p q r x y l k e f of writers at kept same cause =
+    failed_devices blocks_told size count lending s (Line lane op) (record { told = told.Fault; lost = 0; lost_order = None; set = set; result = result }) p r x y l k e f of kept writers
     (subst (λ (o : Option ℕ). RoseFor s o (counts_of count p.groups) (counts_of count r.groups)) (sym at)
     (subst (λ (ns : List ℕ). RoseFor s (Some v) (counts_of count p.groups) ns) (sym same) (rose_for count s v fault p.groups q.groups cause))) refl
 
@@ -155,15 +154,14 @@ put_sets : (fault : Option DeviceFault) (v : ℕ) (w : Write) (st : State) → (
 put_sets None v w st = refl
 put_sets (Some fault) v w st = refl
 
-put_parts : {D : Type 0} (blocks_told : D → Option (List (List ℕ))) (p q : ProviderValue D) (x : SessionsValue) (g : Flags) (s : Plan) (fault : Option DeviceFault) (v : ℕ) (w : Write) (st : State)
-    → Keeps x st → IsGateOf g s st → IsInPlan s st → AreGroups blocks_told s q.groups (put_if fault v w st.volumes) → Parts blocks_told q x g s (put v w (mark_of (told_if fault)) st)
-put_parts blocks_told p q x g s None v w st k gate plan groups = record {
+put_parts : {D : Type 0} (blocks_told : D → Option (List (List ℕ))) (p q : ProviderValue D) (x : SessionsValue) (s : Plan) (fault : Option DeviceFault) (v : ℕ) (w : Write) (st : State)
+    → Keeps x st → IsInPlan s st → AreGroups blocks_told s q.groups (put_if fault v w st.volumes) → Parts blocks_told q x s (put v w (mark_of (told_if fault)) st)
+put_parts blocks_told p q x s None v w st k plan groups = record {
   groups = groups;
   sessions = record { session = k.session; made = k.made; course = k.course; sets = k.sets; clock = k.clock; explicit = k.explicit; over = k.over; on_time = k.on_time; disabled = k.disabled };
-  gate = record { volumes = gate.volumes; held = gate.held };
   plan = record { sets = plan.sets; agenda = plan.agenda; members = plan.members; disabled = plan.disabled };
 }
-put_parts blocks_told p q x g s (Some fault) v w st k gate plan groups = record { groups = groups; sessions = k; gate = gate; plan = plan }
+put_parts blocks_told p q x s (Some fault) v w st k plan groups = record { groups = groups; sessions = k; plan = plan }
 
 map_put : (fault : Option DeviceFault) (v : ℕ) (w : Write) (n : ℕ) (hs : List History) → map (dropped n) (put_if fault v w hs) ≡ put_if fault v w (map (dropped n) hs)
 map_put (Some fault) v w n hs = refl
@@ -200,8 +198,8 @@ found_some p (q ∷ rows) r e = omega arith
 
 -- ## at a list of acts
 
-module _ {D : Type 0} (blocks_told : D → Option (List (List ℕ))) (size count : D → ℕ) (lending : D → Bool) (s : Plan) (acts : List Act) (lane v : ℕ) (op : Op) (w : Write) (done : PutResult) (m : ℕ) (p q : ProviderValue D) (x : SessionsValue) (g : Flags) (l : List ℕ) (e f : List Evicted)
-    (block : IsBlock s v w.block) (is : IsWriting s lane op v w) (on : may_write s (state s acts) lane v ≡ true) (stands : Stands blocks_told (world_of p x g l e) s acts)
+module _ {D : Type 0} (blocks_told : D → Option (List (List ℕ))) (size count : D → ℕ) (lending : D → Bool) (s : Plan) (acts : List Act) (lane v : ℕ) (op : Op) (w : Write) (done : PutResult) (m : ℕ) (p q : ProviderValue D) (x : SessionsValue) (l : List ℕ) (e f : List Evicted)
+    (block : IsBlock s v w.block) (is : IsWriting s lane op v w) (on : may_write s (state s acts) lane v ≡ true) (stands : Stands blocks_told (world_of p x l e) s acts)
     (puts : IsPut blocks_told size count lending s p.groups q.groups v w done) (gone : AreEvicted blocks_told p x s v w.block f)
     (goes : (sets : ℕ) → IsLastSet sets (state s acts).volumes → m ≡ evicted_up_to sets (slots_of s v) (group_of s v) v w.block (state s acts).volumes) where
   far : done.evicted_up_to ≡ going_up_to s v w.block (state s acts)
@@ -216,15 +214,12 @@ module _ {D : Type 0} (blocks_told : D → Option (List (List ℕ))) (size count
   cleared_keeps : Keeps x (cleared s v w.block (state s acts))
   cleared_keeps = let k = stands.at.sessions in record { session = k.session; made = k.made; course = k.course; sets = k.sets; clock = k.clock; explicit = k.explicit; over = k.over; on_time = k.on_time; disabled = k.disabled }
 
-  cleared_gate : IsGateOf g s (cleared s v w.block (state s acts))
-  cleared_gate = record { volumes = stands.at.gate.volumes; held = stands.at.gate.held }
-
   cleared_plan : IsInPlan s (cleared s v w.block (state s acts))
   cleared_plan = let h = stands.at.plan in record { sets = h.sets; agenda = h.agenda; members = h.members; disabled = h.disabled }
 
   -- no image of the set in progress went
   kept_on : set_loses_image (in_progress (state s acts)) (state s acts).volumes (cleared s v w.block (state s acts)).volumes ≡ false
-      → LineComes blocks_told s lane op (told_if done.fault) (tells_of blocks_told s (devices_of p.groups)) q x g l f (state s acts)
+      → LineComes blocks_told s lane op (told_if done.fault) (tells_of blocks_told s (devices_of p.groups)) q x l f (state s acts)
   kept_on no_loss = record {
     on = is.on (state s acts) ∙ on;
     allowed = is.allowed done.fault (state s acts);
@@ -236,10 +231,10 @@ module _ {D : Type 0} (blocks_told : D → Option (List (List ℕ))) (size count
     evicts = gone acts stands.at.sessions stands.at.groups ∙ sym (is.target (state s acts));
     nobody = is.nobody (state s acts);
     sets = put_sets done.fault v w (cleared s v w.block (state s acts));
-    parts = put_parts blocks_told p q x g s done.fault v w (cleared s v w.block (state s acts)) cleared_keeps cleared_gate cleared_plan room;
+    parts = put_parts blocks_told p q x s done.fault v w (cleared s v w.block (state s acts)) cleared_keeps cleared_plan room;
   }
 
-  pub no_set : None ≡ current_of x.sets → LineComes blocks_told s lane op (told_if done.fault) (tells_of blocks_told s (devices_of p.groups)) q x g l f (state s acts)
+  pub no_set : None ≡ current_of x.sets → LineComes blocks_told s lane op (told_if done.fault) (tells_of blocks_told s (devices_of p.groups)) q x l f (state s acts)
   no_set c =
       let none : in_progress (state s acts) ≡ None = none_current (in_progress (state s acts)) (c ∙ ap current_of stands.at.sessions.sets) in
       kept_on (ap (λ (o : Option SetRow). set_loses_image o (state s acts).volumes (cleared s v w.block (state s acts)).volumes) none)
@@ -248,7 +243,7 @@ module _ {D : Type 0} (blocks_told : D → Option (List (List ℕ))) (size count
   newest : (r : SetRow) → in_progress (state s acts) ≡ Some r → r.number ≡ length (state s acts).sets
   newest r c = let o = orderly s acts in let n = newest_number 1 (state s acts).sets r o.numbered o.newest c in omega (arith, n)
 
-  pub other_set : (n : ℕ) → Some n ≡ current_of x.sets → (m ≡ n → ⊥) → LineComes blocks_told s lane op (told_if done.fault) (tells_of blocks_told s (devices_of p.groups)) q x g l f (state s acts)
+  pub other_set : (n : ℕ) → Some n ≡ current_of x.sets → (m ≡ n → ⊥) → LineComes blocks_told s lane op (told_if done.fault) (tells_of blocks_told s (devices_of p.groups)) q x l f (state s acts)
   other_set n c apart =
       let r = some_current (in_progress (state s acts)) n (c ∙ ap current_of stands.at.sessions.sets) in
       let number = newest r.0 r.1 in
@@ -274,7 +269,7 @@ module _ {D : Type 0} (blocks_told : D → Option (List (List ℕ))) (size count
 
   -- the image of the set in progress went, and the set failed
   pub own_set : (n k : ℕ) (y : SessionsValue) (r : ProviderValue D) → Some n ≡ current_of x.sets → m ≡ n → IsFailed x y InsufficientStorage → AreWithout blocks_told size count lending q.groups r.groups n k
-      → Comes blocks_told s (Line lane op) (record { told = told_if done.fault; lost = 0; lost_order = None; set = n; result = Failed InsufficientStorage }) (tells_of blocks_told s (devices_of p.groups)) r y (all_open (length g.held) (length g.frozen)) l f (state s acts)
+      → Comes blocks_told s (Line lane op) (record { told = told_if done.fault; lost = 0; lost_order = None; set = n; result = Failed InsufficientStorage }) (tells_of blocks_told s (devices_of p.groups)) r y l f (state s acts)
   own_set n k y r c same fails without =
       let a = some_current (in_progress (state s acts)) n (c ∙ ap current_of stands.at.sessions.sets) in
       let st = state s acts in
@@ -309,30 +304,29 @@ module _ {D : Type 0} (blocks_told : D → Option (List (List ℕ))) (size count
           order = sym (ap (λ (ws : List ℕ). lost_order_if ws (order_now (left_now st))) (is.nobody st));
           ends = subst (λ (o : Option SetRow). EndsAs o n (Failed InsufficientStorage)) (sym (ap (λ (z : State). ended_of (in_progress st) z.sets) to ∙ ends)) (sym a.2, refl, omega (arith, number, some, same_number));
         };
-        parts = subst (λ (z : State). Parts blocks_told r y (all_open (length g.held) (length g.frozen)) s z) (sym to)
-            (put_parts blocks_told q r y (all_open (length g.held) (length g.frozen)) s done.fault v w over keeps
-            (gate_open s (length g.held) (length g.frozen) over stands.at.gate.volumes (failed_agenda a.0 InsufficientStorage base))
+        parts = subst (λ (z : State). Parts blocks_told r y s z) (sym to)
+            (put_parts blocks_told q r y s done.fault v w over keeps
             (in_failed_in s (Some a.0) InsufficientStorage base cleared_plan) groups);
       }
 
 -- ## moves
 
-pub kept_moves : {D : Type 0} (blocks_told : D → Option (List (List ℕ))) (size count : D → ℕ) (lending : D → Bool) (s : Plan) (lane v : ℕ) (op : Op) (w : Write) (done : PutResult) (p q : ProviderValue D) (x : SessionsValue) (g : Flags) (l : List ℕ) (e f : List Evicted)
-    → IsOf (world_of p x g l e) s → IsWriting s lane op v w → IsPut blocks_told size count lending s p.groups q.groups v w done
-    → ((acts : List Act) → Stands blocks_told (world_of p x g l e) s acts → LineComes blocks_told s lane op (told_if done.fault) (tells_of blocks_told s (devices_of p.groups)) q x g l f (state s acts))
-    → IsMoved blocks_told count (world_of p x g l e) (world_of q x g l f) s (Line lane op) (simple_outcome (told_if done.fault))
-kept_moves blocks_told size count lending s lane v op w done p q x g l e f of is puts comes =
-    line_moves blocks_told count s lane op (told_if done.fault) p q x g l l e f
-    (put_devices blocks_told size count lending s lane v op 0 Running done.fault p q q x x g g l l e f of of.writers is.of_volume puts.call.kept refl puts.cause) comes
+pub kept_moves : {D : Type 0} (blocks_told : D → Option (List (List ℕ))) (size count : D → ℕ) (lending : D → Bool) (s : Plan) (lane v : ℕ) (op : Op) (w : Write) (done : PutResult) (p q : ProviderValue D) (x : SessionsValue) (l : List ℕ) (e f : List Evicted)
+    → IsOf (world_of p x l e) s → IsWriting s lane op v w → IsPut blocks_told size count lending s p.groups q.groups v w done
+    → ((acts : List Act) → Stands blocks_told (world_of p x l e) s acts → LineComes blocks_told s lane op (told_if done.fault) (tells_of blocks_told s (devices_of p.groups)) q x l f (state s acts))
+    → IsMoved blocks_told count (world_of p x l e) (world_of q x l f) s (Line lane op) (simple_outcome (told_if done.fault))
+kept_moves blocks_told size count lending s lane v op w done p q x l e f of is puts comes =
+    line_moves blocks_told count s lane op (told_if done.fault) p q x l l e f
+    (put_devices blocks_told size count lending s lane v op 0 Running done.fault p q q x x l l e f of of.writers is.of_volume puts.call.kept refl puts.cause) comes
 
-pub lost_moves : {D : Type 0} (blocks_told : D → Option (List (List ℕ))) (size count : D → ℕ) (lending : D → Bool) (s : Plan) (lane v : ℕ) (op : Op) (w : Write) (done : PutResult) (n k : ℕ) (p q r : ProviderValue D) (x y : SessionsValue) (g : Flags) (l : List ℕ) (e f : List Evicted)
-    → IsOf (world_of p x g l e) s → IsWriting s lane op v w → IsPut blocks_told size count lending s p.groups q.groups v w done → AreWithout blocks_told size count lending q.groups r.groups n k → Leaves x y → y.clock ≡ x.clock
-    → ((acts : List Act) → Stands blocks_told (world_of p x g l e) s acts
-    → Comes blocks_told s (Line lane op) (record { told = told_if done.fault; lost = 0; lost_order = None; set = n; result = Failed InsufficientStorage }) (tells_of blocks_told s (devices_of p.groups)) r y (all_open (length g.held) (length g.frozen)) l f (state s acts))
-    → IsMoved blocks_told count (world_of p x g l e) (world_of r y (all_open (length g.held) (length g.frozen)) l f) s (Line lane op) (record { told = told_if done.fault; lost = 0; lost_order = None; set = n; result = Failed InsufficientStorage })
-lost_moves blocks_told size count lending s lane v op w done n k p q r x y g l e f of is puts without leaves clock comes =
-    moved blocks_told count s (Line lane op) (record { told = told_if done.fault; lost = 0; lost_order = None; set = n; result = Failed InsufficientStorage }) p r x y g (all_open (length g.held) (length g.frozen)) l l e f
-    (put_devices blocks_told size count lending s lane v op n (Failed InsufficientStorage) done.fault p q r x y g (all_open (length g.held) (length g.frozen)) l l e f of (leaves_of s x y of.writers leaves) is.of_volume
+pub lost_moves : {D : Type 0} (blocks_told : D → Option (List (List ℕ))) (size count : D → ℕ) (lending : D → Bool) (s : Plan) (lane v : ℕ) (op : Op) (w : Write) (done : PutResult) (n k : ℕ) (p q r : ProviderValue D) (x y : SessionsValue) (l : List ℕ) (e f : List Evicted)
+    → IsOf (world_of p x l e) s → IsWriting s lane op v w → IsPut blocks_told size count lending s p.groups q.groups v w done → AreWithout blocks_told size count lending q.groups r.groups n k → Leaves x y → y.clock ≡ x.clock
+    → ((acts : List Act) → Stands blocks_told (world_of p x l e) s acts
+    → Comes blocks_told s (Line lane op) (record { told = told_if done.fault; lost = 0; lost_order = None; set = n; result = Failed InsufficientStorage }) (tells_of blocks_told s (devices_of p.groups)) r y l f (state s acts))
+    → IsMoved blocks_told count (world_of p x l e) (world_of r y l f) s (Line lane op) (record { told = told_if done.fault; lost = 0; lost_order = None; set = n; result = Failed InsufficientStorage })
+lost_moves blocks_told size count lending s lane v op w done n k p q r x y l e f of is puts without leaves clock comes =
+    moved blocks_told count s (Line lane op) (record { told = told_if done.fault; lost = 0; lost_order = None; set = n; result = Failed InsufficientStorage }) p r x y l l e f
+    (put_devices blocks_told size count lending s lane v op n (Failed InsufficientStorage) done.fault p q r x y l l e f of (leaves_of s x y of.writers leaves) is.of_volume
     (kept_trans blocks_told size count lending p.groups q.groups r.groups puts.call.kept without.kept) (ap (map count) without.devices) puts.cause)
     (goes_on x y leaves (let c = clock in omega (arith, c))) comes
 
@@ -341,40 +335,32 @@ lost_moves blocks_told size count lending s lane v op w done n k p q r x y g l e
 may : (s : Plan) (st : State) (lane v : ℕ) (held : Bool) (o : Option ℕ) → is_held st v ≡ held → acts_as s lane ≡ o → may_write s st lane v ≡ (not held && is_free st o)
 may s st lane v held o f e = ap (λ (t : Bool). not t && is_free st (acts_as s lane)) f ∙ ap (λ (w : Option ℕ). not held && is_free st w) e
 
--- the gate says whether the volume is held
-gate_says : {D : Type 0} (blocks_told : D → Option (List (List ℕ))) (s : Plan) (lane v : ℕ) (held t : Bool) (o : Option ℕ) (p : ProviderValue D) (x : SessionsValue) (g : Flags) (l : List ℕ) (e : List Evicted) (acts : List Act) → v < length s.volumes → acts_as s lane ≡ o → held ≡ holds g v → held ≡ t → Stands blocks_told (world_of p x g l e) s acts
-    → may_write s (state s acts) lane v ≡ (not t && is_free (state s acts) o)
-gate_says blocks_told s lane v held t o p x g l e acts within acting is says stands = may s (state s acts) lane v t o (sym (stands.at.gate.held v within) ∙ sym is ∙ says) acting
-
 -- a volume that is held waits, whoever writes
-pub held_waits : {D : Type 0} (blocks_told : D → Option (List (List ℕ))) (s : Plan) (lane v : ℕ) (held : Bool) (p : ProviderValue D) (x : SessionsValue) (g : Flags) (l : List ℕ) (e : List Evicted) → v < length s.volumes → held ≡ holds g v → held ≡ true
-    → IfStands blocks_told (world_of p x g l e) s (λ st. false ≡ may_write s st lane v)
-held_waits blocks_told s lane v held p x g l e within is says acts stands = sym (gate_says blocks_told s lane v held true (acts_as s lane) p x g l e acts within refl is says stands)
+pub held_waits : {D : Type 0} (blocks_told : D → Option (List (List ℕ))) (s : Plan) (lane v : ℕ) (held : Bool) (p : ProviderValue D) (x : SessionsValue) (l : List ℕ) (e : List Evicted) → ((st : State) → Keeps x st → held ≡ is_held st v) → held ≡ true
+    → IfStands blocks_told (world_of p x l e) s (λ st. false ≡ may_write s st lane v)
+held_waits blocks_told s lane v held p x l e is says acts stands = sym (may s (state s acts) lane v true (acts_as s lane) (sym (is (state s acts) stands.at.sessions) ∙ says) refl)
 
 -- else a lane that acts as nobody writes
-pub alone_goes : {D : Type 0} (blocks_told : D → Option (List (List ℕ))) (s : Plan) (lane v : ℕ) (held : Bool) (p : ProviderValue D) (x : SessionsValue) (g : Flags) (l : List ℕ) (e : List Evicted) → v < length s.volumes → acts_as s lane ≡ None → held ≡ holds g v → held ≡ false
-    → IfStands blocks_told (world_of p x g l e) s (λ st. true ≡ may_write s st lane v)
-alone_goes blocks_told s lane v held p x g l e within alone is says acts stands = sym (gate_says blocks_told s lane v held false None p x g l e acts within alone is says stands)
+pub alone_goes : {D : Type 0} (blocks_told : D → Option (List (List ℕ))) (s : Plan) (lane v : ℕ) (held : Bool) (p : ProviderValue D) (x : SessionsValue) (l : List ℕ) (e : List Evicted) → acts_as s lane ≡ None → ((st : State) → Keeps x st → held ≡ is_held st v) → held ≡ false
+    → IfStands blocks_told (world_of p x l e) s (λ st. true ≡ may_write s st lane v)
+alone_goes blocks_told s lane v held p x l e alone is says acts stands = sym (may s (state s acts) lane v false None (sym (is (state s acts) stands.at.sessions) ∙ says) alone)
 
 -- and one that acts as a writer, where that is not frozen
-pub writer_goes : {D : Type 0} (blocks_told : D → Option (List (List ℕ))) (s : Plan) (lane v w : ℕ) (held frozen : Bool) (p : ProviderValue D) (x : SessionsValue) (g : Flags) (l : List ℕ) (e : List Evicted) → v < length s.volumes → acts_as s lane ≡ Some w → held ≡ holds g v → held ≡ false
-    → ((st : State) → Keeps x st → frozen ≡ is_frozen st w) → IfStands blocks_told (world_of p x g l e) s (λ st. not frozen ≡ may_write s st lane v)
-writer_goes blocks_told s lane v w held frozen p x g l e within acting is says stands_frozen acts stands =
-    ap not (stands_frozen (state s acts) stands.at.sessions) ∙ sym (gate_says blocks_told s lane v held false (Some w) p x g l e acts within acting is says stands)
+pub writer_goes : {D : Type 0} (blocks_told : D → Option (List (List ℕ))) (s : Plan) (lane v w : ℕ) (held frozen : Bool) (p : ProviderValue D) (x : SessionsValue) (l : List ℕ) (e : List Evicted) → acts_as s lane ≡ Some w → ((st : State) → Keeps x st → held ≡ is_held st v) → held ≡ false
+    → ((st : State) → Keeps x st → frozen ≡ is_frozen st w) → IfStands blocks_told (world_of p x l e) s (λ st. not frozen ≡ may_write s st lane v)
+writer_goes blocks_told s lane v w held frozen p x l e acting is says stands_frozen acts stands =
+    ap not (stands_frozen (state s acts) stands.at.sessions) ∙ sym (may s (state s acts) lane v false (Some w) (sym (is (state s acts) stands.at.sessions) ∙ says) acting)
 
-pub free_to_write : {D : Type 0} (blocks_told : D → Option (List (List ℕ))) (s : Plan) (lane v : ℕ) (b : Bool) (p : ProviderValue D) (x : SessionsValue) (g : Flags) (l : List ℕ) (e : List Evicted) (acts : List Act) → IfStands blocks_told (world_of p x g l e) s (λ st. b ≡ may_write s st lane v) → b ≡ true
-    → Stands blocks_told (world_of p x g l e) s acts → may_write s (state s acts) lane v ≡ true
-free_to_write blocks_told s lane v b p x g l e acts says is stands = sym (says acts stands) ∙ is
+pub free_to_write : {D : Type 0} (blocks_told : D → Option (List (List ℕ))) (s : Plan) (lane v : ℕ) (b : Bool) (p : ProviderValue D) (x : SessionsValue) (l : List ℕ) (e : List Evicted) (acts : List Act) → IfStands blocks_told (world_of p x l e) s (λ st. b ≡ may_write s st lane v) → b ≡ true
+    → Stands blocks_told (world_of p x l e) s acts → may_write s (state s acts) lane v ≡ true
+free_to_write blocks_told s lane v b p x l e acts says is stands = sym (says acts stands) ∙ is
 
-pub write_waits : {D : Type 0} (blocks_told : D → Option (List (List ℕ))) (s : Plan) (lane v : ℕ) (op : Op) (w : Write) (b : Bool) (p : ProviderValue D) (x : SessionsValue) (g : Flags) (l : List ℕ) (e : List Evicted) → IsWriting s lane op v w
-    → IfStands blocks_told (world_of p x g l e) s (λ st. b ≡ may_write s st lane v) → b ≡ false → IsBlocked blocks_told (world_of p x g l e) (world_of p x g l e) s (Line lane op)
-write_waits blocks_told s lane v op w b p x g l e is_writing says is = record {
+pub write_waits : {D : Type 0} (blocks_told : D → Option (List (List ℕ))) (s : Plan) (lane v : ℕ) (op : Op) (w : Write) (b : Bool) (p : ProviderValue D) (x : SessionsValue) (l : List ℕ) (e : List Evicted) → IsWriting s lane op v w
+    → IfStands blocks_told (world_of p x l e) s (λ st. b ≡ may_write s st lane v) → b ≡ false → IsBlocked blocks_told (world_of p x l e) (world_of p x l e) s (Line lane op)
+write_waits blocks_told s lane v op w b p x l e is_writing says is = record {
   same = refl;
   not_enabled = λ acts stands. is_writing.on (state s acts) ∙ sym (says acts stands) ∙ is;
 }
-
-pub gate_wide : {D : Type 0} (blocks_told : D → Option (List (List ℕ))) (s : Plan) (v : ℕ) (p : ProviderValue D) (x : SessionsValue) (g : Flags) (l : List ℕ) (e : List Evicted) → v < length s.volumes → IsStanding blocks_told (world_of p x g l e) s → v < length g.held
-gate_wide blocks_told s v p x g l e within standing = let long = standing.stands.at.gate.volumes in omega (arith, within, long)
 
 -- a lane acts as a writer of the scenario
 whom : (lanes : List LanePlan) (lane w n : ℕ) → writer_in (slice_get lanes lane) ≡ Some w → ((k : ℕ) (d : LanePlan) → k < length lanes → IfSome (slice_index_or lanes k d).acts_as (λ x. x < n)) → w < n

@@ -2,16 +2,15 @@
 use Rattle.std.proofs.Common.{◌≡◌, ℕ, ◌<◌, List, [], length, refl, ap, sym, ◌∙◌, subst, Bool, true, false, Option, Some, slice_get}
 use Rattle.std.specs.List.{concat}
 use Rattle.writer_state.specs.declared.writer_row.WriterRow.{WriterRow}
+use Rattle.write_history.specs.declared.evicted.Evicted.{Evicted}
 use Rattle.write_history.specs.declared.mark.Mark.{Mark}
 use Rattle.write_history.specs.declared.mark.Mark.TheVariants.{Clean, Fault}
 use Rattle.write_history.specs.History.{History}
 use Rattle.block_data.specs.Digest.{sha256}
 use Rattle.hex.specs.Hex.{IsBytes}
-use Rattle.hold_gate.specs.Gate.{Flags}
 use Rattle.scenario.specs.declared.op.Op.{Op}
 use Rattle.scenario.specs.Plan.{Plan}
 use Rattle.vss_model.specs.declared.event.Event.TheVariants.{Line}
-use Rattle.vss_model.specs.declared.evicted.Evicted.{Evicted}
 use Rattle.vss_model.specs.declared.told.Told.{Told}
 use Rattle.vss_model.specs.declared.told.Told.TheVariants as told
 use Rattle.vss_model.specs.Reply.{Reply, BlockOf, BlocksOf, Faulted}
@@ -83,15 +82,16 @@ pub record IsReadLine (s : Plan) (lane v : ℕ) (op : Op) : Type 0 where
   pub of_volume : volume_of_line op ≡ Some v
 
 -- a device failed
-fault_moves : {D X : Type 0} (blocks_told : D → Option (List (List ℕ))) (size count : D → ℕ) (lending : D → Bool) (s : Plan) (lane v : ℕ) (op : Op) (p q : ProviderValue D) (x : SessionsValue) (g : Flags) (l : List ℕ) (e f : List Evicted) (reply_of : X → Reply) (bytes_of : X → List ℕ) (are : List History → List ℕ → Type 0) (fault : DeviceFault)
-    → IsOf (world_of p x g l e) s → f ≡ [] → IsReadLine s lane v op
-    → ((acts : List Act) → Stands blocks_told (world_of p x g l e) s acts → Shows s lane op reply_of bytes_of are (state s acts)) → IsReading blocks_told size count lending s p q v (Some fault)
-    → IsMoved blocks_told count (world_of p x g l e) (world_of q x g l f) s (Line lane op) (simple_outcome told.Fault)
-fault_moves blocks_told size count lending s lane v op p q x g l e f reply_of bytes_of are fault of none is shows reading =
-    line_moves blocks_told count s lane op told.Fault p q x g l l e f
-    (failed_devices blocks_told size count lending s (Line lane op) (simple_outcome told.Fault) p q x x g g l l e f of reading.quiet.call.kept of.writers
+fault_moves : {D X : Type 0} (blocks_told : D → Option (List (List ℕ))) (size count : D → ℕ) (lending : D → Bool) (s : Plan) (lane v : ℕ) (op : Op) (p q : ProviderValue D) (x : SessionsValue) (l : List ℕ) (e f : List Evicted) (reply_of : X → Reply)
+    (bytes_of : X → List ℕ) (are : List History → List ℕ → Type 0) (fault : DeviceFault)
+    → IsOf (world_of p x l e) s → f ≡ [] → IsReadLine s lane v op
+    → ((acts : List Act) → Stands blocks_told (world_of p x l e) s acts → Shows s lane op reply_of bytes_of are (state s acts)) → IsReading blocks_told size count lending s p q v (Some fault)
+    → IsMoved blocks_told count (world_of p x l e) (world_of q x l f) s (Line lane op) (simple_outcome told.Fault)
+fault_moves blocks_told size count lending s lane v op p q x l e f reply_of bytes_of are fault of none is shows reading =
+    line_moves blocks_told count s lane op told.Fault p q x l l e f
+    (failed_devices blocks_told size count lending s (Line lane op) (simple_outcome told.Fault) p q x x l l e f of reading.quiet.call.kept of.writers
     (subst (λ (o : Option ℕ). RoseFor s o (counts_of count p.groups) (counts_of count q.groups)) (sym is.of_volume) (rose_for count s v fault p.groups q.groups reading.cause)) refl)
-    (λ acts stands. let parts = parts_of blocks_told p x g l e s (state s acts) stands.at in let shown = shows acts stands in record {
+    (λ acts stands. let parts = parts_of blocks_told p x l e s (state s acts) stands.at in let shown = shows acts stands in record {
       on = is.on (state s acts);
       allowed = shown.faults;
       said = Faulted;
@@ -102,17 +102,17 @@ fault_moves blocks_told size count lending s lane v op p q x g l e f reply_of by
       evicts = none ∙ sym (is.none (state s acts));
       nobody = is.nobody (state s acts);
       sets = refl;
-      parts = same_parts blocks_told p q x g s (state s acts) parts (reading.quiet.stands (state s acts).volumes parts.groups);
+      parts = same_parts blocks_told p q x s (state s acts) parts (reading.quiet.stands (state s acts).volumes parts.groups);
     })
 
-pub block_moves : {D : Type 0} (blocks_told : D → Option (List (List ℕ))) (size count : D → ℕ) (lending : D → Bool) (s : Plan) (lane v : ℕ) (op : Op) (answer : Told) (p q : ProviderValue D) (x : SessionsValue) (g : Flags) (l : List ℕ) (e f : List Evicted) (are : List History → List ℕ → Type 0)
-    → IsOf (world_of p x g l e) s → v < length s.volumes → f ≡ [] → IsReadLine s lane v op
-    → ((acts : List Act) → Stands blocks_told (world_of p x g l e) s acts → Shows s lane op (BlockOf v) (λ (bs : List ℕ). bs) are (state s acts)) → IsBlockSeen blocks_told size count lending s p q v are answer
-    → IsMoved blocks_told count (world_of p x g l e) (world_of q x g l f) s (Line lane op) (simple_outcome answer)
-block_moves blocks_told size count lending s lane v op (told.Block first digest) p q x g l e f are of within none is shows seen =
-    line_moves blocks_told count s lane op (told.Block first digest) p q x g l l e f
-    (clean_devices blocks_told size count lending s (Line lane op) (simple_outcome (told.Block first digest)) p q x x g g l l e f of seen.0.quiet.call.kept of.writers seen.0.cause refl)
-    (λ acts stands. let parts = parts_of blocks_told p x g l e s (state s acts) stands.at in let shown = shows acts stands in record {
+pub block_moves : {D : Type 0} (blocks_told : D → Option (List (List ℕ))) (size count : D → ℕ) (lending : D → Bool) (s : Plan) (lane v : ℕ) (op : Op) (answer : Told) (p q : ProviderValue D) (x : SessionsValue) (l : List ℕ) (e f : List Evicted) (are : List History → List ℕ → Type 0)
+    → IsOf (world_of p x l e) s → v < length s.volumes → f ≡ [] → IsReadLine s lane v op
+    → ((acts : List Act) → Stands blocks_told (world_of p x l e) s acts → Shows s lane op (BlockOf v) (λ (bs : List ℕ). bs) are (state s acts)) → IsBlockSeen blocks_told size count lending s p q v are answer
+    → IsMoved blocks_told count (world_of p x l e) (world_of q x l f) s (Line lane op) (simple_outcome answer)
+block_moves blocks_told size count lending s lane v op (told.Block first digest) p q x l e f are of within none is shows seen =
+    line_moves blocks_told count s lane op (told.Block first digest) p q x l l e f
+    (clean_devices blocks_told size count lending s (Line lane op) (simple_outcome (told.Block first digest)) p q x x l l e f of seen.0.quiet.call.kept of.writers seen.0.cause refl)
+    (λ acts stands. let parts = parts_of blocks_told p x l e s (state s acts) stands.at in let shown = shows acts stands in record {
       on = is.on (state s acts);
       allowed = is.clean (state s acts);
       said = BlockOf v shown.shown;
@@ -123,20 +123,20 @@ block_moves blocks_told size count lending s lane v op (told.Block first digest)
       evicts = none ∙ sym (is.none (state s acts));
       nobody = is.nobody (state s acts);
       sets = refl;
-      parts = same_parts blocks_told p q x g s (state s acts) parts (seen.0.quiet.stands (state s acts).volumes parts.groups);
+      parts = same_parts blocks_told p q x s (state s acts) parts (seen.0.quiet.stands (state s acts).volumes parts.groups);
     })
-block_moves blocks_told size count lending s lane v op told.Fault p q x g l e f are of within none is shows seen =
-    fault_moves blocks_told size count lending s lane v op p q x g l e f (BlockOf v) (λ (bs : List ℕ). bs) are seen.0 of none is shows seen.1
-block_moves blocks_told size count lending s lane v op _ p q x g l e f are of within none is shows seen = absurd seen
+block_moves blocks_told size count lending s lane v op told.Fault p q x l e f are of within none is shows seen =
+    fault_moves blocks_told size count lending s lane v op p q x l e f (BlockOf v) (λ (bs : List ℕ). bs) are seen.0 of none is shows seen.1
+block_moves blocks_told size count lending s lane v op _ p q x l e f are of within none is shows seen = absurd seen
 
-pub digest_moves : {D : Type 0} (blocks_told : D → Option (List (List ℕ))) (size count : D → ℕ) (lending : D → Bool) (s : Plan) (lane v : ℕ) (op : Op) (answer : Told) (p q : ProviderValue D) (x : SessionsValue) (g : Flags) (l : List ℕ) (e f : List Evicted) (are : List History → List ℕ → Type 0)
-    → IsOf (world_of p x g l e) s → v < length s.volumes → f ≡ [] → IsReadLine s lane v op
-    → ((acts : List Act) → Stands blocks_told (world_of p x g l e) s acts → Shows s lane op (BlocksOf v) concat are (state s acts)) → IsDigestSeen blocks_told size count lending s p q v are answer
-    → IsMoved blocks_told count (world_of p x g l e) (world_of q x g l f) s (Line lane op) (simple_outcome answer)
-digest_moves blocks_told size count lending s lane v op (told.Digest digest) p q x g l e f are of within none is shows seen =
-    line_moves blocks_told count s lane op (told.Digest digest) p q x g l l e f
-    (clean_devices blocks_told size count lending s (Line lane op) (simple_outcome (told.Digest digest)) p q x x g g l l e f of seen.0.quiet.call.kept of.writers seen.0.cause refl)
-    (λ acts stands. let parts = parts_of blocks_told p x g l e s (state s acts) stands.at in let shown = shows acts stands in record {
+pub digest_moves : {D : Type 0} (blocks_told : D → Option (List (List ℕ))) (size count : D → ℕ) (lending : D → Bool) (s : Plan) (lane v : ℕ) (op : Op) (answer : Told) (p q : ProviderValue D) (x : SessionsValue) (l : List ℕ) (e f : List Evicted) (are : List History → List ℕ → Type 0)
+    → IsOf (world_of p x l e) s → v < length s.volumes → f ≡ [] → IsReadLine s lane v op
+    → ((acts : List Act) → Stands blocks_told (world_of p x l e) s acts → Shows s lane op (BlocksOf v) concat are (state s acts)) → IsDigestSeen blocks_told size count lending s p q v are answer
+    → IsMoved blocks_told count (world_of p x l e) (world_of q x l f) s (Line lane op) (simple_outcome answer)
+digest_moves blocks_told size count lending s lane v op (told.Digest digest) p q x l e f are of within none is shows seen =
+    line_moves blocks_told count s lane op (told.Digest digest) p q x l l e f
+    (clean_devices blocks_told size count lending s (Line lane op) (simple_outcome (told.Digest digest)) p q x x l l e f of seen.0.quiet.call.kept of.writers seen.0.cause refl)
+    (λ acts stands. let parts = parts_of blocks_told p x l e s (state s acts) stands.at in let shown = shows acts stands in record {
       on = is.on (state s acts);
       allowed = is.clean (state s acts);
       said = BlocksOf v shown.shown;
@@ -147,11 +147,11 @@ digest_moves blocks_told size count lending s lane v op (told.Digest digest) p q
       evicts = none ∙ sym (is.none (state s acts));
       nobody = is.nobody (state s acts);
       sets = refl;
-      parts = same_parts blocks_told p q x g s (state s acts) parts (seen.0.quiet.stands (state s acts).volumes parts.groups);
+      parts = same_parts blocks_told p q x s (state s acts) parts (seen.0.quiet.stands (state s acts).volumes parts.groups);
     })
-digest_moves blocks_told size count lending s lane v op told.Fault p q x g l e f are of within none is shows seen =
-    fault_moves blocks_told size count lending s lane v op p q x g l e f (BlocksOf v) concat are seen.0 of none is shows seen.1
-digest_moves blocks_told size count lending s lane v op _ p q x g l e f are of within none is shows seen = absurd seen
+digest_moves blocks_told size count lending s lane v op told.Fault p q x l e f are of within none is shows seen =
+    fault_moves blocks_told size count lending s lane v op p q x l e f (BlocksOf v) concat are seen.0 of none is shows seen.1
+digest_moves blocks_told size count lending s lane v op _ p q x l e f are of within none is shows seen = absurd seen
 
 -- ## lines that change nothing
 
@@ -165,14 +165,14 @@ pub record Answers (s : Plan) (lane : ℕ) (op : Op) (answer : Told) (tells : Li
   pub none : evicted s st (Line lane op) ≡ []
   pub nobody : lost st (Line lane op) ≡ []
 
-pub answered_moves : {D : Type 0} (blocks_told : D → Option (List (List ℕ))) (size count : D → ℕ) (lending : D → Bool) (s : Plan) (lane : ℕ) (op : Op) (answer : Told) (p : ProviderValue D) (x : SessionsValue) (g : Flags) (l k : List ℕ) (e f : List Evicted)
-    → IsOf (world_of p x g l e) s → f ≡ [] → is_fault (mark_of answer) ≡ false
-    → ((acts : List Act) → Stands blocks_told (world_of p x g l e) s acts → Answers s lane op answer (tells_of blocks_told s (devices_of p.groups)) k (state s acts))
-    → IsMoved blocks_told count (world_of p x g l e) (world_of p x g k f) s (Line lane op) (simple_outcome answer)
-answered_moves blocks_told size count lending s lane op answer p x g l k e f of none clean answers =
-    line_moves blocks_told count s lane op answer p p x g l k e f
-    (clean_devices blocks_told size count lending s (Line lane op) (simple_outcome answer) p p x x g g l k e f of (kept_same blocks_told size count lending p.groups) of.writers refl clean)
-    (λ acts stands. let parts = parts_of blocks_told p x g l e s (state s acts) stands.at in let a = answers acts stands in record {
+pub answered_moves : {D : Type 0} (blocks_told : D → Option (List (List ℕ))) (size count : D → ℕ) (lending : D → Bool) (s : Plan) (lane : ℕ) (op : Op) (answer : Told) (p : ProviderValue D) (x : SessionsValue) (l k : List ℕ) (e f : List Evicted)
+    → IsOf (world_of p x l e) s → f ≡ [] → is_fault (mark_of answer) ≡ false
+    → ((acts : List Act) → Stands blocks_told (world_of p x l e) s acts → Answers s lane op answer (tells_of blocks_told s (devices_of p.groups)) k (state s acts))
+    → IsMoved blocks_told count (world_of p x l e) (world_of p x k f) s (Line lane op) (simple_outcome answer)
+answered_moves blocks_told size count lending s lane op answer p x l k e f of none clean answers =
+    line_moves blocks_told count s lane op answer p p x l k e f
+    (clean_devices blocks_told size count lending s (Line lane op) (simple_outcome answer) p p x x l k e f of (kept_same blocks_told size count lending p.groups) of.writers refl clean)
+    (λ acts stands. let parts = parts_of blocks_told p x l e s (state s acts) stands.at in let a = answers acts stands in record {
       on = a.on;
       allowed = a.allowed;
       said = a.said;

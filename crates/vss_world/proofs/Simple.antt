@@ -2,15 +2,14 @@
 use Rattle.std.proofs.Common.{◌≡◌, ℕ, List, [], refl, ap, sym, ◌∙◌, subst, Bool, true, Option}
 use Rattle.vss_names.specs.declared.set_outcome.SetOutcome.TheVariants.{Running}
 use Rattle.writer_state.specs.declared.writer_row.WriterRow.{WriterRow}
+use Rattle.write_history.specs.declared.evicted.Evicted.{Evicted}
 use Rattle.write_history.specs.declared.mark.Mark.{Mark}
 use Rattle.write_history.specs.History.{History}
-use Rattle.hold_gate.specs.Gate.{Flags}
 use Rattle.set_agenda.specs.Agenda.{order_now}
 use Rattle.set_agenda.proofs.WriterSets.{new-is}
 use Rattle.scenario.specs.declared.op.Op.{Op}
 use Rattle.scenario.specs.Plan.{Plan}
 use Rattle.vss_model.specs.declared.event.Event.TheVariants.{Line}
-use Rattle.vss_model.specs.declared.evicted.Evicted.{Evicted}
 use Rattle.vss_model.specs.declared.told.Told.{Told}
 use Rattle.vss_model.specs.Reply.{Reply}
 use Rattle.vss_model.specs.State.{State, SetRow, left_now, in_progress}
@@ -37,7 +36,7 @@ unfolding after
 after_line s st lane op mark on = ap (λ (t : Bool). after_if t s st (act_of mark (Line lane op))) on
 
 -- what a line comes to that begins and ends nothing
-pub record LineComes {D : Type 0} (told : D → Option (List (List ℕ))) (s : Plan) (lane : ℕ) (op : Op) (answer : Told) (tells : List Bool) (q : ProviderValue D) (x : SessionsValue) (g : Flags) (listed_sets : List ℕ) (evicted_images : List Evicted) (st : State) : Type 0 where
+pub record LineComes {D : Type 0} (told : D → Option (List (List ℕ))) (s : Plan) (lane : ℕ) (op : Op) (answer : Told) (tells : List Bool) (q : ProviderValue D) (x : SessionsValue) (listed_sets : List ℕ) (evicted_images : List Evicted) (st : State) : Type 0 where
   pub on : line_enabled s st lane op ≡ true
   pub allowed : line_allows s st op (mark_of answer) ≡ true
   pub said : Reply
@@ -48,11 +47,11 @@ pub record LineComes {D : Type 0} (told : D → Option (List (List ℕ))) (s : P
   pub evicts : evicted_images ≡ evicted s st (Line lane op)
   pub nobody : lost st (Line lane op) ≡ []
   pub sets : next.sets ≡ st.sets
-  pub parts : Parts told q x g s next
+  pub parts : Parts told q x s next
 
-comes_so : {D : Type 0} (told : D → Option (List (List ℕ))) (s : Plan) (lane : ℕ) (op : Op) (answer : Told) (tells : List Bool) (q : ProviderValue D) (x : SessionsValue) (g : Flags) (l : List ℕ) (e : List Evicted) (st : State)
-    → NumberedFrom 1 st.sets → LineComes told s lane op answer tells q x g l e st → Comes told s (Line lane op) (simple_outcome answer) tells q x g l e st
-comes_so told s lane op answer tells q x g l e st numbered c =
+comes_so : {D : Type 0} (told : D → Option (List (List ℕ))) (s : Plan) (lane : ℕ) (op : Op) (answer : Told) (tells : List Bool) (q : ProviderValue D) (x : SessionsValue) (l : List ℕ) (e : List Evicted) (st : State)
+    → NumberedFrom 1 st.sets → LineComes told s lane op answer tells q x l e st → Comes told s (Line lane op) (simple_outcome answer) tells q x l e st
+comes_so told s lane op answer tells q x l e st numbered c =
     let to : after s st (told_act (Line lane op) answer) ≡ c.next = after_line s st lane op (mark_of answer) c.on ∙ ap (λ (r : Replied). r.1) c.is in
     let answered : reply s st (told_act (Line lane op) answer) ≡ c.said = ap (λ (r : Replied). r.0) c.is in
     record {
@@ -66,28 +65,27 @@ comes_so told s lane op answer tells q x g l e st numbered c =
         order = sym (ap (λ (ws : List ℕ). lost_order_if ws (order_now (left_now st))) c.nobody);
         ends = subst (λ (o : Option SetRow). EndsAs o 0 Running) (sym (ap (ended_of (in_progress st)) (ap (λ (z : State). z.sets) to ∙ c.sets) ∙ none_ends st.sets numbered)) refl;
       };
-      parts = subst (λ (z : State). Parts told q x g s z) (sym to) c.parts;
+      parts = subst (λ (z : State). Parts told q x s z) (sym to) c.parts;
     }
 
-pub line_moves : {D : Type 0} (told : D → Option (List (List ℕ))) (count : D → ℕ) (s : Plan) (lane : ℕ) (op : Op) (answer : Told) (p q : ProviderValue D) (x : SessionsValue) (g : Flags) (l k : List ℕ) (e f : List Evicted)
-    → OfDevices told count s (Line lane op) (simple_outcome answer) (world_of p x g l e) (world_of q x g k f)
-    → ((acts : List Act) → Stands told (world_of p x g l e) s acts → LineComes told s lane op answer (tells_of told s (devices_of p.groups)) q x g k f (state s acts))
-    → IsMoved told count (world_of p x g l e) (world_of q x g k f) s (Line lane op) (simple_outcome answer)
-line_moves told count s lane op answer p q x g l k e f devices comes =
-    moved told count s (Line lane op) (simple_outcome answer) p q x x g g l k e f devices (goes_nowhere x)
-    (λ acts stands. comes_so told s lane op answer (tells_of told s (devices_of p.groups)) q x g k f (state s acts) (in_order s acts).numbered (comes acts stands))
+pub line_moves : {D : Type 0} (told : D → Option (List (List ℕ))) (count : D → ℕ) (s : Plan) (lane : ℕ) (op : Op) (answer : Told) (p q : ProviderValue D) (x : SessionsValue) (l k : List ℕ) (e f : List Evicted)
+    → OfDevices told count s (Line lane op) (simple_outcome answer) (world_of p x l e) (world_of q x k f)
+    → ((acts : List Act) → Stands told (world_of p x l e) s acts → LineComes told s lane op answer (tells_of told s (devices_of p.groups)) q x k f (state s acts))
+    → IsMoved told count (world_of p x l e) (world_of q x k f) s (Line lane op) (simple_outcome answer)
+line_moves told count s lane op answer p q x l k e f devices comes =
+    moved told count s (Line lane op) (simple_outcome answer) p q x x l k e f devices (goes_nowhere x)
+    (λ acts stands. comes_so told s lane op answer (tells_of told s (devices_of p.groups)) q x k f (state s acts) (in_order s acts).numbered (comes acts stands))
 
 -- ## the parts, where at most the volumes change
 
-pub volumes_parts : {D : Type 0} (told : D → Option (List (List ℕ))) (p q : ProviderValue D) (x : SessionsValue) (g : Flags) (s : Plan) (st : State) (hs : List History) → Parts told p x g s st → AreGroups told s q.groups hs → Parts told q x g s (record st { volumes = hs })
-volumes_parts told p q x g s st hs parts groups =
+pub volumes_parts : {D : Type 0} (told : D → Option (List (List ℕ))) (p q : ProviderValue D) (x : SessionsValue) (s : Plan) (st : State) (hs : List History) → Parts told p x s st → AreGroups told s q.groups hs → Parts told q x s (record st { volumes = hs })
+volumes_parts told p q x s st hs parts groups =
     let k = parts.sessions in
     record {
       groups = groups;
       sessions = record { session = k.session; made = k.made; course = k.course; sets = k.sets; clock = k.clock; explicit = k.explicit; over = k.over; on_time = k.on_time; disabled = k.disabled };
-      gate = record { volumes = parts.gate.volumes; held = parts.gate.held };
       plan = record { sets = parts.plan.sets; agenda = parts.plan.agenda; members = parts.plan.members; disabled = parts.plan.disabled };
     }
 
-pub same_parts : {D : Type 0} (told : D → Option (List (List ℕ))) (p q : ProviderValue D) (x : SessionsValue) (g : Flags) (s : Plan) (st : State) → Parts told p x g s st → AreGroups told s q.groups st.volumes → Parts told q x g s st
-same_parts told p q x g s st parts groups = record { groups = groups; sessions = parts.sessions; gate = parts.gate; plan = parts.plan }
+pub same_parts : {D : Type 0} (told : D → Option (List (List ℕ))) (p q : ProviderValue D) (x : SessionsValue) (s : Plan) (st : State) → Parts told p x s st → AreGroups told s q.groups st.volumes → Parts told q x s st
+same_parts told p q x s st parts groups = record { groups = groups; sessions = parts.sessions; plan = parts.plan }

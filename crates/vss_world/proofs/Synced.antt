@@ -1,9 +1,9 @@
 -- A group's area is brought to where it lasts: every other device is as it was, and the area's holds the copies.
 use Rattle.std.proofs.Common.{◌≡◌, ℕ, zero, suc, ◌+◌, ◌<◌, ◌==◌, List, [], ◌∷◌, ◌++◌, length, refl, ap, sym, ◌∙◌, subst, arith, Bool, true, false, Option, Some, map, slice_get}
-use Rattle.std.specs.Prelude.{is_some, if◌then◌else◌}
+use Rattle.std.specs.Prelude.{is_some, if◌then◌else◌, Result, Ok, Err, OnOk, IfErr, IsErr}
 use Rattle.std.proofs.lemmas.Option.{slice_get_within}
 use Rattle.diff_area.specs.Copies.{AreStored}
-use Rattle.hold_gate.specs.Gate.{Flags}
+use Rattle.write_history.specs.declared.evicted.Evicted.{Evicted}
 use Rattle.write_history.specs.History.{History}
 use Rattle.write_history.specs.Slots.{Copy, copies, copies_of, copies_from}
 use Rattle.scenario.specs.declared.volume_row.VolumeRow.{VolumeRow}
@@ -11,20 +11,21 @@ use Rattle.scenario.specs.Plan.{Plan, placed}
 use Rattle.cow_volume.specs.GroupValue.{GroupValue, placed as all_placed}
 use Rattle.cow_volume.specs.Ending.{AllTell as AllDevicesTell}
 use Rattle.cow_volume.proofs.Group.{slice_get_inside}
-use Rattle.vss_model.specs.declared.evicted.Evicted.{Evicted}
 use Rattle.vss_model.specs.Acts.{state}
-use Rattle.provider.specs.Groups.{of_group, of_group_if, blocks_in_group}
-use Rattle.provider.specs.Devices.{devices_of, counts_of, first_place}
-use Rattle.provider.specs.Ending.{AreLasting}
+use Rattle.provider.specs.Groups.{HasGroups, of_group, of_group_if, blocks_in_group}
+use Rattle.provider.specs.Devices.{devices_of, first_place, area_place, RoseAlone}
+use Rattle.provider.specs.Ending.{AreLasting, HasSyncCause}
+use Rattle.provider.specs.declared.device_fault.DeviceFault.{DeviceFault}
+use Rattle.provider.specs.declared.device_fault.DeviceFault.TheVariants.{Area}
 use Rattle.provider.specs.Ending.{IsSynced as AreSynced}
-use Rattle.provider.specs.Preparing.{ProviderValue}
+use Rattle.provider.specs.Preparing.{ProviderValue, LastsAt}
 use Rattle.provider.proofs.Flat.{area_device_at}
 use Rattle.sessions.specs.Keeps.{SessionsValue}
 use Rattle.vss_world.specs.Devices.{told_of}
 use Rattle.vss_world.specs.Stands.{WorldValue, IsOf}
 use Rattle.vss_world.specs.Quiet.{IsSynced, IsAreaHeld}
 use Rattle.vss_world.proofs.Moved.{world_of, of_kept, tells_kept}
-use Rattle.vss_world.proofs.Digesting.{stands_still}
+use Rattle.vss_world.proofs.Digesting.{stands_still, devices_alone}
 
 -- ## places
 
@@ -92,16 +93,17 @@ elsewhere_same {D = D} (x ∷ old) (y ∷ new) lens (suc g) place long same devi
 
 -- ## the call
 
-pub synced_is : {D : Type 0} (told : D → Option (List (List ℕ))) (size count : D → ℕ) (lending : D → Bool) (s : Plan) (group : ℕ) (p q : ProviderValue D) (x : SessionsValue) (g : Flags) (l : List ℕ) (e : List Evicted)
-    → IsOf (world_of p x g l e) s → AreSynced told size count lending p.groups q.groups group → IsSynced told count (world_of p x g l e) (world_of q x g l e) s group
-synced_is told size count lending s group p q x g l e of synced = record {
-  stands_for = stands_still told size count lending s p q x g l e of synced.kept (synced.stands s);
-  is_of = of_kept told size count lending s p q x x g g l l e e of synced.kept of.writers;
+pub synced_is : {D : Type 0} (told : D → Option (List (List ℕ))) (size count : D → ℕ) (lending : D → Bool) (s : Plan) (group : ℕ) (p q : ProviderValue D) (x : SessionsValue) (l : List ℕ) (e : List Evicted)
+    → IsOf (world_of p x l e) s → AreSynced told size count lending p.groups q.groups group → q ≡ record p { groups = q.groups } → IsSynced told count (world_of p x l e) (world_of q x l e) s group
+synced_is told size count lending s group p q x l e of synced same = record {
+  stands_for = stands_still told size count lending s p q x l e of synced.kept (synced.stands s);
+  is_of = of_kept told size count lending s p q x x l l e e of synced.kept of.writers;
   elsewhere = λ place apart. ap (told_of told) (elsewhere_same p.groups q.groups (λ k. length (blocks_in_group k s.volumes)) group place synced.kept.number synced.elsewhere synced.devices
       (λ k z at. of.groups.devices k z at ∙ ap length (of.groups.volumes k z at))
       (λ f. apart (f ∙ ap (λ n. n + length (blocks_in_group group s.volumes)) (sym (first_begins group s.volumes)))));
   tells = tells_kept told size count lending s p.groups q.groups of.groups synced.kept;
   later = synced.kept.later;
+  rest = devices_alone p q x l e same;
 }
 
 -- ## what the area's device holds
@@ -144,9 +146,9 @@ device_there {D = D} (z ∷ groups) lens (suc g) u x d wide at e =
     past (c ∷ ds) zero j h = absurd (omega (arith, h))
     past (c ∷ ds) (suc i) j h = past ds i j (omega (arith, h))
 
-pub held_is : {D : Type 0} (told lasting : D → Option (List (List ℕ))) (size count : D → ℕ) (lending : D → Bool) (s : Plan) (group : ℕ) (p q : ProviderValue D) (x : SessionsValue) (g : Flags) (l : List ℕ) (e : List Evicted)
-    → IsOf (world_of p x g l e) s → group < length s.groups → AreSynced told size count lending p.groups q.groups group → AreLasting told lasting s p.groups q.groups group → IsAreaHeld told (world_of q x g l e) s group
-held_is {D = D} told lasting size count lending s group p q x g l e of within synced lasts acts stands tells =
+held_is : {D : Type 0} (told lasting : D → Option (List (List ℕ))) (size count : D → ℕ) (lending : D → Bool) (s : Plan) (group : ℕ) (p q : ProviderValue D) (x : SessionsValue) (l : List ℕ) (e : List Evicted)
+    → IsOf (world_of p x l e) s → group < length s.groups → AreSynced told size count lending p.groups q.groups group → AreLasting told lasting s p.groups q.groups group → IsAreaHeld told (world_of q x l e) s group
+held_is {D = D} told lasting size count lending s group p q x l e of within synced lasts acts stands tells =
     let hs = (state s acts).volumes in
     let number = of.number in
     let more = synced.kept.number in
@@ -166,7 +168,40 @@ held_is {D = D} told lasting size count lending s group p q x g l e of within sy
     subst (λ (t : Option (List (List ℕ))). AreStored t (copies (all_placed (blocks_in_group group s.volumes)) (of_group group s.volumes hs))) (sym (ap (told_of told) (area_device_at s q.groups group is.0 has is.1)))
     (subst (AreStored (told is.0.area.device)) (copies_in_group group 0 s.volumes hs) stored)
 
--- no count changed, as the core is seen
-pub counts_still : {D : Type 0} (count : D → ℕ) (p q : ProviderValue D) (x : SessionsValue) (g : Flags) (l : List ℕ) (e : List Evicted) (w : WorldValue D) → world_of p x g l e ≡ w
-    → counts_of count q.groups ≡ counts_of count p.groups → counts_of count q.groups ≡ map count w.devices
-counts_still {D = D} count p q x g l e w is same = same ∙ ap (λ (z : WorldValue D). map count z.devices) is
+-- what the area's device tells lasts
+area_lasts : {D : Type 0} (told lasting : D → Option (List (List ℕ))) (size count : D → ℕ) (lending : D → Bool) (s : Plan) (group : ℕ) (p q : ProviderValue D) (x : SessionsValue) (l : List ℕ) (e : List Evicted)
+    → IsOf (world_of p x l e) s → group < length s.groups → AreSynced told size count lending p.groups q.groups group → AreLasting told lasting s p.groups q.groups group → LastsAt told lasting (area_place group s.volumes) (devices_of q.groups)
+area_lasts {D = D} told lasting size count lending s group p q x l e of within synced lasts d at =
+    let number = of.number in
+    let more = synced.kept.number in
+    let was = slice_get_inside p.groups group (omega (arith, within, number)) in
+    let is = slice_get_inside q.groups group (omega (arith, within, number, more)) in
+    let there : Some is.0.area.device ≡ Some d = sym (area_device_at s q.groups group is.0 (synced.kept.has s of.groups) is.1) ∙ at in
+    let same : is.0.area.device ≡ d = cc in
+    subst (λ (z : D). lasting z ≡ told z) same (lasts was.0 is.0 was.1 is.1).0
+
+-- what a sync comes to, whatever it answers
+pub record IsSyncOf {D : Type 0} (told lasting : D → Option (List (List ℕ))) (count : D → ℕ) (s : Plan) (group : ℕ) (result : Result Unit DeviceFault) (old new : WorldValue D) : Type 0 where
+  pub held : OnOk result (IsAreaHeld told new s group)
+  pub lasts : OnOk result (LastsAt told lasting (area_place group s.volumes) new.devices)
+  pub same : OnOk result (map count new.devices ≡ map count old.devices)
+  pub fault : IfErr result (λ f. f ≡ Area)
+  pub cause : IsErr result → RoseAlone (area_place group s.volumes) (map count old.devices) (map count new.devices)
+
+pub sync_is : {D : Type 0} (told lasting : D → Option (List (List ℕ))) (size count : D → ℕ) (lending : D → Bool) (s : Plan) (group : ℕ) (result : Result Unit DeviceFault) (p q : ProviderValue D) (x : SessionsValue) (l : List ℕ) (e : List Evicted)
+    → IsOf (world_of p x l e) s → group < length s.groups → AreSynced told size count lending p.groups q.groups group → OnOk result ((r : Plan) → AreLasting told lasting r p.groups q.groups group)
+    → ((r : Plan) → HasGroups r p.groups → HasSyncCause count r group result p.groups q.groups) → IsSyncOf told lasting count s group result (world_of p x l e) (world_of q x l e)
+sync_is told lasting size count lending s group (Ok done) p q x l e of within synced lasts cause = record {
+  held = held_is told lasting size count lending s group p q x l e of within synced (lasts s);
+  lasts = area_lasts told lasting size count lending s group p q x l e of within synced (lasts s);
+  same = cause s of.groups;
+  fault = tt;
+  cause = λ none. cc;
+}
+sync_is told lasting size count lending s group (Err fault) p q x l e of within synced lasts cause = record {
+  held = tt;
+  lasts = tt;
+  same = tt;
+  fault = (cause s of.groups).0;
+  cause = λ is. (cause s of.groups).1;
+}

@@ -1,8 +1,8 @@
 -- Where a line waits.
 use Rattle.std.proofs.Common.{◌≡◌, ℕ, ◌<◌, List, length, refl, ap, sym, ◌∙◌, subst, Bool, Option, Some, None}
 use Rattle.std.specs.Prelude.{is_some, option_map}
-use Rattle.hold_gate.specs.Gate.{Flags}
 use Rattle.vss_names.specs.declared.order.Order.{Order}
+use Rattle.write_history.specs.declared.evicted.Evicted.{Evicted}
 use Rattle.scenario.specs.declared.op.Op.{Op}
 use Rattle.scenario.specs.declared.op.Op.TheVariants.{WriteFill, WriteStamp, Read, ImageDigest, ImageBlock, Query, Properties, Revert, DeleteSet, DeleteImage, Tick, Begin, Disable, Gather, Component, Document, Start, Add, Prepare, Snapshot, Await, Status, Complete, Abort, End}
 use Rattle.scenario.specs.Calls.{call_of}
@@ -12,7 +12,6 @@ use Rattle.set_agenda.specs.Agenda.{is_working, left, open_order}
 use Rattle.coordinator.specs.Coordinator.{works}
 use Rattle.coordinator.specs.OpenOrders.{standing_in}
 use Rattle.coordinator.proofs.Following.{left-is}
-use Rattle.vss_model.specs.declared.evicted.Evicted.{Evicted}
 use Rattle.vss_model.specs.State.{State, left_now}
 use Rattle.vss_model.specs.Acts.{state, may_write, may_call, line_enabled, order_of_writer}
 use Rattle.provider.specs.Preparing.{ProviderValue}
@@ -80,13 +79,13 @@ other_on s st lane Complete e = refl
 other_on s st lane Abort e = refl
 other_on s st lane End e = refl
 
-pub write_goes : {D : Type 0} (blocks_told : D → Option (List (List ℕ))) (s : Plan) (lane v : ℕ) (op : Op) (b : Bool) (p : ProviderValue D) (x : SessionsValue) (g : Flags) (l : List ℕ) (e : List Evicted) → written_by op ≡ Some v → IfStands blocks_told (world_of p x g l e) s (λ st. b ≡ may_write s st lane v)
-    → IfStands blocks_told (world_of p x g l e) s (λ st. b ≡ line_enabled s st lane op)
-write_goes blocks_told s lane v op b p x g l e writes says acts stands = says acts stands ∙ sym (writes_on s (state s acts) lane v op writes)
+pub write_goes : {D : Type 0} (blocks_told : D → Option (List (List ℕ))) (s : Plan) (lane v : ℕ) (op : Op) (b : Bool) (p : ProviderValue D) (x : SessionsValue) (l : List ℕ) (e : List Evicted) → written_by op ≡ Some v → IfStands blocks_told (world_of p x l e) s (λ st. b ≡ may_write s st lane v)
+    → IfStands blocks_told (world_of p x l e) s (λ st. b ≡ line_enabled s st lane op)
+write_goes blocks_told s lane v op b p x l e writes says acts stands = says acts stands ∙ sym (writes_on s (state s acts) lane v op writes)
 
-pub other_goes : {D : Type 0} (blocks_told : D → Option (List (List ℕ))) (s : Plan) (lane : ℕ) (op : Op) (b : Bool) (p : ProviderValue D) (x : SessionsValue) (g : Flags) (l : List ℕ) (e : List Evicted) → written_by op ≡ None → ((st : State) → Keeps x st → b ≡ may_call st lane (call_of op))
-    → IfStands blocks_told (world_of p x g l e) s (λ st. b ≡ line_enabled s st lane op)
-other_goes blocks_told s lane op b p x g l e writes says acts stands = says (state s acts) stands.at.sessions ∙ sym (other_on s (state s acts) lane op writes)
+pub other_goes : {D : Type 0} (blocks_told : D → Option (List (List ℕ))) (s : Plan) (lane : ℕ) (op : Op) (b : Bool) (p : ProviderValue D) (x : SessionsValue) (l : List ℕ) (e : List Evicted) → written_by op ≡ None → ((st : State) → Keeps x st → b ≡ may_call st lane (call_of op))
+    → IfStands blocks_told (world_of p x l e) s (λ st. b ≡ line_enabled s st lane op)
+other_goes blocks_told s lane op b p x l e writes says acts stands = says (state s acts) stands.at.sessions ∙ sym (other_on s (state s acts) lane op writes)
 
 -- the volume of a line that writes
 pub written_within : (s : Plan) (op : Op) (v : ℕ) → written_by op ≡ Some v → IsOp s op → v < length s.volumes
@@ -120,13 +119,13 @@ same_some : (o : Option Order) {X : Type 0} (f : Order → X) → is_some (optio
 same_some None f = refl
 same_some (Some o) f = refl
 
-pub answer_goes : {D : Type 0} (blocks_told : D → Option (List (List ℕ))) (s : Plan) (w : ℕ) (b : Bool) (p : ProviderValue D) (x : SessionsValue) (g : Flags) (l : List ℕ) (e : List Evicted) → ((st : State) → Keeps x st → b ≡ is_some (standing_in st.course w))
-    → IfStands blocks_told (world_of p x g l e) s (λ st. b ≡ is_some (order_of_writer st w))
-answer_goes blocks_told s w b p x g l e says acts stands = says (state s acts) stands.at.sessions ∙ same_some (open_order (left (state s acts).course.agenda) w) _
+pub answer_goes : {D : Type 0} (blocks_told : D → Option (List (List ℕ))) (s : Plan) (w : ℕ) (b : Bool) (p : ProviderValue D) (x : SessionsValue) (l : List ℕ) (e : List Evicted) → ((st : State) → Keeps x st → b ≡ is_some (standing_in st.course w))
+    → IfStands blocks_told (world_of p x l e) s (λ st. b ≡ is_some (order_of_writer st w))
+answer_goes blocks_told s w b p x l e says acts stands = says (state s acts) stands.at.sessions ∙ same_some (open_order (left (state s acts).course.agenda) w) _
 
 pub works_as : (x : SessionsValue) (st : State) → Keeps x st → works x.coordinator ≡ is_working (left_now st)
 works_as x st keeps = ap is_working (left-is x.coordinator.kept st.course keeps.course.follows)
 
-pub step_goes : {D : Type 0} (blocks_told : D → Option (List (List ℕ))) (s : Plan) (b : Bool) (p : ProviderValue D) (x : SessionsValue) (g : Flags) (l : List ℕ) (e : List Evicted) → b ≡ works x.coordinator
-    → IfStands blocks_told (world_of p x g l e) s (λ st. b ≡ is_working (left_now st))
-step_goes blocks_told s b p x g l e says acts stands = says ∙ works_as x (state s acts) stands.at.sessions
+pub step_goes : {D : Type 0} (blocks_told : D → Option (List (List ℕ))) (s : Plan) (b : Bool) (p : ProviderValue D) (x : SessionsValue) (l : List ℕ) (e : List Evicted) → b ≡ works x.coordinator
+    → IfStands blocks_told (world_of p x l e) s (λ st. b ≡ is_working (left_now st))
+step_goes blocks_told s b p x l e says acts stands = says ∙ works_as x (state s acts) stands.at.sessions

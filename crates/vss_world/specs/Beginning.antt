@@ -1,6 +1,5 @@
--- The sessions and the gate before any act, with the scenario's writers, who are registered one after another. (This project's own.)
+-- The sessions before any act, with the scenario's writers, who are registered one after another. (This project's own.)
 use Rattle.std.specs.Prelude.{ℕ, ◌≡◌, length, map, take}
-use Rattle.hold_gate.specs.Gate.{Flags, all_open}
 use Rattle.set_agenda.specs.Course.{course_start}
 use Rattle.coordinator.specs.Coordinator.{CoordinatorState, Registered, Stands, IsOnTime, writer_count}
 use Rattle.scenario.specs.Plan.{Plan, WriterPlan, token}
@@ -25,8 +24,3 @@ pub record AreFirst (s : Plan) (x : SessionsValue) : Type 0 where
   pub writers : IsOf x s
   pub posts : x.coordinator.posts ≡ 0
   pub clock : x.clock ≡ 0
-
--- and no volume is held
-pub record AreBegun (s : Plan) (x : SessionsValue) (g : Flags) : Type 0 where
-  pub sessions : AreFirst s x
-  pub gate : g ≡ all_open (length s.volumes) (length s.writers)

@@ -1,12 +1,12 @@
 -- The sets whose images go for a write, one after the other: the least with an image in the volume's group that is above those before,
 -- and the volumes of the group that have an image of it. (This project's own.)
 use Rattle.std.specs.Prelude.{ℕ, ◌≡◌, ◌≤◌, ◌+◌, ◌==◌, ◌&&◌, Bool, true, false, zero, suc, List, [], ◌∷◌, ◌++◌, length, find, nat_lt, if◌then◌else◌, Option, Some, None, slice_get}
+use Rattle.write_history.specs.declared.evicted.Evicted.{Evicted}
 use Rattle.write_history.specs.History.{History, sets_of}
+use Rattle.write_history.specs.Slots.{evicted_of}
 use Rattle.scenario.specs.declared.volume_row.VolumeRow.{VolumeRow}
 use Rattle.scenario.specs.Plan.{Plan}
 use Rattle.vss_model.specs.State.{State, has_image, is_kept_set}
-use Rattle.vss_model.specs.Effects.{evicted_of}
-use Rattle.vss_model.specs.declared.evicted.Evicted.{Evicted}
 use Rattle.provider.specs.Groups.{IfStandFor, history_at}
 use Rattle.provider.specs.Preparing.{ProviderValue}
 use Rattle.sessions.specs.Keeps.{SessionsValue, Keeps}

@@ -9,3 +9,4 @@ pub mod Steps
 pub mod Evicting
 pub mod Beginning
 pub mod Digests
+pub mod Provided

@@ -1,6 +1,6 @@
 -- What a step of the core promises: it waits exactly where the event is not enabled, and else it is answered as defined, and stands for
 -- the acts with this one. (This project's own.)
-use Rattle.std.specs.Prelude.{ℕ, ◌≡◌, ◌<◌, Bool, true, false, List, [], ◌∷◌, ◌++◌, length, map, Option, Some, None, slice_get}
+use Rattle.std.specs.Prelude.{ℕ, ◌≡◌, ◌<◌, Bool, true, false, List, [], ◌∷◌, ◌++◌, length, map, if◌then◌else◌, Option, Some, None, slice_get}
 use Rattle.vss_names.specs.declared.set_outcome.SetOutcome.TheVariants.{Running}
 use Rattle.writer_state.specs.declared.writer_row.WriterRow.{WriterRow}
 use Rattle.set_agenda.specs.declared.group.Group.TheVariants.{Flush}
@@ -106,6 +106,23 @@ IsStepped blocks_told count old new s event (Moved o) = IsMoved blocks_told coun
 abbrev pub StepLasts : {D : Type 0} → (D → Option (List (List ℕ))) → (D → Option (List (List ℕ))) → WorldValue D → Plan → Reply → Type 0
 StepLasts blocks_told lasting new s Blocked = Unit {0}
 StepLasts {D = D} blocks_told lasting new s (Moved o) = (v : ℕ) (d : D) → o.told ≡ told.Step Flush (Some v) false → slice_get new.devices (volume_place s v) ≡ Some d → lasting d ≡ blocks_told d
+
+-- ## the sets that are listed
+
+-- an answer beside which sets are listed
+abbrev pub lists_sets : Told → Bool
+lists_sets told.Images = true
+lists_sets _ = false
+
+-- what a list is after an answer: a move that lists no sets empties it
+abbrev pub listed_after : Reply → List ℕ → List ℕ
+listed_after Blocked listed = listed
+listed_after (Moved o) listed = if lists_sets o.told then listed else []
+
+-- where a move lists no sets, none is listed after it
+abbrev pub AreListed : Reply → List ℕ → Type 0
+AreListed Blocked listed = Unit {0}
+AreListed (Moved o) listed = lists_sets o.told ≡ false → listed ≡ []
 
 -- what a move comes to that ends no set and loses no writer
 abbrev pub simple_outcome : Told → Outcome

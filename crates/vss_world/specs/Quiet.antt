@@ -26,6 +26,10 @@ pub record AreNew {D : Type 0} (told : D → Option (List (List ℕ))) (s : Plan
 
 -- ## calls that are no acts
 
+-- nothing but the devices in their groups may have changed: the lists of the last step are as they were
+abbrev pub AreDevicesAlone : {D : Type 0} → WorldValue D → WorldValue D → Type 0
+AreDevicesAlone old new = new ≡ record old { devices = new.devices; provider = record old.provider { groups = new.provider.groups } }
+
 -- what it stands for, which devices tell, and what they tell are as they were
 pub record IsQuiet {D : Type 0} (told : D → Option (List (List ℕ))) (count : D → ℕ) (old new : WorldValue D) (s : Plan) : Type 0 where
   pub stands_for : (acts : List Act) → Stands told old s acts → Stands told new s acts
@@ -33,6 +37,7 @@ pub record IsQuiet {D : Type 0} (told : D → Option (List (List ℕ))) (count :
   pub blocks : map told new.devices ≡ map told old.devices
   pub tells : tells_of told s new.devices ≡ tells_of told s old.devices
   pub later : AreLater (map count old.devices) (map count new.devices)
+  pub rest : AreDevicesAlone old new
 
 -- the area of group g was written to its device: what it stands for is as it was, and so is what every other device tells
 pub record IsSynced {D : Type 0} (told : D → Option (List (List ℕ))) (count : D → ℕ) (old new : WorldValue D) (s : Plan) (g : ℕ) : Type 0 where
@@ -41,6 +46,7 @@ pub record IsSynced {D : Type 0} (told : D → Option (List (List ℕ))) (count 
   pub elsewhere : (place : ℕ) → (place ≡ area_place g s.volumes → ⊥) → told_by told new.devices place ≡ told_by told old.devices place
   pub tells : tells_of told s new.devices ≡ tells_of told s old.devices
   pub later : AreLater (map count old.devices) (map count new.devices)
+  pub rest : AreDevicesAlone old new
 
 -- after a sync the area's device holds the copies, at each list of acts that the core stands for
 abbrev pub IsAreaHeld : {D : Type 0} → (D → Option (List (List ℕ))) → WorldValue D → Plan → ℕ → Type 0

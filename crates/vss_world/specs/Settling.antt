@@ -1,29 +1,23 @@
--- What follows from a move of the sessions for the images and for the volumes that are held. (This project's own.)
-use Rattle.std.specs.Prelude.{ℕ, ◌≡◌, ◌||◌, Bool, List, Option, length, if◌then◌else◌}
-use Rattle.hold_gate.specs.Gate.{Flags, all_open}
-use Rattle.set_agenda.specs.Agenda.{is_asking, is_working}
-use Rattle.vss_model.specs.State.{State, left_now}
+-- What follows from a move of the sessions for the images. (This project's own.)
+use Rattle.std.specs.Prelude.{ℕ, ◌≡◌, Bool, List, Option, Some, None, length}
 use Rattle.write_history.specs.History.{History}
 use Rattle.scenario.specs.declared.op.Op.{Op}
 use Rattle.scenario.specs.declared.op.Op.TheVariants.{Add}
 use Rattle.provider.specs.Groups.{history_at}
 use Rattle.provider.specs.Calls.{AreWithout}
 use Rattle.provider.specs.Preparing.{ProviderValue}
-use Rattle.sessions.specs.Keeps.{SessionsValue, Keeps}
-use Rattle.sessions.specs.declared.image_change.ImageChange.{ImageChange}
-use Rattle.sessions.specs.declared.image_change.ImageChange.TheVariants.{NoChange, Cut, Drop}
+use Rattle.sessions.specs.declared.session_move.SessionMove.{SessionMove}
+use Rattle.sessions.specs.Concluded.{failed_set}
 
--- the images of a set went from all volumes, or nothing changed
-abbrev pub IsDroppedFor : {D : Type 0} → (D → Option (List (List ℕ))) → (D → ℕ) → (D → ℕ) → (D → Bool) → ImageChange → ProviderValue D → ProviderValue D → Type 0
-IsDroppedFor told size count lending NoChange old new = new ≡ old
-IsDroppedFor told size count lending (Cut n) old new = ⊥
-IsDroppedFor told size count lending (Drop n) old new = (stood : ℕ) × AreWithout told size count lending old.groups new.groups n stood
+-- the images of a set went from all volumes, where there is a set, and else nothing changed
+abbrev pub IsWithout : {D : Type 0} → (D → Option (List (List ℕ))) → (D → ℕ) → (D → ℕ) → (D → Bool) → Option ℕ → ProviderValue D → ProviderValue D → Type 0
+IsWithout told size count lending None old new = new ≡ old
+IsWithout told size count lending (Some n) old new = (stood : ℕ) × AreWithout told size count lending old.groups new.groups n stood
 
--- whether an agenda runs, by what is asked; where none does the gate was opened, and else it is as it was
-pub record IsOpened (x : SessionsValue) (old new : Flags) : Type 0 where
-  pub running : Bool
-  pub is_running : (st : State) → Keeps x st → running ≡ (is_working (left_now st) || is_asking (left_now st))
-  pub gate : new ≡ (if running then old else all_open (length old.held) (length old.frozen))
+-- the images of the set that failed went, and then those of the set that is released
+abbrev pub IsDroppedFor : {D : Type 0} → (D → Option (List (List ℕ))) → (D → ℕ) → (D → ℕ) → (D → Bool) → SessionMove → ProviderValue D → ProviderValue D → Type 0
+IsDroppedFor {D = D} told size count lending m old new =
+    (mid : ProviderValue D) × IsWithout told size count lending (failed_set m.outcome.result m.outcome.set) old mid × IsWithout told size count lending m.released mid new
 
 -- so many images stand on the volume that a line adds to a set
 abbrev pub AreImagesFor : Op → ℕ → List History → Type 0

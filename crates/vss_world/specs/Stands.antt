@@ -4,9 +4,8 @@ use Rattle.std.specs.Prelude.{ℕ, ◌≡◌, ◌<◌, ◌≤◌, ◌*◌, List,
 use Rattle.set_agenda.specs.declared.member.Member.{Member}
 use Rattle.set_agenda.specs.Agenda.{Agenda}
 use Rattle.scenario.specs.Plan.{Plan}
-use Rattle.hold_gate.specs.Gate.{Flags, is_held as holds}
-use Rattle.vss_model.specs.declared.evicted.Evicted.{Evicted}
-use Rattle.vss_model.specs.State.{State, SetRow, is_held}
+use Rattle.write_history.specs.declared.evicted.Evicted.{Evicted}
+use Rattle.vss_model.specs.State.{State, SetRow}
 use Rattle.vss_model.specs.Acts.{Act, state}
 use Rattle.provider.specs.Groups.{AreGroups, HasGroups}
 use Rattle.provider.specs.Devices.{devices_of}
@@ -24,7 +23,6 @@ pub record WorldValue (D : Type 0) : Type 0 where
   pub evicted : List Evicted
   pub provider : ProviderValue D
   pub sessions : SessionsValue
-  pub gate : Flags
 
 -- ## the scenario
 
@@ -34,13 +32,6 @@ pub record IsOf {D : Type 0} (w : WorldValue D) (s : Plan) : Type 0 where
   pub number : length w.provider.groups ≡ length s.groups
   pub groups : HasGroups s w.provider.groups
   pub writers : IsSessionsOf w.sessions s
-
--- ## the gate
-
--- a volume is held just where its flag says so
-pub record IsGateOf (flags : Flags) (s : Plan) (st : State) : Type 0 where
-  pub volumes : length flags.held ≡ length s.volumes
-  pub held : (v : ℕ) → v < length s.volumes → holds flags v ≡ is_held st v
 
 -- ## numbers
 
@@ -74,7 +65,6 @@ pub record IsInPlan (s : Plan) (st : State) : Type 0 where
 pub record StandsAt {D : Type 0} (told : D → Option (List (List ℕ))) (w : WorldValue D) (s : Plan) (st : State) : Type 0 where
   pub groups : AreGroups told s w.provider.groups st.volumes
   pub sessions : Keeps w.sessions st
-  pub gate : IsGateOf w.gate s st
   pub plan : IsInPlan s st
   -- this follows from the groups
   pub holds : AllTied told s st.volumes w.devices

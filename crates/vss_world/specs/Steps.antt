@@ -1,8 +1,7 @@
--- What a step of the provider does to the provider and to the gate. (This project's own.)
-use Rattle.std.specs.Prelude.{ℕ, ◌≡◌, ◌<◌, length, Bool, true, false, List, Option, Some, None, slice_set}
+-- What a step of the provider does to the provider. (This project's own.)
+use Rattle.std.specs.Prelude.{ℕ, ◌≡◌, ◌<◌, length, Bool, true, false, List, Option, Some, None}
 use Rattle.set_agenda.specs.declared.group.Group.{Group}
-use Rattle.set_agenda.specs.declared.group.Group.TheVariants.{Orders, PreCommit, Flush, Hold, Cut, Commit, Release, PostCommit}
-use Rattle.hold_gate.specs.Gate.{Flags}
+use Rattle.set_agenda.specs.declared.group.Group.TheVariants.{Cut}
 use Rattle.set_agenda.specs.Agenda.{is_among}
 use Rattle.scenario.specs.Plan.{Plan}
 use Rattle.vss_model.specs.State.{State, in_progress, history_of}
@@ -36,19 +35,3 @@ abbrev pub IsFreed : {D : Type 0} → (D → Option (List (List ℕ))) → (D �
 IsFreed told size count lending set true old new = new ≡ old
 IsFreed told size count lending None false old new = new ≡ old
 IsFreed told size count lending (Some n) false old new = (stood : ℕ) × AreWithout told size count lending old.groups new.groups n stood
-
--- a Hold step holds its volume, a Release step lets it go
-abbrev pub flags_at : Group → ℕ → Flags → Flags
-flags_at (Orders o) v f = f
-flags_at PreCommit v f = f
-flags_at Flush v f = f
-flags_at Hold v f = record f { held = slice_set f.held v true }
-flags_at Cut v f = f
-flags_at Commit v f = f
-flags_at Release v f = record f { held = slice_set f.held v false }
-flags_at PostCommit v f = f
-
-abbrev pub IsGated : Group → Option ℕ → Bool → Flags → Flags → Type 0
-IsGated g v false old new = new ≡ old
-IsGated g None true old new = new ≡ old
-IsGated g (Some v) true old new = new ≡ flags_at g v old

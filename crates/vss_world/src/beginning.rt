@@ -1,15 +1,14 @@
 //! What a core begins with beside its groups.
 
-ghost use Rattle.std.specs.Prelude.{◌<◌, ◌+◌, length, IfOk, OnOk};
+ghost use Rattle.std.specs.Prelude.{◌≡◌, ◌<◌, ◌+◌, [], length, IfOk, OnOk};
 ghost use Rattle.scenario.specs.Bounds.{IsPlan};
 ghost use Rattle.scenario.specs.Named.{HasNames};
-ghost use Rattle.vss_world.specs.Beginning.{AreBegun, AreFirst, HasRegistered};
+ghost use Rattle.vss_world.specs.Beginning.{AreFirst, HasRegistered};
 
 use crate::evicted_images::EvictedImages;
 use crate::listed_sets::ListedSets;
 use block_data::BlockBuf;
 use coordinator::{Coordinator, RegisterFault};
-use hold_gate::HoldGate;
 use scenario::Scenario;
 use sessions::Sessions;
 use std::alloc::Global;
@@ -19,7 +18,6 @@ use vss_names::{OutOfMemory, Text};
 #[derive(Drop)]
 pub(crate) struct Rest {
     pub(crate) sessions: Sessions,
-    pub(crate) gate: HoldGate,
     pub(crate) listed: ListedSets,
     pub(crate) evicted: EvictedImages,
     pub(crate) block: BlockBuf,
@@ -28,16 +26,15 @@ pub(crate) struct Rest {
 impl Rest {
     /// As they are before any act.
     pub(crate) fn new(alloc: Global, scenario: &Scenario) -> Result<Rest, OutOfMemory>
-        ensures { IfOk result (λ rest. AreBegun scenario.now rest.sessions rest.gate) }
+        ensures begun { IfOk result (λ rest. AreFirst scenario.now rest.sessions) }
+        ensures empty { IfOk result (λ rest. (rest.listed ≡ []) × (rest.evicted ≡ [])) }
     {
         let sessions = first_sessions(alloc, scenario)?;
-        let gate = HoldGate::new(alloc, scenario.volumes(), scenario.writers())?;
         let listed = ListedSets::new(alloc)?;
         let evicted = EvictedImages::new(alloc)?;
         let block = BlockBuf::zeroed(alloc)?;
         Ok(Rest {
             sessions,
-            gate,
             listed,
             evicted,
             block,

@@ -10,7 +10,7 @@ ghost use Rattle.vss_world.specs.Moves.{IsStepped, takes_for};
 ghost use Rattle.vss_world.specs.Settling.{AreImagesFor};
 
 use crate::reply::Reply;
-use crate::settling::{drop_images, open_gate};
+use crate::settling::drop_images;
 use crate::world::World;
 use provider::Provider;
 use scenario::{Op, Scenario};
@@ -41,8 +41,7 @@ impl<D: Device> World<D> {
         match self.sessions.call(alloc, scenario, lane, op, images)? {
             Called::Waits => Ok(Reply::Blocked),
             Called::Moves(item) => {
-                drop_images(&mut self.provider, item.change);
-                open_gate(&mut self.gate, &self.sessions);
+                drop_images(&mut self.provider, item);
                 self.evicted.clear();
                 Ok(Reply::Moved(item.outcome))
             }

@@ -38,7 +38,7 @@ impl<D: Device> World<D> {
         ensures { IfStands D.told self.now scenario.now (λ st. result ≡ may_write scenario.now st lane volume) }
     {
         let _facts = scenario.volumes();
-        if self.gate.is_held(volume) {
+        if self.sessions.is_held(volume) {
             return false;
         }
         let Some(writer) = scenario.acts_as(lane) else {

@@ -16,7 +16,7 @@ pub(crate) struct EvictedImages {
 
 impl Model for EvictedImages {
     ghost use Rattle.std.specs.Prelude.{◌≤◌, List, length, vec_capacity};
-    ghost use Rattle.vss_model.specs.declared.evicted.Evicted.{Evicted};
+    ghost use Rattle.write_history.specs.declared.evicted.Evicted.{Evicted};
 
     ghost Value = { List Evicted };
 

@@ -38,7 +38,7 @@ impl<D: Device> World<D> {
                 byte,
             } => {
                 let payload = Payload::Fill(byte);
-                Ok(self.write(scenario, lane, op, volume, block, &payload))
+                Ok(self.write(scenario, lane, volume, block, &payload))
             }
             Op::WriteStamp {
                 volume,
@@ -46,7 +46,7 @@ impl<D: Device> World<D> {
                 number,
             } => {
                 let payload = Payload::Stamp(number);
-                Ok(self.write(scenario, lane, op, volume, block, &payload))
+                Ok(self.write(scenario, lane, volume, block, &payload))
             }
             Op::Read { volume, block } => Ok(self.read(scenario, lane, volume, block)),
             Op::ImageDigest { set, volume } => Ok(self.show_image(scenario, lane, set, volume)),

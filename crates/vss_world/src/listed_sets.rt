@@ -39,6 +39,12 @@ impl ListedSets {
         &self.items
     }
 
+    pub(crate) fn clear(&mut self)
+        ensures { self.new ≡ [] }
+    {
+        self.items.clear();
+    }
+
     /// These sets in place of those before.
     pub(crate) fn list(&mut self, sets: &[u32])
         requires { length sets.now ≤ 512 }

@@ -1,36 +1,41 @@
-//! What follows from a move of the sessions for the images and for the volumes that are held.
+//! What follows from a move of the sessions for the images.
 
-ghost use Rattle.std.specs.Prelude.{◌≡◌, false};
-ghost use Rattle.sessions.specs.Moves.{cuts};
-ghost use Rattle.vss_world.specs.Settling.{IsDroppedFor, IsOpened};
+ghost use Rattle.std.specs.Prelude.{◌≡◌};
+ghost use Rattle.sessions.specs.Concluded.{failed_set};
+ghost use Rattle.vss_world.specs.Settling.{IsDroppedFor, IsWithout};
 
-use hold_gate::HoldGate;
 use provider::Provider;
-use sessions::{ImageChange, Sessions};
+use sessions::SessionMove;
 use volume_device::Device;
+use vss_model::Outcome;
+use vss_names::SetOutcome;
 
-/// The images of a set that failed, or that goes with its session, go.
-pub(crate) fn drop_images<D: Device>(provider: &mut Provider<D>, change: ImageChange)
-    requires { cuts change ≡ false }
-    ensures { IsDroppedFor D.told D.size D.count D.lending change provider.old provider.new }
+/// The images of a set that failed go, and those of the set that is released with its session.
+pub(crate) fn drop_images<D: Device>(provider: &mut Provider<D>, item: SessionMove)
+    ensures { IsDroppedFor D.told D.size D.count D.lending item provider.old provider.new }
 {
-    match change {
-        ImageChange::NoChange | ImageChange::Cut(_) => {}
-        ImageChange::Drop(set) => {
+    drop_all_of(provider, failed_set(item.outcome));
+    drop_all_of(provider, item.released);
+}
+
+/// All images of a set go, where there is one.
+fn drop_all_of<D: Device>(provider: &mut Provider<D>, set: Option<u32>)
+    ensures { IsWithout D.told D.size D.count D.lending set provider.old provider.new }
+{
+    match set {
+        None => {}
+        Some(set) => {
             let _ = provider.drop_set(set);
         }
     }
 }
 
-/// Where no agenda runs, no volume is held.
-pub(crate) fn open_gate(gate: &mut HoldGate, sessions: &Sessions)
-    ensures { IsOpened sessions.now gate.old gate.new }
+/// The set that failed in a move.
+fn failed_set(outcome: Outcome) -> Option<u32>
+    ensures { result ≡ failed_set outcome.result outcome.set }
 {
-    if sessions.is_working() {
-        return;
+    match outcome.result {
+        SetOutcome::Failed(_) => Some(outcome.set),
+        SetOutcome::Running | SetOutcome::Complete => None,
     }
-    if sessions.is_asking() {
-        return;
-    }
-    gate.clear();
 }

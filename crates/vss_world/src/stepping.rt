@@ -1,6 +1,6 @@
 //! A step of the provider.
 
-ghost use Rattle.std.specs.Prelude.{◌≡◌, ◌<◌, ◌≤◌, [], true, length, IfSome};
+ghost use Rattle.std.specs.Prelude.{◌≡◌, ◌≤◌, [], true, length};
 ghost use Rattle.set_agenda.specs.Begin.{are_distinct};
 ghost use Rattle.vss_model.specs.State.{State, in_progress};
 ghost use Rattle.vss_model.specs.Sessions.{volumes_of};
@@ -9,12 +9,10 @@ ghost use Rattle.set_agenda.specs.declared.group.Group.TheVariants.{Cut};
 ghost use Rattle.vss_model.specs.declared.event.Event.TheVariants.{Provider as ProviderEvent};
 ghost use Rattle.vss_world.specs.Stands.{IsOf, IsStanding};
 ghost use Rattle.vss_world.specs.Moves.{IsStepped, StepLasts};
-ghost use Rattle.vss_world.specs.Steps.{HasRoom, IsTakenUp, IsFreed, IsGated};
+ghost use Rattle.vss_world.specs.Steps.{HasRoom, IsTakenUp, IsFreed};
 
 use crate::reply::Reply;
-use crate::settling::open_gate;
 use crate::world::World;
-use hold_gate::HoldGate;
 use provider::Provider;
 use scenario::Scenario;
 use sessions::Sessions;
@@ -39,8 +37,6 @@ impl<D: Device> World<D> {
         let ok = made.is_ok();
         free(&mut self.provider, set, ok);
         let item = self.sessions.step(ok);
-        hold(&mut self.gate, next.0, next.1, ok);
-        open_gate(&mut self.gate, &self.sessions);
         self.evicted.clear();
         Reply::Moved(item.outcome)
     }
@@ -94,23 +90,5 @@ fn free<D: Device>(provider: &mut Provider<D>, set: Option<u32>, ok: bool)
     }
     if let Some(set) = set {
         let _ = provider.drop_set(set);
-    }
-}
-
-/// A step that was made holds the volume's writes, or lets them go on.
-fn hold(gate: &mut HoldGate, group: Group, volume: Option<u32>, ok: bool)
-    requires { IfSome volume (λ v. v < length gate.old.held) }
-    ensures { IsGated group volume ok gate.old gate.new }
-{
-    if !ok {
-        return;
-    }
-    let Some(volume) = volume else {
-        return;
-    };
-    match group {
-        Group::Hold => gate.hold(volume),
-        Group::Release => gate.release(volume),
-        _ => {}
     }
 }

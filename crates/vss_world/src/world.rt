@@ -1,4 +1,4 @@
-ghost use Rattle.std.specs.Prelude.{ℕ, ◌≡◌, ◌<◌, ◌≤◌, Bool, true, List, [], length, map, slice_get, Option, Some, None, is_some, OnErr, OnOk, IfOk, IsErr, IsOk, All};
+ghost use Rattle.std.specs.Prelude.{ℕ, ◌≡◌, ◌<◌, ◌≤◌, Bool, true, List, [], length, map, slice_get, Option, Some, None, is_some, OnErr, OnOk, IfOk, IfErr, IsErr, IsOk, All};
 ghost use Rattle.std.specs.List.{concat};
 ghost use Rattle.write_history.specs.History.{contents, point_in, sets_of};
 ghost use Rattle.write_history.specs.Slots.{used};
@@ -9,11 +9,13 @@ ghost use Rattle.vss_model.specs.Acts.{Act, state, enabled};
 ghost use Rattle.vss_model.specs.State.{history_of, kept};
 ghost use Rattle.vss_model.specs.Told.{IsDigestIf};
 ghost use Rattle.vss_model.specs.declared.event.Event.TheVariants.{Line, Provider as ProviderEvent, Idle, Answer as AnswerEvent};
-ghost use Rattle.provider.specs.Devices.{devices_of, area_place, RoseAlone};
-ghost use Rattle.vss_world.specs.Devices.{tells_of, RoseFor};
+ghost use Rattle.provider.specs.Devices.{devices_of, area_place, failed_place, RoseAlone};
+ghost use Rattle.provider.specs.Preparing.{LastsAt};
+ghost use Rattle.provider.specs.declared.device_fault.DeviceFault.TheVariants.{Area};
+ghost use Rattle.vss_world.specs.Devices.{tells_of};
 ghost use Rattle.vss_world.specs.Digests.{IsDigestedIf};
 ghost use Rattle.vss_world.specs.Stands.{IsOf, Stands, IsStanding, IfStands};
-ghost use Rattle.vss_world.specs.Moves.{IsEvent, IsStepped, IsMoved, StepLasts, takes_memory, simple_outcome};
+ghost use Rattle.vss_world.specs.Moves.{IsEvent, IsStepped, IsMoved, StepLasts, AreListed, listed_after, lists_sets, takes_memory, simple_outcome};
 ghost use Rattle.vss_world.specs.Quiet.{AreNew, IsQuiet, IsSynced, IsAreaHeld};
 
 use crate::beginning::Rest;
@@ -23,17 +25,16 @@ use crate::reply::Reply;
 use crate::showing::kept_sets;
 use block_data::BlockBuf;
 use cow_volume::CowGroup;
-use hold_gate::HoldGate;
 use lent_digests::{DigestsOf, ReadyDigests};
-use provider::Provider;
+use provider::{DeviceFault, ImageFault, Provider};
 use scenario::Scenario;
 use sessions::Sessions;
 use std::alloc::Global;
 use std::marker::Model;
 use std::thread::Threads;
 use volume_device::Device;
-use vss_model::{Event, Evicted};
-use vss_names::{Failed, OutOfMemory};
+use vss_model::{Event, Evicted, Told};
+use vss_names::OutOfMemory;
 use writer_calls::Standing;
 use writer_state::WriterRow;
 
@@ -42,8 +43,6 @@ use writer_state::WriterRow;
 pub struct World<D: Device> {
     pub(crate) provider: Provider<D>,
     pub(crate) sessions: Sessions,
-    /// Which volumes' writes are held.
-    pub(crate) gate: HoldGate,
     pub(crate) listed: ListedSets,
     pub(crate) evicted: EvictedImages,
     /// A block of a device that does not lend.
@@ -56,7 +55,7 @@ impl<D: Device> Model for World<D> {
 
     ghost Value = { WorldValue D };
 
-    ghost view = { λ w. record { devices = devices_of w.provider.groups; listed = w.listed; evicted = w.evicted; provider = w.provider; sessions = w.sessions; gate = w.gate } };
+    ghost view = { λ w. record { devices = devices_of w.provider.groups; listed = w.listed; evicted = w.evicted; provider = w.provider; sessions = w.sessions } };
 }
 
 impl<D: Device> World<D> {
@@ -71,6 +70,8 @@ impl<D: Device> World<D> {
         ensures stands { IfOk result (λ world. Stands D.told world scenario.now []) }
         ensures of { IfOk result (λ world. IsOf world scenario.now) }
         ensures devices { IfOk result (λ world. world.devices ≡ devices_of groups.items) }
+        ensures listed { IfOk result (λ world. world.listed ≡ []) }
+        ensures evicted { IfOk result (λ world. world.evicted ≡ []) }
     {
         let _volumes = scenario.volumes();
         let _groups = scenario.groups();
@@ -81,7 +82,6 @@ impl<D: Device> World<D> {
             Ok(provider) => Ok(World {
                 provider,
                 sessions: rest.sessions,
-                gate: rest.gate,
                 listed: rest.listed,
                 evicted: rest.evicted,
                 block: rest.block,
@@ -104,12 +104,44 @@ impl<D: Device> World<D> {
         ensures takes { IsErr result → takes_memory event ≡ true }
         ensures stepped { IfOk result (IsStepped D.told D.count self.old self.new scenario.now event) }
         ensures lasts { event ≡ ProviderEvent → IfOk result (StepLasts D.told D.lasting self.new scenario.now) }
+        ensures listed { IfOk result (λ reply. AreListed reply self.new.listed) }
+    {
+        let reply = self.make(alloc, scenario, event)?;
+        self.end_listing(reply);
+        Ok(reply)
+    }
+
+    /// Makes an event, where it is enabled. What an earlier step listed stays listed.
+    fn make(
+        &mut self,
+        alloc: Global,
+        scenario: &Scenario,
+        event: Event,
+    ) -> Result<Reply, OutOfMemory>
+        requires of { IsOf self.old scenario.now }
+        requires standing { IsStanding D.told self.old scenario.now }
+        requires in_range { IsEvent scenario.now event }
+        ensures memory { OnErr result (self.new ≡ self.old) }
+        ensures takes { IsErr result → takes_memory event ≡ true }
+        ensures stepped { IfOk result (IsStepped D.told D.count self.old self.new scenario.now event) }
+        ensures lasts { event ≡ ProviderEvent → IfOk result (StepLasts D.told D.lasting self.new scenario.now) }
     {
         match event {
             Event::Line { lane, op } => self.line(alloc, scenario, lane, op),
             Event::Answer { writer, answer } => Ok(self.answer(scenario, writer, answer)),
             Event::Provider => Ok(self.make_step(scenario)),
             Event::Idle => Ok(self.idle(scenario)),
+        }
+    }
+
+    /// After a move that lists no sets, none is listed.
+    fn end_listing(&mut self, reply: Reply)
+        ensures { self.new ≡ record self.old { listed = listed_after reply self.old.listed } }
+    {
+        if let Reply::Moved(outcome) = reply {
+            if !lists_sets(outcome.told) {
+                self.listed.clear();
+            }
         }
     }
 
@@ -157,7 +189,7 @@ impl<D: Device> World<D> {
         self.sessions.rows()[writer as usize]
     }
 
-    /// The sets that the last step listed.
+    /// The sets that the last step listed; none where it listed none.
     pub fn listed(&self) -> &[u32]
         ensures sets { result.now ≡ self.now.listed }
         ensures few { length result.now ≤ 512 }
@@ -165,7 +197,7 @@ impl<D: Device> World<D> {
         self.listed.items()
     }
 
-    /// The kept images that the last step evicted, in order of sets and then of volumes.
+    /// The kept images that the last step evicted, in order of sets and then of volumes; none where it evicted none.
     pub fn evicted(&self) -> &[Evicted]
         ensures images { result.now ≡ self.now.evicted }
         ensures few { length result.now ≤ 65536 }
@@ -200,19 +232,16 @@ impl<D: Device> World<D> {
     }
 
     /// The SHA-256 of all blocks of a volume, in order.
-    pub fn digest(&mut self, scenario: &Scenario, volume: u32) -> Result<[u8; 32], Failed>
+    pub fn digest(&mut self, scenario: &Scenario, volume: u32) -> Result<[u8; 32], DeviceFault>
         requires of { IsOf self.old scenario.now }
         requires in_range { volume < length scenario.now.volumes }
         ensures digest { IfOk result (λ digest. IfStands D.told self.old scenario.now (λ st. IsDigestIf (slice_get (tells_of D.told scenario.now self.old.devices) volume)
             (concat (contents (blocks_of scenario.now volume) (history_of st volume).writes (length (history_of st volume).writes))) digest)) }
         ensures quiet { IsQuiet D.told D.count self.old self.new scenario.now }
         ensures same { OnOk result (map D.count self.new.devices ≡ map D.count self.old.devices) }
-        ensures cause { IsErr result → RoseFor scenario.now (Some volume) (map D.count self.old.devices) (map D.count self.new.devices) }
+        ensures cause { IfErr result (λ fault. RoseAlone (failed_place scenario.now volume fault) (map D.count self.old.devices) (map D.count self.new.devices)) }
     {
-        match self.provider.digest(scenario, volume) {
-            Ok(digest) => Ok(digest),
-            Err(_fault) => Err(Failed),
-        }
+        self.provider.digest(scenario, volume)
     }
 
     /// The SHA-256 of all blocks of a kept image, in order.
@@ -221,7 +250,7 @@ impl<D: Device> World<D> {
         scenario: &Scenario,
         set: u32,
         volume: u32,
-    ) -> Result<[u8; 32], Failed>
+    ) -> Result<[u8; 32], DeviceFault>
         requires of { IsOf self.old scenario.now }
         requires standing { IsStanding D.told self.old scenario.now }
         requires in_range { volume < length scenario.now.volumes }
@@ -230,11 +259,12 @@ impl<D: Device> World<D> {
             → IsDigestIf (slice_get (tells_of D.told scenario.now self.old.devices) volume) (concat (contents (blocks_of scenario.now volume) (history_of st volume).writes point)) digest)) }
         ensures quiet { IsQuiet D.told D.count self.old self.new scenario.now }
         ensures same { OnOk result (map D.count self.new.devices ≡ map D.count self.old.devices) }
-        ensures cause { IsErr result → RoseFor scenario.now (Some volume) (map D.count self.old.devices) (map D.count self.new.devices) }
+        ensures cause { IfErr result (λ fault. RoseAlone (failed_place scenario.now volume fault) (map D.count self.old.devices) (map D.count self.new.devices)) }
     {
         match self.provider.digest_image(scenario, set, volume) {
             Ok(digest) => Ok(digest),
-            Err(_fault) => Err(Failed),
+            Err(ImageFault::Device(fault)) => Err(fault),
+            Err(ImageFault::NoSuchImage) => unreachable!(),
         }
     }
 
@@ -256,24 +286,23 @@ impl<D: Device> World<D> {
     }
 
     /// Writes the records of a group's copies to its area's device, and brings all that was written to that to where it lasts.
-    pub fn sync(&mut self, scenario: &Scenario, group: u32) -> Result<(), Failed>
+    pub fn sync(&mut self, scenario: &Scenario, group: u32) -> Result<(), DeviceFault>
         requires of { IsOf self.old scenario.now }
         requires in_range { group < length scenario.now.groups }
         ensures synced { IsSynced D.told D.count self.old self.new scenario.now group }
         ensures held { OnOk result (IsAreaHeld D.told self.new scenario.now group) }
+        ensures lasts { OnOk result (LastsAt D.told D.lasting (area_place group scenario.now.volumes) self.new.devices) }
         ensures same { OnOk result (map D.count self.new.devices ≡ map D.count self.old.devices) }
+        ensures fault { IfErr result (λ fault. fault ≡ Area) }
         ensures cause { IsErr result → RoseAlone (area_place group scenario.now.volumes) (map D.count self.old.devices) (map D.count self.new.devices) }
     {
         let _volumes = scenario.volumes();
-        match self.provider.sync(group) {
-            Ok(()) => Ok(()),
-            Err(_fault) => Err(Failed),
-        }
+        self.provider.sync(group)
     }
 
     /// The groups, as they are.
     pub fn into_groups(self) -> Vec<CowGroup<D>>
-        ensures { devices_of result.items ≡ self.devices }
+        ensures { result.items ≡ self.provider.groups }
     {
         self.provider.into_groups()
     }
@@ -283,5 +312,15 @@ impl<D: Device> World<D> {
         ensures { result.items ≡ self.devices }
     {
         self.provider.into_devices()
+    }
+}
+
+/// Whether sets are listed beside an answer.
+fn lists_sets(told: Told) -> bool
+    ensures { result ≡ lists_sets told }
+{
+    match told {
+        Told::Images => true,
+        _ => false,
     }
 }

@@ -3,6 +3,7 @@
 ghost use Rattle.std.specs.Prelude.{◌≡◌, ◌<◌, length};
 ghost use Rattle.block_data.specs.PayloadBytes.{payload_bytes};
 ghost use Rattle.scenario.specs.Bounds.{IsBlock};
+ghost use Rattle.scenario.specs.declared.op.Op.{Op};
 ghost use Rattle.vss_model.specs.declared.event.Event.TheVariants.{Line};
 ghost use Rattle.vss_world.specs.Stands.{IsOf, IsStanding};
 ghost use Rattle.vss_world.specs.Moves.{IsStepped};
@@ -14,19 +15,18 @@ use crate::reply::Reply;
 use crate::world::World;
 use block_data::Payload;
 use provider::DeviceFault;
-use scenario::{Op, Scenario};
+use scenario::Scenario;
 use volume_device::Device;
 use vss_model::{Outcome, Told};
 use vss_names::{SetOutcome, VssResult};
 
 impl<D: Device> World<D> {
     /// Writes a block, where that does not wait. Where images have to go for it, and one of the set in progress is among them, the set
-    /// fails.
+    /// fails. It is the step of each line that makes this write.
     pub(crate) fn write(
         &mut self,
         scenario: &Scenario,
         lane: u32,
-        op: Op,
         volume: u32,
         block: u32,
         payload: &Payload,
@@ -35,8 +35,7 @@ impl<D: Device> World<D> {
         requires standing { IsStanding D.told self.old scenario.now }
         requires lane { lane < length scenario.now.lanes }
         requires in_range { IsBlock scenario.now volume block }
-        requires line { IsWriteLine op volume (record { block = block; bytes = payload_bytes payload.now }) }
-        ensures { IsStepped D.told D.count self.old self.new scenario.now (Line lane op) result }
+        ensures { (op : Op) → IsWriteLine op volume (record { block = block; bytes = payload_bytes payload.now }) → IsStepped D.told D.count self.old self.new scenario.now (Line lane op) result }
     {
         if !self.may_write(scenario, lane, volume) {
             return Reply::Blocked;
@@ -62,7 +61,6 @@ impl<D: Device> World<D> {
         let why = VssResult::InsufficientStorage;
         let _ = self.sessions.fail(why);
         let _ = self.provider.drop_set(set);
-        self.gate.clear();
         Reply::Moved(Outcome {
             told: answer,
             lost: 0,

@@ -5,6 +5,7 @@
 -- shadow copies deleted first, are the SDK's; sharing by groups is this project's own.)
 use Rattle.std.specs.Prelude.{ℕ, ◌+◌, Bool, false, List, [], ◌∷◌, ◌++◌, length, drop, map, ◌==◌, ◌&&◌, not, if◌then◌else◌, Option, Some, None, find, unwrap_or, slice_get, slice_range}
 use Rattle.std.specs.List.{range_with_len}
+use Rattle.write_history.specs.declared.evicted.Evicted.{Evicted}
 use Rattle.write_history.specs.History.{Write, Image, History, content, names, blocks_named, after_set}
 
 -- ## one volume
@@ -67,6 +68,10 @@ lacks_slot slots ps v b hs = needs_slot_in (slice_get hs v) b && (group_used ps 
 abbrev pub evicted_up_to : ℕ → ℕ → List Placed → ℕ → ℕ → List History → ℕ
 evicted_up_to sets slots ps v b hs =
     unwrap_or (find (λ m. not (lacks_slot slots ps v b (gone_up_to m ps hs))) (range_with_len 0 sets)) sets
+
+-- the images of a set on these volumes
+abbrev pub evicted_of : ℕ → List ℕ → List Evicted
+evicted_of n vs = map (λ v. record { set = n; volume = v }) vs
 
 -- ## the copies of an area
 

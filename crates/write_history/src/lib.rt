@@ -7,11 +7,13 @@
 #![tactic(auto)]
 
 mod actor;
+mod evicted;
 mod mark;
 mod move_item;
 mod trail;
 
 pub use actor::Actor;
+pub use evicted::Evicted;
 pub use mark::Mark;
 pub use move_item::Move;
 pub use trail::{MOST_MOVES, Trail, TrailFault};

@@ -1,7 +1,8 @@
-use Rattle.std.proofs.Common.{Some, None}
+use Rattle.std.proofs.Common.{Some}
+use Rattle.provider.specs.Devices.{failed_place}
 use Rattle.vss_world.specs.Devices.{tells_of}
-use Rattle.vss_world.specs.Digests.{IsDigestOf}
-use Rattle.vss_play.proofs.ClosingLines.{after_trail, quiet_same, ready_is, rose_of}
+use Rattle.vss_model.specs.Trail.{acts}
+use Rattle.vss_play.proofs.ClosingLines.{quiet_same, ready_is, rose_at}
 use Rattle.vss_play.proofs.end_digests.digest_image.Goals as goal
 
 pub returns-in-Some-clause-digest : goal.returns-in-Some-clause-digest
@@ -11,9 +12,8 @@ returns-in-Some-clause-digest g c =
 pub returns-in-Some-clause-quiet : goal.returns-in-Some-clause-quiet
 returns-in-Some-clause-quiet g c = quiet_same g.D.Device.told g.D.Device.count c.args.world.now c.args.scenario.now c.requires.stands.of
 
-pub returns-in-None-clause-digest : goal.returns-in-None-clause-digest
-returns-in-None-clause-digest g c =
-    after_trail g.D.Device.told c.args.world.now c.args.scenario.now c.args.trail.now.moves (λ st. IsDigestOf (tells_of g.D.Device.told c.args.scenario.now c.args.world.now.devices) c.args.scenario.now st c.args.volume (Some c.args.set)) c.digest_image.result c.requires.stands c.digest_image.ensures.digest
+pub returns-in-Ok-clause-digest : goal.returns-in-Ok-clause-digest
+returns-in-Ok-clause-digest g c = c.in-Ok.ensures.digest (acts c.args.scenario.now c.args.trail.now.moves) c.requires.stands.stands
 
-pub returns-in-None-clause-rose : goal.returns-in-None-clause-rose
-returns-in-None-clause-rose g c = λ e. rose_of c.args.scenario.now c.args.volume _ _ (c.digest_image.ensures.cause e)
+pub returns-in-Err-clause-rose : goal.returns-in-Err-clause-rose
+returns-in-Err-clause-rose g c = λ e. rose_at (failed_place c.args.scenario.now c.args.volume c.in-Err._fault) _ _ c.in-Err.ensures.cause

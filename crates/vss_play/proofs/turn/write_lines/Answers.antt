@@ -1,6 +1,6 @@
 use Rattle.std.proofs.Common.{arith, ◌<◌, List, length, sym, subst}
 use Rattle.std.specs.Prelude.{All}
-use Rattle.vss_model.specs.declared.evicted.Evicted.{Evicted}
+use Rattle.write_history.specs.declared.evicted.Evicted.{Evicted}
 use Rattle.vss_play.proofs.OneMove.{written_as}
 use Rattle.vss_play.proofs.turn.write_lines.Goals as goal
 

@@ -27,4 +27,5 @@ loop-after-preserved g c = record {
 
 pub returns : goal.returns
 returns g c =
-    ends_at g.D.Device.told c.args.provider.now c.args.sessions.now c.args.scenario.now c.args.volume c.args.block c.loop-after.after c.args.up_to c.volume-row.result c.loop-after.evicted c.volume-row.ensures c.loop-after.invariant.within c.loop-after-test.false c.requires.goes c.loop-after.invariant.so_far
+    ends_at g.D.Device.told c.args.provider.now c.args.sessions.now c.args.scenario.now c.args.volume c.args.block c.loop-after.after c.args.up_to c.volume-row.result c.loop-after.evicted c.volume-row.ensures c.loop-after.invariant.within c.loop-after-test.false
+    c.requires.goes c.loop-after.invariant.so_far

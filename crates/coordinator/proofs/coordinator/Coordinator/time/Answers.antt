@@ -12,19 +12,19 @@ use Rattle.coordinator.proofs.coordinator.Coordinator.time.Goals as goal
 pub invariant_of-self : goal.invariant_of-self
 invariant_of-self c =
     let sound = c.self.invariant.0 in (
-      sound-after c.self.inside.kept c.post.new.self (timed c.args.now sound.course) (ap length c.post.ensures.rows ∙ c.treat.ensures.len) c.post.ensures.boxes (ap kind_if_done c.post.ensures.running ∙ c.treat.ensures.live sound.live)
-          (timed-stands c.self.inside.kept c.treat.new.self c.post.new.self c.of-before.result.place sound.course c.spent-spent.result c.args.now (c.spent-spent.ensures sound.course sound.stands.follows) c.treat.ensures.mailboxes (c.treat.ensures.follows sound.course sound.stands.follows) c.post.ensures.stands (c.of-before.ensures sound.course sound.stands.follows).place sound.stands) sound,
-      c.self.invariant.1 ∙ sym (ap length c.post.ensures.rows ∙ c.treat.ensures.len),
-      c.post.ensures.sent c.self.inside.posts (subst (SentAtMost c.self.inside.posts) (sym c.treat.ensures.mailboxes) c.self.invariant.2),
+      sound-after c.self.inside.kept c.post.new.self (timed c.args.now sound.course) (ap length c.post.ensures.rows ∙ c.treat.ensures.keeps.len) c.post.ensures.boxes (ap kind_if_done c.post.ensures.running ∙ c.treat.ensures.live sound.live)
+          (timed-stands c.self.inside.kept c.treat.new.self c.post.new.self c.of-before.result.place sound.course c.spent-spent.result c.args.now (c.spent-spent.ensures sound.course sound.stands.follows) c.treat.ensures.keeps.mailboxes (c.treat.ensures.follows sound.course sound.stands.follows) c.post.ensures.stands (c.of-before.ensures sound.course sound.stands.follows).place sound.stands) sound,
+      c.self.invariant.1 ∙ sym (ap length c.post.ensures.rows ∙ c.treat.ensures.keeps.len),
+      c.post.ensures.sent c.self.inside.posts (subst (SentAtMost c.self.inside.posts) (sym c.treat.ensures.keeps.mailboxes) c.self.invariant.2),
     )
 
 pub returns-clause-stands : goal.returns-clause-stands
-returns-clause-stands c = λ d h. let g = held _ c.args.self.now d c.self.view_is h in timed-stands c.self.inside.kept c.treat.new.self c.post.new.self c.of-before.result.place d c.spent-spent.result c.args.now (c.spent-spent.ensures d g.follows) c.treat.ensures.mailboxes (c.treat.ensures.follows d g.follows) c.post.ensures.stands (c.of-before.ensures d g.follows).place g
+returns-clause-stands c = λ d h. let g = held _ c.args.self.now d c.self.view_is h in timed-stands c.self.inside.kept c.treat.new.self c.post.new.self c.of-before.result.place d c.spent-spent.result c.args.now (c.spent-spent.ensures d g.follows) c.treat.ensures.keeps.mailboxes (c.treat.ensures.follows d g.follows) c.post.ensures.stands (c.of-before.ensures d g.follows).place g
 
 pub returns-clause-tells : goal.returns-clause-tells
 returns-clause-tells c = λ d h.
     let g = held _ c.args.self.now d c.self.view_is h in
-    let t = c.effects.ensures (is_some d.agenda) d (timed c.args.now d) (c.of-before.ensures d g.follows) (timed-stands c.self.inside.kept c.treat.new.self c.post.new.self c.of-before.result.place d c.spent-spent.result c.args.now (c.spent-spent.ensures d g.follows) c.treat.ensures.mailboxes (c.treat.ensures.follows d g.follows) c.post.ensures.stands (c.of-before.ensures d g.follows).place g).follows in
+    let t = c.effects.ensures (is_some d.agenda) d (timed c.args.now d) (c.of-before.ensures d g.follows) (timed-stands c.self.inside.kept c.treat.new.self c.post.new.self c.of-before.result.place d c.spent-spent.result c.args.now (c.spent-spent.ensures d g.follows) c.treat.ensures.keeps.mailboxes (c.treat.ensures.follows d g.follows) c.post.ensures.stands (c.of-before.ensures d g.follows).place g).follows in
     let lost = c.lost_by-lost.ensures ∙ lost-told c.self.inside.kept d c.spent-spent.result c.args.now (c.spent-spent.ensures d g.follows) g.follows in
     record {
       frozen = t.frozen;
@@ -36,4 +36,4 @@ returns-clause-tells c = λ d h.
     }
 
 pub post-requires-clause-room : goal.post-requires-clause-room
-post-requires-clause-room c = room-of c.self.inside.kept.mailboxes _ c.self.inside.posts (c.treat.ensures.mailboxes) (search rules) c.self.invariant.2
+post-requires-clause-room c = room-of c.self.inside.kept.mailboxes _ c.self.inside.posts (c.treat.ensures.keeps.mailboxes) (search rules) c.self.invariant.2

@@ -12,6 +12,7 @@ returns c = record {
     opened = refl;
     freeze_opened = refl;
     held = refl;
+    own = λ v e. cc;
   };
   times = record { opened = grind arith; freeze_opened = grind arith; held = λ t e. cc };
 }

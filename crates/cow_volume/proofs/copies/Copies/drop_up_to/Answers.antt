@@ -1,7 +1,14 @@
-use Rattle.std.proofs.Common.{◌∙◌, ap, length, arith}
-use Rattle.cow_volume.specs.CopiesAfter.{after_gone_on}
+use Rattle.std.proofs.Common.{◌≡◌, ◌∙◌, ℕ, ap, subst, length, arith}
+use Rattle.std.proofs.lemmas.Bool.Decides.{nat_tests}
+use Rattle.cow_volume.specs.CopiesAfter.{after_gone, after_gone_on}
 use Rattle.cow_volume.proofs.GoingUpTo.{part_none, part_more, part_all}
+use Rattle.cow_volume.proofs.MakingRoom.{gone_nothing}
 use Rattle.cow_volume.proofs.copies.Copies.drop_up_to.Goals as goal
+
+pub returns-then-set-eq0 : goal.returns-then-set-eq0
+returns-then-set-eq0 g c =
+    let none : 0 ≡ c.args.set = grind (arith, nat_tests) in
+    subst (λ (n : ℕ). c.args.self.now ≡ after_gone c.args.self.now n) none (gone_nothing c.args.self.now c.slots-facts.ensures.valid c.volumes-facts.ensures.of_images)
 
 pub loop-v-init : goal.loop-v-init
 loop-v-init g c = part_none c.args.self.now c.args.set

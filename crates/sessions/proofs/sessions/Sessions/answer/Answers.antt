@@ -1,4 +1,4 @@
-use Rattle.std.proofs.Common.{◌≡◌, ℕ, sym, ap, ◌∙◌, subst}
+use Rattle.std.proofs.Common.{◌≡◌, ℕ, sym, ◌∙◌, subst}
 use Rattle.writer_calls.specs.Script.{said_of}
 use Rattle.set_agenda.specs.Course.{answered as course_answered}
 use Rattle.scenario.specs.Plan.{Plan}
@@ -8,7 +8,6 @@ use Rattle.vss_model.specs.Ending.{runs, followed}
 use Rattle.sessions.specs.declared.session_move.SessionMove.{SessionMove}
 use Rattle.sessions.specs.Keeps.{Keeps, IsAt}
 use Rattle.sessions.specs.Concluded.{IsTold}
-use Rattle.sessions.specs.Told.{told_with}
 use Rattle.sessions.proofs.Disabled.{disabled_answered}
 use Rattle.sessions.proofs.Failing.{mid_keeps, times_at}
 use Rattle.sessions.proofs.Moving.{Happens, happens_moves}
@@ -22,7 +21,7 @@ happens c s st found =
     let tells = c.in-Ok.ensures.tells st.course kept.course in
     let times = times_at _ _ c.self.inside.coordinator c.answered.new.self c.now-now.ensures.ticks c.in-Ok.ensures.times kept.on_time in
     let mid = mid_keeps (record { requestor = c.self.inside.requestor; coordinator = c.self.inside.coordinator; sets = c.self.inside.sets; clock = c.self.inside.clock; selection = c.self.inside.selection }) c.answered.new.self st (course_answered c.args.writer (said_of c.args.answer) c.now-now.result st.course) kept (c.in-Ok.ensures.stands st.course kept.course) c.in-Ok.ensures.count times (disabled_answered c.args.writer (said_of c.args.answer) c.now-now.result st.course) in
-    subst (λ (m : SessionMove). Happens s st (AnswerEvent c.args.writer c.args.answer) c.conclude-ended.new.self m) (sym (c.with.ensures ∙ ap (told_with _ c.conclude-ended.result) c.change_after.ensures.change))
+    subst (λ (m : SessionMove). Happens s st (AnswerEvent c.args.writer c.args.answer) c.conclude-ended.new.self m) (sym c.with.ensures)
     (answer_happens s c.conclude-ended.new.self c.args.writer c.args.answer c.in-Some.standing.order c.conclude-ended.result st
     (order_is st.course c.args.writer c.in-Some.standing (sym c.in-Some.is ∙ c.poll.ensures st.course kept.course))
     (subst (λ (x : State). Keeps c.conclude-ended.new.self x) (sym (answered_is c.args.writer (said_of c.args.answer) st))

@@ -7,7 +7,6 @@ use Rattle.vss_model.specs.State.{SetRow, in_progress}
 use Rattle.vss_model.specs.Sessions.{volumes_of}
 use Rattle.sessions.specs.Sets.{running_in}
 use Rattle.sessions.specs.Keeps.{Keeps}
-use Rattle.sessions.specs.Told.{told_with}
 use Rattle.sessions.proofs.Disabled.{disabled_begun_as}
 use Rattle.sessions.proofs.Failing.{mid_keeps}
 use Rattle.sessions.proofs.Beginning.{begun_same, begun_so}
@@ -25,6 +24,6 @@ returns-clause-begun c st k order kept0 is =
     let times = subst (λ (n : ℕ). IsOnTime n c.begin_agenda.new.self) c.now-now.ensures.ticks c.in_ok-effects.ensures.times in
     let disabled = ap (λ (d : Course). d.disabled) (sym same) ∙ disabled_begun_as c.args.kind c.self.inside.coordinator.writers (c.self.inside.selection) c.volumes.result.now c.now-now.result st.course in
     let mid = mid_keeps (record { requestor = c.self.inside.requestor; coordinator = c.self.inside.coordinator; sets = c.self.inside.sets; clock = c.self.inside.clock; selection = c.self.inside.selection }) c.begin_agenda.new.self st k kept stands c.begin_agenda.ensures.count times disabled in
-    begun_so c.conclude-ended.new.self st k c.conclude-ended.result c.with.result (c.with.ensures ∙ ap (told_with _ c.conclude-ended.result) c.change_after.ensures.change)
+    begun_so c.conclude-ended.new.self st k c.conclude-ended.result c.with.result c.with.ensures
     (c.conclude-ended.ensures.keeps st k true order mid tells.outcome tells.agenda_ended)
     (c.conclude-ended.ensures.told st k true order mid tells.outcome tells.agenda_ended)

@@ -14,4 +14,4 @@ returns-clause-keeps c = concluded_then c.args.self.now c.end_so.new.self c.args
 
 pub returns-clause-told : goal.returns-clause-told
 returns-clause-told c = rw (← c.self.view_is) (told_then (record { requestor = c.self.inside.requestor; coordinator = c.self.inside.coordinator; sets = c.self.inside.sets; clock = c.self.inside.clock; selection = c.self.inside.selection }) c.args.outcome c.args.agenda_ended c.current-current.result c.ends_as.result
-    (sym c.ends.ensures ∙ c.if-not-ends.false) c.current-current.ensures c.ends_as.ensures.ended)
+    (sym c.ends.ensures ∙ c.if-not-ends.false) c.current-current.ensures c.ends_as.ensures)

@@ -6,7 +6,7 @@ use Rattle.cow_volume.specs.Room.{lacks_copy, is_full}
 use Rattle.cow_volume.specs.Parts.{group_of}
 use Rattle.cow_volume.proofs.GroupSteps.{device_at, device_within, fits_set}
 use Rattle.cow_volume.proofs.GroupWrites.{put_again, and_rest, put_size}
-use Rattle.cow_volume.proofs.cow_group.CowGroup.write_with_room.Goals as goal
+use Rattle.cow_volume.proofs.cow_group.CowGroup.put.Goals as goal
 
 pub write_first-requires-clause-lacks : goal.write_first-requires-clause-lacks
 write_first-requires-clause-lacks g c =

@@ -1,0 +1,58 @@
+//! The images that go for a write, listed before they go.
+
+ghost use Rattle.std.specs.Prelude.{◌≡◌, ◌<◌, ◌≤◌, ◌+◌, ◌*◌, ◌++◌, length, vec_capacity};
+ghost use Rattle.write_history.specs.Slots.{evicted_of};
+ghost use Rattle.cow_volume.specs.Room.{IsNextSet, first_above, holders, images_going};
+
+use crate::copies::{Copies, lesser};
+use crate::reads::has_image;
+use volume_device::Device;
+use write_history::Evicted;
+
+/// Lists the images of the sets up to one, in order of sets and then of volumes. What the list had is gone.
+pub(crate) fn list_going<D: Device>(copies: &Copies<D>, up_to: u32, gone: &mut Vec<Evicted>)
+    requires { 512 * length copies.now.area.volumes ≤ vec_capacity gone.old }
+    ensures told { gone.new.items ≡ images_going up_to copies.now.images }
+    ensures space { vec_capacity gone.new ≡ vec_capacity gone.old }
+{
+    gone.clear();
+    let _facts = copies.volumes();
+    let mut set = 0;
+    while set < up_to {
+        set = next_set(copies, set, up_to);
+        list_set(copies, set, gone);
+    }
+}
+
+/// The least set above one that has an image; the bound where none is below that.
+fn next_set<D: Device>(copies: &Copies<D>, above: u32, up_to: u32) -> u32
+    requires { above < up_to }
+    ensures { IsNextSet copies.now.images above up_to result }
+{
+    let mut next = up_to;
+    for v in 0..copies.volumes() {
+        next = lesser(next, first_above(copies.images(v), above));
+    }
+    next
+}
+
+/// The first of some sets, which rise, that is above one.
+fn first_above(sets: &[u32], above: u32) -> Option<u32>
+    ensures { result ≡ first_above above sets.now }
+{
+    sets.iter().copied().find(|set| *set > above)
+}
+
+/// Adds the images of a set to a list that has room for them, in order of volumes.
+fn list_set<D: Device>(copies: &Copies<D>, set: u32, gone: &mut Vec<Evicted>)
+    requires { length gone.old.items + length (holders set 0 copies.now.images) ≤ vec_capacity gone.old }
+    ensures told { gone.new.items ≡ gone.old.items ++ evicted_of set (holders set 0 copies.now.images) }
+    ensures space { vec_capacity gone.new ≡ vec_capacity gone.old }
+{
+    for v in 0..copies.volumes() {
+        if !has_image(copies, v, set) {
+            continue;
+        }
+        gone.push_reserved(Evicted { set, volume: v });
+    }
+}

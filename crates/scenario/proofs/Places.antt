@@ -1,0 +1,201 @@
+-- Where a volume is within its group: the volumes before it are counted.
+use Rattle.std.proofs.Common.{◌≡◌, ℕ, zero, suc, ◌+◌, ◌<◌, ◌≤◌, ◌==◌, List, [], ◌∷◌, ◌++◌, length, get_or, refl, ap, sym, ◌∙◌, subst, arith, Bool, true, false, Some, None, slice_get, length-append}
+use Rattle.std.specs.Prelude.{◌&&◌, nat_lt}
+use Rattle.std.specs.List.{position, position_or_len}
+use Rattle.std.proofs.lemmas.Grind.{common_steps}
+use Rattle.std.proofs.lemmas.List.Quantifiers.{position-Some}
+use Rattle.std.proofs.lemmas.List.Sums.{fails_before_first}
+use Rattle.std.proofs.lemmas.Option.{slice_get_within, slice_get-get_or}
+use Rattle.std.proofs.lemmas.Bool.Decides.{nat_tests}
+use Rattle.scenario.specs.declared.place.Place.{Place}
+use Rattle.scenario.specs.declared.volume_row.VolumeRow.{VolumeRow}
+use Rattle.scenario.specs.Places.{count_if, place_in, volume_after, volume_in, is_place, IsPlaceIn, ArePlaces}
+use Rattle.scenario.proofs.Groups.{get_left, get_last}
+
+pub number_is : (a b : ℕ) → (a == b) ≡ true → a ≡ b
+number_is a b e = grind (arith, nat_tests)
+
+pub same_number : (a b : ℕ) → a ≡ b → (a == b) ≡ true
+same_number a b e = grind (arith, nat_tests)
+
+pub other_number : (a b : ℕ) → (a ≡ b → ⊥) → (a == b) ≡ false
+other_number a b e = by_test (a == b) refl
+  where
+    by_test : (t : Bool) → (a == b) ≡ t → (a == b) ≡ false
+    by_test true f = absurd (e (number_is a b f))
+    by_test false f = f
+
+-- ## one volume is counted after the other
+
+place_if : (b c : Bool) (n m : ℕ) → m ≡ count_if c n → count_if b m ≡ count_if c (count_if b n)
+place_if true true n m e = ap (λ k. suc k) e
+place_if true false n m e = ap (λ k. suc k) e
+place_if false true n m e = e
+place_if false false n m e = e
+
+-- one volume more is passed
+place_more : (g : ℕ) (rows : List VolumeRow) (v : ℕ) (r : VolumeRow) → slice_get rows v ≡ Some r → place_in g rows (suc v) ≡ count_if (r.group == g) (place_in g rows v)
+place_more g [] v r e = cc
+place_more g (q ∷ []) zero r e = let same : q ≡ r = cc in ap (λ (z : VolumeRow). count_if (z.group == g) 0) same
+place_more g (q ∷ p ∷ rows) zero r e = let same : q ≡ r = cc in ap (λ (z : VolumeRow). count_if (z.group == g) 0) same
+place_more g (q ∷ rows) (suc v) r e = place_if (q.group == g) (r.group == g) (place_in g rows v) (place_in g rows (suc v)) (place_more g rows v r e)
+
+-- so many of the first v volumes are of group g
+abbrev pub IsCounted : ℕ → List VolumeRow → ℕ → ℕ → Type 0
+IsCounted g rows v n = (n ≡ place_in g rows v) × (n ≤ v)
+
+pub counted_none : (g : ℕ) (rows : List VolumeRow) → IsCounted g rows 0 0
+counted_none g [] = (refl, omega arith)
+counted_none g (r ∷ rows) = (refl, omega arith)
+
+pub counted_is : (g : ℕ) (rows : List VolumeRow) (v n m : ℕ) → n ≡ m → IsCounted g rows v m → IsCounted g rows v n
+counted_is g rows v n m same h = subst (λ (k : ℕ). IsCounted g rows v k) (sym same) h
+
+count_yes : (b : Bool) (n : ℕ) → b ≡ true → count_if b n ≡ suc n
+count_yes true n e = refl
+count_yes false n e = cc
+
+count_no : (b : Bool) (n : ℕ) → b ≡ false → count_if b n ≡ n
+count_no true n e = cc
+count_no false n e = refl
+
+next_is : (n : ℕ) → suc n ≡ n + 1
+next_is n = omega arith
+
+pub counted_one : (g : ℕ) (rows : List VolumeRow) (v n : ℕ) (r : VolumeRow) → slice_get rows v ≡ Some r → r.group ≡ g → IsCounted g rows v n → IsCounted g rows (v + 1) (n + 1)
+counted_one g rows v n r e is h = (
+  sym (next_is n) ∙ ap (λ k. suc k) h.0 ∙ sym (count_yes (r.group == g) (place_in g rows v) (same_number r.group g is)) ∙ sym (place_more g rows v r e) ∙ ap (place_in g rows) (next_is v),
+  let l = h.1 in omega arith,
+)
+
+pub passed_one : (g : ℕ) (rows : List VolumeRow) (v n : ℕ) (r : VolumeRow) → slice_get rows v ≡ Some r → (r.group ≡ g → ⊥) → IsCounted g rows v n → IsCounted g rows (v + 1) n
+passed_one g rows v n r e is h = (
+  h.0 ∙ sym (count_no (r.group == g) (place_in g rows v) (other_number r.group g is)) ∙ sym (place_more g rows v r e) ∙ ap (place_in g rows) (next_is v),
+  let l = h.1 in omega arith,
+)
+
+-- ## one place after the other is listed
+
+pub places_none : (rows : List VolumeRow) → ArePlaces rows 0 []
+places_none rows = record { number = refl; each = λ v p at. cc }
+
+pub places_more : (rows : List VolumeRow) (n : ℕ) (places : List Place) (p : Place) → IsPlaceIn rows n p.group p.volume → ArePlaces rows n places → ArePlaces rows (n + 1) (places ++ p ∷ [])
+places_more rows n places p is h =
+    let long = length-append places (p ∷ []) in
+    let before = h.number in
+    record {
+      number = omega (arith, long, before);
+      each = λ v q at. by_test v q at (v == n) refl;
+    }
+  where
+    by_test : (v : ℕ) (q : Place) → slice_get (places ++ p ∷ []) v ≡ Some q → (t : Bool) → (v == n) ≡ t → IsPlaceIn rows v q.group q.volume
+    by_test v q at true t =
+        let same : v ≡ length places = number_is v n t ∙ sym h.number in
+        let one : Some p ≡ Some q = sym (get_last places p) ∙ ap (slice_get (places ++ p ∷ [])) (sym same) ∙ at in
+        let last : p ≡ q = cc in
+        subst (λ (z : Place). IsPlaceIn rows v z.group z.volume) last (subst (λ (k : ℕ). IsPlaceIn rows k p.group p.volume) (sym (number_is v n t)) is)
+    by_test v q at false t =
+        let within = slice_get_within (places ++ p ∷ []) v q at in
+        let long = length-append places (p ∷ []) in
+        let many = h.number in
+        h.each v q (sym (get_left places (p ∷ []) v (less v n t (omega (arith, within, long, many)) many)) ∙ at)
+      where
+        less : (v n : ℕ) → (v == n) ≡ false → v < n + 1 → length places ≡ n → v < length places
+        less v n t low many = grind (arith, nat_tests)
+
+-- ## the volume at a place
+
+after_first : (b : Bool) (later : ℕ → ℕ) → b ≡ true → volume_after b later 0 ≡ 0
+after_first true later e = refl
+after_first false later e = cc
+
+after_more : (b : Bool) (later : ℕ → ℕ) (n : ℕ) → volume_after b later (count_if b n) ≡ suc (later n)
+after_more true later n = refl
+after_more false later n = refl
+
+volume_back : (rows : List VolumeRow) (v : ℕ) (r : VolumeRow) → slice_get rows v ≡ Some r → volume_in r.group rows (place_in r.group rows v) ≡ v
+volume_back [] v r e = cc
+volume_back (q ∷ rows) zero r e = let same : q ≡ r = cc in after_first (q.group == r.group) (volume_in r.group rows) (same_number q.group r.group (ap (λ (z : VolumeRow). z.group) same))
+volume_back (q ∷ rows) (suc v) r e = after_more (q.group == r.group) (volume_in r.group rows) (place_in r.group rows v) ∙ ap (λ n. suc n) (volume_back rows v r e)
+
+-- a volume is the one at its place
+pub volume_is : (rows : List VolumeRow) (v g u : ℕ) → IsPlaceIn rows v g u → volume_in g rows u ≡ v
+volume_is rows v g u p =
+    ap (λ (k : ℕ). volume_in k rows u) p.group_is ∙ ap (volume_in p.row.group rows) p.within_is ∙ volume_back rows v p.row p.is_row
+
+place_behind : (q : VolumeRow) (rows : List VolumeRow) (v g u : ℕ) → IsPlaceIn rows v g u → IsPlaceIn (q ∷ rows) (suc v) g (count_if (q.group == g) u)
+place_behind q rows v g u p = record {
+  row = p.row;
+  is_row = p.is_row;
+  group_is = p.group_is;
+  within_is = ap (λ (k : ℕ). count_if (q.group == k) u) p.group_is ∙ ap (count_if (q.group == p.row.group)) p.within_is;
+}
+
+-- where there is a volume at a place, it is one of these
+place_found : (g u : ℕ) (rows : List VolumeRow) → volume_in g rows u < length rows → IsPlaceIn rows (volume_in g rows u) g u
+place_found g u [] low = absurd (omega arith)
+place_found g u (q ∷ rows) low = by_test (q.group == g) refl u low (λ w l. place_found g w rows l)
+  where
+    behind : (b : Bool) → (q.group == g) ≡ b → (w : ℕ) → IsPlaceIn rows (volume_in g rows w) g w → IsPlaceIn (q ∷ rows) (suc (volume_in g rows w)) g (count_if b w)
+    behind b e w p = subst (λ (c : Bool). IsPlaceIn (q ∷ rows) (suc (volume_in g rows w)) g (count_if c w)) e (place_behind q rows (volume_in g rows w) g w p)
+
+    by_test : (b : Bool) → (q.group == g) ≡ b → (w : ℕ) → volume_after b (volume_in g rows) w < suc (length rows) → ((k : ℕ) → volume_in g rows k < length rows → IsPlaceIn rows (volume_in g rows k) g k)
+        → IsPlaceIn (q ∷ rows) (volume_after b (volume_in g rows) w) g w
+    by_test true e zero l more = record { row = q; is_row = refl; group_is = sym (number_is q.group g e); within_is = refl }
+    by_test true e (suc w) l more = behind true e w (more w (omega (arith, l)))
+    by_test false e w l more = behind false e w (more w (omega (arith, l)))
+
+-- a volume has one place
+pub one_place : (rows : List VolumeRow) (v g u k w : ℕ) → IsPlaceIn rows v g u → IsPlaceIn rows v k w → (k ≡ g) × (w ≡ u)
+one_place rows v g u k w a b =
+    let found : Some b.row ≡ Some a.row = sym b.is_row ∙ a.is_row in
+    let same : b.row ≡ a.row = cc in (
+      b.group_is ∙ ap (λ (r : VolumeRow). r.group) same ∙ sym a.group_is,
+      b.within_is ∙ ap (λ (r : VolumeRow). place_in r.group rows v) same ∙ sym a.within_is,
+    )
+
+both : (a b : Bool) → (a && b) ≡ true → (a ≡ true) × (b ≡ true)
+both true b e = (refl, e)
+both false b e = cc
+
+pub found_place : (rows : List VolumeRow) (places : List Place) (p : Place) (v : ℕ) → ArePlaces rows (length rows) places → position (is_place p) places ≡ Some v → v ≡ volume_in p.group rows p.volume
+found_place rows places p v are is =
+    let at = position-Some (is_place p) places v p is in
+    let q = get_or places v p in
+    let tests = both (q.group == p.group) (q.volume == p.volume) at.1 in
+    let there = are.each v q (slice_get-get_or places v p at.0) in
+    sym (volume_is rows v p.group p.volume
+    (subst (λ (k : ℕ). IsPlaceIn rows v k p.volume) (number_is q.group p.group tests.0)
+    (subst (λ (k : ℕ). IsPlaceIn rows v q.group k) (number_is q.volume p.volume tests.1) there)))
+
+volume_within : (g u : ℕ) (rows : List VolumeRow) → volume_in g rows u ≤ length rows
+volume_within g u [] = omega arith
+volume_within g u (q ∷ rows) = by_test (q.group == g) u (λ w. volume_within g w rows)
+  where
+    by_test : (b : Bool) (w : ℕ) → ((k : ℕ) → volume_in g rows k ≤ length rows) → volume_after b (volume_in g rows) w ≤ suc (length rows)
+    by_test true zero more = omega arith
+    by_test true (suc w) more = let l = more w in omega (arith, l)
+    by_test false w more = let l = more w in omega (arith, l)
+
+pub no_place : (rows : List VolumeRow) (places : List Place) (p : Place) → ArePlaces rows (length rows) places → position (is_place p) places ≡ None → length rows ≡ volume_in p.group rows p.volume
+no_place rows places p are none = by_test (nat_lt (volume_in p.group rows p.volume) (length rows)) refl
+  where
+    passes : (q : Place) → q.group ≡ p.group → q.volume ≡ p.volume → is_place p q ≡ true
+    passes q e f = ap (λ (b : Bool). b && (q.volume == p.volume)) (same_number q.group p.group e) ∙ same_number q.volume p.volume f
+
+    clash : volume_in p.group rows p.volume < length rows → ⊥
+    clash low =
+        let many = are.number in
+        let v = volume_in p.group rows p.volume in
+        let q = get_or places v p in
+        let there = are.each v q (slice_get-get_or places v p (omega (arith, low, many))) in
+        let one = one_place rows v p.group p.volume q.group q.volume (place_found p.group p.volume rows low) there in
+        let all : length places ≤ position_or_len (is_place p) places = grind (arith, common_steps) in
+        yes_no (sym (passes q one.0 one.1) ∙ fails_before_first (is_place p) places v p (omega (arith, low, many, all)))
+      where
+        yes_no : true ≡ false → ⊥
+        yes_no e = cc
+
+    by_test : (t : Bool) → nat_lt (volume_in p.group rows p.volume) (length rows) ≡ t → length rows ≡ volume_in p.group rows p.volume
+    by_test true e = absurd (clash (grind (arith, nat_tests)))
+    by_test false e = let most = volume_within p.group p.volume rows in grind (arith, nat_tests)

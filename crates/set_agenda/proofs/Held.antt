@@ -1,0 +1,229 @@
+-- Which volumes are held, of the groups left, of the log, and of the cursor.
+use Rattle.std.proofs.Common.{◌≡◌, ℕ, zero, suc, List, [], ◌∷◌, Option, Some, None, refl, Bool, true, false, ap, sym, ◌∙◌, arith, drop, filter, map}
+use Rattle.std.specs.Prelude.{◌&&◌, ◌||◌, not, ◌==◌, if◌then◌else◌}
+use Rattle.std.specs.List.{list_any}
+use Rattle.std.proofs.lemmas.Bool.{and_parts, eqb-true}
+use Rattle.std.proofs.lemmas.Bool.Decides.{nat_tests}
+use Rattle.vss_names.specs.declared.order.Order.TheVariants.{Identify, PrepareBackup, PrepareSnapshot, Freeze, Thaw, PostSnapshot, BackupComplete}
+use Rattle.writer_state.specs.declared.said.Said.{Said}
+use Rattle.set_agenda.specs.declared.group.Group.{Group}
+use Rattle.set_agenda.specs.declared.group.Group.TheVariants.{Orders, PreCommit, Flush, Hold, Cut, Commit, Release, PostCommit}
+use Rattle.set_agenda.specs.declared.kind.Kind.{Kind}
+use Rattle.set_agenda.specs.declared.kind.Kind.TheVariants.{Gather, Prepare, Snapshot, Complete}
+use Rattle.set_agenda.specs.declared.place.Place.{Place}
+use Rattle.set_agenda.specs.declared.rows.Rows.{Rows}
+use Rattle.set_agenda.specs.declared.cursor.Cursor.{Cursor}
+use Rattle.set_agenda.specs.Agenda.{Agenda, Entry, HoldsOwn, Open, all_say, at_place, group_code, groups_left, has_said, head_or_0, is_among, is_asked, is_held, is_held_now, is_orders, is_snapshot, is_waited_at, is_working}
+use Rattle.set_agenda.specs.Agenda.{left_from, level_code, members_of, next_member, open_place, places, plain, same_place, waited_for, waits_now, with_group}
+use Rattle.set_agenda.specs.WriterSet.{is_nil}
+use Rattle.set_agenda.proofs.GroupsLeft.{any-among, any-append, any-map, left_from-waits}
+use Rattle.set_agenda.proofs.WriterSets.{and-false, or-false}
+use Rattle.set_agenda.specs.Cursor.{first_place, fresh, here, is_held_in, left_fresh, left_here, left_of}
+
+-- ## who is waited for at a place
+
+none_among : (b : Bool) (x : Bool) → ((b && false) || x) ≡ x
+none_among true x = refl
+none_among false x = refl
+
+waited-group : (p q : Place) (v : ℕ) (ws : List ℕ) (os : List Open) → is_waited_at p v (with_group q ws os) ≡ ((same_place q p && is_among v ws) || is_waited_at p v os)
+waited-group p q v [] os = sym (none_among (same_place q p) (is_waited_at p v os))
+waited-group p q v (w ∷ ws) os = refl
+
+waited-from : (p : Place) (v : ℕ) (a : Agenda) (qs : List Place) → is_waited_at p v (left_from a qs) ≡ list_any (λ q. same_place q p && is_among v (waited_for a q)) qs
+waited-from p v a [] = refl
+waited-from p v a (q ∷ qs) = waited-group p q v (waited_for a q) (left_from a qs) ∙ ap (λ (b : Bool). (same_place q p && is_among v (waited_for a q)) || b) (waited-from p v a qs)
+
+waited-fresh : (p : Place) (v : ℕ) (r : Rows) (vs : List ℕ) (qs : List Place) → is_waited_at p v (left_fresh r vs qs) ≡ list_any (λ q. same_place q p && is_among v (fresh r vs q)) qs
+waited-fresh p v r vs [] = refl
+waited-fresh p v r vs (q ∷ qs) = waited-group p q v (fresh r vs q) (left_fresh r vs qs) ∙ ap (λ (b : Bool). (same_place q p && is_among v (fresh r vs q)) || b) (waited-fresh p v r vs qs)
+
+abbrev any_here : Place → ℕ → Rows → List ℕ → Cursor → List Place → Bool
+any_here p v r vs c [] = false
+any_here p v r vs c (q ∷ qs) = (same_place q p && is_among v (here vs c q)) || list_any (λ x. same_place x p && is_among v (fresh r vs x)) qs
+
+waited-here : (p : Place) (v : ℕ) (r : Rows) (vs : List ℕ) (c : Cursor) (qs : List Place) → is_waited_at p v (left_here r vs c qs) ≡ any_here p v r vs c qs
+waited-here p v r vs c [] = refl
+waited-here p v r vs c (q ∷ qs) = waited-group p q v (here vs c q) (left_fresh r vs qs) ∙ ap (λ (b : Bool). (same_place q p && is_among v (here vs c q)) || b) (waited-fresh p v r vs qs)
+
+-- ## by the cursor
+
+or_none : (b : Bool) → (b || false) ≡ b
+or_none true = refl
+or_none false = refl
+
+neither : (b : Bool) → ((b || false) && not (b || false)) ≡ false
+neither true = refl
+neither false = refl
+
+only : (b : Bool) → ((b || false) && true) ≡ b
+only true = refl
+only false = refl
+
+less : (b d : Bool) → ((b || false) && not (d || false)) ≡ (b && not d)
+less true true = refl
+less true false = refl
+less false d = refl
+
+drop_none : (n : ℕ) → drop {A = Place} n [] ≡ []
+drop_none zero = refl
+drop_none (suc n) = refl
+
+-- by the groups left from a place on, of which the first is open
+abbrev held_from : Rows → List ℕ → Cursor → ℕ → List Place → Bool
+held_from r vs c v qs = any_here (plain Release) v r vs c qs && not (any_here (plain Hold) v r vs c qs)
+
+over : (r : Rows) (vs : List ℕ) (c : Cursor) (v : ℕ) (qs : List Place) → qs ≡ [] → held_from r vs c v qs ≡ is_held_in (first_place qs) c.next vs v
+over r vs c v [] e = refl
+over r vs c v (q ∷ qs) e = cc
+
+held-places : (k : Kind) (n : ℕ) (r : Rows) (vs : List ℕ) (c : Cursor) (v : ℕ) → held_from r vs c v (drop n (places k)) ≡ is_held_in (first_place (drop n (places k))) c.next vs v
+held-places Gather zero r vs c v = refl
+held-places Gather (suc n) r vs c v = over r vs c v (drop n []) (drop_none n)
+held-places Prepare zero r vs c v = refl
+held-places Prepare (suc n) r vs c v = over r vs c v (drop n []) (drop_none n)
+held-places Complete zero r vs c v = refl
+held-places Complete (suc n) r vs c v = over r vs c v (drop n []) (drop_none n)
+held-places Snapshot zero r vs c v = neither (is_among v vs)
+held-places Snapshot (suc zero) r vs c v = neither (is_among v vs)
+held-places Snapshot (suc (suc zero)) r vs c v = neither (is_among v vs)
+held-places Snapshot (suc (suc (suc zero))) r vs c v = neither (is_among v vs)
+held-places Snapshot (suc (suc (suc (suc zero)))) r vs c v = neither (is_among v vs)
+held-places Snapshot (suc (suc (suc (suc (suc zero))))) r vs c v = neither (is_among v vs)
+held-places Snapshot (suc (suc (suc (suc (suc (suc zero)))))) r vs c v = less (is_among v vs) (is_among v (drop c.next vs))
+held-places Snapshot (suc (suc (suc (suc (suc (suc (suc zero))))))) r vs c v = only (is_among v vs)
+held-places Snapshot (suc (suc (suc (suc (suc (suc (suc (suc zero)))))))) r vs c v = only (is_among v vs)
+held-places Snapshot (suc (suc (suc (suc (suc (suc (suc (suc (suc zero))))))))) r vs c v = only (is_among v (drop c.next vs))
+held-places Snapshot (suc (suc (suc (suc (suc (suc (suc (suc (suc (suc zero)))))))))) r vs c v = refl
+held-places Snapshot (suc (suc (suc (suc (suc (suc (suc (suc (suc (suc (suc zero))))))))))) r vs c v = refl
+held-places Snapshot (suc (suc (suc (suc (suc (suc (suc (suc (suc (suc (suc (suc zero)))))))))))) r vs c v = refl
+held-places Snapshot (suc (suc (suc (suc (suc (suc (suc (suc (suc (suc (suc (suc (suc zero))))))))))))) r vs c v = refl
+held-places Snapshot (suc (suc (suc (suc (suc (suc (suc (suc (suc (suc (suc (suc (suc (suc zero)))))))))))))) r vs c v = refl
+held-places Snapshot (suc (suc (suc (suc (suc (suc (suc (suc (suc (suc (suc (suc (suc (suc (suc n))))))))))))))) r vs c v = over r vs c v (drop n []) (drop_none n)
+
+-- the cursor's place tells which volumes are held
+pub held-cursor : (k : Kind) (r : Rows) (vs : List ℕ) (c : Cursor) (v : ℕ) → is_held_now (left_of k r vs c) v ≡ is_held_in (first_place (drop c.group (places k))) c.next vs v
+held-cursor k r vs c v =
+    ap (λ (b : Bool). b && not (is_waited_at (plain Hold) v (left_of k r vs c))) (waited-here (plain Release) v r vs c (drop c.group (places k)))
+    ∙ ap (λ (b : Bool). any_here (plain Release) v r vs c (drop c.group (places k)) && not b) (waited-here (plain Hold) v r vs c (drop c.group (places k)))
+    ∙ held-places k c.group r vs c v
+
+-- ## by the log
+
+filtered-if : (b c r s q : Bool) → r ≡ (s && q) → (c ≡ true → q ≡ b) → (if b then (c || r) else r) ≡ ((c || s) && q)
+filtered-if true true r s q e f = sym (f refl)
+filtered-if true false r s q e f = e
+filtered-if false true r s q e f = e ∙ none (f refl)
+  where
+    none : q ≡ false → (s && q) ≡ q
+    none g = ap (λ (x : Bool). s && x) g ∙ and-false s ∙ sym g
+filtered-if false false r s q e f = e
+
+among-filtered : (p : ℕ → Bool) (v : ℕ) (xs : List ℕ) → is_among v (filter p xs) ≡ (is_among v xs && p v)
+among-filtered p v [] = refl
+among-filtered p v (x ∷ xs) = first (p x) ∙ filtered-if (p x) (x == v) (is_among v (filter p xs)) (is_among v xs) (p v) (among-filtered p v xs) (λ e. ap p (sym (eqb-true x v e)))
+  where
+    first : (b : Bool) → is_among v (if b then x ∷ filter p xs else filter p xs) ≡ (if b then ((x == v) || is_among v (filter p xs)) else is_among v (filter p xs))
+    first true = refl
+    first false = refl
+
+by_parts : (m h r : Bool) → (h ≡ true → m ≡ true) → (((m && not r) || false) && not ((m && not h) || false)) ≡ (h && not r)
+by_parts true true true e = refl
+by_parts true true false e = refl
+by_parts true false true e = refl
+by_parts true false false e = refl
+by_parts false true r e = let f : false ≡ true = e refl in cc
+by_parts false false true e = refl
+by_parts false false false e = refl
+
+-- of these places
+abbrev any_of : Place → ℕ → Agenda → List Place → Bool
+any_of p v a qs = list_any (λ q. same_place q p && is_among v (waited_for a q)) qs
+
+held-said : (a : Agenda) (v : ℕ) (k : Kind) → HoldsOwn a → (any_of (plain Release) v a (places k) && not (any_of (plain Hold) v a (places k))) ≡ (is_snapshot k && has_said a.log (plain Hold) v && not (has_said a.log (plain Release) v))
+held-said a v Gather own = refl
+held-said a v Prepare own = refl
+held-said a v Complete own = refl
+held-said a v Snapshot own =
+    ap (λ (b : Bool). (b || false) && not (is_among v (waited_for a (plain Hold)) || false)) (among-filtered (λ who. not (has_said a.log (plain Release) who)) v a.volumes)
+    ∙ ap (λ (b : Bool). ((is_among v a.volumes && not (has_said a.log (plain Release) v)) || false) && not (b || false)) (among-filtered (λ who. not (has_said a.log (plain Hold) who)) v a.volumes)
+    ∙ by_parts (is_among v a.volumes) (has_said a.log (plain Hold) v) (has_said a.log (plain Release) v) (own v)
+
+-- the groups left tell which volumes are held
+pub held-log : (a : Agenda) (v : ℕ) → HoldsOwn a → is_held_now (groups_left a) v ≡ is_held (Some a) v
+held-log a v own =
+    ap (λ (b : Bool). b && not (is_waited_at (plain Hold) v (groups_left a))) (waited-from (plain Release) v a (places a.kind))
+    ∙ ap (λ (b : Bool). any_of (plain Release) v a (places a.kind) && not b) (waited-from (plain Hold) v a (places a.kind))
+    ∙ held-said a v a.kind own
+
+-- ## the agenda's own volumes are held
+
+hold_group : (g : Group) → (group_code g == group_code Hold) ≡ true → g ≡ Hold
+hold_group (Orders Identify) e = cc
+hold_group (Orders PrepareBackup) e = cc
+hold_group (Orders PrepareSnapshot) e = cc
+hold_group (Orders Freeze) e = cc
+hold_group (Orders Thaw) e = cc
+hold_group (Orders PostSnapshot) e = cc
+hold_group (Orders BackupComplete) e = cc
+hold_group PreCommit e = cc
+hold_group Flush e = cc
+hold_group Hold e = refl
+hold_group Cut e = cc
+hold_group Commit e = cc
+hold_group Release e = cc
+hold_group PostCommit e = cc
+
+waits-own : (a : Agenda) (v : ℕ) (p : Place) → same_place p (plain Hold) ≡ true → is_among v (waited_for a p) ≡ true → is_among v a.volumes ≡ true
+waits-own a v p at e =
+    let group : p.group ≡ Hold = hold_group p.group (and_parts (group_code p.group == group_code Hold) (level_code p.level == 0) at).0 in
+    let both = and_parts (is_among v (members_of a p.group p.level)) (not (has_said a.log p v)) (sym (among-filtered (λ who. not (has_said a.log p who)) v (members_of a p.group p.level)) ∙ e) in
+    ap (λ (g : Group). is_among v (members_of a g p.level)) (sym group) ∙ both.0
+
+left-own : (a : Agenda) (v : ℕ) (ps : List Place) → is_among v (waits_now (left_from a ps)) ≡ true → same_place (open_place (left_from a ps)) (plain Hold) ≡ true → is_among v a.volumes ≡ true
+left-own a v [] e at = cc
+left-own a v (p ∷ ps) e at = by_waits (left-own a v ps) (waited_for a p) refl e at
+  where
+    by_waits : (is_among v (waits_now (left_from a ps)) ≡ true → same_place (open_place (left_from a ps)) (plain Hold) ≡ true → is_among v a.volumes ≡ true) → (ws : List ℕ) → ws ≡ waited_for a p
+        → is_among v (waits_now (with_group p ws (left_from a ps))) ≡ true → same_place (open_place (with_group p ws (left_from a ps))) (plain Hold) ≡ true → is_among v a.volumes ≡ true
+    by_waits rest [] is e at = rest e at
+    by_waits rest (w ∷ ws) is e at = waits-own a v p at (ap (is_among v) (sym is) ∙ e)
+
+either : (x y z : Bool) (P : Type 0) → (x || (y && z)) ≡ true → (x ≡ true → P) → (y ≡ true → z ≡ true → P) → P
+either true y z P e f g = f refl
+either false true z P e f g = g refl e
+either false false z P e f g = absurd cc
+
+-- whoever is waited for says something
+pub own-said : (said : Said) (now : ℕ) (whos : List ℕ) (a : Agenda) → ((v : ℕ) → is_among v whos ≡ true → is_among v (waits_now (groups_left a)) ≡ true) → HoldsOwn a → HoldsOwn (all_say said now whos a)
+own-said said now whos a waited own v e =
+    either (has_said a.log (plain Hold) v) (same_place (open_place (groups_left a)) (plain Hold)) (is_among v whos) (is_among v a.volumes ≡ true) (sym more ∙ e) (own v)
+    (λ at among. left-own a v (places a.kind) (waited v among) at)
+  where
+    more : has_said (all_say said now whos a).log (plain Hold) v ≡ (has_said a.log (plain Hold) v || (same_place (open_place (groups_left a)) (plain Hold) && is_among v whos))
+    more =
+        any-append (λ (x : Entry). same_place x.place (plain Hold) && (x.who == v)) a.log (map (at_place (open_place (groups_left a)) said now) whos)
+        ∙ ap (λ (b : Bool). has_said a.log (plain Hold) v || b)
+        (any-map (λ (x : Entry). same_place x.place (plain Hold) && (x.who == v)) (at_place (open_place (groups_left a)) said now) whos ∙ any-among (same_place (open_place (groups_left a)) (plain Hold)) v whos)
+
+pub one-waited : (w v : ℕ) (xs : List ℕ) → is_among w xs ≡ true → is_among v (w ∷ []) ≡ true → is_among v xs ≡ true
+one-waited w v xs h e = ap (λ (n : ℕ). is_among n xs) (sym (eqb-true w v (sym (or-false (w == v)) ∙ e))) ∙ h
+
+pub asked-waited : (w : ℕ) (os : List Open) → is_asked w os ≡ true → is_among w (waits_now os) ≡ true
+asked-waited w [] e = cc
+asked-waited w (o ∷ os) e = (and_parts (is_orders o.place.group) (is_among w o.waits) e).1
+
+head-among : (xs : List ℕ) → is_nil xs ≡ false → is_among (head_or_0 xs) xs ≡ true
+head-among [] e = cc
+head-among (x ∷ xs) e = ap (λ (b : Bool). b || is_among x xs) (own x)
+  where
+    own : (n : ℕ) → (n == n) ≡ true
+    own n = grind (arith, nat_tests)
+
+-- the next member is waited for
+pub next-waited : (a : Agenda) → is_working (groups_left a) ≡ true → is_among (next_member (groups_left a)) (waits_now (groups_left a)) ≡ true
+next-waited a e = by_open (groups_left a) refl e
+  where
+    by_open : (os : List Open) → groups_left a ≡ os → is_working os ≡ true → is_among (next_member os) (waits_now os) ≡ true
+    by_open [] is e = cc
+    by_open (o ∷ os) is e = head-among o.waits (left_from-waits a (places a.kind) o os is)

@@ -1,0 +1,31 @@
+-- What the provider has. In the definitions a set has its images from its Cut step on, on all its volumes; the provider makes each of
+-- them in the Commit step of its volume. Until then the volume is held, so that the image names no block and is the newest. (That each
+-- volume has a step of its own is after the SDK's sequence of a snapshot's creation; the rest is this project's own.)
+use Rattle.std.specs.Prelude.{ℕ, ◌+◌, Bool, true, false, List, [], ◌∷◌, ◌&&◌, not, Option, Some, None}
+use Rattle.write_history.specs.History.{History, dropped}
+use Rattle.set_agenda.specs.declared.group.Group.TheVariants.{Cut, Commit}
+use Rattle.set_agenda.specs.Agenda.{Agenda, plain, has_said, is_snapshot}
+use Rattle.vss_model.specs.State.{State, SetRow, in_progress}
+
+-- the image of the set in progress is still to come on volume v: the Cut step was made, and the volume's Commit step was not
+abbrev pub is_to_come : Option Agenda → ℕ → Bool
+is_to_come None v = false
+is_to_come (Some a) v = is_snapshot a.kind && has_said a.log (plain Cut) 0 && not (has_said a.log (plain Commit) v)
+
+abbrev pub dropped_if : Bool → ℕ → History → History
+dropped_if true n h = dropped n h
+dropped_if false n h = h
+
+-- the histories of the volumes, numbered from v on, without the image of set n on those that pass
+abbrev pub without : (ℕ → Bool) → ℕ → ℕ → List History → List History
+without test n v [] = []
+without test n v (h ∷ hs) = dropped_if (test v) n h ∷ without test n (v + 1) hs
+
+abbrev pub provided_of : Option SetRow → Option Agenda → List History → List History
+provided_of None a hs = hs
+provided_of (Some r) None hs = hs
+provided_of (Some r) (Some a) hs = without (is_to_come (Some a)) r.number 0 hs
+
+-- the histories that the provider's groups stand for
+abbrev pub provided : State → List History
+provided st = provided_of (in_progress st) st.course.agenda st.volumes
