@@ -12,6 +12,7 @@ use Rattle.vss_play.specs.declared.stepped.Stepped.{Stepped}
 use Rattle.vss_play.specs.declared.stepped.Stepped.TheVariants as stepped
 use Rattle.vss_play.specs.Played.{Played, IsOnward, IsPlayedOut, IsPlayedInTurn}
 use Rattle.vss_play.specs.Acting.{Turn, IsStep, mover_if, movers, IsLedBy, IsLed}
+use Rattle.vss_play.proofs.ClosingLines.{longer_same, longer_trans}
 use Rattle.vss_play.proofs.FaultMarks.{later-refl, later-trans}
 
 -- where none of these moves has a fault mark, the counts are as they were
@@ -33,6 +34,7 @@ onward_on told count p q r one two = record {
   plan = two.plan ∙ one.plan;
   rest = one.rest ++ two.rest;
   trail = two.trail ∙ ap (λ (ms : List Move). ms ++ two.rest) one.trail ∙ append_assoc p.trail one.rest two.rest;
+  longer = longer_trans p.lines q.lines r.lines one.longer two.longer;
   tells = two.tells ∙ one.tells;
   later = later-trans (map count p.devices) (map count q.devices) (map count r.devices) one.later two.later;
   clean = clean_both one.rest two.rest (map count p.devices) (map count q.devices) (map count r.devices) one.clean two.clean;
@@ -47,13 +49,13 @@ led_on told count p q r xs ys one two = record {
 
 led_none : {D : Type 0} (told : D → Option (List (List ℕ))) (count : D → ℕ) (p q : Played D) → q ≡ p → IsLedBy told count p [] q
 led_none {D} told count p q same =
-    subst (λ (x : Played D). IsLedBy told count p [] x) (sym same) (record { onward = record { plan = refl; rest = []; trail = sym (append-nil p.trail); tells = refl; later = later-refl (map count p.devices); clean = λ e. refl }; by = refl })
+    subst (λ (x : Played D). IsLedBy told count p [] x) (sym same) (record { onward = record { plan = refl; rest = []; trail = sym (append-nil p.trail); longer = longer_same p.lines; tells = refl; later = later-refl (map count p.devices); clean = λ e. refl }; by = refl })
 
 led_one : {D : Type 0} (told : D → Option (List (List ℕ))) (count : D → ℕ) (p q : Played D) (actor : Actor) (r : Result Stepped OutOfMemory) → MatchResult r (λ reply. IsStep told count p actor reply q) (λ _. q ≡ p) → IsLedBy told count p (mover_if actor r) q
 led_one told count p q actor (Ok stepped.Moved) h =
     let m : Move = record { actor = actor; mark = h.mark } in
     record {
-      onward = record { plan = h.plan; rest = m ∷ []; trail = h.trail; tells = h.tells; later = h.later; clean = clean_one m (map count p.devices) (map count q.devices) h.clean };
+      onward = record { plan = h.plan; rest = m ∷ []; trail = h.trail; longer = record { text = h.own; is = h.lines }; tells = h.tells; later = h.later; clean = clean_one m (map count p.devices) (map count q.devices) h.clean };
       by = refl;
     }
 led_one told count p q actor (Ok stepped.Blocked) h = led_none told count p q h.0

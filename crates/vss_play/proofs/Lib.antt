@@ -19,3 +19,4 @@ pub mod Ended
 pub mod Histories
 pub mod ActorLoop
 pub mod Digesting
+pub mod InThreads

@@ -378,9 +378,9 @@ all_volumes_tell told s ds plan many all =
 
 -- ## the beginning of a run
 
-pub made_fresh : {D : Type 0} (told : D → Option (List (List ℕ))) (size count : D → ℕ) (tells : Bool) (s : Plan) (made ds : List D) (groups : List (GroupValue D)) (moves : List Move) → IsPlan s → moves ≡ [] → ds ≡ devices_of groups → AreMade told size count tells (device_sizes s) made
-    → AreOpened told s.volumes (groups_of_devices s) made 0 s.groups groups → IsFresh told count tells s (record { plan = s; trail = moves; devices = ds })
-made_fresh {D} told size count tells s made ds groups moves plan none same h opened =
+pub made_fresh : {D : Type 0} (told : D → Option (List (List ℕ))) (size count : D → ℕ) (tells : Bool) (s : Plan) (made ds : List D) (groups : List (GroupValue D)) (moves : List Move) (text : List ℕ) → IsPlan s → moves ≡ [] → ds ≡ devices_of groups → AreMade told size count tells (device_sizes s) made
+    → AreOpened told s.volumes (groups_of_devices s) made 0 s.groups groups → IsFresh told count tells s (record { plan = s; trail = moves; devices = ds; lines = text })
+made_fresh {D} told size count tells s made ds groups moves text plan none same h opened =
     let all : All (IsNewDevice told size count tells) (devices_of groups) = all_opened_devices (IsNewDevice told size count tells) told s.volumes (groups_of_devices s) made 0 s.groups groups h.each opened in
     let many : length ds ≡ first_place (length s.groups) s.volumes = ap (λ (xs : List D). length xs) same ∙ many_opened told s made groups opened in
     let fresh_ds : All (IsNewDevice told size count tells) ds = subst (λ (xs : List D). All (IsNewDevice told size count tells) xs) (sym same) all in

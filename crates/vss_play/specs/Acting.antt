@@ -1,6 +1,6 @@
--- A run as a machine that its actors step one at a time: what an entry of its history is, what trail a history leads to, and for what
--- reason an actor's loop ends. (This project's own.)
-use Rattle.std.specs.Prelude.{ℕ, ◌≡◌, List, [], ◌∷◌, ◌++◌, length, map, Option, Result, Ok, Err, IsErr, ◌⊎◌}
+-- A run as a machine that its actors step one at a time: what an entry of its history is, what trail a history leads to, for what
+-- reason an actor's loop ends, and what the history of a run in threads has. (This project's own.)
+use Rattle.std.specs.Prelude.{ℕ, ◌≡◌, ◌<◌, List, [], ◌∷◌, ◌++◌, length, map, slice_get, Option, Some, None, Result, Ok, Err, IsErr, ◌⊎◌}
 use Rattle.std.specs.List.{All, range_with_len}
 use Rattle.vss_names.specs.declared.out_of_memory.OutOfMemory.{OutOfMemory}
 use Rattle.write_history.specs.declared.actor.Actor.{Actor}
@@ -8,13 +8,15 @@ use Rattle.write_history.specs.declared.actor.Actor.TheVariants.{Lane, Writer, A
 use Rattle.write_history.specs.declared.move_item.Move.{Move}
 use Rattle.scenario.specs.Plan.{Plan}
 use Rattle.turn_cell.specs.declared.entry.Entry.{Entry}
+use Rattle.turn_cell.specs.declared.view.Known.{Known}
+use Rattle.turn_cell.specs.History.{Leads, entries_of}
 use Rattle.vss_play.specs.declared.moved.Moved.{Moved}
 use Rattle.vss_play.specs.declared.moved.Moved.TheVariants.{Moved as HasMoved, Blocked, Finished}
 use Rattle.vss_play.specs.declared.step_fault.StepFault.{StepFault}
 use Rattle.vss_play.specs.declared.step_fault.StepFault.TheVariants.{TrailFull}
 use Rattle.vss_play.specs.declared.stepped.Stepped.{Stepped}
 use Rattle.vss_play.specs.declared.stepped.Stepped.TheVariants as stepped
-use Rattle.vss_play.specs.Played.{Played, IsTurn, IsOnward}
+use Rattle.vss_play.specs.Played.{Played, IsTurn, IsOnward, IsPlayedInTurn}
 
 -- those who act in threads of their own: the lanes by number, the writers by number, and the provider
 abbrev pub actors_in_threads : Plan → List Actor
@@ -105,3 +107,25 @@ pub record IsLooping (actor : Actor) (old new : List Turn) (blocked : ℕ) : Typ
   pub is : new ≡ old ++ more
   pub of : All (λ e. e.call ≡ actor) more
   pub ends : EndsBlocked blocked more
+
+-- ## a run in threads
+
+-- what these entries, all that an actor made, are: calls of its own, until it left for a reason, which the last of them gives
+pub record HasPlayed (actor : Actor) (entries : List Turn) : Type 0 where
+  pub of : All (λ e. e.call ≡ actor) entries
+  pub why : HasLeft [] entries ⊎ HasWanted [] entries
+
+-- the caller of an actor, where there is one, made some more entries until it left
+abbrev pub HasActed : Option Actor → Known Actor Stepped → Known Actor Stepped → Type 0
+HasActed None old new = Unit {0}
+HasActed (Some actor) old new = (new.number ≡ old.number) × HasTurns actor old.mine new.mine × (HasLeft old.mine new.mine ⊎ HasWanted old.mine new.mine)
+
+-- The run went on by a history that has the entries of one caller for each actor, and no others, each of which called for its actor alone
+-- until it left; the rest was made in turn.
+pub record IsPlayedInThreads {D : Type 0} (told : D → Option (List (List ℕ))) (count : D → ℕ) (old new : Played D) : Type 0 where
+  pub history : List Turn
+  pub middle : Played D
+  pub leads : Leads (λ before caller actor reply after. IsStep told count before actor reply after) old history middle
+  pub callers : All (λ e. e.caller < length (actors_in_threads old.plan)) history
+  pub each : (i : ℕ) (actor : Actor) → slice_get (actors_in_threads old.plan) i ≡ Some actor → HasPlayed actor (entries_of i history)
+  pub in_turn : IsPlayedInTurn told count middle new

@@ -64,9 +64,6 @@ pub fn digest_all<D: Device>(
         Err(PlayFault::Failed) => return Err(Failed),
         Err(PlayFault::OutOfMemory) => unreachable!(),
     }
-    match digest_volumes(scenario, trail, world, ready, out) {
-        Ok(()) => {}
-        Err(Failed) => return Err(Failed),
-    }
+    digest_volumes(scenario, trail, world, ready, out)?;
     Ok(())
 }

@@ -1,7 +1,7 @@
-ghost use Rattle.std.specs.Prelude.{◌≡◌, ◌+◌, ◌<◌, ◌≤◌, length, vec_len, IfOk};
+ghost use Rattle.std.specs.Prelude.{◌≡◌, ◌+◌, ◌<◌, ◌≤◌, ℕ, length, slice_get, slice_index_or, vec_len, IfOk};
 ghost use Rattle.std.specs.List.{All};
-ghost use Rattle.turn_cell.specs.Callers.{Calls};
-ghost use Rattle.vss_play.specs.Acting.{actors_in_threads};
+ghost use Rattle.turn_cell.specs.Callers.{standing, Calls};
+ghost use Rattle.vss_play.specs.Acting.{HasActed, IsPlayedInThreads, actors_in_threads};
 ghost use Rattle.vss_play.specs.Played.{IsPlayedOut};
 
 use crate::actor_loop::take_turns;
@@ -46,6 +46,7 @@ fn act_all<R: Threads + Wait + Sync, D: Device + Send, G: Gate>(
     requires each { length callers.old ≡ length actors.now }
     requires own { All (λ caller. Calls caller turn.now) callers.old }
     ensures own { All (λ caller. Calls caller turn.now) callers.new }
+    ensures acted { (i : ℕ) (d : _) → i < length callers.old → HasActed (slice_get actors.now i) (standing (slice_index_or callers.old i d)) (standing (slice_index_or callers.new i d)) }
 {
     let count = callers.len();
     thread::for_each_mut(
@@ -54,7 +55,7 @@ fn act_all<R: Threads + Wait + Sync, D: Device + Send, G: Gate>(
         count,
         &|i, caller: &mut Caller<Play<D>>|
             requires { (i < length actors.now) × Calls caller.old turn.now }
-            ensures { Calls caller.new turn.entry.now }
+            ensures { Calls caller.new turn.entry.now × HasActed (slice_get actors.entry.now i) (standing caller.old) (standing caller.new) }
         {
             let _ = take_turns(rt, turn, caller, actors[i], gate);
         },
@@ -70,7 +71,8 @@ pub fn play_all<R: Threads + Wait + Sync, D: Device + Send, G: Gate>(
     play: Play<D>,
     gate: &G,
 ) -> Result<Play<D>, OutOfMemory>
-    ensures { IfOk result (IsPlayedOut D.told D.count play) }
+    ensures played { IfOk result (IsPlayedOut D.told D.count play) }
+    ensures threads { IfOk result (IsPlayedInThreads D.told D.count play) }
 {
     let actors = actors_of(alloc, &play)?;
     let (turn, mut callers) = Turn::new(alloc, play, actors.len() as u32)?;

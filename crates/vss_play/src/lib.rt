@@ -1,7 +1,7 @@
 //! A run of a scenario over the core of the service: each turn of an actor makes at most one move, which is added to the
 //! trail and whose lines are added to the report.
 //!
-//! Contracts see a run as its scenario, its moves and its devices. What it promises: the trail is legal, the lines are the
+//! Contracts see a run as its scenario, its moves, its devices and the report so far. What it promises: the trail is legal, the lines are the
 //! report so far, the device of a volume holds its content where it and its area's tell, and the fault marks are at most the
 //! devices' faults. Once it is closed each area's device stands for the copies of the images, where it and its volumes' tell.
 //!

@@ -1,6 +1,5 @@
 ghost use Rattle.std.specs.Prelude.{◌≡◌, ◌+◌, ◌≤◌, ◌++◌, ◌⊎◌, Some, false, length, map, OnOk, OnErr, IfOk, IsErr, IsErrOf, option_map};
 ghost use Rattle.vss_names.specs.Faults.{Rose, all_counted};
-ghost use Rattle.vss_report.specs.Report.{IsReportSoFar};
 ghost use Rattle.vss_model.specs.Trail.{event_of};
 ghost use Rattle.vss_report.specs.ToldLines.{IsLineOf};
 ghost use Rattle.vss_play.specs.Digested.{AreDigests};
@@ -33,7 +32,7 @@ use vss_report::MOST_BYTES;
 use vss_world::{Reply, World};
 use write_history::{Actor, Move, Trail, TrailFault};
 
-/// A run of a scenario. Contracts see its scenario, its moves and its devices.
+/// A run of a scenario. Contracts see its scenario, its moves, its devices and the report so far.
 #[derive(Drop)]
 pub struct Play<D: Device> {
     scenario: Scenario,
@@ -52,7 +51,7 @@ impl<D: Device> Model for Play<D> {
 
     ghost Value = { Played D };
 
-    ghost view = { λ a. record { plan = a.scenario; trail = a.trail.moves; devices = a.world.devices } };
+    ghost view = { λ a. record { plan = a.scenario; trail = a.trail.moves; devices = a.world.devices; lines = a.lines.bytes } };
 
     ghost invariant = { λ a. IsPlaying D.told D.count a.scenario a.world a.cursors.items a.going a.trail.moves a.lines.bytes };
 }
@@ -210,7 +209,7 @@ impl<D: Device> Play<D> {
 
     /// The report so far, without the closing lines.
     pub fn lines(&self) -> &[u8]
-        ensures lines { IsReportSoFar self.now.plan (tells_in D.told self.now) self.now.trail result.now }
+        ensures lines { result.now ≡ self.now.lines }
         ensures kept { IsKept D.told D.count self.now }
     {
         self.lines.bytes()
@@ -295,16 +294,13 @@ impl<D: Device> Play<D> {
             &self.world,
             DigestsOf::Volumes,
         );
-        match digest_all(
+        digest_all(
             &self.scenario,
             &self.trail,
             &mut self.world,
             &mut ready,
             out,
-        ) {
-            Err(Failed) => return Err(Failed),
-            Ok(()) => {}
-        }
+        )?;
         Ok(())
     }
 

@@ -6,9 +6,9 @@ loop-writer-init g c = (no_writer c.args.scenario.now c.args.trail.now.moves c.a
 
 pub loop-writer-preserved : goal.loop-writer-preserved
 loop-writer-preserved g c = (
-  one_writer c.args.scenario.now c.args.trail.now.moves c.loop-writer.writer c.args.out.now.bytes c.loop-writer.out.bytes c.close_writer.new.out.bytes c.loop-writer.invariant.0 c.in-Ok.ensures.writer,
-  longer_trans c.args.out.now.bytes c.loop-writer.out.bytes c.close_writer.new.out.bytes c.loop-writer.invariant.1 c.in-Ok.ensures.longer,
+  one_writer c.args.scenario.now c.args.trail.now.moves c.loop-writer.writer c.args.out.now.bytes c.loop-writer.out.bytes c.close_writer.new.out.bytes c.loop-writer.invariant.0 c.in_ok-close_writer.ensures.writer,
+  longer_trans c.args.out.now.bytes c.loop-writer.out.bytes c.close_writer.new.out.bytes c.loop-writer.invariant.1 c.in_ok-close_writer.ensures.longer,
 )
 
-pub returns-in-Err-clause-longer : goal.returns-in-Err-clause-longer
-returns-in-Err-clause-longer g c = longer_trans c.args.out.now.bytes c.loop-writer.out.bytes c.close_writer.new.out.bytes c.loop-writer.invariant.1 c.in-Err.ensures.longer
+pub returns-in_err-close_writer-clause-longer : goal.returns-in_err-close_writer-clause-longer
+returns-in_err-close_writer-clause-longer g c = longer_trans c.args.out.now.bytes c.loop-writer.out.bytes c.close_writer.new.out.bytes c.loop-writer.invariant.1 c.close_writer.ensures.longer

@@ -20,4 +20,4 @@ returns-clause-ended g c =
 pub returns-in-Err-clause-ended : goal.returns-in-Err-clause-ended
 returns-in-Err-clause-ended g c =
     ended_as g.D.Device.told g.D.Device.count c.self.inside.scenario c.self.inside.world c.close_all.new.world c.self.inside.cursors.items c.self.inside.trail.moves c.self.inside.lines.bytes c.args.self c.into_devices.result.items _ _ _ _ _ _ c.self.view_is c.self.invariant.play c.in-Err.ensures.ending c.into_devices.ensures c.give_all.ensures.kept c.give_all.ensures.count
-    (unreported g.D.Device.told g.D.Device.count c.self.inside.scenario c.self.inside.trail.moves c.self.inside.world.devices c.close_all.new.world.devices c.in-Err.fault (λ e. c.in-Err.ensures.wanting (ap Err e)) (λ e. c.in-Err.ensures.rose (ap Err e)))
+    (unreported g.D.Device.told g.D.Device.count c.self.inside.scenario c.self.inside.trail.moves c.self.inside.world.devices c.close_all.new.world.devices c.self.inside.lines.bytes c.in-Err.fault (λ e. c.in-Err.ensures.wanting (ap Err e)) (λ e. c.in-Err.ensures.rose (ap Err e)))
