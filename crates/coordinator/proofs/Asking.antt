@@ -1,7 +1,7 @@
 -- The members whom an agenda asks, in the order of their writers.
-use Rattle.std.proofs.Common.{◌≡◌, ◌≢◌, ℕ, zero, suc, ◌+◌, ◌<◌, ◌≤◌, List, [], ◌∷◌, ◌++◌, length, get_or, refl, Bool, true, false, cond, ap, sym, ◌∙◌, subst, arith, filter, map, drop, Some, append-nil, append_assoc}
-use Rattle.std.specs.Prelude.{◌==◌, ◌&&◌, ◌||◌, not, nat_lt, slice_get, All}
-use Rattle.std.specs.List.{flat_map, list_any, range_with_len}
+use Rattle.std.proofs.Common.{◌≡◌, ℕ, zero, suc, ◌+◌, ◌<◌, ◌≤◌, List, [], ◌∷◌, ◌++◌, length, get_or, refl, Bool, true, false, cond, ap, sym, ◌∙◌, arith, filter, map, drop, Some, append-nil, append_assoc}
+use Rattle.std.specs.Prelude.{◌==◌, ◌&&◌, ◌||◌, nat_lt, slice_get, All}
+use Rattle.std.specs.List.{flat_map, range_with_len}
 use Rattle.std.proofs.lemmas.Bool.Decides.{nat_tests}
 use Rattle.std.proofs.lemmas.List.Concat.{flat_map-cons}
 use Rattle.std.proofs.lemmas.List.Elements.{All-append, All-nil, filter-append}
@@ -9,12 +9,12 @@ use Rattle.writer_state.specs.declared.writer_row.WriterRow.{WriterRow}
 use Rattle.set_agenda.specs.declared.member.Member.{Member}
 use Rattle.set_agenda.specs.Agenda.{is_among}
 use Rattle.set_agenda.specs.Begin.{are_distinct, by_writer}
-use Rattle.set_agenda.specs.Course.{is_member, member_if, members_from}
+use Rattle.set_agenda.specs.Course.{member_if, members_from}
 use Rattle.set_agenda.specs.WriterSet.{writers}
 use Rattle.set_agenda.proofs.GroupsLeft.{any-map}
-use Rattle.set_agenda.proofs.WriterSets.{among-writers, or-false, writers-agree, writers-none}
+use Rattle.set_agenda.proofs.WriterSets.{among-writers, writers-agree, writers-none}
 use Rattle.coordinator.proofs.Calls.{drop-at}
-use Rattle.coordinator.proofs.Members.{member-above, member-below, member-here}
+use Rattle.coordinator.proofs.Members.{member-below}
 
 -- ## each writer is one member, and has a number below 64
 

@@ -1,10 +1,9 @@
 -- An agenda that begins, in what is kept of the course and in the course.
-use Rattle.std.proofs.Common.{◌≡◌, ℕ, ◌+◌, ◌<◌, ◌≤◌, List, [], ◌∷◌, ◌++◌, length, Option, Some, None, refl, Bool, true, false, ap, sym, ◌∙◌, subst, arith, filter, map}
-use Rattle.std.specs.Prelude.{◌&&◌, ◌==◌, not, nat_lt, is_some, option_map, slice_get}
+use Rattle.std.proofs.Common.{◌≡◌, ℕ, ◌<◌, ◌≤◌, List, [], length, Option, Some, None, refl, Bool, true, false, ap, sym, ◌∙◌, subst, arith, filter, map}
+use Rattle.std.specs.Prelude.{◌&&◌, ◌==◌, not, nat_lt, is_some}
 use Rattle.std.proofs.lemmas.Bool.{eqb-true}
 use Rattle.std.proofs.lemmas.Bool.Decides.{nat_tests}
 use Rattle.std.proofs.lemmas.Map.Views.{any-filter_same}
-use Rattle.writer_calls.specs.declared.mailbox.Mailbox.{Mailbox}
 use Rattle.writer_state.specs.declared.writer_row.WriterRow.{WriterRow}
 use Rattle.writer_state.specs.WriterRow.{row_gathered}
 use Rattle.set_agenda.specs.declared.kind.Kind.{Kind}
@@ -22,8 +21,8 @@ use Rattle.coordinator.specs.declared.kept_course.KeptCourse.{KeptCourse}
 use Rattle.coordinator.specs.declared.row_change.RowChange.TheVariants.{Gathered}
 use Rattle.coordinator.specs.declared.running_agenda.RunningAgenda.{RunningAgenda}
 use Rattle.coordinator.specs.RunningAgenda.{Fits}
-use Rattle.coordinator.specs.KeptCourse.{FitsRun, Follows, StandsFor, left_now}
-use Rattle.coordinator.specs.OpenOrders.{AreFit, AreReady}
+use Rattle.coordinator.specs.KeptCourse.{Follows, StandsFor, left_now}
+use Rattle.coordinator.specs.OpenOrders.{AreFit}
 use Rattle.coordinator.specs.Coordinator.{Registered, is_disabled}
 use Rattle.coordinator.specs.Beginning.{asked_by, asks, begun_as, enabled, ready_for, volumes_if}
 use Rattle.coordinator.proofs.Asking.{filter-members}

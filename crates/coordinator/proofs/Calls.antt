@@ -1,7 +1,7 @@
 -- What the calls of a coordinator do to what is kept of a course.
-use Rattle.std.proofs.Common.{◌≡◌, ◌≢◌, ℕ, zero, suc, ◌+◌, ◌-◌, ◌<◌, ◌≤◌, ◌^◌, List, [], ◌∷◌, ◌++◌, length, get_or, set, drop, map, min, Option, Some, None, refl, Bool, true, false, cond, ap, sym, ◌∙◌, subst, arith, append-nil, append_assoc}
-use Rattle.std.specs.Prelude.{◌==◌, ◌&&◌, fold, option_map, replicate, slice_get, is_some, Result}
-use Rattle.std.specs.Prelude.{Ok as OkResult, Err}
+use Rattle.std.proofs.Common.{◌≡◌, ◌≢◌, ℕ, zero, suc, ◌+◌, ◌-◌, ◌<◌, ◌≤◌, ◌^◌, List, [], ◌∷◌, ◌++◌, length, drop, map, min, Option, Some, None, refl, Bool, true, false, cond, ap, sym, ◌∙◌, subst, arith, append-nil, append_assoc}
+use Rattle.std.specs.Prelude.{◌==◌, fold, option_map, replicate, slice_get}
+use Rattle.std.specs.Prelude.{Ok as OkResult}
 use Rattle.std.proofs.lemmas.Bool.Decides.{nat_tests}
 use Rattle.vss_names.specs.declared.order.Order.{Order}
 use Rattle.vss_names.specs.declared.order.Order.TheVariants.{Identify, PrepareBackup, PrepareSnapshot, Freeze, Thaw, PostSnapshot, BackupComplete}
@@ -13,22 +13,19 @@ use Rattle.writer_state.specs.declared.writer_row.WriterRow.{WriterRow}
 use Rattle.writer_state.specs.WriterRow.{row_ended}
 use Rattle.writer_calls.specs.declared.mailbox.Mailbox.{Mailbox}
 use Rattle.writer_calls.specs.declared.order_counts.OrderCounts.{OrderCounts}
-use Rattle.writer_calls.specs.declared.stale_answer.StaleAnswer.{StaleAnswer}
 use Rattle.writer_calls.specs.declared.standing.Standing.{Standing}
-use Rattle.writer_calls.specs.Mailbox.{answer_if, answer_to, closed, count_of, empty, mailbox_at, number_of, one_more, standing, standing_of, total, with_mailbox}
+use Rattle.writer_calls.specs.Mailbox.{answer_if, answer_to, closed, count_of, empty, mailbox_at, number_of, standing, standing_of, total, with_mailbox}
 use Rattle.writer_calls.proofs.Counts.{total-one_more}
 use Rattle.set_agenda.specs.declared.limit.Limit.{Limit}
 use Rattle.set_agenda.specs.declared.member.Member.{Member}
 use Rattle.set_agenda.specs.declared.place.Place.{Place}
-use Rattle.set_agenda.specs.Agenda.{Agenda, Open, is_among, is_asked, left, open_order, open_place, order_if, order_now, waits_now}
-use Rattle.set_agenda.specs.Limits.{Running as RunningLimit, running_limits, spent_of, ticks_to_spend}
-use Rattle.set_agenda.specs.Course.{Course, OrderGroup, answered, answered_to, course_start, failed, freeze_limit, idle_ticks, limit_of, limits_now, lost_at, lost_writers, member_if, members_from, opens, posted, released, sent, timed, treated}
+use Rattle.set_agenda.specs.Agenda.{Open, is_among, is_asked, left, open_order, open_place, order_if, order_now, waits_now}
+use Rattle.set_agenda.specs.Limits.{Running as RunningLimit, spent_of}
+use Rattle.set_agenda.specs.Course.{Course, OrderGroup, answered, answered_to, course_start, failed, limit_of, limits_now, lost_at, lost_writers, member_if, members_from, opens, posted, released, timed, treated}
 use Rattle.set_agenda.proofs.WriterSets.{writers-none}
 use Rattle.coordinator.specs.declared.kept_course.KeptCourse.{KeptCourse}
-use Rattle.coordinator.specs.declared.running_agenda.RunningAgenda.{RunningAgenda}
-use Rattle.coordinator.specs.RunningAgenda.{Fits}
-use Rattle.coordinator.specs.KeptCourse.{FitsRun, Follows, IsSound, IsTaken, StandsFor, kind_if_done, least_if, least_limit, left_now, lost_by, ticks_if, treated_by}
-use Rattle.coordinator.specs.OpenOrders.{AreFit, AreReady, HasRoom, IsReady, SentAtMost, counts_in, mailbox_in, nth_in, number_in, posted_to, refusal, standing_in, stays}
+use Rattle.coordinator.specs.KeptCourse.{FitsRun, Follows, IsSound, IsTaken, StandsFor, kind_if_done, least_if, left_now, lost_by, treated_by}
+use Rattle.coordinator.specs.OpenOrders.{AreFit, AreReady, HasRoom, IsReady, SentAtMost, counts_in, mailbox_in, nth_in, number_in, posted_to, standing_in, stays}
 use Rattle.coordinator.proofs.Following.{left-is}
 use Rattle.coordinator.specs.Coordinator.{CoordinatorState, Stands, failed_if_running, is_running}
 use Rattle.coordinator.proofs.GroupsAfter.{goes-answered, goes-treated, leaves-answered, opened-answered, opened-failed, opened-treated}

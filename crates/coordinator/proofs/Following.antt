@@ -1,6 +1,6 @@
 -- What each part of an act does to what is kept of a course.
-use Rattle.std.proofs.Common.{◌≡◌, ℕ, ◌+◌, ◌<◌, ◌≤◌, List, [], ◌∷◌, length, Option, Some, None, refl, Bool, true, false, cond, ap, sym, ◌∙◌, subst, arith}
-use Rattle.std.specs.Prelude.{◌==◌, ◌||◌, option_map}
+use Rattle.std.proofs.Common.{◌≡◌, ℕ, List, [], ◌∷◌, Option, Some, None, refl, Bool, true, false, cond, ap, sym, ◌∙◌, subst}
+use Rattle.std.specs.Prelude.{◌==◌, option_map}
 use Rattle.vss_names.specs.declared.order.Order.{Order}
 use Rattle.vss_names.specs.declared.vss_result.VssResult.{VssResult}
 use Rattle.vss_names.specs.declared.set_outcome.SetOutcome.TheVariants.{Failed}
@@ -15,7 +15,6 @@ use Rattle.set_agenda.specs.declared.limit.Limit.{Limit}
 use Rattle.set_agenda.specs.declared.limit.Limit.TheVariants.{Answer as AnswerLimit}
 use Rattle.set_agenda.specs.Agenda.{Agenda, Open, all_say, groups_left, is_among, is_asking, is_done, is_orders, left, next_member, order_now, order_of, waits_now}
 use Rattle.set_agenda.specs.Course.{Course, failed, fails_set, is_member, lost, lost_decided, lost_to, members_from, outcome_after, rows_where, settled, settled_if, settled_in, told, worked}
-use Rattle.set_agenda.specs.WriterSet.{writers}
 use Rattle.set_agenda.proofs.WriterSets.{or-false}
 use Rattle.coordinator.specs.declared.kept_course.KeptCourse.{KeptCourse}
 use Rattle.coordinator.specs.declared.row_change.RowChange.TheVariants.{Told, Aborted}

@@ -1,8 +1,7 @@
 -- The groups left after an act: where the open group is the one that was open before, it waits for nobody that it did
 -- not wait for.
-use Rattle.std.proofs.Common.{◌≡◌, ℕ, List, [], ◌∷◌, ◌++◌, Option, Some, None, refl, Bool, true, false, cond, ap, sym, ◌∙◌, subst, filter, arith}
+use Rattle.std.proofs.Common.{◌≡◌, ℕ, List, [], ◌∷◌, Option, Some, None, refl, Bool, true, false, cond, ap, sym, ◌∙◌, subst, arith}
 use Rattle.std.specs.Prelude.{◌&&◌, ◌||◌, not, ◌==◌, option_map}
-use Rattle.std.specs.List.{list_any}
 use Rattle.std.proofs.lemmas.Bool.{and_parts}
 use Rattle.std.proofs.lemmas.Bool.Decides.{nat_tests}
 use Rattle.vss_names.specs.declared.order.Order.{Order}
@@ -18,7 +17,7 @@ use Rattle.set_agenda.specs.declared.limit.Limit.{Limit}
 use Rattle.set_agenda.specs.declared.limit.Limit.TheVariants.{Hold as HoldLimit, Freeze as FreezeLimit, Answer as AnswerLimit}
 use Rattle.set_agenda.specs.declared.place.Place.{Place}
 use Rattle.set_agenda.specs.declared.group.Group.TheVariants.{PreCommit}
-use Rattle.set_agenda.specs.Agenda.{Agenda, Open, all_say, group_code, groups_left, is_among, is_asked, is_done, is_orders, left, left_from, level_code, next_member, open_order, open_place, order_if, order_now, order_of, places, plain, same_place, waited_for, waits_now, with_group}
+use Rattle.set_agenda.specs.Agenda.{Agenda, Open, all_say, group_code, groups_left, is_among, is_asked, is_done, is_orders, left, left_from, level_code, next_member, open_place, order_if, order_now, order_of, places, plain, same_place, waited_for, waits_now, with_group}
 use Rattle.set_agenda.specs.Advance.{advance, asks_unfailed, others, others_if, unasked, unasked_if}
 use Rattle.set_agenda.specs.Course.{Course, answered_to, decided, error_of, failed, fails_set, is_decisive, lost, lost_decided, lost_to, settled, settled_if, settled_in, stepped_as, told, worked}
 use Rattle.set_agenda.proofs.Closings.{unless}

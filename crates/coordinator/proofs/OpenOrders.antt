@@ -1,9 +1,8 @@
 -- Orders that are sent as a group opens, and closed as it waits for nobody.
-use Rattle.std.proofs.Common.{◌≡◌, ◌≢◌, ℕ, ◌+◌, ◌<◌, ◌≤◌, List, [], ◌∷◌, ◌++◌, length, get_or, set, Option, Some, None, refl, Bool, true, false, cond, ap, sym, ◌∙◌, subst, arith, append-nil}
-use Rattle.std.specs.Prelude.{◌&&◌, ◌||◌, not, ◌==◌, count_by}
+use Rattle.std.proofs.Common.{◌≡◌, ◌≢◌, ℕ, ◌+◌, ◌<◌, List, [], ◌∷◌, ◌++◌, length, Option, Some, None, refl, Bool, true, false, cond, ap, sym, ◌∙◌, arith, append-nil}
+use Rattle.std.specs.Prelude.{◌&&◌, not, ◌==◌, count_by}
 use Rattle.std.proofs.lemmas.List.{get_or-set_other, get_or-set_same}
 use Rattle.std.proofs.lemmas.List.Sums.{sum_by-append}
-use Rattle.std.proofs.lemmas.Bool.Decides.{nat_tests}
 use Rattle.std.proofs.lemmas.Bool.{and_parts}
 use Rattle.vss_names.specs.declared.order.Order.{Order}
 use Rattle.vss_names.specs.declared.order.Order.TheVariants.{Identify, PrepareBackup, PrepareSnapshot, Freeze, Thaw, PostSnapshot, BackupComplete}
@@ -14,8 +13,8 @@ use Rattle.set_agenda.specs.Agenda.{Open, group_code, is_among, is_asked, is_ord
 use Rattle.set_agenda.specs.Course.{OrderGroup, group_of_orders, opens}
 use Rattle.writer_calls.specs.declared.mailbox.Mailbox.{Mailbox}
 use Rattle.writer_calls.specs.declared.order_counts.OrderCounts.{OrderCounts}
-use Rattle.writer_calls.specs.Mailbox.{closed, count_of, empty, mailbox_at, one_more, sent_to, total, with_mailbox}
-use Rattle.coordinator.specs.OpenOrders.{AreFit, AreReady, IsReady, counts_in, is_elsewhere, mailbox_in, nth_in, number_in, posted_to, stays}
+use Rattle.writer_calls.specs.Mailbox.{closed, empty, mailbox_at, one_more, sent_to, with_mailbox}
+use Rattle.coordinator.specs.OpenOrders.{AreFit, AreReady, IsReady, counts_in, is_elsewhere, mailbox_in, nth_in, posted_to, stays}
 
 -- ## one mailbox changes
 

@@ -1,7 +1,7 @@
 -- What a call tells, from what was noted before it and what is kept after it.
 use Rattle.std.proofs.Common.{◌≡◌, ℕ, List, [], ◌∷◌, Option, Some, None, refl, Bool, true, false, ap, sym, ◌∙◌, subst}
 use Rattle.std.specs.Prelude.{◌&&◌, not, is_none, is_some}
-use Rattle.set_agenda.specs.Agenda.{Agenda, Open, is_among, is_frozen, is_held, is_held_now, is_orders, is_working, next_step, next_volume, step_of}
+use Rattle.set_agenda.specs.Agenda.{Agenda, Open, is_frozen, is_held, is_held_now, is_orders, is_working, next_step, next_volume, step_of}
 use Rattle.set_agenda.proofs.Held.{held-log}
 use Rattle.set_agenda.specs.Advance.{others}
 use Rattle.set_agenda.specs.WriterSet.{writers}

@@ -1,6 +1,6 @@
 -- An agenda begins. What becomes of the course is the course's own function, by the kind of the agenda; the writers that
 -- are asked follow from what is kept of the course. (This project's own.)
-use Rattle.std.specs.Prelude.{ℕ, ◌==◌, ◌&&◌, Bool, not, nat_lt, List, [], filter, length, map}
+use Rattle.std.specs.Prelude.{ℕ, ◌&&◌, Bool, not, nat_lt, List, [], filter, length, map}
 use Rattle.writer_state.specs.WriterRow.{row_gathered}
 use Rattle.set_agenda.specs.declared.kind.Kind.{Kind}
 use Rattle.set_agenda.specs.declared.kind.Kind.TheVariants.{Gather, Prepare, Snapshot, Complete}

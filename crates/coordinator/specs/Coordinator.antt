@@ -1,6 +1,6 @@
 -- What contracts see of a coordinator: the names and classes of the registered writers, and what is kept of the course
 -- of the session. The words here are those in which the conditions of its calls are said. (This project's own.)
-use Rattle.std.specs.Prelude.{ℕ, ◌≡◌, ◌<◌, ◌-◌, ◌^◌, ◌==◌, ◌+◌, ◌++◌, ◌&&◌, ◌||◌, Bool, true, false, List, [], ◌∷◌, length, position, slice_get, Option, Some, None, option_map, is_some, Result, Ok, Err, Vec}
+use Rattle.std.specs.Prelude.{ℕ, ◌<◌, ◌-◌, ◌^◌, ◌==◌, ◌+◌, ◌++◌, ◌&&◌, ◌||◌, Bool, true, false, List, [], ◌∷◌, length, position, slice_get, Option, Some, None, option_map, is_some, Result, Ok, Err, Vec}
 use Rattle.std.specs.List.{list_any}
 use Rattle.std.specs.Global.{Global}
 use Rattle.std.specs.Str.{bytes_eq}
@@ -14,7 +14,7 @@ use Rattle.set_agenda.specs.Course.{Course, failed}
 use Rattle.coordinator.specs.declared.kept_course.KeptCourse.{KeptCourse}
 use Rattle.coordinator.specs.declared.register_fault.RegisterFault.{RegisterFault}
 use Rattle.coordinator.specs.declared.register_fault.RegisterFault.TheVariants.{Double, OutOfMemory}
-use Rattle.coordinator.specs.KeptCourse.{IsBy, IsSound, StandsFor, left_now}
+use Rattle.coordinator.specs.KeptCourse.{IsBy, StandsFor, left_now}
 
 -- a registered writer
 pub record Registered : Type 0 where

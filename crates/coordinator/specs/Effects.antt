@@ -1,11 +1,10 @@
 -- What a call tells of the step from one course to the next: which writers it froze, thawed or lost, what became of the
 -- set in progress, and whether an agenda ended. (This project's own.)
-use Rattle.std.specs.Prelude.{ℕ, ◌≡◌, ◌&&◌, Bool, not, List, [], ◌∷◌, Option, Some, None, is_some}
+use Rattle.std.specs.Prelude.{ℕ, ◌≡◌, ◌&&◌, Bool, not, List, [], ◌∷◌, Option, None, is_some}
 use Rattle.vss_names.specs.declared.order.Order.{Order}
 use Rattle.vss_names.specs.declared.set_outcome.SetOutcome.{SetOutcome}
 use Rattle.vss_names.specs.declared.set_outcome.SetOutcome.TheVariants.{Running, Complete, Failed}
-use Rattle.set_agenda.specs.declared.place.Place.{Place}
-use Rattle.set_agenda.specs.Agenda.{Agenda, is_frozen, left, open_place}
+use Rattle.set_agenda.specs.Agenda.{is_frozen, left, open_place}
 use Rattle.set_agenda.specs.Course.{Course}
 use Rattle.set_agenda.specs.WriterSet.{writers, writers_of}
 use Rattle.coordinator.specs.declared.before.Before.{Before}

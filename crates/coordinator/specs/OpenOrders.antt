@@ -1,6 +1,6 @@
 -- The mailboxes that fit a course. A writer was sent an order for each group of orders that opened with it as a member,
 -- and its open order is that of the open group, where that waits for it. (This project's own.)
-use Rattle.std.specs.Prelude.{ℕ, ◌≡◌, ◌<◌, ◌≤◌, ◌-◌, ◌^◌, Bool, true, false, not, List, [], ◌∷◌, ◌&&◌, count_by, Option, Some, None, option_map, Result, Ok, Err}
+use Rattle.std.specs.Prelude.{ℕ, ◌≡◌, ◌<◌, ◌≤◌, ◌-◌, ◌^◌, Bool, true, false, not, List, ◌&&◌, count_by, Option, Some, None, option_map, Result, Ok, Err}
 use Rattle.vss_names.specs.declared.order.Order.{Order}
 use Rattle.vss_names.specs.declared.order.Order.TheVariants.{Identify, PrepareBackup, PrepareSnapshot, Freeze, Thaw, PostSnapshot, BackupComplete}
 use Rattle.set_agenda.specs.declared.place.Place.{Place}

@@ -1,4 +1,4 @@
-use Rattle.std.proofs.Common.{rules, ◌∙◌}
+use Rattle.std.proofs.Common.{◌∙◌}
 use Rattle.coordinator.proofs.Telling.{frozen-none, frozen-some}
 use Rattle.coordinator.proofs.before.frozen_now.Goals as goal
 

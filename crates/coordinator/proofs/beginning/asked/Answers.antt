@@ -1,4 +1,4 @@
-use Rattle.std.proofs.Common.{arith, rules, ap, sym, length, ◌≡◌, ◌==◌, ◌||◌, ◌∙◌}
+use Rattle.std.proofs.Common.{arith, rules, ap, length, ◌≡◌, ◌==◌, ◌||◌, ◌∙◌}
 use Rattle.std.specs.Prelude.{◌&&◌, nat_lt}
 use Rattle.set_agenda.specs.WriterSet.{writers}
 use Rattle.component_doc.specs.Selection.{takers}

@@ -1,5 +1,5 @@
 use Rattle.coordinator.specs.OpenOrders.{SentAtMost}
-use Rattle.std.proofs.Common.{subst, rules, ap, sym, length, ◌∙◌}
+use Rattle.std.proofs.Common.{subst, ap, sym, length, ◌∙◌}
 use Rattle.set_agenda.specs.Course.{released}
 use Rattle.coordinator.specs.KeptCourse.{kind_if_done}
 use Rattle.coordinator.proofs.Calls.{held, released-stands, sound-after}

@@ -1,5 +1,5 @@
 use Rattle.std.proofs.Common.{ap, arith, rules, suc, sym, length, [], ◌≡◌, ◌<◌, ◌∷◌, ◌++◌, ◌∙◌}
-use Rattle.coordinator.specs.Coordinator.{registered_in, writer_count}
+use Rattle.coordinator.specs.Coordinator.{registered_in}
 use Rattle.coordinator.proofs.Calls.{held}
 use Rattle.coordinator.proofs.Registering.{length-more, stands-registered}
 use Rattle.coordinator.proofs.coordinator.Coordinator.register.Goals as goal

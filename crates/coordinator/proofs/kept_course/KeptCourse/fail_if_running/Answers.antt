@@ -1,5 +1,4 @@
 use Rattle.std.proofs.Common.{ap, false, length, rules, subst, sym, true, ◌≡◌, ◌∙◌}
-use Rattle.set_agenda.specs.Course.{failed}
 use Rattle.coordinator.specs.Coordinator.{is_running}
 use Rattle.coordinator.specs.KeptCourse.{IsBy, StandsFor, kind_if_done}
 use Rattle.coordinator.specs.OpenOrders.{SentAtMost}

@@ -1,4 +1,4 @@
-use Rattle.std.proofs.Common.{refl, rules, subst, sym, ◌≡◌}
+use Rattle.std.proofs.Common.{refl, rules, subst, ◌≡◌}
 use Rattle.set_agenda.specs.declared.kind.Kind.TheVariants.{Gather, Prepare}
 use Rattle.set_agenda.specs.Agenda.{is_among}
 use Rattle.set_agenda.specs.Course.{members_from}

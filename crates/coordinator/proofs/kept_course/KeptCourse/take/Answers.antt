@@ -1,4 +1,4 @@
-use Rattle.std.proofs.Common.{rules, ap, arith, sym, None, ◌≡◌, ◌<◌, ◌∙◌}
+use Rattle.std.proofs.Common.{rules, ap, arith, None, ◌≡◌, ◌∙◌}
 use Rattle.std.specs.Prelude.{Ok}
 use Rattle.writer_calls.specs.Mailbox.{answer_to, mailbox_at, standing}
 use Rattle.coordinator.specs.OpenOrders.{refusal}

@@ -1,4 +1,4 @@
-use Rattle.std.proofs.Common.{rules, ap, ◌∙◌}
+use Rattle.std.proofs.Common.{ap, ◌∙◌}
 use Rattle.coordinator.specs.KeptCourse.{changed}
 use Rattle.coordinator.proofs.RowChanges.{where-at}
 use Rattle.coordinator.proofs.row_change.RowChange.of_writer.Goals as goal

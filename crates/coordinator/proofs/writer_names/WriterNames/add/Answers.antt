@@ -1,4 +1,4 @@
-use Rattle.std.proofs.Common.{rules, ap, refl, sym, map, arith, ◌∙◌, ◌≡◌, ◌<◌, List, ℕ, Vec, Global, Bool}
+use Rattle.std.proofs.Common.{rules, ap, refl, map, ◌∙◌, ◌≡◌, ℕ, Vec, Global, Bool}
 use Rattle.std.specs.Str.{bytes_eq}
 use Rattle.indexmap.specs.IndexMap.{insert_entry}
 use Rattle.coordinator.specs.Coordinator.{registered}
