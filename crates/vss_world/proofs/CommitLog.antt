@@ -1,14 +1,13 @@
 -- What the log of a running agenda says of the Commit steps: once a Release step is made, or the agenda is over, all of them are; and
 -- where one is the next step, the Cut step is made.
-use Rattle.std.proofs.Common.{◌≡◌, ℕ, ◌==◌, List, [], ◌∷◌, ◌++◌, refl, ap, sym, ◌∙◌, subst, Bool, true, false, Option, Some, None, map, filter, arith}
+use Rattle.std.proofs.Common.{◌≡◌, ℕ, ◌==◌, List, [], ◌∷◌, refl, ap, sym, ◌∙◌, subst, Bool, true, false, Some, map, filter, arith}
 use Rattle.std.specs.Prelude.{◌&&◌, ◌||◌, not, if◌then◌else◌}
 use Rattle.std.proofs.lemmas.Bool.Decides.{nat_tests}
 use Rattle.std.proofs.lemmas.List.Folds.{list_any-append}
 use Rattle.vss_names.specs.declared.level.Level.TheVariants.{System, BackEnd, FrontEnd}
-use Rattle.vss_names.specs.declared.order.Order.TheVariants.{Identify, PrepareBackup, PrepareSnapshot, Freeze, Thaw, PostSnapshot, BackupComplete}
+use Rattle.vss_names.specs.declared.order.Order.TheVariants.{Identify, PrepareBackup, PrepareSnapshot, Freeze, BackupComplete}
 use Rattle.writer_state.specs.declared.said.Said.{Said}
-use Rattle.set_agenda.specs.declared.group.Group.{Group}
-use Rattle.set_agenda.specs.declared.group.Group.TheVariants.{Orders, PreCommit, Flush, Hold, Cut, Commit, Release, PostCommit}
+use Rattle.set_agenda.specs.declared.group.Group.TheVariants.{Orders, PreCommit, Flush, Hold, Cut, Commit, Release}
 use Rattle.set_agenda.specs.declared.kind.Kind.{Kind}
 use Rattle.set_agenda.specs.declared.kind.Kind.TheVariants.{Gather, Prepare, Snapshot, Complete}
 use Rattle.set_agenda.specs.declared.place.Place.{Place}
@@ -36,8 +35,8 @@ not_open e = cc
 before_cut : (q : Place) (a : Agenda) (later : List Open) → same_place (plain (Orders PrepareSnapshot)) q ≡ false → same_place (at_level Freeze FrontEnd) q ≡ false → same_place (at_level Freeze BackEnd) q ≡ false → same_place (at_level Freeze System) q ≡ false
     → same_place (plain PreCommit) q ≡ false → same_place (plain Flush) q ≡ false → same_place (plain Hold) q ≡ false → same_place (plain Cut) q ≡ false
     → same_place (open_place (with_group (plain (Orders PrepareSnapshot)) (waited_for a (plain (Orders PrepareSnapshot))) (with_group (at_level Freeze FrontEnd) (waited_for a (at_level Freeze FrontEnd))
-      (with_group (at_level Freeze BackEnd) (waited_for a (at_level Freeze BackEnd)) (with_group (at_level Freeze System) (waited_for a (at_level Freeze System)) (with_group (plain PreCommit) (waited_for a (plain PreCommit))
-      (with_group (plain Flush) (waited_for a (plain Flush)) (with_group (plain Hold) (waited_for a (plain Hold)) (with_group (plain Cut) (waited_for a (plain Cut)) later))))))))) q ≡ true
+    (with_group (at_level Freeze BackEnd) (waited_for a (at_level Freeze BackEnd)) (with_group (at_level Freeze System) (waited_for a (at_level Freeze System)) (with_group (plain PreCommit) (waited_for a (plain PreCommit))
+    (with_group (plain Flush) (waited_for a (plain Flush)) (with_group (plain Hold) (waited_for a (plain Hold)) (with_group (plain Cut) (waited_for a (plain Cut)) later))))))))) q ≡ true
     → (waited_for a (plain Cut) ≡ []) × (same_place (open_place later) q ≡ true)
 before_cut q a later snapshot front back system pre flush hold cut h =
     closes q (plain Cut) (waited_for a (plain Cut)) later cut

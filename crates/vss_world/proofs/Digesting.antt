@@ -1,5 +1,5 @@
 -- Digests of volumes and of images: what is told of them, and that nothing but counts of devices changes.
-use Rattle.std.proofs.Common.{◌≡◌, ℕ, ◌<◌, ◌==◌, List, [], ◌∷◌, length, refl, ap, sym, ◌∙◌, subst, arith, Bool, true, false, Option, Some, None, map, slice_get}
+use Rattle.std.proofs.Common.{◌≡◌, ℕ, ◌<◌, ◌==◌, List, [], ◌∷◌, length, refl, ap, sym, ◌∙◌, subst, arith, Bool, true, false, Option, Some, None, slice_get}
 use Rattle.std.specs.Prelude.{is_some, filter, if◌then◌else◌, Result, Ok, Err, IfOk, IfSome, All}
 use Rattle.std.specs.List.{concat}
 use Rattle.std.proofs.lemmas.Bool.Decides.{nat_tests}
@@ -14,7 +14,7 @@ use Rattle.vss_model.specs.State.{State, history_of, kept, is_kept_set}
 use Rattle.vss_model.specs.Acts.{Act, state}
 use Rattle.vss_model.specs.Told.{IsDigestIf}
 use Rattle.provider.specs.Groups.{AreGroups, history_at}
-use Rattle.provider.specs.Devices.{devices_of, counts_of, AreKept}
+use Rattle.provider.specs.Devices.{devices_of, AreKept}
 use Rattle.provider.specs.Calls.{IsDigestNow, IsDigestShown, HasImage}
 use Rattle.provider.specs.Calls.{IsQuiet as IsGroupsQuiet}
 use Rattle.provider.specs.Lending.{IsDigestOfRow, IsDigestedAt}

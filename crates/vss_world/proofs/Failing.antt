@@ -1,15 +1,11 @@
 -- The set in progress fails: its agenda is over, no volume is held any more, and its row says so.
-use Rattle.std.proofs.Common.{◌≡◌, ℕ, zero, suc, ◌+◌, ◌<◌, ◌≤◌, ◌==◌, List, [], ◌∷◌, length, refl, ap, sym, ◌∙◌, subst, arith, Bool, true, false, ◌&&◌, Option, Some, None, map, replicate}
+use Rattle.std.proofs.Common.{◌≡◌, ℕ, ◌+◌, ◌<◌, ◌≤◌, ◌==◌, List, [], ◌∷◌, refl, ap, sym, ◌∙◌, subst, arith, Bool, true, false, ◌&&◌, Option, Some, None, map}
 use Rattle.std.specs.Prelude.{find, not, if◌then◌else◌}
-use Rattle.std.specs.List.{slice_index_or}
 use Rattle.std.proofs.lemmas.Bool.Decides.{nat_tests}
 use Rattle.vss_names.specs.declared.vss_result.VssResult.{VssResult}
 use Rattle.vss_names.specs.declared.set_outcome.SetOutcome.{SetOutcome}
 use Rattle.vss_names.specs.declared.set_outcome.SetOutcome.TheVariants.{Failed}
-use Rattle.set_agenda.specs.Agenda.{Agenda}
-use Rattle.set_agenda.specs.Agenda.{is_held as agenda_holds}
 use Rattle.set_agenda.specs.Course.{Course, failed as course_failed}
-use Rattle.scenario.specs.Plan.{Plan}
 use Rattle.vss_model.specs.State.{State, SetRow, in_progress, is_running}
 use Rattle.vss_model.specs.Ending.{failed_in, row_settled}
 use Rattle.vss_model.specs.Effects.{ended_of}

@@ -1,21 +1,15 @@
 -- A move of the sessions, against the acts: what they come to, with the images that go.
-use Rattle.std.proofs.Common.{◌≡◌, ℕ, ◌+◌, ◌*◌, ◌<◌, ◌≤◌, ◌^◌, ◌-◌, List, [], ◌∷◌, ◌++◌, length, refl, ap, sym, ◌∙◌, subst, arith, Bool, true, false, ◌||◌, Option, Some, None, ◌⊎◌, inl, inr, map}
-use Rattle.std.specs.Prelude.{is_some, if◌then◌else◌}
+use Rattle.std.proofs.Common.{◌≡◌, ℕ, ◌+◌, ◌*◌, ◌<◌, ◌≤◌, ◌^◌, ◌-◌, List, [], length, ap, sym, ◌∙◌, subst, arith, Bool, false, Option, Some, None, map}
 use Rattle.write_history.specs.declared.evicted.Evicted.{Evicted}
 use Rattle.write_history.specs.History.{History}
-use Rattle.set_agenda.specs.Agenda.{Agenda, left, is_asking, is_working}
-use Rattle.set_agenda.specs.Agenda.{is_held as agenda_holds}
 use Rattle.scenario.specs.Plan.{Plan}
 use Rattle.vss_model.specs.declared.event.Event.{Event}
-use Rattle.vss_model.specs.State.{State, left_now}
-use Rattle.vss_model.specs.Ending.{runs}
+use Rattle.vss_model.specs.State.{State}
 use Rattle.vss_model.specs.Acts.{Act, state, after}
 use Rattle.vss_model.specs.Told.{mark_of}
 use Rattle.vss_model.specs.Trail.{is_fault}
 use Rattle.vss_model.specs.Outcome.{IsOutcome, told_act}
-use Rattle.vss_model.proofs.Appending.{state-append}
 use Rattle.vss_model.proofs.Gathered.{named_known_components}
-use Rattle.vss_model.proofs.Waiting.{working_or_asking}
 use Rattle.provider.specs.Groups.{AreGroups}
 use Rattle.provider.specs.Devices.{devices_of, counts_of, AreKept}
 use Rattle.provider.specs.Preparing.{ProviderValue}

@@ -4,18 +4,16 @@ use Rattle.std.specs.Prelude.{if◌then◌else◌}
 use Rattle.writer_state.specs.declared.writer_row.WriterRow.{WriterRow}
 use Rattle.scenario.specs.Plan.{Plan}
 use Rattle.vss_model.specs.declared.event.Event.{Event}
-use Rattle.vss_model.specs.declared.outcome.Outcome.{Outcome}
 use Rattle.vss_model.specs.declared.told.Told.{Told}
-use Rattle.vss_model.specs.declared.told.Told.TheVariants as told
 use Rattle.vss_model.specs.Reply.{Reply, Fine, Faulted, FaultedAfter, Numbered, Coded, NotSelectable, BlockOf, BlocksOf, KeptSets, PropertiesOf, Deleted, DocumentOf, StatusOf, Answered, Stepped, Idled}
-use Rattle.vss_model.specs.Acts.{Act, state, reply, after}
+use Rattle.vss_model.specs.Acts.{Act, state, reply}
 use Rattle.vss_model.specs.Told.{Fits}
-use Rattle.vss_model.specs.Outcome.{HasLists, IsOutcome, told_act}
+use Rattle.vss_model.specs.Outcome.{HasLists, told_act}
 use Rattle.vss_world.specs.declared.reply.Reply.{Reply as Answer}
 use Rattle.vss_world.specs.declared.reply.Reply.TheVariants.{Blocked, Moved}
 use Rattle.vss_world.specs.Devices.{tells_of}
-use Rattle.vss_world.specs.Stands.{WorldValue, StandsAt, Stands}
-use Rattle.vss_world.specs.Moves.{IsStepped, IsMoved, AreListed, listed_after, lists_sets}
+use Rattle.vss_world.specs.Stands.{WorldValue, Stands}
+use Rattle.vss_world.specs.Moves.{IsStepped, AreListed, listed_after, lists_sets}
 
 if_listed : (b : Bool) (listed : List ℕ) → b ≡ true → (if b then listed else []) ≡ listed
 if_listed true listed e = refl

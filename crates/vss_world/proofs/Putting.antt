@@ -45,13 +45,13 @@ use Rattle.sessions.specs.Sets.{current_of}
 use Rattle.sessions.specs.Keeps.{SessionsValue, Keeps, IsInOrder, Leaves, IsOf as IsSessionsOf}
 use Rattle.sessions.specs.Moves.{IsFailed}
 use Rattle.vss_world.specs.Devices.{tells_of, RoseFor}
-use Rattle.vss_world.specs.Stands.{IsOf, IsInPlan, Stands, IsStanding, IfStands}
+use Rattle.vss_world.specs.Stands.{IsOf, IsInPlan, Stands, IfStands}
 use Rattle.vss_world.specs.Moves.{IsMoved, IsBlocked, simple_outcome, volume_of_line}
 use Rattle.vss_world.specs.Puts.{IsWriteLine, told_if, AreEvicted}
 use Rattle.vss_world.proofs.Moved.{world_of, Parts, OfDevices, Comes, goes_on, leaves_of, in_order, moved, clean_devices, failed_devices}
 use Rattle.vss_world.proofs.Simple.{LineComes, line_moves, after_line}
 use Rattle.vss_world.proofs.Rising.{rose_for}
-use Rattle.vss_world.proofs.Failing.{failed_agenda, failed_ends}
+use Rattle.vss_world.proofs.Failing.{failed_ends}
 use Rattle.vss_world.proofs.InPlan.{in_failed_in}
 use Rattle.vss_world.proofs.Losing.{AreUpTo, AllUpTo, not_lost, lost_at, up_to_most}
 

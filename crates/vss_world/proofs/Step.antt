@@ -1,14 +1,14 @@
 -- A step of the provider, made or failed: what it comes to.
-use Rattle.std.proofs.Common.{◌≡◌, ℕ, zero, suc, List, [], ◌∷◌, length, refl, ap, sym, ◌∙◌, subst, Bool, true, false, ◌&&◌, Option, Some, None, inl, map}
-use Rattle.std.specs.Prelude.{not, is_ok, IfSome, OnOk, Result, Ok, Err, slice_get, slice_set, option_map}
+use Rattle.std.proofs.Common.{◌≡◌, ℕ, List, [], ◌∷◌, refl, ap, sym, ◌∙◌, subst, Bool, true, false, ◌&&◌, Option, Some, None, inl, map}
+use Rattle.std.specs.Prelude.{not, is_ok, IfSome, OnOk, Result, Ok, Err, slice_get, option_map}
 use Rattle.write_history.specs.declared.evicted.Evicted.{Evicted}
 use Rattle.write_history.specs.declared.mark.Mark.{Mark}
 use Rattle.write_history.specs.declared.mark.Mark.TheVariants.{Clean, Fault}
 use Rattle.write_history.specs.History.{History, dropped}
 use Rattle.set_agenda.specs.declared.group.Group.{Group}
-use Rattle.set_agenda.specs.declared.group.Group.TheVariants.{Orders, PreCommit, Flush, Hold, Cut, Commit, Release, PostCommit}
+use Rattle.set_agenda.specs.declared.group.Group.TheVariants.{Flush}
 use Rattle.set_agenda.specs.Agenda.{Open, open_group, next_volume, is_orders, is_working}
-use Rattle.set_agenda.specs.Course.{Course, stepped as course_stepped}
+use Rattle.set_agenda.specs.Course.{stepped as course_stepped}
 use Rattle.coordinator.specs.Coordinator.{works}
 use Rattle.scenario.specs.Plan.{Plan}
 use Rattle.writer_state.specs.declared.writer_row.WriterRow.{WriterRow}
@@ -24,7 +24,6 @@ use Rattle.vss_model.specs.Told.{Fits, mark_if, mark_of}
 use Rattle.vss_model.specs.Outcome.{IsOutcome, told_act}
 use Rattle.vss_model.proofs.CutStep.{after_provider}
 use Rattle.vss_model.proofs.FlushFails.{outcome_is_running}
-use Rattle.vss_model.proofs.HoldOpen.{unreleased_at_hold}
 use Rattle.provider.specs.declared.device_fault.DeviceFault.{DeviceFault}
 use Rattle.provider.specs.Groups.{AreGroups, IfStandFor}
 use Rattle.provider.specs.Devices.{devices_of, counts_of, AreKept, RoseAlone, volume_place}
@@ -42,8 +41,8 @@ use Rattle.vss_world.proofs.Moved.{world_of, OfDevices, moved, clean_devices, fa
 use Rattle.vss_world.proofs.Following.{at_of}
 use Rattle.vss_world.proofs.Timed.{none_gone}
 use Rattle.vss_world.proofs.Waits.{works_as}
-use Rattle.vss_world.proofs.Provided.{cutting, volume_within}
-use Rattle.vss_world.proofs.Made.{made_groups, made_in, fails_in, failed_volumes, failed_agenda, stepped_made, stepped_fails}
+use Rattle.vss_world.proofs.Provided.{cutting}
+use Rattle.vss_world.proofs.Made.{made_groups, made_in, fails_in, failed_volumes, stepped_made, stepped_fails}
 
 -- what sessions say of the next step, and of the one that they made
 pub record IsNext (x : SessionsValue) (group : Group) (volume : Option ℕ) : Type 0 where

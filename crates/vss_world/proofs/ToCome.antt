@@ -1,8 +1,8 @@
 -- What the provider has, at the states of acts: the image of the set in progress is missing only where it is held back, newest, and names
 -- no block. So all that is asked of the histories is the same of those of the definitions.
-use Rattle.std.proofs.Common.{◌≡◌, ℕ, zero, suc, ◌+◌, ◌<◌, ◌==◌, List, [], ◌∷◌, length, refl, ap, sym, ◌∙◌, subst, arith, Bool, true, false, Option, Some, None, ◌⊎◌, inl, inr, map, filter, slice_get}
-use Rattle.std.specs.Prelude.{not, ◌&&◌, if◌then◌else◌}
-use Rattle.write_history.specs.History.{Image, History, dropped, without_set, point_in}
+use Rattle.std.proofs.Common.{◌≡◌, ℕ, ◌+◌, List, length, refl, ap, sym, ◌∙◌, subst, arith, Bool, true, false, Option, Some, None, inl, inr, map}
+use Rattle.std.specs.Prelude.{not, ◌&&◌}
+use Rattle.write_history.specs.History.{History, dropped, point_in}
 use Rattle.write_history.specs.Slots.{Placed, gone_up_to, group_used, copies}
 use Rattle.set_agenda.specs.declared.group.Group.TheVariants.{Hold, Cut, Commit, Release}
 use Rattle.set_agenda.specs.declared.kind.Kind.{Kind}
@@ -19,9 +19,9 @@ use Rattle.vss_model.proofs.HeldOfSet.{IsOf, Tied, tied}
 use Rattle.vss_model.proofs.HeldImage.{image_runs, held_point}
 use Rattle.vss_model.proofs.NewestImage.{newest_image}
 use Rattle.vss_model.proofs.OneCut.{images_in_time}
-use Rattle.vss_world.specs.Provided.{is_to_come, dropped_if, without, provided_of, provided}
+use Rattle.vss_world.specs.Provided.{is_to_come, without, provided_of, provided}
 use Rattle.vss_world.proofs.Unnamed.{IsUnnamed}
-use Rattle.vss_world.proofs.WithoutImages.{AreUnnamed, LeavesApart, without_long, without_at, none_without, map_without, change_without, change_free, dropped_without, gone_without, group_used_without, copies_without_all}
+use Rattle.vss_world.proofs.WithoutImages.{AreUnnamed, LeavesApart, without_long, none_without, map_without, change_without, change_free, dropped_without, gone_without, group_used_without, copies_without_all}
 use Rattle.vss_world.proofs.CommitLog.{unreleased}
 
 -- ## where an image is to come

@@ -1,11 +1,11 @@
 -- An image that is the newest of its volume and names no block: without it the volume's images use the same slots, and need as many.
 use Rattle.std.proofs.Common.{◌≡◌, ℕ, ◌+◌, ◌<◌, ◌≤◌, ◌==◌, List, [], ◌∷◌, ◌++◌, length, refl, ap, sym, ◌∙◌, subst, arith, Bool, true, false, Option, Some, None, ◌⊎◌, inl, inr, map, filter, drop}
-use Rattle.std.specs.Prelude.{not, nat_lt, if◌then◌else◌, slice_range, is_some}
+use Rattle.std.specs.Prelude.{not, if◌then◌else◌, slice_range}
 use Rattle.std.proofs.Math.Seq.{drop-length}
 use Rattle.std.proofs.lemmas.List.Folds.{drop_split}
 use Rattle.std.specs.List.{range_with_len}
-use Rattle.write_history.specs.History.{Write, Image, History, dropped, names, blocks_named, point_in, without_set, after_set, AreLater, AreInTime}
-use Rattle.write_history.specs.Slots.{Copy, writes_since, named, used, used_by, needs_slot, copy_of, copies_of}
+use Rattle.write_history.specs.History.{Write, Image, History, names, blocks_named, point_in, without_set, AreLater, AreInTime}
+use Rattle.write_history.specs.Slots.{Copy, writes_since, named, used, used_by, copy_of, copies_of}
 use Rattle.vss_model.specs.Facts.{IsNewest}
 
 -- no image of the set stands, or it is the newest, cut at the present end

@@ -1,10 +1,9 @@
 -- Histories without the image of a set on some volumes: what is done to the volumes is done to these likewise.
-use Rattle.std.proofs.Common.{◌≡◌, ℕ, zero, suc, ◌+◌, ◌<◌, ◌==◌, List, [], ◌∷◌, ◌++◌, length, refl, ap, sym, ◌∙◌, subst, arith, Bool, true, false, Option, Some, None, map, filter, slice_get}
-use Rattle.std.specs.Prelude.{not, nat_lt, ◌&&◌, if◌then◌else◌, option_map}
-use Rattle.write_history.specs.History.{Write, Image, History, dropped, written, without_set, after_set, point_in}
+use Rattle.std.proofs.Common.{◌≡◌, ℕ, zero, suc, ◌+◌, ◌==◌, List, [], ◌∷◌, ◌++◌, length, refl, ap, sym, ◌∙◌, arith, Bool, true, false, Some, None, map, filter, slice_get}
+use Rattle.std.specs.Prelude.{not, nat_lt, if◌then◌else◌}
+use Rattle.write_history.specs.History.{Write, Image, History, dropped, written, without_set, after_set}
 use Rattle.write_history.specs.Slots.{Placed, Copy, gone_up_to, group_used, used, copies_from, copies_of}
 use Rattle.set_agenda.specs.Course.{change_at}
-use Rattle.vss_model.specs.State.{history_in}
 use Rattle.vss_world.specs.Provided.{dropped_if, without}
 use Rattle.vss_world.proofs.Unnamed.{IsUnnamed, used_without, copies_without}
 

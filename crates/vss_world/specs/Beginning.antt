@@ -1,5 +1,5 @@
 -- The sessions before any act, with the scenario's writers, who are registered one after another. (This project's own.)
-use Rattle.std.specs.Prelude.{ℕ, ◌≡◌, length, map, take}
+use Rattle.std.specs.Prelude.{ℕ, ◌≡◌, map, take}
 use Rattle.set_agenda.specs.Course.{course_start}
 use Rattle.coordinator.specs.Coordinator.{CoordinatorState, Registered, Stands, IsOnTime, writer_count}
 use Rattle.scenario.specs.Plan.{Plan, WriterPlan, token}
