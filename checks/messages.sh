@@ -271,6 +271,10 @@ said "in $room/cut.area:" "it has $((size - 5000)) bytes" "an area has $size"
 { cat "$area"; echo; } > "$room/longer.area"
 ran 9 inspect < "$room/longer.area"
 said "it has $((size + 1)) bytes" "an area has $size"
+ran 9 inspect < <(cat "$room/cut.area")
+said "it has $((size - 5000)) bytes" "an area has $size"
+ran 9 inspect < <(cat "$room/longer.area")
+said "it has $((size + 1)) bytes" "an area has $size"
 ran 9 inspect < "$top/examples/first.scenario"
 said "it is a scenario: ./vss run < FILE"
 
