@@ -7,9 +7,10 @@ use Rattle.cow_volume.specs.GroupValue.{GroupValue}
 use Rattle.cow_volume.specs.StandsFor.{StandsFor}
 use Rattle.cow_volume.specs.Calls.{changed_at}
 use Rattle.cow_volume.proofs.Group.{slice_get-set_same, slice_get-set_other}
-use Rattle.provider.specs.Groups.{of_group, place_in, IsGroup, AreGroups, IsPlaceOf}
+use Rattle.scenario.specs.Places.{of_group, place_in, IsPlaceOf}
+use Rattle.provider.specs.Groups.{IsGroup, AreGroups}
 use Rattle.provider.proofs.InGroup.{changed_in_group, changed_elsewhere}
-use Rattle.provider.proofs.Places.{number_is, same_number}
+use Rattle.scenario.proofs.Places.{number_is, same_number}
 
 -- ## a list with one member changed
 

@@ -8,7 +8,7 @@ use Rattle.cow_volume.specs.GroupValue.{GroupValue}
 use Rattle.cow_volume.proofs.Reverting.{take_next}
 use Rattle.provider.specs.Groups.{AreWhole}
 use Rattle.provider.specs.Devices.{devices_of}
-use Rattle.provider.proofs.Places.{number_is}
+use Rattle.scenario.proofs.Places.{number_is}
 
 devices_more : {D : Type 0} (groups : List (GroupValue D)) (x : GroupValue D) → length (devices_of (groups ++ x ∷ [])) ≡ length (devices_of groups) + (length x.devices + 1)
 devices_more [] x = let e = length-append x.devices (x.area.device ∷ []) in omega (arith, e)

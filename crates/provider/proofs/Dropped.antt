@@ -4,11 +4,13 @@ use Rattle.std.specs.Prelude.{not, ◌||◌, ◌++◌, if◌then◌else◌}
 use Rattle.write_history.specs.History.{Image, History, dropped, without_set, sets_of}
 use Rattle.vss_model.specs.State.{has_image}
 use Rattle.vss_model.specs.Images.{count_images}
+use Rattle.volume_device.specs.declared.device.Device.{Ghosts}
 use Rattle.cow_volume.specs.GroupValue.{GroupValue}
 use Rattle.cow_volume.specs.StandsFor.{StandsFor}
-use Rattle.cow_volume.specs.Calls.{IsKept, changed_at, history_at, history_in, is_among, sets_at, sets_in}
+use Rattle.cow_volume.specs.Calls.{changed_at, history_at, history_in, is_among, sets_at, sets_in}
 use Rattle.cow_volume.proofs.Group.{place_at, slice_get_inside}
 use Rattle.cow_volume.proofs.Reverting.{take_next}
+use Rattle.provider.specs.Devices.{IsKeptGroup}
 use Rattle.provider.specs.GroupCalls.{IsGroupDrop, IsWithout}
 use Rattle.provider.proofs.Kept.{kept_itself, kept_then}
 use Rattle.provider.proofs.Looked.{point_among}
@@ -76,18 +78,18 @@ count-append n (h ∷ hs) ks =
 -- ## all volumes of a group
 
 -- the first k volumes are without the image, of which so many stood
-pub record IsDroppedTo {D : Type 0} (told : D → Option (List (List ℕ))) (size count : D → ℕ) (lending : D → Bool) (old new : GroupValue D) (k n stood : ℕ) : Type 0 where
-  pub kept : IsKept told size count lending old new
+pub record IsDroppedTo {D : Type 0} (device : Ghosts D) (old new : GroupValue D) (k n stood : ℕ) : Type 0 where
+  pub kept : IsKeptGroup device old new
   pub devices : new.devices ≡ old.devices
   pub area : new.area.device ≡ old.area.device
-  pub stands : (hs : List History) → StandsFor told old hs → StandsFor told new (dropped_first k n hs)
-  pub number : (hs : List History) → StandsFor told old hs → stood ≡ count_images n (take k hs)
+  pub stands : (hs : List History) → StandsFor device.told old hs → StandsFor device.told new (dropped_first k n hs)
+  pub number : (hs : List History) → StandsFor device.told old hs → stood ≡ count_images n (take k hs)
   pub none : stood ≡ 0 → new ≡ old
   pub low : stood ≤ k
 
-pub dropped_none : {D : Type 0} (told : D → Option (List (List ℕ))) (size count : D → ℕ) (lending : D → Bool) (x : GroupValue D) (n : ℕ) → IsDroppedTo told size count lending x x 0 n 0
-dropped_none told size count lending x n = record {
-  kept = kept_itself told size count lending x;
+pub dropped_none : {D : Type 0} (device : Ghosts D) (x : GroupValue D) (n : ℕ) → IsDroppedTo device x x 0 n 0
+dropped_none device x n = record {
+  kept = kept_itself device x;
   devices = refl;
   area = refl;
   stands = λ hs stood. stood;
@@ -120,34 +122,34 @@ counted_more told first old u n stood hs b within same stands so_far is =
     one true h e = sym (count_yes n h e)
     one false h e = sym (count_no n h e)
 
-pub dropped_more : {D : Type 0} (told : D → Option (List (List ℕ))) (size count : D → ℕ) (lending : D → Bool) (first old new : GroupValue D) (u n stood : ℕ)
-    → u < length old.area.volumes → IsDroppedTo told size count lending first old u n stood → IsGroupDrop told size count lending old new u n true → IsDroppedTo told size count lending first new (u + 1) n (stood + 1)
-dropped_more told size count lending first old new u n stood within was call =
+pub dropped_more : {D : Type 0} (device : Ghosts D) (first old new : GroupValue D) (u n stood : ℕ)
+    → u < length old.area.volumes → IsDroppedTo device first old u n stood → IsGroupDrop device old new u n true → IsDroppedTo device first new (u + 1) n (stood + 1)
+dropped_more device first old new u n stood within was call =
     let next : suc u ≡ u + 1 = omega arith in
     record {
-      kept = kept_then told size count lending first old new was.kept call.1.kept;
+      kept = kept_then device first old new was.kept call.1.kept;
       devices = call.1.devices ∙ was.devices;
       area = call.1.area ∙ was.area;
-      stands = λ hs stood. subst (λ (k : ℕ). StandsFor told new (dropped_first k n hs)) next (subst (λ (ks : List History). StandsFor told new ks) (one_more u n hs) (call.1.stands (dropped_first u n hs) (was.stands hs stood)));
-      number = λ hs stands. counted_more told first old u n stood hs true within (ap length was.kept.volumes) stands (was.number hs stands) (listed told old u n hs true within (was.stands hs stands) call.0);
+      stands = λ hs stood. subst (λ (k : ℕ). StandsFor device.told new (dropped_first k n hs)) next (subst (λ (ks : List History). StandsFor device.told new ks) (one_more u n hs) (call.1.stands (dropped_first u n hs) (was.stands hs stood)));
+      number = λ hs stands. counted_more device.told first old u n stood hs true within (ap length was.kept.volumes) stands (was.number hs stands) (listed device.told old u n hs true within (was.stands hs stands) call.0);
       none = λ e. absurd (omega arith);
       low = let l = was.low in omega (arith, l);
     }
 
-pub dropped_same : {D : Type 0} (told : D → Option (List (List ℕ))) (size count : D → ℕ) (lending : D → Bool) (first old new : GroupValue D) (u n stood : ℕ)
-    → u < length old.area.volumes → IsDroppedTo told size count lending first old u n stood → IsGroupDrop told size count lending old new u n false → IsDroppedTo told size count lending first new (u + 1) n stood
-dropped_same {D = D} told size count lending first old new u n stood within was call =
+pub dropped_same : {D : Type 0} (device : Ghosts D) (first old new : GroupValue D) (u n stood : ℕ)
+    → u < length old.area.volumes → IsDroppedTo device first old u n stood → IsGroupDrop device old new u n false → IsDroppedTo device first new (u + 1) n stood
+dropped_same {D = D} device first old new u n stood within was call =
     let next : suc u ≡ u + 1 = omega arith in
     let still : stood ≡ stood + 0 = omega arith in
-    subst (λ (x : GroupValue D). IsDroppedTo told size count lending first x (u + 1) n stood) (sym call.1) (record {
+    subst (λ (x : GroupValue D). IsDroppedTo device first x (u + 1) n stood) (sym call.1) (record {
       kept = was.kept;
       devices = was.devices;
       area = was.area;
       stands = λ hs stands.
           let now = was.stands hs stands in
-          let here = listed told old u n hs false within now call.0 in
-          subst (λ (k : ℕ). StandsFor told old (dropped_first k n hs)) next (subst (λ (ks : List History). StandsFor told old ks) (none_more u n hs (without_none n (history_at hs u).images here)) now);
-      number = λ hs stands. still ∙ counted_more told first old u n stood hs false within (ap length was.kept.volumes) stands (was.number hs stands) (listed told old u n hs false within (was.stands hs stands) call.0);
+          let here = listed device.told old u n hs false within now call.0 in
+          subst (λ (k : ℕ). StandsFor device.told old (dropped_first k n hs)) next (subst (λ (ks : List History). StandsFor device.told old ks) (none_more u n hs (without_none n (history_at hs u).images here)) now);
+      number = λ hs stands. still ∙ counted_more device.told first old u n stood hs false within (ap length was.kept.volumes) stands (was.number hs stands) (listed device.told old u n hs false within (was.stands hs stands) call.0);
       none = was.none;
       low = let l = was.low in omega (arith, l);
     })
@@ -158,14 +160,14 @@ take_all zero (x ∷ xs) e = absurd (omega arith)
 take_all (suc k) [] e = absurd (omega arith)
 take_all (suc k) (x ∷ xs) e = ap (λ ys. x ∷ ys) (take_all k xs (omega arith))
 
-pub dropped_all : {D : Type 0} (told : D → Option (List (List ℕ))) (size count : D → ℕ) (lending : D → Bool) (old new : GroupValue D) (k n stood : ℕ) → k ≡ length old.area.volumes → k < 4294967296 → IsDroppedTo told size count lending old new k n stood → IsWithout told size count lending old new n stood
-dropped_all told size count lending old new k n stood e few h = record {
+pub dropped_all : {D : Type 0} (device : Ghosts D) (old new : GroupValue D) (k n stood : ℕ) → k ≡ length old.area.volumes → k < 4294967296 → IsDroppedTo device old new k n stood → IsWithout device old new n stood
+dropped_all device old new k n stood e few h = record {
   kept = h.kept;
   devices = h.devices;
   area = h.area;
   stands = λ hs stands.
       let long : k ≡ length hs = e ∙ sym stands.histories in
-      subst (λ (ks : List History). StandsFor told new ks) (all_first n hs) (subst (λ (m : ℕ). StandsFor told new (dropped_first m n hs)) long (h.stands hs stands));
+      subst (λ (ks : List History). StandsFor device.told new ks) (all_first n hs) (subst (λ (m : ℕ). StandsFor device.told new (dropped_first m n hs)) long (h.stands hs stands));
   number = λ hs stands. h.number hs stands ∙ ap (count_images n) (take_all k hs (e ∙ sym stands.histories));
   none = h.none;
   most = let l = h.low in omega (arith, l, few);

@@ -1,5 +1,5 @@
--- The images of a set go from one volume, or from the volumes of all groups.
-use Rattle.std.proofs.Common.{◌≡◌, ℕ, zero, suc, ◌+◌, ◌<◌, ◌≤◌, ◌==◌, ◌*◌, List, [], ◌∷◌, ◌++◌, length, refl, ap, sym, ◌∙◌, subst, arith, Bool, true, false, Option, Some, map, slice_get, slice_set}
+-- The images of a set go from the volumes of all groups.
+use Rattle.std.proofs.Common.{◌≡◌, ℕ, zero, suc, ◌+◌, ◌<◌, ◌≤◌, ◌==◌, ◌*◌, List, [], ◌∷◌, ◌++◌, length, refl, ap, sym, ◌∙◌, subst, arith, Bool, true, false, Some, map, slice_get, slice_set}
 use Rattle.std.specs.Prelude.{if◌then◌else◌}
 use Rattle.std.proofs.lemmas.Option.{slice_get_within}
 use Rattle.std.proofs.lemmas.Bool.Decides.{nat_tests}
@@ -8,42 +8,18 @@ use Rattle.scenario.specs.declared.volume_row.VolumeRow.{VolumeRow}
 use Rattle.scenario.specs.Plan.{Plan}
 use Rattle.vss_model.specs.State.{has_image}
 use Rattle.vss_model.specs.Images.{count_images}
+use Rattle.volume_device.specs.declared.device.Device.{Ghosts}
 use Rattle.cow_volume.specs.GroupValue.{GroupValue}
 use Rattle.cow_volume.specs.StandsFor.{StandsFor}
 use Rattle.cow_volume.proofs.Group.{slice_set-same, slice_get-set_same, slice_get-set_other, slice_get_inside}
-use Rattle.provider.specs.Groups.{of_group, of_group_if, AreGroups, HasGroups, IsPlaceOf}
-use Rattle.provider.specs.Devices.{devices_of, AreKept}
-use Rattle.provider.specs.Calls.{IsDropped, AreWithout}
-use Rattle.provider.specs.GroupCalls.{IsGroupCall, IsGroupDrop, IsWithout}
-use Rattle.provider.proofs.Places.{number_is, same_number}
-use Rattle.provider.proofs.Becoming.{changes}
-use Rattle.provider.proofs.Kept.{keeps, kept_same, call_on, length_set}
-use Rattle.provider.proofs.Looked.{image_of}
-
--- ## one volume
-
--- the devices are as they were where those of the group that was called are
-pub devices_same : {D : Type 0} (groups : List (GroupValue D)) (g : ℕ) (x y : GroupValue D) → slice_get groups g ≡ Some x → y.devices ≡ x.devices → y.area.device ≡ x.area.device → devices_of (slice_set groups g y) ≡ devices_of groups
-devices_same [] g x y at devices area = cc
-devices_same {D = D} (z ∷ groups) zero x y at devices area =
-    let is : x ≡ z = cc in
-    ap (λ (ds : List D). ds ++ y.area.device ∷ devices_of groups) devices ∙ ap (λ (d : D). x.devices ++ d ∷ devices_of groups) area ∙ ap (λ (q : GroupValue D). q.devices ++ q.area.device ∷ devices_of groups) is
-devices_same {D = D} (z ∷ groups) (suc g) x y at devices area = ap (λ (ds : List D). z.devices ++ z.area.device ∷ ds) (devices_same groups g x y at devices area)
-
-pub same_groups : {D : Type 0} (old new : List (GroupValue D)) (g : ℕ) (x y : GroupValue D) → slice_get old g ≡ Some x → new ≡ slice_set old g y → y ≡ x → new ≡ old
-same_groups old new g x y was is same = is ∙ ap (slice_set old g) same ∙ slice_set-same old g x was
-
-pub dropped_on : {D : Type 0} (told : D → Option (List (List ℕ))) (size count : D → ℕ) (lending : D → Bool) (s : Plan) (old new : List (GroupValue D)) (v g u set : ℕ) (b : Bool) → IsPlaceOf s v g u → HasGroups s old
-    → IsGroupCall old new g (λ x y. IsGroupDrop told size count lending x y u set b) → IsDropped told size count lending s old new v set b
-dropped_on told size count lending s old new v g u set false place has c =
-    (image_of told s old v g u set c.before false place has c.was c.called.0, same_groups old new g c.before c.after c.was c.is c.called.1)
-dropped_on told size count lending s old new v g u set true place has c =
-    let changed = c.called.1 in (
-      image_of told s old v g u set c.before true place has c.was c.called.0,
-      call_on told size count lending s old new v g u c.before c.after place c.was c.is changed.kept,
-      ap devices_of c.is ∙ devices_same old g c.before c.after c.was changed.devices changed.area,
-      λ hs are. changes told s old new v g u c.before c.after hs (dropped set) place c.was c.is changed.kept.volumes changed.kept.slots are (changed.stands (of_group g s.volumes hs) (are.each g c.before c.was).stands),
-    )
+use Rattle.scenario.specs.Places.{of_group, of_group_if}
+use Rattle.provider.specs.Groups.{AreGroups, HasGroups}
+use Rattle.provider.specs.Devices.{devices_of}
+use Rattle.provider.specs.Calls.{AreWithout}
+use Rattle.provider.specs.GroupCalls.{IsWithout}
+use Rattle.scenario.proofs.Places.{number_is, same_number}
+use Rattle.provider.proofs.Flat.{devices_same}
+use Rattle.provider.proofs.Kept.{keeps, length_set}
 
 -- ## all groups
 
@@ -132,17 +108,17 @@ count_within n (h ∷ hs) = by_test (has_image n h) (count_within n hs)
     by_test false e = omega arith
 
 -- the groups below number k are without the set, of which so many stood; the others are as they were
-pub record AreWithoutTo {D : Type 0} (told : D → Option (List (List ℕ))) (size count : D → ℕ) (lending : D → Bool) (old new : List (GroupValue D)) (k n stood : ℕ) : Type 0 where
+pub record AreWithoutTo {D : Type 0} (device : Ghosts D) (old new : List (GroupValue D)) (k n stood : ℕ) : Type 0 where
   pub number : length new ≡ length old
-  pub done : (g : ℕ) (x y : GroupValue D) → g < k → slice_get old g ≡ Some x → slice_get new g ≡ Some y → (m : ℕ) × IsWithout told size count lending x y n m
+  pub done : (g : ℕ) (x y : GroupValue D) → g < k → slice_get old g ≡ Some x → slice_get new g ≡ Some y → (m : ℕ) × IsWithout device x y n m
   pub rest : (g : ℕ) → k ≤ g → slice_get new g ≡ slice_get old g
   pub devices : devices_of new ≡ devices_of old
-  pub so_many : (s : Plan) (hs : List History) → AreGroups told s old hs → stood ≡ sum_below k (λ g. count_images n (of_group g s.volumes hs))
+  pub so_many : (s : Plan) (hs : List History) → AreGroups device.told s old hs → stood ≡ sum_below k (λ g. count_images n (of_group g s.volumes hs))
   pub none : stood ≡ 0 → new ≡ old
   pub most : stood ≤ k * 4294967296
 
-pub without_none_yet : {D : Type 0} (told : D → Option (List (List ℕ))) (size count : D → ℕ) (lending : D → Bool) (xs : List (GroupValue D)) (n : ℕ) → AreWithoutTo told size count lending xs xs 0 n 0
-without_none_yet told size count lending xs n = record {
+pub without_none_yet : {D : Type 0} (device : Ghosts D) (xs : List (GroupValue D)) (n : ℕ) → AreWithoutTo device xs xs 0 n 0
+without_none_yet device xs n = record {
   number = refl;
   done = λ g x y l e f. absurd (omega arith);
   rest = λ g l. refl;
@@ -152,9 +128,9 @@ without_none_yet told size count lending xs n = record {
   most = omega arith;
 }
 
-pub without_more : {D : Type 0} (told : D → Option (List (List ℕ))) (size count : D → ℕ) (lending : D → Bool) (first old : List (GroupValue D)) (k n stood more : ℕ) (x y : GroupValue D) → slice_get old k ≡ Some x
-    → AreWithoutTo told size count lending first old k n stood → IsWithout told size count lending x y n more → AreWithoutTo told size count lending first (slice_set old k y) (k + 1) n (stood + more)
-without_more {D = D} told size count lending first old k n stood more x y at was now =
+pub without_more : {D : Type 0} (device : Ghosts D) (first old : List (GroupValue D)) (k n stood more : ℕ) (x y : GroupValue D) → slice_get old k ≡ Some x
+    → AreWithoutTo device first old k n stood → IsWithout device x y n more → AreWithoutTo device first (slice_set old k y) (k + 1) n (stood + more)
+without_more {D = D} device first old k n stood more x y at was now =
     let first_at : slice_get first k ≡ Some x = sym (was.rest k (omega arith)) ∙ at in
     let low = was.most in
     let less = now.most in
@@ -172,14 +148,14 @@ without_more {D = D} told size count lending first old k n stood more x y at was
       most = omega (arith, low, less);
     }
   where
-    by_test : (g : ℕ) (p q : GroupValue D) → g < k + 1 → slice_get first g ≡ Some p → slice_get (slice_set old k y) g ≡ Some q → (t : Bool) → (k == g) ≡ t → (m : ℕ) × IsWithout told size count lending p q n m
+    by_test : (g : ℕ) (p q : GroupValue D) → g < k + 1 → slice_get first g ≡ Some p → slice_get (slice_set old k y) g ≡ Some q → (t : Bool) → (k == g) ≡ t → (m : ℕ) × IsWithout device p q n m
     by_test g p q l e f true t =
         let same : k ≡ g = number_is k g t in
         let one : Some x ≡ Some p = sym at ∙ was.rest k (omega arith) ∙ ap (slice_get first) same ∙ e in
         let old_is : x ≡ p = cc in
         let two : Some y ≡ Some q = sym (slice_get-set_same old k x y at) ∙ ap (slice_get (slice_set old k y)) same ∙ f in
         let new_is : y ≡ q = cc in
-        (more, subst (λ (z : GroupValue D). IsWithout told size count lending z q n more) old_is (subst (λ (z : GroupValue D). IsWithout told size count lending x z n more) new_is now))
+        (more, subst (λ (z : GroupValue D). IsWithout device z q n more) old_is (subst (λ (z : GroupValue D). IsWithout device x z n more) new_is now))
     by_test g p q l e f false t =
         let apart : (k ≡ g → ⊥) = λ same. not_both (sym (same_number k g same) ∙ t) in
         was.done g p q (less g l t) e (sym (slice_get-set_other old k g y apart) ∙ f)
@@ -190,9 +166,9 @@ without_more {D = D} told size count lending first old k n stood more x y at was
         less : (g : ℕ) → g < k + 1 → (k == g) ≡ false → g < k
         less g l t = grind (arith, nat_tests)
 
-pub without_all : {D : Type 0} (told : D → Option (List (List ℕ))) (size count : D → ℕ) (lending : D → Bool) (old new : List (GroupValue D)) (k n stood : ℕ) → k ≡ length old → AreWithoutTo told size count lending old new k n stood → AreWithout told size count lending old new n stood
-without_all {D = D} told size count lending old new k n stood long h = record {
-  kept = keeps told size count lending old new h.number (λ g x y at there. (call g x y at there).1.kept);
+pub without_all : {D : Type 0} (device : Ghosts D) (old new : List (GroupValue D)) (k n stood : ℕ) → k ≡ length old → AreWithoutTo device old new k n stood → AreWithout device old new n stood
+without_all {D = D} device old new k n stood long h = record {
+  kept = keeps device old new h.number (λ g x y at there. (call g x y at there).1.kept);
   devices = h.devices;
   stands = λ s hs are. record {
     histories = length_mapped (dropped n) hs ∙ are.histories;
@@ -201,7 +177,7 @@ without_all {D = D} told size count lending old new k n stood long h = record {
         let w = call g x.0 y x.1 there in
         let mine = are.each g x.0 x.1 in
         record {
-          stands = subst (λ (ks : List History). StandsFor told y ks) (sym (mapped g (dropped n) s.volumes hs)) (w.1.stands (of_group g s.volumes hs) mine.stands);
+          stands = subst (λ (ks : List History). StandsFor device.told y ks) (sym (mapped g (dropped n) s.volumes hs)) (w.1.stands (of_group g s.volumes hs) mine.stands);
           volumes = w.1.kept.volumes ∙ mine.volumes;
           slots = λ v r e i. w.1.kept.slots ∙ mine.slots v r e i;
         };
@@ -214,9 +190,5 @@ without_all {D = D} told size count lending old new k n stood long h = record {
     before : (g : ℕ) (y : GroupValue D) → slice_get new g ≡ Some y → (x : GroupValue D) × (slice_get old g ≡ Some x)
     before g y there = let within = slice_get_within new g y there in let many = h.number in slice_get_inside old g (omega (arith, within, many))
 
-    call : (g : ℕ) (x y : GroupValue D) → slice_get old g ≡ Some x → slice_get new g ≡ Some y → (m : ℕ) × IsWithout told size count lending x y n m
+    call : (g : ℕ) (x y : GroupValue D) → slice_get old g ≡ Some x → slice_get new g ≡ Some y → (m : ℕ) × IsWithout device x y n m
     call g x y at there = let within = slice_get_within old g x at in h.done g x y (omega (arith, within, long)) at there
-
-pub dropped_kept : {D : Type 0} (told : D → Option (List (List ℕ))) (size count : D → ℕ) (lending : D → Bool) (s : Plan) (old new : List (GroupValue D)) (v set : ℕ) (b : Bool) → IsDropped told size count lending s old new v set b → AreKept told size count lending old new
-dropped_kept {D = D} told size count lending s old new v set false h = subst (λ (xs : List (GroupValue D)). AreKept told size count lending old xs) (sym h.1) (kept_same told size count lending old)
-dropped_kept told size count lending s old new v set true h = h.1.kept

@@ -1,48 +1,23 @@
--- One group is flushed or brought to where it lasts, against the histories of all volumes.
-use Rattle.std.proofs.Common.{◌≡◌, ℕ, ◌+◌, ◌==◌, List, [], ◌∷◌, ◌++◌, refl, ap, sym, ◌∙◌, subst, Bool, true, false, Option, Some, None, map, slice_get, slice_set}
-use Rattle.std.specs.Prelude.{if◌then◌else◌, Result, Ok, Err}
+-- One group is brought to where it lasts, against the histories of all volumes.
+use Rattle.std.proofs.Common.{◌≡◌, ℕ, ◌+◌, ◌==◌, List, [], ◌∷◌, ◌++◌, refl, ap, sym, ◌∙◌, subst, Bool, true, false, Option, Some, map, slice_get, slice_set}
+use Rattle.std.specs.Prelude.{if◌then◌else◌, OnOk, Result, Ok, Err}
 use Rattle.write_history.specs.History.{History}
 use Rattle.write_history.specs.Slots.{Copy, copies, copies_of, copies_from}
 use Rattle.diff_area.specs.Copies.{AreStored}
 use Rattle.scenario.specs.declared.volume_row.VolumeRow.{VolumeRow}
 use Rattle.scenario.specs.Plan.{Plan, placed}
+use Rattle.scenario.specs.Places.{of_group, of_group_if, blocks_in_group}
+use Rattle.volume_device.specs.declared.device.Device.{Ghosts}
 use Rattle.cow_volume.specs.GroupValue.{GroupValue, placed as all_placed}
-use Rattle.cow_volume.specs.Ending.{IsSynced as IsGroupSynced}
+use Rattle.cow_volume.specs.Ending.{IsSync, IsSynced as IsGroupSynced}
 use Rattle.cow_volume.specs.declared.cause.Cause.{Cause}
 use Rattle.cow_volume.proofs.Group.{slice_get-set_other}
-use Rattle.provider.specs.Groups.{of_group, of_group_if, blocks_in_group, HasGroups, IsPlaceOf}
-use Rattle.provider.specs.Devices.{devices_of, counts_of, volume_place, area_place, RoseAlone, HasCause}
-use Rattle.provider.specs.Calls.{IsQuiet}
-use Rattle.provider.specs.Preparing.{LastsAt}
-use Rattle.provider.specs.Ending.{AreLasting, IsSynced}
-use Rattle.provider.specs.declared.device_fault.DeviceFault.TheVariants.{Volume}
-use Rattle.provider.specs.GroupCalls.{IsGroupCall, IsGroupFlush, IsGroupSync}
+use Rattle.provider.specs.Groups.{HasGroups}
+use Rattle.provider.specs.Devices.{counts_of}
+use Rattle.provider.specs.Ending.{AreLasting, HasSyncCause, IsSynced}
 use Rattle.provider.proofs.Becoming.{stays}
 use Rattle.provider.proofs.Kept.{kept_one, called_there}
-use Rattle.provider.proofs.Causes.{unfailed}
-use Rattle.provider.proofs.Flat.{rose_volume, rose_area, counts_same}
-use Rattle.provider.proofs.Shown.{quiet_of, device_is}
-
--- ## flushed
-
-module _ {D : Type 0} (told lasting : D → Option (List (List ℕ))) (size count : D → ℕ) (lending : D → Bool) (s : Plan) (old new : List (GroupValue D)) (v g u : ℕ) (place : IsPlaceOf s v g u) where
-  pub flush_quiet : (result : Result Unit Cause) → IsGroupCall old new g (λ x y. IsGroupFlush told lasting size count lending x y u result) → IsQuiet told size count lending s old new v
-  flush_quiet result c = quiet_of told size count lending s old new v g u c.before c.after place c.was c.is c.called.quiet
-
-  pub flush_unfailed : (done : Unit) → IsGroupCall old new g (λ x y. IsGroupFlush told lasting size count lending x y u (Ok done)) → HasCause count s v None old new
-  flush_unfailed done c = unfailed count s v old new g c.before c.after c.was c.is c.called.same
-
-  pub flush_lasts : HasGroups s old → (done : Unit) → IsGroupCall old new g (λ x y. IsGroupFlush told lasting size count lending x y u (Ok done)) → LastsAt told lasting (volume_place s v) (devices_of new)
-  flush_lasts has done c d at =
-      let kept = kept_one told size count lending old new g c.before c.after c.was c.is c.called.quiet.kept in
-      let e = device_is s new v g u d place (kept.has s has) at in
-      let one : Some c.after ≡ Some e.0 = sym (called_there old new g c.before c.after c.was c.is) ∙ e.1 in
-      let same : e.0 ≡ c.after = cc in
-      c.called.lasts d (ap (λ (x : GroupValue D). slice_get x.devices u) (sym same) ∙ e.2)
-
-  pub flush_failed : HasGroups s old → (cause : Cause) → IsGroupCall old new g (λ x y. IsGroupFlush told lasting size count lending x y u (Err cause)) → HasCause count s v (Some Volume) old new
-  flush_failed has cause c =
-      rose_volume count s old new v g u c.before c.after has place c.was c.is c.called.rose
+use Rattle.provider.proofs.Flat.{rose_area, counts_same}
 
 -- ## copies of a group
 
@@ -63,45 +38,46 @@ copies_in_group g v (r ∷ rows) (h ∷ hs) =
 
 -- ## brought to where it lasts
 
-module _ {D : Type 0} (told lasting : D → Option (List (List ℕ))) (size count : D → ℕ) (lending : D → Bool) (old new : List (GroupValue D)) (g : ℕ) where
-  synced : (x y : GroupValue D) → slice_get old g ≡ Some x → new ≡ slice_set old g y → IsGroupSynced told size count lending x y → IsSynced told size count lending old new g
-  synced x y was is h = record {
-    kept = kept_one told size count lending old new g x y was is h.kept;
-    elsewhere = λ k apart. ap (λ (xs : List (GroupValue D)). slice_get xs k) is ∙ slice_get-set_other old g k y (λ e. apart (sym e));
+module _ {D : Type 0} (device : Ghosts D) (old : List (GroupValue D)) (g : ℕ) (x y : GroupValue D) (was : slice_get old g ≡ Some x) where
+  abbrev new : List (GroupValue D)
+  new = slice_set old g y
+
+  synced : IsGroupSynced device.told device.size device.count device.lending x y → IsSynced device old new g
+  synced h = record {
+    kept = kept_one device old new g x y was refl h.kept;
+    elsewhere = λ k apart. slice_get-set_other old g k y (λ e. apart (sym e));
     devices = λ p q at there.
         let one : Some x ≡ Some p = sym was ∙ at in
         let first : x ≡ p = cc in
-        let two : Some y ≡ Some q = sym (called_there old new g x y was is) ∙ there in
+        let two : Some y ≡ Some q = sym (called_there old new g x y was refl) ∙ there in
         let second : y ≡ q = cc in
         subst (λ (z : GroupValue D). q.devices ≡ z.devices) first (subst (λ (z : GroupValue D). z.devices ≡ x.devices) second h.devices);
-    stands = λ s hs are. stays told s old new g x y hs was is h.kept.volumes h.kept.slots are (h.stands (of_group g s.volumes hs) (are.each g x was).stands);
+    stands = λ s hs are. stays device.told s old new g x y hs was refl h.kept.volumes h.kept.slots are (h.stands (of_group g s.volumes hs) (are.each g x was).stands);
   }
 
-  pub sync_done : (done : Unit) → IsGroupCall old new g (λ x y. IsGroupSync told lasting size count lending x y (Ok done)) → IsSynced told size count lending old new g
-  sync_done done c = synced c.before c.after c.was c.is c.called.sync.0
+  pub sync_of : (result : Result Unit Cause) → IsSync device.told device.size device.count device.lending x y result → IsSynced device old new g
+  sync_of (Ok done) h = synced h.0
+  sync_of (Err cause) h = synced h.0
 
-  pub sync_not_done : (cause : Cause) → IsGroupCall old new g (λ x y. IsGroupSync told lasting size count lending x y (Err cause)) → IsSynced told size count lending old new g
-  sync_not_done cause c = synced c.before c.after c.was c.is c.called.sync.0
-
-  pub sync_lasts : (s : Plan) (done : Unit) → IsGroupCall old new g (λ x y. IsGroupSync told lasting size count lending x y (Ok done)) → AreLasting told lasting s old new g
-  sync_lasts s done c p q at there =
-      let one : Some c.before ≡ Some p = sym c.was ∙ at in
-      let first : c.before ≡ p = cc in
-      let two : Some c.after ≡ Some q = sym (called_there old new g c.before c.after c.was c.is) ∙ there in
-      let second : c.after ≡ q = cc in (
-        subst (λ (z : GroupValue D). lasting z.area.device ≡ told z.area.device) second c.called.lasts,
+  pub sync_lasts : (result : Result Unit Cause) → OnOk result (device.lasting y.area.device ≡ device.told y.area.device) → IsSync device.told device.size device.count device.lending x y result
+      → OnOk result ((s : Plan) → AreLasting device.told device.lasting s old new g)
+  sync_lasts (Err cause) lasts h = tt
+  sync_lasts (Ok done) lasts h = λ s p q at there.
+      let one : Some x ≡ Some p = sym was ∙ at in
+      let first : x ≡ p = cc in
+      let now = called_there old new g x y was refl in
+      let two : Some y ≡ Some q = sym now ∙ there in
+      let second : y ≡ q = cc in (
+        subst (λ (z : GroupValue D). device.lasting z.area.device ≡ device.told z.area.device) second lasts,
         λ hs are tells.
-            let mine = are.each g c.after (called_there old new g c.before c.after c.was c.is) in
-            let first_volumes : c.before.area.volumes ≡ blocks_in_group g s.volumes = sym c.called.sync.0.kept.volumes ∙ mine.volumes in
-            let stored = c.called.sync.1 (of_group g s.volumes hs) (c.called.sync.0.stood (of_group g s.volumes hs) mine.stands) (λ v d e. tells v d (ap (λ (z : GroupValue D). slice_get z.devices v) (sym first) ∙ e)) in
-            let here = subst (λ (ns : List ℕ). AreStored (told c.after.area.device) (copies (all_placed ns) (of_group g s.volumes hs))) first_volumes stored in
-            subst (λ (z : GroupValue D). AreStored (told z.area.device) (copies (map (placed g) s.volumes) hs)) second
-            (subst (λ (cs : List Copy). AreStored (told c.after.area.device) cs) (sym (copies_in_group g 0 s.volumes hs)) here),
+            let mine = are.each g y now in
+            let first_volumes : x.area.volumes ≡ blocks_in_group g s.volumes = sym h.0.kept.volumes ∙ mine.volumes in
+            let stored = h.1 (of_group g s.volumes hs) (h.0.stood (of_group g s.volumes hs) mine.stands) (λ v d e. tells v d (ap (λ (z : GroupValue D). slice_get z.devices v) (sym first) ∙ e)) in
+            let here = subst (λ (ns : List ℕ). AreStored (device.told y.area.device) (copies (all_placed ns) (of_group g s.volumes hs))) first_volumes stored in
+            subst (λ (z : GroupValue D). AreStored (device.told z.area.device) (copies (map (placed g) s.volumes) hs)) second
+            (subst (λ (cs : List Copy). AreStored (device.told y.area.device) cs) (sym (copies_in_group g 0 s.volumes hs)) here),
       )
 
-  pub sync_unfailed : (done : Unit) → IsGroupCall old new g (λ x y. IsGroupSync told lasting size count lending x y (Ok done)) → counts_of count new ≡ counts_of count old
-  sync_unfailed done c = ap (counts_of count) c.is ∙ counts_same count old g c.before c.after c.was c.called.sync.2
-
-  pub sync_failed : (s : Plan) → HasGroups s old → (cause : Cause) → IsGroupCall old new g (λ x y. IsGroupSync told lasting size count lending x y (Err cause)) → RoseAlone (area_place g s.volumes) (counts_of count old) (counts_of count new)
-  sync_failed s has cause c =
-      rose_area count s old new g c.before c.after has c.was c.is c.called.sync.2
+  pub sync_cause : (result : Result Unit Cause) → IsSync device.told device.size device.count device.lending x y result → (s : Plan) → HasGroups s old → HasSyncCause device.count s g result old new
+  sync_cause (Ok done) h s has = counts_same device.count old g x y was h.2
+  sync_cause (Err cause) h s has = (h.1, rose_area device.count s old new g x y has was refl h.2)

@@ -9,7 +9,8 @@ use Rattle.scenario.specs.Plan.{Plan}
 use Rattle.cow_volume.specs.GroupValue.{GroupValue}
 use Rattle.cow_volume.specs.Calls.{IsUnfailed, VolumeRose, AreaRose}
 use Rattle.cow_volume.proofs.Group.{slice_get_map}
-use Rattle.provider.specs.Groups.{blocks_in_group, place_in, HasGroups, IsPlaceOf}
+use Rattle.scenario.specs.Places.{blocks_in_group, place_in, IsPlaceOf}
+use Rattle.provider.specs.Groups.{HasGroups}
 use Rattle.provider.specs.Devices.{devices_of, counts_of, first_place, area_place, volume_place, volume_place_in, volumes_area, volumes_area_in, RoseAlone}
 
 -- ## joined lists
@@ -237,3 +238,11 @@ mapped_same {D = D} {X = X} f (z ∷ groups) (suc g) x y at devices area =
     map-append f z.devices (z.area.device ∷ devices_of (slice_set groups g y))
     ∙ ap (λ (xs : List X). map f z.devices ++ f z.area.device ∷ xs) (mapped_same f groups g x y at devices area)
     ∙ sym (map-append f z.devices (z.area.device ∷ devices_of groups))
+
+-- the devices are as they were where those of the group that was called are
+pub devices_same : {D : Type 0} (groups : List (GroupValue D)) (g : ℕ) (x y : GroupValue D) → slice_get groups g ≡ Some x → y.devices ≡ x.devices → y.area.device ≡ x.area.device → devices_of (slice_set groups g y) ≡ devices_of groups
+devices_same [] g x y at devices area = cc
+devices_same {D = D} (z ∷ groups) zero x y at devices area =
+    let is : x ≡ z = cc in
+    ap (λ (ds : List D). ds ++ y.area.device ∷ devices_of groups) devices ∙ ap (λ (d : D). x.devices ++ d ∷ devices_of groups) area ∙ ap (λ (q : GroupValue D). q.devices ++ q.area.device ∷ devices_of groups) is
+devices_same {D = D} (z ∷ groups) (suc g) x y at devices area = ap (λ (ds : List D). z.devices ++ z.area.device ∷ ds) (devices_same groups g x y at devices area)

@@ -5,7 +5,8 @@ use Rattle.scenario.specs.declared.volume_row.VolumeRow.{VolumeRow}
 use Rattle.scenario.specs.Plan.{Plan}
 use Rattle.cow_volume.specs.GroupValue.{GroupValue}
 use Rattle.cow_volume.specs.StandsFor.{StandsFor}
-use Rattle.provider.specs.Groups.{of_group, of_group_if, blocks_in_group, AreFresh, AreGroups}
+use Rattle.scenario.specs.Places.{of_group, of_group_if, blocks_in_group}
+use Rattle.provider.specs.Groups.{AreFresh, AreGroups}
 
 fresh_if : (b : Bool) (n : ℕ) (ns : List ℕ) (hs : List History) → hs ≡ map (λ (k : ℕ). fresh) ns → of_group_if b fresh hs ≡ map (λ (k : ℕ). fresh) (of_group_if b n ns)
 fresh_if true n ns hs e = ap (λ (xs : List History). fresh ∷ xs) e

@@ -10,17 +10,16 @@ use Rattle.block_data.specs.Digest.{sha256}
 use Rattle.block_data.specs.Hashed.{HasTaken}
 use Rattle.block_data.specs.declared.hasher.Hasher.{Hasher}
 use Rattle.write_history.specs.History.{History, Write, content, contents}
+use Rattle.volume_device.specs.declared.device.Device.{Ghosts}
 use Rattle.cow_volume.specs.GroupValue.{GroupValue}
 use Rattle.cow_volume.specs.declared.cause.Cause.{Cause}
-use Rattle.cow_volume.specs.declared.cause.Cause.TheVariants.{NoSuchBlock, Volume, Area}
+use Rattle.cow_volume.specs.declared.cause.Cause.TheVariants.{NoSuchBlock as NoBlock, Volume, Area}
 use Rattle.cow_volume.specs.declared.image_fault.ImageFault.{ImageFault}
-use Rattle.cow_volume.specs.declared.image_fault.ImageFault.TheVariants.{NoSuchImage as NoImage, NoSuchBlock as NoBlock, Volume as VolumeFailed, Area as AreaFailed}
-use Rattle.cow_volume.specs.Calls.{IsQuiet, IsUnfailed, IsNow, HasImageCause, DeviceRose, blocks_at, blocks_in, history_at, is_among, sets_at, sets_in}
+use Rattle.cow_volume.specs.declared.image_fault.ImageFault.TheVariants.{NoSuchImage, NoSuchBlock}
+use Rattle.cow_volume.specs.declared.image_fault.ImageFault.TheVariants as image
+use Rattle.cow_volume.specs.Calls.{IsUnfailed, IsNow, HasImageCause, AreaRose, DeviceRose, VolumeRose, blocks_at, blocks_in, history_at, is_among, sets_at, sets_in}
 use Rattle.cow_volume.proofs.Group.{quiet_stands, slice_get_inside, slice_get_map}
-use Rattle.provider.specs.declared.device_fault.DeviceFault.{DeviceFault}
-use Rattle.provider.specs.declared.device_fault.DeviceFault.TheVariants as device
-use Rattle.provider.specs.GroupCalls.{device_of, device_of_image}
-use Rattle.provider.specs.Hashing.{IsEnd, AtPoint, Adds, FaultRose, IsDigestAt}
+use Rattle.provider.specs.Hashing.{IsEnd, AtPoint, Adds, HasDigestCause, ImageRose, IsDigestAt, IsQuietGroup}
 use Rattle.provider.proofs.Kept.{kept_itself, kept_then}
 
 -- ## one block
@@ -28,40 +27,24 @@ use Rattle.provider.proofs.Kept.{kept_itself, kept_then}
 pub at_end : {D : Type 0} (told : D → Option (List (List ℕ))) (g : GroupValue D) (u b : ℕ) (bytes : List ℕ) → IsNow told g u b bytes → AtPoint told g u (IsEnd u) (λ hs p. bytes ≡ content (history_at hs u).writes p b)
 at_end told g u b bytes now hs d p stands at tells area end = now hs d stands at tells area ∙ ap (λ (n : ℕ). content (history_at hs u).writes n b) (sym end)
 
-pub fault_of_cause : {D : Type 0} (count : D → ℕ) (u : ℕ) (x y : GroupValue D) (cause : Cause) → DeviceRose count u x y cause → FaultRose count u x y (device_of cause)
-fault_of_cause count u x y NoSuchBlock rose = elim rose [ ]
-fault_of_cause count u x y Volume rose = rose
-fault_of_cause count u x y Area rose = rose
-
 -- a read of an image that stands, of a block that there is, fails by a device
-pub not_image : {D : Type 0} (count : D → ℕ) (u set b : ℕ) (x y : GroupValue D) (fault : ImageFault) → is_among set (sets_at x u) ≡ true → HasImageCause count u set b x y fault → fault ≢ NoImage
-not_image count u set b x y fault has cause is =
-    let h = subst (λ (f : ImageFault). HasImageCause count u set b x y f) is cause in
-    yes_no (sym has ∙ h.0)
+pub image_rose : {D : Type 0} (count : D → ℕ) (u set b : ℕ) (x y : GroupValue D) → is_among set (sets_at x u) ≡ true → b < blocks_at x u → (fault : ImageFault) → HasImageCause count u set b x y fault → ImageRose count u x y fault
+image_rose count u set b x y has low NoSuchImage h = yes_no (sym has ∙ h.0)
   where
     yes_no : true ≡ false → ⊥
     yes_no q = cc
-
-pub not_block : {D : Type 0} (count : D → ℕ) (u set b : ℕ) (x y : GroupValue D) (fault : ImageFault) → b < blocks_at x u → HasImageCause count u set b x y fault → fault ≢ NoBlock
-not_block count u set b x y fault low cause is =
-    let h = subst (λ (f : ImageFault). HasImageCause count u set b x y f) is cause in
-    let high = h.1 in
-    absurd (omega (arith, high, low))
-
-pub image_rose : {D : Type 0} (count : D → ℕ) (u set b : ℕ) (x y : GroupValue D) (fault : ImageFault) → is_among set (sets_at x u) ≡ true → b < blocks_at x u → HasImageCause count u set b x y fault → FaultRose count u x y (device_of_image fault)
-image_rose count u set b x y NoImage has low h = absurd (not_image count u set b x y NoImage has h refl)
-image_rose count u set b x y NoBlock has low h = absurd (not_block count u set b x y NoBlock low h refl)
-image_rose count u set b x y VolumeFailed has low h = h.2
-image_rose count u set b x y AreaFailed has low h = h.2
+image_rose count u set b x y has low NoSuchBlock h = let high = h.1 in absurd (omega (arith, high, low))
+image_rose count u set b x y has low image.Volume h = h.2
+image_rose count u set b x y has low image.Area h = h.2
 
 -- ## after quiet calls
 
-pub quiet_same : {D : Type 0} (told : D → Option (List (List ℕ))) (size count : D → ℕ) (lending : D → Bool) (x : GroupValue D) → IsQuiet told size count lending x x
-quiet_same told size count lending x = record { kept = kept_itself told size count lending x; records = refl; images = refl; blocks = refl; slots = refl }
+pub quiet_same : {D : Type 0} (device : Ghosts D) (x : GroupValue D) → IsQuietGroup device x x
+quiet_same device x = record { kept = kept_itself device x; records = refl; images = refl; blocks = refl; slots = refl }
 
-pub quiet_then : {D : Type 0} (told : D → Option (List (List ℕ))) (size count : D → ℕ) (lending : D → Bool) (x y z : GroupValue D) → IsQuiet told size count lending x y → IsQuiet told size count lending y z → IsQuiet told size count lending x z
-quiet_then told size count lending x y z h k = record {
-  kept = kept_then told size count lending x y z h.kept k.kept;
+pub quiet_then : {D : Type 0} (device : Ghosts D) (x y z : GroupValue D) → IsQuietGroup device x y → IsQuietGroup device y z → IsQuietGroup device x z
+quiet_then device x y z h k = record {
+  kept = kept_then device x y z h.kept k.kept;
   records = k.records ∙ h.records;
   images = k.images ∙ h.images;
   blocks = k.blocks ∙ h.blocks;
@@ -69,24 +52,24 @@ quiet_then told size count lending x y z h k = record {
 }
 
 -- what holds at a point after quiet calls holds of the group as it was
-at_first : {D : Type 0} (told : D → Option (List (List ℕ))) (size count : D → ℕ) (lending : D → Bool) (first now : GroupValue D) (u : ℕ) (At P : List History → ℕ → Type 0) → IsQuiet told size count lending first now → AtPoint told now u At P → AtPoint told first u At P
-at_first {D = D} told size count lending first now u At P quiet holds hs d p stands at tells area there =
+at_first : {D : Type 0} (device : Ghosts D) (first now : GroupValue D) (u : ℕ) (At P : List History → ℕ → Type 0) → IsQuietGroup device first now → AtPoint device.told now u At P → AtPoint device.told first u At P
+at_first {D = D} device first now u At P quiet holds hs d p stands at tells area there =
     let within = slice_get_within first.devices u d at in
     let long = quiet.kept.devices in
     let e = slice_get_inside now.devices u (omega (arith, within, long)) in
-    let same : Some (told e.0) ≡ Some (told d) = sym (slice_get_map told now.devices u e.0 e.1) ∙ ap (λ (ts : List (Option (List (List ℕ)))). slice_get ts u) quiet.blocks ∙ slice_get_map told first.devices u d at in
+    let same : Some (device.told e.0) ≡ Some (device.told d) = sym (slice_get_map device.told now.devices u e.0 e.1) ∙ ap (λ (ts : List (Option (List (List ℕ)))). slice_get ts u) quiet.blocks ∙ slice_get_map device.told first.devices u d at in
     holds hs e.0 p
-    (quiet_stands told first now hs stands quiet.blocks quiet.images quiet.kept.volumes quiet.records quiet.slots)
-    e.1 (ap (λ (t : Option (List (List ℕ))). is_some t) (same_Some (told e.0) (told d) same) ∙ tells) (ap (λ (t : Option (List (List ℕ))). is_some t) quiet.slots ∙ area) there
+    (quiet_stands device.told first now hs stands quiet.blocks quiet.images quiet.kept.volumes quiet.records quiet.slots)
+    e.1 (ap (λ (t : Option (List (List ℕ))). is_some t) (same_Some (device.told e.0) (device.told d) same) ∙ tells) (ap (λ (t : Option (List (List ℕ))). is_some t) quiet.slots ∙ area) there
 
 -- the first k blocks were hashed as they were at a point, and only counts may have changed
-pub record HasHashed {D : Type 0} (told : D → Option (List (List ℕ))) (size count : D → ℕ) (lending : D → Bool) (first now : GroupValue D) (u : ℕ) (At : List History → ℕ → Type 0) (k : ℕ) (hasher : Hasher) : Type 0 where
-  pub quiet : IsQuiet told size count lending first now
-  pub same : IsUnfailed count first now
-  pub taken : AtPoint told first u At (λ hs p. HasTaken hasher (concat (contents k (history_at hs u).writes p)))
+pub record HasHashed {D : Type 0} (device : Ghosts D) (first now : GroupValue D) (u : ℕ) (At : List History → ℕ → Type 0) (k : ℕ) (hasher : Hasher) : Type 0 where
+  pub quiet : IsQuietGroup device first now
+  pub same : IsUnfailed device.count first now
+  pub taken : AtPoint device.told first u At (λ hs p. HasTaken hasher (concat (contents k (history_at hs u).writes p)))
 
-pub hashed_none : {D : Type 0} (told : D → Option (List (List ℕ))) (size count : D → ℕ) (lending : D → Bool) (x : GroupValue D) (u : ℕ) (At : List History → ℕ → Type 0) (hasher : Hasher) → HasTaken hasher [] → HasHashed told size count lending x x u At 0 hasher
-hashed_none told size count lending x u At hasher none = record { quiet = quiet_same told size count lending x; same = record { devices = refl; area = refl }; taken = λ hs d p stands at tells area there. none }
+pub hashed_none : {D : Type 0} (device : Ghosts D) (x : GroupValue D) (u : ℕ) (At : List History → ℕ → Type 0) (hasher : Hasher) → HasTaken hasher [] → HasHashed device x x u At 0 hasher
+hashed_none device x u At hasher none = record { quiet = quiet_same device x; same = record { devices = refl; area = refl }; taken = λ hs d p stands at tells area there. none }
 
 one_more : (k : ℕ) (ws : List Write) (p : ℕ) → concat (contents (k + 1) ws p) ≡ concat (contents k ws p) ++ content ws p k
 one_more k ws p =
@@ -101,38 +84,39 @@ one_more k ws p =
 unfailed_then : {D : Type 0} (count : D → ℕ) (x y z : GroupValue D) → IsUnfailed count x y → IsUnfailed count y z → IsUnfailed count x z
 unfailed_then count x y z h k = record { devices = k.devices ∙ h.devices; area = k.area ∙ h.area }
 
-pub hashed_more : {D : Type 0} (told : D → Option (List (List ℕ))) (size count : D → ℕ) (lending : D → Bool) (first old new : GroupValue D) (u : ℕ) (At : List History → ℕ → Type 0) (k : ℕ) (before after : Hasher) → HasHashed told size count lending first old u At k before
-    → Adds told old u At k before after → IsUnfailed count old new → IsQuiet told size count lending old new → HasHashed told size count lending first new u At (k + 1) after
-hashed_more told size count lending first old new u At k before after was adds same quiet = record {
-  quiet = quiet_then told size count lending first old new was.quiet quiet;
-  same = unfailed_then count first old new was.same same;
+pub hashed_more : {D : Type 0} (device : Ghosts D) (first old new : GroupValue D) (u : ℕ) (At : List History → ℕ → Type 0) (k : ℕ) (before after : Hasher) → HasHashed device first old u At k before
+    → Adds device.told old u At k before after → IsUnfailed device.count old new → IsQuietGroup device old new → HasHashed device first new u At (k + 1) after
+hashed_more device first old new u At k before after was adds same quiet = record {
+  quiet = quiet_then device first old new was.quiet quiet;
+  same = unfailed_then device.count first old new was.same same;
   taken = λ hs d p stands at tells area there.
       let so_far = was.taken hs d p stands at tells area there in
-      let block = at_first told size count lending first old u At (λ ks q. adds.bytes ≡ content (history_at ks u).writes q k) was.quiet adds.is hs d p stands at tells area there in
+      let block = at_first device first old u At (λ ks q. adds.bytes ≡ content (history_at ks u).writes q k) was.quiet adds.is hs d p stands at tells area there in
       subst (λ (bytes : List ℕ). HasTaken after bytes) (ap (λ (xs : List ℕ). concat (contents k (history_at hs u).writes p) ++ xs) block ∙ sym (one_more k (history_at hs u).writes p))
       (adds.taken (concat (contents k (history_at hs u).writes p)) so_far);
 }
 
 -- all were
-pub hashed_all : {D : Type 0} (told : D → Option (List (List ℕ))) (size count : D → ℕ) (lending : D → Bool) (first now : GroupValue D) (u : ℕ) (At : List History → ℕ → Type 0) (k : ℕ) (hasher : Hasher) (digest : List ℕ) → k ≡ blocks_at first u
-    → HasHashed told size count lending first now u At k hasher → ((bytes : List ℕ) → HasTaken hasher bytes → digest ≡ sha256 bytes) → IsDigestAt told first u At digest
-hashed_all told size count lending first now u At k hasher digest all was finish hs d p stands at tells area there =
+pub hashed_all : {D : Type 0} (device : Ghosts D) (first now : GroupValue D) (u : ℕ) (At : List History → ℕ → Type 0) (k : ℕ) (hasher : Hasher) (digest : List ℕ) → k ≡ blocks_at first u
+    → HasHashed device first now u At k hasher → ((bytes : List ℕ) → HasTaken hasher bytes → digest ≡ sha256 bytes) → IsDigestAt device.told first u At digest
+hashed_all device first now u At k hasher digest all was finish hs d p stands at tells area there =
     finish (concat (contents k (history_at hs u).writes p)) (was.taken hs d p stands at tells area there)
     ∙ ap (λ (n : ℕ). sha256 (concat (contents n (history_at hs u).writes p))) all
 
 -- blocks and images are as they were
-pub blocks_still : {D : Type 0} (told : D → Option (List (List ℕ))) (size count : D → ℕ) (lending : D → Bool) (first now : GroupValue D) (u : ℕ) → IsQuiet told size count lending first now → blocks_at now u ≡ blocks_at first u
-blocks_still told size count lending first now u quiet = ap (λ (ns : List ℕ). blocks_in (slice_get ns u)) quiet.kept.volumes
+pub blocks_still : {D : Type 0} (device : Ghosts D) (first now : GroupValue D) (u : ℕ) → IsQuietGroup device first now → blocks_at now u ≡ blocks_at first u
+blocks_still device first now u quiet = ap (λ (ns : List ℕ). blocks_in (slice_get ns u)) quiet.kept.volumes
 
-pub images_still : {D : Type 0} (told : D → Option (List (List ℕ))) (size count : D → ℕ) (lending : D → Bool) (first now : GroupValue D) (u : ℕ) → IsQuiet told size count lending first now → sets_at now u ≡ sets_at first u
-images_still told size count lending first now u quiet = ap (λ (xs : List (List ℕ)). sets_in (slice_get xs u)) quiet.images
+pub images_still : {D : Type 0} (device : Ghosts D) (first now : GroupValue D) (u : ℕ) → IsQuietGroup device first now → sets_at now u ≡ sets_at first u
+images_still device first now u quiet = ap (λ (xs : List (List ℕ)). sets_in (slice_get xs u)) quiet.images
 
 -- a device failed later: its count rose since the first call too
-pub rose_since : {D : Type 0} (told : D → Option (List (List ℕ))) (size count : D → ℕ) (lending : D → Bool) (first old new : GroupValue D) (u : ℕ) (fault : DeviceFault) → IsUnfailed count first old → length old.devices ≡ length first.devices → FaultRose count u old new fault → FaultRose count u first new fault
-rose_since {D = D} told size count lending first old new u device.Volume same long rose =
+volume_since : {D : Type 0} (count : D → ℕ) (first old new : GroupValue D) (u : ℕ) → IsUnfailed count first old → length old.devices ≡ length first.devices → VolumeRose count u old new → VolumeRose count u first new
+volume_since {D = D} count first old new u same long rose =
     let within = slice_get_within old.devices u rose.before rose.was in
     let d = slice_get_inside first.devices u (omega (arith, within, long)) in
-    let one : Some (count rose.before) ≡ Some (count d.0) = sym (slice_get_map count old.devices u rose.before rose.was) ∙ ap (λ (ns : List ℕ). slice_get ns u) same.devices ∙ slice_get_map count first.devices u d.0 d.1 in
+    let one : Some (count rose.before) ≡ Some (count d.0) =
+    sym (slice_get_map count old.devices u rose.before rose.was) ∙ ap (λ (ns : List ℕ). slice_get ns u) same.devices ∙ slice_get_map count first.devices u d.0 d.1 in
     record {
       before = d.0;
       now = rose.now;
@@ -142,5 +126,19 @@ rose_since {D = D} told size count lending first old new u device.Volume same lo
       devices = rose.devices ∙ ap (λ (ns : List ℕ). slice_set ns u (count rose.now)) same.devices;
       area = rose.area ∙ same.area;
     }
-rose_since told size count lending first old new u device.Area same long rose =
-    record { rose = subst (λ (n : ℕ). Rose n (count new.area.device)) same.area rose.rose; devices = rose.devices ∙ same.devices }
+
+area_since : {D : Type 0} (count : D → ℕ) (first old new : GroupValue D) → IsUnfailed count first old → AreaRose count old new → AreaRose count first new
+area_since count first old new same rose = record { rose = subst (λ (n : ℕ). Rose n (count new.area.device)) same.area rose.rose; devices = rose.devices ∙ same.devices }
+
+pub rose_since : {D : Type 0} (count : D → ℕ) (first old new : GroupValue D) (u : ℕ) (cause : Cause) → IsUnfailed count first old → length old.devices ≡ length first.devices → DeviceRose count u old new cause → DeviceRose count u first new cause
+rose_since count first old new u NoBlock same long rose = rose
+rose_since count first old new u Volume same long rose = volume_since count first old new u same long rose
+rose_since count first old new u Area same long rose = area_since count first old new same rose
+
+-- so there is no digest of the image, which stood
+pub digest_cause : {D : Type 0} (count : D → ℕ) (first old new : GroupValue D) (u set : ℕ) (fault : ImageFault) → is_among set (sets_at first u) ≡ true → IsUnfailed count first old → length old.devices ≡ length first.devices
+    → ImageRose count u old new fault → HasDigestCause count u set first new fault
+digest_cause count first old new u set NoSuchImage has same long rose = elim rose [ ]
+digest_cause count first old new u set NoSuchBlock has same long rose = rose
+digest_cause count first old new u set image.Volume has same long rose = (has, volume_since count first old new u same long rose)
+digest_cause count first old new u set image.Area has same long rose = (has, area_since count first old new same rose)

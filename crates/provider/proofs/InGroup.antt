@@ -2,18 +2,15 @@
 use Rattle.std.proofs.Common.{◌≡◌, ℕ, zero, suc, ◌+◌, ◌==◌, List, [], ◌∷◌, length, refl, ap, sym, ◌∙◌, arith, Bool, true, false, Option, Some, None, map, slice_get}
 use Rattle.std.specs.Prelude.{◌&&◌, not, find, unwrap_or, if◌then◌else◌}
 use Rattle.std.specs.List.{range_with_len}
-use Rattle.std.proofs.lemmas.Bool.Decides.{nat_tests}
 use Rattle.write_history.specs.History.{History, after_set}
 use Rattle.write_history.specs.Slots.{Placed, used, needs_slot_in, group_used, gone_up_to, lacks_slot, evicted_up_to}
 use Rattle.set_agenda.specs.Course.{change_at}
 use Rattle.scenario.specs.declared.volume_row.VolumeRow.{VolumeRow}
 use Rattle.scenario.specs.Plan.{placed}
+use Rattle.scenario.proofs.Places.{number_is, same_number}
 use Rattle.cow_volume.specs.GroupValue.{placed as all_placed}
 use Rattle.cow_volume.specs.Calls.{changed_at}
-use Rattle.provider.specs.Groups.{of_group, of_group_if, count_if, place_in, blocks_in_group}
-
-same_number : (a b : ℕ) → a ≡ b → (a == b) ≡ true
-same_number a b e = grind (arith, nat_tests)
+use Rattle.scenario.specs.Places.{of_group, of_group_if, count_if, place_in, blocks_in_group}
 
 -- ## slots used
 
@@ -56,9 +53,6 @@ both_not true true x y xs ys h e = absurd (h refl refl)
 both_not true false x y xs ys h e = e
 both_not false true x y xs ys h e = ap (λ zs. y ∷ zs) e
 both_not false false x y xs ys h e = e
-
-number_is : (a b : ℕ) → (a == b) ≡ true → a ≡ b
-number_is a b e = grind (arith, nat_tests)
 
 -- those of another group stay
 pub gone_elsewhere : (g other m : ℕ) (rows : List VolumeRow) (hs : List History) → (g ≡ other → ⊥)

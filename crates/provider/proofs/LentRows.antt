@@ -16,11 +16,9 @@ use Rattle.cow_volume.specs.Calls.{blocks_at, history_at as group_history_at}
 use Rattle.lent_digests.specs.Lent.{bytes_of, IsDigestIfLent, IsDigestOf}
 use Rattle.lent_digests.specs.declared.digested.Digested.{Digested}
 use Rattle.lent_digests.specs.declared.lent_blocks.LentBlocks.{LentBlocks}
-use Rattle.provider.specs.Groups.{of_group, HasGroups, IsPlaceOf}
 use Rattle.provider.specs.Hashing.{AtPoint, IsEnd, IsPoint}
 use Rattle.provider.specs.Lending.{AreBlocksAt, AreBlocksNow, AreBlocksOf, AreBlocksShown, IsDigestOfRow, IsDigestedAt, IsLentRow}
-use Rattle.provider.proofs.Places.{blocks_are, group_there, history_of_place}
-use Rattle.provider.proofs.Shown.{some_map, telling}
+use Rattle.provider.proofs.Found.{Found, blocks_here, history_here, own, some_map, stands_here, telling}
 
 -- the first k blocks were lent
 abbrev pub AreFirst : {D : Type 0} → (D → Option (List (List ℕ))) → GroupValue D → ℕ → (List History → ℕ → Type 0) → ℕ → List (Bor (List ℕ)) → Type 0
@@ -46,36 +44,31 @@ first_all told g u At k parts all so_far = λ hs d p stands at tells area there.
 
 -- ## against the histories of all volumes
 
-module _ {D : Type 0} (told : D → Option (List (List ℕ))) (s : Plan) (groups : List (GroupValue D)) where
-  blocks_now : (v g u : ℕ) (x : GroupValue D) (parts : List (Bor (List ℕ))) → IsPlaceOf s v g u → HasGroups s groups → slice_get groups g ≡ Some x → AreBlocksAt told x u (IsEnd u) parts → AreBlocksNow told s groups v parts
-  blocks_now v g u x parts place has at own = λ tells hs are.
-      let t = telling told s groups v g u x place at tells in
-      let same = history_of_place s hs v g u place are.histories in
-      let h = group_history_at (of_group g s.volumes hs) u in
-      own (of_group g s.volumes hs) t.device (length h.writes) (are.each g x at).stands t.at t.tells t.area refl
-      ∙ ap (λ (n : ℕ). contents n h.writes (length h.writes)) (blocks_are s groups v g u x place has at)
-      ∙ ap (λ (k : History). contents (blocks_of s v) k.writes (length k.writes)) same
+module _ {D : Type 0} (told : D → Option (List (List ℕ))) {s : Plan} {groups : List (GroupValue D)} {v : ℕ} (f : Found s groups v) where
+  blocks_now : (parts : List (Bor (List ℕ))) → AreBlocksAt told f.here f.within (IsEnd f.within) parts → AreBlocksNow told s groups v parts
+  blocks_now parts is = λ tells hs are.
+      let t = telling told f tells in
+      let h = group_history_at (own f hs) f.within in
+      is (own f hs) t.device (length h.writes) (stands_here told f hs are) t.at t.tells t.area refl
+      ∙ ap (λ (n : ℕ). contents n h.writes (length h.writes)) (blocks_here f)
+      ∙ ap (λ (k : History). contents (blocks_of s v) k.writes (length k.writes)) (history_here f hs are.histories)
 
-  blocks_shown : (v g u set : ℕ) (x : GroupValue D) (parts : List (Bor (List ℕ))) → IsPlaceOf s v g u → HasGroups s groups → slice_get groups g ≡ Some x → AreBlocksAt told x u (IsPoint u set) parts → AreBlocksShown told s groups v set parts
-  blocks_shown v g u set x parts place has at own = λ tells hs are p point.
-      let t = telling told s groups v g u x place at tells in
-      let same = history_of_place s hs v g u place are.histories in
-      own (of_group g s.volumes hs) t.device p (are.each g x at).stands t.at t.tells t.area (ap (λ (k : History). point_in set k.images) same ∙ point)
-      ∙ ap (λ (n : ℕ). contents n (group_history_at (of_group g s.volumes hs) u).writes p) (blocks_are s groups v g u x place has at)
+  blocks_shown : (set : ℕ) (parts : List (Bor (List ℕ))) → AreBlocksAt told f.here f.within (IsPoint f.within set) parts → AreBlocksShown told s groups v set parts
+  blocks_shown set parts is = λ tells hs are p point.
+      let t = telling told f tells in
+      let same = history_here f hs are.histories in
+      is (own f hs) t.device p (stands_here told f hs are) t.at t.tells t.area (ap (λ (k : History). point_in set k.images) same ∙ point)
+      ∙ ap (λ (n : ℕ). contents n (group_history_at (own f hs) f.within).writes p) (blocks_here f)
       ∙ ap (λ (k : History). contents (blocks_of s v) k.writes p) same
 
-  pub volume_row_is : (v g u : ℕ) (blocks : Option (Vec (Bor (List ℕ)) Global)) → IsPlaceOf s v g u → HasGroups s groups
-      → ((x : GroupValue D) → slice_get groups g ≡ Some x → IfSome blocks (λ b. AreBlocksAt told x u (IsEnd u) b.items)) → IfSome blocks (λ b. AreBlocksNow told s groups v b.items)
-  volume_row_is v g u blocks place has own =
-      let t = group_there s groups v g u place has in
-      some_map (λ b. AreBlocksAt told t.0 u (IsEnd u) b.items) (λ b. AreBlocksNow told s groups v b.items) blocks (own t.0 t.1) (λ b h. blocks_now v g u t.0 b.items place has t.1 h)
+  pub volume_row_is : (blocks : Option (Vec (Bor (List ℕ)) Global)) → IfSome blocks (λ b. AreBlocksAt told f.here f.within (IsEnd f.within) b.items) → IfSome blocks (λ b. AreBlocksNow told s groups v b.items)
+  volume_row_is blocks is = some_map (λ b. AreBlocksAt told f.here f.within (IsEnd f.within) b.items) (λ b. AreBlocksNow told s groups v b.items) blocks is (λ b h. blocks_now b.items h)
 
-  pub image_row_is : (v g u set : ℕ) (blocks : Option (Vec (Bor (List ℕ)) Global)) → IsPlaceOf s v g u → HasGroups s groups
-      → ((x : GroupValue D) → slice_get groups g ≡ Some x → IfSome blocks (λ b. AreBlocksAt told x u (IsPoint u set) b.items)) → IfSome blocks (λ b. AreBlocksShown told s groups v set b.items)
-  image_row_is v g u set blocks place has own =
-      let t = group_there s groups v g u place has in
-      some_map (λ b. AreBlocksAt told t.0 u (IsPoint u set) b.items) (λ b. AreBlocksShown told s groups v set b.items) blocks (own t.0 t.1) (λ b h. blocks_shown v g u set t.0 b.items place has t.1 h)
+  pub image_row_is : (set : ℕ) (blocks : Option (Vec (Bor (List ℕ)) Global)) → IfSome blocks (λ b. AreBlocksAt told f.here f.within (IsPoint f.within set) b.items) → IfSome blocks (λ b. AreBlocksShown told s groups v set b.items)
+  image_row_is set blocks is =
+      some_map (λ b. AreBlocksAt told f.here f.within (IsPoint f.within set) b.items) (λ b. AreBlocksShown told s groups v set b.items) blocks is (λ b h. blocks_shown set b.items h)
 
+module _ {D : Type 0} (told : D → Option (List (List ℕ))) (s : Plan) (groups : List (GroupValue D)) where
   -- ## digests
 
   digest_of_row : (blocks : Option (Vec (Bor (List ℕ)) Global)) (digest : Option (List ℕ)) (v : ℕ) (set : Option ℕ) → IfSome blocks (λ b. AreBlocksOf told s groups v set b.items) → IsDigestIfLent blocks digest

@@ -1,7 +1,6 @@
 -- Where a volume is within its group, and what stands there.
-use Rattle.std.proofs.Common.{◌≡◌, ℕ, zero, suc, ◌+◌, ◌<◌, ◌≤◌, ◌==◌, List, [], ◌∷◌, length, refl, ap, sym, ◌∙◌, subst, arith, Bool, true, false, Option, Some, None, map, slice_get}
+use Rattle.std.proofs.Common.{◌≡◌, ℕ, zero, suc, ◌<◌, List, [], ◌∷◌, length, refl, ap, sym, ◌∙◌, subst, Option, Some, None, map, slice_get}
 use Rattle.std.proofs.lemmas.Option.{slice_get_within}
-use Rattle.std.proofs.lemmas.Bool.Decides.{nat_tests}
 use Rattle.write_history.specs.History.{History}
 use Rattle.scenario.specs.declared.volume_row.VolumeRow.{VolumeRow}
 use Rattle.scenario.specs.Plan.{Plan, blocks_of, blocks_in as plan_blocks_in}
@@ -9,66 +8,9 @@ use Rattle.vss_model.specs.State.{history_in}
 use Rattle.cow_volume.specs.GroupValue.{GroupValue}
 use Rattle.cow_volume.specs.Calls.{blocks_at, blocks_in as group_blocks_in, history_at as group_history_at, history_in as group_history_in}
 use Rattle.cow_volume.proofs.Group.{slice_get_inside}
-use Rattle.provider.specs.Groups.{of_group, count_if, place_in, blocks_in_group, HasGroups, IsPlaceOf, history_at}
+use Rattle.scenario.specs.Places.{of_group, place_in, blocks_in_group, IsPlaceOf}
+use Rattle.provider.specs.Groups.{HasGroups, history_at}
 use Rattle.provider.proofs.InGroup.{at_place}
-
-pub number_is : (a b : ℕ) → (a == b) ≡ true → a ≡ b
-number_is a b e = grind (arith, nat_tests)
-
-pub same_number : (a b : ℕ) → a ≡ b → (a == b) ≡ true
-same_number a b e = grind (arith, nat_tests)
-
-pub other_number : (a b : ℕ) → (a ≡ b → ⊥) → (a == b) ≡ false
-other_number a b e = by_test (a == b) refl
-  where
-    by_test : (t : Bool) → (a == b) ≡ t → (a == b) ≡ false
-    by_test true f = absurd (e (number_is a b f))
-    by_test false f = f
-
--- ## counting up to a place
-
-place_if : (b c : Bool) (n m : ℕ) → m ≡ count_if c n → count_if b m ≡ count_if c (count_if b n)
-place_if true true n m e = ap (λ k. suc k) e
-place_if true false n m e = ap (λ k. suc k) e
-place_if false true n m e = e
-place_if false false n m e = e
-
--- one volume more is passed
-place_more : (g : ℕ) (rows : List VolumeRow) (v : ℕ) (r : VolumeRow) → slice_get rows v ≡ Some r → place_in g rows (suc v) ≡ count_if (r.group == g) (place_in g rows v)
-place_more g [] v r e = cc
-place_more g (q ∷ []) zero r e = let same : q ≡ r = cc in ap (λ (z : VolumeRow). count_if (z.group == g) 0) same
-place_more g (q ∷ p ∷ rows) zero r e = let same : q ≡ r = cc in ap (λ (z : VolumeRow). count_if (z.group == g) 0) same
-place_more g (q ∷ rows) (suc v) r e = place_if (q.group == g) (r.group == g) (place_in g rows v) (place_in g rows (suc v)) (place_more g rows v r e)
-
-place_zero : (g : ℕ) (rows : List VolumeRow) → 0 ≡ place_in g rows 0
-place_zero g [] = refl
-place_zero g (r ∷ rows) = refl
-
-pub place_begins : (g : ℕ) (rows : List VolumeRow) → (0 ≡ place_in g rows 0) × (0 ≤ 0)
-place_begins g rows = (place_zero g rows, omega arith)
-
-count_yes : (b : Bool) (n : ℕ) → b ≡ true → count_if b n ≡ suc n
-count_yes true n e = refl
-count_yes false n e = cc
-
-count_no : (b : Bool) (n : ℕ) → b ≡ false → count_if b n ≡ n
-count_no true n e = cc
-count_no false n e = refl
-
-next_is : (n : ℕ) → suc n ≡ n + 1
-next_is n = omega arith
-
-pub place_counted : (g : ℕ) (rows : List VolumeRow) (v p : ℕ) (r : VolumeRow) → slice_get rows v ≡ Some r → r.group ≡ g → (p ≡ place_in g rows v) × (p ≤ v) → (p + 1 ≡ place_in g rows (v + 1)) × (p + 1 ≤ v + 1)
-place_counted g rows v p r e is h = (
-  sym (next_is p) ∙ ap (λ n. suc n) h.0 ∙ sym (count_yes (r.group == g) (place_in g rows v) (same_number r.group g is)) ∙ sym (place_more g rows v r e) ∙ ap (place_in g rows) (next_is v),
-  let l = h.1 in omega arith,
-)
-
-pub place_passed : (g : ℕ) (rows : List VolumeRow) (v p : ℕ) (r : VolumeRow) → slice_get rows v ≡ Some r → (r.group ≡ g → ⊥) → (p ≡ place_in g rows v) × (p ≤ v) → (p ≡ place_in g rows (v + 1)) × (p ≤ v + 1)
-place_passed g rows v p r e is h = (
-  h.0 ∙ sym (count_no (r.group == g) (place_in g rows v) (other_number r.group g is)) ∙ sym (place_more g rows v r e) ∙ ap (place_in g rows) (next_is v),
-  let l = h.1 in omega arith,
-)
 
 -- ## what stands at a place
 
@@ -118,12 +60,3 @@ history_of_place s hs v g u place long =
     ∙ ap (λ (n : ℕ). group_history_at (of_group place.row.group s.volumes hs) n) place.within_is
     ∙ ap group_history_in (at_place place.row.group s.volumes hs v place.row place.is_row refl long)
     ∙ same_history (slice_get hs v)
-
--- a volume has one place
-pub one_place : (s : Plan) (v g u k w : ℕ) → IsPlaceOf s v g u → IsPlaceOf s v k w → (k ≡ g) × (w ≡ u)
-one_place s v g u k w a b =
-    let rows : Some b.row ≡ Some a.row = sym b.is_row ∙ a.is_row in
-    let same : b.row ≡ a.row = cc in (
-      b.group_is ∙ ap (λ (r : VolumeRow). r.group) same ∙ sym a.group_is,
-      b.within_is ∙ ap (λ (r : VolumeRow). place_in r.group s.volumes v) same ∙ sym a.within_is,
-    )

@@ -9,8 +9,7 @@ use Rattle.vss_names.specs.declared.vss_result.VssResult.{VssResult}
 use Rattle.vss_names.specs.declared.vss_result.VssResult.TheVariants.{ObjectAlreadyExists, MaximumNumberOfVolumesReached, MaximumNumberOfSnapshotsReached}
 use Rattle.set_agenda.specs.Agenda.{is_among}
 use Rattle.cow_volume.specs.GroupValue.{GroupValue}
-use Rattle.provider.specs.Preparing.{AreApart, IsProvider, refusal}
-use Rattle.provider.proofs.CutAll.{among_there}
+use Rattle.provider.specs.Preparing.{IsProvider, refusal}
 
 not_le : (a b : ℕ) → b < a → nat_le a b ≡ false
 not_le a b low = by_test (nat_le a b) refl
@@ -71,38 +70,6 @@ joined v vs n e = (first (is_among v vs) refl, second)
             some_none q = cc
         by_test false is = leb-false 64 (length vs) is
 
-get_snoc : (vs : List ℕ) (x i v : ℕ) → slice_get (vs ++ x ∷ []) i ≡ Some v → ((i < length vs) × (slice_get vs i ≡ Some v)) ⊎ ((i ≡ length vs) × (x ≡ v))
-get_snoc [] x zero v e = inr (refl, some_same x v e)
-  where
-    some_same : (a b : ℕ) → Some a ≡ Some b → a ≡ b
-    some_same a b q = cc
-get_snoc [] x (suc i) v e = cc
-get_snoc (y ∷ vs) x zero v e = inl (omega arith, e)
-get_snoc (y ∷ vs) x (suc i) v e = elim (get_snoc vs x i v e) [
-  | inl h ↦ inl (let low = h.0 in omega (arith, low), h.1)
-  | inr h ↦ inr (ap (λ n. suc n) h.0, h.1)
-]
-
-pub apart_more : (vs : List ℕ) (x : ℕ) → AreApart vs → is_among x vs ≡ false → AreApart (vs ++ x ∷ [])
-apart_more vs x apart none i j v a b = elim (get_snoc vs x i v a) [
-  | inl h ↦ elim (get_snoc vs x j v b) [
-    | inl k ↦ apart i j v h.1 k.1
-    | inr k ↦ absurd (clash i v h.1 (sym k.1))
-  ]
-  | inr h ↦ elim (get_snoc vs x j v b) [
-    | inl k ↦ absurd (clash j v k.1 (sym h.1))
-    | inr k ↦ h.0 ∙ sym k.0
-  ]
-]
-  where
-    clash : (k v : ℕ) → slice_get vs k ≡ Some v → v ≡ x → ⊥
-    clash k v at same =
-        let is = among_there x vs k (at ∙ ap (λ (n : ℕ). Some n) same) in
-        yes_no (sym is ∙ none)
-      where
-        yes_no : true ≡ false → ⊥
-        yes_no q = cc
-
 pub provider_joined : {D : Type 0} (groups : List (GroupValue D)) (old new : Vec ℕ Global) (list : Vec D Global) (x n : ℕ) → refusal x old.items n ≡ None → new.items ≡ old.items ++ x ∷ [] → vec_capacity new ≡ vec_capacity old
     → IsProvider groups old list → IsProvider groups new list
 provider_joined groups old new list x n none items capacity is =
@@ -113,7 +80,6 @@ provider_joined groups old new list x n none items capacity is =
     let places = is.places in
     record {
       few_groups = is.few_groups;
-      apart = subst AreApart (sym items) (apart_more old.items x is.apart j.0);
       few = omega (arith, long, one, few);
       places = omega (arith, capacity, places);
       empty = is.empty;

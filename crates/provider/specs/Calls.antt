@@ -1,21 +1,27 @@
 -- What a call on a volume comes to, against the histories of all volumes that the groups stand for. (This project's own.)
-use Rattle.std.specs.Prelude.{ℕ, ◌≡◌, ◌<◌, ◌≤◌, Bool, true, false, List, length, map, Option, Some, None, is_some, slice_get, Result, Ok, Err}
-use Rattle.std.specs.List.{concat}
+use Rattle.std.specs.Prelude.{ℕ, ◌≡◌, ◌<◌, ◌≤◌, ◌+◌, ◌&&◌, Bool, true, false, List, [], ◌∷◌, length, map, if◌then◌else◌, Option, Some, None, is_some, slice_get, Result, Ok, Err}
+use Rattle.std.specs.List.{concat, flat_map, range_with_len}
 use Rattle.block_data.specs.Digest.{sha256}
 use Rattle.write_history.specs.History.{Write, History, content, contents, point_in, written, dropped, reverted, reverted_in_part, to_restore}
-use Rattle.write_history.specs.Slots.{gone_up_to, evicted_up_to}
+use Rattle.write_history.specs.Slots.{Placed, gone_up_to, evicted_up_to, evicted_of}
+use Rattle.write_history.specs.declared.evicted.Evicted.{Evicted}
 use Rattle.set_agenda.specs.Course.{change_at}
 use Rattle.scenario.specs.Plan.{Plan, slots_of, group_of, blocks_of}
+use Rattle.scenario.specs.Places.{IsPlaceOf, volume_in}
+use Rattle.vss_model.specs.State.{has_image}
 use Rattle.vss_model.specs.Images.{count_images}
+use Rattle.volume_device.specs.declared.device.Device.{Ghosts}
 use Rattle.cow_volume.specs.GroupValue.{GroupValue}
+use Rattle.cow_volume.specs.Calls.{sets_at}
+use Rattle.cow_volume.specs.Room.{lacks_slot}
+use Rattle.cow_volume.specs.declared.cause.Cause.{Cause}
+use Rattle.cow_volume.specs.declared.cause.Cause.TheVariants as cause
+use Rattle.cow_volume.specs.declared.image_fault.ImageFault.{ImageFault}
+use Rattle.cow_volume.specs.declared.image_fault.ImageFault.TheVariants.{NoSuchImage, NoSuchBlock, Volume, Area}
+use Rattle.cow_volume.specs.declared.revert_fault.RevertFault.{RevertFault}
+use Rattle.cow_volume.specs.declared.revert_fault.RevertFault.TheVariants.{NoSuchImage as NoImage, Fault}
 use Rattle.provider.specs.Groups.{HasGroups, AreGroups, IfStandFor, history_at}
-use Rattle.provider.specs.Devices.{devices_of, tells_at, AreKept, IsCallOn, HasCause}
-use Rattle.provider.specs.declared.device_fault.DeviceFault.{DeviceFault}
-use Rattle.provider.specs.declared.image_fault.ImageFault.{ImageFault}
-use Rattle.provider.specs.declared.image_fault.ImageFault.TheVariants.{NoSuchImage, Device}
-use Rattle.provider.specs.declared.revert_fault.RevertFault.{RevertFault}
-use Rattle.provider.specs.declared.revert_fault.RevertFault.TheVariants.{NoSuchImage as NoImage, Stopped}
-use Rattle.provider.specs.declared.put_result.PutResult.{PutResult}
+use Rattle.provider.specs.Devices.{devices_of, tells_at, AreKept, IsCallOn, HasCause, fault_of}
 
 -- ## writes
 
@@ -27,24 +33,50 @@ IsLastSet sets hs = (u n : ℕ) (h : History) → slice_get hs u ≡ Some h → 
 abbrev pub GoUpTo : Plan → ℕ → ℕ → ℕ → List History → Type 0
 GoUpTo s v b up_to hs = (sets : ℕ) → IsLastSet sets hs → up_to ≡ evicted_up_to sets (slots_of s v) (group_of s v) v b hs
 
-abbrev pub put_if : Option DeviceFault → ℕ → Write → List History → List History
-put_if None v w hs = change_at v (written w) hs
-put_if (Some fault) v w hs = hs
+-- the volumes of a group, numbered from v on, on which the image of set n stands
+abbrev pub holders : ℕ → ℕ → List Placed → List History → List ℕ
+holders n v [] hs = []
+holders n v (p ∷ ps) [] = []
+holders n v (p ∷ ps) (h ∷ hs) = if p.within && has_image n h then v ∷ holders n (v + 1) ps hs else holders n (v + 1) ps hs
 
--- a block was written, or a device failed; the images of the volume's group went up to a set first, as the definition has it
-pub record IsPut {D : Type 0} (told : D → Option (List (List ℕ))) (size count : D → ℕ) (lending : D → Bool) (s : Plan) (old new : List (GroupValue D)) (v : ℕ) (w : Write) (put : PutResult) : Type 0 where
-  pub call : IsCallOn told size count lending s v old new
-  pub evicted : IfStandFor told s old (GoUpTo s v w.block put.evicted_up_to)
-  pub stands : IfStandFor told s old (λ hs. AreGroups told s new (put_if put.fault v w (gone_up_to put.evicted_up_to (group_of s v) hs)))
-  pub cause : HasCause count s v put.fault old new
+-- the images of the sets up to this one on the volumes of a group, in order of sets and then of volumes
+abbrev pub images_going : ℕ → List Placed → List History → List Evicted
+images_going up_to ps hs = flat_map (λ n. evicted_of n (holders n 0 ps hs)) (range_with_len 1 up_to)
+
+-- an image on a volume of group g, by the number that the scenario gives the volume
+abbrev pub renumbered : Plan → ℕ → Evicted → Evicted
+renumbered s g image = record { set = image.set; volume = volume_in g s.volumes image.volume }
+
+-- a write of block b to volume v does not lack its slot
+abbrev pub HasRoom : {D : Type 0} → Plan → List (GroupValue D) → ℕ → ℕ → Type 0
+HasRoom {D = D} s groups v b = (g u : ℕ) (x : GroupValue D) → IsPlaceOf s v g u → slice_get groups g ≡ Some x → lacks_slot x.area.records u (sets_at x u) b ≡ false
+
+-- the images of the volume's group went up to a set, as the definition has it, and these are they; the devices are as they were
+pub record IsRoomMade {D : Type 0} (device : Ghosts D) (s : Plan) (old new : List (GroupValue D)) (v b : ℕ) (images : List Evicted) (up_to : ℕ) : Type 0 where
+  pub call : IsCallOn device s v old new
+  pub devices : devices_of new ≡ devices_of old
+  pub evicted : IfStandFor device.told s old (GoUpTo s v b up_to)
+  pub stands : IfStandFor device.told s old (λ hs. AreGroups device.told s new (gone_up_to up_to (group_of s v) hs))
+  pub gone : IfStandFor device.told s old (λ hs. images ≡ images_going up_to (group_of s v) hs)
+  pub room : HasRoom s new v b
+
+abbrev pub put_if : Result Unit Cause → ℕ → Write → List History → List History
+put_if (Ok done) v w hs = change_at v (written w) hs
+put_if (Err cause) v w hs = hs
+
+-- a block was written, or a device failed
+pub record IsPut {D : Type 0} (device : Ghosts D) (s : Plan) (old new : List (GroupValue D)) (v : ℕ) (w : Write) (result : Result Unit Cause) : Type 0 where
+  pub call : IsCallOn device s v old new
+  pub stands : IfStandFor device.told s old (λ hs. AreGroups device.told s new (put_if result v w hs))
+  pub cause : HasCause device.count s v (fault_of result) old new
 
 -- ## reads
 
 -- only counts of devices may have changed: the groups stand for what they stood for, and each device tells what it told
-pub record IsQuiet {D : Type 0} (told : D → Option (List (List ℕ))) (size count : D → ℕ) (lending : D → Bool) (s : Plan) (old new : List (GroupValue D)) (v : ℕ) : Type 0 where
-  pub call : IsCallOn told size count lending s v old new
-  pub blocks : map told (devices_of new) ≡ map told (devices_of old)
-  pub stands : IfStandFor told s old (AreGroups told s new)
+pub record IsQuiet {D : Type 0} (device : Ghosts D) (s : Plan) (old new : List (GroupValue D)) (v : ℕ) : Type 0 where
+  pub call : IsCallOn device s v old new
+  pub blocks : map device.told (devices_of new) ≡ map device.told (devices_of old)
+  pub stands : IfStandFor device.told s old (AreGroups device.told s new)
 
 -- the bytes are those of block b of volume v now, where the volume tells
 abbrev pub IsNow : {D : Type 0} → (D → Option (List (List ℕ))) → Plan → List (GroupValue D) → ℕ → ℕ → List ℕ → Type 0
@@ -75,7 +107,9 @@ HasImage told s groups v set has = IfStandFor told s groups (λ hs. is_some (poi
 abbrev pub HasImageCause : {D : Type 0} → (D → Option (List (List ℕ))) → (D → ℕ) → Plan → ℕ → ℕ → Result Unit ImageFault → List (GroupValue D) → List (GroupValue D) → Type 0
 HasImageCause told count s v set (Ok done) old new = HasImage told s old v set true × HasCause count s v None old new
 HasImageCause told count s v set (Err NoSuchImage) old new = HasImage told s old v set false × (new ≡ old)
-HasImageCause told count s v set (Err (Device fault)) old new = HasImage told s old v set true × HasCause count s v (Some fault) old new
+HasImageCause told count s v set (Err NoSuchBlock) old new = ⊥
+HasImageCause told count s v set (Err Volume) old new = HasImage told s old v set true × HasCause count s v (Some cause.Volume) old new
+HasImageCause told count s v set (Err Area) old new = HasImage told s old v set true × HasCause count s v (Some cause.Area) old new
 
 -- a call by its outcome alone
 abbrev pub outcome_of : {T E : Type 0} → Result T E → Result Unit E
@@ -83,27 +117,27 @@ outcome_of (Ok done) = Ok tt
 outcome_of (Err fault) = Err fault
 
 -- the image of a set went from volume v, or did not stand and nothing changed
-abbrev pub IsDropped : {D : Type 0} → (D → Option (List (List ℕ))) → (D → ℕ) → (D → ℕ) → (D → Bool) → Plan → List (GroupValue D) → List (GroupValue D) → ℕ → ℕ → Bool → Type 0
-IsDropped told size count lending s old new v set false = HasImage told s old v set false × (new ≡ old)
-IsDropped told size count lending s old new v set true = HasImage told s old v set true × IsCallOn told size count lending s v old new × (devices_of new ≡ devices_of old)
-    × IfStandFor told s old (λ hs. AreGroups told s new (change_at v (dropped set) hs))
+abbrev pub IsDropped : {D : Type 0} → Ghosts D → Plan → List (GroupValue D) → List (GroupValue D) → ℕ → ℕ → Bool → Type 0
+IsDropped device s old new v set false = HasImage device.told s old v set false × (new ≡ old)
+IsDropped device s old new v set true = HasImage device.told s old v set true × IsCallOn device s v old new × (devices_of new ≡ devices_of old)
+    × IfStandFor device.told s old (λ hs. AreGroups device.told s new (change_at v (dropped set) hs))
 
 -- the images of a set went from all volumes; so many were they
-pub record AreWithout {D : Type 0} (told : D → Option (List (List ℕ))) (size count : D → ℕ) (lending : D → Bool) (old new : List (GroupValue D)) (set stood : ℕ) : Type 0 where
-  pub kept : AreKept told size count lending old new
+pub record AreWithout {D : Type 0} (device : Ghosts D) (old new : List (GroupValue D)) (set stood : ℕ) : Type 0 where
+  pub kept : AreKept device old new
   pub devices : devices_of new ≡ devices_of old
-  pub stands : (s : Plan) → IfStandFor told s old (λ hs. AreGroups told s new (map (dropped set) hs))
-  pub number : (s : Plan) → HasGroups s old → IfStandFor told s old (λ hs. stood ≡ count_images set hs)
+  pub stands : (s : Plan) → IfStandFor device.told s old (λ hs. AreGroups device.told s new (map (dropped set) hs))
+  pub number : (s : Plan) → HasGroups s old → IfStandFor device.told s old (λ hs. stood ≡ count_images set hs)
   pub none : stood ≡ 0 → new ≡ old
 
 -- ## revert
 
 -- volume v was brought back to the image of a set; or no such image stands, and nothing changed; or a device failed after so many
 -- blocks were restored, in ascending order, which are fewer than there are to restore
-abbrev pub IsRevert : {D : Type 0} → (D → Option (List (List ℕ))) → (D → ℕ) → (D → ℕ) → (D → Bool) → Plan → List (GroupValue D) → List (GroupValue D) → ℕ → ℕ → Result Unit RevertFault → Type 0
-IsRevert told size count lending s old new v set (Ok done) = HasImage told s old v set true × IsCallOn told size count lending s v old new × HasCause count s v None old new
-    × IfStandFor told s old (λ hs. (p : ℕ) → point_in set (history_at hs v).images ≡ Some p → AreGroups told s new (change_at v (reverted set p) hs))
-IsRevert told size count lending s old new v set (Err NoImage) = HasImage told s old v set false × (new ≡ old)
-IsRevert told size count lending s old new v set (Err (Stopped restored fault)) = HasImage told s old v set true × IsCallOn told size count lending s v old new × HasCause count s v (Some fault) old new
-    × IfStandFor told s old (λ hs. (p : ℕ) → point_in set (history_at hs v).images ≡ Some p
-    → (restored < length (to_restore (blocks_of s v) (history_at hs v).writes p)) × AreGroups told s new (change_at v (reverted_in_part (blocks_of s v) set p restored) hs))
+abbrev pub IsRevert : {D : Type 0} → Ghosts D → Plan → List (GroupValue D) → List (GroupValue D) → ℕ → ℕ → Result Unit RevertFault → Type 0
+IsRevert device s old new v set (Ok done) = HasImage device.told s old v set true × IsCallOn device s v old new × HasCause device.count s v None old new
+    × IfStandFor device.told s old (λ hs. (p : ℕ) → point_in set (history_at hs v).images ≡ Some p → AreGroups device.told s new (change_at v (reverted set p) hs))
+IsRevert device s old new v set (Err NoImage) = HasImage device.told s old v set false × (new ≡ old)
+IsRevert device s old new v set (Err (Fault restored failed)) = HasImage device.told s old v set true × IsCallOn device s v old new × HasCause device.count s v (Some failed) old new
+    × IfStandFor device.told s old (λ hs. (p : ℕ) → point_in set (history_at hs v).images ≡ Some p
+    → (restored < length (to_restore (blocks_of s v) (history_at hs v).writes p)) × AreGroups device.told s new (change_at v (reverted_in_part (blocks_of s v) set p restored) hs))

@@ -3,13 +3,15 @@
 -- project's own.)
 use Rattle.std.specs.Prelude.{ℕ, ◌≡◌, ◌≤◌, ◌+◌, ◌&&◌, Bool, false, zero, suc, List, [], ◌∷◌, ◌++◌, length, map, Option, Some, None, is_some, slice_get, Result, Ok, Err}
 use Rattle.vss_names.specs.Faults.{Rose}
+use Rattle.volume_device.specs.declared.device.Device.{Ghosts}
 use Rattle.scenario.specs.declared.volume_row.VolumeRow.{VolumeRow}
 use Rattle.scenario.specs.Plan.{Plan}
 use Rattle.cow_volume.specs.GroupValue.{GroupValue}
 use Rattle.cow_volume.specs.Calls.{IsKept}
-use Rattle.provider.specs.Groups.{blocks_in_group, place_in, HasGroups}
-use Rattle.provider.specs.declared.device_fault.DeviceFault.{DeviceFault}
-use Rattle.provider.specs.declared.device_fault.DeviceFault.TheVariants.{Volume, Area}
+use Rattle.cow_volume.specs.declared.cause.Cause.{Cause}
+use Rattle.cow_volume.specs.declared.cause.Cause.TheVariants.{NoSuchBlock, Volume, Area}
+use Rattle.scenario.specs.Places.{blocks_in_group, place_in}
+use Rattle.provider.specs.Groups.{HasGroups}
 
 -- ## in order
 
@@ -79,23 +81,27 @@ AreLater [] [] = Unit {0}
 AreLater (a ∷ xs) (b ∷ ys) = (a ≤ b) × AreLater xs ys
 AreLater _ _ = ⊥
 
+-- a group is another state of the same one
+abbrev pub IsKeptGroup : {D : Type 0} → Ghosts D → GroupValue D → GroupValue D → Type 0
+IsKeptGroup device x y = IsKept device.told device.size device.count device.lending x y
+
 -- The groups are other states of the same ones: each keeps its volumes and slots, and of its devices the sizes, whether they tell
 -- and whether they lend; no count falls.
-pub record AreKept {D : Type 0} (told : D → Option (List (List ℕ))) (size count : D → ℕ) (lending : D → Bool) (old new : List (GroupValue D)) : Type 0 where
+pub record AreKept {D : Type 0} (device : Ghosts D) (old new : List (GroupValue D)) : Type 0 where
   pub number : length new ≡ length old
-  pub each : (g : ℕ) (x y : GroupValue D) → slice_get old g ≡ Some x → slice_get new g ≡ Some y → IsKept told size count lending x y
+  pub each : (g : ℕ) (x y : GroupValue D) → slice_get old g ≡ Some x → slice_get new g ≡ Some y → IsKeptGroup device x y
   pub has : (s : Plan) → HasGroups s old → HasGroups s new
-  pub tells : (s : Plan) → tells_of told s new ≡ tells_of told s old
-  pub sizes : map size (devices_of new) ≡ map size (devices_of old)
-  pub later : AreLater (counts_of count old) (counts_of count new)
+  pub tells : (s : Plan) → tells_of device.told s new ≡ tells_of device.told s old
+  pub sizes : map device.size (devices_of new) ≡ map device.size (devices_of old)
+  pub later : AreLater (counts_of device.count old) (counts_of device.count new)
 
 -- the groups but that of volume v are as they were: their devices, records and images
 abbrev pub OthersStay : {D : Type 0} → Plan → ℕ → List (GroupValue D) → List (GroupValue D) → Type 0
 OthersStay s v old new = (r : VolumeRow) (g : ℕ) → slice_get s.volumes v ≡ Some r → (g ≡ r.group → ⊥) → slice_get new g ≡ slice_get old g
 
 -- the group of volume v was called, and no other
-pub record IsCallOn {D : Type 0} (told : D → Option (List (List ℕ))) (size count : D → ℕ) (lending : D → Bool) (s : Plan) (v : ℕ) (old new : List (GroupValue D)) : Type 0 where
-  pub kept : AreKept told size count lending old new
+pub record IsCallOn {D : Type 0} (device : Ghosts D) (s : Plan) (v : ℕ) (old new : List (GroupValue D)) : Type 0 where
+  pub kept : AreKept device old new
   pub elsewhere : OthersStay s v old new
 
 -- ## faults
@@ -106,17 +112,15 @@ RoseAlone zero (a ∷ xs) (b ∷ ys) = Rose a b × (ys ≡ xs)
 RoseAlone (suc place) (a ∷ xs) (b ∷ ys) = (b ≡ a) × RoseAlone place xs ys
 RoseAlone _ _ _ = ⊥
 
--- the place of the device that failed in a call on volume v
-abbrev pub failed_place : Plan → ℕ → DeviceFault → ℕ
-failed_place s v Volume = volume_place s v
-failed_place s v Area = volumes_area s v
-
--- where no device failed, each count is as it was; else the count of the device that is told rose, and each other is as it was
-abbrev pub HasCause : {D : Type 0} → (D → ℕ) → Plan → ℕ → Option DeviceFault → List (GroupValue D) → List (GroupValue D) → Type 0
+-- Where no device failed, each count is as it was; else the count of the device that failed rose, and each other is as it was. No call
+-- fails since there is no such block.
+abbrev pub HasCause : {D : Type 0} → (D → ℕ) → Plan → ℕ → Option Cause → List (GroupValue D) → List (GroupValue D) → Type 0
 HasCause count s v None old new = counts_of count new ≡ counts_of count old
-HasCause count s v (Some fault) old new = RoseAlone (failed_place s v fault) (counts_of count old) (counts_of count new)
+HasCause count s v (Some NoSuchBlock) old new = ⊥
+HasCause count s v (Some Volume) old new = RoseAlone (volume_place s v) (counts_of count old) (counts_of count new)
+HasCause count s v (Some Area) old new = RoseAlone (volumes_area s v) (counts_of count old) (counts_of count new)
 
 -- the fault of a call that answers nothing else
-abbrev pub fault_of : {T : Type 0} → Result T DeviceFault → Option DeviceFault
+abbrev pub fault_of : {T : Type 0} → Result T Cause → Option Cause
 fault_of (Ok done) = None
-fault_of (Err fault) = Some fault
+fault_of (Err cause) = Some cause

@@ -1,48 +1,13 @@
--- The volumes of a scenario in their groups: which members of a list, one for each volume, are of a group; where a volume is; and
--- for which histories, one for each volume of the scenario, the groups of copy-on-write volumes stand together. (This project's
--- own.)
-use Rattle.std.specs.Prelude.{ℕ, ◌≡◌, ◌<◌, ◌==◌, Bool, true, false, zero, suc, List, [], ◌∷◌, length, map, Option, Some, slice_get}
+-- The groups of copy-on-write volumes of a scenario, and for which histories, one for each volume of the scenario, they stand
+-- together. (This project's own.)
+use Rattle.std.specs.Prelude.{ℕ, ◌≡◌, ◌<◌, List, length, map, Option, Some, slice_get}
 use Rattle.write_history.specs.History.{History, fresh}
 use Rattle.scenario.specs.declared.volume_row.VolumeRow.{VolumeRow}
 use Rattle.scenario.specs.Plan.{Plan}
+use Rattle.scenario.specs.Places.{of_group, blocks_in_group}
 use Rattle.vss_model.specs.State.{history_in}
 use Rattle.cow_volume.specs.GroupValue.{GroupValue}
 use Rattle.cow_volume.specs.StandsFor.{StandsFor}
-
--- ## members of a group
-
-abbrev pub of_group_if : {X : Type 0} → Bool → X → List X → List X
-of_group_if true x xs = x ∷ xs
-of_group_if false x xs = xs
-
--- the members of a list, one for each volume, whose volumes are of group g
-abbrev pub of_group : {X : Type 0} → ℕ → List VolumeRow → List X → List X
-of_group g [] xs = []
-of_group g (r ∷ rows) [] = []
-of_group g (r ∷ rows) (x ∷ xs) = of_group_if (r.group == g) x (of_group g rows xs)
-
--- the blocks of the volumes of a group
-abbrev pub blocks_in_group : ℕ → List VolumeRow → List ℕ
-blocks_in_group g rows = of_group g rows (map (λ (r : VolumeRow). r.blocks) rows)
-
--- ## where a volume is
-
-abbrev pub count_if : Bool → ℕ → ℕ
-count_if true n = suc n
-count_if false n = n
-
--- the number of volume v within group g: how many volumes before it are of the group
-abbrev pub place_in : ℕ → List VolumeRow → ℕ → ℕ
-place_in g [] v = 0
-place_in g (r ∷ rows) zero = 0
-place_in g (r ∷ rows) (suc v) = count_if (r.group == g) (place_in g rows v)
-
--- volume v is this volume of its group
-pub record IsPlaceOf (s : Plan) (v group within : ℕ) : Type 0 where
-  pub row : VolumeRow
-  pub is_row : slice_get s.volumes v ≡ Some row
-  pub group_is : group ≡ row.group
-  pub within_is : within ≡ place_in row.group s.volumes v
 
 -- each group has a device for each of its volumes
 abbrev pub AreWhole : {D : Type 0} → List (GroupValue D) → Type 0

@@ -1,13 +1,10 @@
 //! The blocks of volumes and of images, lent in rows that are digested side by side.
 
-ghost use Rattle.std.specs.Prelude.{◌≡◌, ◌<◌, Some, length, slice_get, IfOk, IfSome, All};
-ghost use Rattle.cow_volume.specs.GroupValue.{GroupValue};
+ghost use Rattle.std.specs.Prelude.{◌<◌, length, IfOk, IfSome, All};
 ghost use Rattle.provider.specs.Groups.{HasGroups};
 ghost use Rattle.provider.specs.Hashing.{IsEnd, IsPoint};
 ghost use Rattle.provider.specs.Lending.{AreBlocksAt, IsDigestedAt, IsLentRow};
 
-use crate::looking::images_in;
-use crate::place::{Place, place_of};
 use cow_volume::CowGroup;
 use lent_digests::{Digested, DigestsOf, LentBlocks, digest_side_by_side};
 use scenario::Scenario;
@@ -57,33 +54,6 @@ fn lend_image_of<D: Device>(
     Ok(Some(blocks))
 }
 
-/// The blocks of a volume of one group.
-fn lend_volume_at<D: Device>(
-    alloc: Global,
-    groups: &Vec<CowGroup<D>>,
-    place: Place,
-) -> Result<Option<Vec<&[u8]>>, OutOfMemory>
-    requires group { place.group < length groups.now.items }
-    requires volume { (x : GroupValue D) → slice_get groups.now.items place.group ≡ Some x → place.volume < length x.area.volumes }
-    ensures { (x : GroupValue D) → slice_get groups.now.items place.group ≡ Some x → IfOk result (λ lent. IfSome lent (λ blocks. AreBlocksAt D.told x place.volume (IsEnd place.volume) blocks.items)) }
-{
-    lend_volume_of(alloc, &groups[place.group as usize], place.volume)
-}
-
-/// The blocks that the image of a set on a volume of one group shows.
-fn lend_image_at<D: Device>(
-    alloc: Global,
-    groups: &Vec<CowGroup<D>>,
-    place: Place,
-    set: u32,
-) -> Result<Option<Vec<&[u8]>>, OutOfMemory>
-    requires group { place.group < length groups.now.items }
-    requires volume { (x : GroupValue D) → slice_get groups.now.items place.group ≡ Some x → place.volume < length x.area.volumes }
-    ensures { (x : GroupValue D) → slice_get groups.now.items place.group ≡ Some x → IfOk result (λ lent. IfSome lent (λ blocks. AreBlocksAt D.told x place.volume (IsPoint place.volume set) blocks.items)) }
-{
-    lend_image_of(alloc, &groups[place.group as usize], place.volume, set)
-}
-
 /// The row of a volume.
 fn volume_row<'a, D: Device>(
     alloc: Global,
@@ -95,8 +65,9 @@ fn volume_row<'a, D: Device>(
     requires has { HasGroups scenario.now groups.now.items }
     ensures { IfOk result (IsLentRow D.told scenario.now groups.now.items) }
 {
-    let place = place_of(scenario, volume);
-    let blocks = lend_volume_at(alloc, groups, place)?;
+    let place = scenario.place(volume);
+    let group = &groups[place.group as usize];
+    let blocks = lend_volume_of(alloc, group, place.volume)?;
     Ok(LentBlocks {
         volume,
         set: None,
@@ -116,8 +87,9 @@ fn image_row<'a, D: Device>(
     requires has { HasGroups scenario.now groups.now.items }
     ensures { IfOk result (IsLentRow D.told scenario.now groups.now.items) }
 {
-    let place = place_of(scenario, volume);
-    let blocks = lend_image_at(alloc, groups, place, set)?;
+    let place = scenario.place(volume);
+    let group = &groups[place.group as usize];
+    let blocks = lend_image_of(alloc, group, place.volume, set)?;
     Ok(LentBlocks {
         volume,
         set: Some(set),
@@ -153,7 +125,8 @@ fn lend_volumes_and_images<'a, D: Device>(
     let mut rows = Vec::new(alloc);
     for volume in 0..scenario.volumes() {
         rows.push(volume_row(alloc, groups, scenario, volume)?)?;
-        for set in images_in(groups, scenario, volume) {
+        let place = scenario.place(volume);
+        for set in groups[place.group as usize].images(place.volume) {
             rows.push(image_row(alloc, groups, scenario, *set, volume)?)?;
         }
     }

@@ -1,38 +1,31 @@
-ghost use Rattle.std.specs.Prelude.{◌≡◌, ◌≢◌, ◌<◌, ◌≤◌, ℕ, [], true, false, length, map, slice_get, Some, is_some, IfOk, IfErr, IfSome, OnOk, All};
+ghost use Rattle.std.specs.Prelude.{◌≡◌, ◌≢◌, ◌<◌, ◌≤◌, ◌*◌, ℕ, [], true, false, length, map, slice_get, Some, is_some, vec_capacity, IfOk, IfErr, IfSome, OnOk, All};
 ghost use Rattle.hex.specs.Hex.{IsBytes};
 ghost use Rattle.block_data.specs.PayloadBytes.{payload_bytes};
 ghost use Rattle.write_history.specs.History.{fresh, sets_of};
-ghost use Rattle.write_history.specs.Slots.{used, used_by, group_used};
-ghost use Rattle.set_agenda.specs.Agenda.{is_orders, is_over_volumes};
-ghost use Rattle.set_agenda.specs.declared.group.Group.TheVariants.{Cut, Flush};
+ghost use Rattle.write_history.specs.Slots.{used, used_by};
+ghost use Rattle.set_agenda.specs.Agenda.{is_among, is_orders, is_over_volumes};
+ghost use Rattle.set_agenda.specs.declared.group.Group.TheVariants.{Commit, Flush};
 ghost use Rattle.scenario.specs.Bounds.{IsBlock};
-ghost use Rattle.scenario.specs.Plan.{Plan, blocks_of, group_of};
+ghost use Rattle.scenario.specs.Plan.{Plan, blocks_of};
+ghost use Rattle.scenario.specs.Places.{IsPlaceOf};
 ghost use Rattle.cow_volume.specs.GroupValue.{GroupValue};
 ghost use Rattle.cow_volume.specs.Parts.{IsLentBy};
-ghost use Rattle.provider.specs.Groups.{AreFresh, AreGroups, AreWhole, HasGroups, IfStandFor, IsPlaceOf, history_at};
+ghost use Rattle.provider.specs.Groups.{AreFresh, AreGroups, AreWhole, HasGroups, IfStandFor, history_at};
 ghost use Rattle.provider.specs.Devices.{AreKept, devices_of, volume_place, HasCause, fault_of};
-ghost use Rattle.provider.specs.Calls.{AreWithout, GoUpTo, HasImage, HasImageCause, IsDigestNow, IsDigestShown, IsDropped, IsNow, IsPut, IsQuiet, IsRevert, IsShown, outcome_of};
-ghost use Rattle.provider.specs.Preparing.{CanCut, HasJoined, HasStepCause, LastsAt, refusal, refused_as, step_taken};
+ghost use Rattle.provider.specs.Calls.{AreWithout, HasImage, HasImageCause, HasRoom, IsDigestNow, IsDigestShown, IsDropped, IsNow, IsPut, IsQuiet, IsRevert, IsRoomMade, IsShown, outcome_of};
+ghost use Rattle.provider.specs.Preparing.{CanCutOn, HasJoined, HasStepCause, IsCutOn, LastsAt, refusal, refused_as, step_taken};
 ghost use Rattle.provider.specs.Lending.{IsDigestedAt};
 ghost use Rattle.provider.specs.Ending.{AreLasting, HasSyncCause, IsSynced};
 
-use crate::device_fault::DeviceFault;
-use crate::digesting::{digest_image_in, digest_in};
-use crate::dropping::{drop_image_in, drop_set_in};
-use crate::ending::{list_devices, sync_in};
-use crate::image_fault::ImageFault;
+use crate::dropping::{drop_on, drop_set_in};
+use crate::ending::list_devices;
+use crate::hashing::{digest_of, digest_of_image};
 use crate::lending::digests_in;
-use crate::looking::{has_image_in, images_in, used_all_in, used_by_in, used_in};
 use crate::making::device_count;
-use crate::preparing::{MOST_VOLUMES, refusal};
-use crate::put_result::PutResult;
-use crate::reading::{lend_in, read_in};
-use crate::revert_fault::RevertFault;
-use crate::showing::{lend_image_in, read_image_in, revert_in};
-use crate::stepping::step_in;
-use crate::writing::{goes_up_to_in, write_in};
+use crate::preparing::{MOST_VOLUMES, is_among, refusal};
+use crate::renumbering::renumber;
 use block_data::{BLOCK, BlockBuf, Payload};
-use cow_volume::CowGroup;
+use cow_volume::{Cause, CowGroup, ImageFault, RevertFault};
 use lent_digests::{Digested, DigestsOf};
 use scenario::Scenario;
 use set_agenda::Group;
@@ -41,6 +34,7 @@ use std::marker::Model;
 use std::thread::Threads;
 use volume_device::Device;
 use vss_names::{OutOfMemory, VssResult};
+use write_history::Evicted;
 
 /// Groups of volumes over devices, with the set that is being prepared.
 #[derive(Drop)]
@@ -94,31 +88,46 @@ impl<D: Device> Provider<D> {
             block,
         })
     }
-    /// The greatest set whose images would go from the volume's group for a write of the block; 0 where none has to. Images are of
-    /// sets above 0, so nothing goes up to 0.
-    pub fn goes_up_to(&self, scenario: &Scenario, volume: u32, block: u32) -> u32
+    /// Makes room for a write of a block. Where its old bytes need a slot for a copy and none is free, images go, those of the group's
+    /// least set together, until one is. The set up to which they went is answered, 0 where none did; `gone` then has them, in order of
+    /// sets and then of volumes, and no memory is taken for it.
+    pub fn make_room(
+        &mut self,
+        scenario: &Scenario,
+        volume: u32,
+        block: u32,
+        gone: &mut Vec<Evicted>,
+    ) -> u32
         requires block { IsBlock scenario.now volume block }
-        requires has { HasGroups scenario.now self.now.groups }
-        ensures { IfStandFor D.told scenario.now self.now.groups (GoUpTo scenario.now volume block result) }
+        requires has { HasGroups scenario.now self.old.groups }
+        requires space { 512 * length scenario.now.volumes ≤ vec_capacity gone.old }
+        ensures room { IsRoomMade D.Device scenario.now self.old.groups self.new.groups volume block gone.new.items result }
+        ensures space { vec_capacity gone.new ≡ vec_capacity gone.old }
+        ensures set { self.new ≡ record self.old { groups = self.new.groups } }
     {
-        goes_up_to_in(&self.groups, scenario, volume, block)
+        let place = scenario.place(volume);
+        let group = &mut self.groups[place.group as usize];
+        let up_to = group.make_room(place.volume, block, gone);
+        renumber(scenario, place.group, gone);
+        up_to
     }
 
-    /// Writes a block. Where its old bytes need a slot for a copy and none is free, images go first, those of the group's least set
-    /// together, until one is.
-    pub fn write(
+    /// Writes a block that has room. Its old bytes are copied where they have to be, and then it is overwritten.
+    pub fn put(
         &mut self,
         scenario: &Scenario,
         volume: u32,
         block: u32,
         payload: &Payload,
-    ) -> PutResult
+    ) -> Result<(), Cause>
         requires block { IsBlock scenario.now volume block }
         requires has { HasGroups scenario.now self.old.groups }
-        ensures put { IsPut D.told D.size D.count D.lending scenario.now self.old.groups self.new.groups volume (record { block = block; bytes = payload_bytes payload.now }) result }
+        requires room { HasRoom scenario.now self.old.groups volume block }
+        ensures put { IsPut D.Device scenario.now self.old.groups self.new.groups volume (record { block = block; bytes = payload_bytes payload.now }) result }
         ensures set { self.new ≡ record self.old { groups = self.new.groups } }
     {
-        write_in(&mut self.groups, scenario, volume, block, payload)
+        let place = scenario.place(volume);
+        self.groups[place.group as usize].put(place.volume, block, payload)
     }
 
     /// Lends a block of a volume as it is, in place. None where the volume's device does not lend.
@@ -129,7 +138,8 @@ impl<D: Device> Provider<D> {
         ensures whole { IfSome result (λ bytes. length bytes.now ≡ BLOCK) }
         ensures lends { (d : D) → slice_get (devices_of self.now.groups) (volume_place scenario.now volume) ≡ Some d → is_some result ≡ D.lending d }
     {
-        lend_in(&self.groups, scenario, volume, block)
+        let place = scenario.place(volume);
+        self.groups[place.group as usize].lend_block(place.volume, block)
     }
 
     /// Reads a block of a volume as it is into `out`, which after a failed read holds any bytes.
@@ -139,29 +149,32 @@ impl<D: Device> Provider<D> {
         volume: u32,
         block: u32,
         out: &mut [u8],
-    ) -> Result<(), DeviceFault>
+    ) -> Result<(), Cause>
         requires block { IsBlock scenario.now volume block }
         requires has { HasGroups scenario.now self.old.groups }
         requires whole { length out.old ≡ BLOCK }
         ensures now { OnOk result (IsNow D.told scenario.now self.old.groups volume block out.new) }
-        ensures quiet { IsQuiet D.told D.size D.count D.lending scenario.now self.old.groups self.new.groups volume }
+        ensures quiet { IsQuiet D.Device scenario.now self.old.groups self.new.groups volume }
         ensures cause { HasCause D.count scenario.now volume (fault_of result) self.old.groups self.new.groups }
         ensures set { self.new ≡ record self.old { groups = self.new.groups } }
     {
-        read_in(&mut self.groups, scenario, volume, block, out)
+        let place = scenario.place(volume);
+        self.groups[place.group as usize].read_into(place.volume, block, out)
     }
 
     /// The SHA-256 of all blocks of a volume, in order. Lent blocks are hashed in place.
-    pub fn digest(&mut self, scenario: &Scenario, volume: u32) -> Result<[u8; 32], DeviceFault>
+    pub fn digest(&mut self, scenario: &Scenario, volume: u32) -> Result<[u8; 32], Cause>
         requires volume { volume < length scenario.now.volumes }
         requires has { HasGroups scenario.now self.old.groups }
         ensures digest { IfOk result (IsDigestNow D.told scenario.now self.old.groups volume) }
         ensures wide { IfOk result (λ digest. (length digest ≡ 32) × IsBytes digest) }
-        ensures quiet { IsQuiet D.told D.size D.count D.lending scenario.now self.old.groups self.new.groups volume }
+        ensures quiet { IsQuiet D.Device scenario.now self.old.groups self.new.groups volume }
         ensures cause { HasCause D.count scenario.now volume (fault_of result) self.old.groups self.new.groups }
         ensures set { self.new ≡ record self.old { groups = self.new.groups } }
     {
-        digest_in(&mut self.groups, &mut self.block, scenario, volume)
+        let place = scenario.place(volume);
+        let group = &mut self.groups[place.group as usize];
+        digest_of(group, &mut self.block, place.volume)
     }
 
     /// The SHA-256 of all blocks that the image of a set shows, in order. Lent blocks are hashed in place.
@@ -175,11 +188,13 @@ impl<D: Device> Provider<D> {
         requires has { HasGroups scenario.now self.old.groups }
         ensures digest { IfOk result (IsDigestShown D.told scenario.now self.old.groups volume set) }
         ensures wide { IfOk result (λ digest. (length digest ≡ 32) × IsBytes digest) }
-        ensures quiet { IsQuiet D.told D.size D.count D.lending scenario.now self.old.groups self.new.groups volume }
+        ensures quiet { IsQuiet D.Device scenario.now self.old.groups self.new.groups volume }
         ensures cause { HasImageCause D.told D.count scenario.now volume set (outcome_of result) self.old.groups self.new.groups }
         ensures set { self.new ≡ record self.old { groups = self.new.groups } }
     {
-        digest_image_in(&mut self.groups, &mut self.block, scenario, set, volume)
+        let place = scenario.place(volume);
+        let group = &mut self.groups[place.group as usize];
+        digest_of_image(group, &mut self.block, place.volume, set)
     }
 
     /// The digests of all volumes, in order, each followed by those of its images where those are wanted, the oldest first, where devices
@@ -215,7 +230,8 @@ impl<D: Device> Provider<D> {
         ensures lends { (g u : ℕ) (x : GroupValue D) → IsPlaceOf scenario.now volume g u → slice_get self.now.groups g ≡ Some x → IfOk result (λ lent. IsLentBy D.lending x u set block (is_some lent)) }
         ensures none { IfErr result (λ fault. (fault ≡ ImageFault.NoSuchImage) × HasImage D.told scenario.now self.now.groups volume set false) }
     {
-        lend_image_in(&self.groups, scenario, set, volume, block)
+        let place = scenario.place(volume);
+        self.groups[place.group as usize].lend_image(place.volume, set, block)
     }
 
     /// Reads a block as the image of a set shows it into `out`, which after a failed read holds any bytes.
@@ -231,11 +247,12 @@ impl<D: Device> Provider<D> {
         requires has { HasGroups scenario.now self.old.groups }
         requires whole { length out.old ≡ BLOCK }
         ensures shown { OnOk result (IsShown D.told scenario.now self.old.groups volume set block out.new) }
-        ensures quiet { IsQuiet D.told D.size D.count D.lending scenario.now self.old.groups self.new.groups volume }
+        ensures quiet { IsQuiet D.Device scenario.now self.old.groups self.new.groups volume }
         ensures cause { HasImageCause D.told D.count scenario.now volume set result self.old.groups self.new.groups }
         ensures set { self.new ≡ record self.old { groups = self.new.groups } }
     {
-        read_image_in(&mut self.groups, scenario, set, volume, block, out)
+        let place = scenario.place(volume);
+        self.groups[place.group as usize].read_image_into(place.volume, set, block, out)
     }
 
     /// The sets of the images of a volume, the oldest first.
@@ -245,7 +262,8 @@ impl<D: Device> Provider<D> {
         ensures sets { IfStandFor D.told scenario.now self.now.groups (λ hs. result.now ≡ sets_of (history_at hs volume).images) }
         ensures few { length result.now ≤ 512 }
     {
-        images_in(&self.groups, scenario, volume)
+        let place = scenario.place(volume);
+        self.groups[place.group as usize].images(place.volume)
     }
 
     /// Whether the image of a set stands on a volume.
@@ -254,7 +272,7 @@ impl<D: Device> Provider<D> {
         requires has { HasGroups scenario.now self.now.groups }
         ensures { HasImage D.told scenario.now self.now.groups volume set result }
     {
-        has_image_in(&self.groups, scenario, set, volume)
+        is_among(self.images(scenario, volume), set)
     }
 
     /// How many slots the images of a volume use.
@@ -263,7 +281,8 @@ impl<D: Device> Provider<D> {
         requires has { HasGroups scenario.now self.now.groups }
         ensures { IfStandFor D.told scenario.now self.now.groups (λ hs. result ≡ used (blocks_of scenario.now volume) (history_at hs volume).writes (history_at hs volume).images) }
     {
-        used_in(&self.groups, scenario, volume)
+        let place = scenario.place(volume);
+        self.groups[place.group as usize].used(place.volume)
     }
 
     /// How many slots the image of a set on a volume uses; None where no such image stands.
@@ -272,31 +291,24 @@ impl<D: Device> Provider<D> {
         requires has { HasGroups scenario.now self.now.groups }
         ensures { IfStandFor D.told scenario.now self.now.groups (λ hs. result ≡ used_by (blocks_of scenario.now volume) (history_at hs volume).writes (history_at hs volume).images set) }
     {
-        used_by_in(&self.groups, scenario, set, volume)
-    }
-
-    /// How many slots the images of a volume's whole group use.
-    pub fn used_all(&self, scenario: &Scenario, volume: u32) -> u32
-        requires volume { volume < length scenario.now.volumes }
-        requires has { HasGroups scenario.now self.now.groups }
-        ensures { IfStandFor D.told scenario.now self.now.groups (λ hs. result ≡ group_used (group_of scenario.now volume) hs) }
-    {
-        used_all_in(&self.groups, scenario, volume)
+        let place = scenario.place(volume);
+        self.groups[place.group as usize].used_by(place.volume, set)
     }
 
     /// The image of a set goes from a volume; its copies go to the next older image, where that lacks them. Whether it stood.
     pub fn drop_image(&mut self, scenario: &Scenario, set: u32, volume: u32) -> bool
         requires volume { volume < length scenario.now.volumes }
         requires has { HasGroups scenario.now self.old.groups }
-        ensures dropped { IsDropped D.told D.size D.count D.lending scenario.now self.old.groups self.new.groups volume set result }
+        ensures dropped { IsDropped D.Device scenario.now self.old.groups self.new.groups volume set result }
         ensures set { self.new ≡ record self.old { groups = self.new.groups } }
     {
-        drop_image_in(&mut self.groups, scenario, set, volume)
+        let place = scenario.place(volume);
+        drop_on(&mut self.groups[place.group as usize], place.volume, set)
     }
 
     /// The images of a set go from all volumes. How many stood.
     pub fn drop_set(&mut self, set: u32) -> usize
-        ensures without { AreWithout D.told D.size D.count D.lending self.old.groups self.new.groups set result }
+        ensures without { AreWithout D.Device self.old.groups self.new.groups set result }
         ensures set { self.new ≡ record self.old { groups = self.new.groups } }
     {
         drop_set_in(&mut self.groups, set)
@@ -306,10 +318,11 @@ impl<D: Device> Provider<D> {
     pub fn revert(&mut self, scenario: &Scenario, set: u32, volume: u32) -> Result<(), RevertFault>
         requires volume { volume < length scenario.now.volumes }
         requires has { HasGroups scenario.now self.old.groups }
-        ensures revert { IsRevert D.told D.size D.count D.lending scenario.now self.old.groups self.new.groups volume set result }
+        ensures revert { IsRevert D.Device scenario.now self.old.groups self.new.groups volume set result }
         ensures set { self.new ≡ record self.old { groups = self.new.groups } }
     {
-        revert_in(&mut self.groups, scenario, set, volume)
+        let place = scenario.place(volume);
+        self.groups[place.group as usize].revert(place.volume, set)
     }
 
     /// A volume joins the set. It is refused where it is in the set, where the set has 64 volumes, or where 512 images stand on the
@@ -320,7 +333,7 @@ impl<D: Device> Provider<D> {
         ensures joined { HasJoined self.old self.new volume result }
         ensures refused { IfStandFor D.told scenario.now self.old.groups (λ hs. refused_as result ≡ refusal volume self.old.volumes (length (history_at hs volume).images)) }
     {
-        let images = images_in(&self.groups, scenario, volume).len();
+        let images = self.images(scenario, volume).len();
         if let Some(why) = refusal(volume, &self.volumes, images) {
             return Err(why);
         }
@@ -336,39 +349,90 @@ impl<D: Device> Provider<D> {
         self.set = set;
     }
 
-    /// Makes a step of the provider, of a volume where the group has one for each. In the Cut step the images of the set are cut on all
-    /// its volumes; in a Flush step the volume's device is flushed. Nothing else changes anything.
+    /// The volumes of the set that is being prepared, in order of `begin_prepare`.
+    pub fn volumes(&self) -> &[u32]
+        ensures volumes { result.now ≡ self.now.volumes }
+        ensures few { length self.now.volumes ≤ 64 }
+    {
+        &self.volumes
+    }
+
+    /// The number of the set that is being prepared; 0 where it has none yet.
+    pub fn set(&self) -> u32
+        ensures { result ≡ self.now.set }
+    {
+        self.set
+    }
+
+    /// Whether a volume is in the set that is being prepared.
+    pub fn is_preparing(&self, volume: u32) -> bool
+        ensures { result ≡ is_among volume self.now.volumes }
+    {
+        is_among(&self.volumes, volume)
+    }
+
+    /// Makes a step of the provider, of a volume where the group has one for each. In a Flush step the volume's device is flushed, and
+    /// in a Commit step the image of the set is cut on the volume, as it is now. Nothing else changes anything.
     pub fn step(
         &mut self,
         scenario: &Scenario,
         group: Group,
         volume: Option<u32>,
-    ) -> Result<(), DeviceFault>
+    ) -> Result<(), Cause>
         requires has { HasGroups scenario.now self.old.groups }
         requires steps { is_orders group ≡ false }
         requires of_volume { is_some volume ≡ is_over_volumes group }
         requires in_range { IfSome volume (λ v. v < length scenario.now.volumes) }
-        requires cut { group ≡ Cut → CanCut D.told scenario.now self.old.groups self.old.volumes self.old.set }
-        ensures stands { IfStandFor D.told scenario.now self.old.groups (λ hs. AreGroups D.told scenario.now self.new.groups (step_taken group self.old.set self.old.volumes hs)) }
-        ensures kept { AreKept D.told D.size D.count D.lending self.old.groups self.new.groups }
+        requires cut { group ≡ Commit → IfSome volume (CanCutOn D.told scenario.now self.old) }
+        ensures stands { IfStandFor D.told scenario.now self.old.groups (λ hs. AreGroups D.told scenario.now self.new.groups (step_taken group self.old.set volume hs)) }
+        ensures kept { AreKept D.Device self.old.groups self.new.groups }
         ensures cause { HasStepCause D.count scenario.now group volume result self.old.groups self.new.groups }
         ensures devices { (group ≢ Flush) → devices_of self.new.groups ≡ devices_of self.old.groups }
         ensures lasts { group ≡ Flush → OnOk result (IfSome volume (λ v. LastsAt D.told D.lasting (volume_place scenario.now v) (devices_of self.new.groups))) }
         ensures set { self.new ≡ record self.old { groups = self.new.groups } }
     {
-        step_in(
-            &mut self.groups,
-            scenario,
-            &self.volumes,
-            self.set,
-            group,
-            volume,
-        )
+        let Some(volume) = volume else {
+            return Ok(());
+        };
+        match group {
+            Group::Flush => self.flush(scenario, volume),
+            Group::Commit => {
+                self.commit(scenario, volume);
+                Ok(())
+            }
+            _ => Ok(()),
+        }
+    }
+
+    /// Brings all accepted writes of a volume to where they last. A fault is the volume's device's.
+    fn flush(&mut self, scenario: &Scenario, volume: u32) -> Result<(), Cause>
+        requires volume { volume < length scenario.now.volumes }
+        requires has { HasGroups scenario.now self.old.groups }
+        ensures quiet { IsQuiet D.Device scenario.now self.old.groups self.new.groups volume }
+        ensures cause { HasCause D.count scenario.now volume (fault_of result) self.old.groups self.new.groups }
+        ensures own { IfErr result (λ cause. cause ≡ Cause.Volume) }
+        ensures lasts { OnOk result (LastsAt D.told D.lasting (volume_place scenario.now volume) (devices_of self.new.groups)) }
+        ensures set { self.new ≡ record self.old { groups = self.new.groups } }
+    {
+        let place = scenario.place(volume);
+        self.groups[place.group as usize].flush(place.volume)
+    }
+
+    /// The image of the set is cut on one of its volumes, the newest there.
+    fn commit(&mut self, scenario: &Scenario, volume: u32)
+        requires volume { volume < length scenario.now.volumes }
+        requires has { HasGroups scenario.now self.old.groups }
+        requires can { CanCutOn D.told scenario.now self.old volume }
+        ensures cut { IsCutOn D.Device scenario.now self.old.groups self.new.groups volume self.old.set }
+        ensures set { self.new ≡ record self.old { groups = self.new.groups } }
+    {
+        let place = scenario.place(volume);
+        self.groups[place.group as usize].cut(place.volume, self.set);
     }
 
     /// The set is over and leaves nothing: its images go from all volumes. No set is being prepared then. How many images stood.
     pub fn abort(&mut self) -> usize
-        ensures without { AreWithout D.told D.size D.count D.lending self.old.groups self.new.groups self.old.set result }
+        ensures without { AreWithout D.Device self.old.groups self.new.groups self.old.set result }
         ensures set { self.new ≡ record { groups = self.new.groups; set = 0; volumes = [] } }
     {
         let stood = self.drop_set(self.set);
@@ -391,15 +455,16 @@ impl<D: Device> Provider<D> {
         self.groups.len() as u32
     }
 
-    /// Writes the records of a group's copies to its area's device, and brings all that was written to that to where it lasts.
-    pub fn sync(&mut self, group: u32) -> Result<(), DeviceFault>
+    /// Writes the records of a group's copies to its area's device, and brings all that was written to that to where it lasts. A fault
+    /// is the area's device's.
+    pub fn sync(&mut self, group: u32) -> Result<(), Cause>
         requires { group < length self.old.groups }
-        ensures synced { IsSynced D.told D.size D.count D.lending self.old.groups self.new.groups group }
+        ensures synced { IsSynced D.Device self.old.groups self.new.groups group }
         ensures lasting { OnOk result ((s : Plan) → AreLasting D.told D.lasting s self.old.groups self.new.groups group) }
         ensures cause { (s : Plan) → HasGroups s self.old.groups → HasSyncCause D.count s group result self.old.groups self.new.groups }
         ensures set { self.new ≡ record self.old { groups = self.new.groups } }
     {
-        sync_in(&mut self.groups, group)
+        self.groups[group as usize].sync()
     }
 
     /// The groups, as they are.

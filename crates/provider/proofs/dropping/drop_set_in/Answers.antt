@@ -9,7 +9,7 @@ loop-group-preserved g c =
     let same = c.loop-group.invariant.number in
     let test = c.loop-group-test.true in
     let many = c.len-group-end.ensures in
-    without_more g.D.Device.told g.D.Device.size g.D.Device.count g.D.Device.lending c.args.groups.now.items xs c.loop-group.group c.args.set c.loop-group.stood c.drop_within.result c.index_mut.result.now c.drop_within.new.group
+    without_more g.D.Device c.args.groups.now.items xs c.loop-group.group c.args.set c.loop-group.stood c.drop_within.result c.index_mut.result.now c.drop_within.new.group
     (device_read xs c.loop-group.group c.index_mut.result.now (omega (arith, same, test, many, c.args.groups.now.ok.0)) c.index_mut.ensures.value)
     c.loop-group.invariant c.drop_within.ensures
 
@@ -18,4 +18,4 @@ returns g c =
     let over = c.loop-group-test.false in
     let within = c.loop-group.auto.group-end in
     let many = c.len-group-end.ensures in
-    without_all g.D.Device.told g.D.Device.size g.D.Device.count g.D.Device.lending c.args.groups.now.items c.loop-group.groups.items c.loop-group.group c.args.set c.loop-group.stood (omega (arith, over, within, many, c.args.groups.now.ok.0)) c.loop-group.invariant
+    without_all g.D.Device c.args.groups.now.items c.loop-group.groups.items c.loop-group.group c.args.set c.loop-group.stood (omega (arith, over, within, many, c.args.groups.now.ok.0)) c.loop-group.invariant

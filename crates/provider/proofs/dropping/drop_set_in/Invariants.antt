@@ -2,4 +2,4 @@ use Rattle.provider.proofs.DroppedAll.{AreWithoutTo}
 use Rattle.provider.proofs.dropping.drop_set_in.Given as goal
 
 abbrev pub invariant-loop-group : goal.invariant-loop-group
-invariant-loop-group g l = AreWithoutTo g.D.Device.told g.D.Device.size g.D.Device.count g.D.Device.lending l.initial.groups.items l.groups.items l.group l.set l.stood
+invariant-loop-group g l = AreWithoutTo g.D.Device l.initial.groups.items l.groups.items l.group l.set l.stood

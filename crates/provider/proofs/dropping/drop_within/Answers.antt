@@ -11,12 +11,12 @@ loop-volume-preserved g c =
     let many = c.volumes-volume-end.ensures.volumes in
     let within : c.loop-volume.volume < length c.loop-volume.group.area.volumes = omega (arith, same, test, many) in
     elim c.if-drop_on.branch [
-      | then-drop_on w ↦ subst (λ (n : ℕ). IsDroppedTo g.D.Device.told g.D.Device.size g.D.Device.count g.D.Device.lending c.args.group.now c.drop_on.new.group (c.loop-volume.volume + 1) c.args.set n) (sym w.stood-is)
-          (dropped_more g.D.Device.told g.D.Device.size g.D.Device.count g.D.Device.lending c.args.group.now c.loop-volume.group c.drop_on.new.group c.loop-volume.volume c.args.set c.loop-volume.stood within c.loop-volume.invariant
-          (subst (λ (b : Bool). IsGroupDrop g.D.Device.told g.D.Device.size g.D.Device.count g.D.Device.lending c.loop-volume.group c.drop_on.new.group c.loop-volume.volume c.args.set b) w.if-drop_on.true c.drop_on.ensures))
-      | else-drop_on w ↦ subst (λ (n : ℕ). IsDroppedTo g.D.Device.told g.D.Device.size g.D.Device.count g.D.Device.lending c.args.group.now c.drop_on.new.group (c.loop-volume.volume + 1) c.args.set n) (sym w.stood-is)
-          (dropped_same g.D.Device.told g.D.Device.size g.D.Device.count g.D.Device.lending c.args.group.now c.loop-volume.group c.drop_on.new.group c.loop-volume.volume c.args.set c.loop-volume.stood within c.loop-volume.invariant
-          (subst (λ (b : Bool). IsGroupDrop g.D.Device.told g.D.Device.size g.D.Device.count g.D.Device.lending c.loop-volume.group c.drop_on.new.group c.loop-volume.volume c.args.set b) w.if-drop_on.false c.drop_on.ensures))
+      | then-drop_on w ↦ subst (λ (n : ℕ). IsDroppedTo g.D.Device c.args.group.now c.drop_on.new.group (c.loop-volume.volume + 1) c.args.set n) (sym w.stood-is)
+          (dropped_more g.D.Device c.args.group.now c.loop-volume.group c.drop_on.new.group c.loop-volume.volume c.args.set c.loop-volume.stood within c.loop-volume.invariant
+          (subst (λ (b : Bool). IsGroupDrop g.D.Device c.loop-volume.group c.drop_on.new.group c.loop-volume.volume c.args.set b) w.if-drop_on.true c.drop_on.ensures))
+      | else-drop_on w ↦ subst (λ (n : ℕ). IsDroppedTo g.D.Device c.args.group.now c.drop_on.new.group (c.loop-volume.volume + 1) c.args.set n) (sym w.stood-is)
+          (dropped_same g.D.Device c.args.group.now c.loop-volume.group c.drop_on.new.group c.loop-volume.volume c.args.set c.loop-volume.stood within c.loop-volume.invariant
+          (subst (λ (b : Bool). IsGroupDrop g.D.Device c.loop-volume.group c.drop_on.new.group c.loop-volume.volume c.args.set b) w.if-drop_on.false c.drop_on.ensures))
     ]
 
 pub returns : goal.returns
@@ -24,4 +24,4 @@ returns g c =
     let over = c.loop-volume-test.false in
     let within = c.loop-volume.auto.volume-end in
     let many = c.volumes-volume-end.ensures.volumes in
-    dropped_all g.D.Device.told g.D.Device.size g.D.Device.count g.D.Device.lending c.args.group.now c.loop-volume.group c.loop-volume.volume c.args.set c.loop-volume.stood (omega (arith, over, within, many)) (let few = c.volumes-volume-end.type_inv in omega (arith, within, few)) c.loop-volume.invariant
+    dropped_all g.D.Device c.args.group.now c.loop-volume.group c.loop-volume.volume c.args.set c.loop-volume.stood (omega (arith, over, within, many)) (let few = c.volumes-volume-end.type_inv in omega (arith, within, few)) c.loop-volume.invariant

@@ -11,12 +11,12 @@ returns-in-Some-clause-adds g c = record {
   taken = c.add.ensures;
 }
 
-pub returns-in-Ok-clause-adds : goal.returns-in-Ok-clause-adds
-returns-in-Ok-clause-adds g c =
+pub returns-clause-adds : goal.returns-clause-adds
+returns-clause-adds g c =
     let same : c.bytes.result.now ≡ c.read_into.new.out = c.bytes.ensures.bytes ∙ whole_written c.args.buffer.now c.read_into.new.out (c.read_into.auto.out ∙ ap length c.bytes_mut.ensures.bytes) in
     record {
       bytes = c.bytes.result.now;
       is = at_end g.D.Device.told c.args.group.now c.args.volume c.args.block c.bytes.result.now
-          (subst (λ (bytes : List ℕ). IsNow g.D.Device.told c.args.group.now c.args.volume c.args.block bytes) (sym same) c.in-Ok.ensures.now);
-      taken = c.add-in-Ok.ensures;
+          (subst (λ (bytes : List ℕ). IsNow g.D.Device.told c.args.group.now c.args.volume c.args.block bytes) (sym same) c.in_ok-read_into.ensures.now);
+      taken = c.add-2.ensures;
     }

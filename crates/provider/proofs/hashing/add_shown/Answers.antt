@@ -1,7 +1,7 @@
 use Rattle.std.proofs.Common.{◌≡◌, ◌∙◌, ℕ, List, ap, length, sym, subst}
 use Rattle.cow_volume.specs.Calls.{IsShown}
 use Rattle.cow_volume.proofs.GroupSteps.{whole_written}
-use Rattle.provider.proofs.Shown.{some_of}
+use Rattle.provider.proofs.Found.{some_of}
 use Rattle.provider.proofs.hashing.add_shown.Goals as goal
 
 pub returns-in-Ok-Some-clause-adds : goal.returns-in-Ok-Some-clause-adds
@@ -11,11 +11,11 @@ returns-in-Ok-Some-clause-adds g c = record {
   taken = c.add.ensures;
 }
 
-pub returns-in-Ok-clause-adds : goal.returns-in-Ok-clause-adds
-returns-in-Ok-clause-adds g c =
+pub returns-clause-adds : goal.returns-clause-adds
+returns-clause-adds g c =
     let same : c.bytes.result.now ≡ c.read_image_into.new.out = c.bytes.ensures.bytes ∙ whole_written c.args.buffer.now c.read_image_into.new.out (c.read_image_into.auto.out ∙ ap length c.bytes_mut.ensures.bytes) in
     record {
       bytes = c.bytes.result.now;
-      is = subst (λ (bytes : List ℕ). IsShown g.D.Device.told c.args.group.now c.args.volume c.args.set c.args.block bytes) (sym same) c.in-Ok.ensures.shown;
-      taken = c.add-in-Ok.ensures;
+      is = subst (λ (bytes : List ℕ). IsShown g.D.Device.told c.args.group.now c.args.volume c.args.set c.args.block bytes) (sym same) c.in_ok-read_image_into.ensures.shown;
+      taken = c.add-2.ensures;
     }

@@ -3,4 +3,4 @@ use Rattle.provider.proofs.Hashed.{HasHashed}
 use Rattle.provider.proofs.hashing.digest_of.Given as goal
 
 abbrev pub invariant-loop-block : goal.invariant-loop-block
-invariant-loop-block g l = HasHashed g.D.Device.told g.D.Device.size g.D.Device.count g.D.Device.lending l.initial.group l.group l.volume (IsEnd l.volume) l.block l.hasher
+invariant-loop-block g l = HasHashed g.D.Device l.initial.group l.group l.volume (IsEnd l.volume) l.block l.hasher

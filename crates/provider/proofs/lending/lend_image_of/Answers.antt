@@ -1,7 +1,7 @@
 use Rattle.std.proofs.Common.{◌+◌, ℕ, List, sym, subst, Bor}
 use Rattle.provider.specs.Hashing.{IsPoint}
 use Rattle.provider.proofs.LentRows.{AreFirst, first_more}
-use Rattle.provider.proofs.Shown.{some_of}
+use Rattle.provider.proofs.Found.{some_of}
 use Rattle.provider.proofs.lending.lend_image_of.Goals as goal
 
 pub loop-block-preserved : goal.loop-block-preserved

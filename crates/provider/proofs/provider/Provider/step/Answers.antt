@@ -1,6 +1,20 @@
-use Rattle.provider.proofs.Keeping.{provider_kept}
+use Rattle.std.proofs.Common.{List, refl, sym, subst}
+use Rattle.write_history.specs.History.{History}
+use Rattle.provider.specs.Groups.{AreGroups}
+use Rattle.provider.proofs.Kept.{kept_same}
+use Rattle.provider.proofs.Stepped.{still_other}
 use Rattle.provider.proofs.provider.Provider.step.Goals as goal
 
-pub invariant_of-self : goal.invariant_of-self
-invariant_of-self g c =
-    provider_kept g.D.Device.told g.D.Device.size g.D.Device.count g.D.Device.lending c.self.inside.groups.items c.step_in.new.groups.items c.self.inside.volumes c.self.inside.list c.step_in.ensures.kept c.self.invariant
+pub returns-in_default-clause-kept : goal.returns-in_default-clause-kept
+returns-in_default-clause-kept g c = kept_same g.D.Device c.args.self.now.groups
+
+pub returns-in_default-group : goal.returns-in_default-group
+returns-in_default-group g c = record {
+  stands = λ hs are. subst (λ (ks : List History). AreGroups g.D.Device.told c.args.scenario.now c.args.self.now.groups ks)
+      (sym (still_other c.args.group c.args.self.now.set c.args.volume hs c.in_default-group.not-Commit)) are;
+  kept = kept_same g.D.Device c.args.self.now.groups;
+  cause = refl;
+  devices = λ other. refl;
+  lasts = λ is. absurd (c.in_default-group.not-Flush is);
+  set = refl;
+}

@@ -1,0 +1,250 @@
+-- The group of a volume was called, and the others are as they were: what that comes to for all of them.
+use Rattle.std.proofs.Common.{◌≡◌, ℕ, zero, suc, ◌<◌, ◌≤◌, List, [], ◌∷◌, length, refl, ap, sym, ◌∙◌, subst, arith, Bool, true, false, Option, Some, None, All, map, slice_get, slice_set}
+use Rattle.std.specs.Prelude.{Result, Ok, Err, OnOk, IfErr}
+use Rattle.std.proofs.lemmas.List.{length-map}
+use Rattle.write_history.specs.History.{History, Image, Write, point_in, written, dropped, cut, sets_of, reverted, reverted_in_part, to_restore}
+use Rattle.set_agenda.specs.Course.{change_at}
+use Rattle.scenario.specs.declared.volume_row.VolumeRow.{VolumeRow}
+use Rattle.scenario.specs.Plan.{Plan, blocks_of}
+use Rattle.scenario.specs.Places.{IsPlaceOf}
+use Rattle.volume_device.specs.declared.device.Device.{Ghosts}
+use Rattle.cow_volume.specs.GroupValue.{GroupValue}
+use Rattle.cow_volume.specs.StandsFor.{StandsFor}
+use Rattle.cow_volume.specs.declared.cause.Cause.{Cause}
+use Rattle.cow_volume.specs.declared.cause.Cause.TheVariants.{NoSuchBlock, Volume, Area}
+use Rattle.cow_volume.specs.declared.image_fault.ImageFault.{ImageFault}
+use Rattle.cow_volume.specs.declared.image_fault.ImageFault.TheVariants as image
+use Rattle.cow_volume.specs.declared.revert_fault.RevertFault.{RevertFault}
+use Rattle.cow_volume.specs.declared.revert_fault.RevertFault.TheVariants.{NoSuchImage as NoImage, Fault}
+use Rattle.cow_volume.specs.Calls.{IsSameDevice, IsUnfailed, HasCauseAt, HasImageCause as HasGroupImageCause, DeviceRose, VolumeRose, AreaRose, IsRevert as IsGroupRevert, IsReverted, IsRevertedInPart, blocks_at, changed_at, is_among, sets_at, history_at as group_history_at}
+use Rattle.cow_volume.specs.Steps.{IsPutOr}
+use Rattle.cow_volume.specs.Parts.{IsUnseen}
+use Rattle.cow_volume.proofs.Group.{quiet_stands, slice_set-same, slice_get-set_other}
+use Rattle.provider.specs.Groups.{AreGroups, HasGroups, history_at}
+use Rattle.provider.specs.Devices.{AreKept, IsCallOn, IsKeptGroup, HasCause, RoseAlone, counts_of, devices_of, volume_place, fault_of}
+use Rattle.provider.specs.Calls.{HasImageCause, IsDropped, IsPut, IsQuiet, IsRevert, outcome_of}
+use Rattle.provider.specs.GroupCalls.{IsGroupDrop}
+use Rattle.provider.specs.Hashing.{HasDigestCause, IsQuietGroup}
+use Rattle.provider.specs.Preparing.{CanCutOn, IsCutOn, LastsAt, ProviderValue}
+use Rattle.provider.proofs.Becoming.{changes, stays}
+use Rattle.provider.proofs.Found.{Found, blocks_here, device_is, history_here, image_of, own, sets_here, stands_here}
+use Rattle.provider.proofs.Flat.{rose_volume, rose_area, area_of_place, counts_same, devices_same, mapped_same}
+use Rattle.provider.proofs.Kept.{kept_one, kept_itself, called_there}
+
+pub record Called {D : Type 0} (s : Plan) (old new : List (GroupValue D)) (v : ℕ) : Type 0 where
+  pub found : Found s old v
+  pub after : GroupValue D
+  pub is : new ≡ slice_set old found.group after
+
+abbrev pub called : {D : Type 0} {s : Plan} {old : List (GroupValue D)} {v : ℕ} (f : Found s old v) (y : GroupValue D) → Called s old (slice_set old f.group y) v
+called f y = record { found = f; after = y; is = refl }
+
+-- ## which device failed
+
+module _ {D : Type 0} (count : D → ℕ) {s : Plan} {old new : List (GroupValue D)} {v : ℕ} (c : Called s old new v) where
+  pub counts_still : IsUnfailed count c.found.here c.after → counts_of count new ≡ counts_of count old
+  counts_still same = ap (counts_of count) c.is ∙ counts_same count old c.found.group c.found.here c.after c.found.at same
+
+  pub rose_of : (cause : Cause) → DeviceRose count c.found.within c.found.here c.after cause → HasCause count s v (Some cause) old new
+  rose_of NoSuchBlock rose = rose
+  rose_of Volume rose = rose_volume count s old new v c.found.group c.found.within c.found.here c.after c.found.has c.found.place c.found.at c.is rose
+  rose_of Area rose =
+      subst (λ (n : ℕ). RoseAlone n (counts_of count old) (counts_of count new)) (sym (area_of_place s v c.found.group c.found.within c.found.place))
+      (rose_area count s old new c.found.group c.found.here c.after c.found.has c.found.at c.is rose)
+
+  pub cause_of : {T : Type 0} (result : Result T Cause) → OnOk result (IsUnfailed count c.found.here c.after) → IfErr result (DeviceRose count c.found.within c.found.here c.after)
+      → HasCause count s v (fault_of result) old new
+  cause_of (Ok done) same rose = counts_still same
+  cause_of (Err cause) same rose = rose_of cause rose
+
+-- a call on a block that there is fails by a device
+pub by_device : {D : Type 0} (count : D → ℕ) (u b : ℕ) (x y : GroupValue D) → b < blocks_at x u → (cause : Cause) → HasCauseAt count u b x y cause → DeviceRose count u x y cause
+by_device count u b x y low NoSuchBlock h = let high = h.0 in absurd (omega arith)
+by_device count u b x y low Volume h = h.1
+by_device count u b x y low Area h = h.1
+
+-- likewise on an image, where it stands
+pub by_fault : {D : Type 0} (count : D → ℕ) (u set b : ℕ) (x y : GroupValue D) → b < blocks_at x u → (fault : ImageFault) → HasGroupImageCause count u set b x y fault → HasDigestCause count u set x y fault
+by_fault count u set b x y low image.NoSuchImage h = h
+by_fault count u set b x y low image.NoSuchBlock h = let high = h.1 in absurd (omega arith)
+by_fault count u set b x y low image.Volume h = (h.0, h.2)
+by_fault count u set b x y low image.Area h = (h.0, h.2)
+
+pub flush_rose : {D : Type 0} (count : D → ℕ) (u : ℕ) (x y : GroupValue D) (result : Result Unit Cause) → IfErr result (λ cause. cause ≡ Volume) → IfErr result (λ cause. VolumeRose count u x y) → IfErr result (DeviceRose count u x y)
+flush_rose count u x y (Ok done) is rose = tt
+flush_rose count u x y (Err cause) is rose = subst (λ (why : Cause). DeviceRose count u x y why) (sym is) rose
+
+-- a call on a block that there is does not lend for want of the image
+pub unseen_image : (sets : List ℕ) (blocks set b : ℕ) → b < blocks → (fault : ImageFault) → IsUnseen sets blocks set b fault → (fault ≡ image.NoSuchImage) × (is_among set sets ≡ false)
+unseen_image sets blocks set b low image.NoSuchImage h = (refl, h)
+unseen_image sets blocks set b low image.NoSuchBlock h = let high = h.1 in absurd (omega arith)
+unseen_image sets blocks set b low image.Volume h = elim h [ ]
+unseen_image sets blocks set b low image.Area h = elim h [ ]
+
+same_kept : {D : Type 0} (device : Ghosts D) (x y : GroupValue D) → y.devices ≡ x.devices → y.area ≡ x.area → IsKeptGroup device x y
+same_kept {D = D} device x y devices area =
+    let same = kept_itself device x in
+    record {
+      volumes = ap (λ (a : _). a.volumes) area;
+      slots = ap (λ (a : _). length a.records) area;
+      area = subst (λ (d : D). IsSameDevice device.told device.size device.count device.lending x.area.device d) (sym (ap (λ (a : _). a.device) area)) same.area;
+      devices = ap length devices;
+      each = λ v d e at there. same.each v d e at (sym (ap (λ (ds : List D). slice_get ds v) devices) ∙ there);
+    }
+
+-- ## what was called
+
+module _ {D : Type 0} (device : Ghosts D) {s : Plan} {old new : List (GroupValue D)} {v : ℕ} (c : Called s old new v) where
+  pub all_kept : IsKeptGroup device c.found.here c.after → AreKept device old new
+  all_kept kept = kept_one device old new c.found.group c.found.here c.after c.found.at c.is kept
+
+  pub call_of : IsKeptGroup device c.found.here c.after → IsCallOn device s v old new
+  call_of kept = record {
+    kept = all_kept kept;
+    elsewhere = λ r k e apart.
+        let row : Some c.found.place.row ≡ Some r = sym c.found.place.is_row ∙ e in
+        let same : c.found.place.row ≡ r = cc in
+        ap (λ (zs : List (GroupValue D)). slice_get zs k) c.is
+        ∙ slice_get-set_other old c.found.group k c.after (λ h. apart (sym h ∙ c.found.place.group_is ∙ ap (λ (z : VolumeRow). z.group) same));
+  }
+
+  pub devices_still : c.after.devices ≡ c.found.here.devices → c.after.area.device ≡ c.found.here.area.device → devices_of new ≡ devices_of old
+  devices_still devices area = ap devices_of c.is ∙ devices_same old c.found.group c.found.here c.after c.found.at devices area
+
+  pub groups_still : c.after ≡ c.found.here → new ≡ old
+  groups_still same = c.is ∙ ap (slice_set old c.found.group) same ∙ slice_set-same old c.found.group c.found.here c.found.at
+
+  pub changed : (f : History → History) (hs : List History) → IsKeptGroup device c.found.here c.after → AreGroups device.told s old hs → StandsFor device.told c.after (changed_at c.found.within f (own c.found hs))
+      → AreGroups device.told s new (change_at v f hs)
+  changed f hs kept are stands =
+      changes device.told s old new v c.found.group c.found.within c.found.here c.after hs f c.found.place c.found.at c.is kept.volumes kept.slots are stands
+
+  pub unchanged : (hs : List History) → IsKeptGroup device c.found.here c.after → AreGroups device.told s old hs → StandsFor device.told c.after (own c.found hs) → AreGroups device.told s new hs
+  unchanged hs kept are stands = stays device.told s old new c.found.group c.found.here c.after hs c.found.at c.is kept.volumes kept.slots are stands
+
+  pub quiet_of : IsQuietGroup device c.found.here c.after → IsQuiet device s old new v
+  quiet_of quiet = record {
+    call = call_of quiet.kept;
+    blocks = ap (λ (zs : List (GroupValue D)). map device.told (devices_of zs)) c.is ∙ mapped_same device.told old c.found.group c.found.here c.after c.found.at quiet.blocks quiet.slots;
+    stands = λ hs are. unchanged hs quiet.kept are
+        (quiet_stands device.told c.found.here c.after (own c.found hs) (stands_here device.told c.found hs are) quiet.blocks quiet.images quiet.kept.volumes quiet.records quiet.slots);
+  }
+
+  pub image_cause_of : {T : Type 0} (set : ℕ) (result : Result T ImageFault) → OnOk result (is_among set (sets_at c.found.here c.found.within) ≡ true) → OnOk result (IsUnfailed device.count c.found.here c.after)
+      → IfErr result (HasDigestCause device.count c.found.within set c.found.here c.after) → HasImageCause device.told device.count s v set (outcome_of result) old new
+  image_cause_of set (Ok done) has same why = (image_of device.told c.found set true has, counts_still device.count c same)
+  image_cause_of set (Err image.NoSuchImage) has same why = (image_of device.told c.found set false why.0, groups_still why.1)
+  image_cause_of set (Err image.NoSuchBlock) has same why = why
+  image_cause_of set (Err image.Volume) has same why = (image_of device.told c.found set true why.0, rose_of device.count c Volume why.1)
+  image_cause_of set (Err image.Area) has same why = (image_of device.told c.found set true why.0, rose_of device.count c Area why.1)
+
+  pub image_read_cause : (set : ℕ) (result : Result Unit ImageFault) → OnOk result (is_among set (sets_at c.found.here c.found.within) ≡ true) → OnOk result (IsUnfailed device.count c.found.here c.after)
+      → IfErr result (HasDigestCause device.count c.found.within set c.found.here c.after) → HasImageCause device.told device.count s v set result old new
+  image_read_cause set (Ok done) has same why = image_cause_of {T = Unit} set (Ok done) has same why
+  image_read_cause set (Err fault) has same why = image_cause_of {T = Unit} set (Err fault) has same why
+
+  pub drop_kept : (set : ℕ) (b : Bool) → IsGroupDrop device c.found.here c.after c.found.within set b → AreKept device old new
+  drop_kept set false h = all_kept (subst (λ (y : GroupValue D). IsKeptGroup device c.found.here y) (sym h.1) (kept_itself device c.found.here))
+  drop_kept set true h = all_kept h.1.kept
+
+  pub dropped_of : (set : ℕ) (b : Bool) → IsGroupDrop device c.found.here c.after c.found.within set b → IsDropped device s old new v set b
+  dropped_of set false h = (image_of device.told c.found set false h.0, groups_still h.1)
+  dropped_of set true h = (
+    image_of device.told c.found set true h.0,
+    call_of h.1.kept,
+    devices_still h.1.devices h.1.area,
+    λ hs are. changed (dropped set) hs h.1.kept are (h.1.stands (own c.found hs) (stands_here device.told c.found hs are)),
+  )
+
+  pub put_of : (w : Write) (result : Result Unit Cause) → IsPutOr device.told device.size device.count device.lending c.found.here c.after c.found.within w result → IsPut device s old new v w result
+  put_of w (Ok done) h = record {
+    call = call_of h.kept;
+    stands = λ hs are. changed (written w) hs h.kept are (h.stands (own c.found hs) (stands_here device.told c.found hs are));
+    cause = counts_still device.count c h.unfailed;
+  }
+  put_of w (Err cause) h = record {
+    call = call_of h.kept;
+    stands = λ hs are. unchanged hs h.kept are (h.stands (own c.found hs) (stands_here device.told c.found hs are));
+    cause = rose_of device.count c cause h.rose;
+  }
+
+  reverted_of : (set : ℕ) → IsReverted device.told device.size device.count device.lending c.found.here c.after c.found.within set → IsRevert device s old new v set (Ok tt)
+  reverted_of set r = (
+    image_of device.told c.found set true r.image,
+    call_of r.kept,
+    counts_still device.count c r.unfailed,
+    λ hs are p point.
+        let same = history_here c.found hs are.histories in
+        changed (reverted set p) hs r.kept are (r.stands (own c.found hs) p (stands_here device.told c.found hs are) (ap (λ (h : History). point_in set h.images) same ∙ point)),
+  )
+
+  pub revert_of : (set : ℕ) (result : Result Unit RevertFault) → IsGroupRevert device.told device.size device.count device.lending c.found.here c.after c.found.within set result → IsRevert device s old new v set result
+  revert_of set (Ok done) h = reverted_of set h
+  revert_of set (Err NoImage) h = (image_of device.told c.found set false h.0, groups_still h.1)
+  revert_of set (Err (Fault restored cause)) h =
+      let r = h.0 in
+      let blocks = blocks_here c.found in (
+        image_of device.told c.found set true r.image,
+        call_of r.kept,
+        rose_of device.count c cause h.1,
+        λ hs are p point.
+            let same = history_here c.found hs are.histories in
+            let here = ap (λ (h : History). point_in set h.images) same ∙ point in
+            let stood = stands_here device.told c.found hs are in (
+              subst (λ (h : History). restored < length (to_restore (blocks_of s v) h.writes p)) same
+                  (subst (λ (n : ℕ). restored < length (to_restore n (group_history_at (own c.found hs) c.found.within).writes p)) blocks (r.fewer (own c.found hs) p stood here)),
+              subst (λ (n : ℕ). AreGroups device.told s new (change_at v (reverted_in_part n set p restored) hs)) blocks
+                  (changed (reverted_in_part (blocks_at c.found.here c.found.within) set p restored) hs r.kept are (r.stands (own c.found hs) p stood here)),
+            ),
+      )
+
+  pub revert_kept : (set : ℕ) (result : Result Unit RevertFault) → IsGroupRevert device.told device.size device.count device.lending c.found.here c.after c.found.within set result → AreKept device old new
+  revert_kept set (Ok done) h = all_kept h.kept
+  revert_kept set (Err NoImage) h = all_kept (subst (λ (y : GroupValue D). IsKeptGroup device c.found.here y) (sym h.1) (kept_itself device c.found.here))
+  revert_kept set (Err (Fault restored cause)) h = all_kept h.0.kept
+
+  pub cut_of : (set : ℕ) → c.after.devices ≡ c.found.here.devices → c.after.area ≡ c.found.here.area
+      → ((hs : List History) → StandsFor device.told c.found.here hs → StandsFor device.told c.after (changed_at c.found.within (cut set) hs)) → IsCutOn device s old new v set
+  cut_of set devices area stands =
+      let kept = same_kept device c.found.here c.after devices area in
+      record {
+        kept = all_kept kept;
+        devices = devices_still devices (ap (λ (a : _). a.device) area);
+        stands = λ hs are. changed (cut set) hs kept are (stands (own c.found hs) (stands_here device.told c.found hs are));
+      }
+
+  -- the group is found afterwards
+  abbrev pub called_found : IsKeptGroup device c.found.here c.after → Found s new v
+  called_found kept = record {
+    has = (all_kept kept).has s c.found.has;
+    group = c.found.group;
+    within = c.found.within;
+    place = c.found.place;
+    here = c.after;
+    at = called_there old new c.found.group c.found.here c.after c.found.at c.is;
+  }
+
+  pub flush_lasts : IsKeptGroup device c.found.here c.after → ((d : D) → slice_get c.after.devices c.found.within ≡ Some d → device.lasting d ≡ device.told d)
+      → LastsAt device.told device.lasting (volume_place s v) (devices_of new)
+  flush_lasts kept lasts d at = lasts d (device_is (called_found kept) d at)
+
+-- ## the cut
+
+module _ {D : Type 0} (told : D → Option (List (List ℕ))) {s : Plan} {v : ℕ} (p : ProviderValue D) (f : Found s p.groups v) (can : CanCutOn told s p v) where
+  sets_same : sets_at f.here f.within ≡ sets_of (history_at can.histories v).images
+  sets_same = sets_here told f can.histories can.stand
+
+  pub room_of : length (sets_at f.here f.within) < 512
+  room_of =
+      let same = ap length sets_same in
+      let long = length-map (history_at can.histories v).images (λ (i : Image). i.set) in
+      let room = can.room in
+      omega (arith, same, long, room)
+
+  lesser : (images : List Image) → All (λ (i : Image). i.set < p.set) images → All (λ (n : ℕ). n < p.set) (sets_of images)
+  lesser [] all k d low = absurd (omega arith)
+  lesser (i ∷ images) all zero d low = all zero i (omega arith)
+  lesser (i ∷ images) all (suc k) d low = lesser images (λ j e l. all (suc j) e (omega arith)) k d (omega arith)
+
+  pub newest_of : All (λ (n : ℕ). n < p.set) (sets_at f.here f.within)
+  newest_of = subst (λ (sets : List ℕ). All (λ (n : ℕ). n < p.set) sets) (sym sets_same) (lesser (history_at can.histories v).images can.newest)

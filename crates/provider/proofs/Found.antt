@@ -1,0 +1,178 @@
+-- The group of a volume is found among all groups, or called: what that says of the volume of the scenario.
+use Rattle.std.proofs.Common.{◌≡◌, ℕ, ◌<◌, ◌+◌, List, length, refl, ap, sym, ◌∙◌, subst, arith, Bool, true, false, Option, Some, None, get_or, slice_get}
+use Rattle.std.specs.Prelude.{◌&&◌, is_some, IfSome, OnOk, Result, Ok, Err}
+use Rattle.std.specs.List.{concat}
+use Rattle.block_data.specs.Digest.{sha256}
+use Rattle.write_history.specs.History.{History, content, contents, point_in, sets_of}
+use Rattle.write_history.specs.Slots.{used, used_by}
+use Rattle.scenario.specs.Plan.{Plan, blocks_of}
+use Rattle.scenario.specs.Places.{of_group, place_in, IsPlaceOf}
+use Rattle.cow_volume.specs.GroupValue.{GroupValue}
+use Rattle.cow_volume.specs.StandsFor.{StandsFor}
+use Rattle.cow_volume.specs.Calls.{IsNow as IsGroupNow, IsShown as IsGroupShown, blocks_at, sets_at, sets_in, is_among, history_at as group_history_at}
+use Rattle.cow_volume.proofs.Group.{place_at, slice_get_inside}
+use Rattle.cow_volume.proofs.DeviceCalls.{device_read}
+use Rattle.scenario.proofs.Places.{one_place}
+use Rattle.provider.specs.Groups.{AreGroups, HasGroups, IfStandFor, history_at}
+use Rattle.provider.specs.Devices.{tells_in, tells_within, tells_row, tells_at, devices_of, volume_place}
+use Rattle.provider.specs.Calls.{HasImage, IsNow, IsShown, IsDigestNow, IsDigestShown}
+use Rattle.provider.specs.Hashing.{IsDigestAt, IsEnd, IsPoint}
+use Rattle.provider.specs.Preparing.{ProviderValue}
+use Rattle.provider.proofs.Places.{history_of_place, group_below, within_there, blocks_are}
+use Rattle.provider.proofs.Looked.{point_among}
+use Rattle.provider.proofs.Flat.{volume_device_at}
+
+pub inside_has : {D : Type 0} (s : Plan) (p q : ProviderValue D) → p ≡ q → HasGroups s q.groups → HasGroups s p.groups
+inside_has {D = D} s p q same has = subst (λ (r : ProviderValue D). HasGroups s r.groups) (sym same) has
+
+-- the group of volume v
+pub record Found {D : Type 0} (s : Plan) (groups : List (GroupValue D)) (v : ℕ) : Type 0 where
+  pub has : HasGroups s groups
+  pub group : ℕ
+  pub within : ℕ
+  pub place : IsPlaceOf s v group within
+  pub here : GroupValue D
+  pub at : slice_get groups group ≡ Some here
+
+abbrev pub found : {D : Type 0} (s : Plan) (groups : List (GroupValue D)) (v g u : ℕ) (x : GroupValue D) → HasGroups s groups → IsPlaceOf s v g u → slice_get groups g ≡ Some x → Found s groups v
+found s groups v g u x has place at = record { has = has; group = g; within = u; place = place; here = x; at = at }
+
+abbrev pub found_in : {D : Type 0} (s : Plan) (v : ℕ) (groups : List (GroupValue D)) {g u : ℕ} (x : GroupValue D) → HasGroups s groups → IsPlaceOf s v g u → x ≡ get_or groups g x → Found s groups v
+found_in s v groups {g = g} {u = u} x has place value = found s groups v g u x has place (device_read groups g x (group_below s groups v g u place has) value)
+
+-- by what a provider sees of its fields
+abbrev pub found_by : {D : Type 0} (s : Plan) (v : ℕ) {p q : ProviderValue D} {g u : ℕ} (x : GroupValue D) → p ≡ q → HasGroups s q.groups → IsPlaceOf s v g u → x ≡ get_or p.groups g x → Found s p.groups v
+found_by s v {p = p} {q = q} {g = g} {u = u} x same has place value =
+    found_in s v p.groups x (inside_has s p q same has) place value
+
+-- a volume that tells
+pub record Telling {D : Type 0} (told : D → Option (List (List ℕ))) (x : GroupValue D) (u : ℕ) : Type 0 where
+  pub device : D
+  pub at : slice_get x.devices u ≡ Some device
+  pub tells : is_some (told device) ≡ true
+  pub area : is_some (told x.area.device) ≡ true
+
+both : (a b : Bool) → (a && b) ≡ true → (a ≡ true) × (b ≡ true)
+both true b e = (refl, e)
+both false b e = cc
+
+of_option : {D : Type 0} (told : D → Option (List (List ℕ))) (o : Option D) → tells_in told o ≡ true → (d : D) × (o ≡ Some d) × (is_some (told d) ≡ true)
+of_option told None e = cc
+of_option told (Some d) e = (d, refl, e)
+
+module _ {D : Type 0} {s : Plan} {groups : List (GroupValue D)} {v : ℕ} (f : Found s groups v) where
+  pub inside : f.within < length f.here.area.volumes
+  inside = within_there s groups v f.group f.within f.here f.place f.has f.at
+
+  pub blocks_here : blocks_at f.here f.within ≡ blocks_of s v
+  blocks_here = blocks_are s groups v f.group f.within f.here f.place f.has f.at
+
+  pub below : (b : ℕ) → b < blocks_of s v → b < blocks_at f.here f.within
+  below b low = subst (λ (n : ℕ). b < n) (sym blocks_here) low
+
+  -- the histories of the group's volumes, of those of all
+  abbrev pub own : List History → List History
+  own hs = of_group f.group s.volumes hs
+
+  pub history_here : (hs : List History) → length hs ≡ length s.volumes → group_history_at (own hs) f.within ≡ history_at hs v
+  history_here hs long = history_of_place s hs v f.group f.within f.place long
+
+  -- the device at the volume's place is its own
+  pub device_is : (d : D) → slice_get (devices_of groups) (volume_place s v) ≡ Some d → slice_get f.here.devices f.within ≡ Some d
+  device_is d at =
+      let low = inside in
+      let long = f.has.devices f.group f.here f.at in
+      let e = slice_get_inside f.here.devices f.within (omega (arith, low, long)) in
+      let one : Some e.0 ≡ Some d = sym (volume_device_at s groups v f.group f.within f.here e.0 f.has f.place f.at e.1) ∙ at in
+      let same : e.0 ≡ d = cc in
+      e.1 ∙ ap (λ (z : _). Some z) same
+
+  -- wherever the volume is said to be, it is there
+  pub there : (P : GroupValue D → ℕ → Type 0) → P f.here f.within → (k w : ℕ) (x : GroupValue D) → IsPlaceOf s v k w → slice_get groups k ≡ Some x → P x w
+  there P here k w x place at =
+      let one = one_place s.volumes v f.group f.within k w f.place place in
+      let found : Some f.here ≡ Some x = sym f.at ∙ ap (slice_get groups) (sym one.0) ∙ at in
+      let same : f.here ≡ x = cc in
+      subst (λ (n : ℕ). P x n) (sym one.1) (subst (λ (z : GroupValue D). P z f.within) same here)
+
+-- ## images and slots
+
+module _ {D : Type 0} (told : D → Option (List (List ℕ))) {s : Plan} {groups : List (GroupValue D)} {v : ℕ} (f : Found s groups v) where
+  pub stands_here : (hs : List History) → AreGroups told s groups hs → StandsFor told f.here (own f hs)
+  stands_here hs are = (are.each f.group f.here f.at).stands
+
+  pub sets_here : IfStandFor told s groups (λ hs. sets_at f.here f.within ≡ sets_of (history_at hs v).images)
+  sets_here hs are =
+      let here = place_at told f.here (own f hs) f.within (stands_here hs are) (inside f) in
+      ap sets_in here.sets_at ∙ here.stands.sets_are ∙ ap (λ (h : History). sets_of h.images) (history_here f hs are.histories)
+
+  pub image_of : (set : ℕ) (b : Bool) → is_among set (sets_at f.here f.within) ≡ b → HasImage told s groups v set b
+  image_of set b is hs are = point_among set (history_at hs v).images ∙ sym (ap (is_among set) (sets_here hs are)) ∙ is
+
+  pub used_of : (n : ℕ) → ((hs : List History) → StandsFor told f.here hs → n ≡ used (blocks_at f.here f.within) (group_history_at hs f.within).writes (group_history_at hs f.within).images)
+      → IfStandFor told s groups (λ hs. n ≡ used (blocks_of s v) (history_at hs v).writes (history_at hs v).images)
+  used_of n of hs are =
+      of (own f hs) (stands_here hs are)
+      ∙ ap (λ (b : ℕ). used b (group_history_at (own f hs) f.within).writes (group_history_at (own f hs) f.within).images) (blocks_here f)
+      ∙ ap (λ (h : History). used (blocks_of s v) h.writes h.images) (history_here f hs are.histories)
+
+  pub used_by_of : (set : ℕ) (o : Option ℕ)
+      → ((hs : List History) → StandsFor told f.here hs → o ≡ used_by (blocks_at f.here f.within) (group_history_at hs f.within).writes (group_history_at hs f.within).images set)
+      → IfStandFor told s groups (λ hs. o ≡ used_by (blocks_of s v) (history_at hs v).writes (history_at hs v).images set)
+  used_by_of set o of hs are =
+      of (own f hs) (stands_here hs are)
+      ∙ ap (λ (b : ℕ). used_by b (group_history_at (own f hs) f.within).writes (group_history_at (own f hs) f.within).images set) (blocks_here f)
+      ∙ ap (λ (h : History). used_by (blocks_of s v) h.writes h.images set) (history_here f hs are.histories)
+
+  -- ## blocks, where the volume tells
+
+  pub telling : tells_at told s groups v ≡ true → Telling told f.here f.within
+  telling tells =
+      let here : tells_within told (Some f.here) f.within ≡ true =
+      sym (ap (tells_row told s groups v) f.place.is_row
+      ∙ ap (λ (n : ℕ). tells_within told (slice_get groups n) (place_in f.place.row.group s.volumes v)) (sym f.place.group_is)
+      ∙ ap (tells_within told (slice_get groups f.group)) (sym f.place.within_is)
+      ∙ ap (λ (o : Option (GroupValue D)). tells_within told o f.within) f.at) ∙ tells in
+      let parts = both (tells_in told (slice_get f.here.devices f.within)) (is_some (told f.here.area.device)) here in
+      let d = of_option told (slice_get f.here.devices f.within) parts.0 in
+      record { device = d.0; at = d.1; tells = d.2; area = parts.1 }
+
+  pub now_of : (b : ℕ) (bytes : List ℕ) → IsGroupNow told f.here f.within b bytes → IsNow told s groups v b bytes
+  now_of b bytes is tells hs are =
+      let t = telling tells in
+      is (own f hs) t.device (stands_here hs are) t.at t.tells t.area
+      ∙ ap (λ (h : History). content h.writes (length h.writes) b) (history_here f hs are.histories)
+
+  pub shown_of : (set b : ℕ) (bytes : List ℕ) → IsGroupShown told f.here f.within set b bytes → IsShown told s groups v set b bytes
+  shown_of set b bytes is tells hs are p point =
+      let t = telling tells in
+      let same = history_here f hs are.histories in
+      is (own f hs) t.device p (stands_here hs are) t.at t.tells t.area (ap (λ (h : History). point_in set h.images) same ∙ point)
+      ∙ ap (λ (h : History). content h.writes p b) same
+
+  pub digest_now_of : (digest : List ℕ) → IsDigestAt told f.here f.within (IsEnd f.within) digest → IsDigestNow told s groups v digest
+  digest_now_of digest is tells hs are =
+      let t = telling tells in
+      let h = group_history_at (own f hs) f.within in
+      is (own f hs) t.device (length h.writes) (stands_here hs are) t.at t.tells t.area refl
+      ∙ ap (λ (n : ℕ). sha256 (concat (contents n h.writes (length h.writes)))) (blocks_here f)
+      ∙ ap (λ (k : History). sha256 (concat (contents (blocks_of s v) k.writes (length k.writes)))) (history_here f hs are.histories)
+
+  pub digest_shown_of : (set : ℕ) (digest : List ℕ) → IsDigestAt told f.here f.within (IsPoint f.within set) digest → IsDigestShown told s groups v set digest
+  digest_shown_of set digest is tells hs are p point =
+      let t = telling tells in
+      let same = history_here f hs are.histories in
+      is (own f hs) t.device p (stands_here hs are) t.at t.tells t.area (ap (λ (k : History). point_in set k.images) same ∙ point)
+      ∙ ap (λ (n : ℕ). sha256 (concat (contents n (group_history_at (own f hs) f.within).writes p))) (blocks_here f)
+      ∙ ap (λ (k : History). sha256 (concat (contents (blocks_of s v) k.writes p))) same
+
+pub some_map : {X : Type 0} (P Q : X → Type 0) (o : Option X) → IfSome o P → ((x : X) → P x → Q x) → IfSome o Q
+some_map P Q None h f = tt
+some_map P Q (Some x) h f = f x h
+
+pub on_ok : {T E : Type 0} (P Q : Type 0) (r : Result T E) → (P → Q) → OnOk r P → OnOk r Q
+on_ok P Q (Ok x) f h = f h
+on_ok P Q (Err e) f h = tt
+
+pub some_of : {X : Type 0} (P : X → Type 0) (o : Option X) (x : X) → o ≡ Some x → IfSome o P → P x
+some_of P o x e h = subst (λ (q : Option _). IfSome q P) e h
