@@ -70,12 +70,14 @@ length_changed zero f (h ∷ hs) = refl
 length_changed (suc v) f (h ∷ hs) = ap (λ n. suc n) (length_changed v f hs)
 
 -- the history of one volume changed
-pub changes : {D : Type 0} (told : D → Option (List (List ℕ))) (s : Plan) (old new : List (GroupValue D)) (v g u : ℕ) (x y : GroupValue D) (hs : List History) (f : History → History) → IsPlaceOf s v g u
+pub changes : {D : Type 0} (told : D → Option (List (List ℕ))) (s : Plan) (old new : List (GroupValue D)) (v g u : ℕ) (x y : GroupValue D) (hs : List History) (f : History → History)
+    → IsPlaceOf s v g u
     → slice_get old g ≡ Some x → new ≡ slice_set old g y → y.area.volumes ≡ x.area.volumes → length y.area.records ≡ length x.area.records
     → AreGroups told s old hs → StandsFor told y (changed_at u f (of_group g s.volumes hs)) → AreGroups told s new (change_at v f hs)
 changes told s old new v g u x y hs f place was is volumes slots are stands =
     let here : of_group g s.volumes (change_at v f hs) ≡ changed_at u f (of_group g s.volumes hs) =
-    changed_in_group g f s.volumes hs v place.row place.is_row (sym place.group_is) ∙ ap (λ (n : ℕ). changed_at n f (of_group g s.volumes hs)) (ap (λ (k : ℕ). place_in k s.volumes v) place.group_is ∙ sym place.within_is) in
+    changed_in_group g f s.volumes hs v place.row place.is_row (sym place.group_is) ∙ ap (λ (n : ℕ). changed_at n f (of_group g s.volumes hs))
+    (ap (λ (k : ℕ). place_in k s.volumes v) place.group_is ∙ sym place.within_is) in
     becomes told s old new g x y hs (change_at v f hs) was is volumes slots are (length_changed v f hs)
     (subst (λ (ks : List History). StandsFor told y ks) (sym here) stands)
     (λ k apart. changed_elsewhere g k f s.volumes hs v place.row place.is_row (sym place.group_is) apart)

@@ -1,12 +1,11 @@
 -- The group of a volume was called, and the others are as they were: what that comes to for all of them.
-use Rattle.std.proofs.Common.{◌≡◌, ℕ, zero, suc, ◌<◌, ◌≤◌, List, [], ◌∷◌, length, refl, ap, sym, ◌∙◌, subst, arith, Bool, true, false, Option, Some, None, All, map, slice_get, slice_set}
+use Rattle.std.proofs.Common.{◌≡◌, ℕ, zero, suc, ◌<◌, List, [], ◌∷◌, length, refl, ap, sym, ◌∙◌, subst, arith, Bool, true, false, Option, Some, All, map, slice_get, slice_set}
 use Rattle.std.specs.Prelude.{Result, Ok, Err, OnOk, IfErr}
 use Rattle.std.proofs.lemmas.List.{length-map}
 use Rattle.write_history.specs.History.{History, Image, Write, point_in, written, dropped, cut, sets_of, reverted, reverted_in_part, to_restore}
 use Rattle.set_agenda.specs.Course.{change_at}
 use Rattle.scenario.specs.declared.volume_row.VolumeRow.{VolumeRow}
 use Rattle.scenario.specs.Plan.{Plan, blocks_of}
-use Rattle.scenario.specs.Places.{IsPlaceOf}
 use Rattle.volume_device.specs.declared.device.Device.{Ghosts}
 use Rattle.cow_volume.specs.GroupValue.{GroupValue}
 use Rattle.cow_volume.specs.StandsFor.{StandsFor}
@@ -16,11 +15,11 @@ use Rattle.cow_volume.specs.declared.image_fault.ImageFault.{ImageFault}
 use Rattle.cow_volume.specs.declared.image_fault.ImageFault.TheVariants as image
 use Rattle.cow_volume.specs.declared.revert_fault.RevertFault.{RevertFault}
 use Rattle.cow_volume.specs.declared.revert_fault.RevertFault.TheVariants.{NoSuchImage as NoImage, Fault}
-use Rattle.cow_volume.specs.Calls.{IsSameDevice, IsUnfailed, HasCauseAt, HasImageCause as HasGroupImageCause, DeviceRose, VolumeRose, AreaRose, IsRevert as IsGroupRevert, IsReverted, IsRevertedInPart, blocks_at, changed_at, is_among, sets_at, history_at as group_history_at}
+use Rattle.cow_volume.specs.Calls.{IsSameDevice, IsUnfailed, HasCauseAt, HasImageCause as HasGroupImageCause, DeviceRose, VolumeRose, IsRevert as IsGroupRevert, IsReverted, blocks_at, changed_at, is_among, sets_at, history_at as group_history_at}
 use Rattle.cow_volume.specs.Steps.{IsPutOr}
 use Rattle.cow_volume.specs.Parts.{IsUnseen}
 use Rattle.cow_volume.proofs.Group.{quiet_stands, slice_set-same, slice_get-set_other}
-use Rattle.provider.specs.Groups.{AreGroups, HasGroups, history_at}
+use Rattle.provider.specs.Groups.{AreGroups, history_at}
 use Rattle.provider.specs.Devices.{AreKept, IsCallOn, IsKeptGroup, HasCause, RoseAlone, counts_of, devices_of, volume_place, fault_of}
 use Rattle.provider.specs.Calls.{HasImageCause, IsDropped, IsPut, IsQuiet, IsRevert, outcome_of}
 use Rattle.provider.specs.GroupCalls.{IsGroupDrop}
@@ -64,13 +63,15 @@ by_device count u b x y low Volume h = h.1
 by_device count u b x y low Area h = h.1
 
 -- likewise on an image, where it stands
-pub by_fault : {D : Type 0} (count : D → ℕ) (u set b : ℕ) (x y : GroupValue D) → b < blocks_at x u → (fault : ImageFault) → HasGroupImageCause count u set b x y fault → HasDigestCause count u set x y fault
+pub by_fault : {D : Type 0} (count : D → ℕ) (u set b : ℕ) (x y : GroupValue D) → b < blocks_at x u → (fault : ImageFault) → HasGroupImageCause count u set b x y fault
+    → HasDigestCause count u set x y fault
 by_fault count u set b x y low image.NoSuchImage h = h
 by_fault count u set b x y low image.NoSuchBlock h = let high = h.1 in absurd (omega arith)
 by_fault count u set b x y low image.Volume h = (h.0, h.2)
 by_fault count u set b x y low image.Area h = (h.0, h.2)
 
-pub flush_rose : {D : Type 0} (count : D → ℕ) (u : ℕ) (x y : GroupValue D) (result : Result Unit Cause) → IfErr result (λ cause. cause ≡ Volume) → IfErr result (λ cause. VolumeRose count u x y) → IfErr result (DeviceRose count u x y)
+pub flush_rose : {D : Type 0} (count : D → ℕ) (u : ℕ) (x y : GroupValue D) (result : Result Unit Cause) → IfErr result (λ cause. cause ≡ Volume)
+    → IfErr result (λ cause. VolumeRose count u x y) → IfErr result (DeviceRose count u x y)
 flush_rose count u x y (Ok done) is rose = tt
 flush_rose count u x y (Err cause) is rose = subst (λ (why : Cause). DeviceRose count u x y why) (sym is) rose
 
@@ -114,7 +115,8 @@ module _ {D : Type 0} (device : Ghosts D) {s : Plan} {old new : List (GroupValue
   pub groups_still : c.after ≡ c.found.here → new ≡ old
   groups_still same = c.is ∙ ap (slice_set old c.found.group) same ∙ slice_set-same old c.found.group c.found.here c.found.at
 
-  pub changed : (f : History → History) (hs : List History) → IsKeptGroup device c.found.here c.after → AreGroups device.told s old hs → StandsFor device.told c.after (changed_at c.found.within f (own c.found hs))
+  pub changed : (f : History → History) (hs : List History) → IsKeptGroup device c.found.here c.after → AreGroups device.told s old hs
+      → StandsFor device.told c.after (changed_at c.found.within f (own c.found hs))
       → AreGroups device.told s new (change_at v f hs)
   changed f hs kept are stands =
       changes device.told s old new v c.found.group c.found.within c.found.here c.after hs f c.found.place c.found.at c.is kept.volumes kept.slots are stands
@@ -130,7 +132,8 @@ module _ {D : Type 0} (device : Ghosts D) {s : Plan} {old new : List (GroupValue
         (quiet_stands device.told c.found.here c.after (own c.found hs) (stands_here device.told c.found hs are) quiet.blocks quiet.images quiet.kept.volumes quiet.records quiet.slots);
   }
 
-  pub image_cause_of : {T : Type 0} (set : ℕ) (result : Result T ImageFault) → OnOk result (is_among set (sets_at c.found.here c.found.within) ≡ true) → OnOk result (IsUnfailed device.count c.found.here c.after)
+  pub image_cause_of : {T : Type 0} (set : ℕ) (result : Result T ImageFault) → OnOk result (is_among set (sets_at c.found.here c.found.within) ≡ true)
+      → OnOk result (IsUnfailed device.count c.found.here c.after)
       → IfErr result (HasDigestCause device.count c.found.within set c.found.here c.after) → HasImageCause device.told device.count s v set (outcome_of result) old new
   image_cause_of set (Ok done) has same why = (image_of device.told c.found set true has, counts_still device.count c same)
   image_cause_of set (Err image.NoSuchImage) has same why = (image_of device.told c.found set false why.0, groups_still why.1)
@@ -138,7 +141,8 @@ module _ {D : Type 0} (device : Ghosts D) {s : Plan} {old new : List (GroupValue
   image_cause_of set (Err image.Volume) has same why = (image_of device.told c.found set true why.0, rose_of device.count c Volume why.1)
   image_cause_of set (Err image.Area) has same why = (image_of device.told c.found set true why.0, rose_of device.count c Area why.1)
 
-  pub image_read_cause : (set : ℕ) (result : Result Unit ImageFault) → OnOk result (is_among set (sets_at c.found.here c.found.within) ≡ true) → OnOk result (IsUnfailed device.count c.found.here c.after)
+  pub image_read_cause : (set : ℕ) (result : Result Unit ImageFault) → OnOk result (is_among set (sets_at c.found.here c.found.within) ≡ true)
+      → OnOk result (IsUnfailed device.count c.found.here c.after)
       → IfErr result (HasDigestCause device.count c.found.within set c.found.here c.after) → HasImageCause device.told device.count s v set result old new
   image_read_cause set (Ok done) has same why = image_cause_of {T = Unit} set (Ok done) has same why
   image_read_cause set (Err fault) has same why = image_cause_of {T = Unit} set (Err fault) has same why
@@ -178,7 +182,8 @@ module _ {D : Type 0} (device : Ghosts D) {s : Plan} {old new : List (GroupValue
         changed (reverted set p) hs r.kept are (r.stands (own c.found hs) p (stands_here device.told c.found hs are) (ap (λ (h : History). point_in set h.images) same ∙ point)),
   )
 
-  pub revert_of : (set : ℕ) (result : Result Unit RevertFault) → IsGroupRevert device.told device.size device.count device.lending c.found.here c.after c.found.within set result → IsRevert device s old new v set result
+  pub revert_of : (set : ℕ) (result : Result Unit RevertFault) → IsGroupRevert device.told device.size device.count device.lending c.found.here c.after c.found.within set result
+      → IsRevert device s old new v set result
   revert_of set (Ok done) h = reverted_of set h
   revert_of set (Err NoImage) h = (image_of device.told c.found set false h.0, groups_still h.1)
   revert_of set (Err (Fault restored cause)) h =
@@ -198,7 +203,8 @@ module _ {D : Type 0} (device : Ghosts D) {s : Plan} {old new : List (GroupValue
             ),
       )
 
-  pub revert_kept : (set : ℕ) (result : Result Unit RevertFault) → IsGroupRevert device.told device.size device.count device.lending c.found.here c.after c.found.within set result → AreKept device old new
+  pub revert_kept : (set : ℕ) (result : Result Unit RevertFault) → IsGroupRevert device.told device.size device.count device.lending c.found.here c.after c.found.within set result
+      → AreKept device old new
   revert_kept set (Ok done) h = all_kept h.kept
   revert_kept set (Err NoImage) h = all_kept (subst (λ (y : GroupValue D). IsKeptGroup device c.found.here y) (sym h.1) (kept_itself device c.found.here))
   revert_kept set (Err (Fault restored cause)) h = all_kept h.0.kept

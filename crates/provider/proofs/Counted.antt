@@ -27,7 +27,8 @@ pub record AreCounted {D : Type 0} (groups : List (GroupValue D)) (i count : ℕ
 pub counted_none : {D : Type 0} (groups : List (GroupValue D)) → AreCounted groups 0 0
 counted_none groups = record { count_is = refl; most = omega arith; whole = λ k x low at. absurd (omega arith) }
 
-pub counted_more : {D : Type 0} (groups : List (GroupValue D)) (i count volumes : ℕ) (x : GroupValue D) → slice_get groups i ≡ Some x → volumes ≡ length x.area.volumes → length x.devices ≡ length x.area.volumes → volumes < 4294967296
+pub counted_more : {D : Type 0} (groups : List (GroupValue D)) (i count volumes : ℕ) (x : GroupValue D) → slice_get groups i ≡ Some x → volumes ≡ length x.area.volumes
+    → length x.devices ≡ length x.area.volumes → volumes < 4294967296
     → AreCounted groups i count → AreCounted groups (i + 1) (count + (volumes + 1))
 counted_more {D = D} groups i count volumes x at many whole few c =
     let next = take_next groups i x at in

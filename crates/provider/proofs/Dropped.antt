@@ -99,14 +99,17 @@ dropped_none device x n = record {
 }
 
 -- whether the image stands on the next volume, by the group's own list
-listed : {D : Type 0} (told : D → Option (List (List ℕ))) (old : GroupValue D) (u n : ℕ) (hs : List History) (b : Bool) → u < length old.area.volumes → StandsFor told old (dropped_first u n hs) → is_among n (sets_at old u) ≡ b
+listed : {D : Type 0} (told : D → Option (List (List ℕ))) (old : GroupValue D) (u n : ℕ) (hs : List History) (b : Bool) → u < length old.area.volumes
+    → StandsFor told old (dropped_first u n hs) → is_among n (sets_at old u) ≡ b
     → is_among n (sets_of (history_at hs u).images) ≡ b
 listed told old u n hs b within stands is =
     let place = place_at told old (dropped_first u n hs) u stands within in
-    let here : is_among n (sets_of (history_at (dropped_first u n hs) u).images) ≡ b = ap (is_among n) (sym place.stands.sets_are) ∙ ap (λ (o : Option (List ℕ)). is_among n (sets_in o)) (sym place.sets_at) ∙ is in
+    let here : is_among n (sets_of (history_at (dropped_first u n hs) u).images) ≡ b = ap (is_among n) (sym place.stands.sets_are) ∙ ap (λ (o : Option (List ℕ)). is_among n (sets_in o))
+    (sym place.sets_at) ∙ is in
     subst (λ (h : History). is_among n (sets_of h.images) ≡ b) (at_first u n hs) here
 
-counted_more : {D : Type 0} (told : D → Option (List (List ℕ))) (first old : GroupValue D) (u n stood : ℕ) (hs : List History) (b : Bool) → u < length old.area.volumes → length old.area.volumes ≡ length first.area.volumes → StandsFor told first hs
+counted_more : {D : Type 0} (told : D → Option (List (List ℕ))) (first old : GroupValue D) (u n stood : ℕ) (hs : List History) (b : Bool) → u < length old.area.volumes
+    → length old.area.volumes ≡ length first.area.volumes → StandsFor told first hs
     → stood ≡ count_images n (take u hs) → is_among n (sets_of (history_at hs u).images) ≡ b → stood + (if b then 1 else 0) ≡ count_images n (take (u + 1) hs)
 counted_more told first old u n stood hs b within same stands so_far is =
     let long = stands.histories in
@@ -130,8 +133,10 @@ dropped_more device first old new u n stood within was call =
       kept = kept_then device first old new was.kept call.1.kept;
       devices = call.1.devices ∙ was.devices;
       area = call.1.area ∙ was.area;
-      stands = λ hs stood. subst (λ (k : ℕ). StandsFor device.told new (dropped_first k n hs)) next (subst (λ (ks : List History). StandsFor device.told new ks) (one_more u n hs) (call.1.stands (dropped_first u n hs) (was.stands hs stood)));
-      number = λ hs stands. counted_more device.told first old u n stood hs true within (ap length was.kept.volumes) stands (was.number hs stands) (listed device.told old u n hs true within (was.stands hs stands) call.0);
+      stands = λ hs stood. subst (λ (k : ℕ). StandsFor device.told new (dropped_first k n hs)) next
+          (subst (λ (ks : List History). StandsFor device.told new ks) (one_more u n hs) (call.1.stands (dropped_first u n hs) (was.stands hs stood)));
+      number = λ hs stands. counted_more device.told first old u n stood hs true within (ap length was.kept.volumes) stands (was.number hs stands)
+          (listed device.told old u n hs true within (was.stands hs stands) call.0);
       none = λ e. absurd (omega arith);
       low = let l = was.low in omega (arith, l);
     }
@@ -148,8 +153,10 @@ dropped_same {D = D} device first old new u n stood within was call =
       stands = λ hs stands.
           let now = was.stands hs stands in
           let here = listed device.told old u n hs false within now call.0 in
-          subst (λ (k : ℕ). StandsFor device.told old (dropped_first k n hs)) next (subst (λ (ks : List History). StandsFor device.told old ks) (none_more u n hs (without_none n (history_at hs u).images here)) now);
-      number = λ hs stands. still ∙ counted_more device.told first old u n stood hs false within (ap length was.kept.volumes) stands (was.number hs stands) (listed device.told old u n hs false within (was.stands hs stands) call.0);
+          subst (λ (k : ℕ). StandsFor device.told old (dropped_first k n hs)) next
+          (subst (λ (ks : List History). StandsFor device.told old ks) (none_more u n hs (without_none n (history_at hs u).images here)) now);
+      number = λ hs stands. still ∙ counted_more device.told first old u n stood hs false within (ap length was.kept.volumes) stands (was.number hs stands)
+          (listed device.told old u n hs false within (was.stands hs stands) call.0);
       none = was.none;
       low = let l = was.low in omega (arith, l);
     })
@@ -160,7 +167,8 @@ take_all zero (x ∷ xs) e = absurd (omega arith)
 take_all (suc k) [] e = absurd (omega arith)
 take_all (suc k) (x ∷ xs) e = ap (λ ys. x ∷ ys) (take_all k xs (omega arith))
 
-pub dropped_all : {D : Type 0} (device : Ghosts D) (old new : GroupValue D) (k n stood : ℕ) → k ≡ length old.area.volumes → k < 4294967296 → IsDroppedTo device old new k n stood → IsWithout device old new n stood
+pub dropped_all : {D : Type 0} (device : Ghosts D) (old new : GroupValue D) (k n stood : ℕ) → k ≡ length old.area.volumes → k < 4294967296 → IsDroppedTo device old new k n stood
+    → IsWithout device old new n stood
 dropped_all device old new k n stood e few h = record {
   kept = h.kept;
   devices = h.devices;

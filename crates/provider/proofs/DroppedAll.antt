@@ -1,5 +1,5 @@
 -- The images of a set go from the volumes of all groups.
-use Rattle.std.proofs.Common.{◌≡◌, ℕ, zero, suc, ◌+◌, ◌<◌, ◌≤◌, ◌==◌, ◌*◌, List, [], ◌∷◌, ◌++◌, length, refl, ap, sym, ◌∙◌, subst, arith, Bool, true, false, Some, map, slice_get, slice_set}
+use Rattle.std.proofs.Common.{◌≡◌, ℕ, zero, suc, ◌+◌, ◌<◌, ◌≤◌, ◌==◌, ◌*◌, List, [], ◌∷◌, length, refl, ap, sym, ◌∙◌, subst, arith, Bool, true, false, Some, map, slice_get, slice_set}
 use Rattle.std.specs.Prelude.{if◌then◌else◌}
 use Rattle.std.proofs.lemmas.Option.{slice_get_within}
 use Rattle.std.proofs.lemmas.Bool.Decides.{nat_tests}
@@ -13,7 +13,7 @@ use Rattle.cow_volume.specs.GroupValue.{GroupValue}
 use Rattle.cow_volume.specs.StandsFor.{StandsFor}
 use Rattle.cow_volume.proofs.Group.{slice_set-same, slice_get-set_same, slice_get-set_other, slice_get_inside}
 use Rattle.scenario.specs.Places.{of_group, of_group_if}
-use Rattle.provider.specs.Groups.{AreGroups, HasGroups}
+use Rattle.provider.specs.Groups.{AreGroups}
 use Rattle.provider.specs.Devices.{devices_of}
 use Rattle.provider.specs.Calls.{AreWithout}
 use Rattle.provider.specs.GroupCalls.{IsWithout}
@@ -88,12 +88,14 @@ counted_if n true h hs = refl
 counted_if n false h hs = let z : count_images n hs ≡ 0 + count_images n hs = omega arith in z
 
 -- each volume is in one of the groups, so what is counted group by group is all
-pub count_all : (n k : ℕ) (rows : List VolumeRow) (hs : List History) → length hs ≡ length rows → ((v : ℕ) (r : VolumeRow) → slice_get rows v ≡ Some r → r.group < k) → sum_below k (λ g. count_images n (of_group g rows hs)) ≡ count_images n hs
+pub count_all : (n k : ℕ) (rows : List VolumeRow) (hs : List History) → length hs ≡ length rows → ((v : ℕ) (r : VolumeRow) → slice_get rows v ≡ Some r → r.group < k)
+    → sum_below k (λ g. count_images n (of_group g rows hs)) ≡ count_images n hs
 count_all n k [] [] long there = sum_zero k
 count_all n k [] (h ∷ hs) long there = absurd (omega arith)
 count_all n k (r ∷ rows) [] long there = absurd (omega arith)
 count_all n k (r ∷ rows) (h ∷ hs) long there =
-    sum_same k (λ g. count_images n (of_group_if (r.group == g) h (of_group g rows hs))) (λ g. (if r.group == g then (if has_image n h then 1 else 0) else 0) + count_images n (of_group g rows hs)) (λ g. counted_if n (r.group == g) h (of_group g rows hs))
+    sum_same k (λ g. count_images n (of_group_if (r.group == g) h (of_group g rows hs)))
+    (λ g. (if r.group == g then (if has_image n h then 1 else 0) else 0) + count_images n (of_group g rows hs)) (λ g. counted_if n (r.group == g) h (of_group g rows hs))
     ∙ sum_both k (λ g. if r.group == g then (if has_image n h then 1 else 0) else 0) (λ g. count_images n (of_group g rows hs))
     ∙ ap (λ (m : ℕ). m + sum_below k (λ g. count_images n (of_group g rows hs))) (sum_one k r.group (if has_image n h then 1 else 0) (there zero r refl))
     ∙ ap (λ (m : ℕ). (if has_image n h then 1 else 0) + m) (count_all n k rows hs (omega arith) (λ v q e. there (suc v) q e))

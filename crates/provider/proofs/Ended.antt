@@ -1,5 +1,5 @@
 -- One group is brought to where it lasts, against the histories of all volumes.
-use Rattle.std.proofs.Common.{◌≡◌, ℕ, ◌+◌, ◌==◌, List, [], ◌∷◌, ◌++◌, refl, ap, sym, ◌∙◌, subst, Bool, true, false, Option, Some, map, slice_get, slice_set}
+use Rattle.std.proofs.Common.{◌≡◌, ℕ, ◌+◌, ◌==◌, List, [], ◌∷◌, ◌++◌, refl, ap, sym, ◌∙◌, subst, Bool, true, false, Some, map, slice_get, slice_set}
 use Rattle.std.specs.Prelude.{if◌then◌else◌, OnOk, Result, Ok, Err}
 use Rattle.write_history.specs.History.{History}
 use Rattle.write_history.specs.Slots.{Copy, copies, copies_of, copies_from}
@@ -13,7 +13,6 @@ use Rattle.cow_volume.specs.Ending.{IsSync, IsSynced as IsGroupSynced}
 use Rattle.cow_volume.specs.declared.cause.Cause.{Cause}
 use Rattle.cow_volume.proofs.Group.{slice_get-set_other}
 use Rattle.provider.specs.Groups.{HasGroups}
-use Rattle.provider.specs.Devices.{counts_of}
 use Rattle.provider.specs.Ending.{AreLasting, HasSyncCause, IsSynced}
 use Rattle.provider.proofs.Becoming.{stays}
 use Rattle.provider.proofs.Kept.{kept_one, called_there}

@@ -76,7 +76,8 @@ at_gap (z ∷ groups) lens (suc g) i x long at d e =
     joined (q ∷ xs) y ys = ap (λ zs. q ∷ zs) (joined xs y ys)
 
 -- each group has as many devices as volumes of the scenario
-lens_are : {D : Type 0} (s : Plan) (groups : List (GroupValue D)) → HasGroups s groups → (k : ℕ) (z : GroupValue D) → slice_get groups k ≡ Some z → length z.devices ≡ length (blocks_in_group k s.volumes)
+lens_are : {D : Type 0} (s : Plan) (groups : List (GroupValue D)) → HasGroups s groups → (k : ℕ) (z : GroupValue D) → slice_get groups k ≡ Some z
+    → length z.devices ≡ length (blocks_in_group k s.volumes)
 lens_are s groups has k z at = has.devices k z at ∙ ap length (has.volumes k z at)
 
 volume_place_is : (s : Plan) (v g u : ℕ) → IsPlaceOf s v g u → volume_place s v ≡ gap (λ k. length (blocks_in_group k s.volumes)) g + u
@@ -86,14 +87,16 @@ volume_place_is s v g u place =
     ∙ ap (λ (n : ℕ). gap (λ k. length (blocks_in_group k s.volumes)) n + place_in place.row.group s.volumes v) (sym place.group_is)
     ∙ ap (λ (n : ℕ). gap (λ k. length (blocks_in_group k s.volumes)) g + n) (sym place.within_is)
 
-pub volume_device_at : {D : Type 0} (s : Plan) (groups : List (GroupValue D)) (v g u : ℕ) (x : GroupValue D) (d : D) → HasGroups s groups → IsPlaceOf s v g u → slice_get groups g ≡ Some x → slice_get x.devices u ≡ Some d
+pub volume_device_at : {D : Type 0} (s : Plan) (groups : List (GroupValue D)) (v g u : ℕ) (x : GroupValue D) (d : D) → HasGroups s groups → IsPlaceOf s v g u → slice_get groups g ≡ Some x
+    → slice_get x.devices u ≡ Some d
     → slice_get (devices_of groups) (volume_place s v) ≡ Some d
 volume_device_at s groups v g u x d has place at e =
     let is = volume_place_is s v g u place in
     ap (slice_get (devices_of groups)) is
     ∙ at_gap groups (λ k. length (blocks_in_group k s.volumes)) g u x (lens_are s groups has) at d (get-front x.devices (x.area.device ∷ []) u d e)
 
-pub area_device_at : {D : Type 0} (s : Plan) (groups : List (GroupValue D)) (g : ℕ) (x : GroupValue D) → HasGroups s groups → slice_get groups g ≡ Some x → slice_get (devices_of groups) (area_place g s.volumes) ≡ Some x.area.device
+pub area_device_at : {D : Type 0} (s : Plan) (groups : List (GroupValue D)) (g : ℕ) (x : GroupValue D) → HasGroups s groups → slice_get groups g ≡ Some x
+    → slice_get (devices_of groups) (area_place g s.volumes) ≡ Some x.area.device
 area_device_at s groups g x has at =
     let long = lens_are s groups has g x at in
     let last : slice_get (x.devices ++ x.area.device ∷ []) (length (blocks_in_group g s.volumes)) ≡ Some x.area.device =
@@ -138,7 +141,8 @@ joined_devices count z groups = sym (ap (map count) (joined z.devices z.area.dev
   joined (q ∷ xs) y ys = ap (λ zs. q ∷ zs) (joined xs y ys)
 
 -- one count of one group is another, and so is that count of all
-counts_set : {D : Type 0} (count : D → ℕ) (groups : List (GroupValue D)) (lens : ℕ → ℕ) (g i : ℕ) (x y : GroupValue D) (n : ℕ) → ((k : ℕ) (z : GroupValue D) → slice_get groups k ≡ Some z → length z.devices ≡ lens k)
+counts_set : {D : Type 0} (count : D → ℕ) (groups : List (GroupValue D)) (lens : ℕ → ℕ) (g i : ℕ) (x y : GroupValue D) (n : ℕ)
+    → ((k : ℕ) (z : GroupValue D) → slice_get groups k ≡ Some z → length z.devices ≡ lens k)
     → slice_get groups g ≡ Some x → i < length (map count (group_devices x)) → map count (group_devices y) ≡ slice_set (map count (group_devices x)) i n
     → counts_of count (slice_set groups g y) ≡ slice_set (counts_of count groups) (gap lens g + i) n
 counts_set count [] lens g i x y n long at inside set = cc
@@ -209,7 +213,8 @@ pub area_of_place : (s : Plan) (v g u : ℕ) → IsPlaceOf s v g u → volumes_a
 area_of_place s v g u place = ap (volumes_area_in s.volumes) place.is_row ∙ ap (λ (n : ℕ). area_place n s.volumes) (sym place.group_is)
 
 -- the counts of one group are as they were, and so are all
-pub counts_same : {D : Type 0} (count : D → ℕ) (groups : List (GroupValue D)) (g : ℕ) (x y : GroupValue D) → slice_get groups g ≡ Some x → IsUnfailed count x y → counts_of count (slice_set groups g y) ≡ counts_of count groups
+pub counts_same : {D : Type 0} (count : D → ℕ) (groups : List (GroupValue D)) (g : ℕ) (x y : GroupValue D) → slice_get groups g ≡ Some x → IsUnfailed count x y
+    → counts_of count (slice_set groups g y) ≡ counts_of count groups
 counts_same count [] g x y at same = cc
 counts_same {D = D} count (z ∷ groups) zero x y at same =
     let is : z ≡ x = cc in
@@ -224,7 +229,8 @@ counts_same count (z ∷ groups) (suc g) x y at same =
     ∙ sym (map-append count z.devices (z.area.device ∷ devices_of groups))
 
 -- what is read of each device of one group is as it was, and so it is of all
-pub mapped_same : {D X : Type 0} (f : D → X) (groups : List (GroupValue D)) (g : ℕ) (x y : GroupValue D) → slice_get groups g ≡ Some x → map f y.devices ≡ map f x.devices → f y.area.device ≡ f x.area.device
+pub mapped_same : {D X : Type 0} (f : D → X) (groups : List (GroupValue D)) (g : ℕ) (x y : GroupValue D) → slice_get groups g ≡ Some x → map f y.devices ≡ map f x.devices
+    → f y.area.device ≡ f x.area.device
     → map f (devices_of (slice_set groups g y)) ≡ map f (devices_of groups)
 mapped_same f [] g x y at devices area = cc
 mapped_same {D = D} {X = X} f (z ∷ groups) zero x y at devices area =
@@ -240,9 +246,11 @@ mapped_same {D = D} {X = X} f (z ∷ groups) (suc g) x y at devices area =
     ∙ sym (map-append f z.devices (z.area.device ∷ devices_of groups))
 
 -- the devices are as they were where those of the group that was called are
-pub devices_same : {D : Type 0} (groups : List (GroupValue D)) (g : ℕ) (x y : GroupValue D) → slice_get groups g ≡ Some x → y.devices ≡ x.devices → y.area.device ≡ x.area.device → devices_of (slice_set groups g y) ≡ devices_of groups
+pub devices_same : {D : Type 0} (groups : List (GroupValue D)) (g : ℕ) (x y : GroupValue D) → slice_get groups g ≡ Some x → y.devices ≡ x.devices → y.area.device ≡ x.area.device
+    → devices_of (slice_set groups g y) ≡ devices_of groups
 devices_same [] g x y at devices area = cc
 devices_same {D = D} (z ∷ groups) zero x y at devices area =
     let is : x ≡ z = cc in
-    ap (λ (ds : List D). ds ++ y.area.device ∷ devices_of groups) devices ∙ ap (λ (d : D). x.devices ++ d ∷ devices_of groups) area ∙ ap (λ (q : GroupValue D). q.devices ++ q.area.device ∷ devices_of groups) is
+    ap (λ (ds : List D). ds ++ y.area.device ∷ devices_of groups) devices ∙ ap (λ (d : D). x.devices ++ d ∷ devices_of groups) area ∙ ap
+    (λ (q : GroupValue D). q.devices ++ q.area.device ∷ devices_of groups) is
 devices_same {D = D} (z ∷ groups) (suc g) x y at devices area = ap (λ (ds : List D). z.devices ++ z.area.device ∷ ds) (devices_same groups g x y at devices area)

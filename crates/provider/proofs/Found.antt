@@ -1,5 +1,5 @@
 -- The group of a volume is found among all groups, or called: what that says of the volume of the scenario.
-use Rattle.std.proofs.Common.{◌≡◌, ℕ, ◌<◌, ◌+◌, List, length, refl, ap, sym, ◌∙◌, subst, arith, Bool, true, false, Option, Some, None, get_or, slice_get}
+use Rattle.std.proofs.Common.{◌≡◌, ℕ, ◌<◌, List, length, refl, ap, sym, ◌∙◌, subst, arith, Bool, true, false, Option, Some, None, get_or, slice_get}
 use Rattle.std.specs.Prelude.{◌&&◌, is_some, IfSome, OnOk, Result, Ok, Err}
 use Rattle.std.specs.List.{concat}
 use Rattle.block_data.specs.Digest.{sha256}
@@ -41,7 +41,8 @@ abbrev pub found_in : {D : Type 0} (s : Plan) (v : ℕ) (groups : List (GroupVal
 found_in s v groups {g = g} {u = u} x has place value = found s groups v g u x has place (device_read groups g x (group_below s groups v g u place has) value)
 
 -- by what a provider sees of its fields
-abbrev pub found_by : {D : Type 0} (s : Plan) (v : ℕ) {p q : ProviderValue D} {g u : ℕ} (x : GroupValue D) → p ≡ q → HasGroups s q.groups → IsPlaceOf s v g u → x ≡ get_or p.groups g x → Found s p.groups v
+abbrev pub found_by : {D : Type 0} (s : Plan) (v : ℕ) {p q : ProviderValue D} {g u : ℕ} (x : GroupValue D) → p ≡ q → HasGroups s q.groups → IsPlaceOf s v g u → x ≡ get_or p.groups g x
+    → Found s p.groups v
 found_by s v {p = p} {q = q} {g = g} {u = u} x same has place value =
     found_in s v p.groups x (inside_has s p q same has) place value
 

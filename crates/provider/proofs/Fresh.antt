@@ -21,7 +21,8 @@ length_fresh [] = refl
 length_fresh (r ∷ rows) = ap (λ n. suc n) (length_fresh rows)
 
 -- the groups of new volumes stand for the state in which a scenario begins
-pub fresh_stand : {D : Type 0} (told : D → Option (List (List ℕ))) (s : Plan) (groups : List (GroupValue D)) → AreFresh told s groups → AreGroups told s groups (map (λ (r : VolumeRow). fresh) s.volumes)
+pub fresh_stand : {D : Type 0} (told : D → Option (List (List ℕ))) (s : Plan) (groups : List (GroupValue D)) → AreFresh told s groups
+    → AreGroups told s groups (map (λ (r : VolumeRow). fresh) s.volumes)
 fresh_stand told s groups new = record {
   histories = length_fresh s.volumes;
   each = λ g x at. record {

@@ -23,7 +23,8 @@ moving_room first all list rest less x before room next m =
     let e = m.enough in
     omega (arith, a, b, c, d, e)
 
-pub moving_one : {X : Type 0} (first all list rest less : List X) (x : X) (before room : ℕ) → rest ≡ x ∷ less → IsMoving first all list rest before room → IsMoving first all (list ++ x ∷ []) less before room
+pub moving_one : {X : Type 0} (first all list rest less : List X) (x : X) (before room : ℕ) → rest ≡ x ∷ less → IsMoving first all list rest before room
+    → IsMoving first all (list ++ x ∷ []) less before room
 moving_one first all list rest less x before room next m = record {
   kept = append_assoc list (x ∷ []) less ∙ ap (λ xs. list ++ xs) (sym next) ∙ m.kept;
   enough = m.enough;
@@ -47,7 +48,8 @@ pub record AreMoving {D : Type 0} (all rest : List (GroupValue D)) (list : List 
 devices_split : {D : Type 0} (x : GroupValue D) (rest : List (GroupValue D)) → devices_of (x ∷ []) ++ devices_of rest ≡ devices_of (x ∷ rest)
 devices_split x rest = append_assoc x.devices (x.area.device ∷ []) (devices_of rest)
 
-pub groups_room : {D : Type 0} (all rest less : List (GroupValue D)) (x : GroupValue D) (list : List D) (room : ℕ) → rest ≡ x ∷ less → AreMoving all rest list room → length list + length (devices_of (x ∷ [])) ≤ room
+pub groups_room : {D : Type 0} (all rest less : List (GroupValue D)) (x : GroupValue D) (list : List D) (room : ℕ) → rest ≡ x ∷ less → AreMoving all rest list room
+    → length list + length (devices_of (x ∷ [])) ≤ room
 groups_room all rest less x list room next m =
     let a = length-append list (devices_of rest) in
     let b = ap length m.kept in
@@ -57,11 +59,13 @@ groups_room all rest less x list room next m =
     let f = m.enough in
     omega (arith, a, b, c, d, e, f)
 
-pub groups_one : {D : Type 0} (all rest less : List (GroupValue D)) (x : GroupValue D) (list new : List D) (room more : ℕ) → rest ≡ x ∷ less → AreMoving all rest list room → new ≡ list ++ devices_of (x ∷ []) → more ≡ room → AreMoving all less new more
+pub groups_one : {D : Type 0} (all rest less : List (GroupValue D)) (x : GroupValue D) (list new : List D) (room more : ℕ) → rest ≡ x ∷ less → AreMoving all rest list room
+    → new ≡ list ++ devices_of (x ∷ []) → more ≡ room → AreMoving all less new more
 groups_one {D = D} all rest less x list new room more next m is up =
     let f = m.enough in
     record {
-      kept = ap (λ (xs : List D). xs ++ devices_of less) is ∙ append_assoc list (devices_of (x ∷ [])) (devices_of less) ∙ ap (λ (xs : List D). list ++ xs) (devices_split x less) ∙ ap (λ (xs : List (GroupValue D)). list ++ devices_of xs) (sym next) ∙ m.kept;
+      kept = ap (λ (xs : List D). xs ++ devices_of less) is ∙ append_assoc list (devices_of (x ∷ [])) (devices_of less) ∙ ap (λ (xs : List D). list ++ xs) (devices_split x less) ∙ ap
+          (λ (xs : List (GroupValue D)). list ++ devices_of xs) (sym next) ∙ m.kept;
       enough = omega (arith, f, up);
     }
 

@@ -1,6 +1,6 @@
 -- The blocks of a volume, or of an image, are hashed one after another.
-use Rattle.std.proofs.Common.{slice_set, ◌≡◌, ℕ, ◌+◌, ◌<◌, List, [], ◌∷◌, ◌++◌, length, refl, ap, sym, ◌∙◌, subst, arith, Bool, true, false, Option, Some, slice_get}
-use Rattle.std.specs.Prelude.{◌≢◌, is_some}
+use Rattle.std.proofs.Common.{slice_set, ◌≡◌, ℕ, ◌+◌, ◌<◌, List, [], ◌∷◌, ◌++◌, length, refl, ap, sym, ◌∙◌, subst, arith, true, false, Option, Some, slice_get}
+use Rattle.std.specs.Prelude.{is_some}
 use Rattle.std.specs.List.{concat}
 use Rattle.std.proofs.lemmas.List.Folds.{concat-append}
 use Rattle.std.proofs.lemmas.List.FromFn.{map-range_with_len_more}
@@ -24,11 +24,13 @@ use Rattle.provider.proofs.Kept.{kept_itself, kept_then}
 
 -- ## one block
 
-pub at_end : {D : Type 0} (told : D → Option (List (List ℕ))) (g : GroupValue D) (u b : ℕ) (bytes : List ℕ) → IsNow told g u b bytes → AtPoint told g u (IsEnd u) (λ hs p. bytes ≡ content (history_at hs u).writes p b)
+pub at_end : {D : Type 0} (told : D → Option (List (List ℕ))) (g : GroupValue D) (u b : ℕ) (bytes : List ℕ) → IsNow told g u b bytes
+    → AtPoint told g u (IsEnd u) (λ hs p. bytes ≡ content (history_at hs u).writes p b)
 at_end told g u b bytes now hs d p stands at tells area end = now hs d stands at tells area ∙ ap (λ (n : ℕ). content (history_at hs u).writes n b) (sym end)
 
 -- a read of an image that stands, of a block that there is, fails by a device
-pub image_rose : {D : Type 0} (count : D → ℕ) (u set b : ℕ) (x y : GroupValue D) → is_among set (sets_at x u) ≡ true → b < blocks_at x u → (fault : ImageFault) → HasImageCause count u set b x y fault → ImageRose count u x y fault
+pub image_rose : {D : Type 0} (count : D → ℕ) (u set b : ℕ) (x y : GroupValue D) → is_among set (sets_at x u) ≡ true → b < blocks_at x u → (fault : ImageFault)
+    → HasImageCause count u set b x y fault → ImageRose count u x y fault
 image_rose count u set b x y has low NoSuchImage h = yes_no (sym has ∙ h.0)
   where
     yes_no : true ≡ false → ⊥
@@ -52,12 +54,14 @@ quiet_then device x y z h k = record {
 }
 
 -- what holds at a point after quiet calls holds of the group as it was
-at_first : {D : Type 0} (device : Ghosts D) (first now : GroupValue D) (u : ℕ) (At P : List History → ℕ → Type 0) → IsQuietGroup device first now → AtPoint device.told now u At P → AtPoint device.told first u At P
+at_first : {D : Type 0} (device : Ghosts D) (first now : GroupValue D) (u : ℕ) (At P : List History → ℕ → Type 0) → IsQuietGroup device first now → AtPoint device.told now u At P
+    → AtPoint device.told first u At P
 at_first {D = D} device first now u At P quiet holds hs d p stands at tells area there =
     let within = slice_get_within first.devices u d at in
     let long = quiet.kept.devices in
     let e = slice_get_inside now.devices u (omega (arith, within, long)) in
-    let same : Some (device.told e.0) ≡ Some (device.told d) = sym (slice_get_map device.told now.devices u e.0 e.1) ∙ ap (λ (ts : List (Option (List (List ℕ)))). slice_get ts u) quiet.blocks ∙ slice_get_map device.told first.devices u d at in
+    let same : Some (device.told e.0) ≡ Some (device.told d) = sym (slice_get_map device.told now.devices u e.0 e.1) ∙ ap
+    (λ (ts : List (Option (List (List ℕ)))). slice_get ts u) quiet.blocks ∙ slice_get_map device.told first.devices u d at in
     holds hs e.0 p
     (quiet_stands device.told first now hs stands quiet.blocks quiet.images quiet.kept.volumes quiet.records quiet.slots)
     e.1 (ap (λ (t : Option (List (List ℕ))). is_some t) (same_Some (device.told e.0) (device.told d) same) ∙ tells) (ap (λ (t : Option (List (List ℕ))). is_some t) quiet.slots ∙ area) there
@@ -111,7 +115,8 @@ pub images_still : {D : Type 0} (device : Ghosts D) (first now : GroupValue D) (
 images_still device first now u quiet = ap (λ (xs : List (List ℕ)). sets_in (slice_get xs u)) quiet.images
 
 -- a device failed later: its count rose since the first call too
-volume_since : {D : Type 0} (count : D → ℕ) (first old new : GroupValue D) (u : ℕ) → IsUnfailed count first old → length old.devices ≡ length first.devices → VolumeRose count u old new → VolumeRose count u first new
+volume_since : {D : Type 0} (count : D → ℕ) (first old new : GroupValue D) (u : ℕ) → IsUnfailed count first old → length old.devices ≡ length first.devices → VolumeRose count u old new
+    → VolumeRose count u first new
 volume_since {D = D} count first old new u same long rose =
     let within = slice_get_within old.devices u rose.before rose.was in
     let d = slice_get_inside first.devices u (omega (arith, within, long)) in
@@ -130,13 +135,15 @@ volume_since {D = D} count first old new u same long rose =
 area_since : {D : Type 0} (count : D → ℕ) (first old new : GroupValue D) → IsUnfailed count first old → AreaRose count old new → AreaRose count first new
 area_since count first old new same rose = record { rose = subst (λ (n : ℕ). Rose n (count new.area.device)) same.area rose.rose; devices = rose.devices ∙ same.devices }
 
-pub rose_since : {D : Type 0} (count : D → ℕ) (first old new : GroupValue D) (u : ℕ) (cause : Cause) → IsUnfailed count first old → length old.devices ≡ length first.devices → DeviceRose count u old new cause → DeviceRose count u first new cause
+pub rose_since : {D : Type 0} (count : D → ℕ) (first old new : GroupValue D) (u : ℕ) (cause : Cause) → IsUnfailed count first old → length old.devices ≡ length first.devices
+    → DeviceRose count u old new cause → DeviceRose count u first new cause
 rose_since count first old new u NoBlock same long rose = rose
 rose_since count first old new u Volume same long rose = volume_since count first old new u same long rose
 rose_since count first old new u Area same long rose = area_since count first old new same rose
 
 -- so there is no digest of the image, which stood
-pub digest_cause : {D : Type 0} (count : D → ℕ) (first old new : GroupValue D) (u set : ℕ) (fault : ImageFault) → is_among set (sets_at first u) ≡ true → IsUnfailed count first old → length old.devices ≡ length first.devices
+pub digest_cause : {D : Type 0} (count : D → ℕ) (first old new : GroupValue D) (u set : ℕ) (fault : ImageFault) → is_among set (sets_at first u) ≡ true → IsUnfailed count first old
+    → length old.devices ≡ length first.devices
     → ImageRose count u old new fault → HasDigestCause count u set first new fault
 digest_cause count first old new u set NoSuchImage has same long rose = elim rose [ ]
 digest_cause count first old new u set NoSuchBlock has same long rose = rose

@@ -9,7 +9,7 @@ use Rattle.volume_device.specs.declared.device.Device.{Ghosts}
 use Rattle.cow_volume.specs.GroupValue.{GroupValue}
 use Rattle.cow_volume.specs.Calls.{IsSameDevice}
 use Rattle.cow_volume.proofs.Group.{slice_get_inside, slice_get-set_same, slice_get-set_other}
-use Rattle.scenario.specs.Places.{place_in, IsPlaceOf}
+use Rattle.scenario.specs.Places.{place_in}
 use Rattle.provider.specs.Devices.{devices_of, counts_of, tells_in, tells_within, tells_row, tells_at, tells_from, tells_of, AreLater, AreKept, IsKeptGroup}
 use Rattle.scenario.proofs.Places.{number_is, same_number}
 
@@ -69,7 +69,8 @@ sizes_all device (x ∷ xs) [] long each = absurd (omega arith)
 sizes_all device (x ∷ xs) (y ∷ ys) long each =
     let kept = each zero x y refl refl in
     map-append device.size y.devices (y.area.device ∷ devices_of ys)
-    ∙ ap (λ (zs : List ℕ). zs ++ device.size y.area.device ∷ map device.size (devices_of ys)) (map_same device.size x.devices y.devices kept.devices (λ i d e at there. (kept.each i d e at there).size_is))
+    ∙ ap (λ (zs : List ℕ). zs ++ device.size y.area.device ∷ map device.size (devices_of ys))
+    (map_same device.size x.devices y.devices kept.devices (λ i d e at there. (kept.each i d e at there).size_is))
     ∙ ap (λ (n : ℕ). map device.size x.devices ++ n ∷ map device.size (devices_of ys)) kept.area.size_is
     ∙ ap (λ (zs : List ℕ). map device.size x.devices ++ device.size x.area.device ∷ zs) (sizes_all device xs ys (omega arith) (λ g p q at there. each (suc g) p q at there))
     ∙ sym (map-append device.size x.devices (x.area.device ∷ devices_of xs))
@@ -83,9 +84,11 @@ later_all device (x ∷ xs) (y ∷ ys) long each =
     let kept = each zero x y refl refl in
     let first = later_each device.count x.devices y.devices kept.devices (λ i d e at there. (kept.each i d e at there).later) in
     let rest = later_all device xs ys (omega arith) (λ g p q at there. each (suc g) p q at there) in
-    let both = later_append (map device.count x.devices) (map device.count y.devices) (device.count x.area.device ∷ counts_of device.count xs) (device.count y.area.device ∷ counts_of device.count ys) first (kept.area.later, rest) in
+    let both = later_append (map device.count x.devices) (map device.count y.devices) (device.count x.area.device ∷ counts_of device.count xs)
+    (device.count y.area.device ∷ counts_of device.count ys) first (kept.area.later, rest) in
     subst (λ (zs : List ℕ). AreLater zs (map device.count (y.devices ++ y.area.device ∷ devices_of ys))) (sym (map-append device.count x.devices (x.area.device ∷ devices_of xs)))
-    (subst (λ (zs : List ℕ). AreLater (map device.count x.devices ++ device.count x.area.device ∷ counts_of device.count xs) zs) (sym (map-append device.count y.devices (y.area.device ∷ devices_of ys))) both)
+    (subst (λ (zs : List ℕ). AreLater (map device.count x.devices ++ device.count x.area.device ∷ counts_of device.count xs) zs)
+    (sym (map-append device.count y.devices (y.area.device ∷ devices_of ys))) both)
 
 -- ## which volumes tell
 
@@ -110,11 +113,13 @@ tells_rows : {D : Type 0} (device : Ghosts D) (s : Plan) (old new : List (GroupV
     → tells_from device.told s new v rows ≡ tells_from device.told s old v rows
 tells_rows device s old new v [] long each = refl
 tells_rows device s old new v (r ∷ rows) long each =
-    ap (λ (b : Bool). b ∷ tells_from device.told s new (v + 1) rows) (group_tells device old new r.group (place_in r.group s.volumes v) long each (slice_get old r.group) (slice_get new r.group) refl refl)
+    ap (λ (b : Bool). b ∷ tells_from device.told s new (v + 1) rows)
+    (group_tells device old new r.group (place_in r.group s.volumes v) long each (slice_get old r.group) (slice_get new r.group) refl refl)
     ∙ ap (λ (bs : List Bool). tells_row device.told s old v (Some r) ∷ bs) (tells_rows device s old new (v + 1) rows long each)
 
 -- the number of a volume counts up from where the list begins
-tells_from-at : {D : Type 0} (told : D → Option (List (List ℕ))) (s : Plan) (groups : List (GroupValue D)) (n v : ℕ) (rows : List VolumeRow) (r : VolumeRow) → slice_get rows v ≡ Some r → slice_get (tells_from told s groups n rows) v ≡ Some (tells_row told s groups (n + v) (Some r))
+tells_from-at : {D : Type 0} (told : D → Option (List (List ℕ))) (s : Plan) (groups : List (GroupValue D)) (n v : ℕ) (rows : List VolumeRow) (r : VolumeRow) → slice_get rows v ≡ Some r
+    → slice_get (tells_from told s groups n rows) v ≡ Some (tells_row told s groups (n + v) (Some r))
 tells_from-at told s groups n v [] r e = cc
 tells_from-at told s groups n zero (q ∷ rows) r e =
     let same : q ≡ r = cc in
@@ -124,7 +129,8 @@ tells_from-at told s groups n (suc v) (q ∷ rows) r e =
     let more : n + 1 + v ≡ n + suc v = omega arith in
     tells_from-at told s groups (n + 1) v rows r e ∙ ap (λ (k : ℕ). Some (tells_row told s groups k (Some r))) more
 
-pub tells_of-at : {D : Type 0} (told : D → Option (List (List ℕ))) (s : Plan) (groups : List (GroupValue D)) (v : ℕ) → v < length s.volumes → slice_get (tells_of told s groups) v ≡ Some (tells_at told s groups v)
+pub tells_of-at : {D : Type 0} (told : D → Option (List (List ℕ))) (s : Plan) (groups : List (GroupValue D)) (v : ℕ) → v < length s.volumes
+    → slice_get (tells_of told s groups) v ≡ Some (tells_at told s groups v)
 tells_of-at told s groups v within =
     let there = slice_get_inside s.volumes v within in
     let none : 0 + v ≡ v = omega arith in

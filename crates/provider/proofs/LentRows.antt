@@ -1,5 +1,5 @@
 -- Blocks that are lent one after another, and what their digests are.
-use Rattle.std.proofs.Common.{◌≡◌, ℕ, ◌+◌, List, [], ◌∷◌, ◌++◌, length, refl, ap, sym, ◌∙◌, subst, arith, Bool, Option, Some, None, slice_get, map}
+use Rattle.std.proofs.Common.{◌≡◌, ℕ, ◌+◌, List, [], ◌∷◌, ◌++◌, length, refl, ap, sym, ◌∙◌, subst, arith, Option, Some, None}
 use Rattle.std.specs.Prelude.{IfSome, All, Vec}
 use Rattle.std.specs.List.{concat, AllZip}
 use Rattle.std.specs.Borrow.{Bor}
@@ -30,7 +30,8 @@ one_more k ws p = map-range_with_len_more (content ws p) 0 k k (omega arith)
 pub first_none : {D : Type 0} (told : D → Option (List (List ℕ))) (g : GroupValue D) (u : ℕ) (At : List History → ℕ → Type 0) → AreFirst told g u At 0 []
 first_none told g u At = λ hs d p stands at tells area there. refl
 
-pub first_more : {D : Type 0} (told : D → Option (List (List ℕ))) (g : GroupValue D) (u : ℕ) (At : List History → ℕ → Type 0) (k : ℕ) (parts : List (Bor (List ℕ))) (b : Bor (List ℕ)) → AreFirst told g u At k parts
+pub first_more : {D : Type 0} (told : D → Option (List (List ℕ))) (g : GroupValue D) (u : ℕ) (At : List History → ℕ → Type 0) (k : ℕ) (parts : List (Bor (List ℕ))) (b : Bor (List ℕ))
+    → AreFirst told g u At k parts
     → AtPoint told g u At (λ hs p. b.now ≡ content (group_history_at hs u).writes p k) → AreFirst told g u At (k + 1) (parts ++ b ∷ [])
 first_more told g u At k parts b so_far one = λ hs d p stands at tells area there.
     map-append (λ (q : Bor (List ℕ)). q.now) parts (b ∷ [])
@@ -38,7 +39,8 @@ first_more told g u At k parts b so_far one = λ hs d p stands at tells area the
     ∙ ap (λ (x : List ℕ). contents k (group_history_at hs u).writes p ++ x ∷ []) (one hs d p stands at tells area there)
     ∙ sym (one_more k (group_history_at hs u).writes p)
 
-pub first_all : {D : Type 0} (told : D → Option (List (List ℕ))) (g : GroupValue D) (u : ℕ) (At : List History → ℕ → Type 0) (k : ℕ) (parts : List (Bor (List ℕ))) → k ≡ blocks_at g u → AreFirst told g u At k parts → AreBlocksAt told g u At parts
+pub first_all : {D : Type 0} (told : D → Option (List (List ℕ))) (g : GroupValue D) (u : ℕ) (At : List History → ℕ → Type 0) (k : ℕ) (parts : List (Bor (List ℕ))) → k ≡ blocks_at g u
+    → AreFirst told g u At k parts → AreBlocksAt told g u At parts
 first_all told g u At k parts all so_far = λ hs d p stands at tells area there.
     so_far hs d p stands at tells area there ∙ ap (λ (n : ℕ). contents n (group_history_at hs u).writes p) all
 
@@ -61,17 +63,20 @@ module _ {D : Type 0} (told : D → Option (List (List ℕ))) {s : Plan} {groups
       ∙ ap (λ (n : ℕ). contents n (group_history_at (own f hs) f.within).writes p) (blocks_here f)
       ∙ ap (λ (k : History). contents (blocks_of s v) k.writes p) same
 
-  pub volume_row_is : (blocks : Option (Vec (Bor (List ℕ)) Global)) → IfSome blocks (λ b. AreBlocksAt told f.here f.within (IsEnd f.within) b.items) → IfSome blocks (λ b. AreBlocksNow told s groups v b.items)
+  pub volume_row_is : (blocks : Option (Vec (Bor (List ℕ)) Global)) → IfSome blocks (λ b. AreBlocksAt told f.here f.within (IsEnd f.within) b.items)
+      → IfSome blocks (λ b. AreBlocksNow told s groups v b.items)
   volume_row_is blocks is = some_map (λ b. AreBlocksAt told f.here f.within (IsEnd f.within) b.items) (λ b. AreBlocksNow told s groups v b.items) blocks is (λ b h. blocks_now b.items h)
 
-  pub image_row_is : (set : ℕ) (blocks : Option (Vec (Bor (List ℕ)) Global)) → IfSome blocks (λ b. AreBlocksAt told f.here f.within (IsPoint f.within set) b.items) → IfSome blocks (λ b. AreBlocksShown told s groups v set b.items)
+  pub image_row_is : (set : ℕ) (blocks : Option (Vec (Bor (List ℕ)) Global)) → IfSome blocks (λ b. AreBlocksAt told f.here f.within (IsPoint f.within set) b.items)
+      → IfSome blocks (λ b. AreBlocksShown told s groups v set b.items)
   image_row_is set blocks is =
       some_map (λ b. AreBlocksAt told f.here f.within (IsPoint f.within set) b.items) (λ b. AreBlocksShown told s groups v set b.items) blocks is (λ b h. blocks_shown set b.items h)
 
 module _ {D : Type 0} (told : D → Option (List (List ℕ))) (s : Plan) (groups : List (GroupValue D)) where
   -- ## digests
 
-  digest_of_row : (blocks : Option (Vec (Bor (List ℕ)) Global)) (digest : Option (List ℕ)) (v : ℕ) (set : Option ℕ) → IfSome blocks (λ b. AreBlocksOf told s groups v set b.items) → IsDigestIfLent blocks digest
+  digest_of_row : (blocks : Option (Vec (Bor (List ℕ)) Global)) (digest : Option (List ℕ)) (v : ℕ) (set : Option ℕ) → IfSome blocks (λ b. AreBlocksOf told s groups v set b.items)
+      → IsDigestIfLent blocks digest
       → IfSome digest (λ d. IsDigestOfRow told s groups v set d × (length d ≡ 32) × IsBytes d)
   digest_of_row (Some b) (Some d) v None h k = (λ tells hs are. k.0 ∙ ap (λ (bs : List (List ℕ)). sha256 (concat bs)) (h tells hs are), k.1, k.2)
   digest_of_row (Some b) (Some d) v (Some set) h k = (λ tells hs are p point. k.0 ∙ ap (λ (bs : List (List ℕ)). sha256 (concat bs)) (h tells hs are p point), k.1, k.2)

@@ -40,10 +40,12 @@ group_below s groups v g u place has = subst (λ (n : ℕ). n < length groups) (
 pub group_there : {D : Type 0} (s : Plan) (groups : List (GroupValue D)) (v g u : ℕ) → IsPlaceOf s v g u → HasGroups s groups → (x : GroupValue D) × (slice_get groups g ≡ Some x)
 group_there s groups v g u place has = slice_get_inside groups g (group_below s groups v g u place has)
 
-pub within_there : {D : Type 0} (s : Plan) (groups : List (GroupValue D)) (v g u : ℕ) (x : GroupValue D) → IsPlaceOf s v g u → HasGroups s groups → slice_get groups g ≡ Some x → u < length x.area.volumes
+pub within_there : {D : Type 0} (s : Plan) (groups : List (GroupValue D)) (v g u : ℕ) (x : GroupValue D) → IsPlaceOf s v g u → HasGroups s groups → slice_get groups g ≡ Some x
+    → u < length x.area.volumes
 within_there s groups v g u x place has at = subst (λ (ns : List ℕ). u < length ns) (sym (has.volumes g x at)) (place_within s v g u place)
 
-pub blocks_are : {D : Type 0} (s : Plan) (groups : List (GroupValue D)) (v g u : ℕ) (x : GroupValue D) → IsPlaceOf s v g u → HasGroups s groups → slice_get groups g ≡ Some x → blocks_at x u ≡ blocks_of s v
+pub blocks_are : {D : Type 0} (s : Plan) (groups : List (GroupValue D)) (v g u : ℕ) (x : GroupValue D) → IsPlaceOf s v g u → HasGroups s groups → slice_get groups g ≡ Some x
+    → blocks_at x u ≡ blocks_of s v
 blocks_are s groups v g u x place has at =
     ap (λ (ns : List ℕ). group_blocks_in (slice_get ns u)) (has.volumes g x at) ∙ ap group_blocks_in (blocks_there s v g u place) ∙ sym (ap plan_blocks_in place.is_row)
 

@@ -1,5 +1,5 @@
 -- Room is made in one group for a write: which images go of all volumes, and by which numbers they are told.
-use Rattle.std.proofs.Common.{◌≡◌, ℕ, zero, suc, ◌+◌, ◌<◌, ◌≤◌, ◌==◌, List, [], ◌∷◌, ◌++◌, length, refl, ap, sym, ◌∙◌, subst, arith, Bool, true, false, Option, Some, None, map, slice_get}
+use Rattle.std.proofs.Common.{◌≡◌, ℕ, zero, suc, ◌+◌, ◌≤◌, ◌==◌, List, [], ◌∷◌, ◌++◌, length, refl, ap, sym, ◌∙◌, subst, arith, Bool, true, false, Option, Some, map, slice_get}
 use Rattle.std.specs.Prelude.{◌&&◌, if◌then◌else◌}
 use Rattle.std.specs.List.{flat_map, range_with_len}
 use Rattle.std.proofs.lemmas.List.{map-append, length-map}
@@ -10,16 +10,16 @@ use Rattle.write_history.specs.History.{History, sets_of}
 use Rattle.write_history.specs.Slots.{Placed, evicted_of, gone_up_to, evicted_up_to}
 use Rattle.scenario.specs.declared.volume_row.VolumeRow.{VolumeRow}
 use Rattle.scenario.specs.Plan.{Plan, placed, placed_in, slots_of, slots_in, group_of}
-use Rattle.scenario.specs.Places.{of_group, of_group_if, place_in, blocks_in_group, volume_after, volume_in, IsPlaceOf}
+use Rattle.scenario.specs.Places.{of_group, of_group_if, place_in, blocks_in_group, volume_after, volume_in}
 use Rattle.vss_model.specs.State.{has_image}
 use Rattle.volume_device.specs.declared.device.Device.{Ghosts}
 use Rattle.cow_volume.specs.GroupValue.{GroupValue, placed as all_placed}
 use Rattle.cow_volume.specs.StandsFor.{StandsFor}
-use Rattle.cow_volume.specs.Calls.{IsEvicted, is_among, sets_at, made_room}
+use Rattle.cow_volume.specs.Calls.{IsEvicted, sets_at, made_room}
 use Rattle.cow_volume.specs.Changes.{gone_row}
 use Rattle.cow_volume.specs.Room.{HasRoom as HasGroupRoom, gone_group, lacks_slot, holders as group_holders, images_going as group_images}
 use Rattle.cow_volume.proofs.Group.{slice_get_inside}
-use Rattle.provider.specs.Groups.{AreGroups, HasGroups}
+use Rattle.provider.specs.Groups.{AreGroups}
 use Rattle.provider.specs.Devices.{IsKeptGroup}
 use Rattle.provider.specs.Calls.{IsLastSet, GoUpTo, HasRoom, IsRoomMade, holders, images_going, renumbered}
 use Rattle.provider.proofs.InGroup.{gone_in_group, gone_elsewhere, evicted_in_group}
@@ -99,7 +99,8 @@ flat_same h F G (n ∷ ns) same =
     ∙ ap (λ (xs : List Evicted). G n ++ xs) (flat_same h F G ns same)
     ∙ sym (flat_map-cons G n ns)
 
-images_are : (images : List (List ℕ)) (hs : List History) → length images ≡ length hs → ((u : ℕ) (is : List ℕ) (h : History) → slice_get images u ≡ Some is → slice_get hs u ≡ Some h → is ≡ sets h) → images ≡ map sets hs
+images_are : (images : List (List ℕ)) (hs : List History) → length images ≡ length hs
+    → ((u : ℕ) (is : List ℕ) (h : History) → slice_get images u ≡ Some is → slice_get hs u ≡ Some h → is ≡ sets h) → images ≡ map sets hs
 images_are [] [] long same = refl
 images_are [] (h ∷ hs) long same = absurd (omega arith)
 images_are (is ∷ images) [] long same = absurd (omega arith)
@@ -171,7 +172,8 @@ module _ {D : Type 0} (device : Ghosts D) {s : Plan} {old new : List (GroupValue
         each = same.each;
       })
 
-  pub room_of : (b up_to : ℕ) (gone : List Evicted) → HasGroupRoom device.told c.found.here c.after c.found.within b up_to → gone ≡ map (renumbered s c.found.group) (group_images up_to c.found.here.images)
+  pub room_of : (b up_to : ℕ) (gone : List Evicted) → HasGroupRoom device.told c.found.here c.after c.found.within b up_to
+      → gone ≡ map (renumbered s c.found.group) (group_images up_to c.found.here.images)
       → IsRoomMade device s old new v b gone up_to
   room_of b up_to gone room are_gone =
       let x = c.found.here in
@@ -202,7 +204,8 @@ module _ {D : Type 0} (device : Ghosts D) {s : Plan} {old new : List (GroupValue
       has_room = there (called_found device c (room_kept up_to room.left)) (λ x u. lacks_slot x.area.records u (sets_at x u) b ≡ false) room.enough
 
 -- a call on the same place asks for room there
-pub room_here : {D : Type 0} {s : Plan} {groups : List (GroupValue D)} {v : ℕ} (b : ℕ) (f : Found s groups v) → HasRoom s groups v b → lacks_slot f.here.area.records f.within (sets_at f.here f.within) b ≡ false
+pub room_here : {D : Type 0} {s : Plan} {groups : List (GroupValue D)} {v : ℕ} (b : ℕ) (f : Found s groups v) → HasRoom s groups v b
+    → lacks_slot f.here.area.records f.within (sets_at f.here f.within) b ≡ false
 room_here b f room = room f.group f.within f.here f.place f.at
 
 -- the group has no more volumes than the scenario

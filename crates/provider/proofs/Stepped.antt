@@ -1,5 +1,5 @@
 -- Steps that change nothing.
-use Rattle.std.proofs.Common.{◌≡◌, ◌⊎◌, inl, inr, ℕ, List, refl, Option, None}
+use Rattle.std.proofs.Common.{◌≡◌, ℕ, List, refl, Option, None}
 use Rattle.std.specs.Prelude.{◌≢◌}
 use Rattle.write_history.specs.History.{History}
 use Rattle.set_agenda.specs.declared.group.Group.{Group}

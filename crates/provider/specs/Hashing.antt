@@ -1,5 +1,5 @@
 -- What a digest of a volume, or of an image, of one group comes to. (This project's own.)
-use Rattle.std.specs.Prelude.{ℕ, ◌≡◌, Bool, true, false, List, length, ◌++◌, Option, Some, is_some, slice_get, Result, OnOk, IfOk, IfErr}
+use Rattle.std.specs.Prelude.{ℕ, ◌≡◌, true, false, List, length, ◌++◌, Option, Some, is_some, slice_get, Result, OnOk, IfOk, IfErr}
 use Rattle.std.specs.List.{concat}
 use Rattle.block_data.specs.Digest.{sha256}
 use Rattle.block_data.specs.Hashed.{HasTaken}

@@ -1,5 +1,5 @@
 -- Rows of blocks that devices lend, and their digests, against the histories of all volumes. (This project's own.)
-use Rattle.std.specs.Prelude.{ℕ, ◌≡◌, Bool, true, List, length, Option, Some, None, IfSome}
+use Rattle.std.specs.Prelude.{ℕ, ◌≡◌, true, List, length, Option, Some, None, IfSome}
 use Rattle.std.specs.Borrow.{Bor}
 use Rattle.hex.specs.Hex.{IsBytes}
 use Rattle.write_history.specs.History.{History, contents, point_in}

@@ -18,4 +18,5 @@ returns g c =
     let over = c.loop-group-test.false in
     let within = c.loop-group.auto.group-end in
     let many = c.len-group-end.ensures in
-    without_all g.D.Device c.args.groups.now.items c.loop-group.groups.items c.loop-group.group c.args.set c.loop-group.stood (omega (arith, over, within, many, c.args.groups.now.ok.0)) c.loop-group.invariant
+    without_all g.D.Device c.args.groups.now.items c.loop-group.groups.items c.loop-group.group c.args.set c.loop-group.stood (omega (arith, over, within, many, c.args.groups.now.ok.0))
+    c.loop-group.invariant

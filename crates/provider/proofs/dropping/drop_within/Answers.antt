@@ -24,4 +24,5 @@ returns g c =
     let over = c.loop-volume-test.false in
     let within = c.loop-volume.auto.volume-end in
     let many = c.volumes-volume-end.ensures.volumes in
-    dropped_all g.D.Device c.args.group.now c.loop-volume.group c.loop-volume.volume c.args.set c.loop-volume.stood (omega (arith, over, within, many)) (let few = c.volumes-volume-end.type_inv in omega (arith, within, few)) c.loop-volume.invariant
+    dropped_all g.D.Device c.args.group.now c.loop-volume.group c.loop-volume.volume c.args.set c.loop-volume.stood (omega (arith, over, within, many))
+    (let few = c.volumes-volume-end.type_inv in omega (arith, within, few)) c.loop-volume.invariant

@@ -13,7 +13,8 @@ returns-in-Ok-Some-clause-adds g c = record {
 
 pub returns-clause-adds : goal.returns-clause-adds
 returns-clause-adds g c =
-    let same : c.bytes.result.now ≡ c.read_image_into.new.out = c.bytes.ensures.bytes ∙ whole_written c.args.buffer.now c.read_image_into.new.out (c.read_image_into.auto.out ∙ ap length c.bytes_mut.ensures.bytes) in
+    let same : c.bytes.result.now ≡ c.read_image_into.new.out = c.bytes.ensures.bytes ∙ whole_written c.args.buffer.now c.read_image_into.new.out
+    (c.read_image_into.auto.out ∙ ap length c.bytes_mut.ensures.bytes) in
     record {
       bytes = c.bytes.result.now;
       is = subst (λ (bytes : List ℕ). IsShown g.D.Device.told c.args.group.now c.args.volume c.args.set c.args.block bytes) (sym same) c.in_ok-read_image_into.ensures.shown;

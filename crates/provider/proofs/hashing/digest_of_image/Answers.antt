@@ -6,7 +6,8 @@ use Rattle.provider.proofs.hashing.digest_of_image.Goals as goal
 
 pub loop-block-preserved : goal.loop-block-preserved
 loop-block-preserved g c =
-    hashed_more g.D.Device c.args.group.now c.loop-block.group c.add_shown.new.group c.args.volume (IsPoint c.args.volume c.args.set) c.loop-block.block c.loop-block.hasher c.add_shown.new.hasher c.loop-block.invariant c.in-Ok.ensures.adds c.in-Ok.ensures.same c.in-Ok.ensures.quiet
+    hashed_more g.D.Device c.args.group.now c.loop-block.group c.add_shown.new.group c.args.volume (IsPoint c.args.volume c.args.set) c.loop-block.block c.loop-block.hasher
+    c.add_shown.new.hasher c.loop-block.invariant c.in-Ok.ensures.adds c.in-Ok.ensures.same c.in-Ok.ensures.quiet
 
 pub returns-in-Err-clause-digest : goal.returns-in-Err-clause-digest
 returns-in-Err-clause-digest g c = record {

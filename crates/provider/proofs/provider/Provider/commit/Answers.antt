@@ -15,11 +15,13 @@ pub cut-requires-clause-volume : goal.cut-requires-clause-volume
 cut-requires-clause-volume g c = inside (found_by c.args.scenario.now c.args.volume c.index_mut.result.now c.self.view_is c.requires.has c.place-place.ensures c.index_mut.ensures.value)
 
 pub cut-requires-clause-room : goal.cut-requires-clause-room
-cut-requires-clause-room g c = room_of g.D.Device.told _ (found_by c.args.scenario.now c.args.volume c.index_mut.result.now c.self.view_is c.requires.has c.place-place.ensures c.index_mut.ensures.value)
+cut-requires-clause-room g c =
+    room_of g.D.Device.told _ (found_by c.args.scenario.now c.args.volume c.index_mut.result.now c.self.view_is c.requires.has c.place-place.ensures c.index_mut.ensures.value)
     (subst (λ (p : ProviderValue _). CanCutOn g.D.Device.told c.args.scenario.now p c.args.volume) (sym c.self.view_is) c.requires.can)
 
 pub cut-requires-clause-newest : goal.cut-requires-clause-newest
-cut-requires-clause-newest g c = newest_of g.D.Device.told _ (found_by c.args.scenario.now c.args.volume c.index_mut.result.now c.self.view_is c.requires.has c.place-place.ensures c.index_mut.ensures.value)
+cut-requires-clause-newest g c =
+    newest_of g.D.Device.told _ (found_by c.args.scenario.now c.args.volume c.index_mut.result.now c.self.view_is c.requires.has c.place-place.ensures c.index_mut.ensures.value)
     (subst (λ (p : ProviderValue _). CanCutOn g.D.Device.told c.args.scenario.now p c.args.volume) (sym c.self.view_is) c.requires.can)
 
 pub invariant_of-self : goal.invariant_of-self

@@ -16,20 +16,24 @@ digest_of-requires g c = inside (found_by c.args.scenario.now c.args.volume c.in
 
 pub invariant_of-self : goal.invariant_of-self
 invariant_of-self g c =
-    let now = called (found_by c.args.scenario.now c.args.volume c.index_mut-group.result.now c.self.view_is c.requires.has c.place-place.ensures c.index_mut-group.ensures.value) c.digest_of.new.group in
+    let now = called (found_by c.args.scenario.now c.args.volume c.index_mut-group.result.now c.self.view_is c.requires.has c.place-place.ensures c.index_mut-group.ensures.value)
+    c.digest_of.new.group in
     provider_kept g.D.Device _ _ c.self.inside.volumes c.self.inside.list (quiet_of g.D.Device now c.digest_of.ensures.digest.quiet).call.kept c.self.invariant
 
 pub returns-clause-digest : goal.returns-clause-digest
 returns-clause-digest g c =
-    let now = called (found_by c.args.scenario.now c.args.volume c.index_mut-group.result.now c.self.view_is c.requires.has c.place-place.ensures c.index_mut-group.ensures.value) c.digest_of.new.group in
+    let now = called (found_by c.args.scenario.now c.args.volume c.index_mut-group.result.now c.self.view_is c.requires.has c.place-place.ensures c.index_mut-group.ensures.value)
+    c.digest_of.new.group in
     rw (← c.self.view_is) (IfOk-weaker c.digest_of.result _ _ (digest_now_of g.D.Device.told now.found) c.digest_of.ensures.digest.digest)
 
 pub returns-clause-quiet : goal.returns-clause-quiet
 returns-clause-quiet g c =
-    let now = called (found_by c.args.scenario.now c.args.volume c.index_mut-group.result.now c.self.view_is c.requires.has c.place-place.ensures c.index_mut-group.ensures.value) c.digest_of.new.group in
+    let now = called (found_by c.args.scenario.now c.args.volume c.index_mut-group.result.now c.self.view_is c.requires.has c.place-place.ensures c.index_mut-group.ensures.value)
+    c.digest_of.new.group in
     rw (← c.self.view_is) (quiet_of g.D.Device now c.digest_of.ensures.digest.quiet)
 
 pub returns-clause-cause : goal.returns-clause-cause
 returns-clause-cause g c =
-    let now = called (found_by c.args.scenario.now c.args.volume c.index_mut-group.result.now c.self.view_is c.requires.has c.place-place.ensures c.index_mut-group.ensures.value) c.digest_of.new.group in
+    let now = called (found_by c.args.scenario.now c.args.volume c.index_mut-group.result.now c.self.view_is c.requires.has c.place-place.ensures c.index_mut-group.ensures.value)
+    c.digest_of.new.group in
     rw (← c.self.view_is) (cause_of g.D.Device.count now c.digest_of.result c.digest_of.ensures.digest.same c.digest_of.ensures.digest.rose)

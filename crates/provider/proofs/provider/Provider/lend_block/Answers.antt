@@ -5,7 +5,8 @@ pub lend_block-requires-clause-volume : goal.lend_block-requires-clause-volume
 lend_block-requires-clause-volume g c = inside (found_by c.args.scenario.now c.args.volume c.index.result.now c.self.view_is c.requires.has c.place-place.ensures c.index.ensures)
 
 pub lend_block-requires-clause-in_range : goal.lend_block-requires-clause-in_range
-lend_block-requires-clause-in_range g c = below (found_by c.args.scenario.now c.args.volume c.index.result.now c.self.view_is c.requires.has c.place-place.ensures c.index.ensures) c.args.block c.requires.block.1
+lend_block-requires-clause-in_range g c =
+    below (found_by c.args.scenario.now c.args.volume c.index.result.now c.self.view_is c.requires.has c.place-place.ensures c.index.ensures) c.args.block c.requires.block.1
 
 pub returns-clause-now : goal.returns-clause-now
 returns-clause-now g c =

@@ -13,10 +13,12 @@ index_mut-group-requires g c =
     omega (arith, low, c.self.inside.groups.ok.0)
 
 pub make_room-up_to-requires-clause-volume : goal.make_room-up_to-requires-clause-volume
-make_room-up_to-requires-clause-volume g c = inside (found_by c.args.scenario.now c.args.volume c.index_mut-group.result.now c.self.view_is c.requires.has c.place-place.ensures c.index_mut-group.ensures.value)
+make_room-up_to-requires-clause-volume g c =
+    inside (found_by c.args.scenario.now c.args.volume c.index_mut-group.result.now c.self.view_is c.requires.has c.place-place.ensures c.index_mut-group.ensures.value)
 
 pub make_room-up_to-requires-clause-in_range : goal.make_room-up_to-requires-clause-in_range
-make_room-up_to-requires-clause-in_range g c = below (found_by c.args.scenario.now c.args.volume c.index_mut-group.result.now c.self.view_is c.requires.has c.place-place.ensures c.index_mut-group.ensures.value) c.args.block c.requires.block.1
+make_room-up_to-requires-clause-in_range g c =
+    below (found_by c.args.scenario.now c.args.volume c.index_mut-group.result.now c.self.view_is c.requires.has c.place-place.ensures c.index_mut-group.ensures.value) c.args.block c.requires.block.1
 
 pub make_room-up_to-requires-clause-space : goal.make_room-up_to-requires-clause-space
 make_room-up_to-requires-clause-space g c =
@@ -27,11 +29,15 @@ make_room-up_to-requires-clause-space g c =
 
 pub invariant_of-self : goal.invariant_of-self
 invariant_of-self g c =
-    let now = called (found_by c.args.scenario.now c.args.volume c.index_mut-group.result.now c.self.view_is c.requires.has c.place-place.ensures c.index_mut-group.ensures.value) c.make_room-up_to.new.self in
-    provider_kept g.D.Device _ _ c.self.inside.volumes c.self.inside.list (room_of g.D.Device now c.args.block c.make_room-up_to.result c.renumber.new.images.items c.make_room-up_to.ensures.room (c.renumber.ensures.told ∙ ap (map (renumbered c.args.scenario.now _)) c.make_room-up_to.ensures.told)).call.kept c.self.invariant
+    let now = called (found_by c.args.scenario.now c.args.volume c.index_mut-group.result.now c.self.view_is c.requires.has c.place-place.ensures c.index_mut-group.ensures.value)
+    c.make_room-up_to.new.self in
+    provider_kept g.D.Device _ _ c.self.inside.volumes c.self.inside.list
+    (room_of g.D.Device now c.args.block c.make_room-up_to.result c.renumber.new.images.items c.make_room-up_to.ensures.room
+    (c.renumber.ensures.told ∙ ap (map (renumbered c.args.scenario.now _)) c.make_room-up_to.ensures.told)).call.kept c.self.invariant
 
 pub returns-clause-room : goal.returns-clause-room
 returns-clause-room g c =
-    let now = called (found_by c.args.scenario.now c.args.volume c.index_mut-group.result.now c.self.view_is c.requires.has c.place-place.ensures c.index_mut-group.ensures.value) c.make_room-up_to.new.self in
+    let now = called (found_by c.args.scenario.now c.args.volume c.index_mut-group.result.now c.self.view_is c.requires.has c.place-place.ensures c.index_mut-group.ensures.value)
+    c.make_room-up_to.new.self in
     rw (← c.self.view_is) (room_of g.D.Device now c.args.block c.make_room-up_to.result c.renumber.new.images.items c.make_room-up_to.ensures.room
     (c.renumber.ensures.told ∙ ap (map (renumbered c.args.scenario.now _)) c.make_room-up_to.ensures.told))

@@ -18,7 +18,8 @@ pub put-requires-clause-volume : goal.put-requires-clause-volume
 put-requires-clause-volume g c = inside (found_by c.args.scenario.now c.args.volume c.index_mut.result.now c.self.view_is c.requires.has c.place-place.ensures c.index_mut.ensures.value)
 
 pub put-requires-clause-in_range : goal.put-requires-clause-in_range
-put-requires-clause-in_range g c = below (found_by c.args.scenario.now c.args.volume c.index_mut.result.now c.self.view_is c.requires.has c.place-place.ensures c.index_mut.ensures.value) c.args.block c.requires.block.1
+put-requires-clause-in_range g c =
+    below (found_by c.args.scenario.now c.args.volume c.index_mut.result.now c.self.view_is c.requires.has c.place-place.ensures c.index_mut.ensures.value) c.args.block c.requires.block.1
 
 pub put-requires-clause-room : goal.put-requires-clause-room
 put-requires-clause-room g c = room_here c.args.block (found_by c.args.scenario.now c.args.volume c.index_mut.result.now c.self.view_is c.requires.has c.place-place.ensures c.index_mut.ensures.value)
@@ -27,7 +28,8 @@ put-requires-clause-room g c = room_here c.args.block (found_by c.args.scenario.
 pub invariant_of-self : goal.invariant_of-self
 invariant_of-self g c =
     let now = called (found_by c.args.scenario.now c.args.volume c.index_mut.result.now c.self.view_is c.requires.has c.place-place.ensures c.index_mut.ensures.value) c.put.new.self in
-    provider_kept g.D.Device _ _ c.self.inside.volumes c.self.inside.list (put_of g.D.Device now (record { block = c.args.block; bytes = payload_bytes c.args.payload.now }) c.put.result c.put.ensures.put).call.kept c.self.invariant
+    provider_kept g.D.Device _ _ c.self.inside.volumes c.self.inside.list
+    (put_of g.D.Device now (record { block = c.args.block; bytes = payload_bytes c.args.payload.now }) c.put.result c.put.ensures.put).call.kept c.self.invariant
 
 pub returns-clause-put : goal.returns-clause-put
 returns-clause-put g c =

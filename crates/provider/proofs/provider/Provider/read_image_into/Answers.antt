@@ -33,4 +33,5 @@ pub returns-clause-cause : goal.returns-clause-cause
 returns-clause-cause g c =
     let now = called (found_by c.args.scenario.now c.args.volume c.index_mut.result.now c.self.view_is c.requires.has c.place-place.ensures c.index_mut.ensures.value) c.read_image_into.new.self in
     rw (← c.self.view_is) (image_read_cause g.D.Device now c.args.set c.read_image_into.result c.read_image_into.ensures.image c.read_image_into.ensures.same
-    (IfErr-weaker c.read_image_into.result _ _ (by_fault g.D.Device.count _ c.args.set c.args.block now.found.here now.after (below now.found c.args.block c.requires.block.1)) c.read_image_into.ensures.cause))
+    (IfErr-weaker c.read_image_into.result _ _ (by_fault g.D.Device.count _ c.args.set c.args.block now.found.here now.after (below now.found c.args.block c.requires.block.1))
+    c.read_image_into.ensures.cause))

@@ -2,7 +2,6 @@ use Rattle.std.proofs.Common.{ap, arith, length}
 use Rattle.provider.specs.Preparing.{ProviderValue}
 use Rattle.cow_volume.proofs.DeviceCalls.{device_read}
 use Rattle.provider.proofs.Keeping.{provider_kept}
-use Rattle.provider.proofs.Found.{inside_has}
 use Rattle.provider.proofs.Ended.{sync_cause, sync_lasts, sync_of}
 use Rattle.provider.proofs.provider.Provider.sync.Goals as goal
 
@@ -10,7 +9,8 @@ pub invariant_of-self : goal.invariant_of-self
 invariant_of-self g c =
     let low = ap (λ (p : ProviderValue _). length p.groups) c.self.view_is in
     let at = device_read c.self.inside.groups.items c.args.group c.index_mut.result.now (omega (arith, low, c.requires)) c.index_mut.ensures.value in
-    provider_kept g.D.Device _ _ c.self.inside.volumes c.self.inside.list (sync_of g.D.Device c.self.inside.groups.items c.args.group c.index_mut.result.now c.sync.new.self at c.sync.result c.sync.ensures.sync).kept c.self.invariant
+    provider_kept g.D.Device _ _ c.self.inside.volumes c.self.inside.list
+    (sync_of g.D.Device c.self.inside.groups.items c.args.group c.index_mut.result.now c.sync.new.self at c.sync.result c.sync.ensures.sync).kept c.self.invariant
 
 pub returns-clause-synced : goal.returns-clause-synced
 returns-clause-synced g c =

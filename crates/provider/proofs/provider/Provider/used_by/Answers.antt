@@ -5,4 +5,6 @@ pub used_by-requires : goal.used_by-requires
 used_by-requires g c = inside (found_by c.args.scenario.now c.args.volume c.index.result.now c.self.view_is c.requires.has c.place-place.ensures c.index.ensures)
 
 pub returns : goal.returns
-returns g c = rw (← c.self.view_is) (used_by_of g.D.Device.told (found_by c.args.scenario.now c.args.volume c.index.result.now c.self.view_is c.requires.has c.place-place.ensures c.index.ensures) c.args.set c.used_by.result c.used_by.ensures)
+returns g c =
+    rw (← c.self.view_is) (used_by_of g.D.Device.told (found_by c.args.scenario.now c.args.volume c.index.result.now c.self.view_is c.requires.has c.place-place.ensures c.index.ensures)
+    c.args.set c.used_by.result c.used_by.ensures)
