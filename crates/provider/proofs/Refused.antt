@@ -55,7 +55,8 @@ joined v vs n e = (first (is_among v vs) refl, second)
 
     first : (t : Bool) → is_among v vs ≡ t → is_among v vs ≡ false
     first true is =
-        absurd (some_none (sym (ap (λ (b : Bool). if b then Some ObjectAlreadyExists else if nat_le 64 (length vs) then Some MaximumNumberOfVolumesReached else if nat_le 512 n then Some MaximumNumberOfSnapshotsReached else None) is) ∙ e))
+        absurd (some_none (sym (ap (λ (b : Bool). if b then Some ObjectAlreadyExists
+        else if nat_le 64 (length vs) then Some MaximumNumberOfVolumesReached else if nat_le 512 n then Some MaximumNumberOfSnapshotsReached else None) is) ∙ e))
       where
         some_none : Some ObjectAlreadyExists ≡ None → ⊥
         some_none q = cc
