@@ -52,7 +52,7 @@ quiet_runs false e = refl
 
 -- ## complete and snapshot
 
-pub completes : (s : Plan) (lane : ℕ) (old new : SessionsValue) (h : Held) (st : State) (m : SessionMove) → check_other st.session (runs st) lane call.Complete ≡ Go → IsInOrder st → Keeps old st → HasBegun kind.Complete h old new m → ComesTo s lane op.Complete st new m
+pub completes : (s : Plan) (lane : ℕ) (old new : SessionsValue) (h : Held) (st : State) (m : SessionMove) → check_other st.session (runs st) lane call.Complete ≡ Go → IsInOrder st → Keeps old st → HasBegun kind.Complete h [] old new m → ComesTo s lane op.Complete st new m
 completes s lane old new h st m goes order kept has =
     let owner = owners st.session (runs st) lane call.Complete goes in
     pends s lane op.Complete st new m _ (line_of s lane op.Complete st owner.session owner.is) (has st _ order kept refl)
@@ -66,7 +66,7 @@ if_refused true x y e = refl
 if_refused false x y e = cc
 
 pub snapshots : (s : Plan) (lane : ℕ) (old new : SessionsValue) (h : Held) (st : State) (m : SessionMove) → check_other st.session (runs st) lane call.Snapshot ≡ Go → IsInOrder st → Keeps old st → has_no_volume (in_progress st) ≡ false
-    → HasBegun kind.Snapshot h old new m → ComesTo s lane op.Snapshot st new m
+    → HasBegun kind.Snapshot h (volumes_of (in_progress st)) old new m → ComesTo s lane op.Snapshot st new m
 snapshots s lane old new h st m goes order kept some has =
     let owner = owners st.session (runs st) lane call.Snapshot goes in
     pends s lane op.Snapshot st new m _ (line_of s lane op.Snapshot st owner.session owner.is ∙ if_pending (has_no_volume (in_progress st)) _ _ some) (has st _ order kept refl)
@@ -114,7 +114,7 @@ gathered_same x s st kept of =
     in_rows : (w : ℕ) → w < 0 + length st.course.rows → w < writer_count x.coordinator
     in_rows w l = let same : writer_count x.coordinator ≡ length st.course.rows = ap length kept.course.follows.rows in omega (arith, l, same)
 
-pub gathers : (s : Plan) (lane : ℕ) (old new : SessionsValue) (h : Held) (st : State) (m : SessionMove) → check_other st.session (runs st) lane call.Gather ≡ Go → IsInOrder st → Keeps old st → IsOf old s → HasBegun kind.Gather h old new m → ComesTo s lane op.Gather st new m
+pub gathers : (s : Plan) (lane : ℕ) (old new : SessionsValue) (h : Held) (st : State) (m : SessionMove) → check_other st.session (runs st) lane call.Gather ≡ Go → IsInOrder st → Keeps old st → IsOf old s → HasBegun kind.Gather h [] old new m → ComesTo s lane op.Gather st new m
 gathers s lane old new h st m goes order kept of has =
     let owner = owners st.session (runs st) lane call.Gather goes in
     pends s lane op.Gather st new m _ (line_of s lane op.Gather st owner.session owner.is) (has st _ order kept (sym (gathered_same old s st kept of)))

@@ -18,12 +18,11 @@ use Rattle.vss_model.specs.declared.event.Event.TheVariants.{Line, Idle}
 use Rattle.vss_model.specs.declared.told.Told.{Told}
 use Rattle.vss_model.specs.declared.told.Told.TheVariants as told
 use Rattle.vss_model.specs.Reply.{Fine, Idled}
-use Rattle.vss_model.specs.State.{State, in_progress, left_now}
+use Rattle.vss_model.specs.State.{State, left_now}
 use Rattle.vss_model.specs.Ending.{runs, followed}
 use Rattle.vss_model.specs.Steps.{later, ticked}
 use Rattle.vss_model.specs.Acts.{idle_now, line_allows, flush_allows}
 use Rattle.vss_model.specs.Effects.{lost_after, lost_order_if}
-use Rattle.vss_model.specs.Sessions.{volumes_of}
 use Rattle.vss_model.specs.Told.{mark_of}
 use Rattle.sessions.specs.declared.ended.Ended.{Ended}
 use Rattle.sessions.specs.declared.session_move.SessionMove.{SessionMove}
@@ -42,10 +41,9 @@ begun_so new st c e m is kept tells = subst (λ (x : SessionMove). (x.outcome.to
     (refl, record { lost = refl; order = refl }, came_to new e st (followed true c st) (told.Result AsyncPending) 0 None kept tells)
 
 -- what begins in what was kept is what begins in the state
-pub begun_same : (old : SessionsValue) (st : State) (kind : Kind) (h : Held) (vs : List ℕ) (now : ℕ) (c : Course) → vs ≡ volumes_of (in_progress st) → now ≡ st.clock
-    → c ≡ begun_as kind old.coordinator.writers h (volumes_of (in_progress st)) st.clock st.course → begun_as kind old.coordinator.writers h vs now st.course ≡ c
-begun_same old st kind h vs now c volumes clock is =
-    ap (λ (us : List ℕ). begun_as kind old.coordinator.writers h us now st.course) volumes ∙ ap (λ (n : ℕ). begun_as kind old.coordinator.writers h (volumes_of (in_progress st)) n st.course) clock ∙ sym is
+pub begun_same : (old : SessionsValue) (st : State) (kind : Kind) (h : Held) (vs : List ℕ) (now : ℕ) (c : Course) → now ≡ st.clock → c ≡ begun_as kind old.coordinator.writers h vs st.clock st.course
+    → begun_as kind old.coordinator.writers h vs now st.course ≡ c
+begun_same old st kind h vs now c clock is = ap (λ (n : ℕ). begun_as kind old.coordinator.writers h vs n st.course) clock ∙ sym is
 
 -- ## time goes by
 

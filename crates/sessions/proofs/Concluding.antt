@@ -12,9 +12,10 @@ use Rattle.coordinator.specs.Effects.{outcome_told}
 use Rattle.vss_model.specs.State.{State, SetRow, is_running, in_progress}
 use Rattle.vss_model.specs.Ending.{Ending, AgendaEnds, NothingEnds, SetFails, ending, row_settled, followed, concluded, failed_in}
 use Rattle.vss_model.specs.Facts.{OverButNewest, IsOfSession, has_failed}
-use Rattle.sessions.specs.Sets.{current_of}
+use Rattle.sessions.specs.Sets.{bare, current_of}
 use Rattle.sessions.specs.Keeps.{SessionsValue, Keeps, IsInOrder}
 use Rattle.sessions.specs.Concluded.{IsConcluded, ended_so}
+use Rattle.sessions.proofs.Newest.{current_bare, settled_bare}
 
 -- ## rows
 
@@ -59,6 +60,9 @@ settled_none o [] e = refl
 settled_none o (r ∷ rows) e =
     ap (λ (x : SetRow). x ∷ map (row_settled o) rows) (unsettled_if (is_running r.result) o r refl (none_head (is_running r.result) r _ e))
     ∙ ap (λ (xs : List SetRow). r ∷ xs) (settled_none o rows (none_tail (is_running r.result) r _ e))
+
+pub current_kept : (x : SessionsValue) (st : State) → Keeps x st → current_of x.sets ≡ current_of st.sets
+current_kept x st kept = ap current_of kept.sets ∙ current_bare st.sets
 
 -- ## the end of an agenda
 
@@ -143,7 +147,7 @@ module _ (old : SessionsValue) (st : State) (c : Course) (ran : Bool) (order : I
     session = ap (option_map (set_failed why)) kept.session;
     made = kept.made ∙ sym (length_map (row_settled c.outcome) st.sets);
     course = kept.course;
-    sets = ap (map (row_settled (Failed why))) kept.sets ∙ ap (λ (o : SetOutcome). map (row_settled o) st.sets) (sym e);
+    sets = ap (map (row_settled (Failed why))) kept.sets ∙ settled_bare (Failed why) st.sets ∙ ap (λ (o : SetOutcome). map bare (map (row_settled o) st.sets)) (sym e);
     clock = kept.clock;
     explicit = kept.explicit;
     over = kept.over;
@@ -156,7 +160,7 @@ module _ (old : SessionsValue) (st : State) (c : Course) (ran : Bool) (order : I
     session = ap (option_map (ended o)) kept.session ∙ session_ended o st.session e;
     made = kept.made ∙ sym (length_map (row_settled c.outcome) st.sets);
     course = kept.course;
-    sets = ap (map (row_settled o)) kept.sets ∙ rows;
+    sets = ap (map (row_settled o)) kept.sets ∙ settled_bare o st.sets ∙ ap (map bare) rows;
     clock = kept.clock;
     explicit = kept.explicit;
     over = kept.over;

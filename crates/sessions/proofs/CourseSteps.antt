@@ -32,13 +32,13 @@ use Rattle.vss_model.specs.Told.{mark_if, mark_of}
 use Rattle.vss_model.proofs.Orderly.{IsSameRow, numbered-map, newest-map, find-map}
 use Rattle.sessions.specs.declared.ended.Ended.{Ended}
 use Rattle.sessions.specs.declared.session_move.SessionMove.{SessionMove}
-use Rattle.sessions.specs.Sets.{running_changed}
+use Rattle.sessions.specs.Sets.{bare, running_changed}
 use Rattle.sessions.specs.Keeps.{SessionsValue, Keeps, IsInOrder}
 use Rattle.sessions.specs.Concluded.{IsTold}
 use Rattle.sessions.specs.Told.{told_of, told_with}
 use Rattle.sessions.specs.Moves.{CameFrom, CameTo, LosesNobody, is_cut, stepped_volumes, volumes_by_step}
 use Rattle.sessions.proofs.Moving.{Happens, nobody}
-use Rattle.sessions.proofs.Newest.{changed_by_number, changed_none}
+use Rattle.sessions.proofs.Newest.{changed_bare, changed_by_number, changed_none}
 
 -- ## what ends is told, and its images go where it failed
 
@@ -147,8 +147,8 @@ set_cut x st r now found clock order kept = record {
   session = kept.session;
   made = kept.made ∙ sym (length_map (row_cut r.number st.clock) st.sets);
   course = kept.course;
-  sets = ap (λ (rows : List SetRow). map (running_changed (with_cut now)) rows) kept.sets ∙ ap (λ (t : ℕ). map (running_changed (with_cut t)) st.sets) clock
-      ∙ changed_by_number (with_cut st.clock) 1 st.sets r order.numbered order.newest found;
+  sets = ap (map (running_changed (with_cut now))) kept.sets ∙ changed_bare (with_cut now) (λ q. refl) st.sets
+      ∙ ap (map bare) (ap (λ (t : ℕ). map (running_changed (with_cut t)) st.sets) clock ∙ changed_by_number (with_cut st.clock) 1 st.sets r order.numbered order.newest found);
   clock = kept.clock;
   explicit = kept.explicit;
   over = kept.over;
@@ -162,7 +162,7 @@ set_in x st None now e clock order kept = record {
   session = kept.session;
   made = kept.made;
   course = kept.course;
-  sets = ap (map (running_changed (with_cut now))) kept.sets ∙ changed_none (with_cut now) st.sets e;
+  sets = ap (map (running_changed (with_cut now))) kept.sets ∙ changed_bare (with_cut now) (λ q. refl) st.sets ∙ ap (map bare) (changed_none (with_cut now) st.sets e);
   clock = kept.clock;
   explicit = kept.explicit;
   over = kept.over;

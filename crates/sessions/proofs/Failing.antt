@@ -13,7 +13,7 @@ use Rattle.vss_model.specs.Facts.{IsOfSession}
 use Rattle.sessions.specs.Sets.{current_of}
 use Rattle.sessions.specs.Keeps.{SessionsValue, Keeps, IsInOrder}
 use Rattle.sessions.specs.Concluded.{ended_so}
-use Rattle.sessions.proofs.Concluding.{failed_keeps}
+use Rattle.sessions.proofs.Concluding.{current_kept, failed_keeps}
 use Rattle.sessions.proofs.Disabled.{disabled_failed, known_still}
 
 -- the coordinator goes on, the rest stays
@@ -55,7 +55,7 @@ pub fails_in : (old : SessionsValue) (k : CoordinatorState) (st : State) (why : 
     → Stands k (failed_if_running st.course.outcome why st.course) → writer_count k ≡ writer_count old.coordinator → IsOnTime old.clock k
     → Keeps (ended_so (Failed why) (with_coordinator k old)) (failed_in (in_progress st) why st)
 fails_in old k st why n order kept current stands count times =
-    let here = current_row (in_progress st) n (current ∙ ap current_of kept.sets) in
+    let here = current_row (in_progress st) n (current ∙ current_kept old st kept) in
     let running : st.course.outcome ≡ Running = running_outcome st.session st.course.outcome here.row (subst (IsOfSession st.session st.course.outcome) here.found order.session) in
     let fails : Stands k (course_failed why st.course) = subst (λ (o : SetOutcome). Stands k (failed_if_running o why st.course)) running stands in
     subst (λ (o : Option SetRow). Keeps (ended_so (Failed why) (with_coordinator k old)) (failed_in o why st)) (sym here.found)

@@ -37,7 +37,7 @@ use Rattle.scenario.specs.Bounds.{IsWriter}
 use Rattle.vss_model.specs.declared.told.Told.TheVariants as told
 use Rattle.vss_model.specs.State.{State, in_progress}
 use Rattle.vss_model.specs.Ending.{runs}
-use Rattle.vss_model.specs.Sessions.{line_in, component_in, named_as, is_disabled, has_failed_identify, is_identify_failure, is_known, meta_if, known_from, known_metas, selected, selected_in, has_no_volume, volumes_of}
+use Rattle.vss_model.specs.Sessions.{line_in, component_in, named_as, is_disabled, has_failed_identify, is_identify_failure, is_known, meta_if, known_from, known_metas, selected, selected_in, has_no_volume}
 use Rattle.sessions.specs.declared.session_move.SessionMove.{SessionMove}
 use Rattle.sessions.specs.Keeps.{SessionsValue, Keeps, IsInOrder, IsOf, IsAt}
 use Rattle.sessions.specs.Told.{told_alone, told_named}
@@ -162,10 +162,10 @@ mode_at x st q b c kept is e f = ap takes_all_of (sym (kept.session ∙ is)) ∙
 
 pub prepares : (s : Plan) (lane : ℕ) (old new : SessionsValue) (h : Held) (sel : Selected) (st : State) (m : SessionMove) → check_other st.session (runs st) lane call.Prepare ≡ Go → IsAt old s st
     → has_no_volume (in_progress st) ≡ false → h.writers ≡ writer_count old.coordinator → h.selected ≡ sel → IsSelectedOver (known_metas s st) sel
-    → ((q : Session) → st.session ≡ Some q → selected s q st ≡ sel) → HasBegun kind.Prepare h old new m → ComesTo s lane op.Prepare st new m
-prepares s lane old new h sel st m goes at some writers is over takes has =
+    → ((q : Session) → st.session ≡ Some q → selected s q st ≡ sel) → (vs : List ℕ) → HasBegun kind.Prepare h vs old new m → ComesTo s lane op.Prepare st new m
+prepares s lane old new h sel st m goes at some writers is over takes vs has =
     let owner = owners st.session (runs st) lane call.Prepare goes in
-    let same : prepared (takers (length s.writers) (selected s owner.session st)) st.clock st.course ≡ begun_as kind.Prepare old.coordinator.writers h (volumes_of (in_progress st)) st.clock st.course =
+    let same : prepared (takers (length s.writers) (selected s owner.session st)) st.clock st.course ≡ begun_as kind.Prepare old.coordinator.writers h vs st.clock st.course =
     ap (λ (x : Selected). prepared (takers (length s.writers) x) st.clock st.course) (takes owner.session owner.is)
     ∙ ap (λ (ts : List ℕ). prepared ts st.clock st.course) (sym (enabled_takers old s st sel (length s.writers) at.keeps at.of over))
     ∙ ap (λ (n : ℕ). prepared (enabled old.coordinator.writers st.course.disabled (takers n sel)) st.clock st.course) (sym at.of.count ∙ sym writers)

@@ -1,4 +1,3 @@
-pub mod Volumes
 pub mod Newest
 pub mod Concluding
 pub mod Telling
@@ -9,4 +8,5 @@ pub mod CourseSteps
 pub mod Beginning
 pub mod Lines
 pub mod AgendaLines
+pub mod Adding
 pub mod Knowing

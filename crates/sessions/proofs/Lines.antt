@@ -29,23 +29,23 @@ use Rattle.vss_model.specs.declared.outcome.Outcome.{Outcome}
 use Rattle.vss_model.specs.declared.told.Told.{Told}
 use Rattle.vss_model.specs.declared.told.Told.TheVariants as told
 use Rattle.vss_model.specs.Reply.{Reply, Fine, Coded, Numbered, StatusOf}
-use Rattle.vss_model.specs.State.{State, SetRow, in_progress, is_running, row_changed, history_of}
+use Rattle.vss_model.specs.State.{State, SetRow, in_progress, is_running}
 use Rattle.vss_model.specs.Ending.{runs, failed}
 use Rattle.vss_model.specs.Effects.{ended_of}
 use Rattle.vss_model.specs.Facts.{IsOfSession}
-use Rattle.vss_model.specs.Sessions.{line_in, session_line, begin_in, start_set, new_set, new_number, add, add_to, add_refusal, with_volume, change_set, images_released, closed, await_last}
+use Rattle.vss_model.specs.Sessions.{line_in, session_line, begin_in, start_set, new_set, new_number, images_released, closed, await_last}
 use Rattle.vss_model.specs.Outcome.{HasLists, EndsAs}
 use Rattle.vss_model.specs.Told.{Fits, mark_of}
 use Rattle.sessions.specs.declared.ended.Ended.{Ended}
 use Rattle.sessions.specs.declared.session_move.SessionMove.{SessionMove}
-use Rattle.sessions.specs.Sets.{running_in, running_changed, refusal_of}
+use Rattle.sessions.specs.Sets.{bare}
 use Rattle.sessions.specs.Keeps.{SessionsValue, Keeps, IsInOrder}
 use Rattle.sessions.specs.Concluded.{IsTold, failed_set, without_images}
 use Rattle.sessions.specs.Told.{told_alone, told_with, released_by}
 use Rattle.sessions.specs.Moves.{CameTo, ComesTo}
 use Rattle.sessions.proofs.Telling.{ends_none}
 use Rattle.sessions.proofs.CourseSteps.{came_to}
-use Rattle.sessions.proofs.Newest.{changed_by_number}
+use Rattle.sessions.proofs.Newest.{append_bare}
 
 -- ## who calls
 
@@ -167,7 +167,8 @@ starts s lane st x y m number context goes order kept made at is new =
       session = ap (option_map (started (x.requestor.sets_made + 1))) (kept.session ∙ owner.is) ∙ ap (λ (n : ℕ). Some (started n q)) (ap (λ (n : ℕ). n + 1) kept.made);
       made = ap (λ (n : ℕ). n + 1) kept.made ∙ sym (length_more st.sets (new_set (new_number st) q.context));
       course = kept.course;
-      sets = ap (λ (rows : List SetRow). rows ++ new_set number context ∷ []) kept.sets ∙ ap (λ (n : ℕ). st.sets ++ new_set n context ∷ []) counted ∙ ap (λ (c : Context). st.sets ++ new_set (new_number st) c ∷ []) same;
+      sets = ap (λ (rows : List SetRow). rows ++ new_set number context ∷ []) kept.sets ∙ ap (λ (n : ℕ). map bare st.sets ++ new_set n context ∷ []) counted
+          ∙ ap (λ (c : Context). map bare st.sets ++ new_set (new_number st) c ∷ []) same ∙ sym (append_bare st.sets (new_set (new_number st) q.context));
       clock = kept.clock;
       explicit = kept.explicit;
       over = kept.over;
@@ -175,87 +176,6 @@ starts s lane st x y m number context goes order kept made at is new =
       disabled = kept.disabled;
     })
     (subst (λ (o : Option SetRow). EndsAs (ended_of o (st.sets ++ new_set (new_number st) q.context ∷ [])) 0 Running) (sym none) refl) refl)
-
--- ## add
-
-refusal_same : (v images : ℕ) (r : SetRow) (st : State) → length (history_of st v).images ≡ images → refusal_of v images (Some r) ≡ add_refusal v r st
-refusal_same v images r st e = ap (λ (n : ℕ). refusal_of v n (Some r)) (sym e)
-
-add_refused : (v images : ℕ) (o : Option SetRow) (st : State) (why : VssResult) → length (history_of st v).images ≡ images → refusal_of v images o ≡ Some why → add v o st ≡ (Coded why, st)
-add_refused v images None st why e h = let same : BadState ≡ why = cc in ap (λ (w : VssResult). (Coded w, st)) same
-add_refused v images (Some r) st why e h = ap (λ (x : Option VssResult). add_to v r x st) (sym (refusal_same v images r st e) ∙ h)
-
-add_made : (v images : ℕ) (r : SetRow) (st : State) → length (history_of st v).images ≡ images → refusal_of v images (Some r) ≡ None → add v (Some r) st ≡ (Fine, change_set r.number (with_volume v) st)
-add_made v images r st e h = ap (λ (x : Option VssResult). add_to v r x st) (sym (refusal_same v images r st e) ∙ h)
-
-pub adds_not : (s : Plan) (lane v images : ℕ) (st : State) (x : SessionsValue) (m : SessionMove) (why : VssResult) → check_other st.session (runs st) lane call.Add ≡ Go → IsInOrder st → Keeps x st → length (history_of st v).images ≡ images
-    → refusal_of v images (running_in x.sets) ≡ Some why → m ≡ told_alone (told.Result why) → ComesTo s lane (op.Add v) st x m
-adds_not s lane v images st x m why goes order kept stand refused is =
-    let owner = owners st.session (runs st) lane call.Add goes in
-    refuses s lane (op.Add v) st x m why is
-    (line_of s lane (op.Add v) st owner.session owner.is ∙ add_refused v images (in_progress st) st why stand (ap (λ (rows : List SetRow). refusal_of v images (running_in rows)) (sym kept.sets) ∙ refused)) order kept
-
-length_changed : (f : SetRow → SetRow) (rows : List SetRow) → length (map f rows) ≡ length rows
-length_changed f [] = refl
-length_changed f (r ∷ rows) = ap (λ n. suc n) (length_changed f rows)
-
--- no set ends by a change that keeps numbers and results
-none_ends : (f : SetRow → SetRow) → ((r : SetRow) → (f r).number ≡ r.number) → ((r : SetRow) → (f r).result ≡ r.result) → (o : Option SetRow) (rows : List SetRow) → EndsAs (ended_of o rows) 0 Running → EndsAs (ended_of o (map f rows)) 0 Running
-none_ends f number result None rows h = h
-none_ends f number result (Some r) rows h = by_found (found rows) h
-  where
-    same_test : (q : SetRow) → (((f q).number == r.number) && not (is_running (f q).result)) ≡ ((q.number == r.number) && not (is_running q.result))
-    same_test q = ap (λ (n : ℕ). (n == r.number) && not (is_running (f q).result)) (number q) ∙ ap (λ (o : SetOutcome). (q.number == r.number) && not (is_running o)) (result q)
-
-    first : (b : Bool) (q : SetRow) (x : Option SetRow) → option_map f (if b then Some q else x) ≡ (if b then Some (f q) else option_map f x)
-    first true q x = refl
-    first false q x = refl
-
-    found : (rows : List SetRow) → find (λ (q : SetRow). (q.number == r.number) && not (is_running q.result)) (map f rows) ≡ option_map f (find (λ (q : SetRow). (q.number == r.number) && not (is_running q.result)) rows)
-    found [] = refl
-    found (q ∷ rows) =
-        ap (λ (b : Bool). if b then Some (f q) else find (λ (p : SetRow). (p.number == r.number) && not (is_running p.result)) (map f rows)) (same_test q)
-        ∙ ap (λ (x : Option SetRow). if (q.number == r.number) && not (is_running q.result) then Some (f q) else x) (found rows)
-        ∙ sym (first ((q.number == r.number) && not (is_running q.result)) q (find (λ (p : SetRow). (p.number == r.number) && not (is_running p.result)) rows))
-
-    ends_in : (x : Option SetRow) → EndsAs x 0 Running → EndsAs (option_map f x) 0 Running
-    ends_in None h = h
-    ends_in (Some q) h = absurd (let l : 0 < 0 = h.2 in omega (arith, l))
-
-    by_found : find (λ (q : SetRow). (q.number == r.number) && not (is_running q.result)) (map f rows) ≡ option_map f (find (λ (q : SetRow). (q.number == r.number) && not (is_running q.result)) rows)
-        → EndsAs (find (λ (q : SetRow). (q.number == r.number) && not (is_running q.result)) rows) 0 Running → EndsAs (find (λ (q : SetRow). (q.number == r.number) && not (is_running q.result)) (map f rows)) 0 Running
-    by_found e h = subst (λ (x : Option SetRow). EndsAs x 0 Running) (sym e) (ends_in (find (λ (q : SetRow). (q.number == r.number) && not (is_running q.result)) rows) h)
-
-changed_number : (b : Bool) (v : ℕ) (r : SetRow) → (if b then with_volume v r else r).number ≡ r.number
-changed_number true v r = refl
-changed_number false v r = refl
-
-changed_result : (b : Bool) (v : ℕ) (r : SetRow) → (if b then with_volume v r else r).result ≡ r.result
-changed_result true v r = refl
-changed_result false v r = refl
-
-pub adds : (s : Plan) (lane v images : ℕ) (st : State) (x y : SessionsValue) (m : SessionMove) (r : SetRow) → check_other st.session (runs st) lane call.Add ≡ Go → IsInOrder st → Keeps x st → length (history_of st v).images ≡ images
-    → running_in x.sets ≡ Some r → refusal_of v images (running_in x.sets) ≡ None → m ≡ told_alone told.Ok
-    → y ≡ record { requestor = x.requestor; coordinator = x.coordinator; sets = map (running_changed (with_volume v)) x.sets; clock = x.clock; selection = x.selection }
-    → ComesTo s lane (op.Add v) st y m
-adds s lane v images st x y m r goes order kept stand found free is new =
-    let owner = owners st.session (runs st) lane call.Add goes in
-    let here : in_progress st ≡ Some r = ap running_in (sym kept.sets) ∙ found in
-    let does = line_of s lane (op.Add v) st owner.session owner.is ∙ ap (λ (o : Option SetRow). add v o st) here ∙ add_made v images r st stand (ap (refusal_of v images) (sym found) ∙ free) in
-    subst (λ (z : SessionsValue). ComesTo s lane (op.Add v) st z m) (sym new)
-    (alone s lane (op.Add v) st _ m told.Ok Fine (change_set r.number (with_volume v) st) is does (λ tells. refl) (λ listed rows e. tt) refl
-    (record {
-      session = kept.session;
-      made = kept.made ∙ sym (length_changed (row_changed r.number (with_volume v)) st.sets);
-      course = kept.course;
-      sets = ap (map (running_changed (with_volume v))) kept.sets ∙ changed_by_number (with_volume v) 1 st.sets r order.numbered order.newest here;
-      clock = kept.clock;
-      explicit = kept.explicit;
-      over = kept.over;
-      on_time = kept.on_time;
-      disabled = kept.disabled;
-    })
-    (none_ends (row_changed r.number (with_volume v)) (λ q. changed_number (q.number == r.number) v q) (λ q. changed_result (q.number == r.number) v q) (in_progress st) st.sets (ends_none st.sets (in_progress st) order.numbered order.newest refl)) refl)
 
 -- ## await, status, disable
 

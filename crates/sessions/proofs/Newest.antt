@@ -9,7 +9,7 @@ use Rattle.vss_model.specs.Ending.{row_settled}
 use Rattle.vss_model.proofs.Orderly.{numbered-map, newest-map, numbered-settled, newest-settled, numbered-append, newest-append}
 use Rattle.vss_model.proofs.OneCut.{newest_number}
 use Rattle.sessions.specs.declared.set_facts.SetFacts.{SetFacts}
-use Rattle.sessions.specs.Sets.{AreSets, facts_of, is_complete_in, running_in, running_changed}
+use Rattle.sessions.specs.Sets.{AreSets, bare, current_of, facts_of, is_complete_in, running_in, running_changed}
 
 -- ## the newest alone changes
 
@@ -196,3 +196,68 @@ complete_by_facts rows n o h e = complete_found 1 rows n h.numbered ∙ told (fi
     told : (x : Option SetRow) → complete_of x ≡ is_complete_told (option_map facts_of x)
     told None = refl
     told (Some r) = refl
+
+-- ## rows without volumes
+
+-- a change that does not look at the volumes
+pub map_bare : (f : SetRow → SetRow) → ((r : SetRow) → f (bare r) ≡ bare (f r)) → (rows : List SetRow) → map f (map bare rows) ≡ map bare (map f rows)
+map_bare f same [] = refl
+map_bare f same (r ∷ rows) = ap (λ (x : SetRow). x ∷ map f (map bare rows)) (same r) ∙ ap (λ (xs : List SetRow). bare (f r) ∷ xs) (map_bare f same rows)
+
+if_bare : (b : Bool) (f : SetRow → SetRow) (r : SetRow) → f (bare r) ≡ bare (f r) → (if b then f (bare r) else bare r) ≡ bare (if b then f r else r)
+if_bare true f r e = e
+if_bare false f r e = refl
+
+pub settled_bare : (o : SetOutcome) (rows : List SetRow) → map (row_settled o) (map bare rows) ≡ map bare (map (row_settled o) rows)
+settled_bare o = map_bare (row_settled o) (λ r. if_bare (is_running r.result) (λ (x : SetRow). record x { result = o }) r refl)
+
+pub changed_bare : (f : SetRow → SetRow) → ((r : SetRow) → f (bare r) ≡ bare (f r)) → (rows : List SetRow) → map (running_changed f) (map bare rows) ≡ map bare (map (running_changed f) rows)
+changed_bare f same = map_bare (running_changed f) (λ r. if_bare (is_running r.result) f r (same r))
+
+found_bare : (p : SetRow → Bool) → ((r : SetRow) → p (bare r) ≡ p r) → (rows : List SetRow) → find p (map bare rows) ≡ option_map bare (find p rows)
+found_bare p same [] = refl
+found_bare p same (r ∷ rows) =
+    ap (λ (b : Bool). if b then Some (bare r) else find p (map bare rows)) (same r)
+    ∙ ap (λ (o : Option SetRow). if p r then Some (bare r) else o) (found_bare p same rows) ∙ by_test (p r) (find p rows)
+  where
+    by_test : (b : Bool) (o : Option SetRow) → (if b then Some (bare r) else option_map bare o) ≡ option_map bare (if b then Some r else o)
+    by_test true o = refl
+    by_test false o = refl
+
+pub current_bare : (rows : List SetRow) → current_of (map bare rows) ≡ current_of rows
+current_bare rows = ap (option_map (λ (r : SetRow). r.number)) (found_bare (λ (r : SetRow). is_running r.result) (λ r. refl) rows) ∙ by_found (running_in rows)
+  where
+    by_found : (o : Option SetRow) → option_map (λ (r : SetRow). r.number) (option_map bare o) ≡ option_map (λ (r : SetRow). r.number) o
+    by_found None = refl
+    by_found (Some r) = refl
+
+pub facts_bare : (n : ℕ) (rows : List SetRow) → option_map facts_of (find (λ (r : SetRow). r.number == n) (map bare rows)) ≡ option_map facts_of (find (λ (r : SetRow). r.number == n) rows)
+facts_bare n rows = ap (option_map facts_of) (found_bare (λ (r : SetRow). r.number == n) (λ r. refl) rows) ∙ by_found (find (λ (r : SetRow). r.number == n) rows)
+  where
+    by_found : (o : Option SetRow) → option_map facts_of (option_map bare o) ≡ option_map facts_of o
+    by_found None = refl
+    by_found (Some r) = refl
+
+pub complete_bare : (rows : List SetRow) (n : ℕ) → is_complete_in (map bare rows) n ≡ is_complete_in rows n
+complete_bare [] n = refl
+complete_bare (r ∷ rows) n = ap (λ (b : Bool). ((r.number == n) && is_complete r.result) || b) (complete_bare rows n)
+
+pub length_bare : (rows : List SetRow) → length (map bare rows) ≡ length rows
+length_bare [] = refl
+length_bare (r ∷ rows) = ap (λ (n : ℕ). suc n) (length_bare rows)
+
+pub none_bare : (rows : List SetRow) → running_in rows ≡ None → running_in (map bare rows) ≡ None
+none_bare rows e = found_bare (λ (r : SetRow). is_running r.result) (λ r. refl) rows ∙ ap (option_map bare) e
+
+pub append_bare : (rows : List SetRow) (r : SetRow) → map bare (rows ++ r ∷ []) ≡ map bare rows ++ bare r ∷ []
+append_bare [] r = refl
+append_bare (q ∷ rows) r = ap (λ (xs : List SetRow). bare q ∷ xs) (append_bare rows r)
+
+-- what happens to the volumes of a row is not seen
+pub unseen_bare : (f : SetRow → SetRow) → ((r : SetRow) → bare (f r) ≡ bare r) → (n : ℕ) (rows : List SetRow) → map bare (map (row_changed n f) rows) ≡ map bare rows
+unseen_bare f same n [] = refl
+unseen_bare f same n (r ∷ rows) = ap (λ (x : SetRow). x ∷ map bare (map (row_changed n f) rows)) (by_test (r.number == n)) ∙ ap (λ (xs : List SetRow). bare r ∷ xs) (unseen_bare f same n rows)
+  where
+    by_test : (b : Bool) → bare (if b then f r else r) ≡ bare r
+    by_test true = same r
+    by_test false = refl

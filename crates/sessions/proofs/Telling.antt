@@ -16,7 +16,7 @@ use Rattle.vss_model.specs.Facts.{NumberedFrom, OverButNewest, has_failed}
 use Rattle.vss_model.proofs.OneCut.{newest_number}
 use Rattle.sessions.specs.declared.ended.Ended.{Ended}
 use Rattle.sessions.specs.Sets.{current_of}
-use Rattle.sessions.proofs.Concluding.{ending_other, fails, ends_if, goes_if, either, neither, over_stage, rows_as_told}
+use Rattle.sessions.proofs.Concluding.{current_kept, ending_other, fails, ends_if, goes_if, either, neither, over_stage, rows_as_told}
 use Rattle.sessions.specs.Keeps.{SessionsValue, Keeps, IsInOrder}
 use Rattle.sessions.specs.Concluded.{IsTold, IsConcludedTold, ends_as, failed_set, nothing_ends, without_images}
 
@@ -171,7 +171,7 @@ module _ (st : State) (c : Course) (ran : Bool) (order : IsInOrder st) where
 pub told_then : (old : SessionsValue) (outcome : SetOutcome) (over : Bool) (current : Option ℕ) (e : Ended) → (has_failed outcome || over) ≡ true → current ≡ current_of old.sets → e ≡ ends_as current outcome → IsConcludedTold old outcome over e
 told_then old outcome over current e h is told st c ran order kept eo ee =
     let t : (has_failed (outcome_told st.course.outcome c.outcome) || (ran && not (is_some c.agenda))) ≡ true = ap (λ (o : SetOutcome). has_failed o || (ran && not (is_some c.agenda))) (sym eo) ∙ ap (λ (b : Bool). has_failed outcome || b) (sym ee) ∙ h in
-    subst (λ (x : Ended). IsTold x st (followed ran c st)) (sym (told ∙ ap (λ (n : Option ℕ). ends_as n outcome) (is ∙ ap current_of kept.sets) ∙ ap (ends_as (current_of st.sets)) eo)) (told_ends st c ran order t)
+    subst (λ (x : Ended). IsTold x st (followed ran c st)) (sym (told ∙ ap (λ (n : Option ℕ). ends_as n outcome) (is ∙ current_kept old _ kept) ∙ ap (ends_as (current_of st.sets)) eo)) (told_ends st c ran order t)
 
 pub told_else : (old : SessionsValue) (outcome : SetOutcome) (over : Bool) (e : Ended) → (has_failed outcome || over) ≡ false → e ≡ nothing_ends → IsConcludedTold old outcome over e
 told_else old outcome over e h told st c ran order kept eo ee =
@@ -195,5 +195,5 @@ told_failed_in st why (Some r) e order = record {
 
 pub told_failed : (old : SessionsValue) (st : State) (why : VssResult) (e : Ended) → IsInOrder st → Keeps old st → e ≡ ends_as (current_of old.sets) (Failed why) → IsTold e st (failed_in (in_progress st) why st)
 told_failed old st why e order kept is =
-    subst (λ (x : Ended). IsTold x st (failed_in (in_progress st) why st)) (sym (is ∙ ap (λ (rows : List SetRow). ends_as (current_of rows) (Failed why)) kept.sets))
+    subst (λ (x : Ended). IsTold x st (failed_in (in_progress st) why st)) (sym (is ∙ ap (λ (n : Option ℕ). ends_as n (Failed why)) (current_kept old st kept)))
     (told_failed_in st why (in_progress st) refl order)

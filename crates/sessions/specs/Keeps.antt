@@ -10,6 +10,7 @@ use Rattle.scenario.specs.Plan.{Plan, WriterPlan}
 use Rattle.vss_model.specs.State.{State, SetRow, in_progress}
 use Rattle.vss_model.specs.Facts.{IsOfSession, NumberedFrom, OverButNewest}
 use Rattle.vss_model.specs.Sessions.{known_metas}
+use Rattle.sessions.specs.Sets.{bare}
 
 pub record SessionsValue : Type 0 where
   pub requestor : Requestor
@@ -29,12 +30,13 @@ nothing_named_in x = record {
   selection = record { writers = writer_count x.coordinator; selected = Named [] };
 }
 
--- This stands for all of a state but the volumes.
+-- This stands for all of a state but the volumes, and which of them are in a set.
 pub record Keeps (x : SessionsValue) (st : State) : Type 0 where
   pub session : x.requestor.session ≡ st.session
   pub made : x.requestor.sets_made ≡ length st.sets
   pub course : Stands x.coordinator st.course
-  pub sets : x.sets ≡ st.sets
+  -- the volumes of the sets are the provider's to keep
+  pub sets : x.sets ≡ map bare st.sets
   pub clock : x.clock ≡ st.clock
   pub explicit : x.selection.selected ≡ Named st.explicit
   -- the selection is over all writers
@@ -89,9 +91,20 @@ pub record IsStandingIn (s : Plan) (x : SessionsValue) : Type 0 where
 
 -- ## what each call leaves
 
--- the writers stay, orders are posted once more at most, and one set more is started at most
+-- the writers and the clock stay, orders are posted once more at most, and one set more is started at most
 pub record Leaves (old new : SessionsValue) : Type 0 where
   pub writers : new.coordinator.writers ≡ old.coordinator.writers
   pub count : writer_count new.coordinator ≡ writer_count old.coordinator
   pub posts : new.coordinator.posts ≤ old.coordinator.posts + 1
   pub sets : length new.sets ≤ length old.sets + 1
+  pub clock : new.clock ≡ old.clock
+
+-- the same, so many ticks later
+abbrev pub later_by : ℕ → SessionsValue → SessionsValue
+later_by n x = record { requestor = x.requestor; coordinator = x.coordinator; sets = x.sets; clock = x.clock + n; selection = x.selection }
+
+-- at most so many ticks went by
+pub record LeavesWithin (most : ℕ) (old new : SessionsValue) : Type 0 where
+  pub ticks : ℕ
+  pub few : ticks ≤ most
+  pub leaves : Leaves (later_by ticks old) new

@@ -1,7 +1,7 @@
 -- What a call promises of an event: that it waits exactly as the definitions say, or that it is an enabled move, whose
 -- reply and effects are those of the definitions, and after which what is kept stands for the state after it. (This
 -- project's own.)
-use Rattle.std.specs.Prelude.{ℕ, ◌≡◌, Bool, true, false, List, [], length, Option, Some, None}
+use Rattle.std.specs.Prelude.{ℕ, ◌≡◌, Bool, true, false, List, [], Option, Some, None}
 use Rattle.vss_names.specs.declared.vss_result.VssResult.{VssResult}
 use Rattle.vss_names.specs.declared.vss_result.VssResult.TheVariants.{AsyncPending}
 use Rattle.write_history.specs.History.{History}
@@ -11,11 +11,12 @@ use Rattle.set_agenda.specs.declared.group.Group.{Group}
 use Rattle.set_agenda.specs.declared.group.Group.TheVariants.{Orders, PreCommit, Flush, Hold, Commit, Release, PostCommit}
 use Rattle.set_agenda.specs.declared.group.Group.TheVariants as group
 use Rattle.set_agenda.specs.declared.kind.Kind.{Kind}
-use Rattle.set_agenda.specs.Agenda.{open_group, order_now}
+use Rattle.set_agenda.specs.Agenda.{next_volume, open_group, order_now}
 use Rattle.set_agenda.specs.WriterSet.{writers_of}
 use Rattle.set_agenda.specs.Course.{Course, released}
 use Rattle.component_doc.specs.Held.{Held}
 use Rattle.coordinator.specs.Beginning.{begun_as}
+use Rattle.coordinator.specs.Coordinator.{works}
 use Rattle.requestor.specs.declared.mode.Mode.{Mode}
 use Rattle.requestor.specs.declared.mode.Mode.TheVariants.{Components, All}
 use Rattle.requestor.specs.Session.{Session}
@@ -27,7 +28,7 @@ use Rattle.vss_model.specs.declared.event.Event.{Event}
 use Rattle.vss_model.specs.declared.event.Event.TheVariants.{Line, Answer, Provider, Idle}
 use Rattle.vss_model.specs.declared.told.Told.{Told}
 use Rattle.vss_model.specs.declared.told.Told.TheVariants as told
-use Rattle.vss_model.specs.State.{State, in_progress, history_of, left_now}
+use Rattle.vss_model.specs.State.{State, SetRow, in_progress, left_now}
 use Rattle.vss_model.specs.Reply.{Reply}
 use Rattle.vss_model.specs.Effects.{ended_of, lost_after, lost_order_if}
 use Rattle.vss_model.specs.Sessions.{known_metas, line_in, selected, volumes_of}
@@ -105,14 +106,14 @@ pub record LosesNobody (m : SessionMove) : Type 0 where
 
 -- ## the states of a call
 
--- so many images stand on the volume of an `add`
-abbrev pub HasImages : ℕ → Op → State → Type 0
-HasImages images (Add v) st = length (history_of st v).images ≡ images
-HasImages images _ st = Unit {0}
-
-pub record IsAtWith (images : ℕ) (op : Op) (x : SessionsValue) (s : Plan) (st : State) : Type 0 where
+-- these are the volumes of the set in progress
+pub record IsAtOver (vs : List ℕ) (x : SessionsValue) (s : Plan) (st : State) : Type 0 where
   pub at : IsAt x s st
-  pub counted : HasImages images op st
+  pub volumes : vs ≡ volumes_of (in_progress st)
+
+abbrev pub is_add : Op → Bool
+is_add (Add v) = true
+is_add _ = false
 
 -- ## a session line that the checks let go
 
@@ -131,30 +132,41 @@ pub record ComesTo (s : Plan) (lane : ℕ) (op : Op) (st : State) (new : Session
 abbrev pub IsGone : SessionsValue → SessionsValue → ℕ → Op → SessionMove → Type 0
 IsGone old new lane op m = (s : Plan) (st : State) → IsAt old s st → ComesTo s lane op st new m
 
--- the same, where so many images stand on the volume of an `add`
-abbrev pub IsGoneWith : ℕ → SessionsValue → SessionsValue → ℕ → Op → SessionMove → Type 0
-IsGoneWith images old new lane op m = (s : Plan) (st : State) → IsAt old s st → HasImages images op st → ComesTo s lane op st new m
-
 -- of this scenario alone
 abbrev pub IsGoneIn : Plan → SessionsValue → SessionsValue → ℕ → Op → SessionMove → Type 0
 IsGoneIn s old new lane op m = (st : State) → IsAt old s st → ComesTo s lane op st new m
 
+-- where these are the volumes of the set in progress
+abbrev pub IsGoneOver : List ℕ → SessionsValue → SessionsValue → ℕ → Op → SessionMove → Type 0
+IsGoneOver vs old new lane op m = (s : Plan) (st : State) → IsAtOver vs old s st → ComesTo s lane op st new m
+
 -- what every line promises, once the checks let it go
-abbrev pub IsGoneAs : Plan → ℕ → SessionsValue → SessionsValue → ℕ → Op → SessionMove → Type 0
-IsGoneAs s images old new lane op m = (st : State) → IsAtWith images op old s st → ComesTo s lane op st new m
+abbrev pub IsGoneAs : Plan → List ℕ → SessionsValue → SessionsValue → ℕ → Op → SessionMove → Type 0
+IsGoneAs s vs old new lane op m = (st : State) → IsAtOver vs old s st → ComesTo s lane op st new m
 
 -- the session is over, whatever becomes of the images
 abbrev pub IsClosed : SessionsValue → SessionsValue → Type 0
 IsClosed old new = (st : State) (hs : List History) → Keeps old st
     → Keeps new (record { session = None; explicit = []; sets = st.sets; course = released st.course; volumes = hs; clock = st.clock })
 
--- An agenda of this kind began, over this selection and the volumes of the set in progress, with what follows.
-abbrev pub HasBegun : Kind → Held → SessionsValue → SessionsValue → SessionMove → Type 0
-HasBegun kind h old new m = (st : State) (c : Course) → IsInOrder st → Keeps old st
-    → c ≡ begun_as kind old.coordinator.writers h (volumes_of (in_progress st)) st.clock st.course
+-- An agenda of this kind began, over this selection and these volumes, with what follows.
+abbrev pub HasBegun : Kind → Held → List ℕ → SessionsValue → SessionsValue → SessionMove → Type 0
+HasBegun kind h vs old new m = (st : State) (c : Course) → IsInOrder st → Keeps old st → c ≡ begun_as kind old.coordinator.writers h vs st.clock st.course
     → (m.outcome.told ≡ told.Result AsyncPending) × LosesNobody m × CameTo st (followed true c st) new m
 
+-- a volume may join the set in progress: there is one, and no agenda runs
+pub record MayAdd (st : State) : Type 0 where
+  pub row : SetRow
+  pub is_in_progress : in_progress st ≡ Some row
+  pub rests : st.course.agenda ≡ None
+
 -- ## a step of the provider
+
+-- the provider's next step is one of this group, for this volume
+pub record IsNextStep (x : SessionsValue) (g : Group) (v : Option ℕ) : Type 0 where
+  pub working : works x.coordinator ≡ true
+  pub group : (st : State) → Keeps x st → open_group (left_now st) ≡ Some g
+  pub volume : (st : State) → Keeps x st → next_volume (left_now st) ≡ v
 
 abbrev pub is_cut : Group → Bool
 is_cut (Orders o) = false

@@ -1,11 +1,7 @@
 -- The sets that were started, as they are kept: the newest alone may be in progress. (This project's own.)
-use Rattle.std.specs.Prelude.{ℕ, ◌==◌, ◌&&◌, Bool, List, length, find, nat_le, option_map, if◌then◌else◌, Option, Some, None}
+use Rattle.std.specs.Prelude.{ℕ, ◌==◌, ◌&&◌, Bool, List, [], find, option_map, if◌then◌else◌, Option}
 use Rattle.std.specs.List.{list_any}
-use Rattle.vss_names.specs.declared.vss_result.VssResult.{VssResult}
-use Rattle.vss_names.specs.declared.vss_result.VssResult.TheVariants.{BadState, ObjectAlreadyExists, MaximumNumberOfVolumesReached, MaximumNumberOfSnapshotsReached}
 use Rattle.vss_model.specs.State.{SetRow, is_running, is_complete}
-use Rattle.vss_model.specs.Images.{is_in_set}
-use Rattle.vss_model.specs.Sessions.{most_volumes, most_images}
 use Rattle.vss_model.specs.Facts.{NumberedFrom, OverButNewest}
 use Rattle.sessions.specs.declared.set_facts.SetFacts.{SetFacts}
 
@@ -26,14 +22,9 @@ pub record AreSets (rows : List SetRow) : Type 0 where
 abbrev pub running_changed : (SetRow → SetRow) → SetRow → SetRow
 running_changed f r = if is_running r.result then f r else r
 
--- why a volume with so many images cannot join the set in progress
-abbrev pub refusal_of : ℕ → ℕ → Option SetRow → Option VssResult
-refusal_of v images None = Some BadState
-refusal_of v images (Some r) =
-    if is_in_set v (Some r) then Some ObjectAlreadyExists
-    else if nat_le most_volumes (length r.volumes) then Some MaximumNumberOfVolumesReached
-    else if nat_le most_images images then Some MaximumNumberOfSnapshotsReached
-    else None
+-- what is kept of a set: all but its volumes
+abbrev pub bare : SetRow → SetRow
+bare r = record r { volumes = [] }
 
 -- what is told of a set
 abbrev pub facts_of : SetRow → SetFacts

@@ -1,9 +1,10 @@
-ghost use Rattle.std.specs.Prelude.{◌≡◌, false, IfOk, OnErr};
+ghost use Rattle.std.specs.Prelude.{◌≡◌, false, true, IfOk, OnErr};
 ghost use Rattle.coordinator.specs.Coordinator.{MayPost, runs, writer_count};
 ghost use Rattle.requestor.specs.Check.{check};
+ghost use Rattle.set_agenda.specs.Begin.{are_distinct};
 ghost use Rattle.scenario.specs.declared.op.Op.TheVariants as op;
 ghost use Rattle.sessions.specs.Keeps.{Leaves};
-ghost use Rattle.sessions.specs.Moves.{IsGone};
+ghost use Rattle.sessions.specs.Moves.{IsGone, IsGoneOver};
 
 use crate::session_move::SessionMove;
 use crate::sessions::Sessions;
@@ -22,10 +23,9 @@ impl Sessions {
         ensures gone { IfOk result (IsGone self.old self.new lane op.Gather) }
         ensures unchanged { OnErr result (self.new ≡ self.old) }
         ensures leaves { Leaves self.old self.new }
-        ensures clock { self.new.clock ≡ self.old.clock }
     {
         let _lane = lane;
-        self.begin_agenda(alloc, Kind::Gather)
+        self.begin_agenda(alloc, Kind::Gather, &[])
     }
 
     /// The writers that take part are told that the backup is complete.
@@ -36,26 +36,30 @@ impl Sessions {
         ensures gone { IfOk result (IsGone self.old self.new lane op.Complete) }
         ensures unchanged { OnErr result (self.new ≡ self.old) }
         ensures leaves { Leaves self.old self.new }
-        ensures clock { self.new.clock ≡ self.old.clock }
     {
         let _lane = lane;
-        self.begin_agenda(alloc, Kind::Complete)
+        self.begin_agenda(alloc, Kind::Complete, &[])
     }
 
     /// The snapshot of the set's volumes is made.
-    pub(crate) fn snapshot(&mut self, alloc: Global, lane: u32) -> Result<SessionMove, OutOfMemory>
+    pub(crate) fn snapshot(
+        &mut self,
+        alloc: Global,
+        lane: u32,
+        volumes: &[u32],
+    ) -> Result<SessionMove, OutOfMemory>
+        requires distinct { are_distinct volumes.now ≡ true }
         requires room { MayPost self.old.coordinator }
         requires over { self.old.selection.writers ≡ writer_count self.old.coordinator }
         requires goes { check self.old.requestor.session (runs self.old.coordinator) lane SessionCall.Snapshot ≡ Verdict.Go }
-        ensures gone { IfOk result (IsGone self.old self.new lane op.Snapshot) }
+        ensures gone { IfOk result (IsGoneOver volumes.now self.old self.new lane op.Snapshot) }
         ensures unchanged { OnErr result (self.new ≡ self.old) }
         ensures leaves { Leaves self.old self.new }
-        ensures clock { self.new.clock ≡ self.old.clock }
     {
         let _lane = lane;
-        if self.volumes().is_empty() {
+        if volumes.is_empty() {
             return Ok(SessionMove::alone(Told::Result(VssResult::BadState)));
         }
-        self.begin_agenda(alloc, Kind::Snapshot)
+        self.begin_agenda(alloc, Kind::Snapshot, volumes)
     }
 }

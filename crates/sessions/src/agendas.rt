@@ -1,11 +1,12 @@
-ghost use Rattle.std.specs.Prelude.{◌≡◌, ◌<◌, ◌≤◌, ◌+◌, ◌^◌, ℕ, false, IfOk, OnErr};
+ghost use Rattle.std.specs.Prelude.{◌≡◌, ◌<◌, ◌≤◌, ◌+◌, ◌^◌, ℕ, false, true, IfOk, OnErr};
 ghost use Rattle.component_doc.specs.Held.{Held};
 ghost use Rattle.coordinator.specs.Coordinator.{MayPost, IsOnTime, runs, writer_count};
 ghost use Rattle.scenario.specs.Plan.{Plan};
 ghost use Rattle.scenario.specs.declared.op.Op.TheVariants.{Tick};
+ghost use Rattle.set_agenda.specs.Begin.{are_distinct};
 ghost use Rattle.tick_limits.specs.Time.{answer_limit};
 ghost use Rattle.vss_model.specs.declared.event.Event.TheVariants.{Line, Idle};
-ghost use Rattle.sessions.specs.Keeps.{IsAt, IsStanding, Leaves};
+ghost use Rattle.sessions.specs.Keeps.{IsAt, IsStanding, Leaves, LeavesWithin, later_by};
 ghost use Rattle.sessions.specs.Moves.{HasBegun, HasGoneOn, IsCall, IsMove};
 
 use crate::called::Called;
@@ -19,24 +20,25 @@ use vss_model::{Outcome, Told};
 use vss_names::{OutOfMemory, VssResult};
 
 impl Sessions {
-    /// An agenda begins, over what the session has named and the volumes of the set in progress.
+    /// An agenda begins, over what the session has named and these volumes.
     pub(crate) fn begin_agenda(
         &mut self,
         alloc: Global,
         kind: Kind,
+        volumes: &[u32],
     ) -> Result<SessionMove, OutOfMemory>
         requires idle { runs self.old.coordinator ≡ false }
         requires room { MayPost self.old.coordinator }
+        requires distinct { are_distinct volumes.now ≡ true }
         requires over { self.old.selection.writers ≡ writer_count self.old.coordinator }
-        ensures begun { IfOk result (HasBegun kind self.old.selection self.old self.new) }
+        ensures begun { IfOk result (HasBegun kind self.old.selection volumes.now self.old self.new) }
         ensures unchanged { OnErr result (self.new ≡ self.old) }
         ensures leaves { Leaves self.old self.new }
-        ensures clock { self.new.clock ≡ self.old.clock }
     {
         let now = self.clock.now();
         let effects = self
             .coordinator
-            .begin_agenda(alloc, kind, 0, self.sets.volumes(), &self.selection, now)?;
+            .begin_agenda(alloc, kind, 0, volumes, &self.selection, now)?;
         let ended = self.conclude(effects.outcome, effects.agenda_ended);
         let told = Told::Result(VssResult::AsyncPending);
         Ok(SessionMove::with(told, ended))
@@ -47,20 +49,21 @@ impl Sessions {
         &mut self,
         alloc: Global,
         kind: Kind,
+        volumes: &[u32],
         selection: &Selection,
     ) -> Result<SessionMove, OutOfMemory>
         requires idle { runs self.old.coordinator ≡ false }
         requires room { MayPost self.old.coordinator }
+        requires distinct { are_distinct volumes.now ≡ true }
         requires over { selection.now.writers ≡ writer_count self.old.coordinator }
-        ensures begun { IfOk result (HasBegun kind selection.now self.old self.new) }
+        ensures begun { IfOk result (HasBegun kind selection.now volumes.now self.old self.new) }
         ensures unchanged { OnErr result (self.new ≡ self.old) }
         ensures leaves { Leaves self.old self.new }
-        ensures clock { self.new.clock ≡ self.old.clock }
     {
         let now = self.clock.now();
         let effects = self
             .coordinator
-            .begin_agenda(alloc, kind, 0, self.sets.volumes(), selection, now)?;
+            .begin_agenda(alloc, kind, 0, volumes, selection, now)?;
         let ended = self.conclude(effects.outcome, effects.agenda_ended);
         let told = Told::Result(VssResult::AsyncPending);
         Ok(SessionMove::with(told, ended))
@@ -70,8 +73,7 @@ impl Sessions {
     pub fn time(&mut self, ticks: u32) -> SessionMove
         requires standing { IsStanding self.old }
         ensures moves { (s : Plan) (lane : ℕ) → IsMove (IsAt self.old s) s self.new (Line lane (Tick ticks)) result }
-        ensures leaves { Leaves self.old self.new }
-        ensures clock { self.new.clock ≡ self.old.clock + ticks }
+        ensures leaves { Leaves (later_by ticks self.old) self.new }
     {
         self.go_on(Told::Ok, ticks as u64)
     }
@@ -80,8 +82,7 @@ impl Sessions {
     pub fn idle(&mut self) -> Called
         requires standing { IsStanding self.old }
         ensures called { (s : Plan) → IsCall (IsAt self.old s) s self.old self.new Idle result }
-        ensures leaves { Leaves self.old self.new }
-        ensures clock { self.new.clock ≤ self.old.clock + (answer_limit + 1) }
+        ensures leaves { LeavesWithin (answer_limit + 1) self.old self.new }
     {
         if !self.is_asking() {
             return Called::Waits;
@@ -100,8 +101,7 @@ impl Sessions {
         requires few { ticks < 2 ^ 32 }
         requires on_time { IsOnTime self.old.clock self.old.coordinator }
         ensures gone { HasGoneOn told ticks self.old self.new result }
-        ensures leaves { Leaves self.old self.new }
-        ensures clock { self.new.clock ≡ self.old.clock + ticks }
+        ensures leaves { Leaves (later_by ticks self.old) self.new }
     {
         go_on_by(&mut self.clock, ticks);
         let now = self.clock.now();

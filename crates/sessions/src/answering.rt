@@ -1,13 +1,10 @@
 ghost use Rattle.std.specs.Prelude.{◌≡◌, ◌<◌, ◌&&◌, Some, length, not, false, true};
 ghost use Rattle.coordinator.specs.Coordinator.{MayPost, works, writer_count};
 ghost use Rattle.scenario.specs.Plan.{Plan};
-ghost use Rattle.set_agenda.specs.Agenda.{open_group};
-ghost use Rattle.vss_model.specs.State.{State, left_now};
 ghost use Rattle.vss_model.specs.Steps.{is_flush};
-ghost use Rattle.vss_model.specs.Told.{mark_if, mark_of};
 ghost use Rattle.vss_model.specs.declared.event.Event.TheVariants.{Answer as AnswerEvent, Provider};
-ghost use Rattle.sessions.specs.Keeps.{IsAt, IsStanding, Keeps, Leaves};
-ghost use Rattle.sessions.specs.Moves.{HasStepped, IsCall, HasCut, IsMove, is_cut};
+ghost use Rattle.sessions.specs.Keeps.{IsAt, IsStanding, Leaves};
+ghost use Rattle.sessions.specs.Moves.{HasCut, HasStepped, IsCall, IsMove, IsNextStep, is_cut};
 
 use crate::called::Called;
 use crate::session_move::SessionMove;
@@ -23,7 +20,6 @@ impl Sessions {
         requires known { writer < writer_count self.old.coordinator }
         ensures called { (s : Plan) → IsCall (IsAt self.old s) s self.old self.new (AnswerEvent writer answer) result }
         ensures leaves { Leaves self.old self.new }
-        ensures clock { self.new.clock ≡ self.old.clock }
     {
         let Some(standing) = self.coordinator.poll(writer) else {
             return Called::Waits;
@@ -45,27 +41,19 @@ impl Sessions {
         }
     }
 
-    /// The provider makes its next step; not `ok` where a device failed in it, which counts in a flush alone and fails
-    /// the set.
-    pub fn step(&mut self, ok: bool) -> SessionMove
+    /// The provider makes its next step, which is this one. It is not `ok` if a device failed in it, which counts in a
+    /// flush alone and fails the set.
+    pub fn step(&mut self, group: Group, volume: Option<u32>, ok: bool) -> SessionMove
         requires standing { IsStanding self.old }
-        requires works { works self.old.coordinator ≡ true }
+        requires next { IsNextStep self.old group volume }
         ensures moves { (s : Plan) → IsMove (IsAt self.old s) s self.new Provider result }
-        ensures mark { (st : State) → Keeps self.old st → mark_of result.outcome.told ≡ mark_if (not ok && is_flush (open_group (left_now st))) }
+        ensures told { result.outcome.told ≡ Told.Step group volume (not ok && is_flush (Some group)) }
         ensures leaves { Leaves self.old self.new }
-        ensures clock { self.new.clock ≡ self.old.clock }
     {
-        let volume = self.coordinator.next_volume();
-        match self.coordinator.open_group() {
-            // a step is asked for only where the provider has one to make
-            None => SessionMove::alone(Told::Ok),
-            Some(group) => {
-                if fails_at(group, ok) {
-                    self.step_fails(group, volume)
-                } else {
-                    self.step_made(group, volume)
-                }
-            }
+        if fails_at(group, ok) {
+            self.step_fails(group, volume)
+        } else {
+            self.step_made(group, volume)
         }
     }
 
@@ -74,8 +62,8 @@ impl Sessions {
         requires room { MayPost self.old.coordinator }
         requires works { works self.old.coordinator ≡ true }
         ensures stepped { HasStepped true group volume self.old self.new result }
+        ensures told { result.outcome.told ≡ Told.Step group volume true }
         ensures leaves { Leaves self.old self.new }
-        ensures clock { self.new.clock ≡ self.old.clock }
     {
         let now = self.clock.now();
         let effects = self.coordinator.stepped(false, now);
@@ -93,8 +81,8 @@ impl Sessions {
         requires room { MayPost self.old.coordinator }
         requires works { works self.old.coordinator ≡ true }
         ensures stepped { HasStepped false group volume self.old self.new result }
+        ensures told { result.outcome.told ≡ Told.Step group volume false }
         ensures leaves { Leaves self.old self.new }
-        ensures clock { self.new.clock ≡ self.old.clock }
     {
         let now = self.clock.now();
         self.cut_at(group, now);

@@ -44,7 +44,6 @@ impl Sessions {
         ensures posts { self.new.coordinator.posts ≡ self.old.coordinator.posts }
         ensures sets { length self.new.sets ≡ length self.old.sets }
         ensures leaves { Leaves self.old self.new }
-        ensures clock { self.new.clock ≡ self.old.clock }
     {
         let set = self.sets.current()?;
         let _effects = self.coordinator.fail(why);
@@ -60,7 +59,6 @@ impl Sessions {
         ensures posts { self.new.coordinator.posts ≡ self.old.coordinator.posts }
         ensures sets { length self.new.sets ≡ length self.old.sets }
         ensures leaves { Leaves self.old self.new }
-        ensures clock { self.new.clock ≡ self.old.clock }
     {
         let set = self.fail(why);
         ends_as(set, SetOutcome::Failed(why))

@@ -1,11 +1,12 @@
-ghost use Rattle.std.specs.Prelude.{◌≡◌, ◌<◌, ◌^◌, false, length, Some, None, IfOk, OnErr};
+ghost use Rattle.std.specs.Prelude.{◌≡◌, ◌<◌, ◌^◌, false, true, length, Some, None, IfOk, OnErr};
 ghost use Rattle.coordinator.specs.Coordinator.{runs, writer_count};
 ghost use Rattle.requestor.specs.Check.{check};
+ghost use Rattle.set_agenda.specs.Begin.{are_distinct};
 ghost use Rattle.scenario.specs.Bounds.{IsPlan, IsSpan};
 ghost use Rattle.scenario.specs.declared.op.Op.TheVariants as op;
 ghost use Rattle.sessions.specs.Keeps.{IsStandingIn, Leaves};
 ghost use Rattle.block_data.specs.Digest.{sha256};
-ghost use Rattle.sessions.specs.Moves.{IsDocumentIn, IsGoneIn, takes_all_of};
+ghost use Rattle.sessions.specs.Moves.{IsDocumentIn, IsGoneAs, IsGoneIn, takes_all_of};
 ghost use Rattle.sessions.specs.Told.{told_named};
 
 use crate::session_move::SessionMove;
@@ -26,25 +27,26 @@ impl Sessions {
         alloc: Global,
         scenario: &Scenario,
         lane: u32,
+        volumes: &[u32],
     ) -> Result<SessionMove, OutOfMemory>
+        requires distinct { are_distinct volumes.now ≡ true }
         requires standing { IsStandingIn scenario.now self.old }
         requires plan { IsPlan scenario.now }
         requires goes { check self.old.requestor.session (runs self.old.coordinator) lane SessionCall.Prepare ≡ Verdict.Go }
-        ensures gone { IfOk result (IsGoneIn scenario.now self.old self.new lane op.Prepare) }
+        ensures gone { IfOk result (IsGoneAs scenario.now volumes.now self.old self.new lane op.Prepare) }
         ensures unchanged { OnErr result (self.new ≡ self.old) }
         ensures leaves { Leaves self.old self.new }
-        ensures clock { self.new.clock ≡ self.old.clock }
     {
         let _lane = lane;
-        if self.volumes().is_empty() {
+        if volumes.is_empty() {
             return Ok(SessionMove::alone(Told::Result(VssResult::BadState)));
         }
         if !self.takes_all() {
-            return self.begin_agenda(alloc, Kind::Prepare);
+            return self.begin_agenda(alloc, Kind::Prepare, volumes);
         }
         let metas = self.metas(alloc, scenario)?;
         let selection = Selection::all(alloc, &metas)?;
-        self.begin_agenda_over(alloc, Kind::Prepare, &selection)
+        self.begin_agenda_over(alloc, Kind::Prepare, volumes, &selection)
     }
 
     /// Whether the session takes all components of the writers that it knows.
@@ -73,7 +75,6 @@ impl Sessions {
         ensures gone { IfOk result (IsGoneIn scenario.now self.old self.new lane (op.Component writer full)) }
         ensures unchanged { OnErr result (self.new ≡ self.old) }
         ensures leaves { Leaves self.old self.new }
-        ensures clock { self.new.clock ≡ self.old.clock }
     {
         let _lane = lane;
         if self.takes_all() {
@@ -98,7 +99,6 @@ impl Sessions {
         ensures gone { IfOk result (IsGoneIn scenario.now self.old self.new lane op.Document) }
         ensures unchanged { OnErr result (self.new ≡ self.old) }
         ensures leaves { Leaves self.old self.new }
-        ensures clock { self.new.clock ≡ self.old.clock }
     {
         let text = self.document_text(alloc, scenario, lane)?;
         Ok(SessionMove::alone(told_of(&text)?))

@@ -3,7 +3,7 @@ ghost use Rattle.coordinator.specs.Coordinator.{runs, writer_count};
 ghost use Rattle.requestor.specs.Check.{check};
 ghost use Rattle.scenario.specs.declared.op.Op.TheVariants as op;
 ghost use Rattle.sessions.specs.Keeps.{IsStanding, Leaves, nothing_named_in};
-ghost use Rattle.sessions.specs.Moves.{IsClosed, IsGone, IsGoneWith};
+ghost use Rattle.sessions.specs.Moves.{IsClosed, IsGone};
 ghost use Rattle.sessions.specs.Told.{released_by};
 
 use crate::session_move::SessionMove;
@@ -19,7 +19,6 @@ impl Sessions {
         requires goes { check self.old.requestor.session (runs self.old.coordinator) lane (SessionCall.Begin context all) ≡ Verdict.Go }
         ensures gone { IsGone self.old self.new lane (op.Begin context all) result }
         ensures leaves { Leaves self.old self.new }
-        ensures clock { self.new.clock ≡ self.old.clock }
     {
         if context_of(context, all).is_none() {
             return SessionMove::alone(Told::Result(VssResult::UnsupportedContext));
@@ -45,7 +44,6 @@ impl Sessions {
         ensures gone { IfOk result (IsGone self.old self.new lane op.Start) }
         ensures unchanged { OnErr result (self.new ≡ self.old) }
         ensures leaves { Leaves self.old self.new }
-        ensures clock { self.new.clock ≡ self.old.clock }
     {
         let number = self.requestor.sets_made() + 1;
         let Some(context) = self.requestor.context() else {
@@ -57,27 +55,11 @@ impl Sessions {
         Ok(SessionMove::alone(Told::Set(number)))
     }
 
-    /// A volume on which so many images stand joins the set.
-    pub(crate) fn add(&mut self, lane: u32, volume: u32, images: u32) -> SessionMove
-        requires goes { check self.old.requestor.session (runs self.old.coordinator) lane SessionCall.Add ≡ Verdict.Go }
-        ensures gone { IsGoneWith images self.old self.new lane (op.Add volume) result }
-        ensures leaves { Leaves self.old self.new }
-        ensures clock { self.new.clock ≡ self.old.clock }
-    {
-        let _lane = lane;
-        if let Some(why) = self.sets.refusal(volume, images) {
-            return SessionMove::alone(Told::Result(why));
-        }
-        self.sets.add(volume);
-        SessionMove::alone(Told::Ok)
-    }
-
     /// What the last agenda, or the failure of the set, came to.
     pub(crate) fn await_last(&mut self, lane: u32) -> SessionMove
         requires goes { check self.old.requestor.session (runs self.old.coordinator) lane SessionCall.Await ≡ Verdict.Go }
         ensures gone { IsGone self.old self.new lane op.Await result }
         ensures leaves { Leaves self.old self.new }
-        ensures clock { self.new.clock ≡ self.old.clock }
     {
         let _lane = lane;
         let why = self.requestor.last().unwrap_or(VssResult::BadState);
@@ -89,7 +71,6 @@ impl Sessions {
         requires goes { check self.old.requestor.session (runs self.old.coordinator) lane SessionCall.Status ≡ Verdict.Go }
         ensures gone { IsGone self.old self.new lane op.Status result }
         ensures leaves { Leaves self.old self.new }
-        ensures clock { self.new.clock ≡ self.old.clock }
     {
         let _lane = lane;
         SessionMove::alone(Told::Status)
@@ -101,7 +82,6 @@ impl Sessions {
         requires goes { check self.old.requestor.session (runs self.old.coordinator) lane SessionCall.Disable ≡ Verdict.Go }
         ensures gone { IsGone self.old self.new lane (op.Disable writer) result }
         ensures leaves { Leaves self.old self.new }
-        ensures clock { self.new.clock ≡ self.old.clock }
     {
         let _lane = lane;
         self.coordinator.disable(writer);
@@ -113,7 +93,6 @@ impl Sessions {
         requires goes { check self.old.requestor.session (runs self.old.coordinator) lane SessionCall.Abort ≡ Verdict.Go }
         ensures gone { IsGone self.old self.new lane op.Abort result }
         ensures leaves { Leaves self.old self.new }
-        ensures clock { self.new.clock ≡ self.old.clock }
     {
         let _lane = lane;
         let ended = self.fail_so(VssResult::AsyncCancelled);
@@ -125,7 +104,6 @@ impl Sessions {
         requires goes { check self.old.requestor.session (runs self.old.coordinator) lane SessionCall.End ≡ Verdict.Go }
         ensures gone { IsGone self.old self.new lane op.End result }
         ensures leaves { Leaves self.old self.new }
-        ensures clock { self.new.clock ≡ self.old.clock }
     {
         let released = released_by(self.requestor.context(), self.requestor.set());
         let ended = self.fail_so(VssResult::AsyncCancelled);

@@ -1,16 +1,15 @@
-ghost use Rattle.std.specs.Prelude.{◌≡◌, ◌<◌, ◌≤◌, [], length, true, option_map, is_some, IfSome, Some, false};
+ghost use Rattle.std.specs.Prelude.{◌≡◌, ◌<◌, [], option_map, is_some, IfSome, Some, false};
 ghost use Rattle.component_doc.specs.Selection.{Named};
 ghost use Rattle.coordinator.specs.Coordinator.{IsOnTime, Stands, runs, works, writer_count};
 ghost use Rattle.requestor.specs.Check.{check};
 ghost use Rattle.coordinator.specs.OpenOrders.{standing_in};
-ghost use Rattle.set_agenda.specs.Agenda.{open_group, next_volume, is_asking};
+ghost use Rattle.set_agenda.specs.Agenda.{is_asking};
 ghost use Rattle.scenario.specs.Plan.{Plan};
-ghost use Rattle.set_agenda.specs.Begin.{are_distinct};
 ghost use Rattle.vss_model.specs.Acts.{may_call};
-ghost use Rattle.vss_model.specs.Images.{is_in_set};
-ghost use Rattle.vss_model.specs.Sessions.{volumes_of};
-ghost use Rattle.vss_model.specs.State.{State, in_progress, is_frozen, is_held, is_kept_set, left_now, row_of, start};
-ghost use Rattle.sessions.specs.Keeps.{Keeps};
+ghost use Rattle.vss_model.specs.Ending.{runs as agenda_runs};
+ghost use Rattle.vss_model.specs.State.{State, is_frozen, is_held, is_kept_set, left_now, row_of, start};
+ghost use Rattle.sessions.specs.Keeps.{IsInOrder, Keeps};
+ghost use Rattle.sessions.specs.Moves.{IsNextStep, MayAdd};
 ghost use Rattle.sessions.specs.Sets.{current_of, facts_of};
 
 use crate::set_facts::SetFacts;
@@ -76,22 +75,6 @@ impl Sessions {
         self.sets.current()
     }
 
-    /// The volumes of the set in progress, in the order in which they were added.
-    pub fn volumes(&self) -> &[u32]
-        ensures volumes { (st : State) → Keeps self.now st → result.now ≡ volumes_of (in_progress st) }
-        ensures distinct { are_distinct result.now ≡ true }
-        ensures few { length result.now ≤ 64 }
-    {
-        self.sets.volumes()
-    }
-
-    /// Whether the volume is in the set in progress.
-    pub fn has_volume(&self, volume: u32) -> bool
-        ensures { (st : State) → Keeps self.now st → result ≡ is_in_set volume (in_progress st) }
-    {
-        self.sets.volumes().contains(&volume)
-    }
-
     /// What is told of a set; none where no set has this number.
     pub fn facts(&self, set: u32) -> Option<SetFacts>
         ensures { (st : State) → Keeps self.now st → result ≡ option_map facts_of (row_of st set) }
@@ -120,19 +103,19 @@ impl Sessions {
         self.coordinator.writers()
     }
 
-    /// Whether the writes of the volume are held.
-    pub fn is_held(&self, volume: u32) -> bool
-        ensures { (st : State) → Keeps self.now st → result ≡ is_held st volume }
-    {
-        self.coordinator.is_held(volume)
-    }
-
     /// Whether the writer stands frozen.
     pub fn is_frozen(&self, writer: u32) -> bool
         requires { writer < writer_count self.now.coordinator }
         ensures { (st : State) → Keeps self.now st → result ≡ is_frozen st writer }
     {
         self.coordinator.is_frozen(writer)
+    }
+
+    /// Whether the writes of the volume are held.
+    pub fn is_held(&self, volume: u32) -> bool
+        ensures { (st : State) → Keeps self.now st → result ≡ is_held st volume }
+    {
+        self.coordinator.is_held(volume)
     }
 
     /// The order that a writer has to answer; none where no order of it is open.
@@ -143,8 +126,11 @@ impl Sessions {
         self.coordinator.poll(writer)
     }
 
-    /// What the checks say of a session call by this lane.
-    pub(crate) fn check(&self, lane: u32, call: SessionCall) -> Verdict
+    /// What the checks say of a session call by this lane. An `add` goes only where a set is in progress and no agenda
+    /// runs.
+    pub fn check(&self, lane: u32, call: SessionCall) -> Verdict
+        ensures kept { (st : State) → Keeps self.now st → result ≡ check st.session (agenda_runs st) lane call }
+        ensures adds { result ≡ Verdict.Go → call ≡ SessionCall.Add → (st : State) → IsInOrder st → Keeps self.now st → MayAdd st }
         ensures verdict { result ≡ check self.now.requestor.session (runs self.now.coordinator) lane call }
         ensures at_rest { result ≡ Verdict.Go → check self.now.requestor.session false lane call ≡ Verdict.Go }
     {
@@ -182,14 +168,9 @@ impl Sessions {
     /// The provider's next step and its volume; none where the provider has no step to make.
     pub fn next_step(&self) -> Option<(Group, Option<u32>)>
         ensures working { is_some result ≡ works self.now.coordinator }
-        ensures group { IfSome result (λ step. (st : State) → Keeps self.now st → open_group (left_now st) ≡ Some step.0) }
-        ensures volume { IfSome result (λ step. (st : State) → Keeps self.now st → next_volume (left_now st) ≡ step.1) }
+        ensures step { IfSome result (λ step. IsNextStep self.now step.0 step.1) }
     {
-        if !self.coordinator.is_working() {
-            return None;
-        }
-        let group = self.coordinator.open_group()?;
-        Some((group, self.coordinator.next_volume()))
+        self.coordinator.next_step()
     }
 }
 

@@ -1,55 +1,40 @@
-ghost use Rattle.std.specs.Prelude.{◌≡◌, ◌<◌, ◌≤◌, [], ◌∷◌, ◌==◌, length, Some, None, true, false};
-ghost use Rattle.set_agenda.specs.Agenda.{is_among};
-ghost use Rattle.set_agenda.specs.Begin.{are_distinct};
+ghost use Rattle.std.specs.Prelude.{◌≡◌, true};
 ghost use Rattle.vss_model.specs.Ending.{row_settled};
-ghost use Rattle.vss_model.specs.Sessions.{new_set, with_volume};
+ghost use Rattle.vss_model.specs.Sessions.{new_set};
 ghost use Rattle.vss_model.specs.State.{is_running, is_complete};
 ghost use Rattle.vss_model.specs.Steps.{with_cut};
-ghost use Rattle.sessions.specs.Sets.{facts_of, refusal_of, running_changed};
+ghost use Rattle.sessions.specs.Sets.{facts_of, running_changed};
 
 use crate::set_facts::SetFacts;
-use arrayvec::ArrayVec;
 use std::marker::Model;
-use vss_names::{Context, SetOutcome, VssResult};
+use vss_names::{Context, SetOutcome};
 
-/// The most volumes of a set.
-const MOST_VOLUMES: usize = 64;
-
-/// The most images of a volume, of which a new set's is one.
-const MOST_IMAGES: u32 = 512;
-
-/// A set that was started. No volume is in it twice.
+/// A set that was started. Its volumes are the provider's to keep, so that contracts see it as a row without volumes.
 #[derive(Drop)]
 pub(crate) struct SetEntry {
     number: u32,
     context: Context,
-    /// In order of `add`.
-    volumes: ArrayVec<u32, 64>,
     result: SetOutcome,
     cut_at: Option<u64>,
 }
 
 impl Model for SetEntry {
-    ghost use Rattle.std.specs.Prelude.{◌≡◌, true};
-    ghost use Rattle.set_agenda.specs.Begin.{are_distinct};
+    ghost use Rattle.std.specs.Prelude.{[]};
     ghost use Rattle.vss_model.specs.State.{SetRow};
 
     ghost Value = { SetRow };
 
-    ghost view = { λ e. record { number = e.number; context = e.context; volumes = e.volumes.items; result = e.result; cut_at = e.cut_at } };
-
-    ghost invariant = { λ e. are_distinct e.volumes.items ≡ true };
+    ghost view = { λ e. record { number = e.number; context = e.context; volumes = []; result = e.result; cut_at = e.cut_at } };
 }
 
 impl SetEntry {
-    /// A set in progress, of no volume yet.
+    /// A set in progress.
     pub(crate) fn new(number: u32, context: Context) -> SetEntry
         ensures { result ≡ new_set number context }
     {
         SetEntry {
             number,
             context,
-            volumes: ArrayVec::new(),
             result: SetOutcome::Running,
             cut_at: None,
         }
@@ -69,31 +54,6 @@ impl SetEntry {
         ensures { result ≡ self.now.number }
     {
         self.number
-    }
-
-    /// The volumes of the set, in the order in which they were added.
-    pub(crate) fn volumes(&self) -> &[u32]
-        ensures volumes { result.now ≡ self.now.volumes }
-        ensures distinct { are_distinct result.now ≡ true }
-        ensures few { length result.now ≤ 64 }
-    {
-        self.volumes.as_slice()
-    }
-
-    /// Why a volume that has so many images cannot join the set. The first cause is told.
-    pub(crate) fn refusal(&self, volume: u32, images: u32) -> Option<VssResult>
-        ensures { result ≡ refusal_of volume images (Some self.now) }
-    {
-        if self.volumes().contains(&volume) {
-            return Some(VssResult::ObjectAlreadyExists);
-        }
-        if self.volumes().len() >= MOST_VOLUMES {
-            return Some(VssResult::MaximumNumberOfVolumesReached);
-        }
-        if images >= MOST_IMAGES {
-            return Some(VssResult::MaximumNumberOfSnapshotsReached);
-        }
-        None
     }
 
     pub(crate) fn facts(&self) -> SetFacts
@@ -121,17 +81,6 @@ impl SetEntry {
     {
         if self.is_running() {
             self.cut_at = Some(now);
-        }
-    }
-
-    /// A volume joins a set in progress.
-    pub(crate) fn add(&mut self, volume: u32)
-        requires new { is_running self.old.result ≡ true → is_among volume self.old.volumes ≡ false }
-        requires few { is_running self.old.result ≡ true → length self.old.volumes < 64 }
-        ensures { self.new ≡ running_changed (with_volume volume) self.old }
-    {
-        if self.is_running() {
-            self.volumes.push(volume);
         }
     }
 }

@@ -1,18 +1,15 @@
-ghost use Rattle.std.specs.Prelude.{◌≡◌, ◌<◌, ◌≤◌, ◌+◌, ◌++◌, ◌∷◌, ◌==◌, ◌^◌, ◌-◌, [], true, false, length, map, find, option_map, IfOk, IsOk, OnOk, OnErr, IfSome, Some, None};
-ghost use Rattle.set_agenda.specs.Agenda.{is_among};
-ghost use Rattle.set_agenda.specs.Begin.{are_distinct};
+ghost use Rattle.std.specs.Prelude.{◌≡◌, ◌+◌, ◌++◌, ◌∷◌, ◌==◌, [], length, map, find, option_map, OnOk, OnErr, None};
 ghost use Rattle.vss_model.specs.Ending.{row_settled};
-ghost use Rattle.vss_model.specs.Images.{is_in_set};
-ghost use Rattle.vss_model.specs.Sessions.{add_refusal, has_no_volume, new_set, volumes_of, with_volume};
+ghost use Rattle.vss_model.specs.Sessions.{new_set};
 ghost use Rattle.vss_model.specs.State.{SetRow};
 ghost use Rattle.vss_model.specs.Steps.{with_cut};
-ghost use Rattle.sessions.specs.Sets.{current_of, facts_of, is_complete_in, refusal_of, running_changed, running_in};
+ghost use Rattle.sessions.specs.Sets.{current_of, facts_of, is_complete_in, running_changed, running_in};
 
 use crate::set_entry::SetEntry;
 use crate::set_facts::SetFacts;
 use std::alloc::Global;
 use std::marker::Model;
-use vss_names::{Context, OutOfMemory, SetOutcome, VssResult};
+use vss_names::{Context, OutOfMemory, SetOutcome};
 
 /// The sets that were started, by their numbers from 1 on. The newest alone may be in progress, so no call looks at
 /// another.
@@ -65,28 +62,6 @@ impl SetRows {
     {
         let set = self.in_progress()?;
         Some(set.number())
-    }
-
-    /// The volumes of the set in progress, in the order in which they were added.
-    pub(crate) fn volumes(&self) -> &[u32]
-        ensures volumes { result.now ≡ volumes_of (running_in self.now) }
-        ensures distinct { are_distinct result.now ≡ true }
-        ensures few { length result.now ≤ 64 }
-    {
-        match self.in_progress() {
-            Some(set) => set.volumes(),
-            None => &[],
-        }
-    }
-
-    /// Why a volume that has so many images cannot join the set in progress. The first cause is told.
-    pub(crate) fn refusal(&self, volume: u32, images: u32) -> Option<VssResult>
-        ensures { result ≡ refusal_of volume images (running_in self.now) }
-    {
-        match self.in_progress() {
-            Some(set) => set.refusal(volume, images),
-            None => Some(VssResult::BadState),
-        }
     }
 
     /// What is told of a set.
@@ -146,19 +121,6 @@ impl SetRows {
         if count > 0 {
             let newest = &mut self.rows[count - 1];
             newest.cut(now);
-        }
-    }
-
-    /// A volume joins the set in progress.
-    pub(crate) fn add(&mut self, volume: u32)
-        requires new { is_among volume (volumes_of (running_in self.old)) ≡ false }
-        requires few { length (volumes_of (running_in self.old)) < 64 }
-        ensures { self.new ≡ map (running_changed (with_volume volume)) self.old }
-    {
-        let count = self.rows.len();
-        if count > 0 {
-            let newest = &mut self.rows[count - 1];
-            newest.add(volume);
         }
     }
 }

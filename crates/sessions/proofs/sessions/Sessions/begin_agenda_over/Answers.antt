@@ -3,9 +3,6 @@ use Rattle.set_agenda.specs.Course.{Course}
 use Rattle.coordinator.specs.Beginning.{begun_as}
 use Rattle.coordinator.specs.Coordinator.{Stands, IsOnTime}
 use Rattle.coordinator.specs.Effects.{Tells}
-use Rattle.vss_model.specs.State.{SetRow, in_progress}
-use Rattle.vss_model.specs.Sessions.{volumes_of}
-use Rattle.sessions.specs.Sets.{running_in}
 use Rattle.sessions.specs.Keeps.{Keeps}
 use Rattle.sessions.proofs.Disabled.{disabled_begun_as}
 use Rattle.sessions.proofs.Failing.{mid_keeps}
@@ -15,14 +12,13 @@ use Rattle.sessions.proofs.sessions.Sessions.begin_agenda_over.Goals as goal
 pub returns-clause-begun : goal.returns-clause-begun
 returns-clause-begun c st k order kept0 is =
     let kept : Keeps (record { requestor = c.self.inside.requestor; coordinator = c.self.inside.coordinator; sets = c.self.inside.sets; clock = c.self.inside.clock; selection = c.self.inside.selection }) st = rw (← c.self.view_is) at kept0 in
-    let begun : k ≡ begun_as c.args.kind c.self.inside.coordinator.writers c.args.selection.now (volumes_of (in_progress st)) st.clock st.course = rw (← c.self.view_is) at is in
+    let begun : k ≡ begun_as c.args.kind c.self.inside.coordinator.writers c.args.selection.now c.args.volumes.now st.clock st.course = rw (← c.self.view_is) at is in
     let at : c.now-now.result ≡ st.clock = c.now-now.ensures.ticks ∙ kept.clock in
-    let volumes = c.volumes.ensures.volumes ∙ ap (λ (rows : List SetRow). volumes_of (running_in rows)) kept.sets in
-    let same = begun_same (record { requestor = c.self.inside.requestor; coordinator = c.self.inside.coordinator; sets = c.self.inside.sets; clock = c.self.inside.clock; selection = c.self.inside.selection }) st c.args.kind (c.args.selection.now) c.volumes.result.now c.now-now.result k volumes at begun in
+    let same = begun_same (record { requestor = c.self.inside.requestor; coordinator = c.self.inside.coordinator; sets = c.self.inside.sets; clock = c.self.inside.clock; selection = c.self.inside.selection }) st c.args.kind (c.args.selection.now) c.args.volumes.now c.now-now.result k at begun in
     let stands = subst (Stands c.begin_agenda.new.self) same (c.in_ok-effects.ensures.stands st.course kept.course) in
     let tells = subst (λ (d : Course). Tells c.in_ok-effects.effects true [] None st.course d) same (c.in_ok-effects.ensures.tells st.course kept.course) in
     let times = subst (λ (n : ℕ). IsOnTime n c.begin_agenda.new.self) c.now-now.ensures.ticks c.in_ok-effects.ensures.times in
-    let disabled = ap (λ (d : Course). d.disabled) (sym same) ∙ disabled_begun_as c.args.kind c.self.inside.coordinator.writers (c.args.selection.now) c.volumes.result.now c.now-now.result st.course in
+    let disabled = ap (λ (d : Course). d.disabled) (sym same) ∙ disabled_begun_as c.args.kind c.self.inside.coordinator.writers (c.args.selection.now) c.args.volumes.now c.now-now.result st.course in
     let mid = mid_keeps (record { requestor = c.self.inside.requestor; coordinator = c.self.inside.coordinator; sets = c.self.inside.sets; clock = c.self.inside.clock; selection = c.self.inside.selection }) c.begin_agenda.new.self st k kept stands c.begin_agenda.ensures.count times disabled in
     begun_so c.conclude-ended.new.self st k c.conclude-ended.result c.with.result c.with.ensures
     (c.conclude-ended.ensures.keeps st k true order mid tells.outcome tells.agenda_ended)
