@@ -2,6 +2,7 @@
 -- provider's to say.
 use Rattle.std.proofs.Common.{◌≡◌, ℕ, suc, ◌<◌, ◌==◌, List, [], ◌∷◌, length, refl, ap, sym, ◌∙◌, subst, arith, Bool, true, false, Option, Some, None, map}
 use Rattle.std.specs.Prelude.{find, is_some, not, ◌&&◌, option_map, if◌then◌else◌}
+use Rattle.std.proofs.lemmas.List.{length-map}
 use Rattle.vss_names.specs.declared.set_outcome.SetOutcome.{SetOutcome}
 use Rattle.vss_names.specs.declared.set_outcome.SetOutcome.TheVariants.{Running}
 use Rattle.vss_names.specs.declared.vss_result.VssResult.{VssResult}
@@ -120,7 +121,7 @@ adds s lane v st x r goes order kept here free =
     (λ tells. refl) (λ listed rows e. tt) refl
     (record {
       session = kept.session;
-      made = kept.made ∙ sym (length_changed (row_changed r.number (with_volume v)) st.sets);
+      made = kept.made ∙ sym (length-map st.sets (row_changed r.number (with_volume v)));
       course = kept.course;
       sets = kept.sets ∙ sym (unseen_bare (with_volume v) (λ q. refl) r.number st.sets);
       clock = kept.clock;
@@ -131,7 +132,3 @@ adds s lane v st x r goes order kept here free =
     })
     (none_ends (row_changed r.number (with_volume v)) (λ q. changed_number (q.number == r.number) v q) (λ q. changed_result (q.number == r.number) v q) (in_progress st) st.sets
     (ends_none st.sets (in_progress st) order.numbered order.newest refl)) refl)
-  where
-    length_changed : (f : SetRow → SetRow) (rows : List SetRow) → length (map f rows) ≡ length rows
-    length_changed f [] = refl
-    length_changed f (q ∷ rows) = ap (λ (n : ℕ). suc n) (length_changed f rows)

@@ -1,6 +1,7 @@
 -- What follows from a step of the course.
 use Rattle.std.proofs.Common.{◌≡◌, ℕ, zero, suc, List, [], ◌∷◌, length, refl, ap, sym, ◌∙◌, subst, arith, Bool, true, false, Option, Some, None, map, slice_get, slice_set}
 use Rattle.std.specs.Prelude.{◌&&◌, ◌||◌, not, is_some, find, option_map, if◌then◌else◌}
+use Rattle.std.proofs.lemmas.List.{length-map}
 use Rattle.vss_names.specs.declared.vss_result.VssResult.{VssResult}
 use Rattle.vss_names.specs.declared.set_outcome.SetOutcome.{SetOutcome}
 use Rattle.vss_names.specs.declared.set_outcome.SetOutcome.TheVariants.{Running, Complete, Failed}
@@ -15,51 +16,9 @@ use Rattle.vss_model.specs.Facts.{OverButNewest, IsOfSession, has_failed}
 use Rattle.sessions.specs.Sets.{bare, current_of}
 use Rattle.sessions.specs.Keeps.{SessionsValue, Keeps, IsInOrder}
 use Rattle.sessions.specs.Concluded.{IsConcluded, ended_so}
-use Rattle.sessions.proofs.Newest.{current_bare, settled_bare}
+use Rattle.sessions.proofs.Newest.{changed_none, current_bare, settled_bare}
 
 -- ## rows
-
-unsettled_if : (b : Bool) (o : SetOutcome) (r : SetRow) → is_running r.result ≡ b → b ≡ false → row_settled o r ≡ r
-unsettled_if true o r e f = cc
-unsettled_if false o r e f = ap (λ (t : Bool). if t then record r { result = o } else r) (e ∙ refl)
-
--- where the newest alone may be in progress, the others stay as they are
-pub settled_last : (o : SetOutcome) (rows : List SetRow) (n : ℕ) (r : SetRow) → OverButNewest rows → slice_get rows n ≡ Some r → length rows ≡ suc n → map (row_settled o) rows ≡ slice_set rows n (row_settled o r)
-settled_last o [] n r h e long = cc
-settled_last o (q ∷ []) zero r h e long = let same : q ≡ r = cc in ap (λ (x : SetRow). row_settled o x ∷ []) same
-settled_last o (q ∷ []) (suc n) r h e long = cc
-settled_last o (q ∷ p ∷ rows) zero r h e long = absurd (omega (arith, long))
-settled_last o (q ∷ p ∷ rows) (suc n) r h e long =
-    let rest : length (p ∷ rows) ≡ suc n = cc in
-    ap (λ (x : SetRow). x ∷ map (row_settled o) (p ∷ rows)) (unsettled_if (is_running q.result) o q refl h.0) ∙ ap (λ (xs : List SetRow). q ∷ xs) (settled_last o (p ∷ rows) n r h.1 e rest)
-
-found_if : (b : Bool) (r : SetRow) (found : Option SetRow) → b ≡ false → (if b then Some r else found) ≡ found
-found_if true r found e = cc
-found_if false r found e = refl
-
-pub current_last : (rows : List SetRow) (n : ℕ) (r : SetRow) → OverButNewest rows → slice_get rows n ≡ Some r → length rows ≡ suc n → current_of rows ≡ current_of (r ∷ [])
-current_last [] n r h e long = cc
-current_last (q ∷ []) zero r h e long = let same : q ≡ r = cc in ap (λ (x : SetRow). current_of (x ∷ [])) same
-current_last (q ∷ []) (suc n) r h e long = cc
-current_last (q ∷ p ∷ rows) zero r h e long = absurd (omega (arith, long))
-current_last (q ∷ p ∷ rows) (suc n) r h e long =
-    let rest : length (p ∷ rows) ≡ suc n = cc in
-    ap (option_map (λ (x : SetRow). x.number)) (found_if (is_running q.result) q (find (λ (x : SetRow). is_running x.result) (p ∷ rows)) h.0) ∙ current_last (p ∷ rows) n r h.1 e rest
-
-none_head : (b : Bool) (x : SetRow) (other : Option SetRow) → (if b then Some x else other) ≡ None → b ≡ false
-none_head true x other e = cc
-none_head false x other e = refl
-
-none_tail : (b : Bool) (x : SetRow) (other : Option SetRow) → (if b then Some x else other) ≡ None → other ≡ None
-none_tail true x other e = cc
-none_tail false x other e = e
-
--- where none is in progress, all stay as they are
-pub settled_none : (o : SetOutcome) (rows : List SetRow) → find (λ r. is_running r.result) rows ≡ None → map (row_settled o) rows ≡ rows
-settled_none o [] e = refl
-settled_none o (r ∷ rows) e =
-    ap (λ (x : SetRow). x ∷ map (row_settled o) rows) (unsettled_if (is_running r.result) o r refl (none_head (is_running r.result) r _ e))
-    ∙ ap (λ (xs : List SetRow). r ∷ xs) (settled_none o rows (none_tail (is_running r.result) r _ e))
 
 pub current_kept : (x : SessionsValue) (st : State) → Keeps x st → current_of x.sets ≡ current_of st.sets
 current_kept x st kept = ap current_of kept.sets ∙ current_bare st.sets
@@ -75,8 +34,8 @@ over_stage (Some q) o (Some r) e h = let is : o ≡ Running = h.2 in cc
 
 pub rows_as_told : (before after : SetOutcome) (rows : List SetRow) → (is_running before ≡ false → find (λ r. is_running r.result) rows ≡ None) → map (row_settled (outcome_told before after)) rows ≡ map (row_settled after) rows
 rows_as_told Running after rows h = refl
-rows_as_told Complete after rows h = settled_none Running rows (h refl) ∙ sym (settled_none after rows (h refl))
-rows_as_told (Failed why) after rows h = settled_none Running rows (h refl) ∙ sym (settled_none after rows (h refl))
+rows_as_told Complete after rows h = changed_none (λ (r : SetRow). record r { result = Running }) rows (h refl) ∙ sym (changed_none (λ (r : SetRow). record r { result = after }) rows (h refl))
+rows_as_told (Failed why) after rows h = changed_none (λ (r : SetRow). record r { result = Running }) rows (h refl) ∙ sym (changed_none (λ (r : SetRow). record r { result = after }) rows (h refl))
 
 pub end_if : Bool → Option Agenda → Ending
 end_if true None = AgendaEnds
@@ -124,10 +83,6 @@ goes_if true None e = cc
 goes_if true (Some a) e = refl
 goes_if false a e = refl
 
-length_map : (f : SetRow → SetRow) (rows : List SetRow) → length (map f rows) ≡ length rows
-length_map f [] = refl
-length_map f (r ∷ rows) = ap (λ n. suc n) (length_map f rows)
-
 session_ended : (o : SetOutcome) (q : Option Session) → has_failed o ≡ false → option_map (ended o) q ≡ option_map agenda_ended q
 session_ended Running q e = refl
 session_ended Complete q e = refl
@@ -145,7 +100,7 @@ module _ (old : SessionsValue) (st : State) (c : Course) (ran : Bool) (order : I
   keeps_failed : (why : VssResult) → c.outcome ≡ Failed why → Keeps (ended_so (Failed why) old) (concluded (SetFails why) (record st { course = c }))
   keeps_failed why e = record {
     session = ap (option_map (set_failed why)) kept.session;
-    made = kept.made ∙ sym (length_map (row_settled c.outcome) st.sets);
+    made = kept.made ∙ sym (length-map st.sets (row_settled c.outcome));
     course = kept.course;
     sets = ap (map (row_settled (Failed why))) kept.sets ∙ settled_bare (Failed why) st.sets ∙ ap (λ (o : SetOutcome). map bare (map (row_settled o) st.sets)) (sym e);
     clock = kept.clock;
@@ -158,7 +113,7 @@ module _ (old : SessionsValue) (st : State) (c : Course) (ran : Bool) (order : I
   keeps_ended : (o : SetOutcome) → has_failed o ≡ false → map (row_settled o) st.sets ≡ map (row_settled c.outcome) st.sets → Keeps (ended_so o old) (concluded AgendaEnds (record st { course = c }))
   keeps_ended o e rows = record {
     session = ap (option_map (ended o)) kept.session ∙ session_ended o st.session e;
-    made = kept.made ∙ sym (length_map (row_settled c.outcome) st.sets);
+    made = kept.made ∙ sym (length-map st.sets (row_settled c.outcome));
     course = kept.course;
     sets = ap (map (row_settled o)) kept.sets ∙ settled_bare o st.sets ∙ ap (map bare) rows;
     clock = kept.clock;

@@ -1,6 +1,7 @@
 -- A writer's answer and the provider's steps: each is a step of the course, with what follows from it.
 use Rattle.std.proofs.Common.{◌≡◌, ℕ, suc, ◌==◌, length, List, [], ◌∷◌, refl, ap, sym, ◌∙◌, subst, Bool, true, false, Option, Some, None, map}
 use Rattle.std.specs.Prelude.{is_some, not, ◌&&◌, find, option_map, if◌then◌else◌}
+use Rattle.std.proofs.lemmas.List.{length-map}
 use Rattle.vss_names.specs.declared.order.Order.{Order}
 use Rattle.vss_names.specs.declared.set_outcome.SetOutcome.{SetOutcome}
 use Rattle.write_history.specs.declared.mark.Mark.{Mark}
@@ -137,15 +138,11 @@ besides st Commit order = besides_itself st order
 besides st Release order = besides_itself st order
 besides st PostCommit order = besides_itself st order
 
-length_map : (f : SetRow → SetRow) (rows : List SetRow) → length (map f rows) ≡ length rows
-length_map f [] = refl
-length_map f (r ∷ rows) = ap (λ n. suc n) (length_map f rows)
-
 set_cut : (x : SessionsValue) (st : State) (r : SetRow) (now : ℕ) → in_progress st ≡ Some r → now ≡ st.clock → IsInOrder st → Keeps x st
     → Keeps (record { requestor = x.requestor; coordinator = x.coordinator; sets = map (running_changed (with_cut now)) x.sets; clock = x.clock; selection = x.selection }) (cut_set (Some r) st)
 set_cut x st r now found clock order kept = record {
   session = kept.session;
-  made = kept.made ∙ sym (length_map (row_cut r.number st.clock) st.sets);
+  made = kept.made ∙ sym (length-map st.sets (row_cut r.number st.clock));
   course = kept.course;
   sets = ap (map (running_changed (with_cut now))) kept.sets ∙ changed_bare (with_cut now) (λ q. refl) st.sets
       ∙ ap (map bare) (ap (λ (t : ℕ). map (running_changed (with_cut t)) st.sets) clock ∙ changed_by_number (with_cut st.clock) 1 st.sets r order.numbered order.newest found);

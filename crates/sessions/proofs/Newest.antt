@@ -2,6 +2,7 @@
 use Rattle.std.proofs.Common.{◌≡◌, ℕ, zero, suc, ◌+◌, ◌<◌, ◌≤◌, ◌==◌, List, [], ◌∷◌, ◌++◌, length, refl, ap, sym, ◌∙◌, arith, Bool, true, false, Option, Some, None, map, slice_get, slice_set}
 use Rattle.std.specs.Prelude.{find, option_map, if◌then◌else◌, ◌&&◌, ◌||◌}
 use Rattle.std.proofs.lemmas.Bool.Decides.{nat_tests}
+use Rattle.std.proofs.lemmas.List.{length-map}
 use Rattle.vss_names.specs.declared.set_outcome.SetOutcome.{SetOutcome}
 use Rattle.vss_model.specs.State.{SetRow, is_running, is_complete, row_changed}
 use Rattle.vss_model.specs.Facts.{NumberedFrom, OverButNewest, has_failed}
@@ -13,7 +14,7 @@ use Rattle.sessions.specs.Sets.{AreSets, bare, current_of, facts_of, is_complete
 
 -- ## the newest alone changes
 
-unchanged : (f : SetRow → SetRow) (r : SetRow) → is_running r.result ≡ false → running_changed f r ≡ r
+pub unchanged : (f : SetRow → SetRow) (r : SetRow) → is_running r.result ≡ false → running_changed f r ≡ r
 unchanged f r e = ap (λ (t : Bool). if t then f r else r) e
 
 -- where the newest alone may be in progress, the others stay as they are
@@ -41,7 +42,7 @@ changed_none f (r ∷ rows) e =
     rest_none true x other e = cc
     rest_none false x other e = e
 
-found_if : (b : Bool) (r : SetRow) (found : Option SetRow) → b ≡ false → (if b then Some r else found) ≡ found
+pub found_if : (b : Bool) (r : SetRow) (found : Option SetRow) → b ≡ false → (if b then Some r else found) ≡ found
 found_if true r found e = cc
 found_if false r found e = refl
 
@@ -60,21 +61,21 @@ running_last (q ∷ p ∷ rows) (suc n) r h e long =
 pick : (b : Bool) (f : SetRow → SetRow) (r : SetRow) → (r.number == r.number) ≡ b → b ≡ true → row_changed r.number f r ≡ f r
 pick b f r e g = ap (λ (t : Bool). if t then f r else r) (e ∙ g)
 
-own : (a : ℕ) → (a == a) ≡ true
+pub own : (a : ℕ) → (a == a) ≡ true
 own a = grind (arith, nat_tests)
 
-apart : (a b : ℕ) → a < b → (a == b) ≡ false
+pub apart : (a b : ℕ) → a < b → (a == b) ≡ false
 apart a b l = grind (arith, nat_tests)
 
-record IsHead (q r : SetRow) : Type 0 where
-  same : q ≡ r
-  running : is_running q.result ≡ true
+pub record IsHead (q r : SetRow) : Type 0 where
+  pub same : q ≡ r
+  pub running : is_running q.result ≡ true
 
-head_found : (b : Bool) (q r : SetRow) → is_running q.result ≡ b → (if b then Some q else None) ≡ Some r → IsHead q r
+pub head_found : (b : Bool) (q r : SetRow) → is_running q.result ≡ b → (if b then Some q else None) ≡ Some r → IsHead q r
 head_found true q r e f = record { same = cc; running = e }
 head_found false q r e f = absurd cc
 
-rest_found : (b : Bool) (q r : SetRow) (found : Option SetRow) → b ≡ false → (if b then Some q else found) ≡ Some r → found ≡ Some r
+pub rest_found : (b : Bool) (q r : SetRow) (found : Option SetRow) → b ≡ false → (if b then Some q else found) ≡ Some r → found ≡ Some r
 rest_found true q r found e f = cc
 rest_found false q r found e f = f
 
@@ -126,7 +127,7 @@ sets_started rows r h e n = record { numbered = numbered-append 1 rows r h.numbe
 
 -- ## a set by its number
 
-look_if : (b : Bool) (r : SetRow) (found : Option SetRow) → b ≡ true → (if b then Some r else found) ≡ Some r
+pub look_if : (b : Bool) (r : SetRow) (found : Option SetRow) → b ≡ true → (if b then Some r else found) ≡ Some r
 look_if true r found e = refl
 look_if false r found e = cc
 
@@ -243,8 +244,7 @@ complete_bare [] n = refl
 complete_bare (r ∷ rows) n = ap (λ (b : Bool). ((r.number == n) && is_complete r.result) || b) (complete_bare rows n)
 
 pub length_bare : (rows : List SetRow) → length (map bare rows) ≡ length rows
-length_bare [] = refl
-length_bare (r ∷ rows) = ap (λ (n : ℕ). suc n) (length_bare rows)
+length_bare rows = length-map rows bare
 
 pub none_bare : (rows : List SetRow) → running_in rows ≡ None → running_in (map bare rows) ≡ None
 none_bare rows e = found_bare (λ (r : SetRow). is_running r.result) (λ r. refl) rows ∙ ap (option_map bare) e

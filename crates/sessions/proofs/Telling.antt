@@ -16,6 +16,7 @@ use Rattle.vss_model.specs.Facts.{NumberedFrom, OverButNewest, has_failed}
 use Rattle.vss_model.proofs.OneCut.{newest_number}
 use Rattle.sessions.specs.declared.ended.Ended.{Ended}
 use Rattle.sessions.specs.Sets.{current_of}
+use Rattle.sessions.proofs.Newest.{apart, found_if, head_found, look_if, own, rest_found, unchanged}
 use Rattle.sessions.proofs.Concluding.{current_kept, ending_other, fails, ends_if, goes_if, either, neither, over_stage, rows_as_told}
 use Rattle.sessions.specs.Keeps.{SessionsValue, Keeps, IsInOrder}
 use Rattle.sessions.specs.Concluded.{IsTold, IsConcludedTold, ends_as, failed_set, nothing_ends, without_images}
@@ -25,70 +26,44 @@ use Rattle.sessions.specs.Concluded.{IsTold, IsConcludedTold, ends_as, failed_se
 abbrev is_over_row : ℕ → SetRow → Bool
 is_over_row n q = (q.number == n) && not (is_running q.result)
 
-apart : (a b : ℕ) → a < b → (a == b) ≡ false
-apart a b l = grind (arith, nat_tests)
-
-own_number : (a : ℕ) → (a == a) ≡ true
-own_number a = grind (arith, nat_tests)
-
-unsettled : (b : Bool) (o : SetOutcome) (r : SetRow) → is_running r.result ≡ b → b ≡ false → row_settled o r ≡ r
-unsettled true o r e f = cc
-unsettled false o r e f = ap (λ (t : Bool). if t then record r { result = o } else r) e
-
 settled_now : (o : SetOutcome) (r : SetRow) → is_running r.result ≡ true → row_settled o r ≡ record r { result = o }
 settled_now o r e = ap (λ (t : Bool). if t then record r { result = o } else r) e
-
-pass : (b : Bool) (x : SetRow) (rest o : Option SetRow) → b ≡ false → rest ≡ o → (if b then Some x else rest) ≡ o
-pass true x rest o e f = cc
-pass false x rest o e f = f
 
 both_no : (a b : Bool) → a ≡ false → (a && b) ≡ false
 both_no true b e = cc
 both_no false b e = refl
 
-take : (b : Bool) (x : SetRow) (rest : Option SetRow) → b ≡ true → (if b then Some x else rest) ≡ Some x
-take true x rest e = refl
-take false x rest e = cc
-
-found_here : (b : Bool) (q r : SetRow) → is_running q.result ≡ b → (if b then Some q else None) ≡ Some r → (q ≡ r) × (is_running q.result ≡ true)
-found_here true q r e f = (cc, e)
-found_here false q r e f = absurd cc
-
-rest_of : (b : Bool) (q : SetRow) (found : Option SetRow) (r : SetRow) → b ≡ false → (if b then Some q else found) ≡ Some r → found ≡ Some r
-rest_of true q found r e f = cc
-rest_of false q found r e f = f
-
 ended_row : (o : SetOutcome) → is_running o ≡ false → (m : ℕ) (rows : List SetRow) (r : SetRow) → NumberedFrom m rows → OverButNewest rows → find (λ q. is_running q.result) rows ≡ Some r
     → find (is_over_row r.number) (map (row_settled o) rows) ≡ Some (record r { result = o })
 ended_row o over m [] r n h e = cc
 ended_row o over m (q ∷ []) r n h e =
-    let f = found_here (is_running q.result) q r refl e in
-    let is : row_settled o q ≡ record r { result = o } = settled_now o q f.1 ∙ ap (λ (x : SetRow). record x { result = o }) f.0 in
+    let f = head_found (is_running q.result) q r refl e in
+    let is : row_settled o q ≡ record r { result = o } = settled_now o q f.running ∙ ap (λ (x : SetRow). record x { result = o }) f.same in
     ap (λ (x : SetRow). if is_over_row r.number x then Some x else None) is
-    ∙ take (is_over_row r.number (record r { result = o })) (record r { result = o }) None (ap (λ (t : Bool). t && not (is_running o)) (own_number r.number) ∙ ap not over)
+    ∙ look_if (is_over_row r.number (record r { result = o })) (record r { result = o }) None (ap (λ (t : Bool). t && not (is_running o)) (own r.number) ∙ ap not over)
 ended_row o over m (q ∷ p ∷ rows) r n h e =
-    let rest = rest_of (is_running q.result) q (find (λ x. is_running x.result) (p ∷ rows)) r h.0 e in
+    let rest = rest_found (is_running q.result) q r (find (λ x. is_running x.result) (p ∷ rows)) h.0 e in
     let number = newest_number (m + 1) (p ∷ rows) r n.1 h.1 rest in
     let less : q.number < r.number = let first = n.0 in omega (arith, first, number) in
-    ap (λ (x : SetRow). if is_over_row r.number x then Some x else find (is_over_row r.number) (map (row_settled o) (p ∷ rows))) (unsettled (is_running q.result) o q refl h.0)
-    ∙ pass (is_over_row r.number q) q _ _ (both_no (q.number == r.number) (not (is_running q.result)) (apart q.number r.number less)) (ended_row o over (m + 1) (p ∷ rows) r n.1 h.1 rest)
+    ap (λ (x : SetRow). if is_over_row r.number x then Some x else find (is_over_row r.number) (map (row_settled o) (p ∷ rows))) (unchanged (λ (x : SetRow). record x { result = o }) q h.0)
+    ∙ found_if (is_over_row r.number q) q _ (both_no (q.number == r.number) (not (is_running q.result)) (apart q.number r.number less)) ∙ ended_row o over (m + 1) (p ∷ rows) r n.1 h.1 rest
 
 -- none has ended that is in progress
 none_ended : (m : ℕ) (rows : List SetRow) (r : SetRow) → NumberedFrom m rows → OverButNewest rows → find (λ q. is_running q.result) rows ≡ Some r → find (is_over_row r.number) rows ≡ None
 none_ended m [] r n h e = cc
 none_ended m (q ∷ []) r n h e =
-    let f = found_here (is_running q.result) q r refl e in
-    pass (is_over_row r.number q) q None None (second (q.number == r.number) (is_running q.result) f.1) refl
+    let f = head_found (is_running q.result) q r refl e in
+    found_if (is_over_row r.number q) q None (second (q.number == r.number) (is_running q.result) f.running)
   where
     second : (a b : Bool) → b ≡ true → (a && not b) ≡ false
     second true true g = refl
     second false true g = refl
     second a false g = cc
 none_ended m (q ∷ p ∷ rows) r n h e =
-    let rest = rest_of (is_running q.result) q (find (λ x. is_running x.result) (p ∷ rows)) r h.0 e in
+    let rest = rest_found (is_running q.result) q r (find (λ x. is_running x.result) (p ∷ rows)) h.0 e in
     let number = newest_number (m + 1) (p ∷ rows) r n.1 h.1 rest in
     let less : q.number < r.number = let first = n.0 in omega (arith, first, number) in
-    pass (is_over_row r.number q) q _ _ (both_no (q.number == r.number) (not (is_running q.result)) (apart q.number r.number less)) (none_ended (m + 1) (p ∷ rows) r n.1 h.1 rest)
+    found_if (is_over_row r.number q) q _ (both_no (q.number == r.number) (not (is_running q.result)) (apart q.number r.number less)) ∙ none_ended (m + 1) (p ∷ rows) r n.1 h.1 rest
 
 -- ## what is told
 
@@ -99,7 +74,7 @@ result_is (Failed why) e = cc
 
 same_if : (b : Bool) (r : SetRow) → is_running r.result ≡ b → row_settled Running r ≡ r
 same_if true r e = settled_now Running r e ∙ ap (λ (o : SetOutcome). record r { result = o }) (sym (result_is r.result e))
-same_if false r e = unsettled false Running r e refl
+same_if false r e = unchanged (λ (x : SetRow). record x { result = Running }) r e
 
 settled_same : (rows : List SetRow) → map (row_settled Running) rows ≡ rows
 settled_same [] = refl

@@ -25,7 +25,7 @@ impl Sessions {
         ensures leaves { Leaves self.old self.new }
     {
         let _lane = lane;
-        self.begin_agenda(alloc, Kind::Gather, &[])
+        self.begin_agenda(alloc, Kind::Gather, &[], None)
     }
 
     /// The writers that take part are told that the backup is complete.
@@ -38,7 +38,7 @@ impl Sessions {
         ensures leaves { Leaves self.old self.new }
     {
         let _lane = lane;
-        self.begin_agenda(alloc, Kind::Complete, &[])
+        self.begin_agenda(alloc, Kind::Complete, &[], None)
     }
 
     /// The snapshot of the set's volumes is made.
@@ -60,6 +60,6 @@ impl Sessions {
         if volumes.is_empty() {
             return Ok(SessionMove::alone(Told::Result(VssResult::BadState)));
         }
-        self.begin_agenda(alloc, Kind::Snapshot, volumes)
+        self.begin_agenda(alloc, Kind::Snapshot, volumes, None)
     }
 }

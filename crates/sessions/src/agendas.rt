@@ -1,4 +1,4 @@
-ghost use Rattle.std.specs.Prelude.{◌≡◌, ◌<◌, ◌≤◌, ◌+◌, ◌^◌, ℕ, false, true, IfOk, OnErr};
+ghost use Rattle.std.specs.Prelude.{◌≡◌, ◌<◌, ◌≤◌, ◌+◌, ◌^◌, ℕ, false, true, option_map, unwrap_or, IfOk, OnErr};
 ghost use Rattle.component_doc.specs.Held.{Held};
 ghost use Rattle.coordinator.specs.Coordinator.{MayPost, IsOnTime, runs, writer_count};
 ghost use Rattle.scenario.specs.Plan.{Plan};
@@ -20,47 +20,24 @@ use vss_model::{Outcome, Told};
 use vss_names::{OutOfMemory, VssResult};
 
 impl Sessions {
-    /// An agenda begins, over what the session has named and these volumes.
+    /// An agenda begins over these volumes, and over this selection or the one that the session keeps.
     pub(crate) fn begin_agenda(
         &mut self,
         alloc: Global,
         kind: Kind,
         volumes: &[u32],
+        over: Option<&Selection>,
     ) -> Result<SessionMove, OutOfMemory>
         requires idle { runs self.old.coordinator ≡ false }
         requires room { MayPost self.old.coordinator }
         requires distinct { are_distinct volumes.now ≡ true }
-        requires over { self.old.selection.writers ≡ writer_count self.old.coordinator }
-        ensures begun { IfOk result (HasBegun kind self.old.selection volumes.now self.old self.new) }
+        requires over { (unwrap_or (option_map (λ s. s.now) over) self.old.selection).writers ≡ writer_count self.old.coordinator }
+        ensures begun { IfOk result (HasBegun kind (unwrap_or (option_map (λ s. s.now) over.entry) self.old.selection) volumes.now self.old self.new) }
         ensures unchanged { OnErr result (self.new ≡ self.old) }
         ensures leaves { Leaves self.old self.new }
     {
         let now = self.clock.now();
-        let effects = self
-            .coordinator
-            .begin_agenda(alloc, kind, 0, volumes, &self.selection, now)?;
-        let ended = self.conclude(effects.outcome, effects.agenda_ended);
-        let told = Told::Result(VssResult::AsyncPending);
-        Ok(SessionMove::with(told, ended))
-    }
-
-    /// The same, over a selection that the session does not keep.
-    pub(crate) fn begin_agenda_over(
-        &mut self,
-        alloc: Global,
-        kind: Kind,
-        volumes: &[u32],
-        selection: &Selection,
-    ) -> Result<SessionMove, OutOfMemory>
-        requires idle { runs self.old.coordinator ≡ false }
-        requires room { MayPost self.old.coordinator }
-        requires distinct { are_distinct volumes.now ≡ true }
-        requires over { selection.now.writers ≡ writer_count self.old.coordinator }
-        ensures begun { IfOk result (HasBegun kind selection.now volumes.now self.old self.new) }
-        ensures unchanged { OnErr result (self.new ≡ self.old) }
-        ensures leaves { Leaves self.old self.new }
-    {
-        let now = self.clock.now();
+        let selection = selected(over, &self.selection);
         let effects = self
             .coordinator
             .begin_agenda(alloc, kind, 0, volumes, selection, now)?;
@@ -69,7 +46,7 @@ impl Sessions {
         Ok(SessionMove::with(told, ended))
     }
 
-    /// So many ticks go by: the line `tick`. A limit that is spent is treated in the same move.
+    /// The clock goes on by so many ticks: the line `tick`. A limit that is spent is treated in the same move.
     pub fn time(&mut self, ticks: u32) -> SessionMove
         requires standing { IsStanding self.old }
         ensures moves { (s : Plan) (lane : ℕ) → IsMove (IsAt self.old s) s self.new (Line lane (Tick ticks)) result }
@@ -78,7 +55,7 @@ impl Sessions {
         self.go_on(Told::Ok, ticks as u64)
     }
 
-    /// Time goes by until a limit is spent; it waits where no writer is waited for.
+    /// Time goes by until a limit is spent. The event waits if no writer is asked.
     pub fn idle(&mut self) -> Called
         requires standing { IsStanding self.old }
         ensures called { (s : Plan) → IsCall (IsAt self.old s) s self.old self.new Idle result }
@@ -94,7 +71,7 @@ impl Sessions {
         }
     }
 
-    /// So many ticks go by, and this is told.
+    /// The clock goes on by so many ticks, and the reply is this.
     fn go_on(&mut self, told: Told, ticks: u64) -> SessionMove
         requires room { MayPost self.old.coordinator }
         requires early { self.old.clock < 2 ^ 62 }
@@ -117,6 +94,16 @@ impl Sessions {
             },
             released: None,
         }
+    }
+}
+
+/// This selection, or else the session's own.
+fn selected<'a>(over: Option<&'a Selection>, own: &'a Selection) -> &'a Selection
+    ensures { result.now ≡ unwrap_or (option_map (λ s. s.now) over.entry) own.now }
+{
+    match over {
+        Some(selection) => selection,
+        None => own,
     }
 }
 

@@ -14,7 +14,7 @@ use vss_model::Told;
 use writer_calls::Answer;
 
 impl Sessions {
-    /// A writer answers its open order; it waits where it has none.
+    /// A writer answers its open order. The event waits if it has none.
     pub fn answer(&mut self, writer: u32, answer: Answer) -> Called
         requires standing { IsStanding self.old }
         requires known { writer < writer_count self.old.coordinator }

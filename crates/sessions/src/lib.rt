@@ -1,15 +1,15 @@
-//! Sessions with all that belongs to them: the session that stands, the sets that were started, the writers with the
-//! agenda that runs, what the session has named, and the clock.
+//! The session, the sets that were started, the writers with the agenda that runs, what the session has named, and the
+//! clock.
 //!
-//! Contracts see a `Sessions` as its parts, and `specs/Keeps.antt` says for which states of the definitions they stand:
-//! for all of a state but the volumes. Each call promises that its event waits exactly as the definitions say, or that
-//! it is an enabled move: its reply and effects are those of the definitions, and what is kept afterwards stands for the
-//! state after it (`specs/Moves.antt`). The images of a set that fails go, and those of a set that is released with its
-//! session; the layer above drops them, since no device is known here.
+//! Contracts see a `Sessions` as its parts, and `specs/Keeps.antt` says which states of the definitions they keep: all of
+//! a state but the volumes, and which of them are in a set. Each call promises that its event waits exactly as the
+//! definitions say, or that it is an enabled move: its reply and effects are those of the definitions, and what is kept
+//! afterwards is the state after it (`specs/Moves.antt`). The images of a set that fails go, and those of a set that is
+//! released with its session; the layer above drops them, since no device is known here.
 //!
-//! A call asks only that what is kept stands for some state that acts lead to; which one, the caller need not say. Of
-//! the session lines only `component`, `document`, `start`, `gather`, `prepare`, `snapshot` and `complete` may want
-//! memory, and then nothing has changed.
+//! A call asks only that some state that acts lead to is kept; the caller need not say which. Of the session lines only
+//! `component`, `document`, `start`, `gather`, `prepare`, `snapshot` and `complete` may run out of memory, and then
+//! nothing has changed.
 #![tactic(auto)]
 
 mod agenda_lines;

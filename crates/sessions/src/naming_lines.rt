@@ -21,7 +21,7 @@ use vss_model::Told;
 use vss_names::{OutOfMemory, Text, VssResult};
 
 impl Sessions {
-    /// The participants are fixed, and asked to prepare.
+    /// The participants are chosen, and asked to prepare.
     pub(crate) fn prepare(
         &mut self,
         alloc: Global,
@@ -42,11 +42,11 @@ impl Sessions {
             return Ok(SessionMove::alone(Told::Result(VssResult::BadState)));
         }
         if !self.takes_all() {
-            return self.begin_agenda(alloc, Kind::Prepare, volumes);
+            return self.begin_agenda(alloc, Kind::Prepare, volumes, None);
         }
         let metas = self.metas(alloc, scenario)?;
         let selection = Selection::all(alloc, &metas)?;
-        self.begin_agenda_over(alloc, Kind::Prepare, volumes, &selection)
+        self.begin_agenda(alloc, Kind::Prepare, volumes, Some(&selection))
     }
 
     /// Whether the session takes all components of the writers that it knows.
@@ -118,7 +118,7 @@ impl Sessions {
     {
         let _lane = lane;
         let Some(context) = self.requestor.context() else {
-            // the checks let no document be asked for without a session
+            // without a session the checks refuse `document`
             return Err(OutOfMemory);
         };
         let metas = self.metas(alloc, scenario)?;
@@ -130,7 +130,7 @@ impl Sessions {
     }
 }
 
-/// What is told of a component that was named, or was not.
+/// The reply to a `component` line.
 fn told_of_naming(added: Result<(), AddFault>) -> Result<Told, OutOfMemory>
     ensures told { IfOk result (λ told. told_named added ≡ Some told) }
     ensures memory { OnErr result (told_named added ≡ None) }
@@ -144,8 +144,8 @@ fn told_of_naming(added: Result<(), AddFault>) -> Result<Told, OutOfMemory>
     }
 }
 
-/// A document is told by its length and its digest. One of 4 GiB or more, which no scenario has, counts as one that
-/// there is no memory for.
+/// The reply shows the length and the digest of a document. For one of 4 GiB or more, which no scenario has, there is no
+/// memory.
 fn told_of(text: &Text) -> Result<Told, OutOfMemory>
     ensures { IfOk result (λ told. told ≡ Told.Document (length text.now.bytes) (sha256 text.now.bytes)) }
 {

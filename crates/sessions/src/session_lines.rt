@@ -29,7 +29,7 @@ impl Sessions {
         SessionMove::alone(Told::Ok)
     }
 
-    /// Nothing is named any more. The list that is empty takes no memory.
+    /// Nothing is named any more. The empty list takes no memory.
     fn forget(&mut self, alloc: Global)
         ensures { self.new ≡ nothing_named_in self.old }
     {
@@ -47,7 +47,7 @@ impl Sessions {
     {
         let number = self.requestor.sets_made() + 1;
         let Some(context) = self.requestor.context() else {
-            // the checks let no set start without a session
+            // without a session the checks refuse `start`
             return Ok(SessionMove::alone(Told::Result(VssResult::BadState)));
         };
         self.sets.start(number, context)?;
@@ -55,7 +55,7 @@ impl Sessions {
         Ok(SessionMove::alone(Told::Set(number)))
     }
 
-    /// What the last agenda, or the failure of the set, came to.
+    /// The result of the last agenda, or of the set's failure.
     pub(crate) fn await_last(&mut self, lane: u32) -> SessionMove
         requires goes { check self.old.requestor.session (runs self.old.coordinator) lane SessionCall.Await ≡ Verdict.Go }
         ensures gone { IsGone self.old self.new lane op.Await result }
@@ -99,7 +99,7 @@ impl Sessions {
         SessionMove::with(Told::Ok, ended)
     }
 
-    /// The session ends. A set in progress fails; of a context whose images go with the session, those of its set go.
+    /// The session ends. A set in progress fails. In a context whose images go with the session, its set is released.
     pub(crate) fn end(&mut self, alloc: Global, lane: u32) -> SessionMove
         requires goes { check self.old.requestor.session (runs self.old.coordinator) lane SessionCall.End ≡ Verdict.Go }
         ensures gone { IsGone self.old self.new lane op.End result }

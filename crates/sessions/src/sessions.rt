@@ -44,7 +44,7 @@ impl Model for Sessions {
 }
 
 impl Sessions {
-    /// No session was begun, over a coordinator with all writers of a scenario and before its first agenda.
+    /// No session has begun. The coordinator has all writers of a scenario, and has run no agenda.
     pub fn new(alloc: Global, coordinator: Coordinator) -> Sessions
         requires times { IsOnTime 0 coordinator }
         ensures keeps { (s : Plan) → Stands coordinator (start s).course → Keeps result (start s) }
@@ -75,7 +75,7 @@ impl Sessions {
         self.sets.current()
     }
 
-    /// What is told of a set; none where no set has this number.
+    /// The facts of a set; none if no set has this number.
     pub fn facts(&self, set: u32) -> Option<SetFacts>
         ensures { (st : State) → Keeps self.now st → result ≡ option_map facts_of (row_of st set) }
     {
@@ -103,7 +103,7 @@ impl Sessions {
         self.coordinator.writers()
     }
 
-    /// Whether the writer stands frozen.
+    /// Whether the writer is frozen.
     pub fn is_frozen(&self, writer: u32) -> bool
         requires { writer < writer_count self.now.coordinator }
         ensures { (st : State) → Keeps self.now st → result ≡ is_frozen st writer }
@@ -118,7 +118,7 @@ impl Sessions {
         self.coordinator.is_held(volume)
     }
 
-    /// The order that a writer has to answer; none where no order of it is open.
+    /// The order that a writer has to answer; none if no order of it is open.
     pub fn poll(&self, writer: u32) -> Option<Standing>
         requires { writer < writer_count self.now.coordinator }
         ensures { (st : State) → Keeps self.now st → result ≡ standing_in st.course writer }
@@ -148,7 +148,7 @@ impl Sessions {
         }
     }
 
-    /// Whether writers are waited for, so that time may go by until a limit is spent.
+    /// Whether writers are asked, so that time may go by until a limit is spent.
     pub fn is_asking(&self) -> bool
         ensures { (st : State) → Keeps self.now st → result ≡ is_asking (left_now st) }
     {
@@ -165,7 +165,7 @@ impl Sessions {
         self.coordinator.is_working()
     }
 
-    /// The provider's next step and its volume; none where the provider has no step to make.
+    /// The provider's next step and its volume; none if the provider has no step to make.
     pub fn next_step(&self) -> Option<(Group, Option<u32>)>
         ensures working { is_some result ≡ works self.now.coordinator }
         ensures step { IfSome result (λ step. IsNextStep self.now step.0 step.1) }

@@ -9,7 +9,7 @@ use crate::set_facts::SetFacts;
 use std::marker::Model;
 use vss_names::{Context, SetOutcome};
 
-/// A set that was started. Its volumes are the provider's to keep, so that contracts see it as a row without volumes.
+/// A set that was started. The provider keeps its volumes, so contracts see a row without volumes.
 #[derive(Drop)]
 pub(crate) struct SetEntry {
     number: u32,

@@ -1,6 +1,6 @@
 use vss_names::Context;
 
-/// What is told of a set.
+/// The facts of a set that replies show.
 #[derive(Clone, Copy, Debug, PartialEq, Eq)]
 pub struct SetFacts {
     pub context: Context,

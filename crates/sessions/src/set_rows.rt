@@ -11,8 +11,7 @@ use std::alloc::Global;
 use std::marker::Model;
 use vss_names::{Context, OutOfMemory, SetOutcome};
 
-/// The sets that were started, by their numbers from 1 on. The newest alone may be in progress, so no call looks at
-/// another.
+/// The sets that were started, by their numbers from 1 on. Only the newest can be in progress.
 #[derive(Drop)]
 pub(crate) struct SetRows {
     rows: Vec<SetEntry>,
@@ -64,7 +63,7 @@ impl SetRows {
         Some(set.number())
     }
 
-    /// What is told of a set.
+    /// The facts of a set.
     pub(crate) fn facts(&self, set: u32) -> Option<SetFacts>
         ensures { result ≡ option_map facts_of (find (λ (r : SetRow). r.number == set) self.now) }
     {

@@ -30,13 +30,13 @@ returns-then-not-takes_all-clause-gone c =
 
 pub returns-clause-gone : goal.returns-clause-gone
 returns-clause-gone c =
-    then_ok c.begin_agenda_over.result (HasBegun kind.Prepare c.in_ok-selection.selection c.args.volumes.now c.args.self.now c.begin_agenda_over.new.self) (IsGoneAs c.args.scenario.now c.args.volumes.now c.args.self.now c.begin_agenda_over.new.self c.args.lane op.Prepare)
+    then_ok c.begin_agenda-2.result (HasBegun kind.Prepare c.in_ok-selection.selection c.args.volumes.now c.args.self.now c.begin_agenda-2.new.self) (IsGoneAs c.args.scenario.now c.args.volumes.now c.args.self.now c.begin_agenda-2.new.self c.args.lane op.Prepare)
     (λ m has st found.
     let at = found.at in
     let known = c.in_ok-metas.ensures.known st at.keeps in
-    prepares c.args.scenario.now c.args.lane c.args.self.now c.begin_agenda_over.new.self c.in_ok-selection.selection (all_of (known_metas c.args.scenario.now st)) st m (sym (checked_same c.args.self.now st c.args.lane call.Prepare at.keeps) ∙ c.requires.goes) at
+    prepares c.args.scenario.now c.args.lane c.args.self.now c.begin_agenda-2.new.self c.in_ok-selection.selection (all_of (known_metas c.args.scenario.now st)) st m (sym (checked_same c.args.self.now st c.args.lane call.Prepare at.keeps) ∙ c.requires.goes) at
     (sym (volume_test (in_progress st) c.args.volumes.now found.volumes) ∙ sym c.is_empty.ensures ∙ c.if-is_empty.false)
     (ap (λ (h : Held). h.writers) c.in_ok-selection.ensures ∙ c.in_ok-metas.ensures.count ∙ sym at.of.count)
     (ap (λ (h : Held). h.selected) c.in_ok-selection.ensures ∙ ap all_of known) refl
     (λ q is. takes_known q.mode c.args.scenario.now st (mode_at c.args.self.now st q c.takes_all.result true at.keeps is c.takes_all.ensures c.if-not-takes_all.false)) c.args.volumes.now has)
-    c.begin_agenda_over.ensures.begun
+    c.begin_agenda-2.ensures.begun
