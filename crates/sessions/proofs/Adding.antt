@@ -1,6 +1,6 @@
 -- A volume joins the set in progress: what is kept here does not change, and what the volume is refused for is the
 -- provider's to say.
-use Rattle.std.proofs.Common.{◌≡◌, ℕ, suc, ◌<◌, ◌==◌, List, [], ◌∷◌, length, refl, ap, sym, ◌∙◌, subst, arith, Bool, true, false, Option, Some, None, map}
+use Rattle.std.proofs.Common.{◌≡◌, ℕ, ◌<◌, ◌==◌, List, [], ◌∷◌, refl, ap, sym, ◌∙◌, subst, arith, Bool, true, false, Option, Some, None, map}
 use Rattle.std.specs.Prelude.{find, is_some, not, ◌&&◌, option_map, if◌then◌else◌}
 use Rattle.std.proofs.lemmas.List.{length-map}
 use Rattle.vss_names.specs.declared.set_outcome.SetOutcome.{SetOutcome}
@@ -14,7 +14,7 @@ use Rattle.requestor.specs.declared.stage.Stage.TheVariants.{Opened, Gathered, S
 use Rattle.requestor.specs.declared.verdict.Verdict.{Verdict}
 use Rattle.requestor.specs.declared.verdict.Verdict.TheVariants.{Go}
 use Rattle.requestor.specs.Session.{Session, makes_set}
-use Rattle.requestor.specs.Check.{check, check_other, is_stage}
+use Rattle.requestor.specs.Check.{check, is_stage}
 use Rattle.scenario.specs.declared.op.Op.TheVariants as op
 use Rattle.scenario.specs.Plan.{Plan}
 use Rattle.vss_model.specs.declared.event.Event.TheVariants.{Line}
@@ -27,7 +27,6 @@ use Rattle.vss_model.specs.Facts.{IsOfSession}
 use Rattle.vss_model.specs.Sessions.{add, add_refusal, add_to, change_set, with_volume}
 use Rattle.vss_model.specs.Outcome.{EndsAs}
 use Rattle.sessions.specs.Keeps.{SessionsValue, Keeps, IsInOrder}
-use Rattle.sessions.specs.Sets.{bare}
 use Rattle.sessions.specs.Told.{told_alone}
 use Rattle.sessions.specs.Moves.{MayAdd}
 use Rattle.sessions.proofs.Newest.{unseen_bare}

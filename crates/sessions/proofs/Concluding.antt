@@ -1,6 +1,6 @@
 -- What follows from a step of the course.
-use Rattle.std.proofs.Common.{◌≡◌, ℕ, zero, suc, List, [], ◌∷◌, length, refl, ap, sym, ◌∙◌, subst, arith, Bool, true, false, Option, Some, None, map, slice_get, slice_set}
-use Rattle.std.specs.Prelude.{◌&&◌, ◌||◌, not, is_some, find, option_map, if◌then◌else◌}
+use Rattle.std.proofs.Common.{◌≡◌, List, refl, ap, sym, ◌∙◌, subst, Bool, true, false, Option, Some, None, map}
+use Rattle.std.specs.Prelude.{◌&&◌, ◌||◌, not, is_some, find, option_map}
 use Rattle.std.proofs.lemmas.List.{length-map}
 use Rattle.vss_names.specs.declared.vss_result.VssResult.{VssResult}
 use Rattle.vss_names.specs.declared.set_outcome.SetOutcome.{SetOutcome}
@@ -12,7 +12,7 @@ use Rattle.requestor.specs.Requestor.{ended}
 use Rattle.coordinator.specs.Effects.{outcome_told}
 use Rattle.vss_model.specs.State.{State, SetRow, is_running, in_progress}
 use Rattle.vss_model.specs.Ending.{Ending, AgendaEnds, NothingEnds, SetFails, ending, row_settled, followed, concluded, failed_in}
-use Rattle.vss_model.specs.Facts.{OverButNewest, IsOfSession, has_failed}
+use Rattle.vss_model.specs.Facts.{IsOfSession, has_failed}
 use Rattle.sessions.specs.Sets.{bare, current_of}
 use Rattle.sessions.specs.Keeps.{SessionsValue, Keeps, IsInOrder}
 use Rattle.sessions.specs.Concluded.{IsConcluded, ended_so}

@@ -1,5 +1,5 @@
 -- A writer's answer and the provider's steps: each is a step of the course, with what follows from it.
-use Rattle.std.proofs.Common.{◌≡◌, ℕ, suc, ◌==◌, length, List, [], ◌∷◌, refl, ap, sym, ◌∙◌, subst, Bool, true, false, Option, Some, None, map}
+use Rattle.std.proofs.Common.{◌≡◌, ℕ, ◌==◌, List, refl, ap, sym, ◌∙◌, subst, Bool, true, false, Option, Some, None, map}
 use Rattle.std.specs.Prelude.{is_some, not, ◌&&◌, find, option_map, if◌then◌else◌}
 use Rattle.std.proofs.lemmas.List.{length-map}
 use Rattle.vss_names.specs.declared.order.Order.{Order}

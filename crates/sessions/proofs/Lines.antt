@@ -1,6 +1,6 @@
 -- The session lines that the checks let go: what each comes to.
-use Rattle.std.proofs.Common.{◌≡◌, ℕ, suc, ◌+◌, ◌<◌, ◌==◌, List, [], ◌∷◌, ◌++◌, length, refl, ap, sym, ◌∙◌, subst, arith, Bool, true, false, Option, Some, None, map}
-use Rattle.std.specs.Prelude.{All, find, is_some, not, ◌&&◌, option_map, option_and_then, unwrap_or, if◌then◌else◌}
+use Rattle.std.proofs.Common.{◌≡◌, ℕ, ◌+◌, ◌<◌, ◌==◌, List, [], ◌∷◌, ◌++◌, length, refl, ap, sym, ◌∙◌, subst, arith, Bool, true, false, Option, Some, None, map}
+use Rattle.std.specs.Prelude.{All, is_some, not, ◌&&◌, option_map, option_and_then, unwrap_or}
 use Rattle.std.proofs.lemmas.List.Elements.{All-push}
 use Rattle.vss_names.specs.declared.context.Context.{Context}
 use Rattle.vss_names.specs.declared.context.Context.TheVariants.{Backup, AppRollback, NasRollback}
@@ -29,7 +29,7 @@ use Rattle.vss_model.specs.declared.outcome.Outcome.{Outcome}
 use Rattle.vss_model.specs.declared.told.Told.{Told}
 use Rattle.vss_model.specs.declared.told.Told.TheVariants as told
 use Rattle.vss_model.specs.Reply.{Reply, Fine, Coded, Numbered, StatusOf}
-use Rattle.vss_model.specs.State.{State, SetRow, in_progress, is_running}
+use Rattle.vss_model.specs.State.{State, SetRow, in_progress}
 use Rattle.vss_model.specs.Ending.{runs, failed}
 use Rattle.vss_model.specs.Effects.{ended_of}
 use Rattle.vss_model.specs.Facts.{IsOfSession}

@@ -6,7 +6,7 @@ use Rattle.vss_model.specs.declared.event.Event.TheVariants.{Answer as AnswerEve
 use Rattle.vss_model.specs.State.{State}
 use Rattle.vss_model.specs.Ending.{runs, followed}
 use Rattle.sessions.specs.declared.session_move.SessionMove.{SessionMove}
-use Rattle.sessions.specs.Keeps.{Keeps, IsAt}
+use Rattle.sessions.specs.Keeps.{SessionsValue, Keeps, IsAt}
 use Rattle.sessions.specs.Concluded.{IsTold}
 use Rattle.sessions.proofs.Disabled.{disabled_answered}
 use Rattle.sessions.proofs.Failing.{mid_keeps, times_at}
@@ -16,11 +16,12 @@ use Rattle.sessions.proofs.sessions.Sessions.answer.Goals as goal
 
 happens : (c : goal.After-with) (s : Plan) (st : State) → IsAt c.args.self.now s st → Happens s st (AnswerEvent c.args.writer c.args.answer) c.conclude-ended.new.self c.with.result
 happens c s st found =
-    let kept : Keeps (record { requestor = c.self.inside.requestor; coordinator = c.self.inside.coordinator; sets = c.self.inside.sets; clock = c.self.inside.clock; selection = c.self.inside.selection }) st = rw (← c.self.view_is) at found.keeps in
+    let x : SessionsValue = record { requestor = c.self.inside.requestor; coordinator = c.self.inside.coordinator; sets = c.self.inside.sets; clock = c.self.inside.clock; selection = c.self.inside.selection } in
+    let kept : Keeps x st = rw (← c.self.view_is) at found.keeps in
     let at : c.now-now.result ≡ st.clock = c.now-now.ensures.ticks ∙ kept.clock in
     let tells = c.in-Ok.ensures.tells st.course kept.course in
     let times = times_at _ _ c.self.inside.coordinator c.answered.new.self c.now-now.ensures.ticks c.in-Ok.ensures.times kept.on_time in
-    let mid = mid_keeps (record { requestor = c.self.inside.requestor; coordinator = c.self.inside.coordinator; sets = c.self.inside.sets; clock = c.self.inside.clock; selection = c.self.inside.selection }) c.answered.new.self st (course_answered c.args.writer (said_of c.args.answer) c.now-now.result st.course) kept (c.in-Ok.ensures.stands st.course kept.course) c.in-Ok.ensures.count times (disabled_answered c.args.writer (said_of c.args.answer) c.now-now.result st.course) in
+    let mid = mid_keeps x c.answered.new.self st (course_answered c.args.writer (said_of c.args.answer) c.now-now.result st.course) kept (c.in-Ok.ensures.stands st.course kept.course) c.in-Ok.ensures.count times (disabled_answered c.args.writer (said_of c.args.answer) c.now-now.result st.course) in
     subst (λ (m : SessionMove). Happens s st (AnswerEvent c.args.writer c.args.answer) c.conclude-ended.new.self m) (sym c.with.ensures)
     (answer_happens s c.conclude-ended.new.self c.args.writer c.args.answer c.in-Some.standing.order c.conclude-ended.result st
     (order_is st.course c.args.writer c.in-Some.standing (sym c.in-Some.is ∙ c.poll.ensures st.course kept.course))

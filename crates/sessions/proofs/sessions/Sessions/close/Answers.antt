@@ -8,7 +8,8 @@ use Rattle.sessions.proofs.sessions.Sessions.close.Goals as goal
 
 pub returns-clause-closed : goal.returns-clause-closed
 returns-clause-closed c st hs kept0 =
-    let kept : Keeps (record { requestor = c.self.inside.requestor; coordinator = c.self.inside.coordinator; sets = c.self.inside.sets; clock = c.self.inside.clock; selection = c.self.inside.selection }) st = rw (← c.self.view_is) at kept0 in
+    let x : SessionsValue = record { requestor = c.self.inside.requestor; coordinator = c.self.inside.coordinator; sets = c.self.inside.sets; clock = c.self.inside.clock; selection = c.self.inside.selection } in
+    let kept : Keeps x st = rw (← c.self.view_is) at kept0 in
     subst (λ (x : SessionsValue). Keeps x (record { session = None; explicit = []; sets = st.sets; course = released st.course; volumes = hs; clock = st.clock })) (sym c.forget.ensures) (record {
       session = ap (λ (r : Requestor). r.session) c.apply.ensures;
       made = ap (λ (r : Requestor). r.sets_made) c.apply.ensures ∙ kept.made;

@@ -8,13 +8,15 @@ use Rattle.sessions.proofs.sessions.Sessions.fail.Goals as goal
 
 pub returns-clause-failed : goal.returns-clause-failed
 returns-clause-failed c st order kept0 =
-    let kept : Keeps (record { requestor = c.self.inside.requestor; coordinator = c.self.inside.coordinator; sets = c.self.inside.sets; clock = c.self.inside.clock; selection = c.self.inside.selection }) st = rw (← c.self.view_is) at kept0 in
+    let x : SessionsValue = record { requestor = c.self.inside.requestor; coordinator = c.self.inside.coordinator; sets = c.self.inside.sets; clock = c.self.inside.clock; selection = c.self.inside.selection } in
+    let kept : Keeps x st = rw (← c.self.view_is) at kept0 in
     subst (λ (x : SessionsValue). Keeps x (failed_in (in_progress st) c.args.why st)) (sym c.end_so.ensures.ended)
-    (fails_in (record { requestor = c.self.inside.requestor; coordinator = c.self.inside.coordinator; sets = c.self.inside.sets; clock = c.self.inside.clock; selection = c.self.inside.selection })
+    (fails_in x
     c.fail-effects.new.self st c.args.why c.in_ok-set.set order kept (sym c.in_ok-set.was ∙ c.current.ensures)
     (c.fail-effects.ensures.stands st.course kept.course) c.fail-effects.ensures.count (c.fail-effects.ensures.times c.self.inside.clock kept.on_time))
 
 pub returns-in_err-set-clause-failed : goal.returns-in_err-set-clause-failed
 returns-in_err-set-clause-failed c st order kept0 =
-    let kept : Keeps (record { requestor = c.self.inside.requestor; coordinator = c.self.inside.coordinator; sets = c.self.inside.sets; clock = c.self.inside.clock; selection = c.self.inside.selection }) st = rw (← c.self.view_is) at kept0 in
-    subst (λ (o : Option SetRow). Keeps c.args.self.now (failed_in o c.args.why st)) (sym (no_row (in_progress st) (sym c.in_err-set.was ∙ c.current.ensures ∙ current_kept (record { requestor = c.self.inside.requestor; coordinator = c.self.inside.coordinator; sets = c.self.inside.sets; clock = c.self.inside.clock; selection = c.self.inside.selection }) st kept))) kept0
+    let x : SessionsValue = record { requestor = c.self.inside.requestor; coordinator = c.self.inside.coordinator; sets = c.self.inside.sets; clock = c.self.inside.clock; selection = c.self.inside.selection } in
+    let kept : Keeps x st = rw (← c.self.view_is) at kept0 in
+    subst (λ (o : Option SetRow). Keeps c.args.self.now (failed_in o c.args.why st)) (sym (no_row (in_progress st) (sym c.in_err-set.was ∙ c.current.ensures ∙ current_kept x st kept))) kept0
