@@ -1,6 +1,6 @@
 -- What contracts see of a coordinator: the names and classes of the registered writers, and what is kept of the course
 -- of the session. The words here are those in which the conditions of its calls are said. (This project's own.)
-use Rattle.std.specs.Prelude.{ℕ, ◌<◌, ◌-◌, ◌^◌, ◌==◌, ◌+◌, ◌++◌, ◌&&◌, ◌||◌, Bool, true, false, List, [], ◌∷◌, length, position, slice_get, Option, Some, None, option_map, is_some, Result, Ok, Err, Vec}
+use Rattle.std.specs.Prelude.{ℕ, ◌≡◌, ◌<◌, ◌-◌, ◌^◌, ◌==◌, ◌+◌, ◌++◌, ◌&&◌, ◌||◌, Bool, true, false, List, [], ◌∷◌, length, position, slice_get, Option, Some, None, option_map, is_some, Result, Ok, Err, Vec}
 use Rattle.std.specs.List.{list_any}
 use Rattle.std.specs.Global.{Global}
 use Rattle.std.specs.Str.{bytes_eq}
@@ -60,6 +60,11 @@ abbrev pub MayPost : CoordinatorState → Type 0
 MayPost s = s.posts < 2 ^ 32 - 1
 
 -- ## the writers
+
+-- the registered writers stay
+pub record KeepsWriters (old new : CoordinatorState) : Type 0 where
+  pub writers : new.writers ≡ old.writers
+  pub count : writer_count new ≡ writer_count old
 
 abbrev pub class_at : List Registered → ℕ → Option ℕ
 class_at ws w = option_map (λ r. r.class) (slice_get ws w)

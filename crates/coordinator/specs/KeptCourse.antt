@@ -75,6 +75,11 @@ pub record KeepsBoxes (old new : KeptCourse) : Type 0 where
   pub mailboxes : new.mailboxes ≡ old.mailboxes
   pub len : length new.rows ≡ length old.rows
 
+-- neither the rows nor the running agenda changes
+pub record KeepsRun (old new : KeptCourse) : Type 0 where
+  pub rows : new.rows ≡ old.rows
+  pub running : new.running ≡ old.running
+
 -- the writer's answer to its open order was taken: what is kept follows the course before, and its mailbox is closed
 pub record IsTaken (o : Order) (w : ℕ) (k : KeptCourse) (c : Course) : Type 0 where
   pub order : open_order (left c.agenda) w ≡ Some o

@@ -6,7 +6,7 @@ ghost use Rattle.set_agenda.specs.Course.{Course, answered, course_start, idle_t
 ghost use Rattle.set_agenda.specs.Begin.{are_distinct};
 ghost use Rattle.tick_limits.specs.Time.{answer_limit};
 ghost use Rattle.coordinator.specs.Beginning.{begun_as};
-ghost use Rattle.coordinator.specs.Coordinator.{IsOnTime, MayPost, Stands, double_of, is_disabled, named, place_of, failed_if_running, registered_in, runs, works, writer_count};
+ghost use Rattle.coordinator.specs.Coordinator.{IsOnTime, KeepsWriters, MayPost, Stands, double_of, is_disabled, named, place_of, failed_if_running, registered_in, runs, works, writer_count};
 ghost use Rattle.coordinator.specs.Effects.{Tells, lost_order_if};
 ghost use Rattle.coordinator.specs.KeptCourse.{ticks_if};
 ghost use Rattle.coordinator.specs.OpenOrders.{refusal, standing_in};
@@ -101,8 +101,7 @@ impl Coordinator {
         requires { writer < writer_count self.old }
         ensures stands { (c : Course) → Stands self.old c → Stands self.new (named writer c) }
         ensures times { (now : ℕ) → IsOnTime now self.old → IsOnTime now self.new }
-        ensures writers { self.new.writers ≡ self.old.writers }
-        ensures count { writer_count self.new ≡ writer_count self.old }
+        ensures writers { KeepsWriters self.old self.new }
         ensures posts { self.new.posts ≡ self.old.posts }
     {
         self.kept.disabled.insert(writer);
@@ -258,8 +257,7 @@ impl Coordinator {
         ensures unchanged { OnErr result (self.new ≡ self.old) }
         ensures times { OnOk result (IsOnTime now self.new) }
         ensures posts { OnOk result (self.new.posts ≡ self.old.posts + 1) }
-        ensures writers { self.new.writers ≡ self.old.writers }
-        ensures count { writer_count self.new ≡ writer_count self.old }
+        ensures writers { KeepsWriters self.old self.new }
     {
         let asked = asked(kind, &self.names, &self.kept, selection);
         let members = members_of(alloc, &self.kept.rows, &asked)?;
@@ -290,8 +288,7 @@ impl Coordinator {
         ensures tells { IfOk result (λ e. (c : Course) → Stands self.old c → Tells e (is_some c.agenda) [] None c (answered writer (said_of answer) now c)) }
         ensures times { IsOnTime now self.old → IsOnTime now self.new }
         ensures posts { OnOk result (self.new.posts ≡ self.old.posts + 1) }
-        ensures writers { self.new.writers ≡ self.old.writers }
-        ensures count { writer_count self.new ≡ writer_count self.old }
+        ensures writers { KeepsWriters self.old self.new }
     {
         let before = Before::of(&self.kept);
         let order = self.kept.take(writer, number, answer)?;
@@ -309,8 +306,7 @@ impl Coordinator {
         ensures tells { (c : Course) → Stands self.old c → Tells result (is_some c.agenda) [] None c (stepped ok now c) }
         ensures times { IsOnTime now self.old → IsOnTime now self.new }
         ensures posts { self.new.posts ≡ self.old.posts + 1 }
-        ensures writers { self.new.writers ≡ self.old.writers }
-        ensures count { writer_count self.new ≡ writer_count self.old }
+        ensures writers { KeepsWriters self.old self.new }
     {
         let before = Before::of(&self.kept);
         self.kept.step(ok, now);
@@ -327,8 +323,7 @@ impl Coordinator {
         ensures tells { (c : Course) → Stands self.old c → Tells result (is_some c.agenda) (lost_writers now c) (lost_order_if (lost_writers now c) (order_now (left c.agenda))) c (timed now c) }
         ensures times { IsOnTime now self.new }
         ensures posts { self.new.posts ≡ self.old.posts + 1 }
-        ensures writers { self.new.writers ≡ self.old.writers }
-        ensures count { writer_count self.new ≡ writer_count self.old }
+        ensures writers { KeepsWriters self.old self.new }
     {
         let before = Before::of(&self.kept);
         let spent = self.kept.spent(now);
@@ -350,8 +345,7 @@ impl Coordinator {
         ensures stands { (c : Course) → Stands self.old c → Stands self.new (failed_if_running c.outcome why c) }
         ensures tells { (c : Course) → Stands self.old c → Tells result (is_some c.agenda) [] None c (failed_if_running c.outcome why c) }
         ensures times { (now : ℕ) → IsOnTime now self.old → IsOnTime now self.new }
-        ensures writers { self.new.writers ≡ self.old.writers }
-        ensures count { writer_count self.new ≡ writer_count self.old }
+        ensures writers { KeepsWriters self.old self.new }
         ensures posts { self.new.posts ≡ self.old.posts }
     {
         let before = Before::of(&self.kept);
@@ -364,8 +358,7 @@ impl Coordinator {
     pub fn end_session(&mut self)
         ensures stands { (c : Course) → Stands self.old c → Stands self.new (released c) }
         ensures times { (now : ℕ) → IsOnTime now self.new }
-        ensures writers { self.new.writers ≡ self.old.writers }
-        ensures count { writer_count self.new ≡ writer_count self.old }
+        ensures writers { KeepsWriters self.old self.new }
         ensures posts { self.new.posts ≡ self.old.posts }
     {
         self.kept.release();

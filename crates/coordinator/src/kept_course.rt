@@ -11,7 +11,7 @@ ghost use Rattle.coordinator.specs.KeptLimits.{NoneAfter};
 ghost use Rattle.coordinator.specs.Beginning.{ready_for};
 ghost use Rattle.tick_limits.specs.Time.{answer_limit, default_freeze};
 ghost use Rattle.coordinator.specs.Coordinator.{failed_if_running, is_running};
-ghost use Rattle.coordinator.specs.KeptCourse.{Follows, IsBy, IsSound, IsTaken, KeepsBoxes, StandsFor, kind_if_done, least_if, least_limit, left_now, lost_by, ticks_if, treated_by};
+ghost use Rattle.coordinator.specs.KeptCourse.{Follows, IsBy, IsSound, IsTaken, KeepsBoxes, KeepsRun, StandsFor, kind_if_done, least_if, least_limit, left_now, lost_by, ticks_if, treated_by};
 ghost use Rattle.coordinator.specs.OpenOrders.{AreFit, AreReady, HasRoom, SentAtMost, refusal, standing_in};
 
 use crate::posting::{close_all, post};
@@ -270,8 +270,7 @@ impl KeptCourse {
         ensures unchanged { OnErr result (self.new ≡ self.old) }
         ensures asked { OnOk result (is_asked writer (left_now self.new.running) ≡ true) }
         ensures taken { IfOk result (λ order. (c : Course) → StandsFor self.old c → IsTaken order writer self.new c) }
-        ensures rows { self.new.rows ≡ self.old.rows }
-        ensures running { self.new.running ≡ self.old.running }
+        ensures keeps { KeepsRun self.old self.new }
         ensures boxes { length self.new.mailboxes ≡ length self.old.mailboxes }
         ensures sent { (n : ℕ) → SentAtMost n self.old.mailboxes → SentAtMost n self.new.mailboxes }
     {
@@ -285,8 +284,7 @@ impl KeptCourse {
         requires room { HasRoom self.old.mailboxes }
         ensures stands { (c d : Course) → before ≡ open_place (left c.agenda) → Follows self.old d → d.opened ≡ c.opened
             → AreReady self.old.mailboxes (left c.agenda) (left d.agenda) c.opened → StandsFor self.new (posted c d) }
-        ensures rows { self.new.rows ≡ self.old.rows }
-        ensures running { self.new.running ≡ self.old.running }
+        ensures keeps { KeepsRun self.old self.new }
         ensures sent { (n : ℕ) → SentAtMost n self.old.mailboxes → SentAtMost (n + 1) self.new.mailboxes }
         ensures boxes { length self.new.mailboxes ≡ 64 }
     {
@@ -298,8 +296,7 @@ impl KeptCourse {
         requires boxes { length self.old.mailboxes ≡ 64 }
         ensures stands { (c d : Course) → AreFit self.old.mailboxes (left c.agenda) c.opened → left d.agenda ≡ [] → d.opened ≡ c.opened
             → Follows self.old d → StandsFor self.new d }
-        ensures rows { self.new.rows ≡ self.old.rows }
-        ensures running { self.new.running ≡ self.old.running }
+        ensures keeps { KeepsRun self.old self.new }
         ensures sent { (n : ℕ) → SentAtMost n self.old.mailboxes → SentAtMost n self.new.mailboxes }
         ensures boxes { length self.new.mailboxes ≡ 64 }
     {

@@ -10,9 +10,9 @@ use Rattle.coordinator.proofs.coordinator.Coordinator.answered.Goals as goal
 pub invariant_of-self-2 : goal.invariant_of-self-2
 invariant_of-self-2 c =
     let sound = c.self.invariant.0 in (
-      sound-after c.self.inside.kept c.post.new.self (answered c.args.writer (said_of c.args.answer) c.args.now sound.course) (ap length c.post.ensures.rows ∙ c.hear.ensures.keeps.len ∙ ap length c.take.ensures.rows) c.post.ensures.boxes (ap kind_if_done c.post.ensures.running ∙ c.hear.ensures.live)
+      sound-after c.self.inside.kept c.post.new.self (answered c.args.writer (said_of c.args.answer) c.args.now sound.course) (ap length c.post.ensures.keeps.rows ∙ c.hear.ensures.keeps.len ∙ ap length c.take.ensures.keeps.rows) c.post.ensures.boxes (ap kind_if_done c.post.ensures.keeps.running ∙ c.hear.ensures.live)
           (answered-stands c.take.new.self c.hear.new.self c.post.new.self c.of-before.result.place sound.course c.args.writer c.in_ok-order.order (said_of c.args.answer) c.said.result c.args.now c.said.ensures (c.in_ok-order.ensures.taken sound.course sound.stands) c.hear.ensures.keeps.mailboxes (c.hear.ensures.follows sound.course (c.in_ok-order.ensures.taken sound.course sound.stands).follows) c.post.ensures.stands (c.of-before.ensures sound.course sound.stands.follows).place) sound,
-      c.self.invariant.1 ∙ sym (ap length c.post.ensures.rows ∙ c.hear.ensures.keeps.len ∙ ap length c.take.ensures.rows),
+      c.self.invariant.1 ∙ sym (ap length c.post.ensures.keeps.rows ∙ c.hear.ensures.keeps.len ∙ ap length c.take.ensures.keeps.rows),
       c.post.ensures.sent c.self.inside.posts (subst (SentAtMost c.self.inside.posts) (sym c.hear.ensures.keeps.mailboxes) (c.take.ensures.sent c.self.inside.posts c.self.invariant.2)),
     )
 

@@ -10,9 +10,9 @@ use Rattle.coordinator.proofs.coordinator.Coordinator.stepped.Goals as goal
 pub invariant_of-self : goal.invariant_of-self
 invariant_of-self c =
     let sound = c.self.invariant.0 in (
-      sound-after c.self.inside.kept c.post.new.self (stepped c.args.ok c.args.now sound.course) (ap length c.post.ensures.rows ∙ c.step.ensures.keeps.len) c.post.ensures.boxes (ap kind_if_done c.post.ensures.running ∙ c.step.ensures.live)
+      sound-after c.self.inside.kept c.post.new.self (stepped c.args.ok c.args.now sound.course) (ap length c.post.ensures.keeps.rows ∙ c.step.ensures.keeps.len) c.post.ensures.boxes (ap kind_if_done c.post.ensures.keeps.running ∙ c.step.ensures.live)
           (act-stands c.self.inside.kept c.step.new.self c.post.new.self c.of-before.result.place sound.course (stepped_as c.args.ok c.args.now sound.course) c.step.ensures.keeps.mailboxes (c.step.ensures.follows sound.course sound.stands.follows) c.post.ensures.stands (c.of-before.ensures sound.course sound.stands.follows).place (opened-stepped c.args.ok c.args.now sound.course) (goes-stepped c.args.ok c.args.now sound.course) sound.stands) sound,
-      c.self.invariant.1 ∙ sym (ap length c.post.ensures.rows ∙ c.step.ensures.keeps.len),
+      c.self.invariant.1 ∙ sym (ap length c.post.ensures.keeps.rows ∙ c.step.ensures.keeps.len),
       c.post.ensures.sent c.self.inside.posts (subst (SentAtMost c.self.inside.posts) (sym c.step.ensures.keeps.mailboxes) c.self.invariant.2),
     )
 

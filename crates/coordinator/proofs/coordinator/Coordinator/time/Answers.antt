@@ -12,9 +12,9 @@ use Rattle.coordinator.proofs.coordinator.Coordinator.time.Goals as goal
 pub invariant_of-self : goal.invariant_of-self
 invariant_of-self c =
     let sound = c.self.invariant.0 in (
-      sound-after c.self.inside.kept c.post.new.self (timed c.args.now sound.course) (ap length c.post.ensures.rows ∙ c.treat.ensures.keeps.len) c.post.ensures.boxes (ap kind_if_done c.post.ensures.running ∙ c.treat.ensures.live sound.live)
+      sound-after c.self.inside.kept c.post.new.self (timed c.args.now sound.course) (ap length c.post.ensures.keeps.rows ∙ c.treat.ensures.keeps.len) c.post.ensures.boxes (ap kind_if_done c.post.ensures.keeps.running ∙ c.treat.ensures.live sound.live)
           (timed-stands c.self.inside.kept c.treat.new.self c.post.new.self c.of-before.result.place sound.course c.spent-spent.result c.args.now (c.spent-spent.ensures sound.course sound.stands.follows) c.treat.ensures.keeps.mailboxes (c.treat.ensures.follows sound.course sound.stands.follows) c.post.ensures.stands (c.of-before.ensures sound.course sound.stands.follows).place sound.stands) sound,
-      c.self.invariant.1 ∙ sym (ap length c.post.ensures.rows ∙ c.treat.ensures.keeps.len),
+      c.self.invariant.1 ∙ sym (ap length c.post.ensures.keeps.rows ∙ c.treat.ensures.keeps.len),
       c.post.ensures.sent c.self.inside.posts (subst (SentAtMost c.self.inside.posts) (sym c.treat.ensures.keeps.mailboxes) c.self.invariant.2),
     )
 

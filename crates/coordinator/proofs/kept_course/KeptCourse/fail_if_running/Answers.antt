@@ -17,13 +17,13 @@ returns-clause-stands c = λ d h.
     (failed-stands c.args.self.now c.fail_set.new.self c.close_orders.new.self d c.args.why c.fail_set.ensures.keeps.mailboxes (c.fail_set.ensures.follows d h.follows) c.close_orders.ensures.stands h)
 
 pub returns-clause-times : goal.returns-clause-times
-returns-clause-times c = λ now h. subst (IsBy now) (sym c.close_orders.ensures.running) (c.fail_set.ensures.times now)
+returns-clause-times c = λ now h. subst (IsBy now) (sym c.close_orders.ensures.keeps.running) (c.fail_set.ensures.times now)
 
 pub returns-clause-live : goal.returns-clause-live
-returns-clause-live c = ap kind_if_done c.close_orders.ensures.running ∙ c.fail_set.ensures.live
+returns-clause-live c = ap kind_if_done c.close_orders.ensures.keeps.running ∙ c.fail_set.ensures.live
 
 pub returns-clause-sent : goal.returns-clause-sent
 returns-clause-sent c = λ n h. c.close_orders.ensures.sent n (subst (SentAtMost n) (sym c.fail_set.ensures.keeps.mailboxes) h)
 
 pub returns-clause-len : goal.returns-clause-len
-returns-clause-len c = ap length c.close_orders.ensures.rows ∙ c.fail_set.ensures.keeps.len
+returns-clause-len c = ap length c.close_orders.ensures.keeps.rows ∙ c.fail_set.ensures.keeps.len
