@@ -1,6 +1,6 @@
 -- What is kept of sessions, sets, writers and time, and for which states of the definitions it stands. (This project's
 -- own.)
-use Rattle.std.specs.Prelude.{ℕ, ◌≡◌, ◌<◌, ◌≤◌, ◌^◌, ◌-◌, ◌+◌, List, length, map, All, []}
+use Rattle.std.specs.Prelude.{ℕ, ◌≡◌, ◌<◌, ◌≤◌, ◌^◌, ◌-◌, ◌+◌, List, length, map, All, [], Option, option_map}
 use Rattle.requestor.specs.Requestor.{Sessions as Requestor}
 use Rattle.component_doc.specs.Held.{Held}
 use Rattle.component_doc.specs.Selection.{Named}
@@ -98,6 +98,18 @@ pub record Leaves (old new : SessionsValue) : Type 0 where
   pub posts : new.coordinator.posts ≤ old.coordinator.posts + 1
   pub sets : length new.sets ≤ length old.sets + 1
   pub clock : new.clock ≡ old.clock
+
+-- the writers and the clock stay, no order is posted, and no set is started
+pub record KeepsCounts (old new : SessionsValue) : Type 0 where
+  pub writers : new.coordinator.writers ≡ old.coordinator.writers
+  pub count : writer_count new.coordinator ≡ writer_count old.coordinator
+  pub posts : new.coordinator.posts ≡ old.coordinator.posts
+  pub sets : length new.sets ≡ length old.sets
+  pub clock : new.clock ≡ old.clock
+
+-- the lane that owns the session
+abbrev pub owner_of : SessionsValue → Option ℕ
+owner_of x = option_map (λ session. session.owner) x.requestor.session
 
 -- the same, so many ticks later
 abbrev pub later_by : ℕ → SessionsValue → SessionsValue

@@ -16,9 +16,12 @@ use Rattle.set_agenda.specs.WriterSet.{writers_of}
 use Rattle.set_agenda.specs.Course.{Course, released}
 use Rattle.component_doc.specs.Held.{Held}
 use Rattle.coordinator.specs.Beginning.{begun_as}
-use Rattle.coordinator.specs.Coordinator.{works}
+use Rattle.coordinator.specs.Coordinator.{runs, works}
 use Rattle.requestor.specs.declared.mode.Mode.{Mode}
 use Rattle.requestor.specs.declared.mode.Mode.TheVariants.{Components, All}
+use Rattle.requestor.specs.declared.session_call.SessionCall.{SessionCall}
+use Rattle.requestor.specs.declared.verdict.Verdict.TheVariants.{Go}
+use Rattle.requestor.specs.Check.{check}
 use Rattle.requestor.specs.Session.{Session}
 use Rattle.component_doc.specs.Document.{document_text}
 use Rattle.scenario.specs.declared.op.Op.{Op}
@@ -116,6 +119,14 @@ is_add (Add v) = true
 is_add _ = false
 
 -- ## a session line that the checks let go
+
+-- the checks let this lane make this call
+abbrev pub LetsGo : SessionsValue → ℕ → SessionCall → Type 0
+LetsGo x lane c = check x.requestor.session (runs x.coordinator) lane c ≡ Go
+
+-- they do so where no agenda runs
+abbrev pub LetsGoAtRest : SessionsValue → ℕ → SessionCall → Type 0
+LetsGoAtRest x lane c = check x.requestor.session false lane c ≡ Go
 
 -- What the line comes to at a state, once the checks let it go: this reply, and the state afterwards.
 pub record ComesTo (s : Plan) (lane : ℕ) (op : Op) (st : State) (new : SessionsValue) (m : SessionMove) : Type 0 where

@@ -1,14 +1,13 @@
 ghost use Rattle.std.specs.Prelude.{◌≡◌, false, true, IfOk, OnErr};
-ghost use Rattle.coordinator.specs.Coordinator.{MayPost, runs, writer_count};
-ghost use Rattle.requestor.specs.Check.{check};
+ghost use Rattle.coordinator.specs.Coordinator.{MayPost, writer_count};
 ghost use Rattle.set_agenda.specs.Begin.{are_distinct};
 ghost use Rattle.scenario.specs.declared.op.Op.TheVariants as op;
 ghost use Rattle.sessions.specs.Keeps.{Leaves};
-ghost use Rattle.sessions.specs.Moves.{IsGone, IsGoneOver};
+ghost use Rattle.sessions.specs.Moves.{IsGone, IsGoneOver, LetsGo};
 
 use crate::session_move::SessionMove;
 use crate::sessions::Sessions;
-use requestor::{SessionCall, Verdict};
+use requestor::SessionCall;
 use set_agenda::Kind;
 use std::alloc::Global;
 use vss_model::Told;
@@ -19,7 +18,7 @@ impl Sessions {
     pub(crate) fn gather(&mut self, alloc: Global, lane: u32) -> Result<SessionMove, OutOfMemory>
         requires room { MayPost self.old.coordinator }
         requires over { self.old.selection.writers ≡ writer_count self.old.coordinator }
-        requires goes { check self.old.requestor.session (runs self.old.coordinator) lane SessionCall.Gather ≡ Verdict.Go }
+        requires goes { LetsGo self.old lane SessionCall.Gather }
         ensures gone { IfOk result (IsGone self.old self.new lane op.Gather) }
         ensures unchanged { OnErr result (self.new ≡ self.old) }
         ensures leaves { Leaves self.old self.new }
@@ -32,7 +31,7 @@ impl Sessions {
     pub(crate) fn complete(&mut self, alloc: Global, lane: u32) -> Result<SessionMove, OutOfMemory>
         requires room { MayPost self.old.coordinator }
         requires over { self.old.selection.writers ≡ writer_count self.old.coordinator }
-        requires goes { check self.old.requestor.session (runs self.old.coordinator) lane SessionCall.Complete ≡ Verdict.Go }
+        requires goes { LetsGo self.old lane SessionCall.Complete }
         ensures gone { IfOk result (IsGone self.old self.new lane op.Complete) }
         ensures unchanged { OnErr result (self.new ≡ self.old) }
         ensures leaves { Leaves self.old self.new }
@@ -51,7 +50,7 @@ impl Sessions {
         requires distinct { are_distinct volumes.now ≡ true }
         requires room { MayPost self.old.coordinator }
         requires over { self.old.selection.writers ≡ writer_count self.old.coordinator }
-        requires goes { check self.old.requestor.session (runs self.old.coordinator) lane SessionCall.Snapshot ≡ Verdict.Go }
+        requires goes { LetsGo self.old lane SessionCall.Snapshot }
         ensures gone { IfOk result (IsGoneOver volumes.now self.old self.new lane op.Snapshot) }
         ensures unchanged { OnErr result (self.new ≡ self.old) }
         ensures leaves { Leaves self.old self.new }

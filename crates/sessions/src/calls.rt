@@ -1,12 +1,10 @@
 ghost use Rattle.std.specs.Prelude.{◌≡◌, true, false, is_some, IfOk, IfSome, IsErr, OnErr};
-ghost use Rattle.coordinator.specs.Coordinator.{runs};
-ghost use Rattle.requestor.specs.Check.{check};
 ghost use Rattle.scenario.specs.Bounds.{IsOp, IsPlan};
 ghost use Rattle.scenario.specs.Calls.{call_of};
 ghost use Rattle.set_agenda.specs.Begin.{are_distinct};
 ghost use Rattle.vss_model.specs.declared.event.Event.TheVariants.{Line};
 ghost use Rattle.sessions.specs.Keeps.{IsStandingIn, Leaves};
-ghost use Rattle.sessions.specs.Moves.{IsAtOver, IsCall, IsGoneAs, is_add, takes_memory};
+ghost use Rattle.sessions.specs.Moves.{IsAtOver, IsCall, IsGoneAs, LetsGo, LetsGoAtRest, is_add, takes_memory};
 
 use crate::called::Called;
 use crate::session_move::SessionMove;
@@ -68,8 +66,8 @@ impl Sessions {
         requires is_op { IsOp scenario.now op }
         requires plan { IsPlan scenario.now }
         requires distinct { are_distinct volumes.now ≡ true }
-        requires goes { IfSome (call_of op) (λ call. check self.old.requestor.session (runs self.old.coordinator) lane call ≡ Verdict.Go) }
-        requires at_rest { IfSome (call_of op) (λ call. check self.old.requestor.session false lane call ≡ Verdict.Go) }
+        requires goes { IfSome (call_of op) (LetsGo self.old lane) }
+        requires at_rest { IfSome (call_of op) (LetsGoAtRest self.old lane) }
         ensures gone { IfOk result (IsGoneAs scenario.now volumes.now self.old self.new lane op) }
         ensures unchanged { OnErr result (self.new ≡ self.old) }
         ensures memory { IsErr result → takes_memory op ≡ true }

@@ -1,7 +1,7 @@
 ghost use Rattle.std.specs.Prelude.{◌≡◌, ◌||◌, length, option_map, false};
 ghost use Rattle.vss_model.specs.Facts.{has_failed};
 ghost use Rattle.sessions.specs.Concluded.{IsConcluded, IsConcludedTold, IsFailedTold, ended_so, ends_as, nothing_ends};
-ghost use Rattle.sessions.specs.Keeps.{Leaves};
+ghost use Rattle.sessions.specs.Keeps.{KeepsCounts, Leaves, owner_of};
 ghost use Rattle.sessions.specs.Moves.{IsFailed};
 ghost use Rattle.sessions.specs.Sets.{current_of};
 
@@ -13,7 +13,7 @@ impl Sessions {
     /// An agenda ended with this outcome, or the set failed.
     pub(crate) fn end_so(&mut self, outcome: SetOutcome)
         ensures ended { self.new ≡ ended_so outcome self.old }
-        ensures owner { option_map (λ session. session.owner) self.new.requestor.session ≡ option_map (λ session. session.owner) self.old.requestor.session }
+        ensures owner { owner_of self.new ≡ owner_of self.old }
         ensures sets { length self.new.sets ≡ length self.old.sets }
     {
         self.requestor.agenda_ended(outcome);
@@ -40,9 +40,8 @@ impl Sessions {
     pub fn fail(&mut self, why: VssResult) -> Option<u32>
         ensures failed { IsFailed self.old self.new why }
         ensures set { result ≡ current_of self.old.sets }
-        ensures owner { option_map (λ session. session.owner) self.new.requestor.session ≡ option_map (λ session. session.owner) self.old.requestor.session }
-        ensures posts { self.new.coordinator.posts ≡ self.old.coordinator.posts }
-        ensures sets { length self.new.sets ≡ length self.old.sets }
+        ensures owner { owner_of self.new ≡ owner_of self.old }
+        ensures counts { KeepsCounts self.old self.new }
         ensures leaves { Leaves self.old self.new }
     {
         let set = self.sets.current()?;
@@ -55,10 +54,8 @@ impl Sessions {
     pub(crate) fn fail_so(&mut self, why: VssResult) -> Ended
         ensures failed { IsFailed self.old self.new why }
         ensures told { IsFailedTold self.old why result }
-        ensures owner { option_map (λ session. session.owner) self.new.requestor.session ≡ option_map (λ session. session.owner) self.old.requestor.session }
-        ensures posts { self.new.coordinator.posts ≡ self.old.coordinator.posts }
-        ensures sets { length self.new.sets ≡ length self.old.sets }
-        ensures leaves { Leaves self.old self.new }
+        ensures owner { owner_of self.new ≡ owner_of self.old }
+        ensures counts { KeepsCounts self.old self.new }
     {
         let set = self.fail(why);
         ends_as(set, SetOutcome::Failed(why))

@@ -1,19 +1,18 @@
 ghost use Rattle.std.specs.Prelude.{◌≡◌, ◌<◌, ◌^◌, false, true, length, Some, None, IfOk, OnErr};
-ghost use Rattle.coordinator.specs.Coordinator.{runs, writer_count};
-ghost use Rattle.requestor.specs.Check.{check};
+ghost use Rattle.coordinator.specs.Coordinator.{writer_count};
 ghost use Rattle.set_agenda.specs.Begin.{are_distinct};
 ghost use Rattle.scenario.specs.Bounds.{IsPlan, IsSpan};
 ghost use Rattle.scenario.specs.declared.op.Op.TheVariants as op;
 ghost use Rattle.sessions.specs.Keeps.{IsStandingIn, Leaves};
 ghost use Rattle.block_data.specs.Digest.{sha256};
-ghost use Rattle.sessions.specs.Moves.{IsDocumentIn, IsGoneAs, IsGoneIn, takes_all_of};
+ghost use Rattle.sessions.specs.Moves.{IsDocumentIn, IsGoneAs, IsGoneIn, LetsGo, takes_all_of};
 ghost use Rattle.sessions.specs.Told.{told_named};
 
 use crate::session_move::SessionMove;
 use crate::sessions::Sessions;
 use block_data::digest;
 use component_doc::{AddFault, Selection};
-use requestor::{Mode, SessionCall, Verdict};
+use requestor::{Mode, SessionCall};
 use scenario::{Scenario, Span};
 use set_agenda::Kind;
 use std::alloc::Global;
@@ -32,7 +31,7 @@ impl Sessions {
         requires distinct { are_distinct volumes.now ≡ true }
         requires standing { IsStandingIn scenario.now self.old }
         requires plan { IsPlan scenario.now }
-        requires goes { check self.old.requestor.session (runs self.old.coordinator) lane SessionCall.Prepare ≡ Verdict.Go }
+        requires goes { LetsGo self.old lane SessionCall.Prepare }
         ensures gone { IfOk result (IsGoneAs scenario.now volumes.now self.old self.new lane op.Prepare) }
         ensures unchanged { OnErr result (self.new ≡ self.old) }
         ensures leaves { Leaves self.old self.new }
@@ -71,7 +70,7 @@ impl Sessions {
         requires standing { IsStandingIn scenario.now self.old }
         requires plan { IsPlan scenario.now }
         requires span { IsSpan scenario.now full }
-        requires goes { check self.old.requestor.session (runs self.old.coordinator) lane SessionCall.Component ≡ Verdict.Go }
+        requires goes { LetsGo self.old lane SessionCall.Component }
         ensures gone { IfOk result (IsGoneIn scenario.now self.old self.new lane (op.Component writer full)) }
         ensures unchanged { OnErr result (self.new ≡ self.old) }
         ensures leaves { Leaves self.old self.new }
@@ -95,7 +94,7 @@ impl Sessions {
     ) -> Result<SessionMove, OutOfMemory>
         requires standing { IsStandingIn scenario.now self.old }
         requires plan { IsPlan scenario.now }
-        requires goes { check self.old.requestor.session (runs self.old.coordinator) lane SessionCall.Document ≡ Verdict.Go }
+        requires goes { LetsGo self.old lane SessionCall.Document }
         ensures gone { IfOk result (IsGoneIn scenario.now self.old self.new lane op.Document) }
         ensures unchanged { OnErr result (self.new ≡ self.old) }
         ensures leaves { Leaves self.old self.new }
@@ -113,7 +112,7 @@ impl Sessions {
     ) -> Result<Text, OutOfMemory>
         requires standing { IsStandingIn scenario.now self.now }
         requires plan { IsPlan scenario.now }
-        requires goes { check self.now.requestor.session (runs self.now.coordinator) lane SessionCall.Document ≡ Verdict.Go }
+        requires goes { LetsGo self.now lane SessionCall.Document }
         ensures { IfOk result (λ text. IsDocumentIn scenario.now self.now text.bytes) }
     {
         let _lane = lane;

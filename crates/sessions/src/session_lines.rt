@@ -1,14 +1,13 @@
 ghost use Rattle.std.specs.Prelude.{◌≡◌, ◌<◌, ◌^◌, ◌-◌, ◌+◌, false, IfOk, OnErr, length};
-ghost use Rattle.coordinator.specs.Coordinator.{runs, writer_count};
-ghost use Rattle.requestor.specs.Check.{check};
+ghost use Rattle.coordinator.specs.Coordinator.{writer_count};
 ghost use Rattle.scenario.specs.declared.op.Op.TheVariants as op;
-ghost use Rattle.sessions.specs.Keeps.{IsStanding, Leaves, nothing_named_in};
-ghost use Rattle.sessions.specs.Moves.{IsClosed, IsGone};
+ghost use Rattle.sessions.specs.Keeps.{KeepsCounts, IsStanding, Leaves, nothing_named_in};
+ghost use Rattle.sessions.specs.Moves.{IsClosed, IsGone, LetsGo, LetsGoAtRest};
 ghost use Rattle.sessions.specs.Told.{released_by};
 
 use crate::session_move::SessionMove;
 use crate::sessions::{Sessions, nothing_named};
-use requestor::{SessionCall, Verdict, context_of};
+use requestor::{SessionCall, context_of};
 use std::alloc::Global;
 use vss_model::Told;
 use vss_names::{Context, OutOfMemory, VssResult};
@@ -16,7 +15,7 @@ use vss_names::{Context, OutOfMemory, VssResult};
 impl Sessions {
     /// A session begins, in which nothing is named.
     pub(crate) fn begin(&mut self, alloc: Global, lane: u32, context: u32, all: bool) -> SessionMove
-        requires goes { check self.old.requestor.session (runs self.old.coordinator) lane (SessionCall.Begin context all) ≡ Verdict.Go }
+        requires goes { LetsGo self.old lane (SessionCall.Begin context all) }
         ensures gone { IsGone self.old self.new lane (op.Begin context all) result }
         ensures leaves { Leaves self.old self.new }
     {
@@ -39,8 +38,8 @@ impl Sessions {
     /// The session's set is started.
     pub(crate) fn start(&mut self, lane: u32) -> Result<SessionMove, OutOfMemory>
         requires standing { IsStanding self.old }
-        requires goes { check self.old.requestor.session (runs self.old.coordinator) lane SessionCall.Start ≡ Verdict.Go }
-        requires at_rest { check self.old.requestor.session false lane SessionCall.Start ≡ Verdict.Go }
+        requires goes { LetsGo self.old lane SessionCall.Start }
+        requires at_rest { LetsGoAtRest self.old lane SessionCall.Start }
         ensures gone { IfOk result (IsGone self.old self.new lane op.Start) }
         ensures unchanged { OnErr result (self.new ≡ self.old) }
         ensures leaves { Leaves self.old self.new }
@@ -57,7 +56,7 @@ impl Sessions {
 
     /// The result of the last agenda, or of the set's failure.
     pub(crate) fn await_last(&mut self, lane: u32) -> SessionMove
-        requires goes { check self.old.requestor.session (runs self.old.coordinator) lane SessionCall.Await ≡ Verdict.Go }
+        requires goes { LetsGo self.old lane SessionCall.Await }
         ensures gone { IsGone self.old self.new lane op.Await result }
         ensures leaves { Leaves self.old self.new }
     {
@@ -68,7 +67,7 @@ impl Sessions {
 
     /// The writers' rows are shown; they are lent by `rows`.
     pub(crate) fn status(&mut self, lane: u32) -> SessionMove
-        requires goes { check self.old.requestor.session (runs self.old.coordinator) lane SessionCall.Status ≡ Verdict.Go }
+        requires goes { LetsGo self.old lane SessionCall.Status }
         ensures gone { IsGone self.old self.new lane op.Status result }
         ensures leaves { Leaves self.old self.new }
     {
@@ -79,7 +78,7 @@ impl Sessions {
     /// The class of a writer is disabled until the session ends.
     pub(crate) fn disable(&mut self, lane: u32, writer: u32) -> SessionMove
         requires known { writer < writer_count self.old.coordinator }
-        requires goes { check self.old.requestor.session (runs self.old.coordinator) lane SessionCall.Disable ≡ Verdict.Go }
+        requires goes { LetsGo self.old lane SessionCall.Disable }
         ensures gone { IsGone self.old self.new lane (op.Disable writer) result }
         ensures leaves { Leaves self.old self.new }
     {
@@ -90,7 +89,7 @@ impl Sessions {
 
     /// The set in progress fails.
     pub(crate) fn abort(&mut self, lane: u32) -> SessionMove
-        requires goes { check self.old.requestor.session (runs self.old.coordinator) lane SessionCall.Abort ≡ Verdict.Go }
+        requires goes { LetsGo self.old lane SessionCall.Abort }
         ensures gone { IsGone self.old self.new lane op.Abort result }
         ensures leaves { Leaves self.old self.new }
     {
@@ -101,7 +100,7 @@ impl Sessions {
 
     /// The session ends. A set in progress fails. In a context whose images go with the session, its set is released.
     pub(crate) fn end(&mut self, alloc: Global, lane: u32) -> SessionMove
-        requires goes { check self.old.requestor.session (runs self.old.coordinator) lane SessionCall.End ≡ Verdict.Go }
+        requires goes { LetsGo self.old lane SessionCall.End }
         ensures gone { IsGone self.old self.new lane op.End result }
         ensures leaves { Leaves self.old self.new }
     {
@@ -116,13 +115,9 @@ impl Sessions {
 
     /// The session is over: no writer is disabled any more, and nothing is named.
     fn close(&mut self, alloc: Global, lane: u32)
-        requires { check self.old.requestor.session false lane SessionCall.End ≡ Verdict.Go }
+        requires { LetsGoAtRest self.old lane SessionCall.End }
         ensures closed { IsClosed self.old self.new }
-        ensures posts { self.new.coordinator.posts ≡ self.old.coordinator.posts }
-        ensures sets { self.new.sets ≡ self.old.sets }
-        ensures writers { self.new.coordinator.writers ≡ self.old.coordinator.writers }
-        ensures count { writer_count self.new.coordinator ≡ writer_count self.old.coordinator }
-        ensures clock { self.new.clock ≡ self.old.clock }
+        ensures counts { KeepsCounts self.old self.new }
     {
         self.requestor.apply(lane, SessionCall::End);
         self.coordinator.end_session();

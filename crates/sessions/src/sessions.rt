@@ -9,7 +9,7 @@ ghost use Rattle.vss_model.specs.Acts.{may_call};
 ghost use Rattle.vss_model.specs.Ending.{runs as agenda_runs};
 ghost use Rattle.vss_model.specs.State.{State, is_frozen, is_held, is_kept_set, left_now, row_of, start};
 ghost use Rattle.sessions.specs.Keeps.{IsInOrder, Keeps};
-ghost use Rattle.sessions.specs.Moves.{IsNextStep, MayAdd};
+ghost use Rattle.sessions.specs.Moves.{IsNextStep, LetsGoAtRest, MayAdd};
 ghost use Rattle.sessions.specs.Sets.{current_of, facts_of};
 
 use crate::set_facts::SetFacts;
@@ -132,7 +132,7 @@ impl Sessions {
         ensures kept { (st : State) → Keeps self.now st → result ≡ check st.session (agenda_runs st) lane call }
         ensures adds { result ≡ Verdict.Go → call ≡ SessionCall.Add → (st : State) → IsInOrder st → Keeps self.now st → MayAdd st }
         ensures verdict { result ≡ check self.now.requestor.session (runs self.now.coordinator) lane call }
-        ensures at_rest { result ≡ Verdict.Go → check self.now.requestor.session false lane call ≡ Verdict.Go }
+        ensures at_rest { result ≡ Verdict.Go → LetsGoAtRest self.now lane call }
     {
         let runs = self.coordinator.open_group().is_some();
         self.requestor.check(lane, call, runs)

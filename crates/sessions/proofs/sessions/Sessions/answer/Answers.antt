@@ -21,7 +21,7 @@ happens c s st found =
     let at : c.now-now.result ≡ st.clock = c.now-now.ensures.ticks ∙ kept.clock in
     let tells = c.in-Ok.ensures.tells st.course kept.course in
     let times = times_at _ _ c.self.inside.coordinator c.answered.new.self c.now-now.ensures.ticks c.in-Ok.ensures.times kept.on_time in
-    let mid = mid_keeps x c.answered.new.self st (course_answered c.args.writer (said_of c.args.answer) c.now-now.result st.course) kept (c.in-Ok.ensures.stands st.course kept.course) c.in-Ok.ensures.count times (disabled_answered c.args.writer (said_of c.args.answer) c.now-now.result st.course) in
+    let mid = mid_keeps x c.answered.new.self st (course_answered c.args.writer (said_of c.args.answer) c.now-now.result st.course) kept (c.in-Ok.ensures.stands st.course kept.course) c.in-Ok.ensures.writers.count times (disabled_answered c.args.writer (said_of c.args.answer) c.now-now.result st.course) in
     subst (λ (m : SessionMove). Happens s st (AnswerEvent c.args.writer c.args.answer) c.conclude-ended.new.self m) (sym c.with.ensures)
     (answer_happens s c.conclude-ended.new.self c.args.writer c.args.answer c.in-Some.standing.order c.conclude-ended.result st
     (order_is st.course c.args.writer c.in-Some.standing (sym c.in-Some.is ∙ c.poll.ensures st.course kept.course))

@@ -24,7 +24,7 @@ returns-clause-begun c st k order kept0 is0 =
     let tells = subst (λ (d : Course). Tells c.in_ok-effects.effects true [] None st.course d) same (c.in_ok-effects.ensures.tells st.course kept.course) in
     let times = subst (λ (n : ℕ). IsOnTime n c.begin_agenda.new.self) c.now-now.ensures.ticks c.in_ok-effects.ensures.times in
     let disabled = ap (λ (d : Course). d.disabled) (sym same) ∙ disabled_begun_as c.args.kind x.coordinator.writers h c.args.volumes.now c.now-now.result st.course in
-    let mid = mid_keeps x c.begin_agenda.new.self st k kept stands c.begin_agenda.ensures.count times disabled in
+    let mid = mid_keeps x c.begin_agenda.new.self st k kept stands c.begin_agenda.ensures.writers.count times disabled in
     begun_so c.conclude-ended.new.self st k c.conclude-ended.result c.with.result c.with.ensures
     (c.conclude-ended.ensures.keeps st k true order mid tells.outcome tells.agenda_ended)
     (c.conclude-ended.ensures.told st k true order mid tells.outcome tells.agenda_ended)

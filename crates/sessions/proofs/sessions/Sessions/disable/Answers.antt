@@ -10,4 +10,4 @@ returns-clause-gone c s st found =
     let x : SessionsValue = record { requestor = c.self.inside.requestor; coordinator = c.self.inside.coordinator; sets = c.self.inside.sets; clock = c.self.inside.clock; selection = c.self.inside.selection } in
     let kept : Keeps x st = rw (← c.self.view_is) at found.keeps in
     let known = rw (← c.self.view_is) at c.requires.known in
-    disables s c.args.lane c.args.writer st x c.disable.new.self c.alone.result (sym (checked_same c.args.self.now st c.args.lane call.Disable found.keeps) ∙ c.requires.goes) found.order kept known (c.disable.ensures.stands st.course kept.course) c.disable.ensures.count (c.disable.ensures.times c.self.inside.clock kept.on_time) c.alone.ensures
+    disables s c.args.lane c.args.writer st x c.disable.new.self c.alone.result (sym (checked_same c.args.self.now st c.args.lane call.Disable found.keeps) ∙ c.requires.goes) found.order kept known (c.disable.ensures.stands st.course kept.course) c.disable.ensures.writers.count (c.disable.ensures.times c.self.inside.clock kept.on_time) c.alone.ensures

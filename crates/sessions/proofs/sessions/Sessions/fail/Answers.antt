@@ -13,7 +13,7 @@ returns-clause-failed c st order kept0 =
     subst (λ (x : SessionsValue). Keeps x (failed_in (in_progress st) c.args.why st)) (sym c.end_so.ensures.ended)
     (fails_in x
     c.fail-effects.new.self st c.args.why c.in_ok-set.set order kept (sym c.in_ok-set.was ∙ c.current.ensures)
-    (c.fail-effects.ensures.stands st.course kept.course) c.fail-effects.ensures.count (c.fail-effects.ensures.times c.self.inside.clock kept.on_time))
+    (c.fail-effects.ensures.stands st.course kept.course) c.fail-effects.ensures.writers.count (c.fail-effects.ensures.times c.self.inside.clock kept.on_time))
 
 pub returns-in_err-set-clause-failed : goal.returns-in_err-set-clause-failed
 returns-in_err-set-clause-failed c st order kept0 =

@@ -22,7 +22,7 @@ returns-clause-stepped c st order kept0 opens =
     let mine : Keeps cut x = rw (← c.self-2.view_is) at (c.cut_at.ensures.cut st order kept0) in
     let tells = c.stepped-effects.ensures.tells x.course mine.course in
     let times = times_at _ _ c.self-2.inside.coordinator c.stepped-effects.new.self (at ∙ sym h.clock ∙ sym mine.clock) c.stepped-effects.ensures.times mine.on_time in
-    let mid = mid_keeps cut c.stepped-effects.new.self x (course_stepped true c.now-now.result x.course) mine (c.stepped-effects.ensures.stands x.course mine.course) c.stepped-effects.ensures.count times (disabled_stepped true c.now-now.result x.course) in
+    let mid = mid_keeps cut c.stepped-effects.new.self x (course_stepped true c.now-now.result x.course) mine (c.stepped-effects.ensures.stands x.course mine.course) c.stepped-effects.ensures.writers.count times (disabled_stepped true c.now-now.result x.course) in
     step_made_so c.conclude-ended.new.self st x c.args.volume c.args.group c.conclude-ended.result c.with.result c.with.ensures refl h
     (subst (λ (n : ℕ). Keeps c.conclude-ended.new.self (followed (runs st) (course_stepped true n st.course) x)) at
     (subst (λ (y : Course). Keeps c.conclude-ended.new.self (followed (is_some y.agenda) (course_stepped true c.now-now.result y) x)) h.course (c.conclude-ended.ensures.keeps x _ (is_some x.course.agenda) h.order mid tells.outcome tells.agenda_ended)))
