@@ -40,7 +40,9 @@ impl Model for Sessions {
 
     ghost Value = { SessionsValue };
 
-    ghost view = { λ x. record { requestor = x.requestor; coordinator = x.coordinator; sets = x.sets; clock = x.clock; selection = x.selection } };
+    ghost use Rattle.sessions.specs.Views.{value_of};
+
+    ghost view = { value_of };
 }
 
 impl Sessions {

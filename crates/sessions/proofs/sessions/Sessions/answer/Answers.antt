@@ -6,7 +6,8 @@ use Rattle.vss_model.specs.declared.event.Event.TheVariants.{Answer as AnswerEve
 use Rattle.vss_model.specs.State.{State}
 use Rattle.vss_model.specs.Ending.{runs, followed}
 use Rattle.sessions.specs.declared.session_move.SessionMove.{SessionMove}
-use Rattle.sessions.specs.Keeps.{SessionsValue, Keeps, IsAt}
+use Rattle.sessions.specs.Keeps.{Keeps, IsAt}
+use Rattle.sessions.specs.Views.{value_of}
 use Rattle.sessions.specs.Concluded.{IsTold}
 use Rattle.sessions.proofs.Disabled.{disabled_answered}
 use Rattle.sessions.proofs.Failing.{mid_keeps, times_at}
@@ -16,7 +17,7 @@ use Rattle.sessions.proofs.sessions.Sessions.answer.Goals as goal
 
 happens : (c : goal.After-with) (s : Plan) (st : State) → IsAt c.args.self.now s st → Happens s st (AnswerEvent c.args.writer c.args.answer) c.conclude-ended.new.self c.with.result
 happens c s st found =
-    let x : SessionsValue = record { requestor = c.self.inside.requestor; coordinator = c.self.inside.coordinator; sets = c.self.inside.sets; clock = c.self.inside.clock; selection = c.self.inside.selection } in
+    let x = value_of c.self.inside in
     let kept : Keeps x st = rw (← c.self.view_is) at found.keeps in
     let at : c.now-now.result ≡ st.clock = c.now-now.ensures.ticks ∙ kept.clock in
     let tells = c.in-Ok.ensures.tells st.course kept.course in

@@ -1,6 +1,7 @@
 use Rattle.std.proofs.Common.{sym, ◌∙◌, refl}
 use Rattle.requestor.specs.declared.session_call.SessionCall.TheVariants as call
-use Rattle.sessions.specs.Keeps.{SessionsValue, Keeps}
+use Rattle.sessions.specs.Keeps.{Keeps}
+use Rattle.sessions.specs.Views.{value_of}
 use Rattle.sessions.proofs.Moving.{checked_same}
 use Rattle.sessions.proofs.Lines.{begins, begins_not, none_of, there_of, same_parts}
 use Rattle.sessions.proofs.sessions.Sessions.begin.Goals as goal
@@ -11,7 +12,7 @@ returns-then-is_none-clause-gone c s st found = begins_not s c.args.lane c.args.
 
 pub returns-clause-gone : goal.returns-clause-gone
 returns-clause-gone c s st found =
-    let x : SessionsValue = record { requestor = c.self.inside.requestor; coordinator = c.self.inside.coordinator; sets = c.self.inside.sets; clock = c.self.inside.clock; selection = c.self.inside.selection } in
+    let x = value_of c.self.inside in
     let kept : Keeps x st = rw (← c.self.view_is) at found.keeps in
     let there = there_of c.context_of.result c.is_none.result c.is_none.ensures c.if-is_none.false in
     begins s c.args.lane c.args.context c.args.all there.context st x _ c.alone-2.result (sym (checked_same c.args.self.now st c.args.lane (call.Begin c.args.context c.args.all) found.keeps) ∙ c.requires.goes) (sym c.context_of.ensures ∙ there.is) c.alone-2.ensures found.order kept

@@ -4,7 +4,8 @@ use Rattle.component_doc.specs.Held.{Held}
 use Rattle.coordinator.specs.Beginning.{begun_as}
 use Rattle.coordinator.specs.Coordinator.{Stands, IsOnTime}
 use Rattle.coordinator.specs.Effects.{Tells}
-use Rattle.sessions.specs.Keeps.{SessionsValue, Keeps}
+use Rattle.sessions.specs.Keeps.{Keeps}
+use Rattle.sessions.specs.Views.{value_of}
 use Rattle.sessions.proofs.Disabled.{disabled_begun_as}
 use Rattle.sessions.proofs.Failing.{mid_keeps}
 use Rattle.sessions.proofs.Beginning.{begun_same, begun_so}
@@ -12,7 +13,7 @@ use Rattle.sessions.proofs.sessions.Sessions.begin_agenda.Goals as goal
 
 pub returns-clause-begun : goal.returns-clause-begun
 returns-clause-begun c st k order kept0 is0 =
-    let x : SessionsValue = record { requestor = c.self.inside.requestor; coordinator = c.self.inside.coordinator; sets = c.self.inside.sets; clock = c.self.inside.clock; selection = c.self.inside.selection } in
+    let x = value_of c.self.inside in
     let h : Held = c.selected-selection.result.now in
     let kept : Keeps x st = rw (← c.self.view_is) at kept0 in
     let is = rw (← c.self.view_is) at is0 in

@@ -2,7 +2,8 @@ use Rattle.std.proofs.Common.{ap, ◌≡◌, sym, ◌∙◌}
 use Rattle.requestor.specs.declared.session_call.SessionCall.TheVariants as call
 use Rattle.sessions.proofs.Moving.{checked_same}
 use Rattle.component_doc.specs.Held.{metas_of, all_have_few}
-use Rattle.sessions.specs.Keeps.{SessionsValue, IsAt}
+use Rattle.sessions.specs.Keeps.{IsAt}
+use Rattle.sessions.specs.Views.{value_of}
 use Rattle.sessions.specs.Moves.{takes_all_of}
 use Rattle.sessions.proofs.Knowing.{known_few, names_not, names_component}
 use Rattle.sessions.proofs.sessions.Sessions.component.Goals as goal
@@ -15,7 +16,7 @@ returns-then-takes_all-clause-gone c st at = names_not c.args.scenario.now c.arg
 
 pub returns-clause-gone : goal.returns-clause-gone
 returns-clause-gone c st at =
-    let x : SessionsValue = record { requestor = c.self.inside.requestor; coordinator = c.self.inside.coordinator; sets = c.self.inside.sets; clock = c.self.inside.clock; selection = c.self.inside.selection } in
+    let x = value_of c.self.inside in
     let mine : IsAt x c.args.scenario.now st = rw (← c.self.view_is) at at in
     let takes : c.takes_all.result ≡ takes_all_of c.self.inside.requestor.session = rw (← c.self.view_is) at c.takes_all.ensures in
     names_component c.args.scenario.now c.args.lane c.args.writer c.args.full st x c.add-added.new.self c.alone-2.result c.in_ok-told_of_naming.field-0 c.takes_all.result c.add-added.result (metas_of c.in_ok-metas.metas) c.token-name.result.now

@@ -1,5 +1,5 @@
 use Rattle.std.proofs.Common.{sym, ◌∙◌}
-use Rattle.sessions.specs.Keeps.{SessionsValue}
+use Rattle.sessions.specs.Views.{value_of}
 use Rattle.sessions.proofs.Concluding.{concluded_then, concluded_else}
 use Rattle.sessions.proofs.Telling.{told_then, told_else}
 use Rattle.sessions.proofs.sessions.Sessions.conclude.Goals as goal
@@ -15,6 +15,6 @@ returns-clause-keeps c = concluded_then c.args.self.now c.end_so.new.self c.args
 
 pub returns-clause-told : goal.returns-clause-told
 returns-clause-told c =
-    let x : SessionsValue = record { requestor = c.self.inside.requestor; coordinator = c.self.inside.coordinator; sets = c.self.inside.sets; clock = c.self.inside.clock; selection = c.self.inside.selection } in
+    let x = value_of c.self.inside in
     rw (← c.self.view_is) (told_then x c.args.outcome c.args.agenda_ended c.current-current.result c.ends_as.result
     (sym c.ends.ensures ∙ c.if-not-ends.false) c.current-current.ensures c.ends_as.ensures)

@@ -2,7 +2,8 @@ use Rattle.std.proofs.Common.{sym, ap, ◌∙◌, Option}
 use Rattle.requestor.specs.declared.session_call.SessionCall.TheVariants as call
 use Rattle.requestor.specs.Session.{Session}
 use Rattle.sessions.specs.declared.session_move.SessionMove.{SessionMove}
-use Rattle.sessions.specs.Keeps.{SessionsValue, Keeps}
+use Rattle.sessions.specs.Keeps.{Keeps}
+use Rattle.sessions.specs.Views.{value_of}
 use Rattle.sessions.proofs.Moving.{checked_same}
 use Rattle.std.specs.Prelude.{option_map}
 use Rattle.vss_names.specs.declared.context.Context.{Context}
@@ -18,7 +19,7 @@ close-requires c = may_end c.args.self.now.requestor.session c.fail_so-ended.new
 
 pub returns-clause-gone : goal.returns-clause-gone
 returns-clause-gone c s st found =
-    let x : SessionsValue = record { requestor = c.self.inside.requestor; coordinator = c.self.inside.coordinator; sets = c.self.inside.sets; clock = c.self.inside.clock; selection = c.self.inside.selection } in
+    let x = value_of c.self.inside in
     let kept : Keeps x st = rw (← c.self.view_is) at found.keeps in
     let released = c.released_by-released.ensures ∙ ap (λ (o : Option Context). released_by o c.set.result) c.context.ensures ∙ ap (released_by (option_map (λ (q : Session). q.context) c.self.inside.requestor.session)) c.set.ensures in
     ends s c.args.lane st x c.close.new.self c.with.result.outcome c.released_by-released.result c.fail_so-ended.result (sym (checked_same c.args.self.now st c.args.lane call.End found.keeps) ∙ c.requires.goes) kept (c.fail_so-ended.ensures.told st found.order found.keeps) released

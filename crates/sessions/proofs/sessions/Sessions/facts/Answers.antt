@@ -1,13 +1,14 @@
 use Rattle.std.proofs.Common.{List, ◌==◌, ap, ◌∙◌}
 use Rattle.std.specs.Prelude.{find, option_map}
 use Rattle.vss_model.specs.State.{SetRow}
-use Rattle.sessions.specs.Keeps.{SessionsValue, Keeps}
+use Rattle.sessions.specs.Keeps.{Keeps}
+use Rattle.sessions.specs.Views.{value_of}
 use Rattle.sessions.specs.Sets.{facts_of}
 use Rattle.sessions.proofs.Newest.{facts_bare}
 use Rattle.sessions.proofs.sessions.Sessions.facts.Goals as goal
 
 pub returns : goal.returns
 returns c st kept0 =
-    let x : SessionsValue = record { requestor = c.self.inside.requestor; coordinator = c.self.inside.coordinator; sets = c.self.inside.sets; clock = c.self.inside.clock; selection = c.self.inside.selection } in
+    let x = value_of c.self.inside in
     let kept : Keeps x st = rw (← c.self.view_is) at kept0 in
     c.facts.ensures ∙ ap (λ (rows : List SetRow). option_map facts_of (find (λ (r : SetRow). r.number == c.args.set) rows)) kept.sets ∙ facts_bare c.args.set st.sets

@@ -3,7 +3,8 @@ use Rattle.set_agenda.specs.Course.{timed as course_timed}
 use Rattle.coordinator.specs.Coordinator.{IsOnTime}
 use Rattle.vss_model.specs.Steps.{later}
 use Rattle.vss_model.specs.Ending.{runs}
-use Rattle.sessions.specs.Keeps.{SessionsValue, Keeps}
+use Rattle.sessions.specs.Keeps.{Keeps}
+use Rattle.sessions.specs.Views.{value_of}
 use Rattle.sessions.proofs.Disabled.{disabled_timed}
 use Rattle.sessions.proofs.Failing.{mid_keeps}
 use Rattle.sessions.proofs.Beginning.{gone_on_so, later_keeps, later_order, with_clock}
@@ -11,7 +12,7 @@ use Rattle.sessions.proofs.sessions.Sessions.go_on.Goals as goal
 
 pub returns-clause-gone : goal.returns-clause-gone
 returns-clause-gone c st order kept0 =
-    let x : SessionsValue = record { requestor = c.self.inside.requestor; coordinator = c.self.inside.coordinator; sets = c.self.inside.sets; clock = c.self.inside.clock; selection = c.self.inside.selection } in
+    let x = value_of c.self.inside in
     let kept : Keeps x st = rw (← c.self.view_is) at kept0 in
     let on = later_keeps x st c.args.ticks c.go_on_by.new.clock c.go_on_by.ensures kept in
     let now : c.now-now.result ≡ st.clock + c.args.ticks = c.now-now.ensures.ticks ∙ on.clock in

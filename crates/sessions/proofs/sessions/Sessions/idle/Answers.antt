@@ -2,14 +2,15 @@ use Rattle.std.proofs.Common.{◌≡◌, ℕ, sym, ap, ◌∙◌}
 use Rattle.std.specs.Prelude.{is_some}
 use Rattle.set_agenda.specs.Course.{idle_ticks}
 use Rattle.vss_model.specs.declared.event.Event.TheVariants.{Idle}
-use Rattle.sessions.specs.Keeps.{SessionsValue, Keeps, IsAt}
+use Rattle.sessions.specs.Keeps.{Keeps, IsAt}
+use Rattle.sessions.specs.Views.{value_of}
 use Rattle.sessions.proofs.Moving.{happens_moves}
 use Rattle.sessions.proofs.Beginning.{idle_happens, ticks_are}
 use Rattle.sessions.proofs.sessions.Sessions.idle.Goals as goal
 
 pub returns-in-Some-clause-called : goal.returns-in-Some-clause-called
 returns-in-Some-clause-called c s =
-    let x : SessionsValue = record { requestor = c.self.inside.requestor; coordinator = c.self.inside.coordinator; sets = c.self.inside.sets; clock = c.self.inside.clock; selection = c.self.inside.selection } in
+    let x = value_of c.self.inside in
     happens_moves (IsAt c.args.self.now s) s c.go_on.new.self Idle c.go_on.result (λ st found.
     let kept : Keeps x st = rw (← c.self.view_is) at found.keeps in
     let at : c.now-now.result ≡ st.clock = c.now-now.ensures.ticks ∙ kept.clock in

@@ -1,12 +1,13 @@
 use Rattle.std.proofs.Common.{List, ap, ◌∙◌}
 use Rattle.vss_model.specs.State.{SetRow}
-use Rattle.sessions.specs.Keeps.{SessionsValue, Keeps}
+use Rattle.sessions.specs.Keeps.{Keeps}
+use Rattle.sessions.specs.Views.{value_of}
 use Rattle.sessions.specs.Sets.{is_complete_in}
 use Rattle.sessions.proofs.Newest.{complete_bare}
 use Rattle.sessions.proofs.sessions.Sessions.is_complete.Goals as goal
 
 pub returns : goal.returns
 returns c st kept0 =
-    let x : SessionsValue = record { requestor = c.self.inside.requestor; coordinator = c.self.inside.coordinator; sets = c.self.inside.sets; clock = c.self.inside.clock; selection = c.self.inside.selection } in
+    let x = value_of c.self.inside in
     let kept : Keeps x st = rw (← c.self.view_is) at kept0 in
     c.is_complete.ensures ∙ ap (λ (rows : List SetRow). is_complete_in rows c.args.set) kept.sets ∙ complete_bare st.sets c.args.set

@@ -1,13 +1,14 @@
 use Rattle.std.proofs.Common.{ap, ◌∙◌}
 use Rattle.std.specs.Prelude.{not}
-use Rattle.sessions.specs.Keeps.{SessionsValue, Keeps, IsOf}
+use Rattle.sessions.specs.Keeps.{Keeps, IsOf}
+use Rattle.sessions.specs.Views.{value_of}
 use Rattle.sessions.proofs.AgendaLines.{is_disabled_same}
 use Rattle.sessions.proofs.Knowing.{known_is, unknown_is}
 use Rattle.sessions.proofs.sessions.Sessions.knows.Goals as goal
 
 pub returns-then-is_disabled : goal.returns-then-is_disabled
 returns-then-is_disabled c s st kept0 of0 =
-    let x : SessionsValue = record { requestor = c.self.inside.requestor; coordinator = c.self.inside.coordinator; sets = c.self.inside.sets; clock = c.self.inside.clock; selection = c.self.inside.selection } in
+    let x = value_of c.self.inside in
     let kept : Keeps x st = rw (← c.self.view_is) at kept0 in
     let of : IsOf x s = rw (← c.self.view_is) at of0 in
     let within = rw (← c.self.view_is) at c.requires in
@@ -15,7 +16,7 @@ returns-then-is_disabled c s st kept0 of0 =
 
 pub returns : goal.returns
 returns c s st kept0 of0 =
-    let x : SessionsValue = record { requestor = c.self.inside.requestor; coordinator = c.self.inside.coordinator; sets = c.self.inside.sets; clock = c.self.inside.clock; selection = c.self.inside.selection } in
+    let x = value_of c.self.inside in
     let kept : Keeps x st = rw (← c.self.view_is) at kept0 in
     let of : IsOf x s = rw (← c.self.view_is) at of0 in
     let within = rw (← c.self.view_is) at c.requires in

@@ -1,7 +1,8 @@
 use Rattle.std.proofs.Common.{◌≡◌, ℕ, ◌∙◌, subst, false}
 use Rattle.set_agenda.specs.Course.{stepped as course_stepped}
 use Rattle.vss_model.specs.Ending.{runs, followed}
-use Rattle.sessions.specs.Keeps.{SessionsValue, Keeps}
+use Rattle.sessions.specs.Keeps.{Keeps}
+use Rattle.sessions.specs.Views.{value_of}
 use Rattle.sessions.specs.Concluded.{IsTold}
 use Rattle.sessions.proofs.Disabled.{disabled_stepped}
 use Rattle.sessions.proofs.Failing.{mid_keeps, times_at}
@@ -10,7 +11,7 @@ use Rattle.sessions.proofs.sessions.Sessions.step_fails.Goals as goal
 
 pub returns-clause-stepped : goal.returns-clause-stepped
 returns-clause-stepped c st order kept0 opens =
-    let x : SessionsValue = record { requestor = c.self.inside.requestor; coordinator = c.self.inside.coordinator; sets = c.self.inside.sets; clock = c.self.inside.clock; selection = c.self.inside.selection } in
+    let x = value_of c.self.inside in
     let kept : Keeps x st = rw (← c.self.view_is) at kept0 in
     let at : c.now-now.result ≡ st.clock = c.now-now.ensures.ticks ∙ kept.clock in
     let tells = c.stepped-effects.ensures.tells st.course kept.course in

@@ -5,6 +5,7 @@ use Rattle.vss_model.specs.State.{State}
 use Rattle.vss_model.specs.Ending.{runs, followed}
 use Rattle.vss_model.specs.Steps.{step_made}
 use Rattle.sessions.specs.Keeps.{SessionsValue, Keeps}
+use Rattle.sessions.specs.Views.{value_of}
 use Rattle.sessions.specs.Concluded.{IsTold}
 use Rattle.sessions.proofs.Disabled.{disabled_stepped}
 use Rattle.sessions.proofs.Failing.{mid_keeps, times_at}
@@ -13,7 +14,7 @@ use Rattle.sessions.proofs.sessions.Sessions.step_made.Goals as goal
 
 pub returns-clause-stepped : goal.returns-clause-stepped
 returns-clause-stepped c st order kept0 opens =
-    let old : SessionsValue = record { requestor = c.self.inside.requestor; coordinator = c.self.inside.coordinator; sets = c.self.inside.sets; clock = c.self.inside.clock; selection = c.self.inside.selection } in
+    let old : SessionsValue = value_of c.self.inside in
     let cut : SessionsValue = record { requestor = c.self-2.inside.requestor; coordinator = c.self-2.inside.coordinator; sets = c.self-2.inside.sets; clock = c.self-2.inside.clock; selection = c.self-2.inside.selection } in
     let kept : Keeps old st = rw (← c.self.view_is) at kept0 in
     let at : c.now-now.result ≡ st.clock = c.now-now.ensures.ticks ∙ kept.clock in
