@@ -284,6 +284,7 @@ impl<D: Device> CowGroup<D> {
         requires space { 512 * length self.old.area.volumes ≤ vec_capacity gone.old }
         ensures room { HasRoom D.told self.old self.new v block result }
         ensures told { gone.new.items ≡ images_going result self.old.images }
+        ensures few { length gone.new.items ≤ 512 * length self.old.area.volumes }
         ensures space { vec_capacity gone.new ≡ vec_capacity gone.old }
     {
         let _facts = self.copies.slots();
