@@ -626,3 +626,8 @@ imaged_after s so_far act r q v e f g h l =
     by_cases : Done r.number r.volumes (after s (state s so_far) act) → is_some (point_in r.number (history_of (after s (state s so_far) act) v).images) ≡ true
     by_cases (inl i) = absurd (true_not_false (has_complete (after s (state s so_far) act).sets r.number) (complete_found 1 r.number (after s (state s so_far) act).sets q f g) i)
     by_cases (inr i) = i v h (subst (λ n. v < n) (sym (ap (λ (x : State). length x.volumes) (sym (state-append s so_far act)) ∙ as_many_volumes s (so_far ++ act ∷ []))) l)
+
+-- while its snapshot's agenda runs, the set in progress has its image on each of its volumes once the Cut step is made
+pub image_once_cut : (s : Plan) (acts : List Act) (r : SetRow) (a : Agenda) (v : ℕ) → in_progress (state s acts) ≡ Some r → (state s acts).course.agenda ≡ Some a → is_cut_made a.log ≡ true → is_among v r.volumes ≡ true → v < length s.volumes
+    → is_some (point_in r.number (history_of (state s acts) v).images) ≡ true
+image_once_cut s acts r a v e runs made among within = imaged s acts r e (subst Made (sym runs) made) v among (subst (λ n. v < n) (sym (as_many_volumes s acts)) within)

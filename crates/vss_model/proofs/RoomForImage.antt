@@ -1,7 +1,8 @@
--- Before its Cut each volume of the set in progress has room for one more image.
-use Rattle.std.proofs.Common.{◌≡◌, ℕ, ◌==◌, ◌<◌, ◌≤◌, List, [], ◌∷◌, ◌++◌, ◌⊎◌, Option, Some, None, refl, Bool, true, false, map, length, ap, sym, ◌∙◌, subst, find, inl, inr, arith}
+-- Each volume of the set in progress has room for its image: before the Cut step for one more, and after it that is among the most that
+-- there can be.
+use Rattle.std.proofs.Common.{◌≡◌, ℕ, zero, suc, ◌+◌, ◌==◌, ◌<◌, ◌≤◌, List, [], ◌∷◌, ◌++◌, ◌⊎◌, Option, Some, None, refl, Bool, true, false, map, length, ap, sym, ◌∙◌, subst, find, inl, inr, arith}
 use Rattle.std.specs.Prelude.{option_map, ◌&&◌, ◌||◌, if◌then◌else◌, nat_le}
-use Rattle.std.proofs.lemmas.List.{append_assoc}
+use Rattle.std.proofs.lemmas.List.{append_assoc, length-append}
 use Rattle.std.proofs.lemmas.List.Folds.{list_any-append}
 use Rattle.vss_names.specs.declared.context.Context.{Context}
 use Rattle.vss_names.specs.declared.set_outcome.SetOutcome.{SetOutcome}
@@ -21,14 +22,14 @@ use Rattle.vss_model.specs.State.{State, SetRow, Kept, is_running, in_progress, 
 use Rattle.vss_model.specs.Ending.{Ending, NothingEnds, AgendaEnds, SetFails, ending, row_settled, concluded, followed, runs, failed_in, failed}
 use Rattle.vss_model.specs.Images.{Replied, put, reverted_as, is_in_set}
 use Rattle.vss_model.specs.Sessions.{most_volumes, most_images, begin_in, has_no_volume, new_set, new_number, with_volume, change_set, add_refusal, closed}
-use Rattle.vss_model.specs.Steps.{answered, row_cut, cut_set, is_flush, is_failed_step, stepped_as, stepped, ticked, later}
+use Rattle.vss_model.specs.Steps.{answered, cut_if as image_cut_if, cut_each, row_cut, cut_set, is_flush, is_failed_step, stepped_as, stepped, ticked, later}
 use Rattle.vss_model.specs.Acts.{Act, after, state}
 use Rattle.vss_model.specs.Laws.{IsKeptByWrites}
 use Rattle.vss_model.specs.Cut.{is_provider, is_cut_group, is_set, is_cut_of, cut_if, cut}
 use Rattle.vss_model.proofs.Appending.{state-append}
 use Rattle.vss_model.proofs.Rule.{IsKeptButSteps, on_after_steps}
 use Rattle.vss_model.proofs.Orderly.{find-map, find-settled_over, find-settled_running}
-use Rattle.vss_model.proofs.HeldOfSet.{find-row_cut}
+use Rattle.vss_model.proofs.HeldOfSet.{find-row_cut, volumes-row_cut_if}
 use Rattle.vss_model.proofs.AtCut.{cuts}
 use Rattle.vss_model.proofs.CutStep.{second_not, both, step_made_same, after_cut, has_set}
 use Rattle.vss_model.proofs.CutAppend.{or_cut, append_nothing, cut-append}
@@ -40,24 +41,29 @@ use Rattle.vss_model.proofs.FewerImages.{fewer_images_dropped, fewer_released}
 abbrev Cuts : Type 0
 Cuts = ℕ → Option (List Act)
 
--- an uncut set has room on each of its volumes
+-- the image of a set takes a place where the set is not cut yet
+abbrev place_for : Option (List Act) → ℕ
+place_for None = 1
+place_for (Some acts) = 0
+
+-- with it, no volume of the set has too many
 abbrev Roomy : Cuts → List History → Option SetRow → Type 0
 Roomy k hs None = Unit {0}
-Roomy k hs (Some r) = k r.number ≡ None → (v : ℕ) → is_among v r.volumes ≡ true → length (at hs v).images < most_images
+Roomy k hs (Some r) = (v : ℕ) → is_among v r.volumes ≡ true → place_for (k r.number) + length (at hs v).images ≤ most_images
 
 abbrev HasRoom : Cuts → State → Type 0
 HasRoom k st = Roomy k st.volumes (in_progress st)
 
 roomy_fewer : (k : Cuts) (hs ks : List History) (o : Option SetRow) → FewerIn hs ks → Roomy k hs o → Roomy k ks o
 roomy_fewer k hs ks None f h = tt
-roomy_fewer k hs ks (Some r) f h = λ e v g. less (length (at ks v).images) (length (at hs v).images) most_images (f.each v).count (h e v g)
+roomy_fewer k hs ks (Some r) f h = λ v g. less (place_for (k r.number)) (length (at ks v).images) (length (at hs v).images) most_images (f.each v).count (h v g)
   where
-    less : (a b c : ℕ) → a ≤ b → b < c → a < c
-    less a b c e f = omega (arith, e, f)
+    less : (p a b c : ℕ) → a ≤ b → p + b ≤ c → p + a ≤ c
+    less p a b c e f = omega (arith, e, f)
 
 roomy_same : (k : Cuts) (hs : List History) (f : SetRow → SetRow) → ((r : SetRow) → (f r).number ≡ r.number) → ((r : SetRow) → (f r).volumes ≡ r.volumes) → (o : Option SetRow) → Roomy k hs o → Roomy k hs (option_map f o)
 roomy_same k hs f number volumes None h = tt
-roomy_same k hs f number volumes (Some r) h = λ e v g. h (ap k (sym (number r)) ∙ e) v (subst (λ vs. is_among v vs ≡ true) (volumes r) g)
+roomy_same k hs f number volumes (Some r) h = λ v g. subst (λ (n : ℕ). place_for (k n) + length (at hs v).images ≤ most_images) (sym (number r)) (h v (subst (λ vs. is_among v vs ≡ true) (volumes r) g))
 
 roomy_settled : (k : Cuts) (hs : List History) (p : SetOutcome) (rows : List SetRow) → Roomy k hs (find (λ r. is_running r.result) rows) → Roomy k hs (find (λ r. is_running r.result) (map (row_settled p) rows))
 roomy_settled k hs Running rows h = subst (Roomy k hs) (sym (find-settled_running rows)) (roomy_same k hs (λ (r : SetRow). record r { result = Running }) (λ r. refl) (λ r. refl) (find (λ r. is_running r.result) rows) h)
@@ -68,14 +74,14 @@ roomy_settled k hs (FailedSet why) rows h = subst (Roomy k hs) (sym (find-settle
 roomy_append : (k : Cuts) (hs : List History) (rows : List SetRow) (r : SetRow) → r.volumes ≡ [] → Roomy k hs (find (λ q. is_running q.result) rows) → Roomy k hs (find (λ q. is_running q.result) (rows ++ r ∷ []))
 roomy_append k hs [] r e h = new_if (is_running r.result)
   where
-    nothing : (v : ℕ) → is_among v r.volumes ≡ true → length (at hs v).images < most_images
+    nothing : (v : ℕ) → is_among v r.volumes ≡ true → place_for (k r.number) + length (at hs v).images ≤ most_images
     nothing v g = absurd (none v (subst (λ vs. is_among v vs ≡ true) e g))
       where
         none : (v : ℕ) → is_among v [] ≡ true → ⊥
         none v g = cc
 
     new_if : (b : Bool) → Roomy k hs (if b then Some r else None)
-    new_if true = λ f v g. nothing v g
+    new_if true = λ v g. nothing v g
     new_if false = tt
 roomy_append k hs (q ∷ rows) r e h = head_if (is_running q.result) h (roomy_append k hs rows r e)
   where
@@ -106,11 +112,15 @@ added vs v u e = by_cases (is_among u vs) (v == u) refl (sym (list_any-append (�
 
 roomy_added : (b : Bool) (k : Cuts) (hs : List History) (v : ℕ) (r : SetRow) → length (at hs v).images < most_images → Roomy k hs (Some r) → Roomy k hs (Some (if b then with_volume v r else r))
 roomy_added false k hs v r room h = h
-roomy_added true k hs v r room h = λ e u g. by_volume u e (added r.volumes v u g)
+roomy_added true k hs v r room h = λ u g. by_volume u (added r.volumes v u g)
   where
-    by_volume : (u : ℕ) → k r.number ≡ None → (is_among u r.volumes ≡ true) ⊎ (v ≡ u) → length (at hs u).images < most_images
-    by_volume u e (inl g) = h e u g
-    by_volume u e (inr g) = subst (λ w. length (at hs w).images < most_images) g room
+    fits : (o : Option (List Act)) (n m : ℕ) → n < m → place_for o + n ≤ m
+    fits None n m l = omega (arith, l)
+    fits (Some acts) n m l = omega (arith, l)
+
+    by_volume : (u : ℕ) → (is_among u r.volumes ≡ true) ⊎ (v ≡ u) → place_for (k r.number) + length (at hs u).images ≤ most_images
+    by_volume u (inl g) = h u g
+    by_volume u (inr g) = subst (λ w. place_for (k r.number) + length (at hs w).images ≤ most_images) g (fits (k r.number) (length (at hs v).images) most_images room)
 
 -- ## each change
 
@@ -211,7 +221,15 @@ module _ (k : Cuts) where
 
 more_known : (k l : Cuts) → ((n : ℕ) → l n ≡ None → k n ≡ None) → (hs : List History) (o : Option SetRow) → Roomy k hs o → Roomy l hs o
 more_known k l same hs None h = tt
-more_known k l same hs (Some r) h = λ e v g. h (same r.number e) v g
+more_known k l same hs (Some r) h = λ v g. less (place_for (l r.number)) (place_for (k r.number)) (length (at hs v).images) most_images (taken (k r.number) (l r.number) (same r.number)) (h v g)
+  where
+    less : (p q a c : ℕ) → p ≤ q → q + a ≤ c → p + a ≤ c
+    less p q a c e f = omega (arith, e, f)
+
+    taken : (a b : Option (List Act)) → (b ≡ None → a ≡ None) → place_for b ≤ place_for a
+    taken None None f = omega arith
+    taken (Some x) None f = let e = f refl in cc
+    taken a (Some y) f = omega arith
 
 abbrev known : Plan → List Act → Cuts
 known s acts n = cut s n acts
@@ -229,17 +247,32 @@ cut_known None true past e f = cc
 cut_known (Some x) true past e f = cc
 cut_known o false past e f = cc
 
-at_cut : (s : Plan) (past : List Act) (act : Act) (r : SetRow) → is_provider act.event ≡ true → is_cut_group (open_group (left_now (state s past))) ≡ true → in_progress (state s past) ≡ Some r
+at_cut : (s : Plan) (past : List Act) (act : Act) (r : SetRow) → is_provider act.event ≡ true → is_cut_group (open_group (left_now (state s past))) ≡ true → in_progress (state s past) ≡ Some r → HasRoom (known s past) (state s past)
     → HasRoom (known s (past ++ act ∷ [])) (after s (state s past) act)
-at_cut s past act r e f g =
+at_cut s past act r e f g h =
     let st = state s past in
     let l = known s (past ++ act ∷ []) in
     let x = cut_set (Some r) st in
     subst (HasRoom l) (sym (after_cut s st act e f ∙ ap (λ o. followed (runs st) (course_stepped true st.clock st.course) (cut_set o st)) g))
     (on_followed l (runs st) (course_stepped true st.clock st.course) x
     (subst (Roomy l x.volumes) (sym (find-row_cut r.number st.clock st.sets ∙ ap (option_map (row_cut r.number st.clock)) g))
-    (λ none v h. absurd (cut_known (cut s r.number past) (is_cut_of r.number st act) past now (sym (cut-append s r.number past act) ∙ ap l (sym (number (r.number == r.number) st.clock)) ∙ none)))))
+    (λ v among. by_cut v (l (row_cut r.number st.clock r).number) refl (subst (λ vs. is_among v vs ≡ true) (volumes-row_cut_if (r.number == r.number) st.clock r) among))))
   where
+    uncut : cut s r.number past ≡ None
+    uncut = not_cut_yet s past r (cuts s past f) g
+
+    one_longer : (n : ℕ) (vs : List ℕ) (u v : ℕ) (hs : List History) → length (at (cut_each n vs u hs) v).images ≤ length (at hs v).images + 1
+    one_longer n vs u v [] = omega arith
+    one_longer n vs u zero (x ∷ hs) = by_test (is_among u vs)
+      where
+        by_test : (b : Bool) → length (image_cut_if b n x).images ≤ length x.images + 1
+        by_test true = let long = length-append x.images (record { set = n; point = length x.writes } ∷ []) in omega (arith, long)
+        by_test false = omega arith
+    one_longer n vs u (suc v) (x ∷ hs) = one_longer n vs (u + 1) v hs
+
+    fits : (a b c : ℕ) → a ≤ b + 1 → 1 + b ≤ c → 0 + a ≤ c
+    fits a b c e f = omega (arith, e, f)
+
     number : (b : Bool) (now : ℕ) → (if b then record r { cut_at = Some now } else r).number ≡ r.number
     number true now = refl
     number false now = refl
@@ -255,6 +288,14 @@ at_cut s past act r e f g =
     now : is_cut_of r.number (state s past) act ≡ true
     now = all_true (is_provider act.event) (is_cut_group (open_group (left_now (state s past)))) (is_set r.number (in_progress (state s past))) e f (ap (is_set r.number) g ∙ own r.number)
 
+    by_cut : (v : ℕ) (o : Option (List Act)) → known s (past ++ act ∷ []) (row_cut r.number (state s past).clock r).number ≡ o → is_among v r.volumes ≡ true
+        → place_for o + length (at (cut_set (Some r) (state s past)).volumes v).images ≤ most_images
+    by_cut v None none among =
+        absurd (cut_known (cut s r.number past) (is_cut_of r.number (state s past) act) past now (sym (cut-append s r.number past act) ∙ ap (known s (past ++ act ∷ [])) (sym (number (r.number == r.number) (state s past).clock)) ∙ none))
+    by_cut v (Some x) is among =
+        fits (length (at (cut_set (Some r) (state s past)).volumes v).images) (length (at (state s past).volumes v).images) most_images (one_longer r.number r.volumes 0 v (state s past).volumes)
+        (subst (λ (o : Option (List Act)). place_for o + length (at (state s past).volumes v).images ≤ most_images) uncut ((subst (Roomy (known s past) (state s past).volumes) g h) v among))
+
 on_act_if : (b : Bool) (s : Plan) (past : List Act) (act : Act) → (is_provider act.event && is_cut_group (open_group (left_now (state s past)))) ≡ b → HasRoom (known s past) (state s past) → HasRoom (known s (past ++ act ∷ [])) (after s (state s past) act)
 on_act_if false s past act e h =
     let x = after s (state s past) act in
@@ -262,7 +303,7 @@ on_act_if false s past act e h =
 on_act_if true s past act e h =
     let parts = both (is_provider act.event) (is_cut_group (open_group (left_now (state s past)))) e in
     let r = has_set (state s past) (cuts s past parts.1) in
-    at_cut s past act r.set parts.0 parts.1 r.is
+    at_cut s past act r.set parts.0 parts.1 r.is h
 
 room_from : (s : Plan) (past acts : List Act) → HasRoom (known s past) (state s past) → HasRoom (known s (past ++ acts)) (state s (past ++ acts))
 room_from s past [] h = subst (λ xs. HasRoom (known s xs) (state s xs)) (sym (append_nothing past)) h
@@ -270,10 +311,21 @@ room_from s past (act ∷ acts) h =
     subst (λ xs. HasRoom (known s xs) (state s xs)) (append_assoc past (act ∷ []) acts)
     (room_from s (past ++ act ∷ []) acts (subst (HasRoom (known s (past ++ act ∷ []))) (sym (state-append s past act)) (on_act_if (is_provider act.event && is_cut_group (open_group (left_now (state s past)))) s past act refl h)))
 
+-- the set in progress, with its image or a place for it, has not too many
+room_in : (s : Plan) (acts : List Act) (r : SetRow) (v : ℕ) → in_progress (state s acts) ≡ Some r → is_among v r.volumes ≡ true → place_for (cut s r.number acts) + length (history_of (state s acts) v).images ≤ most_images
+room_in s acts r v e g = (subst (Roomy (known s acts) (state s acts).volumes) e (room_from s [] acts tt)) v g
+
 pub room_before_cut : (s : Plan) (acts : List Act) (r : SetRow) (v : ℕ) → in_progress (state s acts) ≡ Some r → cut s r.number acts ≡ None → is_among v r.volumes ≡ true → length (history_of (state s acts) v).images < most_images
-room_before_cut s acts r v e f g =
-    let room = room_from s [] acts tt in
-    (subst (Roomy (known s acts) (state s acts).volumes) e room) f v g
+room_before_cut s acts r v e f g = less (length (history_of (state s acts) v).images) most_images (subst (λ (o : Option (List Act)). place_for o + length (history_of (state s acts) v).images ≤ most_images) f (room_in s acts r v e g))
+  where
+    less : (a c : ℕ) → 1 + a ≤ c → a < c
+    less a c l = omega (arith, l)
+
+pub room_with_image : (s : Plan) (acts : List Act) (r : SetRow) (v : ℕ) → in_progress (state s acts) ≡ Some r → is_among v r.volumes ≡ true → length (history_of (state s acts) v).images ≤ most_images
+room_with_image s acts r v e g = less (place_for (cut s r.number acts)) (length (history_of (state s acts) v).images) most_images (room_in s acts r v e g)
+  where
+    less : (p a c : ℕ) → p + a ≤ c → a ≤ c
+    less p a c l = omega (arith, l)
 
 pub room_at_cut : (s : Plan) (acts : List Act) (r : SetRow) (v : ℕ) → is_cut_group (open_group (left_now (state s acts))) ≡ true → in_progress (state s acts) ≡ Some r → is_among v r.volumes ≡ true → length (history_of (state s acts) v).images < most_images
 room_at_cut s acts r v e f g = room_before_cut s acts r v f (not_cut_yet s acts r (cuts s acts e) f) g
