@@ -102,6 +102,7 @@ impl<D: Device> Provider<D> {
         requires has { HasGroups scenario.now self.old.groups }
         requires space { 512 * length scenario.now.volumes ≤ vec_capacity gone.old }
         ensures room { IsRoomMade D.Device scenario.now self.old.groups self.new.groups volume block gone.new.items result }
+        ensures few { length gone.new.items ≤ 512 * length scenario.now.volumes }
         ensures space { vec_capacity gone.new ≡ vec_capacity gone.old }
         ensures set { self.new ≡ record self.old { groups = self.new.groups } }
     {

@@ -1,4 +1,6 @@
 use Rattle.std.proofs.Common.{◌∙◌, ap, arith, length, map}
+use Rattle.std.proofs.lemmas.List.{length-map}
+use Rattle.write_history.specs.declared.evicted.Evicted.{Evicted}
 use Rattle.provider.specs.Calls.{renumbered}
 use Rattle.provider.proofs.Keeping.{provider_kept}
 use Rattle.provider.proofs.Places.{group_below}
@@ -41,3 +43,13 @@ returns-clause-room g c =
     c.make_room-up_to.new.self in
     rw (← c.self.view_is) (room_of g.D.Device now c.args.block c.make_room-up_to.result c.renumber.new.images.items c.make_room-up_to.ensures.room
     (c.renumber.ensures.told ∙ ap (map (renumbered c.args.scenario.now _)) c.make_room-up_to.ensures.told))
+
+pub returns-clause-few : goal.returns-clause-few
+returns-clause-few g c =
+    let f = (found_by c.args.scenario.now c.args.volume c.index_mut-group.result.now c.self.view_is c.requires.has c.place-place.ensures c.index_mut-group.ensures.value) in
+    let all = ap length (f.has.volumes f.group f.here f.at) in
+    let few = few_within f.group c.args.scenario.now.volumes in
+    let low = c.make_room-up_to.ensures.few in
+    let told = ap length c.renumber.ensures.told in
+    let same = length-map {B = Evicted} c.make_room-up_to.new.gone.items (renumbered c.args.scenario.now c.place-place.result.group) in
+    omega (arith, all, few, low, told, same)
