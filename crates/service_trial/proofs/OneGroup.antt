@@ -8,7 +8,7 @@ use Rattle.scenario.specs.Plan.{Plan, GroupPlan}
 use Rattle.write_history.specs.History.{fresh}
 use Rattle.cow_volume.specs.GroupValue.{GroupValue}
 use Rattle.cow_volume.specs.StandsFor.{StandsFor}
-use Rattle.provider.specs.Groups.{blocks_in_group}
+use Rattle.scenario.specs.Places.{blocks_in_group}
 use Rattle.vss_world.specs.Quiet.{AreNew}
 use Rattle.vss_play.proofs.LaneLines.{nothing_at}
 use Rattle.service_trial.specs.Keeps.{IsNewGroup}

@@ -11,7 +11,7 @@ use Rattle.diff_area.specs.Copies.{AreStored}
 use Rattle.cow_volume.specs.GroupValue.{placed}
 use Rattle.vss_model.specs.Acts.{state}
 use Rattle.vss_model.specs.Trail.{acts}
-use Rattle.provider.specs.Groups.{of_group, blocks_in_group}
+use Rattle.scenario.specs.Places.{of_group, blocks_in_group}
 use Rattle.provider.specs.Devices.{first_place, area_place}
 use Rattle.vss_world.specs.Devices.{told_of, told_by, AreaHolds}
 use Rattle.vss_world.specs.Stands.{WorldValue, IsOf}

@@ -14,7 +14,7 @@ use Rattle.diff_area.specs.Places.{blocks_for}
 use Rattle.diff_area.specs.Records.{AreVolumes}
 use Rattle.cow_volume.specs.GroupValue.{GroupValue}
 use Rattle.cow_volume.specs.StandsFor.{told_in}
-use Rattle.provider.specs.Groups.{of_group_if, blocks_in_group, count_if, place_in}
+use Rattle.scenario.specs.Places.{of_group_if, blocks_in_group, count_if, place_in}
 use Rattle.provider.specs.Devices.{devices_of, first_place, area_place, volume_place_in, volume_place, volumes_area_in, volumes_area}
 use Rattle.vss_report.specs.ToldReport.{all_tell}
 use Rattle.vss_world.specs.Devices.{told_by, told_at, tells_from, tells_of}

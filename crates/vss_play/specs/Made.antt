@@ -8,7 +8,7 @@ use Rattle.scenario.specs.declared.volume_row.VolumeRow.{VolumeRow}
 use Rattle.scenario.specs.Plan.{Plan, GroupPlan}
 use Rattle.cow_volume.specs.GroupValue.{GroupValue}
 use Rattle.cow_volume.specs.StandsFor.{StandsFor}
-use Rattle.provider.specs.Groups.{blocks_in_group}
+use Rattle.scenario.specs.Places.{blocks_in_group}
 
 -- ## devices
 

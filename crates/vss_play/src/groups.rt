@@ -4,7 +4,7 @@ ghost use Rattle.std.specs.Prelude.{ℕ, List, ◌≡◌, ◌<◌, ◌≤◌, �
 ghost use Rattle.diff_area.specs.Places.{blocks_for};
 ghost use Rattle.diff_area.specs.Records.{AreVolumes};
 ghost use Rattle.scenario.specs.Plan.{GroupPlan};
-ghost use Rattle.provider.specs.Groups.{blocks_in_group};
+ghost use Rattle.scenario.specs.Places.{blocks_in_group};
 ghost use Rattle.vss_play.specs.Played.{device_sizes};
 ghost use Rattle.vss_play.specs.Made.{IsZero, IsOpened, AreOpened, AreSorted, in_group, groups_of_devices};
 

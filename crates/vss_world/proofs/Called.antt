@@ -1,117 +1,194 @@
--- A session line: what its numbers and its checks say of it at a state.
-use Rattle.std.proofs.Common.{◌≡◌, ℕ, ◌+◌, ◌≤◌, List, [], refl, sym, subst, arith, Bool, true, false, Option}
-use Rattle.std.specs.Prelude.{is_some}
+-- A session line, against the acts.
+use Rattle.std.proofs.Common.{◌≡◌, ℕ, List, [], ◌∷◌, ◌++◌, refl, ap, sym, ◌∙◌, subst, Bool, true, false, Option, Some, None, ◌⊎◌, inl, inr}
+use Rattle.std.specs.Prelude.{is_some, option_map}
+use Rattle.volume_device.specs.declared.device.Device.{Ghosts}
+use Rattle.vss_names.specs.declared.vss_result.VssResult.{VssResult}
+use Rattle.vss_names.specs.declared.vss_result.VssResult.TheVariants.{AsyncPending}
 use Rattle.write_history.specs.declared.evicted.Evicted.{Evicted}
 use Rattle.write_history.specs.declared.mark.Mark.{Mark}
 use Rattle.write_history.specs.declared.mark.Mark.TheVariants.{Clean, Fault, FaultAfter}
+use Rattle.set_agenda.specs.Agenda.{Agenda}
+use Rattle.set_agenda.specs.Begin.{are_distinct}
 use Rattle.scenario.specs.declared.op.Op.{Op}
-use Rattle.scenario.specs.declared.op.Op.TheVariants.{WriteFill, WriteStamp, Read, ImageDigest, ImageBlock, Query, Properties, Revert, DeleteSet, DeleteImage, Tick, Begin, Disable, Gather, Component, Document, Start, Add, Prepare, Snapshot, Await, Status, Complete, Abort, End}
-use Rattle.scenario.specs.Calls.{call_of}
+use Rattle.scenario.specs.declared.op.Op.TheVariants.{Start, Snapshot, End}
 use Rattle.scenario.specs.Bounds.{IsOp}
+use Rattle.scenario.specs.Calls.{call_of}
 use Rattle.scenario.specs.Plan.{Plan}
 use Rattle.vss_model.specs.declared.event.Event.TheVariants.{Line}
-use Rattle.vss_model.specs.State.{State}
-use Rattle.vss_model.specs.Acts.{Act, state, after, line_allows}
+use Rattle.vss_model.specs.declared.told.Told.{Told}
+use Rattle.vss_model.specs.declared.told.Told.TheVariants as told
+use Rattle.vss_model.specs.Reply.{Reply}
+use Rattle.vss_model.specs.State.{State, SetRow, in_progress}
+use Rattle.vss_model.specs.Images.{Replied}
 use Rattle.vss_model.specs.Lines.{line}
-use Rattle.vss_model.specs.Told.{mark_of}
+use Rattle.vss_model.specs.Acts.{Act, state, after, line_allows}
+use Rattle.vss_model.specs.Effects.{ended_of}
+use Rattle.vss_model.specs.Facts.{NumberedFrom}
+use Rattle.vss_model.specs.Sessions.{volumes_of}
+use Rattle.vss_model.specs.Told.{Fits, mark_of}
 use Rattle.vss_model.specs.Trail.{is_fault}
-use Rattle.vss_model.specs.Outcome.{told_act}
-use Rattle.provider.specs.Groups.{IfStandFor}
+use Rattle.vss_model.specs.Outcome.{EndsAs, told_act}
+use Rattle.vss_model.proofs.Appending.{state-append}
+use Rattle.vss_model.proofs.OrderlyActs.{orderly}
+use Rattle.provider.specs.Groups.{AreGroups}
+use Rattle.provider.specs.Devices.{counts_of, AreKept}
 use Rattle.provider.specs.Preparing.{ProviderValue}
 use Rattle.sessions.specs.Keeps.{SessionsValue, Leaves}
-use Rattle.sessions.specs.Moves.{IsMove, IsWait, IsAtWith, HasImages}
+use Rattle.sessions.specs.Moves.{IsMove, IsAtOver, after_move, images_after, is_add}
+use Rattle.sessions.specs.Sets.{current_of}
 use Rattle.sessions.specs.declared.session_move.SessionMove.{SessionMove}
-use Rattle.vss_world.specs.Stands.{IsOf, IsInPlan, Stands, IsStanding}
-use Rattle.vss_world.specs.Moves.{IsMoved, IsBlocked}
-use Rattle.vss_world.specs.Settling.{IsDroppedFor, AreImagesFor}
-use Rattle.vss_world.proofs.Moved.{world_of}
+use Rattle.sessions.proofs.Concluding.{current_kept}
+use Rattle.vss_world.specs.Settling.{IsSettled, IsEndPrepared, begins_snapshot}
+use Rattle.vss_world.specs.Stands.{IsOf, IsInPlan, IsPrepared, number_prepared, IsStanding, IfStands}
+use Rattle.vss_world.specs.Moves.{IsMoved}
+use Rattle.vss_world.proofs.Ends.{none_found}
+use Rattle.vss_world.proofs.Moved.{world_of, IsProviderAt, clean_devices, leaves_of, goes_on, in_order}
 use Rattle.vss_world.proofs.Simple.{after_line}
 use Rattle.vss_world.proofs.InPlan.{in_line}
-use Rattle.vss_world.proofs.Following.{at_of, rows_long, session_moves, session_waits}
-
-counted : (images : ℕ) (op : Op) (st : State) → AreImagesFor op images st.volumes → HasImages images op st
-counted images (Add v) st h = h
-counted images op st h = tt
+use Rattle.vss_world.specs.Provided.{is_to_come, provided}
+use Rattle.vss_world.proofs.ToCome.{no_set_provided, no_agenda_provided, all_provided}
+use Rattle.vss_world.proofs.SetGoesOn.{GoesOn, BeginsSnapshot}
+use Rattle.vss_world.proofs.LinesGoOn.{LineGoes, SnapshotGoes, StartsSet, line_goes}
+use Rattle.vss_world.proofs.Prepared.{runs_number, IsUnended, none_of_zero, settled_comes, settled_keeps, unended, none_ended}
+use Rattle.vss_world.proofs.Following.{at_of, course_of, rows_long, set_move, ends_of, session_comes}
 
 is_clean : (s : Plan) (st : State) (op : Op) (mark : Mark) → is_some (call_of op) ≡ true → line_allows s st op mark ≡ true → is_fault mark ≡ false
 is_clean s st op Clean e f = refl
-is_clean s st (WriteFill v b x) Fault e f = cc
-is_clean s st (WriteFill v b x) (FaultAfter k) e f = cc
-is_clean s st (WriteStamp v b n) Fault e f = cc
-is_clean s st (WriteStamp v b n) (FaultAfter k) e f = cc
-is_clean s st (Read v b) Fault e f = cc
-is_clean s st (Read v b) (FaultAfter k) e f = cc
-is_clean s st (ImageDigest n v) Fault e f = cc
-is_clean s st (ImageDigest n v) (FaultAfter k) e f = cc
-is_clean s st (ImageBlock n v b) Fault e f = cc
-is_clean s st (ImageBlock n v b) (FaultAfter k) e f = cc
-is_clean s st (Query v) Fault e f = cc
-is_clean s st (Query v) (FaultAfter k) e f = cc
-is_clean s st (Properties n v) Fault e f = cc
-is_clean s st (Properties n v) (FaultAfter k) e f = cc
-is_clean s st (Revert n v) Fault e f = cc
-is_clean s st (Revert n v) (FaultAfter k) e f = cc
-is_clean s st (DeleteSet n) Fault e f = cc
-is_clean s st (DeleteSet n) (FaultAfter k) e f = cc
-is_clean s st (DeleteImage n v) Fault e f = cc
-is_clean s st (DeleteImage n v) (FaultAfter k) e f = cc
-is_clean s st (Tick n) Fault e f = cc
-is_clean s st (Tick n) (FaultAfter k) e f = cc
-is_clean s st (Begin c all) Fault e f = cc
-is_clean s st (Begin c all) (FaultAfter k) e f = cc
-is_clean s st (Disable w) Fault e f = cc
-is_clean s st (Disable w) (FaultAfter k) e f = cc
-is_clean s st Gather Fault e f = cc
-is_clean s st Gather (FaultAfter k) e f = cc
-is_clean s st (Component w full) Fault e f = cc
-is_clean s st (Component w full) (FaultAfter k) e f = cc
-is_clean s st Document Fault e f = cc
-is_clean s st Document (FaultAfter k) e f = cc
-is_clean s st Start Fault e f = cc
-is_clean s st Start (FaultAfter k) e f = cc
-is_clean s st (Add u) Fault e f = cc
-is_clean s st (Add u) (FaultAfter k) e f = cc
-is_clean s st Prepare Fault e f = cc
-is_clean s st Prepare (FaultAfter k) e f = cc
-is_clean s st Snapshot Fault e f = cc
-is_clean s st Snapshot (FaultAfter k) e f = cc
-is_clean s st Await Fault e f = cc
-is_clean s st Await (FaultAfter k) e f = cc
-is_clean s st Status Fault e f = cc
-is_clean s st Status (FaultAfter k) e f = cc
-is_clean s st Complete Fault e f = cc
-is_clean s st Complete (FaultAfter k) e f = cc
-is_clean s st Abort Fault e f = cc
-is_clean s st Abort (FaultAfter k) e f = cc
 is_clean s st End Fault e f = cc
+is_clean s st _ Fault e f = cc
 is_clean s st End (FaultAfter k) e f = cc
+is_clean s st _ (FaultAfter k) e f = cc
 
-pub call_at : {D : Type 0} (blocks_told : D → Option (List (List ℕ))) (s : Plan) (op : Op) (images : ℕ) (p : ProviderValue D) (x : SessionsValue) (l : List ℕ) (e : List Evicted)
-    → IsOf (world_of p x l e) s → IfStandFor blocks_told s p.groups (AreImagesFor op images) → (acts : List Act) → Stands blocks_told (world_of p x l e) s acts → IsAtWith images op x s (state s acts)
-call_at blocks_told s op images p x l e of are acts stands =
-    let st = state s acts in
-    record { at = at_of blocks_told s p x l e acts of stands; counted = counted images op st (are st.volumes stands.at.groups) }
+pub over_at : {D : Type 0} {blocks_told : D → Option (List (List ℕ))} {s : Plan} {p : ProviderValue D} {x : SessionsValue} {l : List ℕ} {e : List Evicted}
+    → IsOf (world_of p x l e) s → IfStands blocks_told (world_of p x l e) s (IsAtOver p.volumes x s)
+over_at of acts stands = record { at = at_of of acts stands; volumes = stands.at.prepared.volumes }
 
-same_clock : (a b : ℕ) → a ≡ b → a ≤ b + 1000000000
-same_clock a b e = omega arith
+-- ## what becomes of the set
 
--- a session line that is made
-pub call_moves : {D : Type 0} (blocks_told : D → Option (List (List ℕ))) (size count : D → ℕ) (lending : D → Bool) (s : Plan) (lane : ℕ) (op : Op) (m : SessionMove) (images : ℕ) (p q : ProviderValue D) (x y : SessionsValue) (l : List ℕ) (e f : List Evicted)
-    → IsOf (world_of p x l e) s → IsStanding blocks_told (world_of p x l e) s → is_some (call_of op) ≡ true → IsOp s op → IfStandFor blocks_told s p.groups (AreImagesFor op images) → f ≡ []
-    → IsMove (IsAtWith images op x s) s y (Line lane op) m → IsDroppedFor blocks_told size count lending m p q → Leaves x y → y.clock ≡ x.clock
-    → IsMoved blocks_told count (world_of p x l e) (world_of q y l f) s (Line lane op) m.outcome
-call_moves blocks_told size count lending s lane op m images p q x y l e f of standing call is_op are none move drops leaves clock =
-    let at = call_at blocks_told s op images p x l e of are in
+-- a line by what becomes of the set, and whether its snapshot begins
+abbrev SetGoes : State → State → Bool → Type 0
+SetGoes st next begins = (GoesOn st next × (begins ≡ false)) ⊎ ((StartsSet st next × (begins ≡ false)) ⊎ (BeginsSnapshot st next × (begins ≡ true)))
+
+not_begins : (why : VssResult) → ((why ≡ AsyncPending) → ⊥) → begins_snapshot Snapshot (told.Result why) ≡ false
+not_begins AsyncPending other = absurd (other refl)
+not_begins _ other = refl
+
+snapshot_set : (tells : List Bool) (st : State) (r : Replied) (t : Told) → Fits tells r.0 t → SnapshotGoes st r → SetGoes st r.1 (begins_snapshot Snapshot t)
+snapshot_set tells st r t fits (inl refused) =
+    let is : t ≡ told.Result refused.0 = subst (λ (z : Reply). Fits tells z t) refused.1 fits in
+    inl (refused.3, ap (begins_snapshot Snapshot) is ∙ not_begins refused.0 refused.2)
+snapshot_set tells st r t fits (inr begins) =
+    let is : t ≡ told.Result AsyncPending = subst (λ (z : Reply). Fits tells z t) begins.1 fits in
+    inr (inr (begins.0, ap (begins_snapshot Snapshot) is))
+
+set_goes : (op : Op) (tells : List Bool) (st : State) (r : Replied) (t : Told) → Fits tells r.0 t → LineGoes op st r → SetGoes st r.1 (begins_snapshot op t)
+set_goes Start tells st r t fits (inl goes) = inl (goes, refl)
+set_goes Start tells st r t fits (inr starts) = inr (inl (starts, refl))
+set_goes Snapshot tells st r t fits goes = snapshot_set tells st r t fits goes
+set_goes _ tells st r t fits goes = inl (goes, refl)
+
+-- ## what is left of the provider
+
+same_end : {D : Type 0} (begins : Bool) (set : Option ℕ) (q r : ProviderValue D) → IsEndPrepared begins set q r → r.groups ≡ q.groups
+same_end {D = D} false set q r h = ap (λ (z : ProviderValue D). z.groups) h
+same_end {D = D} true None q r h = ap (λ (z : ProviderValue D). z.groups) h
+same_end {D = D} true (Some n) q r h = ap (λ (z : ProviderValue D). z.groups) h
+
+not_ended : {D : Type 0} (begins : Bool) (set : Option ℕ) (q r : ProviderValue D) → begins ≡ false → IsEndPrepared begins set q r → r ≡ q
+not_ended false set q r e h = h
+not_ended true set q r e h = cc
+
+ended_with : {D : Type 0} (begins : Bool) (set : Option ℕ) (n : ℕ) (q r : ProviderValue D) → begins ≡ true → set ≡ Some n → IsEndPrepared begins set q r → r ≡ record q { set = n }
+ended_with false set n q r e f h = cc
+ended_with true None n q r e f h = cc
+ended_with {D = D} true (Some m) n q r e f h = let same : m ≡ n = cc in h ∙ ap (λ (k : ℕ). record { groups = q.groups; set = k; volumes = q.volumes }) same
+
+module _ {D : Type 0} (device : Ghosts D) (s : Plan) (op : Op) (m : SessionMove) (p q r : ProviderValue D) (acts : List Act) (act : Act)
+    (settled : IsSettled device m p q) (ended : IsEndPrepared (begins_snapshot op m.outcome.told) (current_of (state s acts).sets) q r) (prepared : IsPrepared p (state s acts))
+    (groups : AreGroups device.told s p.groups (provided (state s acts)))
+    (ends : EndsAs (ended_of (in_progress (state s acts)) (after s (state s acts) act).sets) m.outcome.set m.outcome.result)
+    (volumes : (after s (state s acts) act).volumes ≡ images_after m (state s acts).volumes) where
+  abbrev st : State
+  st = state s acts
+
+  abbrev next : State
+  next = after s st act
+
+  goes_left : GoesOn st next → begins_snapshot op m.outcome.told ≡ false → IsProviderAt device.told s r next
+  goes_left goes plain =
+      subst (λ (z : ProviderValue D). IsProviderAt device.told s z next) (sym (not_ended (begins_snapshot op m.outcome.told) (current_of st.sets) q r plain ended))
+      (settled_comes device s p st next (is_to_come st.course.agenda) (provided st) st.volumes (set_move s p acts act prepared goes) groups m q settled ends volumes)
+
+  -- where the provider has all images, and no set ends
+  quiet : provided st ≡ st.volumes → ended_of (in_progress st) next.sets ≡ None → IsUnended device.told s p q next.volumes
+  quiet all none = unended device s p st.volumes (none_of_zero s acts) (subst (AreGroups device.told s p.groups) all groups) next m q settled
+      (none_ended (ended_of (in_progress st) next.sets) m.outcome.set m.outcome.result none ends) volumes
+
+  starts_left : StartsSet st next → begins_snapshot op m.outcome.told ≡ false → IsProviderAt device.told s r next
+  starts_left starts plain =
+      let u = quiet (no_set_provided st starts.none) (ap (λ (o : Option SetRow). ended_of o next.sets) starts.none) in
+      let none : p.volumes ≡ [] = prepared.volumes ∙ ap volumes_of starts.none in
+      subst (λ (z : ProviderValue D). IsProviderAt device.told s z next) (sym (not_ended (begins_snapshot op m.outcome.told) (current_of st.sets) q r plain ended)) (
+        record {
+          volumes = u.volumes ∙ none ∙ sym (ap volumes_of starts.is ∙ starts.empty);
+          set = u.set ∙ prepared.set ∙ ap (λ (o : Option SetRow). number_prepared o st.course.agenda) starts.none
+              ∙ sym (ap (λ (o : Option SetRow). number_prepared o next.course.agenda) starts.is ∙ ap (λ (a : Option Agenda). number_prepared (Some starts.row) a) starts.rests);
+          distinct = ap are_distinct (u.volumes ∙ none);
+        },
+        subst (AreGroups device.told s q.groups) (sym (no_agenda_provided next starts.rests)) u.groups,
+      )
+
+  begins_left : (w : SetRow) → in_progress st ≡ Some w → BeginsSnapshot st next → begins_snapshot op m.outcome.told ≡ true → IsProviderAt device.told s r next
+  begins_left w here begins plain =
+      let ran : in_progress next ≡ Some w = begins.set ∙ here in
+      let numbered : NumberedFrom 1 next.sets = subst (λ (z : State). NumberedFrom 1 z.sets) (state-append s acts act) (orderly s (acts ++ act ∷ [])).numbered in
+      let u = quiet (no_agenda_provided st begins.rests) (ap (λ (o : Option SetRow). ended_of o next.sets) here ∙ none_found 1 next.sets w numbered ran) in
+      let is = ended_with (begins_snapshot op m.outcome.told) (current_of st.sets) w.number q r plain (ap (option_map (λ (z : SetRow). z.number)) here) ended in
+      subst (λ (z : ProviderValue D). IsProviderAt device.told s z next) (sym is) (
+        record {
+          volumes = u.volumes ∙ prepared.volumes ∙ sym (ap volumes_of begins.set);
+          set = sym (ap (λ (o : Option SetRow). number_prepared o next.course.agenda) ran ∙ runs_number w next.course.agenda begins.runs);
+          distinct = ap are_distinct u.volumes ∙ prepared.distinct;
+        },
+        subst (AreGroups device.told s q.groups) (sym (all_provided (in_progress next) next.course.agenda next.volumes begins.coming)) u.groups,
+      )
+
+  pub line_left : SetGoes st next (begins_snapshot op m.outcome.told) → IsProviderAt device.told s r next
+  line_left (inl h) = goes_left h.0 h.1
+  line_left (inr (inl h)) = starts_left h.0 h.1
+  line_left (inr (inr h)) = by_set (in_progress st) refl
+    where
+      by_set : (o : Option SetRow) → in_progress st ≡ o → IsProviderAt device.told s r next
+      by_set (Some w) e = begins_left w e h.0 h.1
+      by_set None e = absurd (h.0.some e)
+
+-- ## a session line
+
+pub call_moves : {D : Type 0} (device : Ghosts D) (s : Plan) (lane : ℕ) (op : Op) (q : ProviderValue D) {m : SessionMove} {set : Option ℕ} {p r : ProviderValue D} {x y : SessionsValue}
+    {l : List ℕ} {e f : List Evicted} → IsOf (world_of p x l e) s → IsStanding device.told (world_of p x l e) s → is_some (call_of op) ≡ true → is_add op ≡ false → IsOp s op
+    → set ≡ current_of x.sets → f ≡ [] → IsMove (IsAtOver p.volumes x s) s y (Line lane op) m → IsSettled device m p q
+    → IsEndPrepared (begins_snapshot op m.outcome.told) set q r → Leaves x y
+    → IsMoved device.told device.count (world_of p x l e) (world_of r y l f) s (Line lane op) m.outcome
+call_moves device s lane op q {m = m} {set = set} {p = p} {r = r} {x = x} {y = y} {l = l} {e = e} {f = f} of standing call no_add is_op set_is none move settled ended leaves =
     let mark = mark_of m.outcome.told in
-    let to : (acts : List Act) → Stands blocks_told (world_of p x l e) s acts → after s (state s acts) (told_act (Line lane op) m.outcome.told) ≡ (line s lane op mark (state s acts)).1
-    = λ acts stands. after_line s (state s acts) lane op mark (move.is_enabled (state s acts) (at acts stands)) in
-    session_moves blocks_told size count lending s (Line lane op) m (IsAtWith images op x s) p q x y l e f of none move (λ st. refl) drops leaves (same_clock y.clock x.clock clock)
-    (is_clean s (state s standing.acts) op mark call (move.is_allowed (state s standing.acts) (at standing.acts standing.stands)))
-    at
-    (λ acts stands. subst (λ (z : State). IsInPlan s z) (sym (to acts stands)) (in_line s lane op mark (state s acts) call is_op (rows_long s x (state s acts) stands.at.sessions of.writers) stands.at.plan))
-
--- one that waits
-pub call_waits : {D : Type 0} (blocks_told : D → Option (List (List ℕ))) (s : Plan) (lane : ℕ) (op : Op) (images : ℕ) (p : ProviderValue D) (x y : SessionsValue) (l : List ℕ) (e : List Evicted)
-    → IsOf (world_of p x l e) s → IfStandFor blocks_told s p.groups (AreImagesFor op images) → IsWait (IsAtWith images op x s) s x y (Line lane op)
-    → IsBlocked blocks_told (world_of p x l e) (world_of p y l e) s (Line lane op)
-call_waits blocks_told s lane op images p x y l e of are wait = session_waits blocks_told s (Line lane op) (IsAtWith images op x s) p x y l e wait (call_at blocks_told s op images p x l e of are)
+    let to : IfStands device.told (world_of p x l e) s (λ st. after_move s st (Line lane op) m ≡ (line s lane op mark st).1)
+    = λ acts stands. after_line s (state s acts) lane op mark (move.is_enabled (state s acts) (over_at of acts stands)) in
+    let kept = settled_keeps device m p q settled in
+    let same = same_end (begins_snapshot op m.outcome.told) set q r ended in
+    let clean = is_clean s (state s standing.acts) op mark call (move.is_allowed (state s standing.acts) (over_at of standing.acts standing.stands)) in
+    session_comes device s (Line lane op) m (IsAtOver p.volumes x s) none move (over_at of)
+    (clean_devices device s (Line lane op) m.outcome p r x y l l e f of (subst (λ gs. AreKept device p.groups gs) (sym same) kept.0) (leaves_of s x y of.writers leaves)
+    (ap (counts_of device.count) same ∙ kept.1) clean)
+    (goes_on x y leaves)
+    (λ acts stands.
+    let st = state s acts in
+    let act = told_act (Line lane op) m.outcome.told in
+    let here = over_at of acts stands in
+    let out = move.outcome st [] [] (after s st act).course.rows here refl in
+    let current : set ≡ current_of st.sets = set_is ∙ current_kept x st stands.at.sessions in
+    line_left device s op m p q r acts act settled (subst (λ (o : Option ℕ). IsEndPrepared (begins_snapshot op m.outcome.told) o q r) current ended)
+    stands.at.prepared stands.at.groups (ends_of st move here) (move.volumes st here)
+    (subst (λ (z : State). SetGoes st z (begins_snapshot op m.outcome.told)) (sym (to acts stands))
+    (set_goes op [] st (line s lane op mark st) m.outcome.told out.fits (line_goes s lane st (course_of s acts) op mark call no_add (in_order s acts).session))))
+    (λ acts stands. subst (λ (z : State). IsInPlan s z) (sym (to acts stands))
+    (in_line s lane op mark (state s acts) call is_op (rows_long s x (state s acts) stands.at.sessions of.writers) stands.at.plan))

@@ -11,31 +11,32 @@ use Rattle.set_agenda.specs.declared.group.Group.TheVariants.{Orders, PreCommit,
 use Rattle.set_agenda.specs.declared.kind.Kind.{Kind}
 use Rattle.set_agenda.specs.declared.kind.Kind.TheVariants.{Gather, Prepare, Snapshot, Complete}
 use Rattle.set_agenda.specs.declared.place.Place.{Place}
-use Rattle.set_agenda.specs.Agenda.{Agenda, Entry, Open, plain, at_level, places, same_place, has_said, waited_for, with_group, left_from, groups_left, open_place, is_among, is_done, at_place, all_say}
+use Rattle.set_agenda.specs.Agenda.{Agenda, Entry, Open, plain, at_level, places, same_place, has_said, waited_for, with_group, left_from, groups_left, open_place, is_among, is_done, at_place}
+use Rattle.set_agenda.specs.Agenda.{all_say}
 use Rattle.scenario.specs.Plan.{Plan}
 use Rattle.vss_model.specs.Acts.{Act, state}
 use Rattle.vss_model.proofs.LogRule.{IsKeptInLog, Running, in_log}
 use Rattle.vss_model.proofs.Spoken.{new_said, fewer_wait}
+use Rattle.vss_model.proofs.Orderly.{true_not_false}
 
 -- ## groups before the open one
 
 -- at a place that is open the groups before it are closed
 closes : (q p : Place) (ws : List ℕ) (later : List Open) → same_place p q ≡ false → same_place (open_place (with_group p ws later)) q ≡ true → (ws ≡ []) × (same_place (open_place later) q ≡ true)
 closes q p [] later e h = (refl, h)
-closes q p (w ∷ ws) later e h = absurd (apart (same_place p q) h e)
-  where
-    apart : (b : Bool) → b ≡ true → b ≡ false → ⊥
-    apart true c d = cc
-    apart false c d = cc
+closes q p (w ∷ ws) later e h = absurd (true_not_false (same_place p q) h e)
 
 not_open : false ≡ true → ⊥
 not_open e = cc
 
 -- what the open place is, where it is a place after the Cut group
-before_cut : (q : Place) (a : Agenda) (later : List Open) → same_place (plain (Orders PrepareSnapshot)) q ≡ false → same_place (at_level Freeze FrontEnd) q ≡ false → same_place (at_level Freeze BackEnd) q ≡ false → same_place (at_level Freeze System) q ≡ false
+before_cut : (q : Place) (a : Agenda) (later : List Open) → same_place (plain (Orders PrepareSnapshot)) q ≡ false → same_place (at_level Freeze FrontEnd) q ≡ false
+    → same_place (at_level Freeze BackEnd) q ≡ false → same_place (at_level Freeze System) q ≡ false
     → same_place (plain PreCommit) q ≡ false → same_place (plain Flush) q ≡ false → same_place (plain Hold) q ≡ false → same_place (plain Cut) q ≡ false
-    → same_place (open_place (with_group (plain (Orders PrepareSnapshot)) (waited_for a (plain (Orders PrepareSnapshot))) (with_group (at_level Freeze FrontEnd) (waited_for a (at_level Freeze FrontEnd))
-    (with_group (at_level Freeze BackEnd) (waited_for a (at_level Freeze BackEnd)) (with_group (at_level Freeze System) (waited_for a (at_level Freeze System)) (with_group (plain PreCommit) (waited_for a (plain PreCommit))
+    → same_place (open_place
+    (with_group (plain (Orders PrepareSnapshot)) (waited_for a (plain (Orders PrepareSnapshot))) (with_group (at_level Freeze FrontEnd) (waited_for a (at_level Freeze FrontEnd))
+    (with_group (at_level Freeze BackEnd) (waited_for a (at_level Freeze BackEnd))
+    (with_group (at_level Freeze System) (waited_for a (at_level Freeze System)) (with_group (plain PreCommit) (waited_for a (plain PreCommit))
     (with_group (plain Flush) (waited_for a (plain Flush)) (with_group (plain Hold) (waited_for a (plain Hold)) (with_group (plain Cut) (waited_for a (plain Cut)) later))))))))) q ≡ true
     → (waited_for a (plain Cut) ≡ []) × (same_place (open_place later) q ≡ true)
 before_cut q a later snapshot front back system pre flush hold cut h =
@@ -85,17 +86,20 @@ CommitsFirst a = (v : ℕ) → has_said a.log (plain Release) v ≡ true → wai
 commits_first : IsKeptInLog CommitsFirst
 commits_first = record {
   begins = λ k ms vs now v e. absurd cc;
-  says = λ said now ws a waited mild h v e. more said now ws a h v (sym (list_any-append (λ (x : Entry). same_place x.place (plain Release) && (x.who == v)) a.log (map (at_place (open_place (groups_left a)) said now) ws)) ∙ e);
+  says = λ said now ws a waited mild h v e. more said now ws a h v
+      (sym (list_any-append (λ (x : Entry). same_place x.place (plain Release) && (x.who == v)) a.log (map (at_place (open_place (groups_left a)) said now) ws)) ∙ e);
 } where
   first_part : (a b : Bool) → (a && b) ≡ true → a ≡ true
   first_part true b e = refl
   first_part false b e = cc
 
-  more : (said : Said) (now : ℕ) (ws : List ℕ) (a : Agenda) → CommitsFirst a → (v : ℕ) → (has_said a.log (plain Release) v || has_said (map (at_place (open_place (groups_left a)) said now) ws) (plain Release) v) ≡ true
+  more : (said : Said) (now : ℕ) (ws : List ℕ) (a : Agenda) → CommitsFirst a → (v : ℕ)
+      → (has_said a.log (plain Release) v || has_said (map (at_place (open_place (groups_left a)) said now) ws) (plain Release) v) ≡ true
       → waited_for (all_say said now ws a) (plain Commit) ≡ []
   more said now ws a h v e = by_log (has_said a.log (plain Release) v) refl e
     where
-      by_log : (b : Bool) → has_said a.log (plain Release) v ≡ b → (b || has_said (map (at_place (open_place (groups_left a)) said now) ws) (plain Release) v) ≡ true → waited_for (all_say said now ws a) (plain Commit) ≡ []
+      by_log : (b : Bool) → has_said a.log (plain Release) v ≡ b → (b || has_said (map (at_place (open_place (groups_left a)) said now) ws) (plain Release) v) ≡ true
+          → waited_for (all_say said now ws a) (plain Commit) ≡ []
       by_log true f g = fewer_wait a.log (map (at_place (open_place (groups_left a)) said now) ws) (plain Commit) a.volumes (h v f)
       by_log false f g =
           fewer_wait a.log (map (at_place (open_place (groups_left a)) said now) ws) (plain Commit) a.volumes
@@ -105,7 +109,8 @@ in_every_log : (s : Plan) (acts : List Act) → Running CommitsFirst (state s ac
 in_every_log s acts = in_log CommitsFirst commits_first s acts
 
 -- a volume of the agenda whose Commit step is not made is not released
-pub unreleased : (s : Plan) (acts : List Act) (a : Agenda) (v : ℕ) → (state s acts).course.agenda ≡ Some a → is_among v a.volumes ≡ true → has_said a.log (plain Commit) v ≡ false → has_said a.log (plain Release) v ≡ false
+pub unreleased : (s : Plan) (acts : List Act) (a : Agenda) (v : ℕ) → (state s acts).course.agenda ≡ Some a → is_among v a.volumes ≡ true → has_said a.log (plain Commit) v ≡ false
+    → has_said a.log (plain Release) v ≡ false
 unreleased s acts a v e among not_yet = by_said (has_said a.log (plain Release) v) refl
   where
     not_both : (b : Bool) → b ≡ true → b ≡ false → ⊥
@@ -115,6 +120,45 @@ unreleased s acts a v e among not_yet = by_said (has_said a.log (plain Release) 
     by_said : (b : Bool) → has_said a.log (plain Release) v ≡ b → b ≡ false
     by_said false f = refl
     by_said true f = absurd (not_both (has_said a.log (plain Commit) v) (all_said a.log (plain Commit) a.volumes v ((subst (Running CommitsFirst) e (in_every_log s acts)) v f) among) not_yet)
+
+-- ## before the Cut step
+
+abbrev CutsFirst : Agenda → Type 0
+CutsFirst a = (v : ℕ) → has_said a.log (plain Commit) v ≡ true → waited_for a (plain Cut) ≡ []
+
+cuts_first : IsKeptInLog CutsFirst
+cuts_first = record {
+  begins = λ k ms vs now v e. absurd cc;
+  says = λ said now ws a waited mild h v e. more said now ws a h v
+      (sym (list_any-append (λ (x : Entry). same_place x.place (plain Commit) && (x.who == v)) a.log (map (at_place (open_place (groups_left a)) said now) ws)) ∙ e);
+} where
+  first_part : (a b : Bool) → (a && b) ≡ true → a ≡ true
+  first_part true b e = refl
+  first_part false b e = cc
+
+  more : (said : Said) (now : ℕ) (ws : List ℕ) (a : Agenda) → CutsFirst a → (v : ℕ)
+      → (has_said a.log (plain Commit) v || has_said (map (at_place (open_place (groups_left a)) said now) ws) (plain Commit) v) ≡ true
+      → waited_for (all_say said now ws a) (plain Cut) ≡ []
+  more said now ws a h v e = by_log (has_said a.log (plain Commit) v) refl e
+    where
+      by_log : (b : Bool) → has_said a.log (plain Commit) v ≡ b → (b || has_said (map (at_place (open_place (groups_left a)) said now) ws) (plain Commit) v) ≡ true
+          → waited_for (all_say said now ws a) (plain Cut) ≡ []
+      by_log true f g = fewer_wait a.log (map (at_place (open_place (groups_left a)) said now) ws) (plain Cut) (0 ∷ []) (h v f)
+      by_log false f g =
+          fewer_wait a.log (map (at_place (open_place (groups_left a)) said now) ws) (plain Cut) (0 ∷ [])
+          (cut_closed a.kind a (first_part (same_place (open_place (groups_left a)) (plain Commit)) (is_among v ws) (new_said (open_place (groups_left a)) (plain Commit) said now v ws g)))
+
+-- no Commit step is made before the Cut step
+pub uncommitted : (s : Plan) (acts : List Act) (a : Agenda) (v : ℕ) → (state s acts).course.agenda ≡ Some a → has_said a.log (plain Cut) 0 ≡ false → has_said a.log (plain Commit) v ≡ false
+uncommitted s acts a v e none = by_said (has_said a.log (plain Commit) v) refl
+  where
+    not_both : (b : Bool) → b ≡ true → b ≡ false → ⊥
+    not_both true f g = cc
+    not_both false f g = cc
+
+    by_said : (b : Bool) → has_said a.log (plain Commit) v ≡ b → b ≡ false
+    by_said false f = refl
+    by_said true f = absurd (not_both (has_said a.log (plain Cut) 0) (all_said a.log (plain Cut) (0 ∷ []) 0 ((subst (Running CutsFirst) e (in_log CutsFirst cuts_first s acts)) v f) refl) none)
 
 -- ## where a Commit step is the next one
 
@@ -143,3 +187,20 @@ committed_at_end a v kind done among =
     (none_left (at_level Freeze BackEnd) (waited_for a (at_level Freeze BackEnd)) _
     (none_left (at_level Freeze FrontEnd) (waited_for a (at_level Freeze FrontEnd)) _
     (none_left (plain (Orders PrepareSnapshot)) (waited_for a (plain (Orders PrepareSnapshot))) _ all).1).1).1).1).1).1).1).1).0 among
+
+-- and it is not over before its Cut step is made
+pub never_done : (a : Agenda) → a.kind ≡ Snapshot → has_said a.log (plain Cut) 0 ≡ false → is_done (groups_left a) ≡ true → ⊥
+never_done a kind none done =
+    let K : Kind → Type 0 = λ k. is_done (left_from a (places k)) ≡ true in
+    let all : is_done (left_from a (places Snapshot)) ≡ true = subst K kind done in
+    true_not_false (has_said a.log (plain Cut) 0)
+    (all_said a.log (plain Cut) (0 ∷ []) 0
+    (none_left (plain Cut) (waited_for a (plain Cut)) _
+    (none_left (plain Hold) (waited_for a (plain Hold)) _
+    (none_left (plain Flush) (waited_for a (plain Flush)) _
+    (none_left (plain PreCommit) (waited_for a (plain PreCommit)) _
+    (none_left (at_level Freeze System) (waited_for a (at_level Freeze System)) _
+    (none_left (at_level Freeze BackEnd) (waited_for a (at_level Freeze BackEnd)) _
+    (none_left (at_level Freeze FrontEnd) (waited_for a (at_level Freeze FrontEnd)) _
+    (none_left (plain (Orders PrepareSnapshot)) (waited_for a (plain (Orders PrepareSnapshot))) _ all).1).1).1).1).1).1).1).0 refl)
+    none

@@ -37,7 +37,8 @@ found_above m (q ∷ rows) r numbered e = at_head (is_running q.result) e (λ f.
     at_head true f rest = let same : q ≡ r = cc in let n = numbered.0 in subst (λ (z : SetRow). m ≤ z.number) same (omega (arith, n))
     at_head false f rest = let l = rest f in omega (arith, l)
 
-none_found : (m : ℕ) (rows : List SetRow) (r : SetRow) → NumberedFrom m rows → find (λ q. is_running q.result) rows ≡ Some r → find (λ q. (q.number == r.number) && not (is_running q.result)) rows ≡ None
+pub none_found : (m : ℕ) (rows : List SetRow) (r : SetRow) → NumberedFrom m rows → find (λ q. is_running q.result) rows ≡ Some r
+    → find (λ q. (q.number == r.number) && not (is_running q.result)) rows ≡ None
 none_found m [] r numbered e = refl
 none_found m (q ∷ rows) r numbered e = at_head (is_running q.result) refl e (λ g. none_found (m + 1) rows r numbered.1 g)
   where

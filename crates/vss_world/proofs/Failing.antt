@@ -15,9 +15,6 @@ pub failed_course : (why : VssResult) (c : Course) → ((course_failed why c).ag
 unfolding course_failed
 failed_course why c = (refl, refl)
 
-pub failed_agenda : (r : SetRow) (why : VssResult) (st : State) → (failed_in (Some r) why st).course.agenda ≡ None
-failed_agenda r why st = (failed_course why st.course).0
-
 -- ## the row
 
 apart_back : (a b : ℕ) → a < b → (a == b) ≡ false
@@ -50,28 +47,30 @@ number_settled false o q = refl
 settled_yes : (o : SetOutcome) (q : SetRow) → is_running q.result ≡ true → row_settled o q ≡ record q { result = o }
 settled_yes o q e = ap (λ (t : Bool). if t then record q { result = o } else q) e
 
-settled_row : (m : ℕ) (why : VssResult) (rows : List SetRow) (r : SetRow) → NumberedFrom m rows → find (λ q. is_running q.result) rows ≡ Some r
-    → find (λ q. (q.number == r.number) && not (is_running q.result)) (map (row_settled (Failed why)) rows) ≡ Some (record r { result = Failed why })
-settled_row m why [] r numbered e = cc
-settled_row m why (q ∷ rows) r numbered e = at_head (is_running q.result) refl e (λ f. settled_row (m + 1) why rows r numbered.1 f)
+pub settled_row : (m : ℕ) (o : SetOutcome) → is_running o ≡ false → (rows : List SetRow) (r : SetRow) → NumberedFrom m rows → find (λ q. is_running q.result) rows ≡ Some r
+    → find (λ q. (q.number == r.number) && not (is_running q.result)) (map (row_settled o) rows) ≡ Some (record r { result = o })
+settled_row m o over [] r numbered e = cc
+settled_row m o over (q ∷ rows) r numbered e = at_head (is_running q.result) refl e (λ f. settled_row (m + 1) o over rows r numbered.1 f)
   where
     at_head : (t : Bool) → is_running q.result ≡ t → (if t then Some q else find (λ q. is_running q.result) rows) ≡ Some r
-        → (find (λ q. is_running q.result) rows ≡ Some r → find (λ q. (q.number == r.number) && not (is_running q.result)) (map (row_settled (Failed why)) rows) ≡ Some (record r { result = Failed why }))
-        → find (λ q. (q.number == r.number) && not (is_running q.result)) (row_settled (Failed why) q ∷ map (row_settled (Failed why)) rows) ≡ Some (record r { result = Failed why })
+        → (find (λ q. is_running q.result) rows ≡ Some r → find (λ q. (q.number == r.number) && not (is_running q.result)) (map (row_settled o) rows) ≡ Some (record r { result = o }))
+        → find (λ q. (q.number == r.number) && not (is_running q.result)) (row_settled o q ∷ map (row_settled o) rows) ≡ Some (record r { result = o })
     at_head true f g rest =
         let same : q ≡ r = cc in
-        let settled = settled_yes (Failed why) q f in
-        let number : ((row_settled (Failed why) q).number == r.number) ≡ true = ap (λ (z : SetRow). z.number == r.number) settled ∙ ap (λ (z : SetRow). q.number == z.number) (sym same) ∙ own_number q.number in
-        let over : not (is_running (row_settled (Failed why) q).result) ≡ true = ap (λ (z : SetRow). not (is_running z.result)) settled in
-        take ((row_settled (Failed why) q).number == r.number) (not (is_running (row_settled (Failed why) q).result)) (row_settled (Failed why) q) _ number over ∙ ap (λ (z : SetRow). Some z) settled ∙ ap (λ (z : SetRow). Some (record z { result = Failed why })) same
+        let settled = settled_yes o q f in
+        let number : ((row_settled o q).number == r.number) ≡ true = ap (λ (z : SetRow). z.number == r.number) settled ∙ ap (λ (z : SetRow). q.number == z.number) (sym same) ∙ own_number q.number in
+        let ended : not (is_running (row_settled o q).result) ≡ true = ap (λ (z : SetRow). not (is_running z.result)) settled ∙ ap not over in
+        take ((row_settled o q).number == r.number) (not (is_running (row_settled o q).result)) (row_settled o q) _ number ended ∙ ap (λ (z : SetRow). Some z) settled
+        ∙ ap (λ (z : SetRow). Some (record z { result = o })) same
     at_head false f g rest =
         let l = found_above (m + 1) rows r numbered.1 g in
         let here = numbered.0 in
-        let number : (row_settled (Failed why) q).number ≡ q.number = number_settled (is_running q.result) (Failed why) q in
-        skip ((row_settled (Failed why) q).number == r.number) (not (is_running (row_settled (Failed why) q).result)) (row_settled (Failed why) q) _ (apart_back (row_settled (Failed why) q).number r.number (omega (arith, here, l, number)))
+        let number : (row_settled o q).number ≡ q.number = number_settled (is_running q.result) o q in
+        skip ((row_settled o q).number == r.number) (not (is_running (row_settled o q).result)) (row_settled o q) _ (apart_back (row_settled o q).number r.number (omega (arith, here, l, number)))
         ∙ rest g
 
-pub failed_ends : (r : SetRow) (why : VssResult) (st : State) → NumberedFrom 1 st.sets → in_progress st ≡ Some r → ended_of (Some r) (failed_in (Some r) why st).sets ≡ Some (record r { result = Failed why })
+pub failed_ends : (r : SetRow) (why : VssResult) (st : State) → NumberedFrom 1 st.sets → in_progress st ≡ Some r
+    → ended_of (Some r) (failed_in (Some r) why st).sets ≡ Some (record r { result = Failed why })
 failed_ends r why st numbered e =
     ap (λ (o : SetOutcome). find (λ q. (q.number == r.number) && not (is_running q.result)) (map (row_settled o) st.sets)) (failed_course why st.course).1
-    ∙ settled_row 1 why st.sets r numbered e
+    ∙ settled_row 1 (Failed why) refl st.sets r numbered e

@@ -1,5 +1,5 @@
 -- What the core stands for before any act.
-use Rattle.std.proofs.Common.{◌≡◌, ℕ, ◌<◌, List, [], length, refl, ap, sym, ◌∙◌, subst, arith, Option, Some, map, slice_get}
+use Rattle.std.proofs.Common.{◌≡◌, ℕ, List, [], length, refl, ap, sym, ◌∙◌, subst, arith, Option, Some, map, slice_get}
 use Rattle.std.proofs.lemmas.Option.{slice_get_within, get_or_from_slice_get}
 use Rattle.write_history.specs.declared.evicted.Evicted.{Evicted}
 use Rattle.write_history.specs.History.{fresh}
@@ -10,7 +10,7 @@ use Rattle.cow_volume.specs.GroupValue.{GroupValue}
 use Rattle.cow_volume.proofs.Group.{slice_get_inside}
 use Rattle.vss_model.specs.State.{start}
 use Rattle.provider.specs.Groups.{AreFresh, AreGroups, AreWhole, HasGroups}
-use Rattle.provider.specs.Devices.{devices_of}
+use Rattle.set_agenda.specs.Begin.{are_distinct}
 use Rattle.provider.specs.Preparing.{ProviderValue}
 use Rattle.sessions.specs.Keeps.{SessionsValue}
 use Rattle.vss_world.specs.Beginning.{AreFirst}
@@ -38,10 +38,8 @@ has_groups told s groups plan new whole = record {
   devices = whole;
 }
 
-pub no_groups_more : {D : Type 0} (told : D → Option (List (List ℕ))) (s : Plan) (groups : List (GroupValue D)) (count : ℕ) → count ≡ length s.groups → count < 4294967296 → AreNew told s groups → length groups < 4294967296
-no_groups_more told s groups count is few new = let number = new.number in omega (arith, is, few, number)
-
-pub made_of : {D : Type 0} (told : D → Option (List (List ℕ))) (s : Plan) (groups : List (GroupValue D)) (p : ProviderValue D) (x : SessionsValue) (l : List ℕ) (e : List Evicted) → IsPlan s → AreNew told s groups
+pub made_of : {D : Type 0} (told : D → Option (List (List ℕ))) (s : Plan) (groups : List (GroupValue D)) (p : ProviderValue D) (x : SessionsValue) (l : List ℕ) (e : List Evicted) → IsPlan s
+    → AreNew told s groups
     → p ≡ record { groups = groups; set = 0; volumes = [] } → AreWhole p.groups → AreFirst s x → IsOf (world_of p x l e) s
 made_of {D = D} told s groups p x l e plan new is whole begun =
     let same : p.groups ≡ groups = ap (λ (z : ProviderValue D). z.groups) is in
@@ -52,7 +50,8 @@ made_of {D = D} told s groups p x l e plan new is whole begun =
       writers = begun.writers;
     }
 
-pub made_stands : {D : Type 0} (told : D → Option (List (List ℕ))) (s : Plan) (groups : List (GroupValue D)) (p : ProviderValue D) (x : SessionsValue) (l : List ℕ) (e : List Evicted) → IsPlan s → AreNew told s groups
+pub made_stands : {D : Type 0} (told : D → Option (List (List ℕ))) (s : Plan) (groups : List (GroupValue D)) (p : ProviderValue D) (x : SessionsValue) (l : List ℕ) (e : List Evicted) → IsPlan s
+    → AreNew told s groups
     → p ≡ record { groups = groups; set = 0; volumes = [] } → AreWhole p.groups → AreFirst s x → (AreFresh told s groups → AreGroups told s p.groups (map (λ (r : VolumeRow). fresh) s.volumes))
     → Stands told (world_of p x l e) s []
 made_stands {D = D} told s groups p x l e plan new is whole begun stand =
@@ -63,6 +62,7 @@ made_stands {D = D} told s groups p x l e plan new is whole begun stand =
     record {
       at = stands_at told p x l e s (start s) of.groups (record {
         groups = stand (fresh_groups told s groups plan new);
+        prepared = record { volumes = ap (λ (z : ProviderValue D). z.volumes) is; set = ap (λ (z : ProviderValue D). z.set) is; distinct = ap (λ (z : ProviderValue D). are_distinct z.volumes) is };
         sessions = begun.keeps;
         plan = record { sets = tt; agenda = tt; members = tt; disabled = tt };
       });
@@ -70,6 +70,3 @@ made_stands {D = D} told s groups p x l e plan new is whole begun stand =
       posts = omega (arith, posts);
       early = omega (arith, clock);
     }
-
-pub made_devices : {D : Type 0} (groups : List (GroupValue D)) (p : ProviderValue D) → p ≡ record { groups = groups; set = 0; volumes = [] } → devices_of p.groups ≡ devices_of groups
-made_devices {D = D} groups p is = ap (λ (z : ProviderValue D). devices_of z.groups) is

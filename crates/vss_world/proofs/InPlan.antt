@@ -16,8 +16,10 @@ use Rattle.set_agenda.specs.declared.limit.Limit.TheVariants.{Hold as HoldLimit,
 use Rattle.set_agenda.specs.declared.member.Member.{Member}
 use Rattle.set_agenda.specs.declared.place.Place.{Place}
 use Rattle.set_agenda.specs.Limits.{Running, spent_of}
-use Rattle.set_agenda.specs.Agenda.{Agenda, Open, groups_left, left, left_from, with_group, places, waited_for, members_of, has_said, all_say, is_done, next_member, next_volume, volume_if, is_over_volumes, open_order, order_now, waits_now}
-use Rattle.set_agenda.specs.Course.{Course, failed, settled_if, settled_in, settled, posted, begun, snapshot_begun, told, decided, is_decisive, answered_to, answered, worked, stepped_as, stepped, lost_to, lost, fails_set, lost_decided, treated_as, treated, timed, limits_now, released}
+use Rattle.set_agenda.specs.Agenda.{Agenda, Open, groups_left, left, left_from, with_group, places, waited_for, members_of, has_said, all_say, is_done, next_member, next_volume, volume_if}
+use Rattle.set_agenda.specs.Agenda.{is_over_volumes, open_order, order_now, waits_now}
+use Rattle.set_agenda.specs.Course.{Course, failed, settled_if, settled_in, settled, posted, begun, told, decided, is_decisive, answered_to, answered, worked, stepped_as, stepped}
+use Rattle.set_agenda.specs.Course.{lost_to, lost, fails_set, lost_decided, treated_as, treated, timed, limits_now, released}
 use Rattle.writer_state.specs.WriterState.{is_ok}
 use Rattle.vss_names.specs.declared.context.Context.{Context}
 use Rattle.vss_names.specs.declared.vss_result.VssResult.TheVariants.{AsyncCancelled}
@@ -36,7 +38,8 @@ use Rattle.requestor.specs.declared.session_call.SessionCall.TheVariants as call
 use Rattle.requestor.specs.Session.{Session, context_of}
 use Rattle.requestor.specs.Check.{check}
 use Rattle.scenario.specs.declared.op.Op.{Op}
-use Rattle.scenario.specs.declared.op.Op.TheVariants.{WriteFill, WriteStamp, Read, ImageDigest, ImageBlock, Query, Properties, Revert, DeleteSet, DeleteImage, Tick, Begin, Disable, Gather, Component, Document, Start, Add, Prepare, Snapshot, Await, Status, Complete, Abort, End}
+use Rattle.scenario.specs.declared.op.Op.TheVariants.{Begin, Disable, Gather, Component}
+use Rattle.scenario.specs.declared.op.Op.TheVariants.{Document, Start, Add, Prepare, Snapshot, Await, Status, Complete, Abort, End}
 use Rattle.scenario.specs.Calls.{call_of}
 use Rattle.scenario.specs.Bounds.{IsOp}
 use Rattle.scenario.specs.Plan.{Plan, token}
@@ -44,7 +47,8 @@ use Rattle.vss_model.specs.Images.{Replied}
 use Rattle.vss_model.specs.Lines.{called, line}
 use Rattle.vss_model.specs.State.{State, SetRow, in_progress, is_running, row_changed}
 use Rattle.vss_model.specs.Ending.{Ending, NothingEnds, AgendaEnds, SetFails, ending, concluded, followed, row_settled, failed_in, failed as set_failed, runs}
-use Rattle.vss_model.specs.Sessions.{with_volume, volumes_of, begin_in, named_as, component_in, known_metas, add_refusal, add_to, add, has_no_volume, await_last, closed, session_line, line_without_session, line_in, judged}
+use Rattle.vss_model.specs.Sessions.{with_volume, volumes_of, begin_in, named_as, component_in, known_metas, add_refusal, add_to, add, has_no_volume, await_last, closed, session_line}
+use Rattle.vss_model.specs.Sessions.{line_without_session, line_in, judged}
 use Rattle.vss_model.specs.Steps.{with_cut, row_cut}
 use Rattle.vss_world.specs.Stands.{AreBelow, MembersBelow, SetsBelow, IsAgendaIn, IsInPlan}
 
@@ -120,10 +124,6 @@ in_treated s (Some l) now c h = in_treated_as s l.limit now c h
 pub in_timed : (s : Plan) (now : ℕ) (c : Course) → IsCourseIn s c → IsCourseIn s (timed now c)
 in_timed s now c h = in_posted s c (treated (spent_of now (limits_now c)) now c) (in_treated s (spent_of now (limits_now c)) now c h)
 
-pub in_begun : (s : Plan) (volumes : List ℕ) (now : ℕ) (c : Course) → AreBelow (length s.volumes) volumes → IsCourseIn s c → IsCourseIn s (snapshot_begun volumes now c)
-unfolding begun
-in_begun s volumes now c below h = in_posted s c _ (in_settled s _ ((below, h.1), h.1, h.2))
-
 pub in_released : (s : Plan) (c : Course) → IsCourseIn s c → IsCourseIn s (released c)
 unfolding released
 in_released s c h = (tt, tt, tt)
@@ -158,7 +158,8 @@ in_followed s ran c st h sets = in_concluded s (ending st.course.outcome c.outco
 
 pub in_failed_in : (s : Plan) (r : Option SetRow) (why : VssResult) (st : State) → IsInPlan s st → IsInPlan s (failed_in r why st)
 in_failed_in s None why st h = h
-in_failed_in s (Some r) why st h = in_concluded s (SetFails why) (record st { course = failed why st.course }) (with_course s (failed why st.course) st (in_failed s why st.course (course_of s st h)) h.sets)
+in_failed_in s (Some r) why st h = in_concluded s (SetFails why) (record st { course = failed why st.course })
+    (with_course s (failed why st.course) st (in_failed s why st.course (course_of s st h)) h.sets)
 
 pub in_set_failed : (s : Plan) (why : VssResult) (st : State) → IsInPlan s st → IsInPlan s (set_failed why st)
 in_set_failed s why st h = in_failed_in s (in_progress st) why st h
@@ -221,7 +222,8 @@ volume_below : (b : Bool) (n v : ℕ) → (b ≡ true → v < n) → IsBelowIf n
 volume_below true n v h = h refl
 volume_below false n v h = tt
 
-next_below_with : (n : ℕ) (p : Place) (ws : List ℕ) (later : List Open) → (is_over_volumes p.group ≡ true → AreBelow n ws) → IsBelowIf n (next_volume later) → IsBelowIf n (next_volume (with_group p ws later))
+next_below_with : (n : ℕ) (p : Place) (ws : List ℕ) (later : List Open) → (is_over_volumes p.group ≡ true → AreBelow n ws) → IsBelowIf n (next_volume later)
+    → IsBelowIf n (next_volume (with_group p ws later))
 next_below_with n p [] later over h = h
 next_below_with n p (w ∷ ws) later over h = volume_below (is_over_volumes p.group) n w (λ e. (over e).0)
 
@@ -254,7 +256,8 @@ members_filter test n (m ∷ ms) h = by_test (test m) (members_filter test n ms 
     by_test true k = (h.0, k)
     by_test false k = k
 
-in_begun_as : (s : Plan) (k : Kind) (ms : List Member) (vs : List ℕ) (now : ℕ) (c : Course) → MembersBelow (length s.writers) ms → AreBelow (length s.volumes) vs → MembersBelow (length s.writers) c.members → AreBelow (length s.writers) c.disabled → IsCourseIn s (begun k ms vs now c)
+in_begun_as : (s : Plan) (k : Kind) (ms : List Member) (vs : List ℕ) (now : ℕ) (c : Course) → MembersBelow (length s.writers) ms → AreBelow (length s.volumes) vs
+    → MembersBelow (length s.writers) c.members → AreBelow (length s.writers) c.disabled → IsCourseIn s (begun k ms vs now c)
 unfolding begun
 in_begun_as s k ms vs now c members below of disabled = in_posted s c _ (in_settled s _ ((below, members), of, disabled))
 
@@ -301,37 +304,39 @@ in_called : (c : SessionCall) (s : Plan) (lane : ℕ) (op : Op) (st : State) →
 unfolding called
 in_called c s lane op st h k = in_judged (check st.session (runs st) lane c) s lane op st h k
 
-in_of : (s : Plan) (lane : ℕ) (op : Op) (o : Option Session) (st : State) → IsInPlan s (line_without_session lane op st).1 → ((q : Session) → IsInPlan s (session_line s lane op q st).1) → IsInPlan s (line_in s lane op o st).1
+in_of : (s : Plan) (lane : ℕ) (op : Op) (o : Option Session) (st : State) → IsInPlan s (line_without_session lane op st).1 → ((q : Session) → IsInPlan s (session_line s lane op q st).1)
+    → IsInPlan s (line_in s lane op o st).1
 in_of s lane op None st h k = h
 in_of s lane op (Some q) st h k = k q
 
-pub in_line : (s : Plan) (lane : ℕ) (op : Op) (mark : Mark) (st : State) → is_some (call_of op) ≡ true → IsOp s op → length st.course.rows ≡ length s.writers → IsInPlan s st → IsInPlan s (line s lane op mark st).1
-in_line s lane (WriteFill v b x) mark st e o rows h = cc
-in_line s lane (WriteStamp v b n) mark st e o rows h = cc
-in_line s lane (Read v b) mark st e o rows h = cc
-in_line s lane (ImageDigest n v) mark st e o rows h = cc
-in_line s lane (ImageBlock n v b) mark st e o rows h = cc
-in_line s lane (Query v) mark st e o rows h = cc
-in_line s lane (Properties n v) mark st e o rows h = cc
-in_line s lane (Revert n v) mark st e o rows h = cc
-in_line s lane (DeleteSet n) mark st e o rows h = cc
-in_line s lane (DeleteImage n v) mark st e o rows h = cc
-in_line s lane (Tick n) mark st e o rows h = cc
-in_line s lane (Begin c all) mark st e o rows h = in_called (call.Begin c all) s lane (Begin c all) st h (in_of s lane (Begin c all) st.session st (in_begin s lane all (context_of c all) st h) (λ q. h))
-in_line s lane (Disable w) mark st e o rows h = in_called call.Disable s lane (Disable w) st h (in_of s lane (Disable w) st.session st h (λ q. record { sets = h.sets; agenda = h.agenda; members = h.members; disabled = below_append (length s.writers) st.course.disabled w h.disabled o }))
+pub in_line : (s : Plan) (lane : ℕ) (op : Op) (mark : Mark) (st : State) → is_some (call_of op) ≡ true → IsOp s op → length st.course.rows ≡ length s.writers → IsInPlan s st
+    → IsInPlan s (line s lane op mark st).1
+in_line s lane (Begin c all) mark st e o rows h = in_called (call.Begin c all) s lane (Begin c all) st h
+    (in_of s lane (Begin c all) st.session st (in_begin s lane all (context_of c all) st h) (λ q. h))
+in_line s lane (Disable w) mark st e o rows h = in_called call.Disable s lane (Disable w) st h
+    (in_of s lane (Disable w) st.session st h (λ q. record { sets = h.sets; agenda = h.agenda; members = h.members; disabled = below_append (length s.writers) st.course.disabled w h.disabled o }))
 in_line s lane Gather mark st e o rows h = in_called call.Gather s lane Gather st h (in_of s lane Gather st.session st h
-    (λ q. in_followed s true _ st (in_begun_as s kind.Gather _ [] st.clock (record st.course { rows = map row_gathered st.course.rows }) (members_below_from _ (length s.writers) 0 st.course.rows (let e = rows in omega (arith, e))) tt h.members h.disabled) h.sets))
-in_line s lane (Component w full) mark st e o rows h = in_called call.Component s lane (Component w full) st h (in_of s lane (Component w full) st.session st h (λ q. in_component q.mode s w (token s full) st h))
+    (λ q. in_followed s true _ st
+    (in_begun_as s kind.Gather _ [] st.clock (record st.course { rows = map row_gathered st.course.rows })
+    (members_below_from _ (length s.writers) 0 st.course.rows (let e = rows in omega (arith, e))) tt h.members h.disabled) h.sets))
+in_line s lane (Component w full) mark st e o rows h = in_called call.Component s lane (Component w full) st h
+    (in_of s lane (Component w full) st.session st h (λ q. in_component q.mode s w (token s full) st h))
 in_line s lane Document mark st e o rows h = in_called call.Document s lane Document st h (in_of s lane Document st.session st h (λ q. h))
-in_line s lane Start mark st e o rows h = in_called call.Start s lane Start st h (in_of s lane Start st.session st h (λ q. record { sets = sets_append (length s.volumes) st.sets _ h.sets tt; agenda = h.agenda; members = h.members; disabled = h.disabled }))
+in_line s lane Start mark st e o rows h = in_called call.Start s lane Start st h
+    (in_of s lane Start st.session st h (λ q. record { sets = sets_append (length s.volumes) st.sets _ h.sets tt; agenda = h.agenda; members = h.members; disabled = h.disabled }))
 in_line s lane (Add v) mark st e o rows h = in_called call.Add s lane (Add v) st h (in_of s lane (Add v) st.session st h (λ q. in_add s v (in_progress st) st o h))
 in_line s lane Prepare mark st e o rows h = in_called call.Prepare s lane Prepare st h (in_of s lane Prepare st.session st h
-    (λ q. in_line_or (has_no_volume (in_progress st)) s _ _ h (let ms = members_below_from _ (length s.writers) 0 st.course.rows (let e = rows in omega (arith, e)) in in_followed s true _ st (in_begun_as s kind.Prepare _ [] st.clock (record st.course { members = _ }) ms tt ms h.disabled) h.sets)))
+    (λ q. in_line_or (has_no_volume (in_progress st)) s _ _ h
+    (let ms = members_below_from _ (length s.writers) 0 st.course.rows (let e = rows in omega (arith, e)) in in_followed s true _ st
+    (in_begun_as s kind.Prepare _ [] st.clock (record st.course { members = _ }) ms tt ms h.disabled) h.sets)))
 in_line s lane Snapshot mark st e o rows h = in_called call.Snapshot s lane Snapshot st h (in_of s lane Snapshot st.session st h
-    (λ q. in_line_or (has_no_volume (in_progress st)) s _ _ h (in_followed s true _ st (in_begun_as s kind.Snapshot st.course.members (volumes_of (in_progress st)) st.clock st.course h.members (volumes_below (length s.volumes) st h.sets) h.members h.disabled) h.sets)))
+    (λ q. in_line_or (has_no_volume (in_progress st)) s _ _ h
+    (in_followed s true _ st
+    (in_begun_as s kind.Snapshot st.course.members (volumes_of (in_progress st)) st.clock st.course h.members (volumes_below (length s.volumes) st h.sets) h.members h.disabled) h.sets)))
 in_line s lane Await mark st e o rows h = in_called call.Await s lane Await st h (in_of s lane Await st.session st h (λ q. in_await s q.last st h))
 in_line s lane Status mark st e o rows h = in_called call.Status s lane Status st h (in_of s lane Status st.session st h (λ q. h))
 in_line s lane Complete mark st e o rows h = in_called call.Complete s lane Complete st h (in_of s lane Complete st.session st h
     (λ q. in_followed s true _ st (in_begun_as s kind.Complete _ [] st.clock st.course (members_filter _ (length s.writers) st.course.members h.members) tt h.members h.disabled) h.sets))
 in_line s lane Abort mark st e o rows h = in_called call.Abort s lane Abort st h (in_of s lane Abort st.session st h (λ q. in_set_failed s _ st h))
 in_line s lane End mark st e o rows h = in_called call.End s lane End st h (in_of s lane End st.session st h (λ q. in_closed s q (set_failed AsyncCancelled st) (in_set_failed s AsyncCancelled st h)))
+in_line s lane _ mark st e o rows h = cc

@@ -1,11 +1,11 @@
 -- Whether an image is kept: its set is complete, and it stands.
-use Rattle.std.proofs.Common.{◌≡◌, ℕ, ◌+◌, ◌<◌, List, [], ◌∷◌, refl, ap, ◌∙◌, arith, Bool, true, false, ◌&&◌, ◌||◌, ◌==◌, Option, Some, None}
+use Rattle.std.proofs.Common.{◌≡◌, ℕ, ◌+◌, List, [], ◌∷◌, refl, ap, ◌∙◌, arith, Bool, true, false, ◌&&◌, ◌||◌, ◌==◌, Option, Some, None}
 use Rattle.std.specs.Prelude.{find, if◌then◌else◌, is_some}
 use Rattle.std.specs.List.{list_any}
-use Rattle.std.proofs.lemmas.Bool.Decides.{nat_tests}
 use Rattle.write_history.specs.History.{point_in}
 use Rattle.vss_model.specs.State.{State, SetRow, kept_of, kept_at, kept_if, kept_image, is_kept_set, is_complete, row_of, history_of}
 use Rattle.vss_model.specs.Facts.{NumberedFrom}
+use Rattle.vss_world.proofs.OnProvided.{none_later, number_is, not_both}
 
 not_kept : (rows : List SetRow) (n : ℕ) (o : Option ℕ) → list_any (λ r. (r.number == n) && is_complete r.result) rows ≡ false → kept_of (find (λ r. r.number == n) rows) o ≡ None
 not_kept [] n o no_set = refl
@@ -38,23 +38,6 @@ none_is (Some n) e = cc
 pub not_standing : (st : State) (n v : ℕ) → is_some (point_in n (history_of st v).images) ≡ false → kept_image st n v ≡ None
 not_standing st n v e = ap (kept_of (row_of st n)) (none_is (point_in n (history_of st v).images) e) ∙ no_point (row_of st n)
 
-later_not : (m n : ℕ) (rows : List SetRow) → NumberedFrom m rows → n < m → list_any (λ r. (r.number == n) && is_complete r.result) rows ≡ false
-later_not m n [] numbered l = refl
-later_not m n (r ∷ rows) numbered l =
-    let here = numbered.0 in
-    skip (r.number == n) (is_complete r.result) (list_any (λ r. (r.number == n) && is_complete r.result) rows) (apart n r.number (omega (arith, here, l)))
-    ∙ later_not (m + 1) n rows numbered.1 (omega (arith, l))
-  where
-    skip : (t c b : Bool) → t ≡ false → ((t && c) || b) ≡ b
-    skip false c b e = refl
-    skip true c b e = cc
-
-    apart : (a b : ℕ) → a < b → (b == a) ≡ false
-    apart a b l = grind (arith, nat_tests)
-
-number_is : (a b : ℕ) → (a == b) ≡ true → a ≡ b
-number_is a b e = grind (arith, nat_tests)
-
 pub record IsRow (rows : List SetRow) (n : ℕ) : Type 0 where
   pub row : SetRow
   pub found : find (λ r. r.number == n) rows ≡ Some row
@@ -65,17 +48,14 @@ complete_row : (m n : ℕ) (rows : List SetRow) → NumberedFrom m rows → list
 complete_row m n [] numbered is = cc
 complete_row m n (r ∷ rows) numbered is = by_test (r.number == n) (is_complete r.result) refl refl is (λ h. complete_row (m + 1) n rows numbered.1 h)
   where
-    by_test : (t c : Bool) → (r.number == n) ≡ t → is_complete r.result ≡ c → ((t && c) || list_any (λ r. (r.number == n) && is_complete r.result) rows) ≡ true → (list_any (λ r. (r.number == n) && is_complete r.result) rows ≡ true → IsRow rows n) → IsRow (r ∷ rows) n
+    by_test : (t c : Bool) → (r.number == n) ≡ t → is_complete r.result ≡ c → ((t && c) || list_any (λ r. (r.number == n) && is_complete r.result) rows) ≡ true
+        → (list_any (λ r. (r.number == n) && is_complete r.result) rows ≡ true → IsRow rows n) → IsRow (r ∷ rows) n
     by_test true true f e h more = record { row = r; found = ap (λ (t : Bool). if t then Some r else find (λ r. r.number == n) rows) f; complete = e; number = number_is r.number n f }
     by_test true false f e h more =
         let here = numbered.0 in
         let same = number_is r.number n f in
-        let none = later_not (m + 1) n rows numbered.1 (omega (arith, here, same)) in
+        let none = none_later (m + 1) n rows numbered.1 (omega (arith, here, same)) in
         absurd (not_both (list_any (λ r. (r.number == n) && is_complete r.result) rows) h none)
-      where
-        not_both : (b : Bool) → b ≡ true → b ≡ false → ⊥
-        not_both true d c = cc
-        not_both false d c = cc
     by_test false c f e h more =
         let rest = more h in
         record { row = rest.row; found = ap (λ (t : Bool). if t then Some r else find (λ r. r.number == n) rows) f ∙ rest.found; complete = rest.complete; number = rest.number }
@@ -93,7 +73,7 @@ pub record IsKept (st : State) (n v : ℕ) : Type 0 where
   pub number : row.number ≡ n
   pub stands : point_in n (history_of st v).images ≡ Some point
 
-some_is : (o : Option ℕ) → is_some o ≡ true → (p : ℕ) × (o ≡ Some p)
+pub some_is : (o : Option ℕ) → is_some o ≡ true → (p : ℕ) × (o ≡ Some p)
 some_is None e = cc
 some_is (Some p) e = (p, refl)
 

@@ -2,10 +2,9 @@
 use Rattle.std.proofs.Common.{◌≡◌, ℕ, zero, suc, ◌+◌, ◌<◌, List, [], ◌∷◌, length, refl, ap, sym, ◌∙◌, arith, Bool, true, false, ◌&&◌, ◌||◌, ◌==◌, take}
 use Rattle.std.specs.Prelude.{filter, not, if◌then◌else◌, slice_index, slice_get}
 use Rattle.std.specs.List.{list_any}
-use Rattle.std.proofs.lemmas.Bool.Decides.{nat_tests}
 use Rattle.vss_names.specs.declared.set_outcome.SetOutcome.{SetOutcome}
 use Rattle.vss_names.specs.declared.set_outcome.SetOutcome.TheVariants.{Running, Complete, Failed}
-use Rattle.write_history.specs.History.{Image, History, sets_of, AreInTime}
+use Rattle.write_history.specs.History.{Image, History, sets_of, AreLater, AreInTime}
 use Rattle.scenario.specs.Plan.{Plan}
 use Rattle.vss_model.specs.State.{State, SetRow, is_running, is_complete, is_kept_set, kept, history_in, history_of}
 use Rattle.vss_model.specs.Facts.{NumberedFrom, OverButNewest, AreLive, AllLive, is_live, has_failed}
@@ -13,15 +12,10 @@ use Rattle.vss_model.specs.Acts.{Act, state}
 use Rattle.vss_model.proofs.OrderlyActs.{orderly}
 use Rattle.vss_model.proofs.OneCut.{images_in_time}
 use Rattle.vss_model.proofs.NewestImage.{UpTo, images_up_to}
-
-apart_back : (a b : ℕ) → a < b → (a == b) ≡ false
-apart_back a b l = grind (arith, nat_tests)
-
-number_is : (a b : ℕ) → (a == b) ≡ true → a ≡ b
-number_is a b e = grind (arith, nat_tests)
-
-apart : (a b : ℕ) → a < b → (b == a) ≡ false
-apart a b l = grind (arith, nat_tests)
+use Rattle.vss_model.proofs.Orderly.{live-filter}
+use Rattle.provider.specs.Groups.{history_at}
+use Rattle.vss_world.specs.Provided.{provided}
+use Rattle.vss_world.proofs.OnProvided.{on_provided, kept_at, apart, number_is, not_both}
 
 skip : (t c b : Bool) → t ≡ false → ((t && c) || b) ≡ b
 skip false c b e = refl
@@ -39,7 +33,8 @@ over_live Complete e f = refl
 over_live (Failed why) e f = cc
 
 -- a set that has not failed and is not the newest is complete
-older_complete : (m n : ℕ) (rows : List SetRow) → NumberedFrom m rows → OverButNewest rows → is_live rows n ≡ true → n + 1 < m + length rows → list_any (λ r. (r.number == n) && is_complete r.result) rows ≡ true
+older_complete : (m n : ℕ) (rows : List SetRow) → NumberedFrom m rows → OverButNewest rows → is_live rows n ≡ true → n + 1 < m + length rows
+    → list_any (λ r. (r.number == n) && is_complete r.result) rows ≡ true
 older_complete m n [] numbered over live l = cc
 older_complete m n (r ∷ []) numbered over live l = by_test (r.number == n) refl live
   where
@@ -59,10 +54,6 @@ older_complete m n (r ∷ q ∷ rows) numbered over live l = by_test (r.number =
         let same = number_is r.number n e in
         let none = no_live (m + 1) n (q ∷ rows) numbered.1 (omega (arith, here, same)) in
         absurd (not_both (is_live (q ∷ rows) n) h none)
-      where
-        not_both : (b : Bool) → b ≡ true → b ≡ false → ⊥
-        not_both true d c = cc
-        not_both false d c = cc
     by_test false c e f h rest = ap (λ (t : Bool). (t && is_complete r.result) || list_any (λ r. (r.number == n) && is_complete r.result) (q ∷ rows)) e ∙ rest h
 
 keep : (t : Bool) (i : Image) (xs : List Image) → t ≡ true → (if t then i ∷ xs else xs) ≡ i ∷ xs
@@ -77,7 +68,8 @@ behind true i xs ys = refl
 behind false i xs ys = refl
 
 -- whether the newest of these is kept decides it
-pub kept_by_newest : (st : State) (writes : ℕ) (images : List Image) (k : ℕ) (b : Bool) → NumberedFrom 1 st.sets → OverButNewest st.sets → AreLive st.sets images → AreInTime writes images → UpTo (length st.sets) images
+pub kept_by_newest : (st : State) (writes : ℕ) (images : List Image) (k : ℕ) (b : Bool) → NumberedFrom 1 st.sets → OverButNewest st.sets → AreLive st.sets images → AreInTime writes images
+    → UpTo (length st.sets) images
     → k + 1 ≡ length images → is_kept_set st (slice_index (sets_of images) k) ≡ b → filter (λ i. is_kept_set st i.set) images ≡ (if b then images else take k images)
 kept_by_newest st writes [] k b numbered over live times up long is = absurd (omega (arith, long))
 kept_by_newest st writes (i ∷ []) zero b numbered over live times up long is = last_if (is_kept_set st i.set) b i is
@@ -104,17 +96,75 @@ decided : (b : Bool) (images : List Image) (k : ℕ) → sets_of (if b then imag
 decided true images k = refl
 decided false images k = sets_taken k images
 
-pub kept_sets_are : (s : Plan) (acts : List Act) (v k : ℕ) (sets : List ℕ) (b : Bool) → sets ≡ sets_of (history_of (state s acts) v).images → k + 1 ≡ length sets → b ≡ is_kept_set (state s acts) (slice_index sets k)
+-- ## without the images of a set
+
+later_filter : (test : Image → Bool) (i : Image) (images : List Image) → AreLater i images → AreLater i (filter test images)
+later_filter test i [] h = tt
+later_filter test i (j ∷ images) h = by_test (test j) (later_filter test i images h.2)
+  where
+    by_test : (b : Bool) → AreLater i (filter test images) → AreLater i (if b then j ∷ filter test images else filter test images)
+    by_test true rest = (h.0, h.1, rest)
+    by_test false rest = rest
+
+in_time_filter : (test : Image → Bool) (writes : ℕ) (images : List Image) → AreInTime writes images → AreInTime writes (filter test images)
+in_time_filter test writes [] h = tt
+in_time_filter test writes (i ∷ images) h = by_test (test i) (in_time_filter test writes images h.2)
+  where
+    by_test : (b : Bool) → AreInTime writes (filter test images) → AreInTime writes (if b then i ∷ filter test images else filter test images)
+    by_test true rest = (h.0, later_filter test i images h.1, rest)
+    by_test false rest = rest
+
+pub up_to_filter : (test : Image → Bool) (n : ℕ) (images : List Image) → UpTo n images → UpTo n (filter test images)
+up_to_filter test n [] h = tt
+up_to_filter test n (i ∷ images) h = by_test (test i) (up_to_filter test n images h.1)
+  where
+    by_test : (b : Bool) → UpTo n (filter test images) → UpTo n (if b then i ∷ filter test images else filter test images)
+    by_test true rest = (h.0, rest)
+    by_test false rest = rest
+
+-- images of sets that were started and have not failed, in time
+record AreOf (rows : List SetRow) (writes : ℕ) (images : List Image) : Type 0 where
+  live : AreLive rows images
+  times : AreInTime writes images
+  up : UpTo (length rows) images
+
+pub kept_sets_are : (s : Plan) (acts : List Act) (v k : ℕ) (sets : List ℕ) (b : Bool) → sets ≡ sets_of (history_at (provided (state s acts)) v).images → k + 1 ≡ length sets
+    → b ≡ is_kept_set (state s acts) (slice_index sets k)
     → (if b then sets else take k sets) ≡ sets_of (kept (state s acts) (history_of (state s acts) v))
 kept_sets_are s acts v k sets b are long is =
     let st = state s acts in
     let o = orderly s acts in
-    let images = (history_of st v).images in
+    let images = (history_at (provided st) v).images in
+    let writes = length (history_of st v).writes in
+    let test : SetRow → Image → Bool = λ r i. not (i.set == r.number) in
+    let of = on_provided (λ (x : History). AreOf st.sets writes x.images) st v
+    (record { live = live_at st.sets st.volumes v o.live; times = images_in_time s acts v; up = images_up_to st.sets st.volumes v o.numbered o.live })
+    (λ r e coming. let is = (history_of st v).images in record {
+      live = live-filter (test r) st.sets is (live_at st.sets st.volumes v o.live);
+      times = in_time_filter (test r) writes is (images_in_time s acts v);
+      up = up_to_filter (test r) (length st.sets) is (images_up_to st.sets st.volumes v o.numbered o.live);
+    }) in
     let count : length sets ≡ length images = ap length are ∙ length_sets images in
-    let decides = kept_by_newest st (length (history_of st v).writes) images k b o.numbered o.newest (live_at st.sets st.volumes v o.live) (images_in_time s acts v) (images_up_to st.sets st.volumes v o.numbered o.live) (long ∙ count)
-    (ap (λ (ns : List ℕ). is_kept_set st (slice_index ns k)) (sym are) ∙ sym is) in
-    ap (λ (ns : List ℕ). if b then ns else take k ns) are ∙ sym (decided b images k) ∙ ap sets_of (sym decides)
+    let decides = kept_by_newest st writes images k b o.numbered o.newest of.live of.times of.up (long ∙ count) (ap (λ (ns : List ℕ). is_kept_set st (slice_index ns k)) (sym are) ∙ sym is) in
+    ap (λ (ns : List ℕ). if b then ns else take k ns) are ∙ sym (decided b images k) ∙ ap sets_of (sym decides) ∙ ap sets_of (kept_at st v o.numbered)
   where
     length_sets : (images : List Image) → length (sets_of images) ≡ length images
     length_sets [] = refl
     length_sets (i ∷ images) = ap (λ n. suc n) (length_sets images)
+
+-- where the provider has none, none is kept
+pub no_sets : (s : Plan) (acts : List Act) (v : ℕ) (sets : List ℕ) → sets ≡ sets_of (history_at (provided (state s acts)) v).images → length sets ≡ 0
+    → sets ≡ sets_of (kept (state s acts) (history_of (state s acts) v))
+no_sets s acts v sets are none =
+    let st = state s acts in
+    by_images (history_at (provided st) v) sets are none ∙ ap sets_of (kept_at st v (orderly s acts).numbered)
+  where
+    by_images : (h : History) (sets : List ℕ) → sets ≡ sets_of h.images → length sets ≡ 0 → sets ≡ sets_of (kept (state s acts) h)
+    by_images h sets e f = of_list h.images sets e f
+      where
+        of_list : (images : List Image) (sets : List ℕ) → sets ≡ sets_of images → length sets ≡ 0 → sets ≡ sets_of (filter (λ i. is_kept_set (state s acts) i.set) images)
+        of_list [] sets e f = e
+        of_list (i ∷ images) sets e f = absurd (some_sets (length (sets_of images)) (sym (ap length e) ∙ f))
+          where
+            some_sets : (n : ℕ) → suc n ≡ 0 → ⊥
+            some_sets n g = omega (arith, g)

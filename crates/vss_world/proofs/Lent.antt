@@ -1,6 +1,7 @@
 -- What was lent is told as it is, and nothing changes.
-use Rattle.std.proofs.Common.{◌≡◌, ℕ, List, refl, sym, ◌∙◌, subst, Bool, true, Option, Some, None}
+use Rattle.std.proofs.Common.{◌≡◌, ℕ, List, refl, sym, ◌∙◌, subst, true, Some, None}
 use Rattle.std.specs.Prelude.{take}
+use Rattle.volume_device.specs.declared.device.Device.{Ghosts}
 use Rattle.block_data.specs.Digest.{sha256}
 use Rattle.scenario.specs.Plan.{Plan}
 use Rattle.vss_model.specs.declared.told.Told.TheVariants as told
@@ -10,32 +11,35 @@ use Rattle.provider.proofs.Kept.{kept_same}
 use Rattle.vss_world.specs.declared.fingerprint.Fingerprint.{Fingerprint}
 use Rattle.vss_world.specs.Reading.{IsFingerprint, IsWide, IsReading, IsBlockSeen, IsSeenIf, AreNow, AreShown}
 
-pub reading_itself : {D : Type 0} (blocks_told : D → Option (List (List ℕ))) (size count : D → ℕ) (lending : D → Bool) (s : Plan) (p : ProviderValue D) (v : ℕ) → IsReading blocks_told size count lending s p p v None
-reading_itself blocks_told size count lending s p v = record {
-  quiet = record { call = record { kept = kept_same blocks_told size count lending p.groups; elsewhere = λ r g e n. refl }; blocks = refl; stands = λ hs are. are };
+pub reading_itself : {D : Type 0} (device : Ghosts D) (s : Plan) (p : ProviderValue D) (v : ℕ) → IsReading device s p p v None
+reading_itself device s p v = record {
+  quiet = record { call = record { kept = kept_same device p.groups; elsewhere = λ r g e n. refl }; blocks = refl; stands = λ hs are. are };
   cause = refl;
   rest = refl;
 }
 
-pub lent_now : {D : Type 0} (blocks_told : D → Option (List (List ℕ))) (size count : D → ℕ) (lending : D → Bool) (s : Plan) (p : ProviderValue D) (v b : ℕ) (bytes : List ℕ) (f : Fingerprint) → IsNow blocks_told s p.groups v b bytes → IsFingerprint bytes f → IsWide f
-    → IsBlockSeen blocks_told size count lending s p p v (AreNow v b) (told.Block f.first f.digest)
-lent_now blocks_told size count lending s p v b bytes f now exact wide = (
-  reading_itself blocks_told size count lending s p v,
+pub lent_now : {D : Type 0} (device : Ghosts D) (s : Plan) (p : ProviderValue D) (v b : ℕ) (bytes : List ℕ) (f : Fingerprint) → IsNow device.told s p.groups v b bytes → IsFingerprint bytes f
+    → IsWide f
+    → IsBlockSeen device s p p v (AreNow v b) (told.Block f.first f.digest)
+lent_now device s p v b bytes f now exact wide = (
+  reading_itself device s p v,
   record {
-    exact = λ tells hs are bs is. let same = now tells hs are ∙ sym is in record { first = subst (λ (x : List ℕ). f.first ≡ take 8 x) same exact.first; digest = subst (λ (x : List ℕ). f.digest ≡ sha256 x) same exact.digest };
+    exact = λ tells hs are bs is. let same = now tells hs are
+        ∙ sym is in record { first = subst (λ (x : List ℕ). f.first ≡ take 8 x) same exact.first; digest = subst (λ (x : List ℕ). f.digest ≡ sha256 x) same exact.digest };
     wide = record { first = wide.first; first_bytes = wide.first_bytes; digest = wide.digest; digest_bytes = wide.digest_bytes };
   },
 )
 
-pub lent_shown : {D : Type 0} (blocks_told : D → Option (List (List ℕ))) (size count : D → ℕ) (lending : D → Bool) (s : Plan) (p : ProviderValue D) (v set b : ℕ) (bytes : List ℕ) (f : Fingerprint) → HasImage blocks_told s p.groups v set true
-    → IsShown blocks_told s p.groups v set b bytes → IsFingerprint bytes f → IsWide f
-    → IsSeenIf blocks_told s p p v set (IsBlockSeen blocks_told size count lending s p p v (AreShown v set b)) (Some (told.Block f.first f.digest))
-lent_shown blocks_told size count lending s p v set b bytes f has shown exact wide = (
+pub lent_shown : {D : Type 0} (device : Ghosts D) (s : Plan) (p : ProviderValue D) (v set b : ℕ) (bytes : List ℕ) (f : Fingerprint) → HasImage device.told s p.groups v set true
+    → IsShown device.told s p.groups v set b bytes → IsFingerprint bytes f → IsWide f
+    → IsSeenIf device.told s p p v set (IsBlockSeen device s p p v (AreShown v set b)) (Some (told.Block f.first f.digest))
+lent_shown device s p v set b bytes f has shown exact wide = (
   has,
   (
-    reading_itself blocks_told size count lending s p v,
+    reading_itself device s p v,
     record {
-      exact = λ tells hs are bs is. let same = shown tells hs are is.0 is.1 ∙ sym is.2 in record { first = subst (λ (x : List ℕ). f.first ≡ take 8 x) same exact.first; digest = subst (λ (x : List ℕ). f.digest ≡ sha256 x) same exact.digest };
+      exact = λ tells hs are bs is. let same = shown tells hs are is.0 is.1
+          ∙ sym is.2 in record { first = subst (λ (x : List ℕ). f.first ≡ take 8 x) same exact.first; digest = subst (λ (x : List ℕ). f.digest ≡ sha256 x) same exact.digest };
       wide = record { first = wide.first; first_bytes = wide.first_bytes; digest = wide.digest; digest_bytes = wide.digest_bytes };
     },
   ),

@@ -5,7 +5,7 @@ use Rattle.writer_state.specs.declared.writer_row.WriterRow.{WriterRow}
 use Rattle.scenario.specs.Plan.{Plan}
 use Rattle.vss_model.specs.declared.event.Event.{Event}
 use Rattle.vss_model.specs.declared.told.Told.{Told}
-use Rattle.vss_model.specs.Reply.{Reply, Fine, Faulted, FaultedAfter, Numbered, Coded, NotSelectable, BlockOf, BlocksOf, KeptSets, PropertiesOf, Deleted, DocumentOf, StatusOf, Answered, Stepped, Idled}
+use Rattle.vss_model.specs.Reply.{Reply, KeptSets, StatusOf}
 use Rattle.vss_model.specs.Acts.{Act, state, reply}
 use Rattle.vss_model.specs.Told.{Fits}
 use Rattle.vss_model.specs.Outcome.{HasLists, told_act}
@@ -13,40 +13,29 @@ use Rattle.vss_world.specs.declared.reply.Reply.{Reply as Answer}
 use Rattle.vss_world.specs.declared.reply.Reply.TheVariants.{Blocked, Moved}
 use Rattle.vss_world.specs.Devices.{tells_of}
 use Rattle.vss_world.specs.Stands.{WorldValue, Stands}
-use Rattle.vss_world.specs.Moves.{IsStepped, AreListed, listed_after, lists_sets}
+use Rattle.vss_world.specs.Moves.{IsStepped, listed_after, lists_sets}
 
 if_listed : (b : Bool) (listed : List ℕ) → b ≡ true → (if b then listed else []) ≡ listed
 if_listed true listed e = refl
 if_listed false listed e = cc
 
 lists_then : (tells : List Bool) (r : Reply) (t : Told) (listed : List ℕ) (rows : List WriterRow) → Fits tells r t → HasLists r listed rows → HasLists r (if lists_sets t then listed else []) rows
-lists_then tells Fine t listed rows fits lists = tt
-lists_then tells Faulted t listed rows fits lists = tt
-lists_then tells (FaultedAfter k) t listed rows fits lists = tt
-lists_then tells (Numbered n) t listed rows fits lists = tt
-lists_then tells (Coded why) t listed rows fits lists = tt
-lists_then tells NotSelectable t listed rows fits lists = tt
-lists_then tells (BlockOf v bytes) t listed rows fits lists = tt
-lists_then tells (BlocksOf v blocks) t listed rows fits lists = tt
 lists_then tells (KeptSets sets) t listed rows fits lists = if_listed (lists_sets t) listed (ap lists_sets fits) ∙ lists
-lists_then tells (PropertiesOf c cut used) t listed rows fits lists = tt
-lists_then tells (Deleted n) t listed rows fits lists = tt
-lists_then tells (DocumentOf bytes) t listed rows fits lists = tt
 lists_then tells (StatusOf of_writers) t listed rows fits lists = lists
-lists_then tells (Answered o a) t listed rows fits lists = tt
-lists_then tells (Stepped g v fault) t listed rows fits lists = tt
-lists_then tells (Idled n) t listed rows fits lists = tt
+lists_then tells _ t listed rows fits lists = tt
 
 -- the core with another list stands for the same
-stands_with : {D : Type 0} (blocks_told : D → Option (List (List ℕ))) (s : Plan) (w : WorldValue D) (listed : List ℕ) (acts : List Act) → Stands blocks_told w s acts → Stands blocks_told (record w { listed = listed }) s acts
+stands_with : {D : Type 0} (blocks_told : D → Option (List (List ℕ))) (s : Plan) (w : WorldValue D) (listed : List ℕ) (acts : List Act) → Stands blocks_told w s acts
+    → Stands blocks_told (record w { listed = listed }) s acts
 stands_with blocks_told s w listed acts stands = record {
-  at = record { groups = stands.at.groups; sessions = stands.at.sessions; plan = stands.at.plan; holds = stands.at.holds };
+  at = record { groups = stands.at.groups; prepared = stands.at.prepared; sessions = stands.at.sessions; plan = stands.at.plan; holds = stands.at.holds };
   sets = stands.sets;
   posts = stands.posts;
   early = stands.early;
 }
 
-pub listed_so : {D : Type 0} (blocks_told : D → Option (List (List ℕ))) (count : D → ℕ) (s : Plan) (event : Event) (answer : Answer) (old new : WorldValue D) → IsStepped blocks_told count old new s event answer
+pub listed_so : {D : Type 0} (blocks_told : D → Option (List (List ℕ))) (count : D → ℕ) (s : Plan) (event : Event) (answer : Answer) (old new : WorldValue D)
+    → IsStepped blocks_told count old new s event answer
     → IsStepped blocks_told count old (record new { listed = listed_after answer new.listed }) s event answer
 listed_so blocks_told count s event Blocked old new step = record { same = step.same; not_enabled = step.not_enabled }
 listed_so blocks_told count s event (Moved o) old new step =
@@ -56,7 +45,15 @@ listed_so blocks_told count s event (Moved o) old new step =
       is_allowed = step.is_allowed;
       outcome = λ acts rows stands are.
           let out = step.outcome acts rows stands are in
-          record { fits = out.fits; lists = lists_then (tells_of blocks_told s old.devices) (reply s (state s acts) (told_act event o.told)) o.told new.listed rows out.fits out.lists; evicts = out.evicts; loses = out.loses; order = out.order; ends = out.ends };
+          record {
+            fits = out.fits;
+            lists = lists_then (tells_of blocks_told s old.devices)
+                (reply s (state s acts) (told_act event o.told)) o.told new.listed rows out.fits out.lists;
+            evicts = out.evicts;
+            loses = out.loses;
+            order = out.order;
+            ends = out.ends;
+          };
       stands_for = λ acts stands. stands_with blocks_told s new listed _ (step.stands_for acts stands);
       is_of = record { devices = step.is_of.devices; number = step.is_of.number; groups = step.is_of.groups; writers = step.is_of.writers };
       tells = step.tells;
@@ -64,7 +61,3 @@ listed_so blocks_told count s event (Moved o) old new step =
       rose = step.rose;
       unfailed = step.unfailed;
     }
-
-pub are_listed : (answer : Answer) (listed : List ℕ) → AreListed answer (listed_after answer listed)
-are_listed Blocked listed = tt
-are_listed (Moved o) listed = λ none. ap (λ (b : Bool). if b then listed else []) none

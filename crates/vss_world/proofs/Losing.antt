@@ -7,15 +7,12 @@ use Rattle.write_history.specs.History.{Image, History, point_in, after_set}
 use Rattle.write_history.specs.Slots.{Placed, gone_up_to, needs_slot_in, lacks_slot, group_used, evicted_up_to}
 use Rattle.vss_model.specs.State.{has_image}
 use Rattle.vss_model.specs.Images.{has_lost_image}
+use Rattle.vss_model.proofs.NewestImage.{UpTo}
 
--- none of these is of a set after n
-abbrev pub AreUpTo : ℕ → List Image → Type 0
-AreUpTo n [] = Unit {0}
-AreUpTo n (i ∷ images) = (i.set ≤ n) × AreUpTo n images
-
+-- no image of these volumes is of a set after n
 abbrev pub AllUpTo : ℕ → List History → Type 0
 AllUpTo n [] = Unit {0}
-AllUpTo n (h ∷ hs) = AreUpTo n h.images × AllUpTo n hs
+AllUpTo n (h ∷ hs) = UpTo n h.images × AllUpTo n hs
 
 -- ## one history
 
@@ -28,9 +25,6 @@ lt_no a b l = grind (arith, nat_tests)
 eq_is : (a b : ℕ) → (a == b) ≡ true → a ≡ b
 eq_is a b e = grind (arith, nat_tests)
 
-eq_not : (a b : ℕ) → (a == b) ≡ false → a ≡ b → ⊥
-eq_not a b e f = grind (arith, nat_tests)
-
 skip : (b : Bool) (i : Image) (xs : List Image) → b ≡ false → (if b then i ∷ xs else xs) ≡ xs
 skip true i xs e = cc
 skip false i xs e = refl
@@ -40,7 +34,7 @@ keep true i xs e = refl
 keep false i xs e = cc
 
 -- beyond the greatest set nothing is left
-all_gone : (n : ℕ) (images : List Image) → AreUpTo n images → after_set n images ≡ []
+all_gone : (n : ℕ) (images : List Image) → UpTo n images → after_set n images ≡ []
 all_gone n [] up = refl
 all_gone n (i ∷ images) up = skip (nat_lt n i.set) i (after_set n images) (lt_no n i.set up.0) ∙ all_gone n images up.1
 
@@ -51,9 +45,10 @@ if_kept false true p i n xs o e f g = let t : false ≡ true = f refl in cc
 if_kept false false p i n xs o e f g = g
 
 -- the image of a later set stays
-stays : (m n : ℕ) (images : List Image) → m < n → point_in n (after_set m images) ≡ point_in n images
+pub stays : (m n : ℕ) (images : List Image) → m < n → point_in n (after_set m images) ≡ point_in n images
 stays m n [] l = refl
-stays m n (i ∷ images) l = if_kept (nat_lt m i.set) (i.set == n) i.point i n (after_set m images) (point_in n images) refl (λ e. let same = eq_is i.set n e in lt_yes m i.set (omega (arith, same, l))) (stays m n images l)
+stays m n (i ∷ images) l = if_kept (nat_lt m i.set) (i.set == n) i.point i n (after_set m images) (point_in n images) refl (λ e. let same = eq_is i.set n e in lt_yes m i.set (omega (arith, same, l)))
+    (stays m n images l)
 
 none_if : (b : Bool) (p : ℕ) (o : Option ℕ) → is_some (if b then Some p else o) ≡ false → (b ≡ false) × (is_some o ≡ false)
 none_if true p o e = absurd cc
@@ -81,7 +76,7 @@ no_more k (i ∷ images) e =
 
 -- ## all of them
 
-and_not : (x : Bool) → (x && not x) ≡ false
+pub and_not : (x : Bool) → (x && not x) ≡ false
 and_not true = refl
 and_not false = refl
 
@@ -97,9 +92,6 @@ lost_itself : (n : ℕ) (hs : List History) → has_lost_image n hs hs ≡ false
 lost_itself n [] = refl
 lost_itself n (h ∷ hs) = or_false (has_image n h && not (has_image n h)) (has_lost_image n hs hs) (and_not (has_image n h)) (lost_itself n hs)
 
-gone_if : Bool → ℕ → History → History
-gone_if b m h = if b then record { writes = h.writes; images = after_set m h.images } else h
-
 kept_if : (b : Bool) (m n : ℕ) (h : History) → m < n → (has_image n h && not (has_image n (if b then record { writes = h.writes; images = after_set m h.images } else h))) ≡ false
 kept_if true m n h l = ap (λ (o : Option ℕ). has_image n h && not (is_some o)) (stays m n h.images l) ∙ and_not (has_image n h)
 kept_if false m n h l = and_not (has_image n h)
@@ -110,7 +102,8 @@ not_lost m n [] hs l = lost_itself n hs
 not_lost m n (p ∷ ps) [] l = refl
 not_lost m n (p ∷ ps) (h ∷ hs) l = or_false _ (has_lost_image n hs (gone_up_to m ps hs)) (kept_if p.within m n h l) (not_lost m n ps hs l)
 
-lost_if : (b : Bool) (k : ℕ) (h : History) → AreUpTo (suc k) h.images → (has_image (suc k) h && not (has_image (suc k) (if b then record { writes = h.writes; images = after_set (suc k) h.images } else h))) ≡ false
+lost_if : (b : Bool) (k : ℕ) (h : History) → UpTo (suc k) h.images
+    → (has_image (suc k) h && not (has_image (suc k) (if b then record { writes = h.writes; images = after_set (suc k) h.images } else h))) ≡ false
     → (if b then record { writes = h.writes; images = after_set (suc k) h.images } else h) ≡ (if b then record { writes = h.writes; images = after_set k h.images } else h)
 lost_if true k h up e =
     let t : (has_image (suc k) h && true) ≡ false = ap (λ (xs : List Image). has_image (suc k) h && not (is_some (point_in (suc k) xs))) (sym (all_gone (suc k) h.images up)) ∙ e in
@@ -132,7 +125,7 @@ same_gone k (p ∷ ps) (h ∷ hs) up e =
     ap (λ (x : History). x ∷ gone_up_to (suc k) ps hs) here ∙ ap (λ (xs : List History). (if p.within then record { writes = h.writes; images = after_set k h.images } else h) ∷ xs) rest
 
 -- no slot is needed where all images of the volume are gone
-needs_if : (b c : Bool) (n b_ : ℕ) (h : History) → b ≡ true → AreUpTo n h.images → needs_slot_in (Some (if b then record { writes = h.writes; images = after_set n h.images } else h)) b_ ≡ false
+needs_if : (b c : Bool) (n b_ : ℕ) (h : History) → b ≡ true → UpTo n h.images → needs_slot_in (Some (if b then record { writes = h.writes; images = after_set n h.images } else h)) b_ ≡ false
 needs_if true c n b h e up = ap (λ (xs : List Image). needs_slot_in (Some (record { writes = h.writes; images = xs })) b) (all_gone n h.images up)
 needs_if false c n b h e up = cc
 
@@ -177,9 +170,6 @@ pub is_lost : (k slots v b : ℕ) (ps : List Placed) (hs : List History) (p : Pl
     → has_lost_image (suc k) hs (gone_up_to (suc k) ps hs) ≡ true
 is_lost k slots v b ps hs p at within up e = by_test (has_lost_image (suc k) hs (gone_up_to (suc k) ps hs)) refl
   where
-    lacks : ℕ → Bool
-    lacks m = lacks_slot slots ps v b (gone_up_to m ps hs)
-
     none : (o : Option ℕ) → find (λ m. not (lacks_slot slots ps v b (gone_up_to m ps hs))) (range_with_len 0 (suc k)) ≡ o → unwrap_or o (suc k) ≡ suc k → o ≡ None
     none None f g = refl
     none (Some x) f g = let l = found_below (λ m. not (lacks_slot slots ps v b (gone_up_to m ps hs))) 0 (suc k) x f in absurd (omega (arith, l, g))

@@ -1,6 +1,7 @@
 -- A move, from what it does to the devices and what it comes to at each state.
 use Rattle.std.proofs.Common.{◌≡◌, ℕ, ◌+◌, ◌≤◌, List, [], ◌∷◌, ◌++◌, length, refl, ap, sym, ◌∙◌, subst, arith, Bool, true, false, Option, map}
 use Rattle.std.proofs.lemmas.List.{length-append}
+use Rattle.volume_device.specs.declared.device.Device.{Ghosts}
 use Rattle.writer_state.specs.declared.writer_row.WriterRow.{WriterRow}
 use Rattle.write_history.specs.declared.evicted.Evicted.{Evicted}
 use Rattle.scenario.specs.Plan.{Plan}
@@ -14,16 +15,18 @@ use Rattle.vss_model.specs.Trail.{is_fault}
 use Rattle.vss_model.specs.Outcome.{IsOutcome, told_act}
 use Rattle.vss_model.proofs.Appending.{state-append}
 use Rattle.vss_model.proofs.OrderlyActs.{orderly}
+use Rattle.vss_model.proofs.Orderly.{true_not_false}
 use Rattle.provider.specs.Groups.{AreGroups, HasGroups}
 use Rattle.provider.specs.Devices.{devices_of, counts_of, AreKept, AreLater}
 use Rattle.provider.specs.Preparing.{ProviderValue}
 use Rattle.provider.proofs.Kept.{later_same}
 use Rattle.coordinator.specs.Coordinator.{Registered}
-use Rattle.sessions.specs.Keeps.{SessionsValue, Keeps, IsInOrder, Leaves, IsOf as IsSessionsOf}
+use Rattle.sessions.specs.Keeps.{SessionsValue, Keeps, IsInOrder, Leaves, later_by, IsOf as IsSessionsOf}
 use Rattle.vss_world.specs.Devices.{tells_of, RoseFor}
-use Rattle.vss_world.specs.Stands.{WorldValue, IsOf, IsInPlan, StandsAt, Stands}
+use Rattle.vss_world.specs.Stands.{WorldValue, IsOf, IsInPlan, IsPrepared, StandsAt, Stands}
+use Rattle.vss_world.specs.Provided.{provided}
 use Rattle.vss_world.specs.Moves.{IsMoved, volume_of}
-use Rattle.vss_world.proofs.Tied.{tied, tells_are}
+use Rattle.vss_world.proofs.Tied.{tied_so, tells_are}
 
 -- the core with these parts
 abbrev pub world_of : {D : Type 0} → ProviderValue D → SessionsValue → List ℕ → List Evicted → WorldValue D
@@ -31,8 +34,13 @@ world_of p x l e = record { devices = devices_of p.groups; listed = l; evicted =
 
 -- ## what it stands for
 
+-- what the provider prepares at a state, and has of its volumes
+abbrev pub IsProviderAt : {D : Type 0} → (D → Option (List (List ℕ))) → Plan → ProviderValue D → State → Type 0
+IsProviderAt told s p st = IsPrepared p st × AreGroups told s p.groups (provided st)
+
 pub record Parts {D : Type 0} (told : D → Option (List (List ℕ))) (p : ProviderValue D) (x : SessionsValue) (s : Plan) (st : State) : Type 0 where
-  pub groups : AreGroups told s p.groups st.volumes
+  pub groups : AreGroups told s p.groups (provided st)
+  pub prepared : IsPrepared p st
   pub sessions : Keeps x st
   pub plan : IsInPlan s st
 
@@ -40,14 +48,15 @@ pub stands_at : {D : Type 0} (told : D → Option (List (List ℕ))) (p : Provid
     → HasGroups s p.groups → Parts told p x s st → StandsAt told (world_of p x l e) s st
 stands_at told p x l e s st has parts = record {
   groups = parts.groups;
+  prepared = parts.prepared;
   sessions = parts.sessions;
   plan = parts.plan;
-  holds = tied told s p.groups st.volumes has parts.groups;
+  holds = tied_so told s p.groups st has parts.groups;
 }
 
 pub parts_of : {D : Type 0} (told : D → Option (List (List ℕ))) (p : ProviderValue D) (x : SessionsValue) (l : List ℕ) (e : List Evicted) (s : Plan) (st : State)
     → StandsAt told (world_of p x l e) s st → Parts told p x s st
-parts_of told p x l e s st stands = record { groups = stands.groups; sessions = stands.sessions; plan = stands.plan }
+parts_of told p x l e s st stands = record { groups = stands.groups; prepared = stands.prepared; sessions = stands.sessions; plan = stands.plan }
 
 pub in_order : (s : Plan) (acts : List Act) → IsInOrder (state s acts)
 in_order s acts = let o = orderly s acts in record { numbered = o.numbered; newest = o.newest; session = o.session }
@@ -62,8 +71,15 @@ pub record Goes (x y : SessionsValue) : Type 0 where
 pub goes_nowhere : (x : SessionsValue) → Goes x x
 goes_nowhere x = record { sets = omega arith; posts = omega arith; clock = omega arith }
 
-pub goes_on : (x y : SessionsValue) → Leaves x y → y.clock ≤ x.clock + 1000000000 → Goes x y
-goes_on x y leaves clock = record { sets = leaves.sets; posts = leaves.posts; clock = clock }
+pub goes_on : (x y : SessionsValue) → Leaves x y → Goes x y
+goes_on x y leaves = let same = leaves.clock in record { sets = leaves.sets; posts = leaves.posts; clock = omega (arith, same) }
+
+-- time goes by
+pub goes_later : (ticks : ℕ) (x y : SessionsValue) → ticks ≤ 1000000000 → Leaves (later_by ticks x) y → Goes x y
+goes_later ticks x y few leaves = let same : y.clock ≡ x.clock + ticks = leaves.clock in record { sets = leaves.sets; posts = leaves.posts; clock = omega (arith, same, few) }
+
+pub later_of : (s : Plan) (ticks : ℕ) (x : SessionsValue) → IsSessionsOf x s → IsSessionsOf (later_by ticks x) s
+later_of s ticks x of = record { classes = of.classes; count = of.count }
 
 pub leaves_of : (s : Plan) (x y : SessionsValue) → IsSessionsOf x s → Leaves x y → IsSessionsOf y s
 leaves_of s x y of leaves = record {
@@ -81,53 +97,49 @@ pub record OfDevices {D : Type 0} (told : D → Option (List (List ℕ))) (count
   pub unfailed : is_fault (mark_of o.told) ≡ false → map count new.devices ≡ map count old.devices
 
 -- the groups go on to others of the same devices
-pub of_kept : {D : Type 0} (told : D → Option (List (List ℕ))) (size count : D → ℕ) (lending : D → Bool) (s : Plan) (p q : ProviderValue D) (x y : SessionsValue) (l k : List ℕ) (e f : List Evicted)
-    → IsOf (world_of p x l e) s → AreKept told size count lending p.groups q.groups → IsSessionsOf y s → IsOf (world_of q y k f) s
-of_kept told size count lending s p q x y l k e f of kept writers = record {
+pub of_kept : {D : Type 0} (device : Ghosts D) (s : Plan) (p q : ProviderValue D) (x y : SessionsValue) (l k : List ℕ) (e f : List Evicted)
+    → IsOf (world_of p x l e) s → AreKept device p.groups q.groups → IsSessionsOf y s → IsOf (world_of q y k f) s
+of_kept device s p q x y l k e f of kept writers = record {
   devices = refl;
   number = kept.number ∙ of.number;
   groups = kept.has s of.groups;
   writers = writers;
 }
 
-pub tells_kept : {D : Type 0} (told : D → Option (List (List ℕ))) (size count : D → ℕ) (lending : D → Bool) (s : Plan) (old new : List (GroupValue D)) → HasGroups s old → AreKept told size count lending old new
-    → tells_of told s (devices_of new) ≡ tells_of told s (devices_of old)
-tells_kept told size count lending s old new has kept = tells_are told s new (kept.has s has) ∙ kept.tells s ∙ sym (tells_are told s old has)
+pub tells_kept : {D : Type 0} (device : Ghosts D) (s : Plan) (old new : List (GroupValue D)) → HasGroups s old → AreKept device old new
+    → tells_of device.told s (devices_of new) ≡ tells_of device.told s (devices_of old)
+tells_kept device s old new has kept = tells_are device.told s new (kept.has s has) ∙ kept.tells s ∙ sym (tells_are device.told s old has)
 
 -- no device failed
-pub clean_devices : {D : Type 0} (told : D → Option (List (List ℕ))) (size count : D → ℕ) (lending : D → Bool) (s : Plan) (event : Event) (o : Outcome) (p q : ProviderValue D) (x y : SessionsValue) (l k : List ℕ) (e f : List Evicted)
-    → IsOf (world_of p x l e) s → AreKept told size count lending p.groups q.groups → IsSessionsOf y s → counts_of count q.groups ≡ counts_of count p.groups → is_fault (mark_of o.told) ≡ false
-    → OfDevices told count s event o (world_of p x l e) (world_of q y k f)
-clean_devices told size count lending s event o p q x y l k e f of kept writers same clean = record {
-  is_of = of_kept told size count lending s p q x y l k e f of kept writers;
-  tells = tells_kept told size count lending s p.groups q.groups of.groups kept;
-  later = later_same (counts_of count p.groups) (counts_of count q.groups) same;
-  rose = λ fault. absurd (not_both (is_fault (mark_of o.told)) fault clean);
+pub clean_devices : {D : Type 0} (device : Ghosts D) (s : Plan) (event : Event) (o : Outcome) (p q : ProviderValue D) (x y : SessionsValue) (l k : List ℕ) (e f : List Evicted)
+    → IsOf (world_of p x l e) s → AreKept device p.groups q.groups → IsSessionsOf y s → counts_of device.count q.groups ≡ counts_of device.count p.groups → is_fault (mark_of o.told) ≡ false
+    → OfDevices device.told device.count s event o (world_of p x l e) (world_of q y k f)
+clean_devices device s event o p q x y l k e f of kept writers same clean = record {
+  is_of = of_kept device s p q x y l k e f of kept writers;
+  tells = tells_kept device s p.groups q.groups of.groups kept;
+  later = later_same (counts_of device.count p.groups) (counts_of device.count q.groups) same;
+  rose = λ fault. absurd (true_not_false (is_fault (mark_of o.told)) fault clean);
   unfailed = λ no. same;
-} where
-  not_both : (b : Bool) → b ≡ true → b ≡ false → ⊥
-  not_both true d c = cc
-  not_both false d c = cc
+}
 
 -- a device of the event's volume failed
-pub failed_devices : {D : Type 0} (told : D → Option (List (List ℕ))) (size count : D → ℕ) (lending : D → Bool) (s : Plan) (event : Event) (o : Outcome) (p q : ProviderValue D) (x y : SessionsValue) (l k : List ℕ) (e f : List Evicted)
-    → IsOf (world_of p x l e) s → AreKept told size count lending p.groups q.groups → IsSessionsOf y s → RoseFor s (volume_of event o.told) (counts_of count p.groups) (counts_of count q.groups) → is_fault (mark_of o.told) ≡ true
-    → OfDevices told count s event o (world_of p x l e) (world_of q y k f)
-failed_devices told size count lending s event o p q x y l k e f of kept writers rose fault = record {
-  is_of = of_kept told size count lending s p q x y l k e f of kept writers;
-  tells = tells_kept told size count lending s p.groups q.groups of.groups kept;
+pub failed_devices : {D : Type 0} (device : Ghosts D) (s : Plan) (event : Event) (o : Outcome) (p q : ProviderValue D) (x y : SessionsValue) (l k : List ℕ) (e f : List Evicted)
+    → IsOf (world_of p x l e) s → AreKept device p.groups q.groups → IsSessionsOf y s → RoseFor s (volume_of event o.told) (counts_of device.count p.groups) (counts_of device.count q.groups)
+    → is_fault (mark_of o.told) ≡ true
+    → OfDevices device.told device.count s event o (world_of p x l e) (world_of q y k f)
+failed_devices device s event o p q x y l k e f of kept writers rose fault = record {
+  is_of = of_kept device s p q x y l k e f of kept writers;
+  tells = tells_kept device s p.groups q.groups of.groups kept;
   later = kept.later;
   rose = λ yes. rose;
-  unfailed = λ clean. absurd (not_both (is_fault (mark_of o.told)) fault clean);
-} where
-  not_both : (b : Bool) → b ≡ true → b ≡ false → ⊥
-  not_both true d c = cc
-  not_both false d c = cc
+  unfailed = λ clean. absurd (true_not_false (is_fault (mark_of o.told)) fault clean);
+}
 
 -- ## the move
 
 -- what an event comes to at a state
-pub record Comes {D : Type 0} (told : D → Option (List (List ℕ))) (s : Plan) (event : Event) (o : Outcome) (tells : List Bool) (q : ProviderValue D) (y : SessionsValue) (listed_sets : List ℕ) (evicted_images : List Evicted) (st : State) : Type 0 where
+pub record Comes {D : Type 0} (told : D → Option (List (List ℕ))) (s : Plan) (event : Event) (o : Outcome) (tells : List Bool) (q : ProviderValue D) (y : SessionsValue) (listed_sets : List ℕ)
+    (evicted_images : List Evicted) (st : State) : Type 0 where
   pub is_enabled : enabled s st event ≡ true
   pub is_allowed : event_allows s st event (mark_of o.told) ≡ true
   pub outcome : (rows : List WriterRow) → rows ≡ (after s st (told_act event o.told)).course.rows → IsOutcome tells s st event o listed_sets evicted_images rows

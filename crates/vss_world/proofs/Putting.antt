@@ -1,7 +1,8 @@
 -- A write, against the acts: the images that it needs gone, and the set in progress that fails where its own goes.
-use Rattle.std.proofs.Common.{◌≡◌, ℕ, zero, suc, ◌<◌, ◌≤◌, ◌==◌, List, [], ◌∷◌, length, refl, ap, sym, ◌∙◌, subst, arith, Bool, true, false, Option, Some, None, map, slice_get}
-use Rattle.std.specs.Prelude.{option_map, is_some, find, not, ◌&&◌, if◌then◌else◌, IfSome}
+use Rattle.std.proofs.Common.{◌≡◌, ℕ, zero, suc, ◌<◌, ◌≤◌, ◌==◌, List, [], ◌∷◌, length, refl, ap, sym, ◌∙◌, subst, arith, Bool, true, false, Option, Some, None, map, filter, slice_get}
+use Rattle.std.specs.Prelude.{option_map, is_some, find, not, ◌&&◌, ◌||◌, if◌then◌else◌, Result, Ok, Err}
 use Rattle.std.proofs.lemmas.Bool.Decides.{nat_tests}
+use Rattle.volume_device.specs.declared.device.Device.{Ghosts}
 use Rattle.vss_names.specs.declared.set_outcome.SetOutcome.{SetOutcome}
 use Rattle.vss_names.specs.declared.set_outcome.SetOutcome.TheVariants.{Running, Failed}
 use Rattle.vss_names.specs.declared.vss_result.VssResult.TheVariants.{InsufficientStorage}
@@ -9,20 +10,18 @@ use Rattle.writer_state.specs.declared.writer_row.WriterRow.{WriterRow}
 use Rattle.write_history.specs.declared.evicted.Evicted.{Evicted}
 use Rattle.write_history.specs.declared.mark.Mark.{Mark}
 use Rattle.write_history.specs.History.{Write, Image, History, point_in, written, dropped}
-use Rattle.write_history.specs.Slots.{Placed, gone_up_to, evicted_up_to}
-use Rattle.set_agenda.specs.Agenda.{order_now}
+use Rattle.write_history.specs.Slots.{Placed, gone_up_to}
+use Rattle.set_agenda.specs.Agenda.{Agenda, order_now}
 use Rattle.set_agenda.proofs.WriterSets.{new-is}
 use Rattle.set_agenda.specs.Course.{change_at}
-use Rattle.scenario.specs.declared.volume_row.VolumeRow.{VolumeRow}
 use Rattle.scenario.specs.declared.op.Op.{Op}
 use Rattle.scenario.specs.declared.op.Op.TheVariants.{WriteFill, WriteStamp}
-use Rattle.scenario.specs.Bounds.{IsPlan, IsBlock}
-use Rattle.std.specs.List.{slice_index_or}
-use Rattle.scenario.specs.Plan.{Plan, LanePlan, placed, placed_in, slots_of, group_of, acts_as, writer_in}
+use Rattle.scenario.specs.Bounds.{IsBlock}
+use Rattle.scenario.specs.Plan.{Plan, placed, placed_in, slots_of, group_of, acts_as}
 use Rattle.vss_model.specs.declared.event.Event.TheVariants.{Line}
-use Rattle.vss_model.specs.declared.told.Told.TheVariants as told
-use Rattle.vss_model.specs.Reply.{Reply, Fine, Faulted}
-use Rattle.vss_model.specs.State.{State, SetRow, in_progress, is_running, history_in, left_now, is_held, is_frozen}
+use Rattle.vss_model.specs.declared.outcome.Outcome.{Outcome}
+use Rattle.vss_model.specs.Reply.{Reply}
+use Rattle.vss_model.specs.State.{State, SetRow, in_progress, is_running, is_kept_set, has_image, history_in, history_of, left_now, is_held}
 use Rattle.vss_model.specs.Ending.{failed_in, images_dropped}
 use Rattle.vss_model.specs.Images.{Replied, cleared, going_up_to, put, with_room, with_room_if, set_loses_image, write, has_lost_image, reply_of_mark}
 use Rattle.vss_model.specs.Lines.{line}
@@ -31,41 +30,48 @@ use Rattle.vss_model.specs.Acts.{Act, state, after, may_write, is_free, line_ena
 use Rattle.vss_model.specs.Told.{Fits, mark_of}
 use Rattle.vss_model.specs.Trail.{act_of}
 use Rattle.vss_model.specs.Outcome.{HasLists, EndsAs}
-use Rattle.vss_model.proofs.OrderlyActs.{orderly}
+use Rattle.vss_model.proofs.HeldImage.{image_runs}
+use Rattle.vss_model.proofs.OrderlyActs.{orderly, none_after}
 use Rattle.vss_model.proofs.NewestImage.{UpTo, images_up_to}
 use Rattle.vss_model.proofs.OneCut.{newest_number}
 use Rattle.provider.specs.Groups.{AreGroups}
-use Rattle.provider.specs.Devices.{devices_of, counts_of, AreKept, HasCause}
-use Rattle.provider.specs.Calls.{IsLastSet, IsPut, put_if, AreWithout}
+use Rattle.provider.specs.Devices.{devices_of, counts_of, AreKept, HasCause, fault_of}
+use Rattle.provider.specs.Calls.{IsLastSet, IsPut, put_if, AreWithout, images_going}
 use Rattle.provider.specs.Preparing.{ProviderValue}
-use Rattle.provider.specs.declared.device_fault.DeviceFault.{DeviceFault}
-use Rattle.provider.specs.declared.put_result.PutResult.{PutResult}
-use Rattle.provider.proofs.Kept.{kept_trans}
+use Rattle.cow_volume.specs.declared.cause.Cause.{Cause}
+use Rattle.cow_volume.proofs.Group.{slice_get_inside, slice_get_map}
+use Rattle.provider.proofs.Kept.{kept_same, kept_trans}
 use Rattle.sessions.specs.Sets.{current_of}
 use Rattle.sessions.specs.Keeps.{SessionsValue, Keeps, IsInOrder, Leaves, IsOf as IsSessionsOf}
 use Rattle.sessions.specs.Moves.{IsFailed}
+use Rattle.sessions.proofs.Concluding.{current_kept}
 use Rattle.vss_world.specs.Devices.{tells_of, RoseFor}
-use Rattle.vss_world.specs.Stands.{IsOf, IsInPlan, Stands, IfStands}
+use Rattle.vss_world.specs.Provided.{provided_of, provided}
+use Rattle.vss_world.specs.Stands.{WorldValue, IsOf, IsInPlan, IsPrepared, number_prepared, Stands, IfStands}
 use Rattle.vss_world.specs.Moves.{IsMoved, IsBlocked, simple_outcome, volume_of_line}
-use Rattle.vss_world.specs.Puts.{IsWriteLine, told_if, AreEvicted}
+use Rattle.vss_world.specs.Puts.{IsWriteLine, MakesRoom, told_if}
 use Rattle.vss_world.proofs.Moved.{world_of, Parts, OfDevices, Comes, goes_on, leaves_of, in_order, moved, clean_devices, failed_devices}
 use Rattle.vss_world.proofs.Simple.{LineComes, line_moves, after_line}
 use Rattle.vss_world.proofs.Rising.{rose_for}
 use Rattle.vss_world.proofs.Failing.{failed_ends}
 use Rattle.vss_world.proofs.InPlan.{in_failed_in}
-use Rattle.vss_world.proofs.Losing.{AreUpTo, AllUpTo, not_lost, lost_at, up_to_most}
+use Rattle.vss_world.proofs.Losing.{AllUpTo, not_lost, lost_at, up_to_most}
+use Rattle.vss_world.proofs.KeptSets.{up_to_filter}
+use Rattle.vss_world.proofs.OnProvided.{on_provided}
+use Rattle.vss_world.proofs.Evictions.{evicted_is}
+use Rattle.vss_world.proofs.Clearing.{as_far, free_volume}
+use Rattle.vss_world.proofs.SetGoesOn.{runs_snapshot}
+use Rattle.vss_world.proofs.ToCome.{all_unnamed, gone_provided, change_provided, dropped_provided}
+use Rattle.vss_world.proofs.WithoutImages.{written_apart}
+use Rattle.vss_world.proofs.Prepared.{prepared_same, prepared_none, runs_number}
 
 -- ## facts of every list of acts
 
-up_to_of : (n : ℕ) (images : List Image) → UpTo n images → AreUpTo n images
-up_to_of n [] h = tt
-up_to_of n (i ∷ images) h = (h.0, up_to_of n images h.1)
-
 all_of : (n : ℕ) (hs : List History) → ((v : ℕ) → UpTo n (history_in (slice_get hs v)).images) → AllUpTo n hs
 all_of n [] h = tt
-all_of n (x ∷ hs) h = (up_to_of n x.images (h 0), all_of n hs (λ v. h (suc v)))
+all_of n (x ∷ hs) h = (h 0, all_of n hs (λ v. h (suc v)))
 
-pub all_up : (s : Plan) (acts : List Act) → AllUpTo (length (state s acts).sets) (state s acts).volumes
+all_up : (s : Plan) (acts : List Act) → AllUpTo (length (state s acts).sets) (state s acts).volumes
 all_up s acts = let o = orderly s acts in all_of _ _ (λ v. images_up_to (state s acts).sets (state s acts).volumes v o.numbered o.live)
 
 eq_is : (a b : ℕ) → (a == b) ≡ true → a ≡ b
@@ -78,55 +84,55 @@ in_if : (b : Bool) (n m p : ℕ) (s : ℕ) (o : Option ℕ) → (s == n) ≡ b �
 in_if true n m p s o e l h f = let same = eq_is s n e in omega (arith, same, l)
 in_if false n m p s o e l h f = f h
 
-in_up_to : (n m : ℕ) (images : List Image) → AreUpTo m images → is_some (point_in n images) ≡ true → n ≤ m
+in_up_to : (n m : ℕ) (images : List Image) → UpTo m images → is_some (point_in n images) ≡ true → n ≤ m
 in_up_to n m [] up h = absurd cc
 in_up_to n m (i ∷ images) up h = in_if (i.set == n) n m i.point i.set (point_in n images) refl up.0 h (in_up_to n m images up.1)
 
-pub last_of : (m : ℕ) (hs : List History) → AllUpTo m hs → IsLastSet m hs
-last_of m [] up u n h e has = cc
-last_of m (x ∷ hs) up zero n h e has = let same : x ≡ h = cc in in_up_to n m x.images up.0 (subst (λ (y : History). is_some (point_in n y.images) ≡ true) (sym same) has)
-last_of m (x ∷ hs) up (suc u) n h e has = last_of m hs up.1 u n h e has
+-- of the histories that the provider has, too, no image is of a later set
+last_provided : (s : Plan) (acts : List Act) → IsLastSet (length (state s acts).sets) (provided (state s acts))
+last_provided s acts u n x at has =
+    let st = state s acts in
+    let o = orderly s acts in
+    let up_to = images_up_to st.sets st.volumes u o.numbered o.live in
+    let up = on_provided (λ (y : History). UpTo (length st.sets) y.images) st u up_to (λ r e coming. up_to_filter (λ i. not (i.set == r.number)) (length st.sets) (history_of st u).images up_to) in
+    in_up_to n _ x.images (subst (λ (y : History). UpTo (length st.sets) y.images) (ap history_in at) up) has
 
 -- ## the line
 
 pub record IsWriting (s : Plan) (lane : ℕ) (op : Op) (v : ℕ) (w : Write) : Type 0 where
   pub is_write : (mark : Mark) (st : State) → line s lane op mark st ≡ write s v w mark st
   pub on : (st : State) → line_enabled s st lane op ≡ may_write s st lane v
-  pub allowed : (fault : Option DeviceFault) (st : State) → line_allows s st op (mark_of (told_if fault)) ≡ true
+  pub allowed : (done : Result Unit Cause) (st : State) → line_allows s st op (mark_of (told_if done)) ≡ true
   pub target : (st : State) → evicted s st (Line lane op) ≡ evicted_for s st v w.block
   pub nobody : (st : State) → lost st (Line lane op) ≡ []
   pub of_volume : volume_of_line op ≡ Some v
 
-fill_allowed : (s : Plan) (v b x : ℕ) (fault : Option DeviceFault) (st : State) → line_allows s st (WriteFill v b x) (mark_of (told_if fault)) ≡ true
-fill_allowed s v b x None st = refl
-fill_allowed s v b x (Some fault) st = refl
+fill_allowed : (s : Plan) (v b x : ℕ) (done : Result Unit Cause) (st : State) → line_allows s st (WriteFill v b x) (mark_of (told_if done)) ≡ true
+fill_allowed s v b x (Ok done) st = refl
+fill_allowed s v b x (Err cause) st = refl
 
-stamp_allowed : (s : Plan) (v b n : ℕ) (fault : Option DeviceFault) (st : State) → line_allows s st (WriteStamp v b n) (mark_of (told_if fault)) ≡ true
-stamp_allowed s v b n None st = refl
-stamp_allowed s v b n (Some fault) st = refl
+stamp_allowed : (s : Plan) (v b n : ℕ) (done : Result Unit Cause) (st : State) → line_allows s st (WriteStamp v b n) (mark_of (told_if done)) ≡ true
+stamp_allowed s v b n (Ok done) st = refl
+stamp_allowed s v b n (Err cause) st = refl
 
 pub writing : (s : Plan) (lane : ℕ) (op : Op) (v : ℕ) (w : Write) → IsWriteLine op v w → IsWriting s lane op v w
 writing s lane (WriteFill u b x) v w h =
     subst (λ (z : ℕ). IsWriting s lane (WriteFill u b x) z w) h.0
     (subst (λ (z : Write). IsWriting s lane (WriteFill u b x) u z) (sym h.1)
-    (record { is_write = λ mark st. refl; on = λ st. refl; allowed = λ fault st. fill_allowed s u b x fault st; target = λ st. refl; nobody = λ st. refl; of_volume = refl }))
+    (record { is_write = λ mark st. refl; on = λ st. refl; allowed = λ done st. fill_allowed s u b x done st; target = λ st. refl; nobody = λ st. refl; of_volume = refl }))
 writing s lane (WriteStamp u b n) v w h =
     subst (λ (z : ℕ). IsWriting s lane (WriteStamp u b n) z w) h.0
     (subst (λ (z : Write). IsWriting s lane (WriteStamp u b n) u z) (sym h.1)
-    (record { is_write = λ mark st. refl; on = λ st. refl; allowed = λ fault st. stamp_allowed s u b n fault st; target = λ st. refl; nobody = λ st. refl; of_volume = refl }))
+    (record { is_write = λ mark st. refl; on = λ st. refl; allowed = λ done st. stamp_allowed s u b n done st; target = λ st. refl; nobody = λ st. refl; of_volume = refl }))
 writing s lane _ v w h = absurd h
 
-said_of : Option DeviceFault → Reply
-said_of None = Fine
-said_of (Some fault) = Faulted
+said_fits : (tells : List Bool) (done : Result Unit Cause) → Fits tells (reply_of_mark (mark_of (told_if done))) (told_if done)
+said_fits tells (Ok done) = refl
+said_fits tells (Err cause) = refl
 
-said_fits : (tells : List Bool) (fault : Option DeviceFault) → Fits tells (reply_of_mark (mark_of (told_if fault))) (told_if fault)
-said_fits tells None = refl
-said_fits tells (Some fault) = refl
-
-said_lists : (fault : Option DeviceFault) (listed : List ℕ) (rows : List WriterRow) → HasLists (reply_of_mark (mark_of (told_if fault))) listed rows
-said_lists None listed rows = tt
-said_lists (Some fault) listed rows = tt
+said_lists : (done : Result Unit Cause) (listed : List ℕ) (rows : List WriterRow) → HasLists (reply_of_mark (mark_of (told_if done))) listed rows
+said_lists (Ok done) listed rows = tt
+said_lists (Err cause) listed rows = tt
 
 written_is : (s : Plan) (v : ℕ) (w : Write) (mark : Mark) (st next : State) → with_room s v w.block st ≡ next → write s v w mark st ≡ (reply_of_mark mark, put v w mark next)
 unfolding write
@@ -134,38 +140,73 @@ written_is s v w mark st next room = ap (λ (z : State). (reply_of_mark mark, pu
 
 -- ## devices
 
-pub put_devices : {D : Type 0} (blocks_told : D → Option (List (List ℕ))) (size count : D → ℕ) (lending : D → Bool) (s : Plan) (lane v : ℕ) (op : Op) (set : ℕ) (result : SetOutcome) (fault : Option DeviceFault) (p q r : ProviderValue D) (x y : SessionsValue) (l k : List ℕ) (e f : List Evicted)
-    → IsOf (world_of p x l e) s → IsSessionsOf y s → volume_of_line op ≡ Some v → AreKept blocks_told size count lending p.groups r.groups → counts_of count r.groups ≡ counts_of count q.groups → HasCause count s v fault p.groups q.groups
-    → OfDevices blocks_told count s (Line lane op) (record { told = told_if fault; lost = 0; lost_order = None; set = set; result = result }) (world_of p x l e) (world_of r y k f)
-put_devices blocks_told size count lending s lane v op set result None p q r x y l k e f of writers at kept same cause =
-    clean_devices blocks_told size count lending s (Line lane op) (record { told = told.Ok; lost = 0; lost_order = None; set = set; result = result }) p r x y l k e f of kept writers (same ∙ cause) refl
-put_devices blocks_told size count lending s lane v op set result (Some fault) p q r x y l k e f of writers at kept same cause =
-    failed_devices blocks_told size count lending s (Line lane op) (record { told = told.Fault; lost = 0; lost_order = None; set = set; result = result }) p r x y l k e f of kept writers
-    (subst (λ (o : Option ℕ). RoseFor s o (counts_of count p.groups) (counts_of count r.groups)) (sym at)
-    (subst (λ (ns : List ℕ). RoseFor s (Some v) (counts_of count p.groups) ns) (sym same) (rose_for count s v fault p.groups q.groups cause))) refl
+-- a write as the core makes it: room is made for it, and then the provider puts it
+pub record IsMade {D : Type 0} (device : Ghosts D) (s : Plan) (lane : ℕ) (op : Op) (v : ℕ) (w : Write) (done : Result Unit Cause) (m : ℕ) (p q r : ProviderValue D)
+    (x : SessionsValue) (f : List Evicted) : Type 0 where
+  pub block : IsBlock s v w.block
+  pub is : IsWriting s lane op v w
+  pub makes : MakesRoom device s x p q v w.block f m
+  pub puts : IsPut device s q.groups r.groups v w done
+  pub rest : r ≡ record q { groups = r.groups }
+
+pub making : {D : Type 0} {device : Ghosts D} {s : Plan} {lane : ℕ} {op : Op} {v : ℕ} {w : Write} {done : Result Unit Cause} {m : ℕ} {p q r : ProviderValue D} {x : SessionsValue} {f : List Evicted}
+    → IsBlock s v w.block → IsWriting s lane op v w → MakesRoom device s x p q v w.block f m → IsPut device s q.groups r.groups v w done → r ≡ record q { groups = r.groups }
+    → IsMade device s lane op v w done m p q r x f
+making block is makes puts rest = record { block = block; is = is; makes = makes; puts = puts; rest = rest }
+
+-- what it comes to: no set ends, or the set in progress fails
+abbrev pub outcome_as : Result Unit Cause → ℕ → SetOutcome → Outcome
+outcome_as done set result = record { told = told_if done; lost = 0; lost_order = None; set = set; result = result }
+
+put_devices : {D : Type 0} {device : Ghosts D} {s : Plan} {lane : ℕ} {op : Op} {v : ℕ} {w : Write} {m : ℕ} {p q r z : ProviderValue D} {x y : SessionsValue} {l : List ℕ} {e f : List Evicted}
+    (set : ℕ) (result : SetOutcome) (done : Result Unit Cause) → IsMade device s lane op v w done m p q r x f → IsOf (world_of p x l e) s → IsSessionsOf y s → AreKept device r.groups z.groups
+    → devices_of z.groups ≡ devices_of r.groups
+    → OfDevices device.told device.count s (Line lane op) (outcome_as done set result) (world_of p x l e) (world_of z y l f)
+put_devices {device = device} {s = s} {lane = lane} {op = op} {v = v} {p = p} {q = q} {r = r} {z = z} {x = x} {y = y} {l = l} {e = e}
+    {f = f} set result done h of writers kept same = by_result done h.puts.cause
+  where
+    all_kept : AreKept device p.groups z.groups
+    all_kept = kept_trans device p.groups r.groups z.groups (kept_trans device p.groups q.groups r.groups h.makes.call.kept h.puts.call.kept) kept
+
+    first : counts_of device.count q.groups ≡ counts_of device.count p.groups
+    first = ap (map device.count) h.makes.devices
+
+    last : counts_of device.count z.groups ≡ counts_of device.count r.groups
+    last = ap (map device.count) same
+
+    by_result : (done : Result Unit Cause) → HasCause device.count s v (fault_of done) q.groups r.groups
+        → OfDevices device.told device.count s (Line lane op) (outcome_as done set result) (world_of p x l e) (world_of z y l f)
+    by_result (Ok tt) cause = clean_devices device s (Line lane op) (outcome_as (Ok tt) set result) p z x y l l e f of all_kept writers (last ∙ cause ∙ first) refl
+    by_result (Err fault) cause = failed_devices device s (Line lane op) (outcome_as (Err fault) set result) p z x y l l e f of all_kept writers
+        (subst (λ (o : Option ℕ). RoseFor s o (counts_of device.count p.groups) (counts_of device.count z.groups)) (sym h.is.of_volume)
+        (subst (λ (ns : List ℕ). RoseFor s (Some v) (counts_of device.count p.groups) ns) (sym last)
+        (subst (λ (ns : List ℕ). RoseFor s (Some v) ns (counts_of device.count r.groups)) first (rose_for device.count s v fault q.groups r.groups cause)))) refl
 
 -- ## histories
 
-put_volumes : (fault : Option DeviceFault) (v : ℕ) (w : Write) (st : State) → (put v w (mark_of (told_if fault)) st).volumes ≡ put_if fault v w st.volumes
-put_volumes None v w st = refl
-put_volumes (Some fault) v w st = refl
+put_sets : (done : Result Unit Cause) (v : ℕ) (w : Write) (st : State) → (put v w (mark_of (told_if done)) st).sets ≡ st.sets
+put_sets (Ok done) v w st = refl
+put_sets (Err cause) v w st = refl
 
-put_sets : (fault : Option DeviceFault) (v : ℕ) (w : Write) (st : State) → (put v w (mark_of (told_if fault)) st).sets ≡ st.sets
-put_sets None v w st = refl
-put_sets (Some fault) v w st = refl
+-- what the provider has of what was written
+put_provided : (done : Result Unit Cause) (v : ℕ) (w : Write) (o : Option SetRow) (a : Option Agenda) (hs : List History) → put_if done v w (provided_of o a hs) ≡ provided_of o a (put_if done v w hs)
+put_provided (Ok done) v w o a hs = change_provided (written w) (written_apart w) v o a hs
+put_provided (Err cause) v w o a hs = refl
 
-put_parts : {D : Type 0} (blocks_told : D → Option (List (List ℕ))) (p q : ProviderValue D) (x : SessionsValue) (s : Plan) (fault : Option DeviceFault) (v : ℕ) (w : Write) (st : State)
-    → Keeps x st → IsInPlan s st → AreGroups blocks_told s q.groups (put_if fault v w st.volumes) → Parts blocks_told q x s (put v w (mark_of (told_if fault)) st)
-put_parts blocks_told p q x s None v w st k plan groups = record {
+put_parts : {D : Type 0} (blocks_told : D → Option (List (List ℕ))) (q : ProviderValue D) (x : SessionsValue) (s : Plan) (done : Result Unit Cause) (v : ℕ) (w : Write) (st : State)
+    → Keeps x st → IsInPlan s st → IsPrepared q st → AreGroups blocks_told s q.groups (provided_of (in_progress st) st.course.agenda (put_if done v w st.volumes))
+    → Parts blocks_told q x s (put v w (mark_of (told_if done)) st)
+put_parts blocks_told q x s (Ok done) v w st k plan prepared groups = record {
   groups = groups;
+  prepared = record { volumes = prepared.volumes; set = prepared.set; distinct = prepared.distinct };
   sessions = record { session = k.session; made = k.made; course = k.course; sets = k.sets; clock = k.clock; explicit = k.explicit; over = k.over; on_time = k.on_time; disabled = k.disabled };
   plan = record { sets = plan.sets; agenda = plan.agenda; members = plan.members; disabled = plan.disabled };
 }
-put_parts blocks_told p q x s (Some fault) v w st k plan groups = record { groups = groups; sessions = k; plan = plan }
+put_parts blocks_told q x s (Err cause) v w st k plan prepared groups = record { groups = groups; prepared = prepared; sessions = k; plan = plan }
 
-map_put : (fault : Option DeviceFault) (v : ℕ) (w : Write) (n : ℕ) (hs : List History) → map (dropped n) (put_if fault v w hs) ≡ put_if fault v w (map (dropped n) hs)
-map_put (Some fault) v w n hs = refl
-map_put None v w n hs = changed v hs
+map_put : (done : Result Unit Cause) (v : ℕ) (w : Write) (n : ℕ) (hs : List History) → map (dropped n) (put_if done v w hs) ≡ put_if done v w (map (dropped n) hs)
+map_put (Err cause) v w n hs = refl
+map_put (Ok done) v w n hs = changed v hs
   where
     changed : (v : ℕ) (hs : List History) → map (dropped n) (change_at v (written w) hs) ≡ change_at v (written w) (map (dropped n) hs)
     changed v [] = refl
@@ -182,195 +223,200 @@ pub some_current : (o : Option SetRow) (n : ℕ) → Some n ≡ option_map (λ (
 some_current None n e = cc
 some_current (Some r) n e = (r, refl, cc)
 
-placed_at : (g v : ℕ) (rows : List VolumeRow) (r : VolumeRow) → slice_get rows v ≡ Some r → slice_get (map (placed g) rows) v ≡ Some (placed g r)
-placed_at g v [] r e = cc
-placed_at g zero (q ∷ rows) r e = let same : q ≡ r = cc in ap (λ (x : VolumeRow). Some (placed g x)) same
-placed_at g (suc v) (q ∷ rows) r e = placed_at g v rows r e
-
-there : {X : Type 0} (xs : List X) (i : ℕ) → i < length xs → (x : X) × (slice_get xs i ≡ Some x)
-there [] i l = absurd (omega arith)
-there (x ∷ xs) zero l = (x, refl)
-there (x ∷ xs) (suc i) l = there xs i (omega arith)
-
 found_some : (p : SetRow → Bool) (rows : List SetRow) (r : SetRow) → find p rows ≡ Some r → 0 < length rows
 found_some p [] r e = cc
 found_some p (q ∷ rows) r e = omega arith
 
+-- an image that is lost stood
+lost_stood : (n : ℕ) (hs ks : List History) → has_lost_image n hs ks ≡ true → (k p : ℕ) × (point_in n (history_in (slice_get hs k)).images ≡ Some p)
+lost_stood n [] ks e = cc
+lost_stood n (h ∷ hs) [] e = cc
+lost_stood n (h ∷ hs) (k ∷ ks) e = by_point (point_in n h.images) refl e (λ g. lost_stood n hs ks g)
+  where
+    by_point : (o : Option ℕ) → point_in n h.images ≡ o → ((is_some o && not (has_image n k)) || has_lost_image n hs ks) ≡ true
+        → (has_lost_image n hs ks ≡ true → (i p : ℕ) × (point_in n (history_in (slice_get hs i)).images ≡ Some p)) → (i p : ℕ) × (point_in n (history_in (slice_get (h ∷ hs) i)).images ≡ Some p)
+    by_point (Some p) f g rest = (0, p, f)
+    by_point None f g rest = let found = rest g in (suc found.0, found.1, found.2)
+
 -- ## at a list of acts
 
-module _ {D : Type 0} (blocks_told : D → Option (List (List ℕ))) (size count : D → ℕ) (lending : D → Bool) (s : Plan) (acts : List Act) (lane v : ℕ) (op : Op) (w : Write) (done : PutResult) (m : ℕ) (p q : ProviderValue D) (x : SessionsValue) (l : List ℕ) (e f : List Evicted)
-    (block : IsBlock s v w.block) (is : IsWriting s lane op v w) (on : may_write s (state s acts) lane v ≡ true) (stands : Stands blocks_told (world_of p x l e) s acts)
-    (puts : IsPut blocks_told size count lending s p.groups q.groups v w done) (gone : AreEvicted blocks_told p x s v w.block f)
-    (goes : (sets : ℕ) → IsLastSet sets (state s acts).volumes → m ≡ evicted_up_to sets (slots_of s v) (group_of s v) v w.block (state s acts).volumes) where
-  far : done.evicted_up_to ≡ going_up_to s v w.block (state s acts)
-  far = puts.evicted (state s acts).volumes stands.at.groups (length (state s acts).sets) (last_of _ _ (all_up s acts))
+module _ {D : Type 0} {device : Ghosts D} {s : Plan} {lane : ℕ} {op : Op} {v : ℕ} {w : Write} {done : Result Unit Cause} {m : ℕ} {p q r : ProviderValue D} {x : SessionsValue} {f : List Evicted}
+    (h : IsMade device s lane op v w done m p q r x f) {acts : List Act} {l : List ℕ} {e : List Evicted} (stands : Stands device.told (world_of p x l e) s acts)
+    (on : may_write s (state s acts) lane v ≡ true) where
+  abbrev st : State
+  st = state s acts
 
-  same_far : m ≡ going_up_to s v w.block (state s acts)
-  same_far = goes (length (state s acts).sets) (last_of _ _ (all_up s acts))
+  abbrev base : State
+  base = cleared s v w.block st
 
-  room : AreGroups blocks_told s q.groups (put_if done.fault v w (cleared s v w.block (state s acts)).volumes)
-  room = subst (λ (k : ℕ). AreGroups blocks_told s q.groups (put_if done.fault v w (gone_up_to k (group_of s v) (state s acts).volumes))) far (puts.stands (state s acts).volumes stands.at.groups)
+  abbrev mark : Mark
+  mark = mark_of (told_if done)
 
-  cleared_keeps : Keeps x (cleared s v w.block (state s acts))
-  cleared_keeps = let k = stands.at.sessions in record { session = k.session; made = k.made; course = k.course; sets = k.sets; clock = k.clock; explicit = k.explicit; over = k.over; on_time = k.on_time; disabled = k.disabled }
+  abbrev tells : List Bool
+  tells = tells_of device.told s (devices_of p.groups)
 
-  cleared_plan : IsInPlan s (cleared s v w.block (state s acts))
-  cleared_plan = let h = stands.at.plan in record { sets = h.sets; agenda = h.agenda; members = h.members; disabled = h.disabled }
+  -- the histories that the provider has, where the volumes have these
+  abbrev of : List History → List History
+  of hs = provided_of (in_progress st) st.course.agenda hs
+
+  unheld : is_held st v ≡ false
+  unheld = first (is_held st v) (is_free st (acts_as s lane)) on
+    where
+      first : (a b : Bool) → (not a && b) ≡ true → a ≡ false
+      first true b g = cc
+      first false b g = refl
+
+  far : m ≡ going_up_to s v w.block st
+  far = h.makes.evicted (provided st) stands.at.groups (length st.sets) (last_provided s acts)
+      ∙ as_far (length st.sets) (slots_of s v) (group_of s v) v w.block (in_progress st) st.course.agenda st.volumes (all_unnamed s acts) (free_volume s acts v unheld)
+
+  cleared_groups : AreGroups device.told s q.groups (of base.volumes)
+  cleared_groups = subst (AreGroups device.told s q.groups)
+      (ap (λ (k : ℕ). gone_up_to k (group_of s v) (provided st)) far ∙ gone_provided (going_up_to s v w.block st) (group_of s v) (in_progress st) st.course.agenda st.volumes)
+      (h.makes.stands (provided st) stands.at.groups)
+
+  put_groups : AreGroups device.told s r.groups (of (put_if done v w base.volumes))
+  put_groups = subst (AreGroups device.told s r.groups) (put_provided done v w (in_progress st) st.course.agenda base.volumes) (h.puts.stands (of base.volumes) cleared_groups)
+
+  prepares : IsPrepared r st
+  prepares = prepared_same q r st h.rest (prepared_same p q st h.makes.rest stands.at.prepared)
+
+  cleared_keeps : Keeps x base
+  cleared_keeps =
+      let k = stands.at.sessions in
+      record { session = k.session; made = k.made; course = k.course; sets = k.sets; clock = k.clock; explicit = k.explicit; over = k.over; on_time = k.on_time; disabled = k.disabled }
+
+  cleared_plan : IsInPlan s base
+  cleared_plan = let k = stands.at.plan in record { sets = k.sets; agenda = k.agenda; members = k.members; disabled = k.disabled }
+
+  gone : f ≡ evicted_for s st v w.block
+  gone = h.makes.kept st stands.at.sessions (provided st) stands.at.groups
+      ∙ ap (λ (k : ℕ). filter (λ (i : Evicted). is_kept_set st i.set) (images_going k (group_of s v) (provided st))) far
+      ∙ evicted_is s v w.block st (orderly s acts).numbered (up_to_most _ (length st.sets))
+
+  abbrev IsAnswered : Type 0
+  IsAnswered = LineComes device.told s lane op (told_if done) tells r x l f st
 
   -- no image of the set in progress went
-  kept_on : set_loses_image (in_progress (state s acts)) (state s acts).volumes (cleared s v w.block (state s acts)).volumes ≡ false
-      → LineComes blocks_told s lane op (told_if done.fault) (tells_of blocks_told s (devices_of p.groups)) q x l f (state s acts)
+  kept_on : set_loses_image (in_progress st) st.volumes base.volumes ≡ false → IsAnswered
   kept_on no_loss = record {
-    on = is.on (state s acts) ∙ on;
-    allowed = is.allowed done.fault (state s acts);
-    said = reply_of_mark (mark_of (told_if done.fault));
-    next = put v w (mark_of (told_if done.fault)) (cleared s v w.block (state s acts));
-    is = is.is_write (mark_of (told_if done.fault)) (state s acts) ∙ written_is s v w (mark_of (told_if done.fault)) (state s acts) (cleared s v w.block (state s acts)) (ap (λ (t : Bool). with_room_if t (cleared s v w.block (state s acts))) no_loss);
-    fits = said_fits (tells_of blocks_told s (devices_of p.groups)) done.fault;
-    lists = λ rows are. said_lists done.fault l rows;
-    evicts = gone acts stands.at.sessions stands.at.groups ∙ sym (is.target (state s acts));
-    nobody = is.nobody (state s acts);
-    sets = put_sets done.fault v w (cleared s v w.block (state s acts));
-    parts = put_parts blocks_told p q x s done.fault v w (cleared s v w.block (state s acts)) cleared_keeps cleared_plan room;
+    on = h.is.on st ∙ on;
+    allowed = h.is.allowed done st;
+    said = reply_of_mark mark;
+    next = put v w mark base;
+    is = h.is.is_write mark st ∙ written_is s v w mark st base (ap (λ (t : Bool). with_room_if t base) no_loss);
+    fits = said_fits tells done;
+    lists = λ rows are. said_lists done l rows;
+    evicts = gone ∙ sym (h.is.target st);
+    nobody = h.is.nobody st;
+    sets = put_sets done v w base;
+    parts = put_parts device.told r x s done v w base cleared_keeps cleared_plan (record { volumes = prepares.volumes; set = prepares.set; distinct = prepares.distinct }) put_groups;
   }
 
-  pub no_set : None ≡ current_of x.sets → LineComes blocks_told s lane op (told_if done.fault) (tells_of blocks_told s (devices_of p.groups)) q x l f (state s acts)
+  pub no_set : None ≡ current_of x.sets → IsAnswered
   no_set c =
-      let none : in_progress (state s acts) ≡ None = none_current (in_progress (state s acts)) (c ∙ ap current_of stands.at.sessions.sets) in
-      kept_on (ap (λ (o : Option SetRow). set_loses_image o (state s acts).volumes (cleared s v w.block (state s acts)).volumes) none)
+      let none : in_progress st ≡ None = none_current (in_progress st) (c ∙ current_kept x st stands.at.sessions) in
+      kept_on (ap (λ (o : Option SetRow). set_loses_image o st.volumes base.volumes) none)
 
   -- the set in progress is the newest
-  newest : (r : SetRow) → in_progress (state s acts) ≡ Some r → r.number ≡ length (state s acts).sets
-  newest r c = let o = orderly s acts in let n = newest_number 1 (state s acts).sets r o.numbered o.newest c in omega (arith, n)
+  newest : (a : SetRow) → in_progress st ≡ Some a → a.number ≡ length st.sets
+  newest a c = let o = orderly s acts in let n = newest_number 1 st.sets a o.numbered o.newest c in omega (arith, n)
 
-  pub other_set : (n : ℕ) → Some n ≡ current_of x.sets → (m ≡ n → ⊥) → LineComes blocks_told s lane op (told_if done.fault) (tells_of blocks_told s (devices_of p.groups)) q x l f (state s acts)
+  pub other_set : (n : ℕ) → Some n ≡ current_of x.sets → (m ≡ n → ⊥) → IsAnswered
   other_set n c apart =
-      let r = some_current (in_progress (state s acts)) n (c ∙ ap current_of stands.at.sessions.sets) in
-      let number = newest r.0 r.1 in
-      let most = up_to_most _ (length (state s acts).sets) in
-      let less : going_up_to s v w.block (state s acts) < r.0.number = below m n (going_up_to s v w.block (state s acts)) r.0.number (length (state s acts).sets) apart same_far r.2 number most in
-      kept_on (ap (λ (o : Option SetRow). set_loses_image o (state s acts).volumes (cleared s v w.block (state s acts)).volumes) r.1 ∙ not_lost (going_up_to s v w.block (state s acts)) r.0.number (group_of s v) (state s acts).volumes less)
+      let a = some_current (in_progress st) n (c ∙ current_kept x st stands.at.sessions) in
+      let most = up_to_most _ (length st.sets) in
+      let less : going_up_to s v w.block st < a.0.number = below m n (going_up_to s v w.block st) a.0.number (length st.sets) apart far a.2 (newest a.0 a.1) most in
+      kept_on (ap (λ (o : Option SetRow). set_loses_image o st.volumes base.volumes) a.1 ∙ not_lost (going_up_to s v w.block st) a.0.number (group_of s v) st.volumes less)
     where
       below : (m n k r l : ℕ) → (m ≡ n → ⊥) → m ≡ k → r ≡ n → r ≡ l → k ≤ l → k < r
       below m n k r l apart e f g h = grind (arith, apart)
 
-  loses : (r : SetRow) → in_progress (state s acts) ≡ Some r → m ≡ r.number → has_lost_image r.number (state s acts).volumes (cleared s v w.block (state s acts)).volumes ≡ true
-  loses r c same =
-      let number = newest r c in
-      let row = there s.volumes v block.0 in
+  loses : (a : SetRow) → in_progress st ≡ Some a → m ≡ a.number → has_lost_image a.number st.volumes base.volumes ≡ true
+  loses a c same =
+      let number = newest a c in
+      let row = slice_get_inside s.volumes v h.block.0 in
       let group : group_of s v ≡ map (placed row.0.group) s.volumes = ap (placed_in s.volumes) row.1 in
-      let at : slice_get (group_of s v) v ≡ Some (placed row.0.group row.0) = ap (λ (ps : List Placed). slice_get ps v) group ∙ placed_at row.0.group v s.volumes row.0 row.1 in
-      let all = length (state s acts).sets in
-      let far_all : going_up_to s v w.block (state s acts) ≡ all = sym same_far ∙ same ∙ number in
-      let lost_image : has_lost_image all (state s acts).volumes (gone_up_to all (group_of s v) (state s acts).volumes) ≡ true =
-      lost_at all (slots_of s v) v w.block (group_of s v) (state s acts).volumes (placed row.0.group row.0) (found_some (λ q. is_running q.result) (state s acts).sets r c) at (own_number row.0.group) (all_up s acts) far_all in
-      ap (λ (n : ℕ). has_lost_image n (state s acts).volumes (cleared s v w.block (state s acts)).volumes) number
-      ∙ ap (λ (k : ℕ). has_lost_image all (state s acts).volumes (gone_up_to k (group_of s v) (state s acts).volumes)) far_all ∙ lost_image
+      let at : slice_get (group_of s v) v ≡ Some (placed row.0.group row.0) = ap (λ (ps : List Placed). slice_get ps v) group ∙ slice_get_map (placed row.0.group) s.volumes v row.0 row.1 in
+      let all = length st.sets in
+      let far_all : going_up_to s v w.block st ≡ all = sym far ∙ same ∙ number in
+      let some = found_some (λ q. is_running q.result) st.sets a c in
+      let lost_image : has_lost_image all st.volumes (gone_up_to all (group_of s v) st.volumes) ≡ true =
+      lost_at all (slots_of s v) v w.block (group_of s v) st.volumes (placed row.0.group row.0) some at (own_number row.0.group) (all_up s acts) far_all in
+      ap (λ (n : ℕ). has_lost_image n st.volumes base.volumes) number ∙ ap (λ (k : ℕ). has_lost_image all st.volumes (gone_up_to k (group_of s v) st.volumes)) far_all ∙ lost_image
 
   -- the image of the set in progress went, and the set failed
-  pub own_set : (n k : ℕ) (y : SessionsValue) (r : ProviderValue D) → Some n ≡ current_of x.sets → m ≡ n → IsFailed x y InsufficientStorage → AreWithout blocks_told size count lending q.groups r.groups n k
-      → Comes blocks_told s (Line lane op) (record { told = told_if done.fault; lost = 0; lost_order = None; set = n; result = Failed InsufficientStorage }) (tells_of blocks_told s (devices_of p.groups)) r y l f (state s acts)
-  own_set n k y r c same fails without =
-      let a = some_current (in_progress (state s acts)) n (c ∙ ap current_of stands.at.sessions.sets) in
-      let st = state s acts in
-      let mark = mark_of (told_if done.fault) in
-      let base = cleared s v w.block st in
+  pub own_set : {n k : ℕ} {y : SessionsValue} {z : ProviderValue D} → Some n ≡ current_of x.sets → m ≡ n → IsFailed x y InsufficientStorage → AreWithout device r.groups z.groups r.set k
+      → z ≡ record { groups = z.groups; set = 0; volumes = [] } → Comes device.told s (Line lane op) (outcome_as done n (Failed InsufficientStorage)) tells z y l f st
+  own_set {n = n} {y = y} {z = z} c same fails without ended =
+      let a = some_current (in_progress st) n (c ∙ current_kept x st stands.at.sessions) in
       let over = failed_in (Some a.0) InsufficientStorage base in
-      let lost_own = ap (λ (o : Option SetRow). set_loses_image o st.volumes base.volumes) a.1 ∙ loses a.0 a.1 (same ∙ sym a.2) in
-      let here : with_room s v w.block st ≡ over = ap (λ (t : Bool). with_room_if t base) lost_own ∙ ap (λ (o : Option SetRow). failed_in o InsufficientStorage base) a.1 in
-      let done_line : line s lane op mark st ≡ (reply_of_mark mark, put v w mark over) = is.is_write mark st ∙ written_is s v w mark st over here in
-      let ready = is.on st ∙ on in
-      let to : after s st (act_of mark (Line lane op)) ≡ put v w mark over = after_line s st lane op mark ready ∙ ap (λ (z : Replied). z.1) done_line in
+      let lost_own = loses a.0 a.1 (same ∙ sym a.2) in
+      let stood = lost_stood a.0.number st.volumes base.volumes lost_own in
+      let snapshot = image_runs s acts a.0 stood.0 stood.1 a.1 stood.2 in
+      let runs = runs_number a.0 st.course.agenda (ap runs_snapshot snapshot.runs ∙ snapshot.snapshot) in
+      let number_is : r.set ≡ a.0.number = prepares.set ∙ ap (λ (o : Option SetRow). number_prepared o st.course.agenda) a.1 ∙ runs in
+      let lost_image = ap (λ (o : Option SetRow). set_loses_image o st.volumes base.volumes) a.1 ∙ lost_own in
+      let here : with_room s v w.block st ≡ over = ap (λ (t : Bool). with_room_if t base) lost_image ∙ ap (λ (o : Option SetRow). failed_in o InsufficientStorage base) a.1 in
+      let done_line : line s lane op mark st ≡ (reply_of_mark mark, put v w mark over) = h.is.is_write mark st ∙ written_is s v w mark st over here in
+      let ready = h.is.on st ∙ on in
+      let to : after s st (act_of mark (Line lane op)) ≡ put v w mark over = after_line s st lane op mark ready ∙ ap (λ (t : Replied). t.1) done_line in
       let order = in_order s acts in
       let base_order : IsInOrder base = record { numbered = order.numbered; newest = order.newest; session = order.session } in
       let keeps : Keeps y over = subst (λ (o : Option SetRow). Keeps y (failed_in o InsufficientStorage base)) a.1 (fails base base_order cleared_keeps) in
-      let groups : AreGroups blocks_told s r.groups (put_if done.fault v w over.volumes) =
-      subst (λ (o : Option SetRow). AreGroups blocks_told s r.groups (put_if done.fault v w (images_dropped o base.volumes))) (sym a.1)
-      (subst (λ (j : ℕ). AreGroups blocks_told s r.groups (put_if done.fault v w (map (dropped j) base.volumes))) (sym a.2)
-      (subst (λ (hs : List History). AreGroups blocks_told s r.groups hs) (map_put done.fault v w n base.volumes) (without.stands s (put_if done.fault v w base.volumes) room))) in
+      let none : in_progress over ≡ None = none_after (Some a.0) InsufficientStorage base a.1 in
+      let agenda = st.course.agenda in
+      let wrote = put_if done v w base.volumes in
+      let groups : AreGroups device.told s z.groups (provided_of (in_progress over) over.course.agenda (put_if done v w over.volumes)) =
+      subst (λ (o : Option SetRow). AreGroups device.told s z.groups (provided_of o over.course.agenda (put_if done v w over.volumes))) (sym none)
+      (subst (λ (o : Option SetRow). AreGroups device.told s z.groups (put_if done v w (images_dropped o base.volumes))) (sym a.1)
+      (subst (AreGroups device.told s z.groups)
+      (ap (λ (j : ℕ). map (dropped j) (of wrote)) number_is ∙ ap (λ (o : Option SetRow). map (dropped a.0.number) (provided_of o agenda wrote)) a.1
+      ∙ dropped_provided a.0 agenda wrote ∙ map_put done v w a.0.number base.volumes)
+      (without.stands s (of wrote) put_groups))) in
       let ends : ended_of (in_progress st) (put v w mark over).sets ≡ Some (record a.0 { result = Failed InsufficientStorage }) =
-      ap (λ (o : Option SetRow). ended_of o (put v w mark over).sets) a.1 ∙ ap (ended_of (Some a.0)) (put_sets done.fault v w over) ∙ failed_ends a.0 InsufficientStorage base order.numbered a.1 in
+      ap (λ (o : Option SetRow). ended_of o (put v w mark over).sets) a.1 ∙ ap (ended_of (Some a.0)) (put_sets done v w over)
+      ∙ failed_ends a.0 InsufficientStorage base order.numbered a.1 in
       let number = newest a.0 a.1 in
-      let some = found_some (λ z. is_running z.result) st.sets a.0 a.1 in
+      let some = found_some (λ t. is_running t.result) st.sets a.0 a.1 in
       let same_number = a.2 in
+      let said : (line s lane op mark st).0 ≡ reply_of_mark mark = ap (λ (t : Replied). t.0) done_line in
       record {
         is_enabled = ready;
-        is_allowed = is.allowed done.fault st;
+        is_allowed = h.is.allowed done st;
         outcome = λ rows are. record {
-          fits = subst (λ (z : Reply). Fits (tells_of blocks_told s (devices_of p.groups)) z (told_if done.fault)) (sym (ap (λ (z : Replied). z.0) done_line)) (said_fits (tells_of blocks_told s (devices_of p.groups)) done.fault);
-          lists = subst (λ (z : Reply). HasLists z l rows) (sym (ap (λ (z : Replied). z.0) done_line)) (said_lists done.fault l rows);
-          evicts = gone acts stands.at.sessions stands.at.groups ∙ sym (is.target st);
-          loses = new-is ∙ sym (is.nobody st);
-          order = sym (ap (λ (ws : List ℕ). lost_order_if ws (order_now (left_now st))) (is.nobody st));
-          ends = subst (λ (o : Option SetRow). EndsAs o n (Failed InsufficientStorage)) (sym (ap (λ (z : State). ended_of (in_progress st) z.sets) to ∙ ends)) (sym a.2, refl, omega (arith, number, some, same_number));
+          fits = subst (λ (t : Reply). Fits tells t (told_if done)) (sym said) (said_fits tells done);
+          lists = subst (λ (t : Reply). HasLists t l rows) (sym said) (said_lists done l rows);
+          evicts = gone ∙ sym (h.is.target st);
+          loses = new-is ∙ sym (h.is.nobody st);
+          order = sym (ap (λ (ws : List ℕ). lost_order_if ws (order_now (left_now st))) (h.is.nobody st));
+          ends = subst (λ (o : Option SetRow). EndsAs o n (Failed InsufficientStorage)) (sym (ap (λ (t : State). ended_of (in_progress st) t.sets) to ∙ ends))
+              (sym a.2, refl, omega (arith, number, some, same_number));
         };
-        parts = subst (λ (z : State). Parts blocks_told r y s z) (sym to)
-            (put_parts blocks_told q r y s done.fault v w over keeps
-            (in_failed_in s (Some a.0) InsufficientStorage base cleared_plan) groups);
+        parts = subst (λ (t : State). Parts device.told z y s t) (sym to)
+            (put_parts device.told z y s done v w over keeps (in_failed_in s (Some a.0) InsufficientStorage base cleared_plan)
+            (prepared_none z over (ap (λ (t : ProviderValue D). t.volumes) ended) (ap (λ (t : ProviderValue D). t.set) ended) none) groups);
       }
 
 -- ## moves
 
-pub kept_moves : {D : Type 0} (blocks_told : D → Option (List (List ℕ))) (size count : D → ℕ) (lending : D → Bool) (s : Plan) (lane v : ℕ) (op : Op) (w : Write) (done : PutResult) (p q : ProviderValue D) (x : SessionsValue) (l : List ℕ) (e f : List Evicted)
-    → IsOf (world_of p x l e) s → IsWriting s lane op v w → IsPut blocks_told size count lending s p.groups q.groups v w done
-    → ((acts : List Act) → Stands blocks_told (world_of p x l e) s acts → LineComes blocks_told s lane op (told_if done.fault) (tells_of blocks_told s (devices_of p.groups)) q x l f (state s acts))
-    → IsMoved blocks_told count (world_of p x l e) (world_of q x l f) s (Line lane op) (simple_outcome (told_if done.fault))
-kept_moves blocks_told size count lending s lane v op w done p q x l e f of is puts comes =
-    line_moves blocks_told count s lane op (told_if done.fault) p q x l l e f
-    (put_devices blocks_told size count lending s lane v op 0 Running done.fault p q q x x l l e f of of.writers is.of_volume puts.call.kept refl puts.cause) comes
+module _ {D : Type 0} {device : Ghosts D} {s : Plan} {lane : ℕ} {op : Op} {v : ℕ} {w : Write} {done : Result Unit Cause} {m : ℕ} {p q r : ProviderValue D} {x : SessionsValue} {l : List ℕ}
+    {e f : List Evicted}
+    (h : IsMade device s lane op v w done m p q r x f) (of : IsOf (world_of p x l e) s) where
+  pub kept_moves : ((acts : List Act) → Stands device.told (world_of p x l e) s acts
+      → LineComes device.told s lane op (told_if done) (tells_of device.told s (devices_of p.groups)) r x l f (state s acts))
+      → IsMoved device.told device.count (world_of p x l e) (world_of r x l f) s (Line lane op) (simple_outcome (told_if done))
+  kept_moves comes = line_moves device.told device.count s lane op (told_if done) p r x l l e f (put_devices 0 Running done h of of.writers (kept_same device r.groups) refl) comes
 
-pub lost_moves : {D : Type 0} (blocks_told : D → Option (List (List ℕ))) (size count : D → ℕ) (lending : D → Bool) (s : Plan) (lane v : ℕ) (op : Op) (w : Write) (done : PutResult) (n k : ℕ) (p q r : ProviderValue D) (x y : SessionsValue) (l : List ℕ) (e f : List Evicted)
-    → IsOf (world_of p x l e) s → IsWriting s lane op v w → IsPut blocks_told size count lending s p.groups q.groups v w done → AreWithout blocks_told size count lending q.groups r.groups n k → Leaves x y → y.clock ≡ x.clock
-    → ((acts : List Act) → Stands blocks_told (world_of p x l e) s acts
-    → Comes blocks_told s (Line lane op) (record { told = told_if done.fault; lost = 0; lost_order = None; set = n; result = Failed InsufficientStorage }) (tells_of blocks_told s (devices_of p.groups)) r y l f (state s acts))
-    → IsMoved blocks_told count (world_of p x l e) (world_of r y l f) s (Line lane op) (record { told = told_if done.fault; lost = 0; lost_order = None; set = n; result = Failed InsufficientStorage })
-lost_moves blocks_told size count lending s lane v op w done n k p q r x y l e f of is puts without leaves clock comes =
-    moved blocks_told count s (Line lane op) (record { told = told_if done.fault; lost = 0; lost_order = None; set = n; result = Failed InsufficientStorage }) p r x y l l e f
-    (put_devices blocks_told size count lending s lane v op n (Failed InsufficientStorage) done.fault p q r x y l l e f of (leaves_of s x y of.writers leaves) is.of_volume
-    (kept_trans blocks_told size count lending p.groups q.groups r.groups puts.call.kept without.kept) (ap (map count) without.devices) puts.cause)
-    (goes_on x y leaves (let c = clock in omega (arith, c))) comes
+  pub lost_moves : {n k : ℕ} {y : SessionsValue} {z : ProviderValue D} → AreWithout device r.groups z.groups r.set k → Leaves x y
+      → ((acts : List Act) → Stands device.told (world_of p x l e) s acts
+      → Comes device.told s (Line lane op) (outcome_as done n (Failed InsufficientStorage)) (tells_of device.told s (devices_of p.groups)) z y l f (state s acts))
+      → IsMoved device.told device.count (world_of p x l e) (world_of z y l f) s (Line lane op) (outcome_as done n (Failed InsufficientStorage))
+  lost_moves {n = n} {y = y} {z = z} without leaves comes =
+      moved device.told device.count s (Line lane op) (outcome_as done n (Failed InsufficientStorage)) p z x y l l e f
+      (put_devices n (Failed InsufficientStorage) done h of (leaves_of s x y of.writers leaves) without.kept without.devices) (goes_on x y leaves) comes
 
--- ## whether it may go
-
-may : (s : Plan) (st : State) (lane v : ℕ) (held : Bool) (o : Option ℕ) → is_held st v ≡ held → acts_as s lane ≡ o → may_write s st lane v ≡ (not held && is_free st o)
-may s st lane v held o f e = ap (λ (t : Bool). not t && is_free st (acts_as s lane)) f ∙ ap (λ (w : Option ℕ). not held && is_free st w) e
-
--- a volume that is held waits, whoever writes
-pub held_waits : {D : Type 0} (blocks_told : D → Option (List (List ℕ))) (s : Plan) (lane v : ℕ) (held : Bool) (p : ProviderValue D) (x : SessionsValue) (l : List ℕ) (e : List Evicted) → ((st : State) → Keeps x st → held ≡ is_held st v) → held ≡ true
-    → IfStands blocks_told (world_of p x l e) s (λ st. false ≡ may_write s st lane v)
-held_waits blocks_told s lane v held p x l e is says acts stands = sym (may s (state s acts) lane v true (acts_as s lane) (sym (is (state s acts) stands.at.sessions) ∙ says) refl)
-
--- else a lane that acts as nobody writes
-pub alone_goes : {D : Type 0} (blocks_told : D → Option (List (List ℕ))) (s : Plan) (lane v : ℕ) (held : Bool) (p : ProviderValue D) (x : SessionsValue) (l : List ℕ) (e : List Evicted) → acts_as s lane ≡ None → ((st : State) → Keeps x st → held ≡ is_held st v) → held ≡ false
-    → IfStands blocks_told (world_of p x l e) s (λ st. true ≡ may_write s st lane v)
-alone_goes blocks_told s lane v held p x l e alone is says acts stands = sym (may s (state s acts) lane v false None (sym (is (state s acts) stands.at.sessions) ∙ says) alone)
-
--- and one that acts as a writer, where that is not frozen
-pub writer_goes : {D : Type 0} (blocks_told : D → Option (List (List ℕ))) (s : Plan) (lane v w : ℕ) (held frozen : Bool) (p : ProviderValue D) (x : SessionsValue) (l : List ℕ) (e : List Evicted) → acts_as s lane ≡ Some w → ((st : State) → Keeps x st → held ≡ is_held st v) → held ≡ false
-    → ((st : State) → Keeps x st → frozen ≡ is_frozen st w) → IfStands blocks_told (world_of p x l e) s (λ st. not frozen ≡ may_write s st lane v)
-writer_goes blocks_told s lane v w held frozen p x l e acting is says stands_frozen acts stands =
-    ap not (stands_frozen (state s acts) stands.at.sessions) ∙ sym (may s (state s acts) lane v false (Some w) (sym (is (state s acts) stands.at.sessions) ∙ says) acting)
-
-pub free_to_write : {D : Type 0} (blocks_told : D → Option (List (List ℕ))) (s : Plan) (lane v : ℕ) (b : Bool) (p : ProviderValue D) (x : SessionsValue) (l : List ℕ) (e : List Evicted) (acts : List Act) → IfStands blocks_told (world_of p x l e) s (λ st. b ≡ may_write s st lane v) → b ≡ true
-    → Stands blocks_told (world_of p x l e) s acts → may_write s (state s acts) lane v ≡ true
-free_to_write blocks_told s lane v b p x l e acts says is stands = sym (says acts stands) ∙ is
-
-pub write_waits : {D : Type 0} (blocks_told : D → Option (List (List ℕ))) (s : Plan) (lane v : ℕ) (op : Op) (w : Write) (b : Bool) (p : ProviderValue D) (x : SessionsValue) (l : List ℕ) (e : List Evicted) → IsWriting s lane op v w
-    → IfStands blocks_told (world_of p x l e) s (λ st. b ≡ may_write s st lane v) → b ≡ false → IsBlocked blocks_told (world_of p x l e) (world_of p x l e) s (Line lane op)
-write_waits blocks_told s lane v op w b p x l e is_writing says is = record {
-  same = refl;
-  not_enabled = λ acts stands. is_writing.on (state s acts) ∙ sym (says acts stands) ∙ is;
-}
-
--- a lane acts as a writer of the scenario
-whom : (lanes : List LanePlan) (lane w n : ℕ) → writer_in (slice_get lanes lane) ≡ Some w → ((k : ℕ) (d : LanePlan) → k < length lanes → IfSome (slice_index_or lanes k d).acts_as (λ x. x < n)) → w < n
-whom [] lane w n e all = cc
-whom (l ∷ lanes) zero w n e all = given l.acts_as (all 0 l (omega arith)) e
-  where
-    given : (o : Option ℕ) → IfSome o (λ x. x < n) → o ≡ Some w → w < n
-    given None h f = cc
-    given (Some x) h f = let same : x ≡ w = cc in omega (arith, h, same)
-whom (l ∷ lanes) (suc lane) w n e all = whom lanes lane w n e (λ k d inside. all (suc k) d (omega (arith, inside)))
-
-pub acts_within : (s : Plan) (lane w count : ℕ) → IsPlan s → acts_as s lane ≡ Some w → count ≡ length s.writers → w < count
-acts_within s lane w count plan e is = let inside = whom s.lanes lane w (length s.writers) e (λ k d within. (plan.lanes k d within).whom) in omega (arith, inside, is)
+-- the volume is held, or the writer is frozen: the line waits
+pub write_waits : {D : Type 0} {told : D → Option (List (List ℕ))} {s : Plan} {lane : ℕ} {op : Op} {v : ℕ} {w : Write} {b : Bool} {x : WorldValue D} → IsWriting s lane op v w
+    → IfStands told x s (λ st. b ≡ may_write s st lane v) → b ≡ false → IsBlocked told x x s (Line lane op)
+write_waits {s = s} writes says is = record { same = refl; not_enabled = λ acts stands. writes.on (state s acts) ∙ sym (says acts stands) ∙ is }

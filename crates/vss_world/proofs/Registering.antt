@@ -6,7 +6,6 @@ use Rattle.std.specs.Str.{bytes_eq}
 use Rattle.std.proofs.lemmas.Slice.Eq.{bytes_eq-Decides}
 use Rattle.std.proofs.lemmas.Iterator.Adapters.{position_from-zero}
 use Rattle.std.proofs.lemmas.List.{take_all}
-use Rattle.std.proofs.lemmas.Option.{slice_get_within, get_or_from_slice_get}
 use Rattle.std.proofs.lemmas.Simd.{map-map}
 use Rattle.writer_meta.specs.declared.metadata.Metadata.{Metadata}
 use Rattle.writer_meta.specs.Metadata.{Meta, meta_of}
@@ -18,7 +17,6 @@ use Rattle.coordinator.specs.Coordinator.{CoordinatorState, Registered, Stands, 
 use Rattle.scenario.specs.declared.span.Span.{Span}
 use Rattle.scenario.specs.Fields.{bytes_of}
 use Rattle.scenario.specs.Plan.{Plan, WriterPlan, token}
-use Rattle.scenario.specs.Bounds.{IsPlan, IsSpan, IsWriter}
 use Rattle.scenario.specs.Named.{HasNames, Differ, Distinct, writer_spans}
 use Rattle.vss_model.specs.State.{start, row_of_writer}
 use Rattle.sessions.specs.Keeps.{SessionsValue, Keeps, classes_registered}
@@ -38,12 +36,6 @@ writer_at s k span (Some w) at e = record { writer = w; at = at; name = cc }
 meta_at : (found : Option WriterPlan) (w : WriterPlan) (m : Meta) → found ≡ Some w → option_map (λ (x : WriterPlan). x.meta) found ≡ Some m → m ≡ w.meta
 meta_at found w m at e = let same : Some m ≡ Some w.meta = sym e ∙ ap (option_map (λ (x : WriterPlan). x.meta)) at in cc
 
-pub name_is_span : (s : Plan) (k : ℕ) (span : Span) → IsPlan s → option_map (λ (w : WriterPlan). w.name) (slice_get s.writers k) ≡ Some span → IsSpan s span
-name_is_span s k span plan e =
-    let w = writer_at s k span (slice_get s.writers k) refl e in
-    let is : IsWriter s w.writer = subst (IsWriter s) (get_or_from_slice_get s.writers k w.writer w.writer w.at) (plan.writers k w.writer (slice_get_within s.writers k w.writer w.at)) in
-    subst (IsSpan s) w.name is.name.is_span
-
 -- ## no two have one name
 
 swapped : (a b : List ℕ) → bytes_eq a b ≡ false → bytes_eq b a ≡ false
@@ -56,20 +48,24 @@ swapped a b e = by_answer (bytes_eq b a) refl
     by_answer true f = absurd (both_ways (bytes_eq a b) ((bytes_eq-Decides a b).1 (sym ((bytes_eq-Decides b a).0 f))) e)
     by_answer false f = refl
 
-differs : (text : List ℕ) (first : Span) (ws : List WriterPlan) (k : ℕ) (w : WriterPlan) → slice_get ws k ≡ Some w → Differ text first (writer_spans ws) → bytes_eq (bytes_of text first) (bytes_of text w.name) ≡ false
+differs : (text : List ℕ) (first : Span) (ws : List WriterPlan) (k : ℕ) (w : WriterPlan) → slice_get ws k ≡ Some w → Differ text first (writer_spans ws)
+    → bytes_eq (bytes_of text first) (bytes_of text w.name) ≡ false
 differs text first [] k w at h = cc
 differs text first (p ∷ ws) zero w at h = let same : p ≡ w = cc in subst (λ (z : WriterPlan). bytes_eq (bytes_of text first) (bytes_of text z.name) ≡ false) same h.0
 differs text first (p ∷ ws) (suc k) w at h = differs text first ws k w at h.1
 
 -- none of the first k has the name of the writer after them
-apart_from : (s : Plan) (ws : List WriterPlan) (k : ℕ) (w : WriterPlan) (n : ℕ) → slice_get ws k ≡ Some w → Distinct s.source (writer_spans ws) → position_from (λ (r : Registered). bytes_eq (token s w.name) r.name) n (map (registered_as s) (take k ws)) ≡ None
+apart_from : (s : Plan) (ws : List WriterPlan) (k : ℕ) (w : WriterPlan) (n : ℕ) → slice_get ws k ≡ Some w → Distinct s.source (writer_spans ws)
+    → position_from (λ (r : Registered). bytes_eq (token s w.name) r.name) n (map (registered_as s) (take k ws)) ≡ None
 apart_from s [] k w n at h = cc
 apart_from s (p ∷ ws) zero w n at h = refl
 apart_from s (p ∷ ws) (suc k) w n at h =
-    ap (λ (b : Bool). if b then Some n else position_from (λ (r : Registered). bytes_eq (token s w.name) r.name) (n + 1) (map (registered_as s) (take k ws))) (swapped (token s p.name) (token s w.name) (differs s.source p.name ws k w at h.0))
+    ap (λ (b : Bool). if b then Some n else position_from (λ (r : Registered). bytes_eq (token s w.name) r.name) (n + 1) (map (registered_as s) (take k ws)))
+    (swapped (token s p.name) (token s w.name) (differs s.source p.name ws k w at h.0))
     ∙ apart_from s ws k w (n + 1) at h.1
 
-pub no_double : (s : Plan) (k : ℕ) (x : CoordinatorState) (span : Span) (name : List ℕ) (result : Result ℕ RegisterFault) (at : ℕ) → HasNames s → HasRegistered s k x → option_map (λ (w : WriterPlan). w.name) (slice_get s.writers k) ≡ Some span
+pub no_double : (s : Plan) (k : ℕ) (x : CoordinatorState) (span : Span) (name : List ℕ) (result : Result ℕ RegisterFault) (at : ℕ) → HasNames s → HasRegistered s k x
+    → option_map (λ (w : WriterPlan). w.name) (slice_get s.writers k) ≡ Some span
     → name ≡ token s span → double_of result ≡ place_of name x.writers → double_of result ≡ Some at → ⊥
 no_double s k x span name result at names before e is says double =
     let w = writer_at s k span (slice_get s.writers k) refl e in
@@ -89,39 +85,41 @@ more f [] k x at = cc
 more f (y ∷ ys) zero x at = let same : y ≡ x = cc in ap (λ z. f z ∷ []) same
 more f (y ∷ ys) (suc k) x at = ap (λ zs. f y ∷ zs) (more f ys k x at)
 
-pub registers : (s : Plan) (k : ℕ) (old new : CoordinatorState) (span : Span) (name : List ℕ) (found given : Metadata) → HasRegistered s k old → option_map (λ (w : WriterPlan). w.name) (slice_get s.writers k) ≡ Some span
+pub registers : (s : Plan) (k : ℕ) (old new : CoordinatorState) (span : Span) (name : List ℕ) (found given : Metadata) → HasRegistered s k old
+    → option_map (λ (w : WriterPlan). w.name) (slice_get s.writers k) ≡ Some span
     → option_map (λ (w : WriterPlan). w.meta) (slice_get s.writers k) ≡ Some (meta_of found) → meta_of given ≡ meta_of found → name ≡ token s span
-    → ((c : Course) → Stands old c → Stands new (registered_in given.level given.freeze_timeout c)) → new.writers ≡ old.writers ++ record { name = name; class = given.class } ∷ [] → writer_count new ≡ writer_count old + 1
+    → ((c : Course) → Stands old c → Stands new (registered_in given.level given.freeze_timeout c)) → new.writers ≡ old.writers ++ record { name = name; class = given.class } ∷ []
+    → writer_count new ≡ writer_count old + 1
     → ((now : ℕ) → IsOnTime now old → IsOnTime now new) → new.posts ≡ old.posts → HasRegistered s (k + 1) new
 registers s k old new span name found given before e meta copied is stands writers count times posts =
     let w = writer_at s k span (slice_get s.writers k) refl e in
     let same : meta_of given ≡ w.writer.meta = copied ∙ meta_at (slice_get s.writers k) w.writer (meta_of found) w.at meta in
     let row : first_row given.level given.freeze_timeout ≡ row_of_writer w.writer = ap (λ (m : Meta). first_row m.level m.freeze_timeout) same in
     let rows : map row_of_writer (take k s.writers) ++ first_row given.level given.freeze_timeout ∷ [] ≡ map row_of_writer (take (k + 1) s.writers) =
-    ap (λ (r : WriterRow). map row_of_writer (take k s.writers) ++ r ∷ []) row ∙ sym (more row_of_writer s.writers k w.writer w.at) ∙ ap (λ n. map row_of_writer (take n s.writers)) (sym (add-one k)) in
+    ap (λ (r : WriterRow). map row_of_writer (take k s.writers) ++ r ∷ []) row ∙ sym (more row_of_writer s.writers k w.writer w.at)
+    ∙ ap (λ n. map row_of_writer (take n s.writers)) (sym (add-one k)) in
     let entry : record { name = name; class = given.class } ≡ registered_as s w.writer =
     ap (λ (z : List ℕ). record { name = z; class = given.class }) (is ∙ ap (token s) (sym w.name)) ∙ ap (λ (m : Meta). record { name = token s w.writer.name; class = m.class }) same in
     record {
       stands = subst (λ (rs : List WriterRow). Stands new (course_start rs)) rows (stands (course_start (map row_of_writer (take k s.writers))) before.stands);
-      writers = writers ∙ ap (λ (rs : List Registered). rs ++ record { name = name; class = given.class } ∷ []) before.writers ∙ ap (λ (r : Registered). map (registered_as s) (take k s.writers) ++ r ∷ []) entry
+      writers = writers ∙ ap (λ (rs : List Registered). rs ++ record { name = name; class = given.class } ∷ []) before.writers
+          ∙ ap (λ (r : Registered). map (registered_as s) (take k s.writers) ++ r ∷ []) entry
           ∙ sym (more (registered_as s) s.writers k w.writer w.at) ∙ ap (λ n. map (registered_as s) (take n s.writers)) (sym (add-one k));
       count = count ∙ ap (λ n. n + 1) before.count;
       times = times 0 before.times;
       posts = posts ∙ before.posts;
     }
 
--- before the first
-pub none_registered : (s : Plan) (x : CoordinatorState) → Stands x (course_start []) → x.writers ≡ [] → writer_count x ≡ 0 → ((now : ℕ) → IsOnTime now x) → x.posts ≡ 0 → HasRegistered s 0 x
-none_registered s x stands writers count times posts = record { stands = stands; writers = writers; count = count; times = times 0; posts = posts }
-
 -- after the last
-pub all_registered : (s : Plan) (k : ℕ) (x : SessionsValue) (c : CoordinatorState) → length s.writers ≤ k → k ≤ length s.writers → HasRegistered s k c → ((t : Plan) → Stands c (start t).course → Keeps x (start t)) → x.coordinator ≡ c → x.clock ≡ 0 → AreFirst s x
+pub all_registered : (s : Plan) (k : ℕ) (x : SessionsValue) (c : CoordinatorState) → length s.writers ≤ k → k ≤ length s.writers → HasRegistered s k c
+    → ((t : Plan) → Stands c (start t).course → Keeps x (start t)) → x.coordinator ≡ c → x.clock ≡ 0 → AreFirst s x
 all_registered s k x c past within has keeps same clock =
     let all : take k s.writers ≡ s.writers = take_all k s.writers past in
     record {
       keeps = keeps s (subst (λ (ws : List WriterPlan). Stands c (course_start (map row_of_writer ws))) all has.stands);
       writers = record {
-        classes = ap (λ (z : CoordinatorState). classes_registered z.writers) same ∙ ap classes_registered (has.writers ∙ ap (map (registered_as s)) all) ∙ map-map (λ (r : Registered). r.class) (registered_as s) s.writers;
+        classes = ap (λ (z : CoordinatorState). classes_registered z.writers) same ∙ ap classes_registered (has.writers ∙ ap (map (registered_as s)) all)
+            ∙ map-map (λ (r : Registered). r.class) (registered_as s) s.writers;
         count = ap writer_count same ∙ (let count = has.count in omega (arith, count, past, within));
       };
       posts = ap (λ (z : CoordinatorState). z.posts) same ∙ has.posts;

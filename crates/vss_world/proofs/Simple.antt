@@ -9,13 +9,14 @@ use Rattle.set_agenda.specs.Agenda.{order_now}
 use Rattle.set_agenda.proofs.WriterSets.{new-is}
 use Rattle.scenario.specs.declared.op.Op.{Op}
 use Rattle.scenario.specs.Plan.{Plan}
+use Rattle.vss_model.specs.declared.event.Event.{Event}
 use Rattle.vss_model.specs.declared.event.Event.TheVariants.{Line}
 use Rattle.vss_model.specs.declared.told.Told.{Told}
 use Rattle.vss_model.specs.Reply.{Reply}
 use Rattle.vss_model.specs.State.{State, SetRow, left_now, in_progress}
 use Rattle.vss_model.specs.Images.{Replied}
 use Rattle.vss_model.specs.Lines.{line}
-use Rattle.vss_model.specs.Acts.{Act, state, after, after_if, reply, line_enabled, line_allows}
+use Rattle.vss_model.specs.Acts.{Act, state, after, after_if, enabled, happens, reply, line_enabled, line_allows}
 use Rattle.vss_model.specs.Effects.{evicted, lost, lost_order_if, ended_of}
 use Rattle.vss_model.specs.Facts.{NumberedFrom}
 use Rattle.vss_model.specs.Trail.{act_of}
@@ -28,15 +29,21 @@ use Rattle.sessions.specs.Keeps.{SessionsValue}
 use Rattle.vss_world.specs.Devices.{tells_of}
 use Rattle.vss_world.specs.Stands.{Stands}
 use Rattle.vss_world.specs.Moves.{IsMoved, simple_outcome}
+use Rattle.vss_world.specs.Provided.{provided}
 use Rattle.vss_world.proofs.Ends.{none_ends}
+use Rattle.vss_world.proofs.Prepared.{prepared_same}
 use Rattle.vss_world.proofs.Moved.{world_of, Parts, OfDevices, Comes, in_order, goes_nowhere, moved}
 
-pub after_line : (s : Plan) (st : State) (lane : ℕ) (op : Op) (mark : Mark) → line_enabled s st lane op ≡ true → after s st (act_of mark (Line lane op)) ≡ (line s lane op mark st).1
+pub after_on : (s : Plan) (st : State) (event : Event) (mark : Mark) → enabled s st event ≡ true → after s st (act_of mark event) ≡ (happens s event mark st).1
 unfolding after
-after_line s st lane op mark on = ap (λ (t : Bool). after_if t s st (act_of mark (Line lane op))) on
+after_on s st event mark on = ap (λ (t : Bool). after_if t s st (act_of mark event)) on
+
+pub after_line : (s : Plan) (st : State) (lane : ℕ) (op : Op) (mark : Mark) → line_enabled s st lane op ≡ true → after s st (act_of mark (Line lane op)) ≡ (line s lane op mark st).1
+after_line s st lane op mark on = after_on s st (Line lane op) mark on
 
 -- what a line comes to that begins and ends nothing
-pub record LineComes {D : Type 0} (told : D → Option (List (List ℕ))) (s : Plan) (lane : ℕ) (op : Op) (answer : Told) (tells : List Bool) (q : ProviderValue D) (x : SessionsValue) (listed_sets : List ℕ) (evicted_images : List Evicted) (st : State) : Type 0 where
+pub record LineComes {D : Type 0} (told : D → Option (List (List ℕ))) (s : Plan) (lane : ℕ) (op : Op) (answer : Told) (tells : List Bool) (q : ProviderValue D) (x : SessionsValue)
+    (listed_sets : List ℕ) (evicted_images : List Evicted) (st : State) : Type 0 where
   pub on : line_enabled s st lane op ≡ true
   pub allowed : line_allows s st op (mark_of answer) ≡ true
   pub said : Reply
@@ -49,7 +56,8 @@ pub record LineComes {D : Type 0} (told : D → Option (List (List ℕ))) (s : P
   pub sets : next.sets ≡ st.sets
   pub parts : Parts told q x s next
 
-comes_so : {D : Type 0} (told : D → Option (List (List ℕ))) (s : Plan) (lane : ℕ) (op : Op) (answer : Told) (tells : List Bool) (q : ProviderValue D) (x : SessionsValue) (l : List ℕ) (e : List Evicted) (st : State)
+comes_so : {D : Type 0} (told : D → Option (List (List ℕ))) (s : Plan) (lane : ℕ) (op : Op) (answer : Told) (tells : List Bool) (q : ProviderValue D) (x : SessionsValue) (l : List ℕ)
+    (e : List Evicted) (st : State)
     → NumberedFrom 1 st.sets → LineComes told s lane op answer tells q x l e st → Comes told s (Line lane op) (simple_outcome answer) tells q x l e st
 comes_so told s lane op answer tells q x l e st numbered c =
     let to : after s st (told_act (Line lane op) answer) ≡ c.next = after_line s st lane op (mark_of answer) c.on ∙ ap (λ (r : Replied). r.1) c.is in
@@ -68,7 +76,8 @@ comes_so told s lane op answer tells q x l e st numbered c =
       parts = subst (λ (z : State). Parts told q x s z) (sym to) c.parts;
     }
 
-pub line_moves : {D : Type 0} (told : D → Option (List (List ℕ))) (count : D → ℕ) (s : Plan) (lane : ℕ) (op : Op) (answer : Told) (p q : ProviderValue D) (x : SessionsValue) (l k : List ℕ) (e f : List Evicted)
+pub line_moves : {D : Type 0} (told : D → Option (List (List ℕ))) (count : D → ℕ) (s : Plan) (lane : ℕ) (op : Op) (answer : Told) (p q : ProviderValue D) (x : SessionsValue) (l k : List ℕ)
+    (e f : List Evicted)
     → OfDevices told count s (Line lane op) (simple_outcome answer) (world_of p x l e) (world_of q x k f)
     → ((acts : List Act) → Stands told (world_of p x l e) s acts → LineComes told s lane op answer (tells_of told s (devices_of p.groups)) q x k f (state s acts))
     → IsMoved told count (world_of p x l e) (world_of q x k f) s (Line lane op) (simple_outcome answer)
@@ -78,14 +87,18 @@ line_moves told count s lane op answer p q x l k e f devices comes =
 
 -- ## the parts, where at most the volumes change
 
-pub volumes_parts : {D : Type 0} (told : D → Option (List (List ℕ))) (p q : ProviderValue D) (x : SessionsValue) (s : Plan) (st : State) (hs : List History) → Parts told p x s st → AreGroups told s q.groups hs → Parts told q x s (record st { volumes = hs })
-volumes_parts told p q x s st hs parts groups =
+pub volumes_parts : {D : Type 0} (told : D → Option (List (List ℕ))) (p q : ProviderValue D) (x : SessionsValue) (s : Plan) (st : State) (hs : List History) → Parts told p x s st
+    → q ≡ record p { groups = q.groups } → AreGroups told s q.groups (provided (record st { volumes = hs })) → Parts told q x s (record st { volumes = hs })
+volumes_parts told p q x s st hs parts same groups =
     let k = parts.sessions in
+    let d = prepared_same p q st same parts.prepared in
     record {
       groups = groups;
+      prepared = record { volumes = d.volumes; set = d.set; distinct = d.distinct };
       sessions = record { session = k.session; made = k.made; course = k.course; sets = k.sets; clock = k.clock; explicit = k.explicit; over = k.over; on_time = k.on_time; disabled = k.disabled };
       plan = record { sets = parts.plan.sets; agenda = parts.plan.agenda; members = parts.plan.members; disabled = parts.plan.disabled };
     }
 
-pub same_parts : {D : Type 0} (told : D → Option (List (List ℕ))) (p q : ProviderValue D) (x : SessionsValue) (s : Plan) (st : State) → Parts told p x s st → AreGroups told s q.groups st.volumes → Parts told q x s st
-same_parts told p q x s st parts groups = record { groups = groups; sessions = parts.sessions; plan = parts.plan }
+pub same_parts : {D : Type 0} (told : D → Option (List (List ℕ))) (p q : ProviderValue D) (x : SessionsValue) (s : Plan) (st : State) → Parts told p x s st → q ≡ record p { groups = q.groups }
+    → AreGroups told s q.groups (provided st) → Parts told q x s st
+same_parts told p q x s st parts same groups = record { groups = groups; prepared = prepared_same p q st same parts.prepared; sessions = parts.sessions; plan = parts.plan }

@@ -1,204 +1,292 @@
 -- A step of the provider, made or failed: what it comes to.
-use Rattle.std.proofs.Common.{◌≡◌, ℕ, List, [], ◌∷◌, refl, ap, sym, ◌∙◌, subst, Bool, true, false, ◌&&◌, Option, Some, None, inl, map}
-use Rattle.std.specs.Prelude.{not, is_ok, IfSome, OnOk, Result, Ok, Err, slice_get, option_map}
-use Rattle.write_history.specs.declared.evicted.Evicted.{Evicted}
-use Rattle.write_history.specs.declared.mark.Mark.{Mark}
+use Rattle.std.proofs.Common.{◌≡◌, ℕ, ◌<◌, ◌==◌, List, [], ◌∷◌, ◌++◌, refl, ap, sym, ◌∙◌, subst, Bool, true, false, ◌&&◌, Option, Some, None, inl, map}
+use Rattle.std.specs.Prelude.{not, is_ok, IfSome, OnOk, Result, Ok, Err, slice_get}
+use Rattle.volume_device.specs.declared.device.Device.{Ghosts}
 use Rattle.write_history.specs.declared.mark.Mark.TheVariants.{Clean, Fault}
+use Rattle.write_history.specs.declared.evicted.Evicted.{Evicted}
 use Rattle.write_history.specs.History.{History, dropped}
 use Rattle.set_agenda.specs.declared.group.Group.{Group}
-use Rattle.set_agenda.specs.declared.group.Group.TheVariants.{Flush}
-use Rattle.set_agenda.specs.Agenda.{Open, open_group, next_volume, is_orders, is_working}
-use Rattle.set_agenda.specs.Course.{stepped as course_stepped}
-use Rattle.coordinator.specs.Coordinator.{works}
+use Rattle.set_agenda.specs.declared.group.Group.TheVariants.{Orders, Flush, Cut}
+use Rattle.set_agenda.specs.Agenda.{Agenda, plain, open_group, next_volume, is_working, is_snapshot, is_done, groups_left, left, left_from, places, waited_for, with_group}
+use Rattle.set_agenda.specs.declared.kind.Kind.{Kind}
+use Rattle.set_agenda.specs.declared.kind.Kind.TheVariants as kind
+use Rattle.set_agenda.specs.declared.place.Place.{Place}
+use Rattle.vss_names.specs.declared.order.Order.TheVariants.{Identify, PrepareBackup, BackupComplete}
+use Rattle.vss_names.specs.declared.set_outcome.SetOutcome.{SetOutcome}
+use Rattle.vss_names.specs.declared.set_outcome.SetOutcome.TheVariants.{Running}
+use Rattle.vss_names.specs.declared.vss_result.VssResult.TheVariants.{UnexpectedProviderError}
+use Rattle.set_agenda.specs.Course.{Course, posted, stepped as course_stepped}
 use Rattle.scenario.specs.Plan.{Plan}
-use Rattle.writer_state.specs.declared.writer_row.WriterRow.{WriterRow}
 use Rattle.vss_model.specs.declared.event.Event.TheVariants.{Provider}
 use Rattle.vss_model.specs.declared.told.Told.{Told}
 use Rattle.vss_model.specs.declared.told.Told.TheVariants as told
 use Rattle.vss_model.specs.State.{State, SetRow, in_progress, left_now}
-use Rattle.vss_model.specs.Ending.{followed, images_dropped, runs}
-use Rattle.vss_model.specs.Steps.{is_flush, is_failed_step, step_made}
-use Rattle.vss_model.specs.Acts.{Act, state, after, step_reply}
+use Rattle.vss_model.specs.Ending.{followed, runs}
+use Rattle.vss_model.specs.Facts.{NumberedFrom, has_failed}
+use Rattle.vss_model.specs.Steps.{is_flush, row_cut, cut_set, step_made}
+use Rattle.vss_model.specs.Acts.{Act, state, after}
+use Rattle.vss_model.specs.Told.{mark_if, mark_of}
 use Rattle.vss_model.specs.Trail.{is_fault}
-use Rattle.vss_model.specs.Told.{Fits, mark_if, mark_of}
-use Rattle.vss_model.specs.Outcome.{IsOutcome, told_act}
+use Rattle.vss_model.specs.Outcome.{told_act}
+use Rattle.vss_model.proofs.Appending.{state-append}
+use Rattle.vss_model.proofs.CourseCalls.{Call, Settles}
 use Rattle.vss_model.proofs.CutStep.{after_provider}
-use Rattle.vss_model.proofs.FlushFails.{outcome_is_running}
-use Rattle.provider.specs.declared.device_fault.DeviceFault.{DeviceFault}
+use Rattle.vss_model.proofs.LogRule.{course-step_made}
+use Rattle.vss_model.proofs.Orderly.{numbered-map}
+use Rattle.vss_model.proofs.OrderlyActs.{orderly}
+use Rattle.coordinator.proofs.Following.{left-is}
+use Rattle.cow_volume.specs.declared.cause.Cause.{Cause}
 use Rattle.provider.specs.Groups.{AreGroups, IfStandFor}
 use Rattle.provider.specs.Devices.{devices_of, counts_of, AreKept, RoseAlone, volume_place}
 use Rattle.provider.specs.Preparing.{ProviderValue, HasStepCause, LastsAt, step_taken}
-use Rattle.provider.proofs.Kept.{kept_same, kept_trans}
+use Rattle.provider.proofs.Kept.{kept_trans}
 use Rattle.sessions.specs.Keeps.{SessionsValue, Keeps, IsAt, Leaves}
-use Rattle.sessions.specs.Moves.{IsMove}
-use Rattle.sessions.specs.Sets.{current_of}
+use Rattle.sessions.specs.Moves.{IsMove, IsNextStep, after_move, event_volumes, images_after}
 use Rattle.sessions.specs.declared.session_move.SessionMove.{SessionMove}
-use Rattle.vss_world.specs.Devices.{tells_of, RoseFor}
-use Rattle.vss_world.specs.Stands.{IsOf, IsInPlan, Stands, IsStanding}
+use Rattle.vss_world.specs.Devices.{RoseFor}
+use Rattle.vss_world.specs.Provided.{is_to_come, without, provided}
+use Rattle.vss_world.specs.Settling.{IsSettled}
+use Rattle.vss_world.specs.Stands.{IsOf, IsInPlan, IsPrepared, number_prepared, Stands, IfStands}
 use Rattle.vss_world.specs.Moves.{IsMoved, volume_of_step}
-use Rattle.vss_world.specs.Steps.{IsTakenUp, IsFreed}
-use Rattle.vss_world.proofs.Moved.{world_of, OfDevices, moved, clean_devices, failed_devices, goes_on, leaves_of}
-use Rattle.vss_world.proofs.Following.{at_of}
-use Rattle.vss_world.proofs.Timed.{none_gone}
-use Rattle.vss_world.proofs.Waits.{works_as}
-use Rattle.vss_world.proofs.Provided.{cutting}
-use Rattle.vss_world.proofs.Made.{made_groups, made_in, fails_in, failed_volumes, stepped_made, stepped_fails}
+use Rattle.vss_world.proofs.Moved.{world_of, IsProviderAt, clean_devices, failed_devices, goes_on, leaves_of}
+use Rattle.vss_world.proofs.Following.{at_of, course_of, set_move, ends_of, session_comes}
+use Rattle.vss_world.proofs.Failing.{failed_course}
+use Rattle.vss_world.proofs.Made.{made_in, fails_in, stepped_made, stepped_fails}
+use Rattle.vss_world.proofs.Prepared.{volumes_same, IsSetMove, NoneOfZero, none_of_zero, cut_above, runs_number, prepared_same, settled_comes, settled_keeps, settled_devices}
+use Rattle.vss_world.proofs.Provided.{number_above}
+use Rattle.vss_world.proofs.SetGoesOn.{number_cut, GoesBy, GoesOn, IsOfAgenda, IsSameSet, runs_snapshot, followed_goes, stepped_goes, goes_from, step_same}
+use Rattle.vss_world.proofs.StepComes.{IsStepping, with_step, step_settles, step_leaves, made_elsewhere}
+use Rattle.vss_world.proofs.ToCome.{has_snapshot_set}
+use Rattle.vss_world.proofs.WithoutImages.{dropped_without}
 
--- what sessions say of the next step, and of the one that they made
-pub record IsNext (x : SessionsValue) (group : Group) (volume : Option ℕ) : Type 0 where
-  pub group_is : (st : State) → Keeps x st → open_group (left_now st) ≡ Some group
-  pub volume_is : (st : State) → Keeps x st → next_volume (left_now st) ≡ volume
-  pub works_is : works x.coordinator ≡ true
+pub working : (x : SessionsValue) (group : Group) (volume : Option ℕ) (st : State) → IsNextStep x group volume → Keeps x st → is_working (left_now st) ≡ true
+working x group volume st next keeps = sym (ap is_working (left-is x.coordinator.kept st.course keeps.course.follows)) ∙ next.working
 
-abbrev pub IsMarked : SessionsValue → Bool → SessionMove → Type 0
-IsMarked x ok m = (st : State) → Keeps x st → mark_of m.outcome.told ≡ mark_if (not ok && is_flush (open_group (left_now st)))
+-- ## the agenda that works is a snapshot's
 
-working : (s : Plan) (x : SessionsValue) (group : Group) (volume : Option ℕ) (st : State) → IsNext x group volume → Keeps x st → is_working (left_now st) ≡ true
-working s x group volume st next keeps = sym (works_as x st keeps) ∙ next.works_is
+works_only : (p : Place) (ws : List ℕ) → is_working (with_group p ws []) ≡ true → is_working (record { place = p; waits = ws } ∷ []) ≡ true
+works_only p [] e = cc
+works_only p (w ∷ ws) e = e
 
-steps_on : (os : List Open) (g : Group) → open_group os ≡ Some g → is_working os ≡ true → is_orders g ≡ false
-steps_on [] g e w = cc
-steps_on (o ∷ os) g e w = let same : o.place.group ≡ g = cc in sym (ap is_orders same) ∙ off (is_orders o.place.group) w
+not_working : false ≡ true → ⊥
+not_working e = cc
+
+works_kind : (a : Agenda) (k : Kind) → is_working (left_from a (places k)) ≡ true → runs_snapshot (Some (record a { kind = k })) ≡ true
+works_kind a kind.Gather e = absurd (not_working (works_only (plain (Orders Identify)) (waited_for a (plain (Orders Identify))) e))
+works_kind a kind.Prepare e = absurd (not_working (works_only (plain (Orders PrepareBackup)) (waited_for a (plain (Orders PrepareBackup))) e))
+works_kind a kind.Snapshot e = refl
+works_kind a kind.Complete e = absurd (not_working (works_only (plain (Orders BackupComplete)) (waited_for a (plain (Orders BackupComplete))) e))
+
+works_snapshot : (o : Option Agenda) → is_working (left o) ≡ true → runs_snapshot o ≡ true
+works_snapshot None e = cc
+works_snapshot (Some a) e = works_kind a a.kind e
+
+-- so the provider has the number of the set in progress
+pub step_number : {D : Type 0} (p : ProviderValue D) (st : State) (r : SetRow) → IsPrepared p st → is_working (left_now st) ≡ true → in_progress st ≡ Some r → p.set ≡ r.number
+step_number p st r prepared works is = prepared.set ∙ ap (λ (o : Option SetRow). number_prepared o st.course.agenda) is ∙ runs_number r st.course.agenda (works_snapshot st.course.agenda works)
+
+-- ## what becomes of the set
+
+cut_numbered : (o : Option SetRow) (st : State) → NumberedFrom 1 st.sets → NumberedFrom 1 (cut_set o st).sets
+cut_numbered None st h = h
+cut_numbered (Some r) st h = numbered-map (row_cut r.number st.clock) (λ q. number_cut (q.number == r.number) st.clock q) 1 st.sets h
+
+step_numbered : (g : Group) (st : State) → NumberedFrom 1 st.sets → NumberedFrom 1 (step_made (Some g) st).sets
+step_numbered Cut st h = cut_numbered (in_progress st) st h
+step_numbered _ st h = h
+
+step_course : (g : Group) (st : State) → IsOfAgenda st → IsOfAgenda (step_made (Some g) st)
+step_course g st of = record {
+  numbered = step_numbered g st of.numbered;
+  outcome = λ r e. ap (λ (c : Course). c.outcome) (course-step_made (Some g) st) ∙ from_set (in_progress st) refl r (subst (λ (q : Option SetRow). IsSameSet (in_progress st) q) e (step_same g st));
+  volumes = λ a runs snapshot. of.volumes a (sym (ap (λ (c : Course). c.agenda) (course-step_made (Some g) st)) ∙ runs) snapshot
+      ∙ volumes_same (in_progress st) (in_progress (step_made (Some g) st)) (step_same g st);
+}
   where
-    off : (b : Bool) → not b ≡ true → b ≡ false
-    off true f = cc
-    off false f = refl
+    from_set : (o : Option SetRow) → in_progress st ≡ o → (r : SetRow) → IsSameSet (in_progress st) (Some r) → st.course.outcome ≡ Running
+    from_set None e r same = absurd (subst (λ (q : Option SetRow). IsSameSet q (Some r)) e same)
+    from_set (Some w) e r same = of.outcome w e
 
--- ## what it is told
+-- the set goes on, or is over, with what is to come after the step
+made_goes : (g : Group) (a : Agenda) (st : State) → IsOfAgenda st → st.course.agenda ≡ Some a
+    → GoesBy (is_to_come (Some (with_step st.clock a))) st (followed (runs st) (course_stepped true st.clock st.course) (step_made (Some g) st))
+made_goes g a st of runs_it =
+    let x = step_made (Some g) st in
+    let c = course_stepped true st.clock st.course in
+    let course = course-step_made (Some g) st in
+    let test = is_to_come (Some (with_step st.clock a)) in
+    goes_from test st x (followed (runs st) c x) course (step_same g st)
+    (subst (λ (d : Course). GoesBy test x (followed (runs (record st { course = d })) c x)) course
+    (stepped_goes a (with_step st.clock a) c x (step_course g st of) (ap (λ (d : Course). d.agenda) course ∙ runs_it) refl refl
+    (subst (λ (o : SetOutcome). Settles (is_done (groups_left (with_step st.clock a))) (with_step st.clock a) o c.agenda c.outcome) (sym (ap (λ (d : Course). d.outcome) course))
+    (step_settles st.clock st.course a runs_it))))
 
-told_so : (tells : List Bool) (g : Group) (og : Option Group) (volume nv : Option ℕ) (mark : Mark) (t : Told) → og ≡ Some g → nv ≡ volume → Fits tells (step_reply og nv mark) t → t ≡ told.Step g volume (is_failed_step (is_flush (Some g)) mark)
-told_so tells g og volume nv mark t e f fits = subst (λ (o : Option ℕ). t ≡ told.Step g o (is_failed_step (is_flush (Some g)) mark)) f (subst (λ (o : Option Group). Fits tells (step_reply o nv mark) t) e fits)
+made_above : (g : Group) (st : State) → ((r : SetRow) → in_progress st ≡ Some r → 0 < r.number) → NoneOfZero st.volumes → NoneOfZero (step_made (Some g) st).volumes
+made_above Cut st l h = by_set (in_progress st) l
+  where
+    by_set : (o : Option SetRow) → ((r : SetRow) → o ≡ Some r → 0 < r.number) → NoneOfZero (cut_set o st).volumes
+    by_set None k = h
+    by_set (Some r) k = cut_above r.number r.volumes 0 st.volumes (k r refl) h
+made_above _ st l h = h
 
-pub told_is : {D : Type 0} (blocks_told : D → Option (List (List ℕ))) (s : Plan) (group : Group) (volume : Option ℕ) (m : SessionMove) (p : ProviderValue D) (x y : SessionsValue) (l : List ℕ) (e : List Evicted) → IsOf (world_of p x l e) s → IsStanding blocks_told (world_of p x l e) s
-    → IsNext x group volume → IsMove (IsAt x s) s y Provider m → m.outcome.told ≡ told.Step group volume (is_failed_step (is_flush (Some group)) (mark_of m.outcome.told))
-told_is blocks_told s group volume m p x y l e of standing next move =
-    let acts = standing.acts in
+-- the agenda that makes the step, and its set
+pub stepping : (s : Plan) (x : SessionsValue) (acts : List Act) (group : Group) (volume : Option ℕ) → IsNextStep x group volume → Keeps x (state s acts) → IsStepping s acts group volume
+stepping s x acts group volume next keeps = by_agenda (state s acts).course.agenda refl
+  where
+    works : is_working (left_now (state s acts)) ≡ true
+    works = working x group volume (state s acts) next keeps
+
+    by_set : (a : Agenda) → (state s acts).course.agenda ≡ Some a → is_snapshot a.kind ≡ true → (o : Option SetRow) → in_progress (state s acts) ≡ o → IsStepping s acts group volume
+    by_set a runs snapshot None e = absurd (has_snapshot_set s acts a runs snapshot e)
+    by_set a runs snapshot (Some r) e = record {
+      agenda = a;
+      runs = runs;
+      snapshot = snapshot;
+      row = r;
+      is = e;
+      opens = sym (ap (λ (o : Option Agenda). open_group (left o)) runs) ∙ next.group (state s acts) keeps;
+      next = sym (ap (λ (o : Option Agenda). next_volume (left o)) runs) ∙ next.volume (state s acts) keeps;
+    }
+
+    by_agenda : (o : Option Agenda) → (state s acts).course.agenda ≡ o → IsStepping s acts group volume
+    by_agenda None e = absurd (not_working (sym (ap (λ (o : Option Agenda). is_working (left o)) e) ∙ works))
+    by_agenda (Some a) e = by_set a e (sym (ap runs_snapshot e) ∙ works_snapshot (state s acts).course.agenda works) (in_progress (state s acts)) refl
+
+-- what is known of a step that was made
+made_set_move : {D : Type 0} (s : Plan) (p : ProviderValue D) (acts : List Act) (act : Act) (group : Group) (volume : Option ℕ) (k : IsStepping s acts group volume) → IsPrepared p (state s acts)
+    → is_working (left_now (state s acts)) ≡ true
+    → after s (state s acts) act ≡ followed (runs (state s acts)) (course_stepped true (state s acts).clock (state s acts).course) (step_made (Some group) (state s acts))
+    → IsSetMove p (state s acts) (after s (state s acts) act) (is_to_come (Some (with_step (state s acts).clock k.agenda))) (step_taken group p.set volume (provided (state s acts)))
+    (step_made (Some group) (state s acts)).volumes
+made_set_move {D = D} s p acts act group volume k prepared works to =
     let st = state s acts in
-    let here = at_of blocks_told s p x l e acts of standing.stands in
-    let rows : List WriterRow = (after s st (told_act Provider m.outcome.told)).course.rows in
-    let o = move.outcome st [] [] rows here refl in
-    told_so [] group (open_group (left_now st)) volume (next_volume (left_now st)) (mark_of m.outcome.told) m.outcome.told (next.group_is st here.keeps) (next.volume_is st here.keeps) o.fits
+    let test = is_to_come (Some (with_step st.clock k.agenda)) in
+    let made = (step_made (Some group) st).volumes in
+    let number : p.set ≡ k.row.number = step_number p st k.row prepared works k.is in
+    let leaves : step_taken group p.set volume (provided st) ≡ without test k.row.number 0 made
+    = ap (λ (n : ℕ). step_taken group n volume (provided st)) number ∙ step_leaves s acts group volume k in
+    let same : (r : SetRow) → in_progress st ≡ Some r → k.row.number ≡ r.number = λ r e. (let f : Some k.row ≡ Some r = sym k.is ∙ e in let g : k.row ≡ r = cc in ap (λ (z : SetRow). z.number) g) in
+    record {
+      goes = subst (GoesBy test st) (sym to) (made_goes group k.agenda st (course_of s acts) k.runs);
+      numbered = subst (λ (z : State). NumberedFrom 1 z.sets) (state-append s acts act) (orderly s (acts ++ act ∷ [])).numbered;
+      prepared = prepared;
+      above = made_above group st (λ r e. number_above s acts r e) (none_of_zero s acts);
+      same = λ r e. ap (λ (n : ℕ). map (dropped n) (step_taken group p.set volume (provided st))) number ∙ ap (map (dropped k.row.number)) leaves ∙ dropped_without test k.row.number 0 made
+          ∙ ap (λ (n : ℕ). map (dropped n) made) (same r e);
+      none = λ e. absurd (let f : Some k.row ≡ None = sym k.is ∙ e in cc);
+      coming = λ r e. leaves ∙ ap (λ (n : ℕ). without test n 0 made) (same r e);
+      elsewhere = λ r i h e at out. made_elsewhere s acts group r i h e at out;
+    }
+
+failed_stepped : (now : ℕ) (c : Course) → ((course_stepped false now c).agenda ≡ None) × (has_failed (course_stepped false now c).outcome ≡ true)
+unfolding posted
+failed_stepped now c = let f = failed_course UnexpectedProviderError c in (f.0, ap has_failed f.1)
+
+-- one that a device failed
+failed_goes_on : (st : State) → IsOfAgenda st → is_working (left_now st) ≡ true → GoesOn st (followed (runs st) (course_stepped false st.clock st.course) st)
+failed_goes_on st of works = followed_goes (course_stepped false st.clock st.course) st of (stops st.course.agenda works)
+  where
+    stops : (o : Option Agenda) → is_working (left o) ≡ true → Call true o st.course.outcome (course_stepped false st.clock st.course).agenda (course_stepped false st.clock st.course).outcome
+    stops None w = absurd (not_working w)
+    stops (Some a) w = inl (record { agenda = (failed_stepped st.clock st.course).0; failed = (failed_stepped st.clock st.course).1 })
 
 -- ## the parts of the move
 
-assembled : {D : Type 0} (blocks_told : D → Option (List (List ℕ))) (count : D → ℕ) (s : Plan) (m : SessionMove) (p q : ProviderValue D) (x y : SessionsValue) (l : List ℕ) (e f : List Evicted)
-    → IsOf (world_of p x l e) s → f ≡ [] → IsMove (IsAt x s) s y Provider m → OfDevices blocks_told count s Provider m.outcome (world_of p x l e) (world_of q y l f) → Leaves x y → y.clock ≡ x.clock
-    → ((acts : List Act) → Stands blocks_told (world_of p x l e) s acts → AreGroups blocks_told s q.groups (after s (state s acts) (told_act Provider m.outcome.told)).volumes)
-    → ((acts : List Act) → Stands blocks_told (world_of p x l e) s acts → IsInPlan s (after s (state s acts) (told_act Provider m.outcome.told)))
-    → IsMoved blocks_told count (world_of p x l e) (world_of q y l f) s Provider m.outcome
-assembled blocks_told count s m p q x y l e f of none move devices leaves clock groups plan =
-    moved blocks_told count s Provider m.outcome p q x y l l e f devices (goes_on x y leaves (none_gone y.clock x.clock clock))
-    (λ acts stands.
-    let st = state s acts in
-    let here = at_of blocks_told s p x l e acts of stands in
-    record {
-      is_enabled = move.is_enabled st here;
-      is_allowed = move.is_allowed st here;
-      outcome = λ rows are. subst (λ (z : List Evicted). IsOutcome (tells_of blocks_told s (devices_of p.groups)) s st Provider m.outcome l z rows) (sym none) (move.outcome st (tells_of blocks_told s (devices_of p.groups)) l rows here are);
-      parts = record { groups = groups acts stands; sessions = move.keeps st here; plan = plan acts stands };
-    })
+module _ {D : Type 0} (device : Ghosts D) (s : Plan) {m : SessionMove} {p q r : ProviderValue D} {x y : SessionsValue} {l : List ℕ} {e f : List Evicted}
+    (of : IsOf (world_of p x l e) s) (none : f ≡ []) (same : q ≡ record p { groups = q.groups }) (settled : IsSettled device m q r) (move : IsMove (IsAt x s) s y Provider m)
+    (leaves : Leaves x y) where
+  -- what is left at a list of acts
+  left_at : (acts : List Act) (stands : Stands device.told (world_of p x l e) s acts) (test : ℕ → Bool) (base made : List History)
+      → event_volumes Provider m.outcome.told (state s acts) ≡ made → IsSetMove q (state s acts) (after_move s (state s acts) Provider m) test base made
+      → AreGroups device.told s q.groups base → IsProviderAt device.told s r (after_move s (state s acts) Provider m)
+  left_at acts stands test base made volumes known groups =
+      let st = state s acts in
+      let here = at_of of acts stands in
+      settled_comes device s q st (after_move s st Provider m) test base made known groups m r settled (ends_of st move here) (move.volumes st here ∙ ap (images_after m) volumes)
 
-pub made_moves : {D : Type 0} (blocks_told : D → Option (List (List ℕ))) (size count : D → ℕ) (lending : D → Bool) (s : Plan) (group : Group) (volume : Option ℕ) (m : SessionMove) (p taken q r : ProviderValue D) (x y : SessionsValue) (l : List ℕ) (e f : List Evicted)
-    → IsOf (world_of p x l e) s → IsStanding blocks_told (world_of p x l e) s → f ≡ [] → IsNext x group volume → IsTakenUp x group p taken
-    → IfStandFor blocks_told s taken.groups (λ hs. AreGroups blocks_told s q.groups (step_taken group taken.set taken.volumes hs)) → AreKept blocks_told size count lending taken.groups q.groups → counts_of count q.groups ≡ counts_of count taken.groups
-    → r ≡ q → IsMove (IsAt x s) s y Provider m → IsMarked x true m → Leaves x y → y.clock ≡ x.clock
-    → IsMoved blocks_told count (world_of p x l e) (world_of r y l f) s Provider m.outcome
-made_moves blocks_told size count lending s group volume m p taken q r x y l e f of standing none next taking stands_so kept same freed move marked leaves clock =
-    let to : (acts : List Act) → Stands blocks_told (world_of p x l e) s acts → after s (state s acts) (told_act Provider m.outcome.told) ≡ followed (runs (state s acts)) (course_stepped true (state s acts).clock (state s acts).course) (step_made (Some group) (state s acts))
-    = λ acts stands. after_provider s (state s acts) (told_act Provider m.outcome.told) refl (working s x group volume (state s acts) next stands.at.sessions)
-    ∙ stepped_made group (mark_of m.outcome.told) (state s acts) (next.group_is (state s acts) stands.at.sessions) (marked (state s acts) stands.at.sessions) in
-    let now_kept = subst (λ gs. AreKept blocks_told size count lending gs r.groups) taking.groups (subst (λ (z : ProviderValue _). AreKept blocks_told size count lending taken.groups z.groups) (sym freed) kept) in
-    let now_same = ap (λ (z : ProviderValue _). counts_of count z.groups) freed ∙ same ∙ ap (counts_of count) taking.groups in
-    assembled blocks_told count s m p r x y l e f of none move
-    (clean_devices blocks_told size count lending s Provider m.outcome p r x y l l e f of now_kept (leaves_of s x y of.writers leaves) now_same (ap is_fault (marked (state s standing.acts) standing.stands.at.sessions)))
-    leaves clock
-    (λ acts stands. let st = state s acts in
-    subst (λ (hs : List History). AreGroups blocks_told s r.groups hs)
-    (made_groups group st taken.set taken.volumes (λ cut. let c = cutting s acts x group p taken stands.at.sessions (next.group_is st stands.at.sessions) taking cut in (c.row, c.is, c.set, c.volumes)) ∙ sym (ap (λ (z : State). z.volumes) (to acts stands)))
-    (subst (λ (z : ProviderValue _). AreGroups blocks_told s z.groups (step_taken group taken.set taken.volumes st.volumes)) (sym freed) (stands_so st.volumes (subst (λ gs. AreGroups blocks_told s gs st.volumes) (sym taking.groups) stands.at.groups))))
-    (λ acts stands. subst (λ (z : State). IsInPlan s z) (sym (to acts stands)) (made_in s group (state s acts) stands.at.plan))
+  pub made_moves : (group : Group) (volume : Option ℕ) → IsNextStep x group volume → m.outcome.told ≡ told.Step group volume false
+      → IfStandFor device.told s p.groups (λ hs. AreGroups device.told s q.groups (step_taken group p.set volume hs)) → AreKept device p.groups q.groups
+      → counts_of device.count q.groups ≡ counts_of device.count p.groups → IsMoved device.told device.count (world_of p x l e) (world_of r y l f) s Provider m.outcome
+  made_moves group volume next told_is stands_so kept counts =
+      let after_settle = settled_keeps device m q r settled in
+      let marked : mark_of m.outcome.told ≡ Clean = ap mark_of told_is in
+      let to : IfStands device.told (world_of p x l e) s (λ st. after_move s st Provider m ≡ followed (runs st) (course_stepped true st.clock st.course) (step_made (Some group) st))
+      = λ acts stands. let st = state s acts in
+      after_provider s st (told_act Provider m.outcome.told) refl (working x group volume st next stands.at.sessions)
+      ∙ stepped_made group (mark_of m.outcome.told) st (next.group st stands.at.sessions) marked in
+      session_comes device s Provider m (IsAt x s) none move (at_of of)
+      (clean_devices device s Provider m.outcome p r x y l l e f of (kept_trans device p.groups q.groups r.groups kept after_settle.0) (leaves_of s x y of.writers leaves)
+      (after_settle.1 ∙ counts) (ap is_fault marked))
+      (goes_on x y leaves)
+      (λ acts stands.
+      let st = state s acts in
+      let k = stepping s x acts group volume next stands.at.sessions in
+      let works = working x group volume st next stands.at.sessions in
+      let set_is : q.set ≡ p.set = ap (λ (z : ProviderValue D). z.set) same in
+      left_at acts stands (is_to_come (Some (with_step st.clock k.agenda))) (step_taken group q.set volume (provided st)) (step_made (Some group) st).volumes
+      (ap (λ (t : Told). event_volumes Provider t st) told_is)
+      (made_set_move s q acts (told_act Provider m.outcome.told) group volume k (prepared_same p q st same stands.at.prepared) works (to acts stands))
+      (subst (λ (n : ℕ). AreGroups device.told s q.groups (step_taken group n volume (provided st))) (sym set_is) (stands_so (provided st) stands.at.groups)))
+      (λ acts stands. subst (λ (z : State). IsInPlan s z) (sym (to acts stands)) (made_in s group (state s acts) stands.at.plan))
 
--- ## one that a device fails
+  -- one that a device fails
+  pub failed_moves : (v : ℕ) → IsNextStep x Flush (Some v) → m.outcome.told ≡ told.Step Flush (Some v) true
+      → IfStandFor device.told s p.groups (AreGroups device.told s q.groups) → AreKept device p.groups q.groups
+      → RoseAlone (volume_place s v) (counts_of device.count p.groups) (counts_of device.count q.groups)
+      → IsMoved device.told device.count (world_of p x l e) (world_of r y l f) s Provider m.outcome
+  failed_moves v next told_is stands_so kept rose =
+      let after_settle = settled_keeps device m q r settled in
+      let marked : mark_of m.outcome.told ≡ Fault = ap mark_of told_is in
+      let to : IfStands device.told (world_of p x l e) s (λ st. after_move s st Provider m ≡ followed (runs st) (course_stepped false st.clock st.course) st)
+      = λ acts stands. let st = state s acts in let opens = next.group st stands.at.sessions in
+      after_provider s st (told_act Provider m.outcome.told) refl (working x Flush (Some v) st next stands.at.sessions)
+      ∙ stepped_fails (mark_of m.outcome.told) st opens (marked ∙ sym (ap (λ (o : Option Group). mark_if (is_flush o)) opens)) in
+      let for_volume : RoseFor s (Some v) (counts_of device.count p.groups) (counts_of device.count r.groups)
+      = inl (subst (λ ns. RoseAlone (volume_place s v) (counts_of device.count p.groups) ns) (sym after_settle.1) rose) in
+      session_comes device s Provider m (IsAt x s) none move (at_of of)
+      (failed_devices device s Provider m.outcome p r x y l l e f of (kept_trans device p.groups q.groups r.groups kept after_settle.0) (leaves_of s x y of.writers leaves)
+      (subst (λ (t : Told). RoseFor s (volume_of_step t) (counts_of device.count p.groups) (counts_of device.count r.groups)) (sym told_is) for_volume) (ap is_fault marked))
+      (goes_on x y leaves)
+      (λ acts stands.
+      let st = state s acts in
+      let goes = subst (GoesOn st) (sym (to acts stands)) (failed_goes_on st (course_of s acts) (working x Flush (Some v) st next stands.at.sessions)) in
+      left_at acts stands (is_to_come st.course.agenda) (provided st) st.volumes (ap (λ (t : Told). event_volumes Provider t st) told_is)
+      (set_move s q acts (told_act Provider m.outcome.told) (prepared_same p q st same stands.at.prepared) goes) (stands_so (provided st) stands.at.groups))
+      (λ acts stands. subst (λ (z : State). IsInPlan s z) (sym (to acts stands)) (fails_in s (state s acts) stands.at.plan))
 
-freed_groups : {D : Type 0} (blocks_told : D → Option (List (List ℕ))) (size count : D → ℕ) (lending : D → Bool) (s : Plan) (hs : List History) (q r : ProviderValue D) (o : Option SetRow) (set : Option ℕ) → set ≡ option_map (λ (w : SetRow). w.number) o
-    → IsFreed blocks_told size count lending set false q r
-    → AreGroups blocks_told s q.groups hs → AreGroups blocks_told s r.groups (images_dropped o hs)
-freed_groups blocks_told size count lending s hs q r None None e h groups = subst (λ (z : ProviderValue _). AreGroups blocks_told s z.groups hs) (sym h) groups
-freed_groups blocks_told size count lending s hs q r None (Some n) e h groups = cc
-freed_groups blocks_told size count lending s hs q r (Some w) None e h groups = cc
-freed_groups blocks_told size count lending s hs q r (Some w) (Some n) e h groups = let same : n ≡ w.number = cc in subst (λ k. AreGroups blocks_told s r.groups (map (dropped k) hs)) same (h.1.stands s hs groups)
-
-freed_kept : {D : Type 0} (blocks_told : D → Option (List (List ℕ))) (size count : D → ℕ) (lending : D → Bool) (q r : ProviderValue D) (set : Option ℕ) → IsFreed blocks_told size count lending set false q r → AreKept blocks_told size count lending q.groups r.groups
-freed_kept blocks_told size count lending q r None h = subst (λ (z : ProviderValue _). AreKept blocks_told size count lending q.groups z.groups) (sym h) (kept_same blocks_told size count lending q.groups)
-freed_kept blocks_told size count lending q r (Some n) h = h.1.kept
-
-freed_counts : {D : Type 0} (blocks_told : D → Option (List (List ℕ))) (size count : D → ℕ) (lending : D → Bool) (q r : ProviderValue D) (set : Option ℕ) → IsFreed blocks_told size count lending set false q r → counts_of count r.groups ≡ counts_of count q.groups
-freed_counts blocks_told size count lending q r None h = ap (λ (z : ProviderValue _). counts_of count z.groups) h
-freed_counts blocks_told size count lending q r (Some n) h = ap (map count) h.1.devices
-
-pub failed_moves : {D : Type 0} (blocks_told : D → Option (List (List ℕ))) (size count : D → ℕ) (lending : D → Bool) (s : Plan) (v : ℕ) (m : SessionMove) (p taken q r : ProviderValue D) (x y : SessionsValue) (l : List ℕ) (e f : List Evicted) (set : Option ℕ)
-    → IsOf (world_of p x l e) s → IsStanding blocks_told (world_of p x l e) s → f ≡ [] → IsNext x Flush (Some v) → IsTakenUp x Flush p taken → set ≡ current_of x.sets
-    → IfStandFor blocks_told s taken.groups (AreGroups blocks_told s q.groups) → AreKept blocks_told size count lending taken.groups q.groups → RoseAlone (volume_place s v) (counts_of count taken.groups) (counts_of count q.groups)
-    → IsFreed blocks_told size count lending set false q r → IsMove (IsAt x s) s y Provider m → IsMarked x false m → Leaves x y → y.clock ≡ x.clock
-    → IsMoved blocks_told count (world_of p x l e) (world_of r y l f) s Provider m.outcome
-failed_moves blocks_told size count lending s v m p taken q r x y l e f set of standing none next taking set_is stands_so kept rose freed move marked leaves clock =
-    let to : (acts : List Act) → Stands blocks_told (world_of p x l e) s acts → after s (state s acts) (told_act Provider m.outcome.told) ≡ followed (runs (state s acts)) (course_stepped false (state s acts).clock (state s acts).course) (state s acts)
-    = λ acts stands. after_provider s (state s acts) (told_act Provider m.outcome.told) refl (working s x Flush (Some v) (state s acts) next stands.at.sessions)
-    ∙ stepped_fails (mark_of m.outcome.told) (state s acts) (next.group_is (state s acts) stands.at.sessions) (marked (state s acts) stands.at.sessions) in
-    let here = standing.stands.at.sessions in
-    let fault : mark_of m.outcome.told ≡ Fault = marked (state s standing.acts) here ∙ ap (λ (o : Option Group). mark_if (is_flush o)) (next.group_is (state s standing.acts) here) in
-    let now_kept = subst (λ gs. AreKept blocks_told size count lending gs r.groups) taking.groups (kept_trans blocks_told size count lending taken.groups q.groups r.groups kept (freed_kept blocks_told size count lending q r set freed)) in
-    let now_rose : RoseAlone (volume_place s v) (counts_of count p.groups) (counts_of count r.groups)
-    = subst (λ ns. RoseAlone (volume_place s v) ns (counts_of count r.groups)) (ap (counts_of count) taking.groups) (subst (λ ns. RoseAlone (volume_place s v) (counts_of count taken.groups) ns) (sym (freed_counts blocks_told size count lending q r set freed)) rose) in
-    let for_volume : RoseFor s (Some v) (counts_of count p.groups) (counts_of count r.groups) = inl now_rose in
-    assembled blocks_told count s m p r x y l e f of none move
-    (failed_devices blocks_told size count lending s Provider m.outcome p r x y l l e f of now_kept (leaves_of s x y of.writers leaves)
-    (subst (λ (t : Told). RoseFor s (volume_of_step t) (counts_of count p.groups) (counts_of count r.groups)) (sym (told_is blocks_told s Flush (Some v) m p x y l e of standing next move)) for_volume) (ap is_fault fault))
-    leaves clock
-    (λ acts stands. let st = state s acts in
-    subst (λ (hs : List History). AreGroups blocks_told s r.groups hs)
-    (sym (ap (λ (z : State). z.volumes) (to acts stands) ∙ failed_volumes (runs st) st.clock st (λ w is. outcome_is_running s acts w is)))
-    (freed_groups blocks_told size count lending s st.volumes q r (in_progress st) set (set_is ∙ ap current_of stands.at.sessions.sets) freed (stands_so st.volumes (subst (λ gs. AreGroups blocks_told s gs st.volumes) (sym taking.groups) stands.at.groups))))
-    (λ acts stands. subst (λ (z : State). IsInPlan s z) (sym (to acts stands)) (fails_in s (state s acts) stands.at.plan))
-
--- ## either
-
-pub step_moves : {D : Type 0} (blocks_told : D → Option (List (List ℕ))) (size count : D → ℕ) (lending : D → Bool) (s : Plan) (group : Group) (volume : Option ℕ) (made : Result Unit DeviceFault) (ok : Bool) (m : SessionMove) (p taken q r : ProviderValue D)
-    (x y : SessionsValue) (l : List ℕ) (e f : List Evicted) (set : Option ℕ)
-    → IsOf (world_of p x l e) s → IsStanding blocks_told (world_of p x l e) s → f ≡ [] → IsNext x group volume → IsTakenUp x group p taken → set ≡ current_of x.sets
-    → IfStandFor blocks_told s taken.groups (λ hs. AreGroups blocks_told s q.groups (step_taken group taken.set taken.volumes hs)) → AreKept blocks_told size count lending taken.groups q.groups → HasStepCause count s group volume made taken.groups q.groups
-    → ok ≡ is_ok made → IsFreed blocks_told size count lending set ok q r → IsMove (IsAt x s) s y Provider m → IsMarked x ok m → Leaves x y → y.clock ≡ x.clock
-    → IsMoved blocks_told count (world_of p x l e) (world_of r y l f) s Provider m.outcome
-step_moves blocks_told size count lending s group volume (Ok done) true m p taken q r x y l e f set of standing none next taking set_is stands_so kept cause is freed move marked leaves clock =
-    made_moves blocks_told size count lending s group volume m p taken q r x y l e f of standing none next taking stands_so kept cause freed move marked leaves clock
-step_moves blocks_told size count lending s group volume (Ok done) false m p taken q r x y l e f set of standing none next taking set_is stands_so kept cause is freed move marked leaves clock = cc
-step_moves blocks_told size count lending s group volume (Err fault) true m p taken q r x y l e f set of standing none next taking set_is stands_so kept cause is freed move marked leaves clock = cc
-step_moves {D = D} blocks_told size count lending s group volume (Err fault) false m p taken q r x y l e f set of standing none next taking set_is stands_so kept cause is freed move marked leaves clock =
-    let flush = cause.0 in
-    let v = cause.2 in
-    let at = cause.3 in
-    failed_moves blocks_told size count lending s v m p taken q r x y l e f set of standing none
-    (subst (λ (o : Option ℕ). IsNext x Flush o) at (subst (λ (w : Group). IsNext x w volume) flush next)) (subst (λ (w : Group). IsTakenUp x w p taken) flush taking) set_is
-    (subst (λ (w : Group). IfStandFor blocks_told s taken.groups (λ hs. AreGroups blocks_told s q.groups (step_taken w taken.set taken.volumes hs))) flush stands_so) kept cause.4 freed move marked leaves clock
+  -- either
+  pub step_moves : (group : Group) (volume : Option ℕ) (made : Result Unit Cause) (ok : Bool) → IsNextStep x group volume
+      → m.outcome.told ≡ told.Step group volume (not ok && is_flush (Some group)) → ok ≡ is_ok made
+      → IfStandFor device.told s p.groups (λ hs. AreGroups device.told s q.groups (step_taken group p.set volume hs)) → AreKept device p.groups q.groups
+      → HasStepCause device.count s group volume made p.groups q.groups → IsMoved device.told device.count (world_of p x l e) (world_of r y l f) s Provider m.outcome
+  step_moves group volume (Ok done) true next told_is is stands_so kept cause = made_moves group volume next told_is stands_so kept cause
+  step_moves group volume (Ok done) false next told_is is stands_so kept cause = cc
+  step_moves group volume (Err fault) true next told_is is stands_so kept cause = cc
+  step_moves group volume (Err fault) false next told_is is stands_so kept cause =
+      let flush = cause.0 in
+      let at = cause.3 in
+      failed_moves cause.2 (subst (λ (o : Option ℕ). IsNextStep x Flush o) at (subst (λ (w : Group). IsNextStep x w volume) flush next))
+      (told_is ∙ ap (λ (w : Group). told.Step w volume (is_flush (Some w))) flush ∙ ap (λ (o : Option ℕ). told.Step Flush o true) at)
+      (subst (λ (w : Group). IfStandFor device.told s p.groups (λ hs. AreGroups device.told s q.groups (step_taken w p.set volume hs))) flush stands_so) kept cause.4
 
 -- what a flush wrote lasts
-pub step_lasts : {D : Type 0} (blocks_told lasting : D → Option (List (List ℕ))) (size count : D → ℕ) (lending : D → Bool) (s : Plan) (group : Group) (volume : Option ℕ) (made : Result Unit DeviceFault) (ok : Bool) (m : SessionMove) (p taken q r : ProviderValue D)
-    (x y : SessionsValue) (l : List ℕ) (e : List Evicted) (set : Option ℕ)
-    → IsOf (world_of p x l e) s → IsStanding blocks_told (world_of p x l e) s → IsNext x group volume → HasStepCause count s group volume made taken.groups q.groups → ok ≡ is_ok made → IsFreed blocks_told size count lending set ok q r → IsMove (IsAt x s) s y Provider m → IsMarked x ok m
-    → (group ≡ Flush → OnOk made (IfSome volume (λ v. LastsAt blocks_told lasting (volume_place s v) (devices_of q.groups))))
-    → (v : ℕ) (d : D) → m.outcome.told ≡ told.Step Flush (Some v) false → slice_get (devices_of r.groups) (volume_place s v) ≡ Some d → lasting d ≡ blocks_told d
-step_lasts blocks_told lasting size count lending s group volume (Ok done) true m p taken q r x y l e set of standing next cause is freed move marked lasts v d said here =
-    let t : told.Step group volume (is_failed_step (is_flush (Some group)) (mark_of m.outcome.told)) ≡ told.Step Flush (Some v) false = sym (told_is blocks_told s group volume m p x y l e of standing next move) ∙ said in
+pub step_lasts : {D : Type 0} (device : Ghosts D) (s : Plan) (group : Group) (volume : Option ℕ) (made : Result Unit Cause) (ok : Bool) (m : SessionMove) (q r : ProviderValue D)
+    → m.outcome.told ≡ told.Step group volume (not ok && is_flush (Some group)) → ok ≡ is_ok made → IsSettled device m q r
+    → (group ≡ Flush → OnOk made (IfSome volume (λ v. LastsAt device.told device.lasting (volume_place s v) (devices_of q.groups))))
+    → (v : ℕ) (d : D) → m.outcome.told ≡ told.Step Flush (Some v) false → slice_get (devices_of r.groups) (volume_place s v) ≡ Some d → device.lasting d ≡ device.told d
+step_lasts device s group volume (Ok done) true m q r told_is is settled lasts v d said here =
+    let t : told.Step group volume false ≡ told.Step Flush (Some v) false = sym told_is ∙ said in
     let flush : group ≡ Flush = cc in
     let at : volume ≡ Some v = cc in
-    (subst (λ (o : Option ℕ). IfSome o (λ u. LastsAt blocks_told lasting (volume_place s u) (devices_of q.groups))) at (lasts flush)) d (ap (λ (z : ProviderValue _). slice_get (devices_of z.groups) (volume_place s v)) (sym freed) ∙ here)
-step_lasts blocks_told lasting size count lending s group volume (Ok done) false m p taken q r x y l e set of standing next cause is freed move marked lasts v d said here = cc
-step_lasts blocks_told lasting size count lending s group volume (Err fault) true m p taken q r x y l e set of standing next cause is freed move marked lasts v d said here = cc
-step_lasts blocks_told lasting size count lending s group volume (Err fault) false m p taken q r x y l e set of standing next cause is freed move marked lasts v d said here =
-    let st = state s standing.acts in
-    let at_flush : open_group (left_now st) ≡ Some Flush = next.group_is st standing.stands.at.sessions ∙ ap Some cause.0 in
-    let marks : Fault ≡ Clean = sym (marked st standing.stands.at.sessions ∙ ap (λ (o : Option Group). mark_if (is_flush o)) at_flush) ∙ ap mark_of said in
-    absurd (apart marks)
+    (subst (λ (o : Option ℕ). IfSome o (λ u. LastsAt device.told device.lasting (volume_place s u) (devices_of q.groups))) at (lasts flush)) d
+    (ap (λ ds. slice_get ds (volume_place s v)) (sym (settled_devices device m q r settled)) ∙ here)
+step_lasts device s group volume (Ok done) false m q r told_is is settled lasts v d said here = cc
+step_lasts device s group volume (Err fault) true m q r told_is is settled lasts v d said here = cc
+step_lasts device s group volume (Err fault) false m q r told_is is settled lasts v d said here =
+    let t : told.Step group volume (is_flush (Some group)) ≡ told.Step Flush (Some v) false = sym told_is ∙ said in
+    let flush : group ≡ Flush = cc in
+    let fails : is_flush (Some group) ≡ false = cc in
+    absurd (apart (sym (ap (λ (w : Group). is_flush (Some w)) flush) ∙ fails))
   where
-    apart : Fault ≡ Clean → ⊥
+    apart : true ≡ false → ⊥
     apart e = cc

@@ -1,19 +1,23 @@
 -- The flat list of devices against the groups: what a volume's devices tell there, and that they hold the volume's content.
 use Rattle.std.proofs.Common.{◌≡◌, ℕ, suc, ◌+◌, ◌<◌, List, [], ◌∷◌, length, refl, ap, sym, ◌∙◌, arith, ◌&&◌, Option, Some, None, slice_get}
 use Rattle.std.specs.Prelude.{is_some, IfSome}
-use Rattle.write_history.specs.History.{History, contents}
+use Rattle.write_history.specs.History.{Write, History, contents}
 use Rattle.scenario.specs.declared.volume_row.VolumeRow.{VolumeRow}
 use Rattle.scenario.specs.Plan.{Plan}
 use Rattle.cow_volume.specs.GroupValue.{GroupValue}
 use Rattle.cow_volume.specs.StandsFor.{told_in}
 use Rattle.cow_volume.proofs.Group.{slice_get_inside}
-use Rattle.provider.specs.Groups.{of_group, place_in, IsPlaceOf, AreGroups, HasGroups}
+use Rattle.scenario.specs.Places.{of_group, place_in, IsPlaceOf}
+use Rattle.provider.specs.Groups.{AreGroups, HasGroups}
 use Rattle.provider.specs.Devices.{devices_of, volume_place, volumes_area, tells_row, tells_in, tells_within}
 use Rattle.provider.specs.Devices.{tells_from as group_tells_from, tells_of as group_tells_of}
 use Rattle.provider.proofs.InGroup.{at_place}
 use Rattle.provider.proofs.Places.{group_there, within_there, blocks_there}
 use Rattle.provider.proofs.Flat.{volume_device_at, area_device_at, area_of_place}
+use Rattle.vss_model.specs.State.{State, in_progress}
 use Rattle.vss_world.specs.Devices.{told_of, told_by, told_at, tells_from, tells_of, AllTied}
+use Rattle.vss_world.specs.Provided.{provided}
+use Rattle.vss_world.proofs.OnProvided.{there}
 
 -- ## a volume in its group
 
@@ -86,7 +90,8 @@ if_told : (o : Option (List (List ℕ))) (blocks : List (List ℕ)) (want : List
 if_told None blocks want h e = cc
 if_told (Some bs) blocks want h e = let same : bs ≡ blocks = cc in sym same ∙ h
 
-pub tied : {D : Type 0} (told : D → Option (List (List ℕ))) (s : Plan) (groups : List (GroupValue D)) (hs : List History) → HasGroups s groups → AreGroups told s groups hs → AllTied told s hs (devices_of groups)
+pub tied : {D : Type 0} (told : D → Option (List (List ℕ))) (s : Plan) (groups : List (GroupValue D)) (hs : List History) → HasGroups s groups → AreGroups told s groups hs
+    → AllTied told s hs (devices_of groups)
 tied {D = D} told s groups hs has are v r h blocks e history_at is =
     let m = here s groups v r has e in
     let u = place_in r.group s.volumes v in
@@ -94,7 +99,15 @@ tied {D = D} told s groups hs has are v r h blocks e history_at is =
     let images = group.stands.images in
     let within = m.within in
     let sets = slice_get_inside m.group.images u (omega (arith, images, within)) in
-    let size : slice_get m.group.area.volumes u ≡ Some r.blocks = ap (λ (ns : List ℕ). slice_get ns u) group.volumes ∙ blocks_there s v r.group u m.place ∙ ap (λ (z : VolumeRow). Some z.blocks) m.row_is in
+    let size : slice_get m.group.area.volumes u ≡ Some r.blocks = ap (λ (ns : List ℕ). slice_get ns u) group.volumes ∙ blocks_there s v r.group u m.place
+    ∙ ap (λ (z : VolumeRow). Some z.blocks) m.row_is in
     let past : slice_get (of_group r.group s.volumes hs) u ≡ Some h = at_place r.group s.volumes hs v r e refl are.histories ∙ history_at in
     let volume = group.stands.each u r.blocks m.device sets.0 h size m.device_at sets.1 past in
     if_told (told_in (told m.group.area.device) (told m.device)) blocks (contents r.blocks h.writes (length h.writes)) volume.blocks (sym (told_here told s groups v r has m) ∙ is)
+
+-- so they hold the content that the definitions have
+pub tied_so : {D : Type 0} (told : D → Option (List (List ℕ))) (s : Plan) (groups : List (GroupValue D)) (st : State) → HasGroups s groups → AreGroups told s groups (provided st)
+    → AllTied told s st.volumes (devices_of groups)
+tied_so told s groups st has are v r h blocks e history_at is =
+    let x = there v (in_progress st) st.course.agenda st.volumes h history_at in
+    tied told s groups (provided st) has are v r x.0 blocks e x.1 is ∙ ap (λ (ws : List Write). contents r.blocks ws (length ws)) x.2

@@ -1,9 +1,7 @@
 -- Time that goes by, and what writers answer, against the acts.
-use Rattle.std.proofs.Common.{◌≡◌, ℕ, ◌+◌, ◌<◌, ◌≤◌, List, [], length, refl, ap, sym, subst, arith, Bool, true, false, Option}
+use Rattle.std.proofs.Common.{◌≡◌, ℕ, ◌+◌, ◌≤◌, List, [], refl, sym, ◌∙◌, subst, arith, true, false}
+use Rattle.volume_device.specs.declared.device.Device.{Ghosts}
 use Rattle.write_history.specs.declared.evicted.Evicted.{Evicted}
-use Rattle.write_history.specs.declared.mark.Mark.{Mark}
-use Rattle.write_history.specs.declared.mark.Mark.TheVariants.{Clean, Fault, FaultAfter}
-use Rattle.writer_state.specs.declared.said.Said.{Said}
 use Rattle.writer_calls.specs.declared.answer.Answer.{Answer}
 use Rattle.writer_calls.specs.Script.{said_of}
 use Rattle.set_agenda.specs.Course.{answered as course_answered, timed as course_timed}
@@ -14,114 +12,83 @@ use Rattle.vss_model.specs.declared.event.Event.TheVariants.{Line, Answer as Ans
 use Rattle.vss_model.specs.State.{State}
 use Rattle.vss_model.specs.Ending.{runs}
 use Rattle.vss_model.specs.Steps.{answered, ticked, later}
-use Rattle.vss_model.specs.Acts.{Act, state, after, after_if, enabled, flush_allows, line_allows, idle_now}
+use Rattle.vss_model.specs.Acts.{Act, state, event_allows, idle_now, happens}
 use Rattle.vss_model.specs.Told.{mark_of}
-use Rattle.vss_model.specs.Trail.{is_fault, act_of}
-use Rattle.vss_model.specs.Outcome.{told_act}
+use Rattle.vss_model.specs.Trail.{is_fault}
+use Rattle.vss_model.proofs.CourseCalls.{call_answered, call_timed}
 use Rattle.provider.specs.Preparing.{ProviderValue}
-use Rattle.sessions.specs.Keeps.{SessionsValue, IsAt, Leaves}
-use Rattle.sessions.specs.Moves.{IsMove, IsWait}
+use Rattle.sessions.specs.Keeps.{SessionsValue, IsAt, Leaves, LeavesWithin, later_by, IsOf as IsSessionsOf}
+use Rattle.sessions.specs.Moves.{IsMove, after_move, event_volumes}
 use Rattle.sessions.specs.declared.session_move.SessionMove.{SessionMove}
-use Rattle.vss_world.specs.Stands.{IsOf, IsInPlan, Stands, IsStanding}
-use Rattle.vss_world.specs.Moves.{IsMoved, IsBlocked}
-use Rattle.vss_world.specs.Settling.{IsDroppedFor}
-use Rattle.vss_world.proofs.Moved.{world_of}
-use Rattle.vss_world.proofs.Simple.{after_line}
-use Rattle.vss_world.proofs.InPlan.{course_of, in_answered, in_timed, in_followed}
-use Rattle.vss_world.proofs.Following.{at_of, session_moves, session_waits}
+use Rattle.vss_world.specs.Stands.{IsOf, IsInPlan, IsStanding, IfStands}
+use Rattle.vss_world.specs.Moves.{IsMoved}
+use Rattle.vss_world.specs.Settling.{IsSettled}
+use Rattle.vss_world.proofs.Moved.{world_of, Goes, leaves_of, later_of, goes_on, goes_later}
+use Rattle.vss_world.proofs.Simple.{after_on}
+use Rattle.vss_world.proofs.SetGoesOn.{GoesOn, followed_goes}
+use Rattle.vss_world.proofs.InPlan.{course_of as plan_course, in_answered, in_timed, in_followed}
+use Rattle.vss_world.proofs.Following.{fault_free, at_of, course_of, session_moves}
 
 -- ## what it leaves
 
 ticked_in : (s : Plan) (n : ℕ) (st : State) → IsInPlan s st → IsInPlan s (ticked n st)
 unfolding ticked
-ticked_in s n st h = in_followed s (runs st) (course_timed (st.clock + n) st.course) (later n st) (in_timed s (st.clock + n) st.course (course_of s st h)) h.sets
+ticked_in s n st h =
+    in_followed s (runs st) (course_timed (st.clock + n) st.course) (later n st) (in_timed s (st.clock + n) st.course (plan_course s st h)) h.sets
 
-said_in : (s : Plan) (w : ℕ) (said : Said) (st : State) → IsInPlan s st → IsInPlan s (answered w said st)
+ticked_goes : (s : Plan) (acts : List Act) (n : ℕ) → GoesOn (state s acts) (ticked n (state s acts))
+unfolding ticked
+ticked_goes s acts n =
+    let st = state s acts in
+    let of = course_of s acts in
+    followed_goes (course_timed (st.clock + n) st.course) (later n st) (record { numbered = of.numbered; outcome = of.outcome; volumes = of.volumes })
+    (call_timed (st.clock + n) st.course)
+
+said_in : (s : Plan) (w : ℕ) (answer : Answer) (st : State) → IsInPlan s st → IsInPlan s (answered w (said_of answer) st)
 unfolding answered
-said_in s w said st h = in_followed s (runs st) (course_answered w said st.clock st.course) st (in_answered s w said st.clock st.course (course_of s st h)) h.sets
+said_in s w answer st h =
+    let course = course_answered w (said_of answer) st.clock st.course in
+    in_followed s (runs st) course st (in_answered s w (said_of answer) st.clock st.course (plan_course s st h)) h.sets
 
--- ## marks
-
-tick_clean : (s : Plan) (st : State) (n : ℕ) (mark : Mark) → line_allows s st (Tick n) mark ≡ true → is_fault mark ≡ false
-tick_clean s st n Clean e = refl
-tick_clean s st n Fault e = cc
-tick_clean s st n (FaultAfter k) e = cc
-
-other_clean : (mark : Mark) → flush_allows false mark ≡ true → is_fault mark ≡ false
-other_clean Clean e = refl
-other_clean Fault e = cc
-other_clean (FaultAfter k) e = cc
-
--- ## after an act
-
-after_answer : (s : Plan) (st : State) (w : ℕ) (answer : Answer) (mark : Mark) → enabled s st (AnswerEvent w answer) ≡ true → after s st (act_of mark (AnswerEvent w answer)) ≡ answered w (said_of answer) st
-unfolding after
-after_answer s st w answer mark on = ap (λ (t : Bool). after_if t s st (act_of mark (AnswerEvent w answer))) on
-
-after_idle : (s : Plan) (st : State) (mark : Mark) → enabled s st Idle ≡ true → after s st (act_of mark Idle) ≡ ticked (idle_now st) st
-unfolding after
-after_idle s st mark on = ap (λ (t : Bool). after_if t s st (act_of mark Idle)) on
-
--- ## clocks
-
-pub ticks_few : (a b n : ℕ) → n ≤ 1000000000 → a ≡ b + n → a ≤ b + 1000000000
-ticks_few a b n l e = omega arith
-
-pub limit_few : (a b : ℕ) → a ≤ b + (300000 + 1) → a ≤ b + 1000000000
-limit_few a b l = omega arith
-
-pub none_gone : (a b : ℕ) → a ≡ b → a ≤ b + 1000000000
-none_gone a b e = omega arith
+said_goes : (s : Plan) (w : ℕ) (answer : Answer) (acts : List Act) → GoesOn (state s acts) (answered w (said_of answer) (state s acts))
+unfolding answered
+said_goes s w answer acts =
+    let st = state s acts in
+    followed_goes (course_answered w (said_of answer) st.clock st.course) st (course_of s acts) (call_answered w (said_of answer) st.clock st.course)
 
 -- ## the moves
 
-pub tick_moves : {D : Type 0} (blocks_told : D → Option (List (List ℕ))) (size count : D → ℕ) (lending : D → Bool) (s : Plan) (lane n : ℕ) (m : SessionMove) (p q : ProviderValue D) (x y : SessionsValue) (l : List ℕ) (e f : List Evicted)
-    → IsOf (world_of p x l e) s → IsStanding blocks_told (world_of p x l e) s → n ≤ 1000000000 → f ≡ []
-    → IsMove (IsAt x s) s y (Line lane (Tick n)) m → IsDroppedFor blocks_told size count lending m p q → Leaves x y → y.clock ≡ x.clock + n
-    → IsMoved blocks_told count (world_of p x l e) (world_of q y l f) s (Line lane (Tick n)) m.outcome
-tick_moves blocks_told size count lending s lane n m p q x y l e f of standing few none move drops leaves clock =
-    let at : (acts : List Act) → Stands blocks_told (world_of p x l e) s acts → IsAt x s (state s acts) = λ acts stands. at_of blocks_told s p x l e acts of stands in
-    let mark = mark_of m.outcome.told in
-    let to : (acts : List Act) → Stands blocks_told (world_of p x l e) s acts → after s (state s acts) (told_act (Line lane (Tick n)) m.outcome.told) ≡ ticked n (state s acts)
-    = λ acts stands. after_line s (state s acts) lane (Tick n) mark refl in
-    session_moves blocks_told size count lending s (Line lane (Tick n)) m (IsAt x s) p q x y l e f of none move (λ st. refl) drops leaves (ticks_few y.clock x.clock n few clock)
-    (tick_clean s (state s standing.acts) n mark (move.is_allowed (state s standing.acts) (at standing.acts standing.stands)))
-    at
-    (λ acts stands. subst (λ (z : State). IsInPlan s z) (sym (to acts stands)) (ticked_in s n (state s acts) stands.at.plan))
+module _ {D : Type 0} (device : Ghosts D) (s : Plan) {p q : ProviderValue D} {x y : SessionsValue} {l : List ℕ} {e f : List Evicted} {m : SessionMove}
+    (of : IsOf (world_of p x l e) s) (standing : IsStanding device.told (world_of p x l e) s) (none : f ≡ []) (settled : IsSettled device m p q) where
+  -- one of an event after which the state is that which its course leaves
+  comes : (event : Event) (next : State → State) → IsMove (IsAt x s) s y event m → ((st : State) → event_volumes event m.outcome.told st ≡ st.volumes) → IsSessionsOf y s → Goes x y
+      → ((st : State) → event_allows s st event (mark_of m.outcome.told) ≡ true → is_fault (mark_of m.outcome.told) ≡ false)
+      → ((st : State) → (happens s event (mark_of m.outcome.told) st).1 ≡ next st)
+      → ((acts : List Act) → GoesOn (state s acts) (next (state s acts))) → ((st : State) → IsInPlan s st → IsInPlan s (next st))
+      → IsMoved device.told device.count (world_of p x l e) (world_of q y l f) s event m.outcome
+  comes event next move still writers goes clean is on plan =
+      let to : IfStands device.told (world_of p x l e) s (λ st. after_move s st event m ≡ next st)
+      = λ acts stands. after_on s (state s acts) event (mark_of m.outcome.told) (move.is_enabled (state s acts) (at_of of acts stands)) ∙ is (state s acts) in
+      session_moves device s event m (IsAt x s) none move (at_of of) of still settled writers goes
+      (clean (state s standing.acts) (move.is_allowed (state s standing.acts) (at_of of standing.acts standing.stands)))
+      (λ acts stands. subst (GoesOn (state s acts)) (sym (to acts stands)) (on acts))
+      (λ acts stands. subst (λ (z : State). IsInPlan s z) (sym (to acts stands)) (plan (state s acts) stands.at.plan))
 
-pub answer_moves : {D : Type 0} (blocks_told : D → Option (List (List ℕ))) (size count : D → ℕ) (lending : D → Bool) (s : Plan) (w : ℕ) (answer : Answer) (m : SessionMove) (p q : ProviderValue D) (x y : SessionsValue) (l : List ℕ) (e f : List Evicted)
-    → IsOf (world_of p x l e) s → IsStanding blocks_told (world_of p x l e) s → f ≡ []
-    → IsMove (IsAt x s) s y (AnswerEvent w answer) m → IsDroppedFor blocks_told size count lending m p q → Leaves x y → y.clock ≡ x.clock
-    → IsMoved blocks_told count (world_of p x l e) (world_of q y l f) s (AnswerEvent w answer) m.outcome
-answer_moves blocks_told size count lending s w answer m p q x y l e f of standing none move drops leaves clock =
-    let at : (acts : List Act) → Stands blocks_told (world_of p x l e) s acts → IsAt x s (state s acts) = λ acts stands. at_of blocks_told s p x l e acts of stands in
-    let mark = mark_of m.outcome.told in
-    let to : (acts : List Act) → Stands blocks_told (world_of p x l e) s acts → after s (state s acts) (told_act (AnswerEvent w answer) m.outcome.told) ≡ answered w (said_of answer) (state s acts)
-    = λ acts stands. after_answer s (state s acts) w answer mark (move.is_enabled (state s acts) (at acts stands)) in
-    session_moves blocks_told size count lending s (AnswerEvent w answer) m (IsAt x s) p q x y l e f of none move (λ st. refl) drops leaves (none_gone y.clock x.clock clock)
-    (other_clean mark (move.is_allowed (state s standing.acts) (at standing.acts standing.stands)))
-    at
-    (λ acts stands. subst (λ (z : State). IsInPlan s z) (sym (to acts stands)) (said_in s w (said_of answer) (state s acts) stands.at.plan))
+  pub tick_moves : (lane n : ℕ) → n ≤ 1000000000 → IsMove (IsAt x s) s y (Line lane (Tick n)) m → Leaves (later_by n x) y
+      → IsMoved device.told device.count (world_of p x l e) (world_of q y l f) s (Line lane (Tick n)) m.outcome
+  tick_moves lane n few move leaves =
+      comes (Line lane (Tick n)) (ticked n) move (λ st. refl) (leaves_of s (later_by n x) y (later_of s n x of.writers) leaves) (goes_later n x y few leaves)
+      (λ st. fault_free (event_allows s st (Line lane (Tick n))) refl (λ k. refl) (mark_of m.outcome.told)) (λ st. refl) (λ acts. ticked_goes s acts n) (ticked_in s n)
 
-pub idle_moves : {D : Type 0} (blocks_told : D → Option (List (List ℕ))) (size count : D → ℕ) (lending : D → Bool) (s : Plan) (m : SessionMove) (p q : ProviderValue D) (x y : SessionsValue) (l : List ℕ) (e f : List Evicted)
-    → IsOf (world_of p x l e) s → IsStanding blocks_told (world_of p x l e) s → f ≡ []
-    → IsMove (IsAt x s) s y Idle m → IsDroppedFor blocks_told size count lending m p q → Leaves x y → y.clock ≤ x.clock + (300000 + 1)
-    → IsMoved blocks_told count (world_of p x l e) (world_of q y l f) s Idle m.outcome
-idle_moves blocks_told size count lending s m p q x y l e f of standing none move drops leaves clock =
-    let at : (acts : List Act) → Stands blocks_told (world_of p x l e) s acts → IsAt x s (state s acts) = λ acts stands. at_of blocks_told s p x l e acts of stands in
-    let mark = mark_of m.outcome.told in
-    let to : (acts : List Act) → Stands blocks_told (world_of p x l e) s acts → after s (state s acts) (told_act Idle m.outcome.told) ≡ ticked (idle_now (state s acts)) (state s acts)
-    = λ acts stands. after_idle s (state s acts) mark (move.is_enabled (state s acts) (at acts stands)) in
-    session_moves blocks_told size count lending s Idle m (IsAt x s) p q x y l e f of none move (λ st. refl) drops leaves (limit_few y.clock x.clock clock)
-    (other_clean mark (move.is_allowed (state s standing.acts) (at standing.acts standing.stands)))
-    at
-    (λ acts stands. subst (λ (z : State). IsInPlan s z) (sym (to acts stands)) (ticked_in s (idle_now (state s acts)) (state s acts) stands.at.plan))
+  pub answer_moves : (w : ℕ) (answer : Answer) → IsMove (IsAt x s) s y (AnswerEvent w answer) m → Leaves x y
+      → IsMoved device.told device.count (world_of p x l e) (world_of q y l f) s (AnswerEvent w answer) m.outcome
+  answer_moves w answer move leaves =
+      comes (AnswerEvent w answer) (answered w (said_of answer)) move (λ st. refl) (leaves_of s x y of.writers leaves) (goes_on x y leaves)
+      (λ st. fault_free (event_allows s st (AnswerEvent w answer)) refl (λ k. refl) (mark_of m.outcome.told)) (λ st. refl) (said_goes s w answer) (said_in s w answer)
 
--- ## and one that waits
-
-pub waits_at : {D : Type 0} (blocks_told : D → Option (List (List ℕ))) (s : Plan) (event : Event) (p : ProviderValue D) (x y : SessionsValue) (l : List ℕ) (e : List Evicted)
-    → IsOf (world_of p x l e) s → IsWait (IsAt x s) s x y event → IsBlocked blocks_told (world_of p x l e) (world_of p y l e) s event
-waits_at blocks_told s event p x y l e of wait = session_waits blocks_told s event (IsAt x s) p x y l e wait (λ acts stands. at_of blocks_told s p x l e acts of stands)
-
-pub known_as : (s : Plan) (w n : ℕ) → n ≡ length s.writers → w < length s.writers → w < n
-known_as s w n e l = subst (λ k. w < k) (sym e) l
+  pub idle_moves : IsMove (IsAt x s) s y Idle m → LeavesWithin (300000 + 1) x y → IsMoved device.told device.count (world_of p x l e) (world_of q y l f) s Idle m.outcome
+  idle_moves move within =
+      let few = within.few in
+      comes Idle (λ st. ticked (idle_now st) st) move (λ st. refl) (leaves_of s (later_by within.ticks x) y (later_of s within.ticks x of.writers) within.leaves)
+      (goes_later within.ticks x y (omega (arith, few)) within.leaves)
+      (λ st. fault_free (event_allows s st Idle) refl (λ k. refl) (mark_of m.outcome.told)) (λ st. refl) (λ acts. ticked_goes s acts (idle_now (state s acts))) (λ st. ticked_in s (idle_now st) st)

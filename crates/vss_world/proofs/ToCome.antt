@@ -1,6 +1,6 @@
 -- What the provider has, at the states of acts: the image of the set in progress is missing only where it is held back, newest, and names
 -- no block. So all that is asked of the histories is the same of those of the definitions.
-use Rattle.std.proofs.Common.{◌≡◌, ℕ, ◌+◌, List, length, refl, ap, sym, ◌∙◌, subst, arith, Bool, true, false, Option, Some, None, inl, inr, map}
+use Rattle.std.proofs.Common.{◌≡◌, ℕ, ◌+◌, List, refl, ap, sym, ◌∙◌, subst, arith, Bool, true, false, Option, Some, None, inl, inr, map}
 use Rattle.std.specs.Prelude.{not, ◌&&◌}
 use Rattle.write_history.specs.History.{History, dropped, point_in}
 use Rattle.write_history.specs.Slots.{Placed, gone_up_to, group_used, copies}
@@ -21,7 +21,8 @@ use Rattle.vss_model.proofs.NewestImage.{newest_image}
 use Rattle.vss_model.proofs.OneCut.{images_in_time}
 use Rattle.vss_world.specs.Provided.{is_to_come, without, provided_of, provided}
 use Rattle.vss_world.proofs.Unnamed.{IsUnnamed}
-use Rattle.vss_world.proofs.WithoutImages.{AreUnnamed, LeavesApart, without_long, none_without, map_without, change_without, change_free, dropped_without, gone_without, group_used_without, copies_without_all}
+use Rattle.vss_world.proofs.WithoutImages.{AreUnnamed, LeavesApart, none_without, map_without, change_without, dropped_without, gone_without, group_used_without}
+use Rattle.vss_world.proofs.WithoutImages.{copies_without_all}
 use Rattle.vss_world.proofs.CommitLog.{unreleased}
 
 -- ## where an image is to come
@@ -40,10 +41,25 @@ volumes_are Prepare vs ms participants o r e f h = cc
 volumes_are Complete vs ms participants o r e f h = cc
 
 -- the running snapshot agenda has the volumes of the set in progress
-pub agenda_volumes : (s : Plan) (acts : List Act) (a : Agenda) (r : SetRow) → (state s acts).course.agenda ≡ Some a → is_snapshot a.kind ≡ true → in_progress (state s acts) ≡ Some r → a.volumes ≡ r.volumes
+pub agenda_volumes : (s : Plan) (acts : List Act) (a : Agenda) (r : SetRow) → (state s acts).course.agenda ≡ Some a → is_snapshot a.kind ≡ true → in_progress (state s acts) ≡ Some r
+    → a.volumes ≡ r.volumes
 agenda_volumes s acts a r runs snapshot e =
     let st = state s acts in
-    volumes_are a.kind a.volumes a.members st.course.members (in_progress st) r (kind_is a.kind snapshot) e (subst (λ (o : Option Agenda). Tied o st.course.members (in_progress st)) runs (tied s acts))
+    volumes_are a.kind a.volumes a.members st.course.members (in_progress st) r (kind_is a.kind snapshot) e
+    (subst (λ (o : Option Agenda). Tied o st.course.members (in_progress st)) runs (tied s acts))
+
+no_set_is : (k : Kind) (vs : List ℕ) (ms participants : List Member) (o : Option SetRow) → k ≡ Snapshot → o ≡ None → IsOf k vs ms participants o → ⊥
+no_set_is Snapshot vs ms participants None e f h = h
+no_set_is Snapshot vs ms participants (Some r) e f h = cc
+no_set_is Gather vs ms participants o e f h = cc
+no_set_is Prepare vs ms participants o e f h = cc
+no_set_is Complete vs ms participants o e f h = cc
+
+-- it has a set in progress
+pub has_snapshot_set : (s : Plan) (acts : List Act) (a : Agenda) → (state s acts).course.agenda ≡ Some a → is_snapshot a.kind ≡ true → in_progress (state s acts) ≡ None → ⊥
+has_snapshot_set s acts a runs snapshot e =
+    let st = state s acts in
+    no_set_is a.kind a.volumes a.members st.course.members (in_progress st) (kind_is a.kind snapshot) e (subst (λ (o : Option Agenda). Tied o st.course.members (in_progress st)) runs (tied s acts))
 
 to_come_parts : (a b c : Bool) → (a && b && not c) ≡ true → (a ≡ true) × (b ≡ true) × (c ≡ false)
 to_come_parts true true true e = cc
@@ -58,17 +74,20 @@ held_so true false c e f g = cc
 held_so false b c e f g = cc
 
 -- where it stands in the definitions its volume is held
-pub held_to_come : (s : Plan) (acts : List Act) (r : SetRow) (v p : ℕ) → in_progress (state s acts) ≡ Some r → is_to_come (state s acts).course.agenda v ≡ true → point_in r.number (history_of (state s acts) v).images ≡ Some p → is_held (state s acts) v ≡ true
+pub held_to_come : (s : Plan) (acts : List Act) (r : SetRow) (v p : ℕ) → in_progress (state s acts) ≡ Some r → is_to_come (state s acts).course.agenda v ≡ true
+    → point_in r.number (history_of (state s acts) v).images ≡ Some p → is_held (state s acts) v ≡ true
 held_to_come s acts r v p e coming has =
     let st = state s acts in
     let h = image_runs s acts r v p e has in
-    let parts = to_come_parts (is_snapshot h.agenda.kind) (has_said h.agenda.log (plain Cut) 0) (has_said h.agenda.log (plain Commit) v) (subst (λ (o : Option Agenda). is_to_come o v ≡ true) h.runs coming) in
+    let parts = to_come_parts (is_snapshot h.agenda.kind) (has_said h.agenda.log (plain Cut) 0) (has_said h.agenda.log (plain Commit) v)
+    (subst (λ (o : Option Agenda). is_to_come o v ≡ true) h.runs coming) in
     let among : is_among v h.agenda.volumes ≡ true = ap (is_among v) (agenda_volumes s acts h.agenda r h.runs h.snapshot e) ∙ h.among in
     subst (λ (o : Option Agenda). agenda_holds o v ≡ true) (sym h.runs)
     (held_so (is_snapshot h.agenda.kind) (has_said h.agenda.log (plain Hold) v) (has_said h.agenda.log (plain Release) v) h.snapshot h.hold (unreleased s acts h.agenda v h.runs among parts.2))
 
 -- and it is the newest, and names no block
-pub unnamed_at : (s : Plan) (acts : List Act) (r : SetRow) (v : ℕ) → in_progress (state s acts) ≡ Some r → is_to_come (state s acts).course.agenda v ≡ true → IsUnnamed r.number (history_of (state s acts) v)
+pub unnamed_at : (s : Plan) (acts : List Act) (r : SetRow) (v : ℕ) → in_progress (state s acts) ≡ Some r → is_to_come (state s acts).course.agenda v ≡ true
+    → IsUnnamed r.number (history_of (state s acts) v)
 unnamed_at s acts r v e coming = by_point (point_in r.number (history_of (state s acts) v).images) refl
   where
     by_point : (o : Option ℕ) → point_in r.number (history_of (state s acts) v).images ≡ o → IsUnnamed r.number (history_of (state s acts) v)
@@ -82,7 +101,7 @@ zero_plus k = omega arith
 
 -- ## the histories that the provider has
 
-provided_with : (r : SetRow) (a : Option Agenda) (hs : List History) → provided_of (Some r) a hs ≡ without (is_to_come a) r.number 0 hs
+pub provided_with : (r : SetRow) (a : Option Agenda) (hs : List History) → provided_of (Some r) a hs ≡ without (is_to_come a) r.number 0 hs
 provided_with r None hs = sym (none_without (is_to_come None) r.number 0 hs (λ u. refl))
 provided_with r (Some a) hs = refl
 
@@ -97,26 +116,16 @@ no_set_provided st e = ap (λ (o : Option SetRow). provided_of o st.course.agend
 pub no_agenda_provided : (st : State) → st.course.agenda ≡ None → provided st ≡ st.volumes
 no_agenda_provided st e = ap (λ (a : Option Agenda). provided_of (in_progress st) a st.volumes) e ∙ all_provided (in_progress st) None st.volumes (λ v. refl)
 
-pub provided_long : (o : Option SetRow) (a : Option Agenda) (hs : List History) → length (provided_of o a hs) ≡ length hs
-provided_long None a hs = refl
-provided_long (Some r) None hs = refl
-provided_long (Some r) (Some a) hs = without_long (is_to_come (Some a)) r.number 0 hs
-
 pub map_provided : (f : History → History) → ((n : ℕ) → LeavesApart n f) → (o : Option SetRow) (a : Option Agenda) (hs : List History) → map f (provided_of o a hs) ≡ provided_of o a (map f hs)
 map_provided f apart None a hs = refl
 map_provided f apart (Some r) None hs = refl
 map_provided f apart (Some r) (Some a) hs = map_without (is_to_come (Some a)) r.number f (apart r.number) 0 hs
 
-pub change_provided : (f : History → History) → ((n : ℕ) → LeavesApart n f) → (k : ℕ) (o : Option SetRow) (a : Option Agenda) (hs : List History) → change_at k f (provided_of o a hs) ≡ provided_of o a (change_at k f hs)
+pub change_provided : (f : History → History) → ((n : ℕ) → LeavesApart n f) → (k : ℕ) (o : Option SetRow) (a : Option Agenda) (hs : List History)
+    → change_at k f (provided_of o a hs) ≡ provided_of o a (change_at k f hs)
 change_provided f apart k None a hs = refl
 change_provided f apart k (Some r) None hs = refl
 change_provided f apart k (Some r) (Some a) hs = change_without (is_to_come (Some a)) r.number f (apart r.number) 0 k hs
-
--- whatever a change does to a volume of which nothing is to come
-pub change_free_provided : (f : History → History) (k : ℕ) (o : Option SetRow) (a : Option Agenda) (hs : List History) → is_to_come a k ≡ false → change_at k f (provided_of o a hs) ≡ provided_of o a (change_at k f hs)
-change_free_provided f k None a hs free = refl
-change_free_provided f k (Some r) None hs free = refl
-change_free_provided f k (Some r) (Some a) hs free = change_free (is_to_come (Some a)) r.number f 0 k hs (ap (is_to_come (Some a)) (zero_plus k) ∙ free)
 
 pub gone_provided : (m : ℕ) (ps : List Placed) (o : Option SetRow) (a : Option Agenda) (hs : List History) → gone_up_to m ps (provided_of o a hs) ≡ provided_of o a (gone_up_to m ps hs)
 gone_provided m ps None a hs = refl

@@ -21,7 +21,8 @@ pub without_none : (n : ℕ) (images : List Image) → point_in n images ≡ Non
 without_none n [] e = refl
 without_none n (i ∷ images) e = by_test (i.set == n) e (without_none n images)
   where
-    by_test : (b : Bool) → (if b then Some i.point else point_in n images) ≡ None → (point_in n images ≡ None → without_set n images ≡ images) → (if not b then i ∷ without_set n images else without_set n images) ≡ i ∷ images
+    by_test : (b : Bool) → (if b then Some i.point else point_in n images) ≡ None → (point_in n images ≡ None → without_set n images ≡ images)
+        → (if not b then i ∷ without_set n images else without_set n images) ≡ i ∷ images
     by_test true f rest = cc
     by_test false f rest = ap (λ (is : List Image). i ∷ is) (rest f)
 
@@ -31,7 +32,7 @@ differs a n l = grind arith
 own : (a : ℕ) → (a == a) ≡ true
 own a = grind arith
 
-later_last : (i : Image) (n p : ℕ) (older : List Image) → AreLater i (older ++ record { set = n; point = p } ∷ []) → i.set < n
+pub later_last : (i : Image) (n p : ℕ) (older : List Image) → AreLater i (older ++ record { set = n; point = p } ∷ []) → i.set < n
 later_last i n p [] h = h.0
 later_last i n p (j ∷ older) h = later_last i n p older h.2
 
@@ -70,7 +71,8 @@ used_before b n ws (j ∷ older) h =
     ap (λ (bs : List ℕ). length bs + used b ws (older ++ last n ws ∷ [])) (named_before b n ws j older h.0)
     ∙ ap (λ (k : ℕ). length (named b ws j older) + k) (used_before b n ws older h.2)
 
-used_by_before : (b n m : ℕ) (ws : List Write) (older : List Image) → (n == m) ≡ false → AreInTime (length ws) (older ++ last n ws ∷ []) → used_by b ws (older ++ last n ws ∷ []) m ≡ used_by b ws older m
+used_by_before : (b n m : ℕ) (ws : List Write) (older : List Image) → (n == m) ≡ false → AreInTime (length ws) (older ++ last n ws ∷ [])
+    → used_by b ws (older ++ last n ws ∷ []) m ≡ used_by b ws older m
 used_by_before b n m ws [] e h = rw e refl
 used_by_before b n m ws (j ∷ older) e h =
     ap (λ (bs : List ℕ). if j.set == m then Some (length bs) else used_by b ws (older ++ last n ws ∷ []) m) (named_before b n ws j older h.0)
@@ -85,7 +87,8 @@ copies_before v b n ws (j ∷ older) h =
 -- ## of a history without it
 
 -- what is the same of the older images is the same of a history without the image
-without_it : {X : Type 0} (f : List Image → X) (n : ℕ) (h : History) → ((older : List Image) → AreInTime (length h.writes) (older ++ last n h.writes ∷ []) → f (older ++ last n h.writes ∷ []) ≡ f older)
+without_it : {X : Type 0} (f : List Image → X) (n : ℕ) (h : History)
+    → ((older : List Image) → AreInTime (length h.writes) (older ++ last n h.writes ∷ []) → f (older ++ last n h.writes ∷ []) ≡ f older)
     → IsUnnamed n h → f (without_set n h.images) ≡ f h.images
 without_it f n h same (inl none) = ap f (without_none n h.images none)
 without_it f n h same (inr new) =

@@ -1,5 +1,5 @@
 -- Histories without the image of a set on some volumes: what is done to the volumes is done to these likewise.
-use Rattle.std.proofs.Common.{◌≡◌, ℕ, zero, suc, ◌+◌, ◌==◌, List, [], ◌∷◌, ◌++◌, length, refl, ap, sym, ◌∙◌, arith, Bool, true, false, Some, None, map, filter, slice_get}
+use Rattle.std.proofs.Common.{◌≡◌, ℕ, zero, suc, ◌+◌, ◌≤◌, ◌==◌, List, [], ◌∷◌, ◌++◌, length, refl, ap, sym, ◌∙◌, arith, Bool, true, false, Some, None, map, filter, slice_get}
 use Rattle.std.specs.Prelude.{not, nat_lt, if◌then◌else◌}
 use Rattle.write_history.specs.History.{Write, Image, History, dropped, written, without_set, after_set}
 use Rattle.write_history.specs.Slots.{Placed, Copy, gone_up_to, group_used, used, copies_from, copies_of}
@@ -12,7 +12,7 @@ use Rattle.vss_world.proofs.Unnamed.{IsUnnamed, used_without, copies_without}
 filter_head : {X : Type 0} (p : X → Bool) (x : X) (xs : List X) (b : Bool) → p x ≡ b → filter p (x ∷ xs) ≡ (if b then x ∷ filter p xs else filter p xs)
 filter_head p x xs b e = ap (λ (c : Bool). if c then x ∷ filter p xs else filter p xs) e
 
-filter_twice : {X : Type 0} (p q : X → Bool) (xs : List X) → filter p (filter q xs) ≡ filter q (filter p xs)
+pub filter_twice : {X : Type 0} (p q : X → Bool) (xs : List X) → filter p (filter q xs) ≡ filter q (filter p xs)
 filter_twice p q [] = refl
 filter_twice {X = X} p q (x ∷ xs) = by_tests (p x) (q x) refl refl (filter_twice p q xs)
   where
@@ -72,7 +72,7 @@ module _ (test : ℕ → Bool) (n : ℕ) where
   without_at v zero (x ∷ hs) h e = let same : x ≡ h = cc in ap (λ (y : History). Some (dropped_if (test v) n y)) same ∙ ap (λ (u : ℕ). Some (dropped_if (test u) n h)) (sym (no_further v))
   without_at v (suc k) (x ∷ hs) h e = without_at (v + 1) k hs h e ∙ ap (λ (u : ℕ). Some (dropped_if (test u) n h)) (sym (next v k))
 
-  none_at : (v k : ℕ) (hs : List History) → slice_get hs k ≡ None → slice_get (without test n v hs) k ≡ None
+  pub none_at : (v k : ℕ) (hs : List History) → slice_get hs k ≡ None → slice_get (without test n v hs) k ≡ None
   none_at v k [] e = e
   none_at v zero (x ∷ hs) e = cc
   none_at v (suc k) (x ∷ hs) e = none_at (v + 1) k hs e
@@ -117,7 +117,9 @@ module _ (test : ℕ → Bool) (n : ℕ) where
   dropped_without v (h ∷ hs) =
       ap (λ (x : History). x ∷ map (dropped n) (without test n (v + 1) hs)) (dropped_so (test v) n h) ∙ ap (λ (ks : List History). dropped n h ∷ ks) (dropped_without (v + 1) hs)
 
-  gone_one : (within b : Bool) (m : ℕ) (h : History) → (let g = dropped_if b n h in if within then record { writes = g.writes; images = after_set m g.images } else g) ≡ dropped_if b n (if within then record { writes = h.writes; images = after_set m h.images } else h)
+  gone_one : (within b : Bool) (m : ℕ) (h : History)
+      → (let g = dropped_if b n h in if within then record { writes = g.writes; images = after_set m g.images } else g) ≡ dropped_if b n
+      (if within then record { writes = h.writes; images = after_set m h.images } else h)
   gone_one true true m h = ap (λ (is : List Image). record { writes = h.writes; images = is }) (filter_twice (λ i. nat_lt m i.set) (λ i. not (i.set == n)) h.images)
   gone_one true false m h = refl
   gone_one false b m h = refl
@@ -156,6 +158,25 @@ module _ (test : ℕ → Bool) (n : ℕ) where
   copies_without_all u v [] hs un = refl
   copies_without_all u v (p ∷ ps) [] un = refl
   copies_without_all u v (p ∷ ps) (h ∷ hs) un =
-      ap (λ (cs : List Copy). if p.within then cs ++ copies_from (u + 1) ps (without test n (v + 1) hs) else copies_from u ps (without test n (v + 1) hs)) (copies_one (test v) u p.blocks h (λ e. un 0 h refl (ap test (no_further v) ∙ e)))
-      ∙ ap (λ (cs : List Copy). if p.within then copies_of u p.blocks h.writes h.images ++ cs else copies_from u ps (without test n (v + 1) hs)) (copies_without_all (u + 1) (v + 1) ps hs (later_unnamed v h hs un))
+      ap (λ (cs : List Copy). if p.within then cs ++ copies_from (u + 1) ps (without test n (v + 1) hs) else copies_from u ps (without test n (v + 1) hs))
+      (copies_one (test v) u p.blocks h (λ e. un 0 h refl (ap test (no_further v) ∙ e)))
+      ∙ ap (λ (cs : List Copy). if p.within then copies_of u p.blocks h.writes h.images ++ cs else copies_from u ps (without test n (v + 1) hs))
+      (copies_without_all (u + 1) (v + 1) ps hs (later_unnamed v h hs un))
       ∙ ap (λ (cs : List Copy). if p.within then copies_of u p.blocks h.writes h.images ++ copies_from (u + 1) ps hs else cs) (copies_without_all u (v + 1) ps hs (later_unnamed v h hs un))
+
+-- ## tests that agree
+
+next_on : (v k : ℕ) → v + 1 ≤ k → v ≤ k
+next_on v k l = omega arith
+
+reflexive : (v : ℕ) → v ≤ v
+reflexive v = omega arith
+
+pub without_past : (t u : ℕ → Bool) (n v : ℕ) (hs : List History) → ((k : ℕ) → v ≤ k → t k ≡ u k) → without t n v hs ≡ without u n v hs
+without_past t u n v [] e = refl
+without_past t u n v (h ∷ hs) e =
+    ap (λ (b : Bool). dropped_if b n h ∷ without t n (v + 1) hs) (e v (reflexive v))
+    ∙ ap (λ (ks : List History). dropped_if (u v) n h ∷ ks) (without_past t u n (v + 1) hs (λ k l. e k (next_on v k l)))
+
+pub without_like : (t u : ℕ → Bool) (n v : ℕ) (hs : List History) → ((k : ℕ) → t k ≡ u k) → without t n v hs ≡ without u n v hs
+without_like t u n v hs e = without_past t u n v hs (λ k l. e k)

@@ -8,7 +8,9 @@ use Rattle.scenario.specs.Plan.{Plan}
 use Rattle.diff_area.specs.Copies.{AreStored}
 use Rattle.cow_volume.specs.GroupValue.{placed}
 use Rattle.cow_volume.specs.StandsFor.{told_in}
-use Rattle.provider.specs.Groups.{of_group, blocks_in_group}
+use Rattle.cow_volume.specs.declared.cause.Cause.{Cause}
+use Rattle.cow_volume.specs.declared.cause.Cause.TheVariants.{NoSuchBlock, Volume, Area}
+use Rattle.scenario.specs.Places.{of_group, blocks_in_group}
 use Rattle.provider.specs.Devices.{RoseAlone, first_place, area_place, volume_place, volumes_area}
 
 -- ## what is told
@@ -55,3 +57,9 @@ AreaHolds told s hs devices g = AllTell told s devices g
 abbrev pub RoseFor : Plan → Option ℕ → List ℕ → List ℕ → Type 0
 RoseFor s None old new = ⊥
 RoseFor s (Some v) old new = RoseAlone (volume_place s v) old new ⊎ RoseAlone (volumes_area s v) old new
+
+-- the count of the device that failed rose, and no other; no call on a volume of the scenario fails for want of its block
+abbrev pub HasFailed : Plan → ℕ → Cause → List ℕ → List ℕ → Type 0
+HasFailed s v NoSuchBlock old new = ⊥
+HasFailed s v Volume old new = RoseAlone (volume_place s v) old new
+HasFailed s v Area old new = RoseAlone (volumes_area s v) old new

@@ -5,8 +5,6 @@ pub mod Quiet
 pub mod Reading
 pub mod Puts
 pub mod Settling
-pub mod Steps
-pub mod Evicting
 pub mod Beginning
 pub mod Digests
 pub mod Provided

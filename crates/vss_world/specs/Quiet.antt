@@ -10,8 +10,10 @@ use Rattle.vss_model.specs.State.{history_of, kept}
 use Rattle.vss_model.specs.Acts.{Act, state}
 use Rattle.sessions.specs.Keeps.{SessionsValue, Keeps}
 use Rattle.provider.specs.Preparing.{ProviderValue}
-use Rattle.provider.specs.Groups.{blocks_in_group, AreGroups}
+use Rattle.scenario.specs.Places.{blocks_in_group}
+use Rattle.provider.specs.Groups.{AreGroups}
 use Rattle.provider.specs.Devices.{AreLater, area_place}
+use Rattle.vss_world.specs.Provided.{provided}
 use Rattle.vss_world.specs.Devices.{tells_of, told_by, AreaHolds}
 use Rattle.vss_world.specs.Stands.{WorldValue, IsOf, Stands}
 
@@ -64,4 +66,4 @@ used_at (Some r) h = used r.blocks h.writes h.images
 
 -- these are the sets whose images are kept on volume v, at each list of acts for which both parts stand
 abbrev pub AreKeptSets : {D : Type 0} → (D → Option (List (List ℕ))) → ProviderValue D → SessionsValue → Plan → ℕ → List ℕ → Type 0
-AreKeptSets told p x s v sets = (acts : List Act) → Keeps x (state s acts) → AreGroups told s p.groups (state s acts).volumes → sets ≡ sets_of (kept (state s acts) (history_of (state s acts) v))
+AreKeptSets told p x s v sets = (acts : List Act) → Keeps x (state s acts) → AreGroups told s p.groups (provided (state s acts)) → sets ≡ sets_of (kept (state s acts) (history_of (state s acts) v))

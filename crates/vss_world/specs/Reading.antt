@@ -1,6 +1,6 @@
 -- What is told of what was read: a block by its first bytes and its digest, an image by its digest. A call that reads leaves what the
 -- groups stand for as it was. (This project's own.)
-use Rattle.std.specs.Prelude.{ℕ, ◌≡◌, Bool, true, false, List, length, take, Option, Some, None}
+use Rattle.std.specs.Prelude.{ℕ, ◌≡◌, true, false, List, length, take, Option, Some, None}
 use Rattle.std.specs.List.{concat}
 use Rattle.hex.specs.Hex.{IsBytes}
 use Rattle.block_data.specs.Digest.{sha256}
@@ -12,7 +12,8 @@ use Rattle.provider.specs.Groups.{IfStandFor, history_at}
 use Rattle.provider.specs.Devices.{tells_at, HasCause}
 use Rattle.provider.specs.Calls.{IsQuiet, HasImage}
 use Rattle.provider.specs.Preparing.{ProviderValue}
-use Rattle.provider.specs.declared.device_fault.DeviceFault.{DeviceFault}
+use Rattle.volume_device.specs.declared.device.Device.{Ghosts}
+use Rattle.cow_volume.specs.declared.cause.Cause.{Cause}
 use Rattle.vss_world.specs.declared.fingerprint.Fingerprint.{Fingerprint}
 
 pub record IsFingerprint (bytes : List ℕ) (f : Fingerprint) : Type 0 where
@@ -29,9 +30,9 @@ pub record IsWide (f : Fingerprint) : Type 0 where
 -- ## a call that reads
 
 -- the provider stands for what it stood for; a device failed, or each count is as it was
-pub record IsReading {D : Type 0} (told : D → Option (List (List ℕ))) (size count : D → ℕ) (lending : D → Bool) (s : Plan) (old new : ProviderValue D) (v : ℕ) (fault : Option DeviceFault) : Type 0 where
-  pub quiet : IsQuiet told size count lending s old.groups new.groups v
-  pub cause : HasCause count s v fault old.groups new.groups
+pub record IsReading {D : Type 0} (device : Ghosts D) (s : Plan) (old new : ProviderValue D) (v : ℕ) (fault : Option Cause) : Type 0 where
+  pub quiet : IsQuiet device s old.groups new.groups v
+  pub cause : HasCause device.count s v fault old.groups new.groups
   pub rest : new ≡ record old { groups = new.groups }
 
 -- the bytes of a block, at each list of histories, where the volume tells; and the fingerprint is that of those bytes
@@ -61,16 +62,16 @@ pub record IsDigestTold {D : Type 0} (told : D → Option (List (List ℕ))) (s 
   pub bytes : IsBytes digest
 
 -- what was told of a block: its fingerprint, or the fault of a device
-abbrev pub IsBlockSeen : {D : Type 0} → (D → Option (List (List ℕ))) → (D → ℕ) → (D → ℕ) → (D → Bool) → Plan → ProviderValue D → ProviderValue D → ℕ → (List History → List ℕ → Type 0) → Told → Type 0
-IsBlockSeen blocks_told size count lending s old new v are (told.Block first digest) = IsReading blocks_told size count lending s old new v None × IsBlockTold blocks_told s old v are first digest
-IsBlockSeen blocks_told size count lending s old new v are told.Fault = (fault : DeviceFault) × IsReading blocks_told size count lending s old new v (Some fault)
-IsBlockSeen blocks_told size count lending s old new v are _ = ⊥
+abbrev pub IsBlockSeen : {D : Type 0} → Ghosts D → Plan → ProviderValue D → ProviderValue D → ℕ → (List History → List ℕ → Type 0) → Told → Type 0
+IsBlockSeen device s old new v are (told.Block first digest) = IsReading device s old new v None × IsBlockTold device.told s old v are first digest
+IsBlockSeen device s old new v are told.Fault = (fault : Cause) × IsReading device s old new v (Some fault)
+IsBlockSeen device s old new v are _ = ⊥
 
 -- what was told of all blocks: their digest, or the fault of a device
-abbrev pub IsDigestSeen : {D : Type 0} → (D → Option (List (List ℕ))) → (D → ℕ) → (D → ℕ) → (D → Bool) → Plan → ProviderValue D → ProviderValue D → ℕ → (List History → List ℕ → Type 0) → Told → Type 0
-IsDigestSeen blocks_told size count lending s old new v are (told.Digest digest) = IsReading blocks_told size count lending s old new v None × IsDigestTold blocks_told s old v are digest
-IsDigestSeen blocks_told size count lending s old new v are told.Fault = (fault : DeviceFault) × IsReading blocks_told size count lending s old new v (Some fault)
-IsDigestSeen blocks_told size count lending s old new v are _ = ⊥
+abbrev pub IsDigestSeen : {D : Type 0} → Ghosts D → Plan → ProviderValue D → ProviderValue D → ℕ → (List History → List ℕ → Type 0) → Told → Type 0
+IsDigestSeen device s old new v are (told.Digest digest) = IsReading device s old new v None × IsDigestTold device.told s old v are digest
+IsDigestSeen device s old new v are told.Fault = (fault : Cause) × IsReading device s old new v (Some fault)
+IsDigestSeen device s old new v are _ = ⊥
 
 -- where no image of the set stands on the volume, nothing changed and nothing is told
 abbrev pub IsSeenIf : {D : Type 0} → (D → Option (List (List ℕ))) → Plan → ProviderValue D → ProviderValue D → ℕ → ℕ → (Told → Type 0) → Option Told → Type 0

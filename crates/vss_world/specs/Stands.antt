@@ -1,17 +1,21 @@
--- What the core of the service stands for: a list of acts. Its groups of volumes stand for the histories of the volumes, and its other
--- parts for the rest of the state. (This project's own.)
-use Rattle.std.specs.Prelude.{ℕ, ◌≡◌, ◌<◌, ◌≤◌, ◌*◌, List, [], ◌∷◌, length, Option, Some, None}
+-- What the core of the service stands for: a list of acts. Its groups of volumes stand for the histories of the volumes, but for the
+-- images of the set in progress that are still to come; the provider prepares the set in progress; and its other parts stand for the
+-- rest of the state. (This project's own.)
+use Rattle.std.specs.Prelude.{ℕ, ◌≡◌, ◌<◌, ◌≤◌, ◌*◌, true, List, [], ◌∷◌, length, if◌then◌else◌, Option, Some, None}
 use Rattle.set_agenda.specs.declared.member.Member.{Member}
-use Rattle.set_agenda.specs.Agenda.{Agenda}
+use Rattle.set_agenda.specs.Agenda.{Agenda, is_snapshot}
+use Rattle.set_agenda.specs.Begin.{are_distinct}
 use Rattle.scenario.specs.Plan.{Plan}
 use Rattle.write_history.specs.declared.evicted.Evicted.{Evicted}
-use Rattle.vss_model.specs.State.{State, SetRow}
+use Rattle.vss_model.specs.State.{State, SetRow, in_progress}
+use Rattle.vss_model.specs.Sessions.{volumes_of}
 use Rattle.vss_model.specs.Acts.{Act, state}
 use Rattle.provider.specs.Groups.{AreGroups, HasGroups}
 use Rattle.provider.specs.Devices.{devices_of}
 use Rattle.provider.specs.Preparing.{ProviderValue}
 use Rattle.sessions.specs.Keeps.{SessionsValue, Keeps, IsOf as IsSessionsOf}
 use Rattle.vss_world.specs.Devices.{AllTied}
+use Rattle.vss_world.specs.Provided.{provided}
 
 -- what a contract sees: the devices, in the order in which they are given back; the lists that the last step told beside its outcome;
 -- and the rest, of which `Stands` speaks
@@ -32,6 +36,20 @@ pub record IsOf {D : Type 0} (w : WorldValue D) (s : Plan) : Type 0 where
   pub number : length w.provider.groups ≡ length s.groups
   pub groups : HasGroups s w.provider.groups
   pub writers : IsSessionsOf w.sessions s
+
+-- ## the set that is prepared
+
+-- the number of the set whose snapshot's agenda runs; 0 where none does
+abbrev pub number_prepared : Option SetRow → Option Agenda → ℕ
+number_prepared None a = 0
+number_prepared (Some r) None = 0
+number_prepared (Some r) (Some a) = if is_snapshot a.kind then r.number else 0
+
+-- the provider prepares the set in progress: it has its volumes, and its number from the accepted `snapshot` on
+pub record IsPrepared {D : Type 0} (p : ProviderValue D) (st : State) : Type 0 where
+  pub volumes : p.volumes ≡ volumes_of (in_progress st)
+  pub set : p.set ≡ number_prepared (in_progress st) st.course.agenda
+  pub distinct : are_distinct p.volumes ≡ true
 
 -- ## numbers
 
@@ -63,7 +81,8 @@ pub record IsInPlan (s : Plan) (st : State) : Type 0 where
 
 -- a state
 pub record StandsAt {D : Type 0} (told : D → Option (List (List ℕ))) (w : WorldValue D) (s : Plan) (st : State) : Type 0 where
-  pub groups : AreGroups told s w.provider.groups st.volumes
+  pub groups : AreGroups told s w.provider.groups (provided st)
+  pub prepared : IsPrepared w.provider st
   pub sessions : Keeps w.sessions st
   pub plan : IsInPlan s st
   -- this follows from the groups

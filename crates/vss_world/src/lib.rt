@@ -11,7 +11,6 @@ mod beginning;
 mod calling;
 mod enabling;
 mod evicted_images;
-mod evicting;
 mod fingerprint;
 mod lines;
 mod listed_sets;

@@ -59,6 +59,7 @@ impl<D: Device> World<D> {
             Op::DeleteSet { set } => Ok(self.delete_set(scenario, lane, set)),
             Op::DeleteImage { set, volume } => Ok(self.delete_image(scenario, lane, set, volume)),
             Op::Tick { ticks } => Ok(self.tick(scenario, lane, ticks)),
+            Op::Add { volume } => Ok(self.add(scenario, lane, volume)),
             _ => self.call(alloc, scenario, lane, op),
         }
     }

@@ -7,7 +7,7 @@ ghost use Rattle.vss_world.specs.Stands.{IsOf, IsStanding};
 ghost use Rattle.vss_world.specs.Moves.{IsStepped};
 
 use crate::reply::Reply;
-use crate::settling::drop_images;
+use crate::settling::settle;
 use crate::world::World;
 use scenario::Scenario;
 use sessions::Called;
@@ -23,7 +23,7 @@ impl<D: Device> World<D> {
         ensures { IsStepped D.told D.count self.old self.new scenario.now (Line lane (Tick ticks)) result }
     {
         let item = self.sessions.time(ticks);
-        drop_images(&mut self.provider, item);
+        settle(&mut self.provider, item);
         self.evicted.clear();
         Reply::Moved(item.outcome)
     }
@@ -38,7 +38,7 @@ impl<D: Device> World<D> {
         match self.sessions.answer(writer, answer) {
             Called::Waits => Reply::Blocked,
             Called::Moves(item) => {
-                drop_images(&mut self.provider, item);
+                settle(&mut self.provider, item);
                 self.evicted.clear();
                 Reply::Moved(item.outcome)
             }
@@ -54,7 +54,7 @@ impl<D: Device> World<D> {
         match self.sessions.idle() {
             Called::Waits => Reply::Blocked,
             Called::Moves(item) => {
-                drop_images(&mut self.provider, item);
+                settle(&mut self.provider, item);
                 self.evicted.clear();
                 Reply::Moved(item.outcome)
             }

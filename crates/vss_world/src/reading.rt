@@ -7,7 +7,8 @@ ghost use Rattle.vss_world.specs.Reading.{IsBlockSeen, IsDigestSeen, IsSeenIf, A
 
 use crate::fingerprint::Fingerprint;
 use block_data::BlockBuf;
-use provider::{ImageFault, Provider};
+use cow_volume::ImageFault;
+use provider::Provider;
 use scenario::Scenario;
 use volume_device::Device;
 use vss_model::Told;
@@ -22,7 +23,7 @@ pub(crate) fn read_block<D: Device>(
 ) -> Told
     requires block { IsBlock scenario.now volume block }
     requires has { HasGroups scenario.now provider.old.groups }
-    ensures { IsBlockSeen D.told D.size D.count D.lending scenario.now provider.old provider.new volume (AreNow volume block) result }
+    ensures { IsBlockSeen D.Device scenario.now provider.old provider.new volume (AreNow volume block) result }
 {
     if let Some(bytes) = provider.lend_block(scenario, volume, block) {
         return Fingerprint::of(bytes).told();
@@ -44,7 +45,7 @@ pub(crate) fn read_image<D: Device>(
 ) -> Option<Told>
     requires block { IsBlock scenario.now volume block }
     requires has { HasGroups scenario.now provider.old.groups }
-    ensures { IsSeenIf D.told scenario.now provider.old provider.new volume set (IsBlockSeen D.told D.size D.count D.lending scenario.now provider.old provider.new volume (AreShown volume set block)) result }
+    ensures { IsSeenIf D.told scenario.now provider.old provider.new volume set (IsBlockSeen D.Device scenario.now provider.old provider.new volume (AreShown volume set block)) result }
 {
     match provider.lend_image(scenario, set, volume, block) {
         Err(_fault) => return None,
@@ -54,7 +55,7 @@ pub(crate) fn read_image<D: Device>(
     match provider.read_image_into(scenario, set, volume, block, scratch.bytes_mut()) {
         Ok(()) => Some(Fingerprint::of(scratch.bytes()).told()),
         Err(ImageFault::NoSuchImage) => None,
-        Err(ImageFault::Device(_fault)) => Some(Told::Fault),
+        Err(_fault) => Some(Told::Fault),
     }
 }
 
@@ -67,11 +68,11 @@ pub(crate) fn digest_image<D: Device>(
 ) -> Option<Told>
     requires volume { volume < length scenario.now.volumes }
     requires has { HasGroups scenario.now provider.old.groups }
-    ensures { IsSeenIf D.told scenario.now provider.old provider.new volume set (IsDigestSeen D.told D.size D.count D.lending scenario.now provider.old provider.new volume (AllShown scenario.now volume set)) result }
+    ensures { IsSeenIf D.told scenario.now provider.old provider.new volume set (IsDigestSeen D.Device scenario.now provider.old provider.new volume (AllShown scenario.now volume set)) result }
 {
     match provider.digest_image(scenario, set, volume) {
         Ok(digest) => Some(Told::Digest(digest)),
         Err(ImageFault::NoSuchImage) => None,
-        Err(ImageFault::Device(_fault)) => Some(Told::Fault),
+        Err(_fault) => Some(Told::Fault),
     }
 }

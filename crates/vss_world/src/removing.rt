@@ -10,7 +10,7 @@ ghost use Rattle.vss_world.specs.Moves.{IsStepped};
 use crate::outcomes::{coded, told};
 use crate::reply::Reply;
 use crate::world::World;
-use provider::RevertFault;
+use cow_volume::RevertFault;
 use scenario::Scenario;
 use volume_device::Device;
 use vss_model::Told;
@@ -75,13 +75,13 @@ impl<D: Device> World<D> {
         if is_backup(facts.context) {
             return coded(VssResult::UnsupportedContext);
         }
-        if self.sessions.has_volume(volume) {
+        if self.provider.is_preparing(volume) {
             return coded(VssResult::SnapshotSetInProgress);
         }
         match self.provider.revert(scenario, set, volume) {
             Ok(()) => return told(Told::Ok),
             Err(RevertFault::NoSuchImage) => return coded(VssResult::ObjectNotFound),
-            Err(RevertFault::Stopped { restored, fault: _ }) => {
+            Err(RevertFault::Fault { restored, cause: _ }) => {
                 return told(Told::FaultAfter(restored));
             }
         }

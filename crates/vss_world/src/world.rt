@@ -9,10 +9,9 @@ ghost use Rattle.vss_model.specs.Acts.{Act, state, enabled};
 ghost use Rattle.vss_model.specs.State.{history_of, kept};
 ghost use Rattle.vss_model.specs.Told.{IsDigestIf};
 ghost use Rattle.vss_model.specs.declared.event.Event.TheVariants.{Line, Provider as ProviderEvent, Idle, Answer as AnswerEvent};
-ghost use Rattle.provider.specs.Devices.{devices_of, area_place, failed_place, RoseAlone};
+ghost use Rattle.provider.specs.Devices.{devices_of, area_place, RoseAlone};
 ghost use Rattle.provider.specs.Preparing.{LastsAt};
-ghost use Rattle.provider.specs.declared.device_fault.DeviceFault.TheVariants.{Area};
-ghost use Rattle.vss_world.specs.Devices.{tells_of};
+ghost use Rattle.vss_world.specs.Devices.{tells_of, HasFailed};
 ghost use Rattle.vss_world.specs.Digests.{IsDigestedIf};
 ghost use Rattle.vss_world.specs.Stands.{IsOf, Stands, IsStanding, IfStands};
 ghost use Rattle.vss_world.specs.Moves.{IsEvent, IsStepped, IsMoved, StepLasts, AreListed, listed_after, lists_sets, takes_memory, simple_outcome};
@@ -24,9 +23,9 @@ use crate::listed_sets::ListedSets;
 use crate::reply::Reply;
 use crate::showing::kept_sets;
 use block_data::BlockBuf;
-use cow_volume::CowGroup;
+use cow_volume::{Cause, CowGroup, ImageFault};
 use lent_digests::{DigestsOf, ReadyDigests};
-use provider::{DeviceFault, ImageFault, Provider};
+use provider::Provider;
 use scenario::Scenario;
 use sessions::Sessions;
 use std::alloc::Global;
@@ -232,14 +231,14 @@ impl<D: Device> World<D> {
     }
 
     /// The SHA-256 of all blocks of a volume, in order.
-    pub fn digest(&mut self, scenario: &Scenario, volume: u32) -> Result<[u8; 32], DeviceFault>
+    pub fn digest(&mut self, scenario: &Scenario, volume: u32) -> Result<[u8; 32], Cause>
         requires of { IsOf self.old scenario.now }
         requires in_range { volume < length scenario.now.volumes }
         ensures digest { IfOk result (λ digest. IfStands D.told self.old scenario.now (λ st. IsDigestIf (slice_get (tells_of D.told scenario.now self.old.devices) volume)
             (concat (contents (blocks_of scenario.now volume) (history_of st volume).writes (length (history_of st volume).writes))) digest)) }
         ensures quiet { IsQuiet D.told D.count self.old self.new scenario.now }
         ensures same { OnOk result (map D.count self.new.devices ≡ map D.count self.old.devices) }
-        ensures cause { IfErr result (λ fault. RoseAlone (failed_place scenario.now volume fault) (map D.count self.old.devices) (map D.count self.new.devices)) }
+        ensures cause { IfErr result (λ fault. HasFailed scenario.now volume fault (map D.count self.old.devices) (map D.count self.new.devices)) }
     {
         self.provider.digest(scenario, volume)
     }
@@ -250,7 +249,7 @@ impl<D: Device> World<D> {
         scenario: &Scenario,
         set: u32,
         volume: u32,
-    ) -> Result<[u8; 32], DeviceFault>
+    ) -> Result<[u8; 32], Cause>
         requires of { IsOf self.old scenario.now }
         requires standing { IsStanding D.told self.old scenario.now }
         requires in_range { volume < length scenario.now.volumes }
@@ -259,12 +258,14 @@ impl<D: Device> World<D> {
             → IsDigestIf (slice_get (tells_of D.told scenario.now self.old.devices) volume) (concat (contents (blocks_of scenario.now volume) (history_of st volume).writes point)) digest)) }
         ensures quiet { IsQuiet D.told D.count self.old self.new scenario.now }
         ensures same { OnOk result (map D.count self.new.devices ≡ map D.count self.old.devices) }
-        ensures cause { IfErr result (λ fault. RoseAlone (failed_place scenario.now volume fault) (map D.count self.old.devices) (map D.count self.new.devices)) }
+        ensures cause { IfErr result (λ fault. HasFailed scenario.now volume fault (map D.count self.old.devices) (map D.count self.new.devices)) }
     {
         match self.provider.digest_image(scenario, set, volume) {
             Ok(digest) => Ok(digest),
-            Err(ImageFault::Device(fault)) => Err(fault),
+            Err(ImageFault::Volume) => Err(Cause::Volume),
+            Err(ImageFault::Area) => Err(Cause::Area),
             Err(ImageFault::NoSuchImage) => unreachable!(),
+            Err(ImageFault::NoSuchBlock) => unreachable!(),
         }
     }
 
@@ -286,14 +287,14 @@ impl<D: Device> World<D> {
     }
 
     /// Writes the records of a group's copies to its area's device, and brings all that was written to that to where it lasts.
-    pub fn sync(&mut self, scenario: &Scenario, group: u32) -> Result<(), DeviceFault>
+    pub fn sync(&mut self, scenario: &Scenario, group: u32) -> Result<(), Cause>
         requires of { IsOf self.old scenario.now }
         requires in_range { group < length scenario.now.groups }
         ensures synced { IsSynced D.told D.count self.old self.new scenario.now group }
         ensures held { OnOk result (IsAreaHeld D.told self.new scenario.now group) }
         ensures lasts { OnOk result (LastsAt D.told D.lasting (area_place group scenario.now.volumes) self.new.devices) }
         ensures same { OnOk result (map D.count self.new.devices ≡ map D.count self.old.devices) }
-        ensures fault { IfErr result (λ fault. fault ≡ Area) }
+        ensures fault { IfErr result (λ fault. fault ≡ Cause.Area) }
         ensures cause { IsErr result → RoseAlone (area_place group scenario.now.volumes) (map D.count self.old.devices) (map D.count self.new.devices) }
     {
         let _volumes = scenario.volumes();

@@ -1,6 +1,6 @@
 //! Lines that write a block.
 
-ghost use Rattle.std.specs.Prelude.{◌≡◌, ◌<◌, length};
+ghost use Rattle.std.specs.Prelude.{◌≡◌, ◌<◌, length, Result};
 ghost use Rattle.block_data.specs.PayloadBytes.{payload_bytes};
 ghost use Rattle.scenario.specs.Bounds.{IsBlock};
 ghost use Rattle.scenario.specs.declared.op.Op.{Op};
@@ -9,12 +9,11 @@ ghost use Rattle.vss_world.specs.Stands.{IsOf, IsStanding};
 ghost use Rattle.vss_world.specs.Moves.{IsStepped};
 ghost use Rattle.vss_world.specs.Puts.{IsWriteLine, told_if};
 
-use crate::evicting::list_evicted;
 use crate::outcomes::told;
 use crate::reply::Reply;
 use crate::world::World;
 use block_data::Payload;
-use provider::DeviceFault;
+use cow_volume::Cause;
 use scenario::Scenario;
 use volume_device::Device;
 use vss_model::{Outcome, Told};
@@ -40,18 +39,15 @@ impl<D: Device> World<D> {
         if !self.may_write(scenario, lane, volume) {
             return Reply::Blocked;
         }
-        let up_to = self.provider.goes_up_to(scenario, volume, block);
-        list_evicted(
-            &mut self.evicted,
-            &self.provider,
+        let _facts = scenario.volumes();
+        let up_to = self.evicted.make_room(
+            &mut self.provider,
             &self.sessions,
             scenario,
             volume,
             block,
-            up_to,
         );
-        let put = self.provider.write(scenario, volume, block, payload);
-        let answer = told_of(put.fault);
+        let answer = told_of(self.provider.put(scenario, volume, block, payload));
         let Some(set) = self.sessions.current() else {
             return told(answer);
         };
@@ -60,7 +56,7 @@ impl<D: Device> World<D> {
         }
         let why = VssResult::InsufficientStorage;
         let _ = self.sessions.fail(why);
-        let _ = self.provider.drop_set(set);
+        let _ = self.provider.abort();
         Reply::Moved(Outcome {
             told: answer,
             lost: 0,
@@ -72,11 +68,11 @@ impl<D: Device> World<D> {
 }
 
 /// What a write is answered.
-fn told_of(fault: Option<DeviceFault>) -> Told
-    ensures { result ≡ told_if fault }
+fn told_of(put: Result<(), Cause>) -> Told
+    ensures { result ≡ told_if put }
 {
-    match fault {
-        None => Told::Ok,
-        Some(_) => Told::Fault,
+    match put {
+        Ok(()) => Told::Ok,
+        Err(_) => Told::Fault,
     }
 }

@@ -1,8 +1,7 @@
 use Rattle.std.proofs.Common.{Some}
-use Rattle.provider.specs.Devices.{failed_place}
 use Rattle.vss_world.specs.Devices.{tells_of}
 use Rattle.vss_model.specs.Trail.{acts}
-use Rattle.vss_play.proofs.ClosingLines.{quiet_same, ready_is, rose_at}
+use Rattle.vss_play.proofs.ClosingLines.{quiet_same, ready_is, rose_failed}
 use Rattle.vss_play.proofs.end_digests.digest_image.Goals as goal
 
 pub returns-in-Some-clause-digest : goal.returns-in-Some-clause-digest
@@ -16,4 +15,4 @@ pub returns-in-Ok-clause-digest : goal.returns-in-Ok-clause-digest
 returns-in-Ok-clause-digest g c = c.in-Ok.ensures.digest (acts c.args.scenario.now c.args.trail.now.moves) c.requires.stands.stands
 
 pub returns-in-Err-clause-rose : goal.returns-in-Err-clause-rose
-returns-in-Err-clause-rose g c = λ e. rose_at (failed_place c.args.scenario.now c.args.volume c.in-Err._fault) _ _ c.in-Err.ensures.cause
+returns-in-Err-clause-rose g c = λ e. rose_failed c.args.scenario.now c.args.volume c.in-Err._fault _ _ c.in-Err.ensures.cause

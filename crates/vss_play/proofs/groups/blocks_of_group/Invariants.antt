@@ -1,5 +1,5 @@
 use Rattle.std.proofs.Common.{◌≡◌, take}
-use Rattle.provider.specs.Groups.{blocks_in_group}
+use Rattle.scenario.specs.Places.{blocks_in_group}
 use Rattle.vss_play.proofs.groups.blocks_of_group.Given as goal
 
 abbrev pub invariant-loop-volume : goal.invariant-loop-volume

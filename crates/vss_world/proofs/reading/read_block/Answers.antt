@@ -3,4 +3,5 @@ use Rattle.vss_world.proofs.reading.read_block.Goals as goal
 
 pub returns-in-Some : goal.returns-in-Some
 returns-in-Some g c =
-    rw c.told.ensures (lent_now g.D.Device.told g.D.Device.size g.D.Device.count g.D.Device.lending c.args.scenario.now c.args.provider.now c.args.volume c.args.block c.in-Some.bytes.now c.of.result c.in-Some.ensures.now c.of.ensures.exact c.of.ensures.wide)
+    rw c.told.ensures (lent_now g.D.Device c.args.scenario.now c.args.provider.now c.args.volume c.args.block c.in-Some.bytes.now c.of.result c.in-Some.ensures.now c.of.ensures.exact
+    c.of.ensures.wide)

@@ -1,0 +1,133 @@
+-- At a Commit step the provider can cut the image of its set on the step's volume.
+use Rattle.std.proofs.Common.{◌≡◌, ℕ, suc, ◌+◌, ◌<◌, ◌≤◌, ◌==◌, List, [], ◌∷◌, length, refl, ap, sym, ◌∙◌, subst, arith, Bool, true, false, Option, Some, All}
+use Rattle.std.specs.Prelude.{IfSome, is_some, not, if◌then◌else◌}
+use Rattle.std.proofs.lemmas.List.Elements.{All-nil, All-cons}
+use Rattle.write_history.specs.History.{Image, History, point_in, without_set}
+use Rattle.write_history.specs.declared.evicted.Evicted.{Evicted}
+use Rattle.cow_volume.proofs.Group.{slice_get_inside}
+use Rattle.set_agenda.specs.declared.group.Group.{Group}
+use Rattle.set_agenda.specs.declared.group.Group.TheVariants.{Commit}
+use Rattle.set_agenda.specs.Agenda.{Agenda, is_among}
+use Rattle.scenario.specs.Plan.{Plan}
+use Rattle.vss_model.specs.State.{State, SetRow, in_progress, history_in, history_of}
+use Rattle.vss_model.specs.Acts.{Act, state}
+use Rattle.vss_model.specs.Facts.{NumberedFrom, OverButNewest}
+use Rattle.vss_model.specs.Sessions.{volumes_of}
+use Rattle.vss_model.proofs.Completed.{image_once_cut}
+use Rattle.vss_model.proofs.FewerImages.{as_many_volumes}
+use Rattle.vss_model.proofs.NewestImage.{UpTo, images_up_to}
+use Rattle.vss_model.proofs.OneCut.{newest_number}
+use Rattle.vss_model.proofs.OrderlyActs.{orderly}
+use Rattle.vss_model.proofs.RoomForImage.{room_with_image}
+use Rattle.provider.specs.Groups.{history_at}
+use Rattle.provider.specs.Preparing.{ProviderValue, CanCutOn}
+use Rattle.sessions.specs.Keeps.{SessionsValue}
+use Rattle.sessions.specs.Moves.{IsNextStep}
+use Rattle.vss_world.specs.Provided.{is_to_come, dropped_if, provided}
+use Rattle.vss_world.specs.Stands.{Stands}
+use Rattle.vss_world.proofs.InPlan.{volumes_below}
+use Rattle.vss_world.proofs.Moved.{world_of}
+use Rattle.vss_world.proofs.Prepared.{provided_at}
+use Rattle.vss_world.proofs.Provided.{number_above, below_among}
+use Rattle.vss_world.proofs.Step.{working, stepping, step_number}
+use Rattle.vss_world.proofs.StepComes.{IsStepping, IsCommitting, committing}
+use Rattle.vss_world.proofs.WithoutImages.{without_at}
+
+-- ## images but that of the set
+
+under_one : (a n : ℕ) → a ≤ n → (a == n) ≡ false → a < n
+under_one a n l e = grind arith
+
+under : (n : ℕ) (images : List Image) → UpTo n images → All (λ (i : Image). i.set < n) (without_set n images)
+under n [] h = All-nil (λ (i : Image). i.set < n)
+under n (i ∷ images) h = by_test (i.set == n) refl (under n images h.1)
+  where
+    by_test : (b : Bool) → (i.set == n) ≡ b → All (λ (j : Image). j.set < n) (without_set n images) → All (λ (j : Image). j.set < n) (if not b then i ∷ without_set n images else without_set n images)
+    by_test true e rest = rest
+    by_test false e rest = All-cons (λ (j : Image). j.set < n) i (without_set n images) (under_one i.set n h.0 e) rest
+
+shorter : (n : ℕ) (images : List Image) → length (without_set n images) ≤ length images
+shorter n [] = omega arith
+shorter n (i ∷ images) = by_test (i.set == n) (shorter n images)
+  where
+    by_test : (b : Bool) → length (without_set n images) ≤ length images → length (if not b then i ∷ without_set n images else without_set n images) ≤ suc (length images)
+    by_test true l = omega (arith, l)
+    by_test false l = omega (arith, l)
+
+-- one fewer, where it stands
+fewer : (n : ℕ) (images : List Image) → is_some (point_in n images) ≡ true → length (without_set n images) < length images
+fewer n [] e = cc
+fewer n (i ∷ images) e = by_test (i.set == n) refl e (λ g. fewer n images g)
+  where
+    by_test : (b : Bool) → (i.set == n) ≡ b → is_some (if b then Some i.point else point_in n images) ≡ true → (is_some (point_in n images) ≡ true → length (without_set n images) < length images)
+        → length (without_set n (i ∷ images)) < suc (length images)
+    by_test true f g rest =
+        let l = shorter n images in
+        let same : length (without_set n (i ∷ images)) ≡ length (without_set n images) = ap (λ (t : Bool). length (if not t then i ∷ without_set n images else without_set n images)) f in
+        omega (arith, l, same)
+    by_test false f g rest =
+        let l = rest g in
+        let same : length (without_set n (i ∷ images)) ≡ suc (length (without_set n images)) = ap (λ (t : Bool). length (if not t then i ∷ without_set n images else without_set n images)) f in
+        omega (arith, l, same)
+
+-- ## the step
+
+number_of : (st : State) (r : SetRow) → NumberedFrom 1 st.sets → OverButNewest st.sets → in_progress st ≡ Some r → r.number ≡ length st.sets
+number_of st r numbered newest is = let n = newest_number 1 st.sets r numbered newest is in omega (arith, n)
+
+-- what the provider has of the step's volume
+there : (s : Plan) (acts : List Act) (volume : Option ℕ) (k : IsStepping s acts Commit volume) (c : IsCommitting s acts volume k) → c.volume_at < length s.volumes
+    → (history_at (provided (state s acts)) c.volume_at).images ≡ without_set k.row.number (history_of (state s acts) c.volume_at).images
+there s acts volume k c within =
+    let st = state s acts in
+    let h = slice_get_inside st.volumes c.volume_at (subst (λ (m : ℕ). c.volume_at < m) (sym (as_many_volumes s acts)) within) in
+    ap (λ (hs : List History). (history_at hs c.volume_at).images) (provided_at st k.row k.is)
+    ∙ ap (λ (o : Option History). (history_in o).images) (without_at (is_to_come st.course.agenda) k.row.number 0 c.volume_at st.volumes h.0 h.1)
+    ∙ ap (λ (b : Bool). (dropped_if b k.row.number h.0).images) (ap (is_to_come st.course.agenda) (from_zero c.volume_at) ∙ ap (λ (o : Option Agenda). is_to_come o c.volume_at) k.runs ∙ c.coming)
+    ∙ ap (λ (x : History). without_set k.row.number x.images) (sym (ap history_in h.1))
+  where
+    from_zero : (w : ℕ) → 0 + w ≡ w
+    from_zero w = omega arith
+
+can_commit_at : {D : Type 0} (blocks_told : D → Option (List (List ℕ))) (s : Plan) (p : ProviderValue D) (x : SessionsValue) (l : List ℕ) (e : List Evicted) (acts : List Act) (volume : Option ℕ)
+    → Stands blocks_told (world_of p x l e) s acts → IsNextStep x Commit volume
+    → (v : ℕ) × (volume ≡ Some v) × CanCutOn blocks_told s p v
+can_commit_at blocks_told s p x l e acts volume stands next =
+    let st = state s acts in
+    let o = orderly s acts in
+    let keeps = stands.at.sessions in
+    let k = stepping s x acts Commit volume next keeps in
+    let c = committing s acts volume k in
+    let v = c.volume_at in
+    let set : p.set ≡ k.row.number = step_number p st k.row stands.at.prepared (working x Commit volume st next keeps) k.is in
+    let volumes : p.volumes ≡ k.row.volumes = stands.at.prepared.volumes ∙ ap volumes_of k.is in
+    let within : v < length s.volumes = below_among (length s.volumes) v (volumes_of (in_progress st)) (volumes_below (length s.volumes) st stands.at.plan.sets)
+    (ap (λ (q : Option SetRow). is_among v (volumes_of q)) k.is ∙ c.among) in
+    let images = there s acts volume k c within in
+    let number = number_of st k.row o.numbered o.newest k.is in
+    let few = room_with_image s acts k.row v k.is c.among in
+    let less = fewer k.row.number (history_of st v).images (image_once_cut s acts k.row k.agenda v k.is k.runs c.cut_is c.among within) in
+    let long : length (history_at (provided st) v).images ≡ length (without_set k.row.number (history_of st v).images) = ap length images in (
+      v,
+      c.volume_is,
+      record {
+        histories = provided st;
+        stand = stands.at.groups;
+        above_zero = subst (λ (n : ℕ). 0 < n) (sym set) (number_above s acts k.row k.is);
+        among = ap (is_among v) volumes ∙ c.among;
+        room = few_enough (length (history_at (provided st) v).images) (length (without_set k.row.number (history_of st v).images)) (length (history_of st v).images) long less few;
+        newest = subst (λ (n : ℕ). All (λ (i : Image). i.set < n) (history_at (provided st) v).images) (sym set)
+            (subst (All (λ (i : Image). i.set < k.row.number)) (sym images)
+            (under k.row.number (history_of st v).images (subst (λ (n : ℕ). UpTo n (history_of st v).images) (sym number) (images_up_to st.sets st.volumes v o.numbered o.live))));
+      },
+    )
+  where
+    few_enough : (a b c : ℕ) → a ≡ b → b < c → c ≤ 512 → a < 512
+    few_enough a b c e f g = omega (arith, e, f, g)
+
+pub can_commit : {D : Type 0} (blocks_told : D → Option (List (List ℕ))) (s : Plan) (p : ProviderValue D) (x : SessionsValue) (l : List ℕ) (e : List Evicted) (acts : List Act) (group : Group)
+    (volume : Option ℕ) → Stands blocks_told (world_of p x l e) s acts → IsNextStep x group volume
+    → group ≡ Commit → IfSome volume (CanCutOn blocks_told s p)
+can_commit blocks_told s p x l e acts group volume stands next commit =
+    let at = can_commit_at blocks_told s p x l e acts volume stands (subst (λ (g : Group). IsNextStep x g volume) commit next) in
+    subst (λ (o : Option ℕ). IfSome o (CanCutOn blocks_told s p)) (sym at.1) at.2

@@ -1,0 +1,417 @@
+-- What becomes of the set in progress and of its images that are still to come, as the course goes on: it stays, with its number, its
+-- volumes and its snapshot's agenda; or it is in progress no more, and its row says how it ended. What writers say and what time brings
+-- adds no step of the provider to the log.
+use Rattle.std.proofs.Common.{◌≡◌, ℕ, ◌==◌, List, [], ◌∷◌, ◌++◌, refl, ap, sym, ◌∙◌, subst, Bool, true, false, Option, Some, None, ◌⊎◌, inl, inr, map, find}
+use Rattle.std.specs.Prelude.{is_some, not, ◌&&◌, ◌||◌, option_map, if◌then◌else◌}
+use Rattle.vss_names.specs.declared.order.Order.TheVariants.{Identify}
+use Rattle.vss_names.specs.declared.set_outcome.SetOutcome.{SetOutcome}
+use Rattle.vss_names.specs.declared.vss_result.VssResult.{VssResult}
+use Rattle.vss_names.specs.declared.set_outcome.SetOutcome.TheVariants.{Running, Complete as CompleteSet, Failed}
+use Rattle.writer_state.specs.declared.said.Said.{Said}
+use Rattle.set_agenda.specs.declared.group.Group.{Group}
+use Rattle.set_agenda.specs.declared.group.Group.TheVariants.{Orders, Cut, Commit}
+use Rattle.set_agenda.specs.declared.kind.Kind.{Kind}
+use Rattle.set_agenda.specs.declared.kind.Kind.TheVariants.{Gather, Prepare, Snapshot, Complete}
+use Rattle.set_agenda.specs.declared.place.Place.{Place}
+use Rattle.set_agenda.specs.Agenda.{Agenda, Entry, plain, same_place, group_code, level_code, is_orders, is_snapshot, is_among, is_done, has_said, at_place, all_say, groups_left, open_place}
+use Rattle.set_agenda.specs.declared.member.Member.{Member}
+use Rattle.set_agenda.specs.Course.{Course, outcome_after, begun, posted, settled, settled_if}
+use Rattle.vss_model.specs.State.{State, SetRow, in_progress, is_running}
+use Rattle.vss_model.specs.Ending.{Ending, NothingEnds, AgendaEnds, SetFails, ending, row_settled, concluded, followed, runs, failed_in, failed}
+use Rattle.vss_model.specs.Effects.{ended_of}
+use Rattle.vss_model.specs.Facts.{NumberedFrom, has_failed}
+use Rattle.vss_model.specs.Sessions.{volumes_of}
+use Rattle.vss_model.specs.Steps.{row_cut, cut_set, step_made}
+use Rattle.vss_model.proofs.HeldOfSet.{find-row_cut, volumes-row_cut_if}
+use Rattle.vss_model.proofs.Orderly.{find-settled_over, find-settled_running, true_not_false}
+use Rattle.vss_model.proofs.LogRule.{unspoken}
+use Rattle.vss_model.proofs.OrderlyActs.{ending_idle, ending_on, none_after}
+use Rattle.vss_model.proofs.OneCut.{ends_settle}
+use Rattle.vss_model.proofs.CourseCalls.{Call, IsCall, Settles}
+use Rattle.vss_world.specs.Provided.{is_to_come}
+use Rattle.vss_world.proofs.CommitLog.{committed_at_end, never_done}
+use Rattle.vss_world.proofs.Failing.{failed_course, settled_row}
+
+-- ## what writers say
+
+-- a place of writers is no place of the provider
+not_cut : (p : Place) → is_orders p.group ≡ true → same_place p (plain Cut) ≡ false
+not_cut p e = by_group p.group e
+  where
+    by_group : (g : Group) → is_orders g ≡ true → ((group_code g == 10) && (level_code p.level == 0)) ≡ false
+    by_group (Orders Identify) e = refl
+    by_group (Orders _) e = refl
+    by_group _ e = cc
+
+not_commit : (p : Place) → is_orders p.group ≡ true → same_place p (plain Commit) ≡ false
+not_commit p e = by_group p.group e
+  where
+    by_group : (g : Group) → is_orders g ≡ true → ((group_code g == 11) && (level_code p.level == 0)) ≡ false
+    by_group (Orders Identify) e = refl
+    by_group (Orders _) e = refl
+    by_group _ e = cc
+
+pub skip : (t u b : Bool) → t ≡ false → ((t && u) || b) ≡ b
+skip false u b e = refl
+skip true u b e = cc
+
+pub none_new : (p q : Place) (said : Said) (now who : ℕ) (ws : List ℕ) → same_place p q ≡ false → has_said (map (at_place p said now) ws) q who ≡ false
+none_new p q said now who [] e = refl
+none_new p q said now who (w ∷ ws) e = skip (same_place p q) (w == who) (has_said (map (at_place p said now) ws) q who) e ∙ none_new p q said now who ws e
+
+pub said_same : (log new : List Entry) (q : Place) (who : ℕ) → has_said new q who ≡ false → has_said (log ++ new) q who ≡ has_said log q who
+said_same [] new q who e = e
+said_same (x ∷ log) new q who e = ap (λ (t : Bool). (same_place x.place q && (x.who == who)) || t) (said_same log new q who e)
+
+writers_say : (a : Agenda) (said : Said) (now : ℕ) (ws : List ℕ) → is_orders (open_place (groups_left a)).group ≡ true → (v : ℕ) → is_to_come (Some (all_say said now ws a)) v ≡ is_to_come (Some a) v
+writers_say a said now ws e v =
+    let p = open_place (groups_left a) in
+    let new = map (at_place p said now) ws in
+    ap (λ (t : Bool). is_snapshot a.kind && t && not (has_said (a.log ++ new) (plain Commit) v)) (said_same a.log new (plain Cut) 0 (none_new p (plain Cut) said now 0 ws (not_cut p e)))
+    ∙ ap (λ (t : Bool). is_snapshot a.kind && has_said a.log (plain Cut) 0 && not t) (said_same a.log new (plain Commit) v (none_new p (plain Commit) said now v ws (not_commit p e)))
+
+-- ## what becomes of the set
+
+-- the set has the same number and volumes
+abbrev pub IsSameSet : Option SetRow → Option SetRow → Type 0
+IsSameSet None None = Unit {0}
+IsSameSet (Some r) (Some q) = (q.number ≡ r.number) × (q.volumes ≡ r.volumes)
+IsSameSet _ _ = ⊥
+
+pub same_set : (o : Option SetRow) → IsSameSet o o
+same_set None = tt
+same_set (Some r) = (refl, refl)
+
+same_on : (o p q : Option SetRow) → IsSameSet o p → IsSameSet p q → IsSameSet o q
+same_on None None q h k = k
+same_on None (Some b) q h k = absurd h
+same_on (Some a) None q h k = absurd h
+same_on (Some a) (Some b) None h k = absurd k
+same_on (Some a) (Some b) (Some c) h k = (k.0 ∙ h.0, k.1 ∙ h.1)
+
+abbrev pub runs_snapshot : Option Agenda → Bool
+runs_snapshot None = false
+runs_snapshot (Some a) = is_snapshot a.kind
+
+-- it goes on: its images are to come on the volumes that pass
+pub record StaysOn (test : ℕ → Bool) (a b : Option Agenda) (o p : Option SetRow) : Type 0 where
+  pub set : IsSameSet o p
+  pub coming : (v : ℕ) → is_to_come b v ≡ test v
+  pub snapshot : runs_snapshot b ≡ runs_snapshot a
+
+-- it is over: it failed, or none of its volumes passes; its row says so
+pub record IsOver (test : ℕ → Bool) (r : SetRow) (rows : List SetRow) : Type 0 where
+  pub row : SetRow
+  pub over : is_running row.result ≡ false
+  pub number : row.number ≡ r.number
+  pub ended : ended_of (Some r) rows ≡ Some row
+  pub committed : has_failed row.result ≡ false → (v : ℕ) → is_among v r.volumes ≡ true → test v ≡ false
+
+abbrev pub IsOverIf : (ℕ → Bool) → Option SetRow → List SetRow → Type 0
+IsOverIf test None rows = Unit {0}
+IsOverIf test (Some r) rows = IsOver test r rows
+
+-- none is in progress any more
+pub record LeavesNone (test : ℕ → Bool) (o p : Option SetRow) (rows : List SetRow) : Type 0 where
+  pub none : p ≡ None
+  pub over : IsOverIf test o rows
+
+-- what is to come is told by a test
+abbrev pub GoesBy : (ℕ → Bool) → State → State → Type 0
+GoesBy test st next = StaysOn test st.course.agenda next.course.agenda (in_progress st) (in_progress next) ⊎ LeavesNone test (in_progress st) (in_progress next) next.sets
+
+-- what is to come stays so
+abbrev pub GoesOn : State → State → Type 0
+GoesOn st next = GoesBy (is_to_come st.course.agenda) st next
+
+over_like : (t u : ℕ → Bool) (o : Option SetRow) (rows : List SetRow) → ((v : ℕ) → t v ≡ u v) → IsOverIf t o rows → IsOverIf u o rows
+over_like t u None rows e h = tt
+over_like t u (Some r) rows e h = record { row = h.row; over = h.over; number = h.number; ended = h.ended; committed = λ f v among. sym (e v) ∙ h.committed f v among }
+
+goes_like : (t u : ℕ → Bool) (st next : State) → ((v : ℕ) → t v ≡ u v) → GoesBy t st next → GoesBy u st next
+goes_like t u st next e (inl h) = inl (record { set = h.set; coming = λ v. h.coming v ∙ e v; snapshot = h.snapshot })
+goes_like t u st next e (inr h) = inr (record { none = h.none; over = over_like t u (in_progress st) next.sets e h.over })
+
+pub goes_nowhere : (st : State) → GoesOn st st
+goes_nowhere st = inl (record { set = same_set (in_progress st); coming = λ v. refl; snapshot = refl })
+
+-- ## a set that ends
+
+none_over : (test : ℕ → Bool) (st next : State) → in_progress st ≡ None → in_progress next ≡ None → GoesBy test st next
+none_over test st next e f = inr (record { none = f; over = subst (λ (o : Option SetRow). IsOverIf test o next.sets) (sym e) tt })
+
+-- the row of the set in progress has its end
+settled_over : (test : ℕ → Bool) (st : State) (result : SetOutcome) (rows : List SetRow) → NumberedFrom 1 st.sets → is_running result ≡ false → rows ≡ map (row_settled result) st.sets
+    → (has_failed result ≡ false → (v : ℕ) → is_among v (volumes_of (in_progress st)) ≡ true → test v ≡ false) → IsOverIf test (in_progress st) rows
+settled_over test st result rows numbered over is committed = by_set (in_progress st) refl committed
+  where
+    by_set : (o : Option SetRow) → in_progress st ≡ o → (has_failed result ≡ false → (v : ℕ) → is_among v (volumes_of o) ≡ true → test v ≡ false) → IsOverIf test o rows
+    by_set None e so = tt
+    by_set (Some r) e so = record { row = record r { result = result }; over = over; number = refl; ended = ap (ended_of (Some r)) is ∙ settled_row 1 result over st.sets r numbered e; committed = so }
+
+-- ## a call of the course
+
+not_running : (o : SetOutcome) → has_failed o ≡ true → is_running o ≡ false
+not_running Running e = cc
+not_running CompleteSet e = refl
+not_running (Failed why) e = refl
+
+-- in a state whose set in progress is that of its snapshot agenda, and has no outcome yet
+pub record IsOfAgenda (st : State) : Type 0 where
+  pub numbered : NumberedFrom 1 st.sets
+  pub outcome : (r : SetRow) → in_progress st ≡ Some r → st.course.outcome ≡ Running
+  pub volumes : (a : Agenda) → st.course.agenda ≡ Some a → is_snapshot a.kind ≡ true → a.volumes ≡ volumes_of (in_progress st)
+
+plain_to_come : (a : Agenda) (v : ℕ) → is_snapshot a.kind ≡ false → is_to_come (Some a) v ≡ false
+plain_to_come a v e = ap (λ (t : Bool). t && has_said a.log (plain Cut) 0 && not (has_said a.log (plain Commit) v)) e
+
+said_none : (s t c : Bool) → c ≡ true → (s && t && not c) ≡ false
+said_none true true true e = refl
+said_none true false true e = refl
+said_none false t true e = refl
+said_none s t false e = cc
+
+module _ (c : Course) (st : State) (of : IsOfAgenda st) where
+  abbrev next : State
+  next = record st { course = c }
+
+  -- no set is in progress where an agenda ends in an outcome that is over
+  over_none : (o : SetOutcome) → is_running c.outcome ≡ false → in_progress (concluded (ending o c.outcome true None) next) ≡ None
+  over_none o e = ends_settle o c.outcome next ∙ find-settled_over c.outcome e st.sets
+
+  sets_settled : (o p : SetOutcome) → (concluded (ending o p true None) next).sets ≡ map (row_settled c.outcome) st.sets
+  sets_settled Running Running = refl
+  sets_settled Running CompleteSet = refl
+  sets_settled Running (Failed why) = refl
+  sets_settled CompleteSet p = refl
+  sets_settled (Failed why) p = refl
+
+  ends_over : (test : ℕ → Bool) → is_running c.outcome ≡ false → (has_failed c.outcome ≡ false → (v : ℕ) → is_among v (volumes_of (in_progress st)) ≡ true → test v ≡ false)
+      → GoesBy test st (concluded (ending st.course.outcome c.outcome true None) next)
+  ends_over test e committed = inr (record {
+    none = over_none st.course.outcome e;
+    over = settled_over test st c.outcome _ of.numbered e (sets_settled st.course.outcome c.outcome) committed;
+  })
+
+  agenda_same : (e : Ending) → (concluded e next).course.agenda ≡ c.agenda
+  agenda_same NothingEnds = refl
+  agenda_same AgendaEnds = refl
+  agenda_same (SetFails why) = refl
+
+  abbrev ends : Ending
+  ends = ending st.course.outcome c.outcome true None
+
+  agenda_then : c.agenda ≡ None → (concluded ends next).course.agenda ≡ None
+  agenda_then e = agenda_same ends ∙ e
+
+  -- the agenda of a snapshot is over, and its set with it
+  complete_goes : (a x : Agenda) → st.course.agenda ≡ Some a → x.kind ≡ a.kind → x.volumes ≡ a.volumes → is_done (groups_left x) ≡ true → x.kind ≡ Snapshot → c.outcome ≡ CompleteSet
+      → GoesBy (is_to_come (Some x)) st (concluded ends next)
+  complete_goes a x runs like over done kind is =
+      ends_over (is_to_come (Some x)) (ap is_running is)
+      (λ fine v among.
+      let own : x.volumes ≡ volumes_of (in_progress st) = over ∙ of.volumes a runs (ap is_snapshot (sym like ∙ kind)) in
+      said_none (is_snapshot x.kind) (has_said x.log (plain Cut) 0) (has_said x.log (plain Commit) v) (committed_at_end x v kind done (ap (is_among v) own ∙ among)))
+
+  -- another agenda is over
+  plain_goes : (test : ℕ → Bool) (o : Option SetRow) → in_progress st ≡ o → ((v : ℕ) → test v ≡ false) → runs_snapshot st.course.agenda ≡ false → c.agenda ≡ None → c.outcome ≡ st.course.outcome
+      → GoesBy test st (concluded ends next)
+  plain_goes test None found quiet plain none is = none_over test st (concluded ends next) found (ends_settle st.course.outcome c.outcome next ∙ none_then (is_running c.outcome) refl)
+    where
+      running_is : (p : SetOutcome) → is_running p ≡ true → p ≡ Running
+      running_is Running e = refl
+      running_is CompleteSet e = cc
+      running_is (Failed why) e = cc
+
+      none_then : (b : Bool) → is_running c.outcome ≡ b → find (λ r. is_running r.result) (map (row_settled c.outcome) st.sets) ≡ None
+      none_then false e = find-settled_over c.outcome e st.sets
+      none_then true e =
+          ap (λ (p : SetOutcome). find (λ r. is_running r.result) (map (row_settled p) st.sets)) (running_is c.outcome e)
+          ∙ find-settled_running st.sets ∙ ap (option_map (λ (r : SetRow). record r { result = Running })) found
+  plain_goes test (Some r) found quiet plain none is =
+      let running : c.outcome ≡ Running = is ∙ of.outcome r found in
+      let ran : in_progress (concluded ends next) ≡ Some (record r { result = Running }) =
+      ends_settle st.course.outcome c.outcome next
+      ∙ ap (λ (p : SetOutcome). find (λ r. is_running r.result) (map (row_settled p) st.sets)) running
+      ∙ find-settled_running st.sets ∙ ap (option_map (λ (r : SetRow). record r { result = Running })) found in
+      inl (record {
+        set = subst (λ (q : Option SetRow). IsSameSet (in_progress st) q) (sym ran) (subst (λ (q : Option SetRow). IsSameSet q (Some (record r { result = Running }))) (sym found) (refl, refl));
+        coming = λ v. ap (λ (y : Option Agenda). is_to_come y v) (agenda_then none) ∙ sym (quiet v);
+        snapshot = ap runs_snapshot (agenda_then none) ∙ sym plain;
+      })
+
+  -- the agenda goes on as this one, or ends where no group is left of it
+  settled_goes : (a x : Agenda) (done : Bool) (b : Option Agenda) → st.course.agenda ≡ Some a → c.agenda ≡ b → x.kind ≡ a.kind → x.volumes ≡ a.volumes → (done ≡ true → is_done (groups_left x) ≡ true)
+      → Settles done x st.course.outcome b c.outcome
+      → GoesBy (is_to_come (Some x)) st (concluded (ending st.course.outcome c.outcome true b) next)
+  settled_goes a x false None runs is like over d s = cc
+  settled_goes a x true (Some b) runs is like over d s = cc
+  settled_goes a x false (Some b) runs is like over d s =
+      subst (λ (e : Ending). GoesBy (is_to_come (Some x)) st (concluded e next)) (sym (ending_on st.course.outcome c.outcome true b s.1)) (inl (record {
+        set = same_set (in_progress st);
+        coming = λ v. ap (λ (y : Option Agenda). is_to_come y v) (is ∙ s.0);
+        snapshot = ap runs_snapshot (is ∙ s.0) ∙ ap is_snapshot like ∙ sym (ap runs_snapshot runs);
+      }))
+  settled_goes a x true None runs is like over d s = by_kind x.kind refl (s.1)
+    where
+      plain_as : (k : Kind) → x.kind ≡ k → is_snapshot k ≡ false → c.outcome ≡ st.course.outcome → GoesBy (is_to_come (Some x)) st (concluded ends next)
+      plain_as k e f g = plain_goes (is_to_come (Some x)) (in_progress st) refl (λ v. plain_to_come x v (ap is_snapshot e ∙ f)) (ap runs_snapshot runs ∙ ap is_snapshot (sym like ∙ e) ∙ f) is g
+
+      by_kind : (k : Kind) → x.kind ≡ k → c.outcome ≡ outcome_after x.kind st.course.outcome → GoesBy (is_to_come (Some x)) st (concluded ends next)
+      by_kind Gather e f = plain_as Gather e refl (f ∙ ap (λ (k : Kind). outcome_after k st.course.outcome) e)
+      by_kind Prepare e f = plain_as Prepare e refl (f ∙ ap (λ (k : Kind). outcome_after k st.course.outcome) e)
+      by_kind Complete e f = plain_as Complete e refl (f ∙ ap (λ (k : Kind). outcome_after k st.course.outcome) e)
+      by_kind Snapshot e f = complete_goes a x runs like over (d refl) e (f ∙ ap (λ (k : Kind). outcome_after k st.course.outcome) e)
+
+  call_goes : (a b : Option Agenda) → st.course.agenda ≡ a → c.agenda ≡ b → Call true a st.course.outcome b c.outcome → GoesOn st (concluded (ending st.course.outcome c.outcome (is_some a) b) next)
+  call_goes None None runs is call =
+      subst (λ (e : Ending). GoesOn st (concluded e next)) (sym (ending_idle st.course.outcome c.outcome call.1)) (inl (record {
+        set = same_set (in_progress st);
+        coming = λ v. ap (λ (y : Option Agenda). is_to_come y v) (is ∙ sym runs);
+        snapshot = ap runs_snapshot (is ∙ sym runs);
+      }))
+  call_goes None (Some b) runs is call = cc
+  call_goes (Some a) None runs is (inl stops) = ends_over (is_to_come st.course.agenda) (not_running c.outcome stops.failed) (λ fine. absurd (true_not_false (has_failed c.outcome) stops.failed fine))
+  call_goes (Some a) (Some b) runs is (inl stops) = cc
+  call_goes (Some a) b runs is (inr (inl rests)) =
+      goes_like (is_to_come (Some a)) (is_to_come st.course.agenda) st (concluded (ending st.course.outcome c.outcome true b) next) (λ v. ap (λ (y : Option Agenda). is_to_come y v) (sym runs))
+      (settled_goes a a rests.done b runs is refl refl rests.is_done rests.settles)
+  call_goes (Some a) b runs is (inr (inr says)) =
+      let x = all_say says.said says.now says.ws a in
+      goes_like (is_to_come (Some x)) (is_to_come st.course.agenda) st (concluded (ending st.course.outcome c.outcome true b) next)
+      (λ v. writers_say a says.said says.now says.ws says.by v ∙ ap (λ (y : Option Agenda). is_to_come y v) (sym runs))
+      (settled_goes a x (is_done (groups_left x)) b runs is refl refl (λ d. d) says.settles)
+
+-- the course goes on by a call of writers
+pub followed_goes : (c : Course) (st : State) → IsOfAgenda st → IsCall true st.course c → GoesOn st (followed (runs st) c st)
+unfolding followed
+followed_goes c st of call = call_goes c st of st.course.agenda c.agenda refl refl call
+
+-- or by a step of the provider
+pub stepped_goes : (a x : Agenda) (c : Course) (st : State) → IsOfAgenda st → st.course.agenda ≡ Some a → x.kind ≡ a.kind → x.volumes ≡ a.volumes
+    → Settles (is_done (groups_left x)) x st.course.outcome c.agenda c.outcome
+    → GoesBy (is_to_come (Some x)) st (followed (runs st) c st)
+unfolding followed
+stepped_goes a x c st of runs like over settles =
+    subst (λ (t : Bool). GoesBy (is_to_come (Some x)) st (concluded (ending st.course.outcome c.outcome t c.agenda) (record st { course = c }))) (sym (ap is_some runs))
+    (settled_goes c st of a x (is_done (groups_left x)) c.agenda runs refl like over (λ d. d) settles)
+
+-- ## the set fails
+
+pub failed_goes : (why : VssResult) (st : State) → NumberedFrom 1 st.sets → GoesOn st (failed why st)
+failed_goes why st numbered = by_set (in_progress st) refl
+  where
+    by_set : (o : Option SetRow) → in_progress st ≡ o → GoesOn st (failed_in o why st)
+    by_set None e = goes_nowhere st
+    by_set (Some r) e = inr (record {
+      none = none_after (Some r) why st e;
+      over = settled_over (is_to_come st.course.agenda) st (Failed why) _ numbered refl (ap (λ (o : SetOutcome). map (row_settled o) st.sets) (failed_course why st.course).1) (λ fine. cc);
+    })
+
+-- ## a step of the provider, before what follows
+
+pub number_cut : (b : Bool) (now : ℕ) (r : SetRow) → (if b then record r { cut_at = Some now } else r).number ≡ r.number
+number_cut true now r = refl
+number_cut false now r = refl
+
+cut_same : (o : Option SetRow) (st : State) → in_progress st ≡ o → IsSameSet (in_progress st) (in_progress (cut_set o st))
+cut_same None st e = same_set (in_progress st)
+cut_same (Some r) st e =
+    subst (λ (q : Option SetRow). IsSameSet (in_progress st) q) (sym (find-row_cut r.number st.clock st.sets)) (by_set (in_progress st))
+  where
+    by_set : (x : Option SetRow) → IsSameSet x (option_map (row_cut r.number st.clock) x)
+    by_set None = tt
+    by_set (Some q) = (number_cut (q.number == r.number) st.clock q, volumes-row_cut_if (q.number == r.number) st.clock q)
+
+pub step_same : (g : Group) (st : State) → IsSameSet (in_progress st) (in_progress (step_made (Some g) st))
+step_same Cut st = cut_same (in_progress st) st refl
+step_same _ st = same_set (in_progress st)
+
+over_on : (test : ℕ → Bool) (o p : Option SetRow) (rows : List SetRow) → IsSameSet o p → IsOverIf test p rows → IsOverIf test o rows
+over_on test None p rows h k = tt
+over_on test (Some r) None rows h k = absurd h
+over_on test (Some r) (Some q) rows h k = record {
+  row = k.row;
+  over = k.over;
+  number = k.number ∙ h.0;
+  ended = ap (λ (n : ℕ). find (λ (z : SetRow). (z.number == n) && not (is_running z.result)) rows) (sym h.0) ∙ k.ended;
+  committed = λ fine v among. k.committed fine v (ap (is_among v) h.1 ∙ among);
+}
+
+-- what follows of a state with the same set and agenda
+pub goes_from : (test : ℕ → Bool) (st x next : State) → x.course ≡ st.course → IsSameSet (in_progress st) (in_progress x) → GoesBy test x next → GoesBy test st next
+goes_from test st x next course same (inl stays) = inl (record {
+  coming = stays.coming;
+  set = same_on (in_progress st) (in_progress x) (in_progress next) same stays.set;
+  snapshot = stays.snapshot ∙ ap (λ (c : Course). runs_snapshot c.agenda) course;
+})
+goes_from test st x next course same (inr none) = inr (record { none = none.none; over = over_on test (in_progress st) (in_progress x) next.sets same none.over })
+
+-- ## an agenda begins
+
+begun_settles : (k : Kind) (ms : List Member) (vs : List ℕ) (now : ℕ) (c : Course)
+    → Settles (is_done (groups_left (unspoken k ms vs now))) (unspoken k ms vs now) c.outcome (begun k ms vs now c).agenda (begun k ms vs now c).outcome
+unfolding begun posted settled
+begun_settles k ms vs now c = by_done (is_done (groups_left (unspoken k ms vs now)))
+  where
+    by_done : (done : Bool)
+        → Settles done (unspoken k ms vs now) c.outcome (settled_if done k (record c { agenda = Some (unspoken k ms vs now) })).agenda
+        (settled_if done k (record c { agenda = Some (unspoken k ms vs now) })).outcome
+    by_done true = (refl, refl)
+    by_done false = (refl, refl)
+
+-- one of writers alone, where none ran
+pub begun_goes : (k : Kind) (ms : List Member) (vs : List ℕ) (now : ℕ) (c : Course) (st : State) → IsOfAgenda st → st.course.agenda ≡ None → is_snapshot k ≡ false → c.outcome ≡ st.course.outcome
+    → GoesOn st (followed true (begun k ms vs now c) st)
+unfolding followed
+begun_goes k ms vs now c st of none plain same = by_done (is_done (groups_left (unspoken k ms vs now))) (begun k ms vs now c).agenda refl (begun_settles k ms vs now c)
+  where
+    kept : (j : Kind) → is_snapshot j ≡ false → (o : SetOutcome) → outcome_after j o ≡ o
+    kept Gather e o = refl
+    kept Prepare e o = refl
+    kept Snapshot e o = cc
+    kept Complete e o = refl
+
+    quiet : (v : ℕ) → is_to_come st.course.agenda v ≡ false
+    quiet v = ap (λ (y : Option Agenda). is_to_come y v) none
+
+    by_done : (done : Bool) (b : Option Agenda) → (begun k ms vs now c).agenda ≡ b → Settles done (unspoken k ms vs now) c.outcome b (begun k ms vs now c).outcome
+        → GoesOn st (concluded (ending st.course.outcome (begun k ms vs now c).outcome true b) (record st { course = begun k ms vs now c }))
+    by_done true (Some b) e h = cc
+    by_done false None e h = cc
+    by_done true None e h = plain_goes (begun k ms vs now c) st of (is_to_come st.course.agenda) (in_progress st) refl quiet (ap runs_snapshot none) e (h.1 ∙ kept k plain c.outcome ∙ same)
+    by_done false (Some b) e h =
+        subst (λ (x : Ending). GoesOn st (concluded x (record st { course = begun k ms vs now c }))) (sym (ending_on st.course.outcome (begun k ms vs now c).outcome true b (h.1 ∙ same)))
+        (inl (record {
+          set = same_set (in_progress st);
+          coming = λ v. ap (λ (y : Option Agenda). is_to_come y v) (e ∙ h.0) ∙ plain_to_come (unspoken k ms vs now) v plain ∙ sym (quiet v);
+          snapshot = ap runs_snapshot (e ∙ h.0) ∙ plain ∙ sym (ap runs_snapshot none);
+        }))
+
+-- the snapshot's, where none ran: nothing is to come of the set yet
+pub record BeginsSnapshot (st next : State) : Type 0 where
+  pub some : (in_progress st ≡ None) → ⊥
+  pub set : in_progress next ≡ in_progress st
+  pub rests : st.course.agenda ≡ None
+  pub runs : runs_snapshot next.course.agenda ≡ true
+  pub coming : (v : ℕ) → is_to_come next.course.agenda v ≡ false
+
+pub snapshot_begins : (ms : List Member) (vs : List ℕ) (now : ℕ) (c : Course) (st : State) → ((in_progress st ≡ None) → ⊥) → st.course.agenda ≡ None → c.outcome ≡ st.course.outcome
+    → BeginsSnapshot st (followed true (begun Snapshot ms vs now c) st)
+unfolding followed
+snapshot_begins ms vs now c st some none same = by_done (is_done (groups_left (unspoken Snapshot ms vs now))) refl (begun Snapshot ms vs now c).agenda refl (begun_settles Snapshot ms vs now c)
+  where
+    by_done : (done : Bool) → is_done (groups_left (unspoken Snapshot ms vs now)) ≡ done → (b : Option Agenda) → (begun Snapshot ms vs now c).agenda ≡ b
+        → Settles done (unspoken Snapshot ms vs now) c.outcome b (begun Snapshot ms vs now c).outcome
+        → BeginsSnapshot st (concluded (ending st.course.outcome (begun Snapshot ms vs now c).outcome true b) (record st { course = begun Snapshot ms vs now c }))
+    by_done true d b e h = absurd (never_done (unspoken Snapshot ms vs now) refl refl d)
+    by_done false d None e h = cc
+    by_done false d (Some b) e h =
+        subst (λ (x : Ending). BeginsSnapshot st (concluded x (record st { course = begun Snapshot ms vs now c })))
+        (sym (ending_on st.course.outcome (begun Snapshot ms vs now c).outcome true b (h.1 ∙ same))) (record {
+          some = some;
+          set = refl;
+          rests = none;
+          runs = ap runs_snapshot (e ∙ h.0);
+          coming = λ v. ap (λ (y : Option Agenda). is_to_come y v) (e ∙ h.0);
+        })
