@@ -1,5 +1,5 @@
 -- The volumes are digested one by one.
-use Rattle.std.proofs.Common.{◌≡◌, ℕ, zero, suc, ◌+◌, ◌<◌, ◌≤◌, Bool, List, length, refl, ap, sym, ◌∙◌, arith, Option, Some, subst, inl, inr}
+use Rattle.std.proofs.Common.{◌≡◌, ℕ, ◌+◌, ◌<◌, ◌≤◌, Bool, List, length, sym, arith, Some, subst, inl, inr}
 use Rattle.std.specs.Prelude.{◌⊎◌, ◌≢◌, slice_get, slice_set}
 use Rattle.diff_area.proofs.Gets.{get-set}
 use Rattle.write_history.specs.declared.move_item.Move.{Move}

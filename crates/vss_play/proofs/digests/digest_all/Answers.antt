@@ -1,7 +1,6 @@
-use Rattle.std.proofs.Common.{refl, ◌∙◌}
-use Rattle.vss_play.proofs.Areas.{areas_quiet, ending_quiet, ending_trans, still_ending}
-use Rattle.vss_play.proofs.ClosingLines.{any_earlier, still_ready}
-use Rattle.vss_play.proofs.Digesting.{digests_told}
+use Rattle.std.proofs.Common.{refl}
+use Rattle.vss_play.proofs.Areas.{areas_quiet}
+use Rattle.vss_play.proofs.ClosingLines.{still_ready}
 use Rattle.vss_play.proofs.digests.digest_all.Goals as goal
 
 pub returns-clause-areas : goal.returns-clause-areas
