@@ -64,6 +64,7 @@ impl BlockBuf {
         BlockBuf { bytes }
     }
 
+    /// The block's 16,384 bytes.
     pub fn bytes(&self) -> &[u8]
         ensures bytes { result.now ≡ self.now }
         ensures len { length result.now ≡ BLOCK }

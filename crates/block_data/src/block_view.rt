@@ -38,6 +38,7 @@ fn part(bytes: &[u8], at: usize, len: usize) -> &[u8]
 }
 
 impl<'a> BlockView<'a> {
+    /// A view of these bytes, which are a whole block.
     pub fn new(block: &'a [u8]) -> BlockView<'a>
         requires { length block.now ≡ BLOCK }
         ensures { result ≡ block.now }
@@ -45,6 +46,7 @@ impl<'a> BlockView<'a> {
         BlockView { bytes: block }
     }
 
+    /// The block's 16,384 bytes.
     pub fn bytes(&self) -> &'a [u8]
         ensures bytes { result.now ≡ self.now }
         ensures len { length result.now ≡ BLOCK }

@@ -24,6 +24,7 @@ impl Choices {
         Choices { items }
     }
 
+    /// The choices, in their order.
     pub fn items(&self) -> &[Choice]
         ensures { result.now ≡ self.now }
     {

@@ -23,6 +23,7 @@ pub struct Before {
 }
 
 impl Before {
+    /// What these values say of where the agenda stands and which writers it has frozen.
     pub fn of(kept: &KeptCourse) -> Before
         ensures { (c : Course) → Follows kept.now c → IsBefore result (is_some c.agenda) c }
     {

@@ -42,6 +42,7 @@ pub fn is_same_place(p: Place, q: Place) -> bool
     group_code(p.group) == group_code(q.group) && level_code(p.level) == level_code(q.level)
 }
 
+/// Whether the group asks writers to freeze.
 pub fn is_freeze(group: Group) -> bool
     ensures { result ≡ is_freeze group }
 {
@@ -51,6 +52,7 @@ pub fn is_freeze(group: Group) -> bool
     }
 }
 
+/// Whether the group asks writers to thaw.
 pub fn is_thaw(group: Group) -> bool
     ensures { result ≡ is_thaw group }
 {
@@ -60,6 +62,7 @@ pub fn is_thaw(group: Group) -> bool
     }
 }
 
+/// Whether the group asks writers to prepare for a snapshot.
 pub fn is_prepare_snapshot(group: Group) -> bool
     ensures { result ≡ is_prepare_snapshot group }
 {
@@ -69,6 +72,7 @@ pub fn is_prepare_snapshot(group: Group) -> bool
     }
 }
 
+/// Whether the group holds volumes.
 pub fn is_hold(group: Group) -> bool
     ensures { result ≡ is_hold group }
 {
@@ -78,6 +82,7 @@ pub fn is_hold(group: Group) -> bool
     }
 }
 
+/// Whether the agenda is that of a snapshot.
 pub fn is_snapshot(kind: Kind) -> bool
     ensures { result ≡ is_snapshot kind }
 {

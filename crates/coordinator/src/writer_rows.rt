@@ -42,12 +42,14 @@ impl WriterRows {
         self.rows.len()
     }
 
+    /// The rows, one for each writer, in the order of the scenario.
     pub fn items(&self) -> &[WriterRow]
         ensures { result.now ≡ self.now }
     {
         &self.rows
     }
 
+    /// The row of a writer, by its number in the scenario.
     pub fn row(&self, writer: u32) -> WriterRow
         requires { writer < length self.now }
         ensures { Some result ≡ slice_get self.now writer }

@@ -67,6 +67,7 @@ impl Word {
         Word::End,
     ];
 
+    /// The word as it stands in a scenario.
     pub fn name(self) -> &'static str
         ensures { result.now ≡ name_of self }
     {

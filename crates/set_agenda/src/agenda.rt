@@ -91,6 +91,7 @@ impl Agenda {
         }
     }
 
+    /// Whether every group of the agenda has closed.
     pub fn is_done(&self) -> bool
         ensures { result ≡ is_done self.now }
     {

@@ -55,12 +55,14 @@ impl WriterSet {
         self.bits
     }
 
+    /// Whether no writer is in the set.
     pub fn is_empty(&self) -> bool
         ensures { result ≡ is_nil self.now }
     {
         self.bits == 0
     }
 
+    /// Whether a writer, by its number, is in the set.
     pub fn contains(&self, writer: u32) -> bool
         requires { writer < 64 }
         ensures { result ≡ is_among writer self.now }
@@ -68,6 +70,7 @@ impl WriterSet {
         (self.bits >> writer) & 1 == 1
     }
 
+    /// Adds a writer, by its number. One that is in the set already stays.
     pub fn insert(&mut self, writer: u32)
         requires { writer < 64 }
         ensures { self.new ≡ writers (λ w. is_among w self.old || (writer == w)) }

@@ -74,6 +74,7 @@ impl SlotPool {
         let _ = self.lowest_first.push(Reverse(slot));
     }
 
+    /// Whether a slot has a copy.
     pub fn is_taken(&self, slot: u32) -> bool
         requires { slot < length self.now }
         ensures { IsTrue result ↔ IsTaken self.now slot }

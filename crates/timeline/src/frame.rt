@@ -40,6 +40,7 @@ impl<'a> Frame<'a> {
         self.add(&[Part::Markup("</g>\n")])
     }
 
+    /// A rectangle of a class of the style sheet; units are those of the picture.
     pub fn rect(
         &mut self,
         class: &'static str,
@@ -76,6 +77,7 @@ impl<'a> Frame<'a> {
         ])
     }
 
+    /// A sign of the legend, by name, with its corner at this place.
     pub fn sign(&mut self, name: &'static str, x: u64, y: u64) -> Result<(), OutOfMemory> {
         self.add(&[
             Part::Markup("<use href='#"),

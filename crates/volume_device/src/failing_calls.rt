@@ -28,6 +28,7 @@ impl FailingCalls {
         FailingCalls { failing, made: 0 }
     }
 
+    /// Whether no call is planned to fail.
     pub fn is_empty(&self) -> bool
         ensures { result ≡ (length self.now.failing == 0) }
     {

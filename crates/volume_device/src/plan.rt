@@ -28,6 +28,7 @@ fn find_row(rows: &[Planned], name: &[u8]) -> Option<usize>
 }
 
 impl Plan {
+    /// The plan with these rows.
     pub fn of(rows: Vec<Planned>) -> Plan
         ensures { result ≡ rows.items }
     {

@@ -43,6 +43,7 @@ impl Entry {
         })
     }
 
+    /// The volume's name, of at most 32 bytes.
     pub fn name(&self) -> &Text
         ensures name { result.now.bytes ≡ self.now.name }
         ensures short { length result.now.bytes ≤ 32 }
@@ -50,12 +51,14 @@ impl Entry {
         &self.name
     }
 
+    /// How many blocks of 16,384 bytes the volume has.
     pub fn blocks(&self) -> u32
         ensures { result ≡ self.now.blocks }
     {
         self.blocks
     }
 
+    /// The sets of the volume's images, oldest first.
     pub fn images(&self) -> &[u32]
         ensures images { result.now ≡ self.now.images }
         ensures few { length result.now ≤ 512 }

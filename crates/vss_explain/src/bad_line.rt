@@ -40,6 +40,7 @@ fn up_to(bytes: &[u8], last: u8) -> &[u8] {
 }
 
 impl<'a> BadLine<'a> {
+    /// The line of the text that the refusal names.
     pub fn of(text: &'a [u8], refusal: &'a Refusal) -> BadLine<'a> {
         let start = start_of(text, refusal.line);
         BadLine {
@@ -55,6 +56,7 @@ impl<'a> BadLine<'a> {
         up_to(self.bytes, b' ')
     }
 
+    /// The line's first word, if it is one of the language.
     pub fn word(&self) -> Option<Word> {
         Word::of(self.first())
     }

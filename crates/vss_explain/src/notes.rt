@@ -9,6 +9,7 @@ pub struct Notes {
 }
 
 impl Notes {
+    /// No line yet.
     pub fn new(alloc: Global) -> Notes {
         Notes {
             alloc,
@@ -16,6 +17,7 @@ impl Notes {
         }
     }
 
+    /// Where the lines take their memory from.
     pub fn alloc(&self) -> Global {
         self.alloc
     }
@@ -39,6 +41,7 @@ impl Notes {
         Ok(())
     }
 
+    /// All lines so far, each with its end.
     pub fn text(&self) -> &str {
         self.text.as_str()
     }

@@ -89,6 +89,7 @@ impl Trail {
         Ok(())
     }
 
+    /// How many moves were made, 2,097,152 at most.
     pub fn len(&self) -> u32
         ensures len { result ≡ length self.now.moves }
         ensures most { result ≤ MOST_MOVES }
@@ -96,6 +97,7 @@ impl Trail {
         self.moves.len() as u32
     }
 
+    /// Whether no move was made yet.
     pub fn is_empty(&self) -> bool
         ensures { IsTrue result ↔ (self.now.moves ≡ []) }
     {
@@ -110,6 +112,7 @@ impl Trail {
         self.moves[i as usize]
     }
 
+    /// The moves, in the order in which they were made.
     pub fn moves(&self) -> &[Move]
         ensures { result.now ≡ self.now.moves }
     {

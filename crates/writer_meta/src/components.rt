@@ -41,6 +41,7 @@ impl Components {
         Components { items }
     }
 
+    /// The components, in the order of the document.
     pub fn items(&self) -> &[Component]
         ensures { result.now ≡ self.now }
     {
