@@ -10,16 +10,16 @@ ghost use Rattle.std.specs.Prelude.{◌<◌, length, IfSome};
 ghost use Rattle.vss_world.specs.Moves.{IsEvent};
 
 use crate::counting_writer::CountingWriter;
-use crate::driven::Driven;
 use crate::enabled::Enabled;
 use crate::move_line::MoveLine;
-use crate::seat::Seat;
 use crate::silent_writer::SilentWriter;
 use crate::trial_error::TrialError;
 use std::alloc::Global;
 use volume_device::Device;
 use vss_model::{Event, Outcome};
 use vss_names::{Order, SetOutcome, WriterError};
+use vss_play::{Seat, Service};
+use vss_world::Reply;
 use writer_calls::{Answer, Scripted, ScriptedWriter};
 
 /// The most turns that are made.
@@ -29,14 +29,14 @@ const MOST_TURNS: u32 = 1_000;
 const VETOED: u32 = 4;
 
 /// How many writers may answer.
-fn may_answer<D: Device>(driven: &Driven<D>) -> u32 {
+fn may_answer<D: Device>(service: &Service<D>) -> u32 {
     let mut count = 0u32;
-    for writer in 0..driven.writers() {
+    for writer in 0..service.scenario().writers() {
         let event = Event::Answer {
             writer,
             answer: Answer::Ok,
         };
-        if driven.may(event) {
+        if service.may(event) {
             count = count.saturating_add(1);
         }
     }
@@ -44,22 +44,22 @@ fn may_answer<D: Device>(driven: &Driven<D>) -> u32 {
 }
 
 /// What may come now; `line` is the lane's next event.
-fn enabled_now<D: Device>(driven: &Driven<D>, line: Event) -> Enabled
-    requires { IsEvent driven.now line }
+fn enabled_now<D: Device>(service: &Service<D>, line: Event) -> Enabled
+    requires { IsEvent service.now.plan line }
 {
     Enabled {
-        lane: driven.may(line),
-        provider: driven.may(Event::Provider),
-        idle: driven.may(Event::Idle),
-        writers: may_answer(driven),
+        lane: service.may(line),
+        provider: service.may(Event::Provider),
+        idle: service.may(Event::Idle),
+        writers: may_answer(service),
     }
 }
 
 /// What a writer answers where it has an order which it was not given yet, and does answer.
-fn answer_of<D: Device>(driven: &Driven<D>, seats: &mut [Seat], writer: u32) -> Option<Answer>
-    requires { writer < length driven.now.writers }
+fn answer_of<D: Device>(service: &Service<D>, seats: &mut [Seat], writer: u32) -> Option<Answer>
+    requires { writer < length service.now.plan.writers }
 {
-    let standing = driven.poll(writer)?;
+    let standing = service.poll(writer)?;
     if writer as usize >= seats.len() {
         return None;
     }
@@ -67,11 +67,11 @@ fn answer_of<D: Device>(driven: &Driven<D>, seats: &mut [Seat], writer: u32) -> 
 }
 
 /// The answer of the first writer that has one.
-fn next_answer<D: Device>(driven: &Driven<D>, seats: &mut [Seat]) -> Option<Event>
-    ensures { IfSome result (IsEvent driven.now) }
+fn next_answer<D: Device>(service: &Service<D>, seats: &mut [Seat]) -> Option<Event>
+    ensures { IfSome result (IsEvent service.now.plan) }
 {
-    for writer in 0..driven.writers() {
-        if let Some(answer) = answer_of(driven, seats, writer) {
+    for writer in 0..service.scenario().writers() {
+        if let Some(answer) = answer_of(service, seats, writer) {
             return Some(Event::Answer { writer, answer });
         }
     }
@@ -80,18 +80,18 @@ fn next_answer<D: Device>(driven: &Driven<D>, seats: &mut [Seat]) -> Option<Even
 
 /// The event that comes: the lane's, where it may, else a writer's answer, the provider's step, or that time goes by.
 fn next_event<D: Device>(
-    driven: &Driven<D>,
+    service: &Service<D>,
     seats: &mut [Seat],
     enabled: Enabled,
     line: Event,
 ) -> Event
-    requires { IsEvent driven.now line }
-    ensures { IsEvent driven.now result }
+    requires { IsEvent service.now.plan line }
+    ensures { IsEvent service.now.plan result }
 {
     if enabled.lane {
         return line;
     }
-    match next_answer(driven, seats) {
+    match next_answer(service, seats) {
         Some(event) => event,
         None if enabled.provider => Event::Provider,
         None => Event::Idle,
@@ -112,10 +112,10 @@ fn tell_effects(rt: &HostRuntime, outcome: &Outcome) -> Result<(), TrialError> {
 /// Tells each writer of the abort that its row has more.
 fn tell_aborts<D: Device>(
     rt: &HostRuntime,
-    driven: &Driven<D>,
+    service: &Service<D>,
     seats: &mut [Seat],
 ) -> Result<(), TrialError> {
-    for (writer, row) in driven.rows().iter().enumerate() {
+    for (writer, row) in service.rows().iter().enumerate() {
         if writer >= seats.len() {
             return Ok(());
         }
@@ -127,8 +127,8 @@ fn tell_aborts<D: Device>(
 }
 
 /// Writes each writer's row.
-fn tell_rows<D: Device>(rt: &HostRuntime, driven: &Driven<D>) -> Result<(), TrialError> {
-    for row in driven.rows() {
+fn tell_rows<D: Device>(rt: &HostRuntime, service: &Service<D>) -> Result<(), TrialError> {
+    for row in service.rows() {
         println!(rt; "row {:?} {:?} aborts {}", row.state, row.code, row.aborts)?;
     }
     Ok(())
@@ -138,16 +138,16 @@ fn tell_rows<D: Device>(rt: &HostRuntime, driven: &Driven<D>) -> Result<(), Tria
 /// line is left.
 fn turn<D: Device>(
     rt: &HostRuntime,
-    driven: &mut Driven<D>,
+    service: &mut Service<D>,
     seats: &mut [Seat],
     at: u32,
 ) -> Result<Option<u32>, TrialError> {
-    let Some((line, number)) = driven.line(at) else {
+    let Some((line, number)) = service.line(0, at) else {
         return Ok(None);
     };
-    let enabled = enabled_now(driven, line);
-    let event = next_event(driven, seats, enabled, line);
-    let Some(outcome) = driven.make(rt.alloc(), event)? else {
+    let enabled = enabled_now(service, line);
+    let event = next_event(service, seats, enabled, line);
+    let Reply::Moved(outcome) = service.step(rt.alloc(), event)? else {
         return Err(TrialError::Move);
     };
     let told = outcome.told;
@@ -161,20 +161,20 @@ fn turn<D: Device>(
         }
     )?;
     tell_effects(rt, &outcome)?;
-    tell_aborts(rt, driven, seats)?;
+    tell_aborts(rt, service, seats)?;
     Ok(Some(at.saturating_add(u32::from(enabled.lane))))
 }
 
 /// Says that an event has to wait.
 fn wait<D: Device>(
     rt: &HostRuntime,
-    driven: &mut Driven<D>,
+    service: &mut Service<D>,
     name: &str,
     event: Event,
 ) -> Result<(), TrialError>
-    requires { IsEvent driven.old event }
+    requires { IsEvent service.old.plan event }
 {
-    if driven.make(rt.alloc(), event)?.is_some() {
+    if let Reply::Moved(_) = service.step(rt.alloc(), event)? {
         return Err(TrialError::Move);
     }
     println!(rt; "{name} blocked")?;
@@ -184,15 +184,15 @@ fn wait<D: Device>(
 /// Makes moves until no line of the lane is left. At first the provider and time have to wait.
 fn drive<D: Device>(
     rt: &HostRuntime,
-    driven: &mut Driven<D>,
+    service: &mut Service<D>,
     seats: &mut [Seat],
 ) -> Result<(), TrialError> {
-    wait(rt, driven, "provider", Event::Provider)?;
-    wait(rt, driven, "time", Event::Idle)?;
+    wait(rt, service, "provider", Event::Provider)?;
+    wait(rt, service, "time", Event::Idle)?;
     let mut at = 0;
     for _turn in 0..MOST_TURNS {
-        match turn(rt, driven, seats, at)? {
-            None => return tell_rows(rt, driven),
+        match turn(rt, service, seats, at)? {
+            None => return tell_rows(rt, service),
             Some(next) => at = next,
         }
     }
@@ -211,9 +211,9 @@ fn script(alloc: Global) -> Result<ScriptedWriter, TrialError> {
 }
 
 /// Makes the moves of the first lane and of three writers, and tells of them and of how each writer stands.
-pub fn drive_three<D: Device>(rt: &HostRuntime, driven: &mut Driven<D>) -> Result<(), TrialError> {
+pub fn drive_three<D: Device>(rt: &HostRuntime, service: &mut Service<D>) -> Result<(), TrialError> {
     let scripted = Seat::of(Box::new(rt.alloc(), script(rt.alloc())?)?);
     let silent = Seat::of(Box::new(rt.alloc(), SilentWriter::new())?);
     let counting = Seat::of(Box::new(rt.alloc(), CountingWriter::vetoing(VETOED))?);
-    drive(rt, driven, &mut [silent, counting, scripted])
+    drive(rt, service, &mut [silent, counting, scripted])
 }

@@ -24,7 +24,6 @@ mod asked;
 mod came;
 mod counting_gate;
 mod counting_writer;
-mod driven;
 mod driving;
 mod enabled;
 mod failing;
@@ -32,9 +31,7 @@ mod letters;
 mod move_line;
 mod numbers;
 mod one_turn;
-mod opening;
 mod runs;
-mod seat;
 mod service;
 mod silent_writer;
 mod trial_error;
@@ -44,7 +41,6 @@ use came::Came;
 use driving::drive_three;
 use failing::Failing;
 use io_edge::{InSource, OutSink, ReadError, read_all, write_all};
-use opening::open;
 use runs::{Way, report_of, scenario_of};
 use service::{Called, call};
 use std::env;
@@ -52,9 +48,10 @@ use std::process::ExitCode;
 use std::sync::Wait;
 use std::thread::Threads;
 use trial_error::TrialError;
-use volume_device::{MemMaker, Planned};
+use volume_device::{MemMaker, Planned, Store};
 use vss_main::{MOST_BYTES, Status};
 use vss_names::Text;
+use vss_play::Service;
 
 /// The words after the program's name, and those after `--`.
 fn given(rt: &HostRuntime) -> Result<(Vec<String>, Vec<String>), TrialError> {
@@ -111,8 +108,10 @@ fn make_run<R: Threads + Wait + Sync>(
 
 /// Drives a core over devices in memory, with writers of this program's own.
 fn drive(rt: &HostRuntime, input: &[u8]) -> Result<ExitCode, TrialError> {
-    let mut driven = open(rt.alloc(), scenario_of(rt.alloc(), input)?)?;
-    drive_three(rt, &mut driven)?;
+    let mut maker = MemMaker::new(rt.alloc(), Vec::new(rt.alloc()));
+    let scenario = scenario_of(rt.alloc(), input)?;
+    let mut service = Service::new(rt.alloc(), scenario, &Store::Memory, &mut maker)?;
+    drive_three(rt, &mut service)?;
     Ok(ExitCode::SUCCESS)
 }
 

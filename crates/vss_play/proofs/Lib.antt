@@ -1,4 +1,5 @@
 pub mod LaneLines
+pub mod Serving
 pub mod Asked
 pub mod Replies
 pub mod Numbers

@@ -5,3 +5,4 @@ pub mod Closing
 pub mod Messages
 pub mod Acting
 pub mod Digested
+pub mod Serving

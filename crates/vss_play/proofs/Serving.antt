@@ -1,4 +1,4 @@
--- What a core that is driven keeps, and what it asks for.
+-- What a core that its caller drives keeps.
 use Rattle.std.proofs.Common.{◌≡◌, ℕ, ◌+◌, ◌<◌, List, [], ◌∷◌, ◌++◌, Option, Some, arith, length-append}
 use Rattle.std.specs.Prelude.{slice_get}
 use Rattle.scenario.specs.Plan.{Plan, LaneLine, lines_of}
@@ -9,17 +9,18 @@ use Rattle.vss_model.specs.declared.outcome.Outcome.{Outcome}
 use Rattle.vss_model.specs.Outcome.{told_act}
 use Rattle.vss_world.specs.Stands.{WorldValue, IsOf, Stands}
 use Rattle.vss_world.specs.Moves.{IsMoved, IsEvent}
+use Rattle.vss_play.specs.Serving.{IsServing}
 use Rattle.vss_play.proofs.LaneLines.{lane_in, line_is_op}
-use Rattle.service_trial.specs.Keeps.{IsDriven}
 
 -- at first
-pub driven_new : {D : Type 0} (told : D → Option (List (List ℕ))) (s : Plan) (w : WorldValue D) → IsOf w s → Stands told w s [] → IsDriven told s w 0
-driven_new told s w of stands = record { of = of; standing = record { acts = []; few = omega arith; stands = stands }; many = omega arith }
+pub serving_new : {D : Type 0} (told : D → Option (List (List ℕ))) (s : Plan) (w : WorldValue D) → IsOf w s → Stands told w s [] → IsServing told s w 0
+serving_new told s w of stands =
+    record { of = of; standing = record { acts = []; few = omega arith; stands = stands }; many = omega arith; most = omega arith }
 
 -- and after a move
-pub driven_on : {D : Type 0} (told : D → Option (List (List ℕ))) (count : D → ℕ) (s : Plan) (old new : WorldValue D) (n m : ℕ) (event : Event) (o : Outcome)
-    → n < 1000 → m ≡ n + 1 → IsDriven told s old n → IsMoved told count old new s event o → IsDriven told s new m
-driven_on told count s old new n m event o few next k moves =
+pub serving_on : {D : Type 0} (told : D → Option (List (List ℕ))) (count : D → ℕ) (s : Plan) (old new : WorldValue D) (n m : ℕ) (event : Event) (o : Outcome)
+    → n < 2097151 → m ≡ n + 1 → IsServing told s old n → IsMoved told count old new s event o → IsServing told s new m
+serving_on told count s old new n m event o few next k moves =
     let acts = k.standing.acts in
     let more = length-append acts (told_act event o.told ∷ []) in
     let many = k.many in
@@ -31,6 +32,7 @@ driven_on told count s old new n m event o few next k moves =
         stands = moves.stands_for acts k.standing.stands;
       };
       many = omega arith;
+      most = omega arith;
     }
 
 -- a lane's line is an event of the scenario

@@ -1,0 +1,120 @@
+//! Your own writers: the service in memory, with two writers that this crate makes. A backup is tried three times: the first
+//! writer vetoes its first freeze, the second hangs in its second, and the third try completes. `stdout` has what it prints.
+#![tactic(auto)]
+
+ghost use Rattle.std.specs.Prelude.{IfSome};
+ghost use Rattle.vss_world.specs.Moves.{IsEvent};
+
+mod ledger;
+mod mail;
+
+use ledger::Ledger;
+use mail::Mail;
+use scenario::parse;
+use std::process::ExitCode;
+use volume_device::{MemDevice, MemMaker, Store};
+use vss_model::{Event, Outcome, Told};
+use vss_names::SetOutcome;
+use vss_play::{Seat, Service};
+use vss_world::Reply;
+
+/// One volume, two writers, and the lines of a backup.
+const SCENARIO: &[u8] = b"scenario 1
+volume C 4 4
+writer ledger {\"class\":\"11111111-1111-4111-8111-111111111111\",\"components\":[{\"name\":\"main\",\"path\":\"\",\"selectable\":true,\"type\":1}],\"level\":2,\"name\":\"Ledger\",\"source\":1,\"usage\":3}
+writer mail {\"class\":\"22222222-2222-4222-8222-222222222222\",\"components\":[{\"name\":\"main\",\"path\":\"\",\"selectable\":true,\"type\":1}],\"level\":2,\"name\":\"Mail\",\"source\":1,\"usage\":3}
+lane backup
+begin 9
+gather
+await
+component ledger main
+component mail main
+start
+add C
+prepare
+await
+snapshot
+await
+end
+";
+
+/// The answer of the first writer that has an order which it was not given yet, and answers it.
+fn next_answer(service: &Service<MemDevice>, seats: &mut [Seat]) -> Option<Event>
+    ensures { IfSome result (IsEvent service.now.plan) }
+{
+    for writer in 0..service.scenario().writers() {
+        if let Some(order) = service.poll(writer) {
+            if let Some(answer) = seats.get_mut(writer as usize)?.answer(order) {
+                return Some(Event::Answer { writer, answer });
+            }
+        }
+    }
+    None
+}
+
+/// What comes if the lane has to wait: a writer's answer, else the provider's step, else time goes by.
+fn next_event(service: &Service<MemDevice>, seats: &mut [Seat]) -> Event
+    ensures { IsEvent service.now.plan result }
+{
+    match next_answer(service, seats) {
+        Some(answer) => answer,
+        None if service.may(Event::Provider) => Event::Provider,
+        None => Event::Idle,
+    }
+}
+
+/// Prints answers, time that goes by, and how a set ends.
+fn show(rt: &HostRuntime, outcome: Outcome) -> Option<()> {
+    match outcome.told {
+        Told::Answered { order, answer } => println!(rt; "{order:?}: {answer:?}").ok()?,
+        Told::Ticks(ticks) => println!(rt; "{ticks} milliseconds go by").ok()?,
+        _ => {}
+    }
+    if outcome.result != SetOutcome::Running {
+        println!(rt; "set {}: {:?}", outcome.set, outcome.result).ok()?;
+    }
+    Some(())
+}
+
+/// Makes all lines of the backup, each as soon as it may come.
+fn back_up(rt: &HostRuntime, service: &mut Service<MemDevice>, seats: &mut [Seat]) -> Option<()> {
+    let mut at = 0;
+    for _move in 0..1_000 {
+        let Some((line, _number)) = service.line(0, at) else {
+            return Some(());
+        };
+        let goes = service.may(line);
+        let event = if goes { line } else { next_event(service, seats) };
+        let Ok(Reply::Moved(outcome)) = service.step(rt.alloc(), event) else {
+            return None;
+        };
+        show(rt, outcome)?;
+        for (row, seat) in service.rows().iter().zip(seats.iter_mut()) {
+            let _ = seat.tell(*row);
+        }
+        at = at.saturating_add(u32::from(goes));
+    }
+    None
+}
+
+/// Tries the backup three times.
+fn try_all(rt: &HostRuntime) -> Option<()> {
+    let scenario = parse(rt.alloc(), SCENARIO).ok()?;
+    let mut maker = MemMaker::new(rt.alloc(), Vec::new(rt.alloc()));
+    let mut service = Service::new(rt.alloc(), scenario, &Store::Memory, &mut maker).ok()?;
+    let ledger = Box::new(rt.alloc(), Ledger { aborts: 0 }).ok()?;
+    let mail = Box::new(rt.alloc(), Mail { aborts: 0 }).ok()?;
+    let seats = &mut [Seat::of(ledger), Seat::of(mail)];
+    for number in 1..4 {
+        println!(rt; "try {number}").ok()?;
+        back_up(rt, &mut service, seats)?;
+    }
+    Some(())
+}
+
+fn main(rt: HostRuntime) -> ExitCode {
+    match try_all(&rt) {
+        Some(()) => ExitCode::SUCCESS,
+        None => ExitCode::FAILURE,
+    }
+}

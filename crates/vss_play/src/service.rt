@@ -1,0 +1,149 @@
+ghost use Rattle.std.specs.Prelude.{true, ◌≡◌, ◌<◌, ◌≤◌, ◌+◌, [], Some, length, slice_get, OnOk, OnErr, IfOk, IfSome, IsErrOf};
+ghost use Rattle.vss_names.specs.Faults.{Rose};
+ghost use Rattle.coordinator.specs.OpenOrders.{standing_in};
+ghost use Rattle.vss_model.specs.Acts.{enabled};
+ghost use Rattle.vss_world.specs.Moves.{IsEvent, IsStepped, AreListed, takes_memory};
+ghost use Rattle.vss_world.specs.Stands.{IsOf, Stands, IsStanding, IfStands};
+
+use crate::devices::make_devices;
+use crate::groups::open_groups;
+use crate::play_fault::PlayFault;
+use crate::step_fault::StepFault;
+use scenario::Scenario;
+use std::alloc::Global;
+use std::marker::Model;
+use volume_device::{Device, Maker, Store};
+use vss_model::Event;
+use vss_names::OutOfMemory;
+use vss_world::{Reply, World};
+use writer_calls::Standing;
+use writer_state::WriterRow;
+
+/// The most moves of a service.
+pub const MOST_MOVES: u32 = 2_097_151;
+
+/// The core with its scenario, for callers who make the events and whose writers are their own. It writes no report.
+/// Contracts see the scenario, the core and how many moves it made.
+#[derive(Drop)]
+pub struct Service<D: Device> {
+    scenario: Scenario,
+    world: World<D>,
+    moves: u32,
+}
+
+impl<D: Device> Model for Service<D> {
+    ghost use Rattle.vss_play.specs.Serving.{ServiceValue, IsServing};
+
+    ghost Value = { ServiceValue D };
+
+    ghost view = { λ s. record { plan = s.scenario; world = s.world; moves = s.moves } };
+
+    ghost invariant = { λ s. IsServing D.told s.scenario s.world s.moves };
+}
+
+impl<D: Device> Service<D> {
+    /// A service of which nothing has happened yet, over devices that the maker makes, as for a run: those of the
+    /// volumes, and then those of the areas. Where one is refused, the maker gets back the others.
+    pub fn new<M: Maker<Made = D>>(
+        alloc: Global,
+        scenario: Scenario,
+        store: &Store,
+        maker: &mut M,
+    ) -> Result<Service<D>, PlayFault>
+        ensures plan { IfOk result (λ service. service.plan ≡ scenario) }
+        ensures stands { IfOk result (λ service. Stands D.told service.world scenario []) }
+        ensures unmoved { IfOk result (λ service. service.moves ≡ 0) }
+        ensures unfailed { OnOk result (M.count maker.new ≡ M.count maker.old) }
+        ensures unmade { IsErrOf result PlayFault.OutOfMemory → M.count maker.new ≡ M.count maker.old }
+        ensures rose { IsErrOf result PlayFault.Failed → Rose (M.count maker.old) (M.count maker.new) }
+    {
+        let _facts = scenario.lanes();
+        let devices = make_devices(alloc, &scenario, store, maker)?;
+        let Ok(groups) = open_groups(alloc, &scenario, devices) else {
+            return Err(PlayFault::OutOfMemory);
+        };
+        match World::new(alloc, &scenario, groups) {
+            Ok(world) => Ok(Service {
+                scenario,
+                world,
+                moves: 0,
+            }),
+            Err(_) => Err(PlayFault::OutOfMemory),
+        }
+    }
+
+    /// The scenario.
+    pub fn scenario(&self) -> &Scenario
+        ensures { result.now ≡ self.now.plan }
+    {
+        &self.scenario
+    }
+
+    /// The core, for all that can be asked of it.
+    pub fn world(&self) -> &World<D>
+        ensures world { result.now ≡ self.now.world }
+        ensures of { IsOf self.now.world self.now.plan }
+        ensures standing { IsStanding D.told self.now.world self.now.plan }
+    {
+        &self.world
+    }
+
+    /// Whether an event may come now.
+    pub fn may(&self, event: Event) -> bool
+        requires { IsEvent self.now.plan event }
+        ensures { IfStands D.told self.now.world self.now.plan (λ st. result ≡ enabled self.now.plan st event) }
+    {
+        self.world.is_enabled(&self.scenario, event)
+    }
+
+    /// The order that a writer has to answer; none where no order of it is open.
+    pub fn poll(&self, writer: u32) -> Option<Standing>
+        requires { writer < length self.now.plan.writers }
+        ensures { IfStands D.told self.now.world self.now.plan (λ st. result ≡ standing_in st.course writer) }
+    {
+        self.world.poll(&self.scenario, writer)
+    }
+
+    /// The writers' rows, in the order of their numbers.
+    pub fn rows(&self) -> &[WriterRow]
+        ensures many { length result.now ≡ length self.now.plan.writers }
+        ensures rows { IfStands D.told self.now.world self.now.plan (λ st. result.now ≡ st.course.rows) }
+    {
+        self.world.rows(&self.scenario)
+    }
+
+    /// The event of a line of a lane, counted from 0, with the line's number in the text; none where the lane has no such line.
+    #[tactic(auto, using(crate::proofs::Serving::line_in))]
+    pub fn line(&self, lane: u32, at: u32) -> Option<(Event, u32)>
+        ensures { IfSome result (λ next. IsEvent self.now.plan next.0) }
+    {
+        let _facts = self.scenario.lanes();
+        let line = self.scenario.line(lane, at)?;
+        Some((Event::Line { lane, op: line.op }, line.number))
+    }
+
+    /// Makes an event, if it is enabled, and says what it came to; else it is blocked. A service that has made all its
+    /// moves makes no more.
+    pub fn step(&mut self, alloc: Global, event: Event) -> Result<Reply, StepFault>
+        requires { IsEvent self.old.plan event }
+        ensures same { OnErr result (self.new ≡ self.old) }
+        ensures plan { self.new.plan ≡ self.old.plan }
+        ensures moves { self.new.moves ≤ self.old.moves + 1 }
+        ensures full { IsErrOf result StepFault.TrailFull → self.old.moves ≡ 2097151 }
+        ensures takes { IsErrOf result StepFault.OutOfMemory → takes_memory event ≡ true }
+        ensures stepped { IfOk result (IsStepped D.told D.count self.old.world self.new.world self.old.plan event) }
+        ensures listed { IfOk result (λ reply. AreListed reply self.new.world.listed) }
+    {
+        if self.moves >= MOST_MOVES {
+            return Err(StepFault::TrailFull);
+        }
+        match self.world.step(alloc, &self.scenario, event) {
+            Err(OutOfMemory) => Err(StepFault::OutOfMemory),
+            Ok(Reply::Blocked) => Ok(Reply::Blocked),
+            Ok(Reply::Moved(outcome)) => {
+                self.moves += 1;
+                Ok(Reply::Moved(outcome))
+            }
+        }
+    }
+}
