@@ -253,7 +253,7 @@ module _ (s : Plan) (plan : IsPlan s) (st : State) (time : (v : ℕ) → AreInTi
       deletes_set = λ lane n c mark e. by_less _ (less_in_map n st.volumes);
       deletes_image = λ lane n v k mark e. by_less _ (less_in_change k.row.number v st.volumes);
       ticks = λ lane n mark. fit_tick n;
-      begins = λ lane n all c mark e. fit;
+      begins = λ lane n all c mark e ctx. fit;
       disables = λ lane w q mark g. fit;
       gathers = λ lane q mark g. by_less _ (less_followed true _ st);
       names = λ lane w full q explicit mark g named. fit;
