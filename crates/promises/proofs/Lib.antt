@@ -62,5 +62,6 @@ pub mod LastResult
 pub mod Progress
 pub mod Accepted
 pub mod Awaited
+pub mod Codes
 pub mod Promises
 pub mod Headline

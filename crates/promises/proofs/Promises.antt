@@ -9,6 +9,7 @@ use Rattle.promises.proofs.Asked.{asks_its_own}
 use Rattle.promises.proofs.Awaited.{await_tells}
 use Rattle.promises.proofs.Calls.{calls_are_owned, waits_are_few, waits_are_due, stands_quiet, frozen_do_not_write}
 use Rattle.promises.proofs.Clock.{clock_moves}
+use Rattle.promises.proofs.Codes.{fails_by_code}
 use Rattle.promises.proofs.Completing.{completes_unfailed}
 use Rattle.promises.proofs.Contents.{contents_change}
 use Rattle.promises.proofs.ContextZero.{backups_end}
@@ -42,6 +43,7 @@ as_promised s trail = record {
     participants = takes_part s so_far act;
     completes = complete_by_the_way s so_far act;
     fails = fails_for_cause s so_far act;
+    code = fails_by_code s so_far act;
     full = writes_fail_for_slots s so_far act;
     sets = keeps_rows s so_far act;
     images = images_go_for_cause s so_far act;

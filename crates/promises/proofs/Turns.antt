@@ -37,6 +37,7 @@ pub record Falls (st x : State) : Type 0 where
   pub why : VssResult
   pub session : x.session ≡ option_map (set_failed why) st.session
   pub failure : set_failure (in_progress st) x ≡ Some why
+  pub outcome : x.course.outcome ≡ FailedSet why
 
 -- an agenda ends
 pub record AgendaOver (st x : State) (ran : Bool) : Type 0 where
@@ -127,7 +128,7 @@ module _ (s : Plan) (so_far : List Act) where
 
     by_ending : (o n : SetOutcome) (ran : Bool) (a : Option Agenda) → st.course.outcome ≡ o → c.outcome ≡ n → c.agenda ≡ a → (ran ≡ false → is_some c.agenda ≡ false) → Turn st (concluded (ending o n ran a) z) ran
     by_ending RunningSet (FailedSet why) ran a e f g idle =
-        inl (record { why = why; session = ap (option_map (set_failed why)) session; failure = fallen (concluded (SetFails why) z) c.outcome why (ap (map (row_settled c.outcome)) (sets (ap has_failed f))) f (failing_set c why e f calm) })
+        inl (record { why = why; session = ap (option_map (set_failed why)) session; failure = fallen (concluded (SetFails why) z) c.outcome why (ap (map (row_settled c.outcome)) (sets (ap has_failed f))) f (failing_set c why e f calm); outcome = f })
     by_ending RunningSet RunningSet true None e f g idle = over g (no_failure (concluded AgendaEnds z) (settled_failures (ap failure_of f)))
     by_ending RunningSet RunningSet true (Some a) e f g idle = nothing true (ap is_some g) (no_failure z failures)
     by_ending RunningSet RunningSet false a e f g idle = nothing false (idle refl) (no_failure z failures)
@@ -160,7 +161,7 @@ module _ (s : Plan) (so_far : List Act) where
   unfolding course_failed
   failed_turn None why y e sets session course = quiet_turn y session (λ n. ap (λ rows. failure_at rows n) sets) (ap (λ (d : Course). is_some d.agenda) course)
   failed_turn (Some r) why y e sets session course =
-      inl (record { why = why; session = ap (option_map (set_failed why)) session; failure = fallen (failed_in (Some r) why y) (FailedSet why) why (ap (map (row_settled (FailedSet why))) sets) refl (ap is_some e) })
+      inl (record { why = why; session = ap (option_map (set_failed why)) session; failure = fallen (failed_in (Some r) why y) (FailedSet why) why (ap (map (row_settled (FailedSet why))) sets) refl (ap is_some e); outcome = refl })
 
   pub abort_turn : Turn st (failed AsyncCancelled st) (runs st)
   abort_turn = failed_turn (in_progress st) AsyncCancelled st refl refl refl refl
@@ -180,7 +181,7 @@ module _ (s : Plan) (so_far : List Act) where
 
       -- volumes alone change
       same_turn : Turn st x (runs st) → Turn st (put v w Clean x) (runs st)
-      same_turn (inl t) = inl (record { why = t.why; session = t.session; failure = same_failure (in_progress st) ∙ t.failure })
+      same_turn (inl t) = inl (record { why = t.why; session = t.session; failure = same_failure (in_progress st) ∙ t.failure; outcome = t.outcome })
       same_turn (inr (inl t)) = inr (inl (record { ran_is = t.ran_is; session = t.session; failure = same_failure (in_progress st) ∙ t.failure; quiet = t.quiet }))
       same_turn (inr (inr t)) = inr (inr (record { session = t.session; failure = same_failure (in_progress st) ∙ t.failure; runs_is = t.runs_is }))
   put_turn v w Fault x i = i

@@ -28,5 +28,6 @@ pub mod Asked
 pub mod Evicted
 pub mod Properties
 pub mod Awaited
+pub mod Codes
 pub mod Promises
 pub mod Headline

@@ -10,6 +10,7 @@ use Rattle.promises.specs.Asked.{AsksItsOwn}
 use Rattle.promises.specs.Awaited.{AwaitTells}
 use Rattle.promises.specs.Calls.{CallsAreOwned, WaitsAreFew, WaitsAreDue, StandsQuiet, FrozenDoNotWrite}
 use Rattle.promises.specs.Clock.{ClockMoves}
+use Rattle.promises.specs.Codes.{FailsByCode}
 use Rattle.promises.specs.Completing.{CompletesUnfailed}
 use Rattle.promises.specs.Contents.{ContentsChange}
 use Rattle.promises.specs.ContextZero.{BackupsEnd}
@@ -40,6 +41,7 @@ pub record IsActAsPromised (s : Plan) (so_far : List Act) (act : Act) : Type 0 w
   pub participants : TakesPart s so_far act
   pub completes : CompletesByTheWay s so_far act
   pub fails : FailsForCause s so_far act
+  pub code : FailsByCode s so_far act
   pub full : WritesFailForSlots s so_far act
   pub sets : KeepsRows s so_far act
   pub images : ImagesGoForCause s so_far act

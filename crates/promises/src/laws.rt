@@ -12,6 +12,7 @@ ghost use Rattle.promises.specs.Asked.{AsksItsOwn};
 ghost use Rattle.promises.specs.Awaited.{AwaitTells};
 ghost use Rattle.promises.specs.Calls.{CallsAreOwned, WaitsAreFew, WaitsAreDue, StandsQuiet, FrozenDoNotWrite};
 ghost use Rattle.promises.specs.Clock.{ClockMoves};
+ghost use Rattle.promises.specs.Codes.{FailsByCode};
 ghost use Rattle.promises.specs.Completing.{CompletesUnfailed};
 ghost use Rattle.promises.specs.Contents.{ContentsChange};
 ghost use Rattle.promises.specs.ContextZero.{BackupsEnd};
@@ -91,6 +92,11 @@ pub fn volumes_are_once_in_a_set()
 /// An act that gives a cause fails the set in progress in that act, and no other act fails it.
 pub fn sets_fail_for_cause()
     ensures { (s : Plan) (so_far : List Act) (act : Act) → FailsForCause s so_far act }
+{}
+
+/// A set fails with the code of its cause: of the veto, of a failed flush, of `abort` or `end`, of a write, or of a limit.
+pub fn sets_fail_with_the_code_of_their_cause()
+    ensures { (s : Plan) (so_far : List Act) (act : Act) → FailsByCode s so_far act }
 {}
 
 /// A write fails the set in progress exactly where it finds no slot unless the set's own image goes.
