@@ -1,9 +1,9 @@
 -- A set that fails has the code of its cause.
-use Rattle.std.proofs.Common.{◌≡◌, ◌∙◌, ℕ, ◌+◌, List, [], ◌∷◌, Option, Some, None, refl, Bool, true, false, ap, sym, subst, inl, inr, map}
-use Rattle.std.specs.Prelude.{◌&&◌, ◌⊎◌, not, is_some, if◌then◌else◌}
+use Rattle.std.proofs.Common.{◌≡◌, ◌∙◌, ℕ, ◌+◌, List, [], ◌∷◌, Option, Some, None, refl, Bool, true, false, ap, sym, inl, inr}
+use Rattle.std.specs.Prelude.{◌&&◌, ◌⊎◌, not, if◌then◌else◌}
 use Rattle.vss_names.specs.declared.order.Order.{Order}
 use Rattle.vss_names.specs.declared.set_outcome.SetOutcome.{SetOutcome}
-use Rattle.vss_names.specs.declared.set_outcome.SetOutcome.TheVariants.{Running as RunningSet, Failed as FailedSet}
+use Rattle.vss_names.specs.declared.set_outcome.SetOutcome.TheVariants.{Failed as FailedSet}
 use Rattle.vss_names.specs.declared.vss_result.VssResult.{VssResult}
 use Rattle.vss_names.specs.declared.vss_result.VssResult.TheVariants.{Writer as WriterFault, AsyncCancelled, UnexpectedProviderError, InsufficientStorage, HoldWritesTimeout, WriterNotResponding, BadState}
 use Rattle.vss_names.specs.declared.writer_error.WriterError.TheVariants.{Timeout}
@@ -22,21 +22,21 @@ use Rattle.set_agenda.specs.declared.limit.Limit.{Limit}
 use Rattle.set_agenda.specs.declared.limit.Limit.TheVariants.{Hold as HoldLimit, Freeze as FreezeLimit, Answer as AnswerLimit}
 use Rattle.set_agenda.specs.Agenda.{open_group, open_order, order_now, is_working, left}
 use Rattle.set_agenda.specs.Limits.{Running as RunningLimit, spent_of}
-use Rattle.set_agenda.specs.Course.{Course, posted, failed as course_failed, settled, told, is_decisive, error_of, decided, answered_to, answered as course_answered, stepped as course_stepped, limits_now, lost, lost_to, fails_set, lost_decided, treated_as, treated, timed as course_timed}
+use Rattle.set_agenda.specs.Course.{Course, posted, failed as course_failed, settled, told, is_decisive, decided, answered_to, answered as course_answered, stepped as course_stepped, limits_now, lost, lost_to, fails_set, lost_decided, treated_as, treated, timed as course_timed}
 use Rattle.requestor.specs.Session.{Session}
 use Rattle.scenario.specs.declared.op.Op.{Op}
 use Rattle.scenario.specs.declared.op.Op.TheVariants as op
 use Rattle.scenario.specs.Calls.{target_of}
 use Rattle.scenario.specs.Plan.{Plan}
 use Rattle.vss_model.specs.declared.event.Event.{Event}
-use Rattle.vss_model.specs.declared.event.Event.TheVariants.{Line, Answer as AnswerEvent, Provider, Idle}
+use Rattle.vss_model.specs.declared.event.Event.TheVariants.{Line}
 use Rattle.vss_model.specs.State.{State, SetRow, in_progress, left_now}
 use Rattle.vss_model.specs.Ending.{followed, runs, failed_in, failed}
 use Rattle.vss_model.specs.Images.{Replied, refused, cleared, set_loses_image, with_room_if, put, write, reverted_as}
-use Rattle.vss_model.specs.Sessions.{has_no_volume, start_set, pending, closed, end_session}
+use Rattle.vss_model.specs.Sessions.{has_no_volume, start_set, closed}
 use Rattle.vss_model.specs.Steps.{answered, step_made, is_flush, is_failed_step, stepped_as, stepped, ticked, later}
 use Rattle.vss_model.specs.Facts.{has_failed}
-use Rattle.vss_model.specs.Acts.{Act, enabled, idle_now, after, state}
+use Rattle.vss_model.specs.Acts.{Act, idle_now, state}
 use Rattle.vss_model.proofs.FlushFails.{outcome_is_running}
 use Rattle.promises.specs.Awaited.{set_failure}
 use Rattle.promises.specs.Codes.{IsLimitCode, IsAnswerCode, IsLineCode, IsCode, FailsByCode}
@@ -46,7 +46,7 @@ use Rattle.promises.proofs.CalmCourses.{calm_begun}
 use Rattle.promises.proofs.CourseRows.{calm_settled}
 use Rattle.promises.proofs.GoneImages.{none_stepped}
 use Rattle.promises.proofs.SetFailures.{failure_at}
-use Rattle.promises.proofs.Turns.{Turn, Falls, AgendaOver, StaysSo, no_failure, write_turn, revert_turn, begun_turn, answer_turn, tick_turn, step_turn, abort_turn, add_turn, none_started}
+use Rattle.promises.proofs.Turns.{Turn, no_failure, write_turn, revert_turn, begun_turn, answer_turn, tick_turn, step_turn, abort_turn, add_turn, none_started}
 
 -- ## what a call of the course fails with
 

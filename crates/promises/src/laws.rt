@@ -79,7 +79,7 @@ pub fn orders_go_to_those_they_are_for()
     ensures { (s : Plan) (so_far : List Act) → AsksItsOwn s so_far }
 {}
 
-/// The images of a group never use more slots than the group has.
+/// An area never needs more slots than it has: there are no more copies to keep for the images of its group.
 pub fn images_fit_their_slots()
     ensures { (s : Plan) (so_far : List Act) → SlotsSuffice s so_far }
 {}
