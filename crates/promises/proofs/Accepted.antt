@@ -1,174 +1,415 @@
--- In its stage and below its maxima the owner's call is accepted.
-use Rattle.std.proofs.Common.{◌≡◌, ◌∙◌, ℕ, ◌==◌, ◌<◌, suc, List, [], ◌∷◌, ◌⊎◌, Some, None, refl, Bool, true, false, ap, subst, inl, inr, length, arith}
-use Rattle.std.specs.Prelude.{◌&&◌, not, nat_le, if◌then◌else◌}
-use Rattle.vss_names.specs.declared.vss_result.VssResult.TheVariants.{AsyncPending, ObjectAlreadyExists, MaximumNumberOfVolumesReached, MaximumNumberOfSnapshotsReached}
+-- An ordered call is accepted just where it may come.
+use Rattle.std.proofs.Common.{◌≡◌, ◌∙◌, ℕ, ◌+◌, ◌==◌, suc, List, [], ◌∷◌, Option, Some, None, refl, Bool, true, false, ap, sym, subst, length, arith}
+use Rattle.std.specs.Prelude.{◌&&◌, ◌||◌, not, nat_le, nat_lt, nat_eq, is_some, is_none, option_and_then, slice_get, if◌then◌else◌}
+use Rattle.std.specs.Str.{bytes_eq}
+use Rattle.vss_names.specs.declared.context.Context.{Context}
+use Rattle.vss_names.specs.declared.context.Context.TheVariants.{Backup, AppRollback, NasRollback}
+use Rattle.vss_names.specs.declared.vss_result.VssResult.TheVariants.{AsyncPending, BadState, SnapshotSetInProgress, ObjectAlreadyExists, MaximumNumberOfVolumesReached, MaximumNumberOfSnapshotsReached}
+use Rattle.vss_names.specs.Context.{number_of, context_of_number}
+use Rattle.write_history.specs.declared.mark.Mark.{Mark}
+use Rattle.writer_meta.specs.Metadata.{Part, Meta, full_name}
 use Rattle.set_agenda.specs.Agenda.{is_among}
+use Rattle.component_doc.specs.Selection.{Pair, Naming, IsNotFound, IsNotSelectable, IsNamedAlready, Names, has_pair, found_from, naming_if, naming_found, naming_of}
+use Rattle.requestor.specs.declared.mode.Mode.{Mode}
+use Rattle.requestor.specs.declared.mode.Mode.TheVariants.{Components, All}
 use Rattle.requestor.specs.declared.session_call.SessionCall.{SessionCall}
 use Rattle.requestor.specs.declared.session_call.SessionCall.TheVariants as call
 use Rattle.requestor.specs.declared.stage.Stage.{Stage}
-use Rattle.requestor.specs.declared.stage.Stage.TheVariants.{Opened, Gathered, Started, Prepared, Done, Finished, Failed}
+use Rattle.requestor.specs.declared.stage.Stage.TheVariants.{Opened, Gathered, Started, Prepared}
 use Rattle.requestor.specs.declared.verdict.Verdict.{Verdict}
 use Rattle.requestor.specs.declared.verdict.Verdict.TheVariants.{Go}
-use Rattle.requestor.specs.Session.{Session, has_writers, makes_set}
-use Rattle.requestor.specs.Check.{check, check_other, check_owner, owner_only, verdict_of, allows, is_stage, goes_beside_agenda, is_start, is_await}
+use Rattle.requestor.specs.Session.{Session, has_writers, makes_set, mode_of, context_of, without_all}
+use Rattle.requestor.specs.Check.{check, check_begin, begin_verdict, check_other, check_owner, owner_only, verdict_of, allows, stage_code, is_stage, goes_beside_agenda, is_start, is_await}
 use Rattle.scenario.specs.declared.op.Op.{Op}
 use Rattle.scenario.specs.declared.op.Op.TheVariants as op
 use Rattle.scenario.specs.Plan.{Plan, token}
 use Rattle.vss_model.specs.declared.event.Event.{Event}
 use Rattle.vss_model.specs.declared.event.Event.TheVariants.{Line}
-use Rattle.vss_model.specs.Reply.{Fine, Coded}
+use Rattle.vss_model.specs.Reply.{Reply, Fine, Coded, StatusOf}
 use Rattle.vss_model.specs.State.{State, SetRow, in_progress, history_of}
 use Rattle.vss_model.specs.Ending.{runs}
 use Rattle.vss_model.specs.Images.{Replied}
-use Rattle.vss_model.specs.Sessions.{named_as, component_in, has_no_volume, most_volumes, most_images, add_to, add, judged, line_in, session_line}
+use Rattle.vss_model.specs.Sessions.{begin_in, known_metas, named_as, component_in, most_volumes, most_images, add_to, add, has_no_volume, judged, line_in, session_line}
 use Rattle.vss_model.specs.Lines.{called}
 use Rattle.vss_model.specs.Acts.{Act, happens, reply, state}
 use Rattle.vss_model.specs.Facts.{IsOfSession}
+use Rattle.vss_model.specs.Causes.{owns}
 use Rattle.vss_model.proofs.OrderlyActs.{orderly}
-use Rattle.promises.specs.Accepted.{Owns, MayCall, HasVolume, AcceptsOwner}
+use Rattle.promises.specs.Accepted.{is_ordered, is_accepted, can_name_in, can_name, has_place, has_volume, has_its_wants, IsAccepting, is_context, AcceptsInOrder}
+use Rattle.promises.specs.InOrder.{Step, ByBegin, ByGather, ByStart, ByPrepare, BySnapshot, ByComplete, ByFailure, Progress, progress, step_code, is_step, asks_writers, comes_now}
+use Rattle.promises.specs.Participants.{is_fine}
+use Rattle.promises.proofs.Progress.{stage_of, StandsAt, stands_all}
 
--- ## the checks let it go
+-- ## the checks
 
-own_lane : (a b : ℕ) → a ≡ b → (a == b) ≡ true
-own_lane a b e = grind arith
+module _ (s : Plan) (st : State) (lane : ℕ) where
+  -- a test that no refusal passes
+  module _ (test : Reply → Bool) (bad : test (Coded BadState) ≡ false) (busy : test (Coded SnapshotSetInProgress) ≡ false) (o : Op) where
+    judged_passes : (a b c d : Bool) → test (judged (verdict_of a b c d) s lane o st).0 ≡ (not a && (not b && (c && (not d && test (line_in s lane o st.session st).0))))
+    judged_passes true b c d = busy
+    judged_passes false true c d = bad
+    judged_passes false false false d = bad
+    judged_passes false false true true = bad
+    judged_passes false false true false = refl
 
-owner_goes : (b : Bool) (v : Verdict) → b ≡ true → v ≡ Go → owner_only b v ≡ Go
-owner_goes true v e f = f
-owner_goes false v e f = absurd cc
+    owned_passes : (b : Bool) (v : Verdict) → test (judged (owner_only b v) s lane o st).0 ≡ (b && test (judged v s lane o st).0)
+    owned_passes true v = refl
+    owned_passes false v = bad
 
-all_clear : (a b c d : Bool) → a ≡ false → b ≡ false → c ≡ true → d ≡ false → verdict_of a b c d ≡ Go
-all_clear true b c d e f g h = absurd cc
-all_clear false true c d e f g h = absurd cc
-all_clear false false true true e f g h = absurd cc
-all_clear false false true false e f g h = refl
-all_clear false false false d e f g h = absurd cc
+    passes : (c : SessionCall) (q : Session) → st.session ≡ Some q → check st.session (runs st) lane c ≡ check_other st.session (runs st) lane c
+        → test (called c s lane o st).0
+        ≡ ((q.owner == lane) && (not (is_start c && makes_set q.stage) && (not (runs st && not (goes_beside_agenda c)) && (allows q.stage (has_writers q.context) c && (not (is_await c && runs st) && test (session_line s lane o q st).0)))))
+    unfolding called
+    passes c q e f =
+        ap (λ v. test (judged v s lane o st).0) (f ∙ ap (λ x. check_other x (runs st) lane c) e)
+        ∙ owned_passes (q.owner == lane) (check_owner q (runs st) c)
+        ∙ ap (λ b. (q.owner == lane) && b) (judged_passes (is_start c && makes_set q.stage) (runs st && not (goes_beside_agenda c)) (allows q.stage (has_writers q.context) c) (is_await c && runs st))
+        ∙ ap (λ x. (q.owner == lane) && (not (is_start c && makes_set q.stage) && (not (runs st && not (goes_beside_agenda c)) && (allows q.stage (has_writers q.context) c && (not (is_await c && runs st) && test (line_in s lane o x st).0))))) e
 
-off_left : (a b : Bool) → a ≡ false → (a && b) ≡ false
-off_left true b e = absurd cc
-off_left false b e = refl
+    no_session : (c : SessionCall) → st.session ≡ None → check st.session (runs st) lane c ≡ check_other st.session (runs st) lane c → test (called c s lane o st).0 ≡ false
+    unfolding called
+    no_session c e f = ap (λ v. test (judged v s lane o st).0) (f ∙ ap (λ x. check_other x (runs st) lane c) e) ∙ bad
 
-off_right : (a b : Bool) → b ≡ false → (a && b) ≡ false
-off_right true b e = e
-off_right false b e = refl
+  -- an accepted reply is that of the call itself
+  judged_tells : (o : Op) (a b c d : Bool) → is_accepted (judged (verdict_of a b c d) s lane o st).0 ≡ true → (judged (verdict_of a b c d) s lane o st).0 ≡ (line_in s lane o st.session st).0
+  judged_tells o true b c d e = absurd cc
+  judged_tells o false true c d e = absurd cc
+  judged_tells o false false false d e = absurd cc
+  judged_tells o false false true true e = absurd cc
+  judged_tells o false false true false e = refl
 
-module _ (s : Plan) (st : State) (lane : ℕ) (q : Session) where
-  other_goes : (c : SessionCall) → Owns st lane q → (is_start c && makes_set q.stage) ≡ false → (runs st && not (goes_beside_agenda c)) ≡ false → allows q.stage (has_writers q.context) c ≡ true → is_await c ≡ false
-      → check_other st.session (runs st) lane c ≡ Go
-  other_goes c own free quiet allowed waits =
-      ap (λ p. check_other p (runs st) lane c) own.stands
-      ∙ owner_goes (q.owner == lane) (check_owner q (runs st) c) (own_lane q.owner lane own.owner)
-      (all_clear (is_start c && makes_set q.stage) (runs st && not (goes_beside_agenda c)) (allows q.stage (has_writers q.context) c) (is_await c && runs st) free quiet allowed (off_left (is_await c) (runs st) waits))
+  owned_tells : (o : Op) (b : Bool) (v : Verdict) → (is_accepted (judged v s lane o st).0 ≡ true → (judged v s lane o st).0 ≡ (line_in s lane o st.session st).0) → is_accepted (judged (owner_only b v) s lane o st).0 ≡ true
+      → (judged (owner_only b v) s lane o st).0 ≡ (line_in s lane o st.session st).0
+  owned_tells o true v h e = h e
+  owned_tells o false v h e = absurd cc
 
-  replies : (c : SessionCall) (o : Op) → Owns st lane q → check st.session (runs st) lane c ≡ Go → (called c s lane o st).0 ≡ (session_line s lane o q st).0
+  tells : (c : SessionCall) (o : Op) (q : Session) → st.session ≡ Some q → check st.session (runs st) lane c ≡ check_other st.session (runs st) lane c → is_accepted (called c s lane o st).0 ≡ true → (called c s lane o st).0 ≡ (session_line s lane o q st).0
   unfolding called
-  replies c o own e = ap (λ v. (judged v s lane o st).0) e ∙ ap (λ p. (line_in s lane o p st).0) own.stands
+  tells c o q e f g =
+      let same = f ∙ ap (λ x. check_other x (runs st) lane c) e in
+      ap (λ v. (judged v s lane o st).0) same
+      ∙ owned_tells o (q.owner == lane) (check_owner q (runs st) c) (judged_tells o (is_start c && makes_set q.stage) (runs st && not (goes_beside_agenda c)) (allows q.stage (has_writers q.context) c) (is_await c && runs st)) (ap (λ v. is_accepted (judged v s lane o st).0) (sym same) ∙ g)
+      ∙ ap (λ x. (line_in s lane o x st).0) e
 
-  -- where no agenda runs
-  idle_goes : (c : SessionCall) → MayCall st lane q → (is_start c && makes_set q.stage) ≡ false → allows q.stage (has_writers q.context) c ≡ true → is_await c ≡ false → check_other st.session (runs st) lane c ≡ Go
-  idle_goes c may free allowed waits = other_goes c may.own free (off_left (runs st) (not (goes_beside_agenda c)) may.idle) allowed waits
+-- ## the order
 
-  allowed_at : (c : SessionCall) (stage : Stage) (writers : Bool) → q.stage ≡ stage → has_writers q.context ≡ writers → allows stage writers c ≡ true → allows q.stage (has_writers q.context) c ≡ true
-  allowed_at c stage writers e f g = ap (λ x. allows x (has_writers q.context) c) e ∙ ap (λ x. allows stage x c) f ∙ g
+code_of : (a : Step) → stage_code (stage_of a) ≡ step_code a
+code_of ByBegin = refl
+code_of ByGather = refl
+code_of ByStart = refl
+code_of ByPrepare = refl
+code_of BySnapshot = refl
+code_of ByComplete = refl
+code_of ByFailure = refl
 
-  -- ## a set with a volume
+same_stage : (a b : Step) → is_stage (stage_of a) (stage_of b) ≡ is_step a b
+same_stage a b = ap (λ n. n == stage_code (stage_of b)) (code_of a) ∙ ap (λ n. step_code a == n) (code_of b)
 
-  volume_there : HasVolume st → has_no_volume (in_progress st) ≡ false
-  volume_there h = ap has_no_volume h.is ∙ some_there h.set.volumes h.among
+start_stage : (a : Step) (w : Bool) → (not (makes_set (stage_of a)) && (if w then is_stage (stage_of a) Gathered else is_stage (stage_of a) Opened)) ≡ (if w then is_step a ByGather else is_step a ByBegin)
+start_stage ByBegin true = refl
+start_stage ByBegin false = refl
+start_stage ByGather true = refl
+start_stage ByGather false = refl
+start_stage ByStart true = refl
+start_stage ByStart false = refl
+start_stage ByPrepare true = refl
+start_stage ByPrepare false = refl
+start_stage BySnapshot true = refl
+start_stage BySnapshot false = refl
+start_stage ByComplete true = refl
+start_stage ByComplete false = refl
+start_stage ByFailure true = refl
+start_stage ByFailure false = refl
+
+either_stage : (a : Step) (w : Bool) → (if w then is_stage (stage_of a) Prepared else is_stage (stage_of a) Started) ≡ (if w then is_step a ByPrepare else is_step a ByStart)
+either_stage a true = same_stage a ByPrepare
+either_stage a false = same_stage a ByStart
+
+writers_asked : (c : Context) (n : ℕ) → number_of c ≡ n → has_writers c ≡ ((n == 0) || (n == 9))
+writers_asked Backup n e = ap (λ k. (k == 0) || (k == 9)) e
+writers_asked AppRollback n e = ap (λ k. (k == 0) || (k == 9)) e
+writers_asked NasRollback n e = ap (λ k. (k == 0) || (k == 9)) e
+
+-- the table of stages, for a call of an order
+abbrev allowed_in : Bool → Stage → SessionCall → Bool
+allowed_in w stage c = not (is_start c && makes_set stage) && allows stage w c
+
+-- ## what a call wants
+
+module _ (s : Plan) (st : State) where
+  name_if : (named : List Pair) (q : Pair) (a b : Bool) → is_accepted (named_as (naming_if a b q named) st).0 ≡ (a && not b)
+  name_if named q false b = refl
+  name_if named q true true = refl
+  name_if named q true false = refl
+
+  name_in : (w : ℕ) (named : List Pair) (name : List ℕ) (i : ℕ) (ps : List Part) → is_accepted (named_as (naming_found w (found_from name i ps) named) st).0 ≡ can_name_in w named name i ps
+  name_in w named name i [] = refl
+  name_in w named name i (p ∷ ps) = by_name (bytes_eq (full_name p) name) (name_in w named name (i + 1) ps)
     where
-      some_there : (vs : List ℕ) → is_among h.volume vs ≡ true → (length vs == 0) ≡ false
-      some_there [] e = absurd cc
-      some_there (v ∷ vs) e = not_nothing (length vs)
-        where
-          not_nothing : (n : ℕ) → (suc n == 0) ≡ false
-          not_nothing n = grind arith
+      by_name : (b : Bool) → is_accepted (named_as (naming_found w (found_from name (i + 1) ps) named) st).0 ≡ can_name_in w named name (i + 1) ps
+          → is_accepted (named_as (naming_found w (if b then Some (record { component = i; selectable = p.selectable }) else found_from name (i + 1) ps) named) st).0 ≡ (if b then p.selectable && not (has_pair named w i) else can_name_in w named name (i + 1) ps)
+      by_name true ih = name_if named (record { writer = w; component = i }) p.selectable (has_pair named w i)
+      by_name false ih = ih
 
-  pending_if : (b : Bool) (x y : Replied) → b ≡ false → y.0 ≡ Coded AsyncPending → (if b then x else y).0 ≡ Coded AsyncPending
-  pending_if true x y e f = absurd cc
+  name_of : (w : ℕ) (name : List ℕ) (named : List Pair) (o : Option (Option Meta)) → is_accepted (named_as (naming_of w name o named) st).0 ≡ can_name w named name o
+  name_of w name named None = refl
+  name_of w name named (Some None) = refl
+  name_of w name named (Some (Some m)) = name_in w named name 0 m.parts
+
+  component_wants : (w : ℕ) (name : List ℕ) (mode : Mode) (all : Bool) → mode ≡ mode_of all → is_accepted (component_in mode s w name st).0 ≡ (not all && can_name w st.explicit name (slice_get (known_metas s st) w))
+  component_wants w name mode true e = ap (λ m. is_accepted (component_in m s w name st).0) e
+  component_wants w name mode false e = ap (λ m. is_accepted (component_in m s w name st).0) e ∙ name_of w name st.explicit (slice_get (known_metas s st) w)
+
+  component_fine : (w : ℕ) (name : List ℕ) (mode : Mode) → is_accepted (component_in mode s w name st).0 ≡ true → (component_in mode s w name st).0 ≡ Fine
+  component_fine w name All e = absurd cc
+  component_fine w name Components e = by_name (naming_of w name (slice_get (known_metas s st) w) st.explicit) e
+    where
+      by_name : (n : Naming) → is_accepted (named_as n st).0 ≡ true → (named_as n st).0 ≡ Fine
+      by_name IsNotFound e = absurd cc
+      by_name IsNotSelectable e = absurd cc
+      by_name IsNamedAlready e = absurd cc
+      by_name (Names ps) e = refl
+
+  not_full : (m n : ℕ) → nat_le m n ≡ not (nat_lt n m)
+  not_full m n = grind arith
+
+  add_tests : (v : ℕ) (r : SetRow) (a b c : Bool) → is_accepted (add_to v r (if a then Some ObjectAlreadyExists else if b then Some MaximumNumberOfVolumesReached else if c then Some MaximumNumberOfSnapshotsReached else None) st).0 ≡ (not a && not b && not c)
+  add_tests v r true b c = refl
+  add_tests v r false true c = refl
+  add_tests v r false false true = refl
+  add_tests v r false false false = refl
+
+  twice_not : (b : Bool) → not (not b) ≡ b
+  twice_not true = refl
+  twice_not false = refl
+
+  add_wants : (v : ℕ) (o : Option SetRow) → is_accepted (add v o st).0 ≡ has_place v (length (history_of st v).images) o
+  add_wants v None = refl
+  add_wants v (Some r) =
+      add_tests v r (is_among v r.volumes) (nat_le most_volumes (length r.volumes)) (nat_le most_images (length (history_of st v).images))
+      ∙ ap (λ b. not (is_among v r.volumes) && not b && not (nat_le most_images (length (history_of st v).images))) (not_full most_volumes (length r.volumes))
+      ∙ ap (λ b. not (is_among v r.volumes) && b && not (nat_le most_images (length (history_of st v).images))) (twice_not (nat_lt (length r.volumes) most_volumes))
+      ∙ ap (λ b. not (is_among v r.volumes) && nat_lt (length r.volumes) most_volumes && not b) (not_full most_images (length (history_of st v).images))
+      ∙ ap (λ b. not (is_among v r.volumes) && nat_lt (length r.volumes) most_volumes && b) (twice_not (nat_lt (length (history_of st v).images) most_images))
+
+  add_fine : (v : ℕ) (o : Option SetRow) → is_accepted (add v o st).0 ≡ true → (add v o st).0 ≡ Fine
+  add_fine v None e = absurd cc
+  add_fine v (Some r) e = by_tests (is_among v r.volumes) (nat_le most_volumes (length r.volumes)) (nat_le most_images (length (history_of st v).images)) e
+    where
+      by_tests : (a b c : Bool) → is_accepted (add_to v r (if a then Some ObjectAlreadyExists else if b then Some MaximumNumberOfVolumesReached else if c then Some MaximumNumberOfSnapshotsReached else None) st).0 ≡ true
+          → (add_to v r (if a then Some ObjectAlreadyExists else if b then Some MaximumNumberOfVolumesReached else if c then Some MaximumNumberOfSnapshotsReached else None) st).0 ≡ Fine
+      by_tests true b c e = absurd cc
+      by_tests false true c e = absurd cc
+      by_tests false false true e = absurd cc
+      by_tests false false false e = refl
+
+  volume_wants : (o : Option SetRow) → not (has_no_volume o) ≡ has_volume o
+  volume_wants None = refl
+  volume_wants (Some r) = by_volumes r.volumes
+    where
+      some_there : (n : ℕ) → not (suc n == 0) ≡ nat_lt 0 (suc n)
+      some_there n = grind arith
+
+      by_volumes : (vs : List ℕ) → not (length vs == 0) ≡ nat_lt 0 (length vs)
+      by_volumes [] = refl
+      by_volumes (v ∷ vs) = some_there (length vs)
+
+  pending_if : (b : Bool) (x y : Replied) → is_accepted x.0 ≡ false → is_accepted y.0 ≡ true → is_accepted (if b then x else y).0 ≡ not b
+  pending_if true x y e f = e
   pending_if false x y e f = f
 
-  -- ## a volume
+  pending_told : (b : Bool) (x y : Replied) → is_accepted x.0 ≡ false → y.0 ≡ Coded AsyncPending → is_accepted (if b then x else y).0 ≡ true → (if b then x else y).0 ≡ Coded AsyncPending
+  pending_told true x y e f g = absurd (both (is_accepted x.0) e g)
+    where
+      both : (b : Bool) → b ≡ false → b ≡ true → ⊥
+      both b e f = cc
+  pending_told false x y e f g = f
 
-  no_refusal : (a b c : Bool) → a ≡ false → b ≡ false → c ≡ false → (if a then Some ObjectAlreadyExists else if b then Some MaximumNumberOfVolumesReached else if c then Some MaximumNumberOfSnapshotsReached else None) ≡ None
-  no_refusal true b c e f g = absurd cc
-  no_refusal false true c e f g = absurd cc
-  no_refusal false false true e f g = absurd cc
-  no_refusal false false false e f g = refl
+-- ## ordered calls
 
-  below : (m n : ℕ) → n < m → nat_le m n ≡ false
-  below m n l = grind arith
+module _ (s : Plan) (so_far : List Act) (lane : ℕ) where
+  abbrev st : State
+  st = state s so_far
 
-  added : (v : ℕ) (r : SetRow) → in_progress st ≡ Some r → is_among v r.volumes ≡ false → length r.volumes < most_volumes → length (history_of st v).images < most_images → (add v (in_progress st) st).0 ≡ Fine
-  added v r e f g h =
-      ap (λ o. (add v o st).0) e
-      ∙ ap (λ why. (add_to v r why st).0)
-      (no_refusal (is_among v r.volumes) (nat_le most_volumes (length r.volumes)) (nat_le most_images (length (history_of st v).images)) f (below most_volumes (length r.volumes) g) (below most_images (length (history_of st v).images) h))
+  abbrev p : Progress
+  p = progress s so_far
 
-  -- ## the set in progress is the session's
+  abbrev May : Option Session → Op → Bool
+  May x o = owns x lane && (not (runs st) && (comes_now p o && has_its_wants s st p o))
 
-  stage_makes : (r : SetRow) → st.session ≡ Some q → in_progress st ≡ Some r → IsOfSession st.session st.course.outcome (in_progress st) → makes_set q.stage ≡ true
-  stage_makes r e f h =
-      let own : IsOfSession (Some q) st.course.outcome (Some r) = subst (λ o. IsOfSession (Some q) st.course.outcome o) f (subst (λ p. IsOfSession p st.course.outcome (in_progress st)) e h) in
-      own.0
+  parts : (own start busy may acc comes wants : Bool) → (busy ≡ false → (not start && may) ≡ comes) → acc ≡ wants
+      → (own && (not start && (not (busy && true) && (may && (true && acc))))) ≡ (own && (not busy && (comes && wants)))
+  parts false start busy may acc comes wants f g = refl
+  parts true true true may acc comes wants f g = refl
+  parts true false true may acc comes wants f g = refl
+  parts true true false may acc comes wants f g = ap (λ b. b && wants) (f refl)
+  parts true false false may acc comes wants f g = ap (λ b. may && b) g ∙ ap (λ b. b && wants) (f refl)
 
-not_opened : (stage : Stage) → (stage ≡ Opened → ⊥) → (not (is_stage stage Opened) && true) ≡ true
-not_opened Opened e = absurd (e refl)
-not_opened Gathered e = refl
-not_opened Started e = refl
-not_opened Prepared e = refl
-not_opened Done e = refl
-not_opened Finished e = refl
-not_opened Failed e = refl
+  ordered_call : (c : SessionCall) (o : Op) → check st.session (runs st) lane c ≡ check_other st.session (runs st) lane c → goes_beside_agenda c ≡ false → is_await c ≡ false
+      → (allowed_in (asks_writers p) (stage_of p.step) c ≡ comes_now p o) → ((q : Session) → q.mode ≡ mode_of p.all → is_accepted (session_line s lane o q st).0 ≡ has_its_wants s st p o) → is_accepted (called c s lane o st).0 ≡ May st.session o
+  ordered_call c o same beside waits order wants = by_session st.session refl
+    where
+      in_order : (q : Session) → st.session ≡ Some q → runs st ≡ false → allowed_in (has_writers q.context) q.stage c ≡ comes_now p o
+      in_order q e f =
+          let at : StandsAt q (runs st) p = stands_all s so_far q e in
+          let quiet : StandsAt q false p = subst (λ b. StandsAt q b p) f at in
+          ap (λ w. allowed_in w q.stage c) (writers_asked q.context p.context at.context) ∙ ap (λ x. allowed_in (asks_writers p) x c) quiet.stage ∙ order
+
+      by_session : (x : Option Session) → st.session ≡ x → is_accepted (called c s lane o st).0 ≡ May st.session o
+      by_session None e = no_session s st lane is_accepted refl refl o c e same ∙ ap (λ x. May x o) (sym e)
+      by_session (Some q) e =
+          passes s st lane is_accepted refl refl o c q e same
+          ∙ ap (λ b. (q.owner == lane) && (not (is_start c && makes_set q.stage) && (not (runs st && not b) && (allows q.stage (has_writers q.context) c && (not (is_await c && runs st) && is_accepted (session_line s lane o q st).0))))) beside
+          ∙ ap (λ b. (q.owner == lane) && (not (is_start c && makes_set q.stage) && (not (runs st && true) && (allows q.stage (has_writers q.context) c && (not (b && runs st) && is_accepted (session_line s lane o q st).0))))) waits
+          ∙ parts (q.owner == lane) (is_start c && makes_set q.stage) (runs st) (allows q.stage (has_writers q.context) c) (is_accepted (session_line s lane o q st).0) (comes_now p o) (has_its_wants s st p o) (in_order q e) (wants q (stands_all s so_far q e).mode)
+          ∙ ap (λ x. May x o) (sym e)
+
+  abbrev w : Bool
+  w = asks_writers p
+
+  ordered_line : (o : Op) (mark : Mark) → is_ordered o ≡ true → is_accepted (happens s (Line lane o) mark st).0 ≡ May st.session o
+  ordered_line (op.Disable x) mark e = ordered_call call.Disable (op.Disable x) refl refl refl (ap (λ b. b && w) (same_stage p.step ByBegin)) (λ q f. refl)
+  ordered_line op.Gather mark e = ordered_call call.Gather op.Gather refl refl refl (ap (λ b. b && w) (same_stage p.step ByBegin)) (λ q f. refl)
+  ordered_line (op.Component x full) mark e =
+      ordered_call call.Component (op.Component x full) refl refl refl (ap (λ b. (b || is_stage (stage_of p.step) Started) && w) (same_stage p.step ByGather) ∙ ap (λ b. (is_step p.step ByGather || b) && w) (same_stage p.step ByStart))
+      (λ q f. component_wants s st x (token s full) q.mode p.all f)
+  ordered_line op.Document mark e = ordered_call call.Document op.Document refl refl refl (ap (λ b. not b && w) (same_stage p.step ByBegin)) (λ q f. refl)
+  ordered_line op.Start mark e = ordered_call call.Start op.Start refl refl refl (start_stage p.step w) (λ q f. refl)
+  ordered_line (op.Add v) mark e = ordered_call call.Add (op.Add v) refl refl refl (same_stage p.step ByStart) (λ q f. add_wants s st v (in_progress st))
+  ordered_line op.Prepare mark e = ordered_call call.Prepare op.Prepare refl refl refl (ap (λ b. b && w) (same_stage p.step ByStart)) (λ q f. pending_if s st (has_no_volume (in_progress st)) _ _ refl refl ∙ volume_wants s st (in_progress st))
+  ordered_line op.Snapshot mark e = ordered_call call.Snapshot op.Snapshot refl refl refl (either_stage p.step w) (λ q f. pending_if s st (has_no_volume (in_progress st)) _ _ refl refl ∙ volume_wants s st (in_progress st))
+  ordered_line op.Complete mark e = ordered_call call.Complete op.Complete refl refl refl (ap (λ b. b && w) (same_stage p.step BySnapshot)) (λ q f. refl)
+  ordered_line o mark e = absurd cc
+
+  -- ## what is told
+
+  told_call : (c : SessionCall) (o : Op) → check st.session (runs st) lane c ≡ check_other st.session (runs st) lane c → ((q : Session) → is_accepted (session_line s lane o q st).0 ≡ true → IsAccepting st o (session_line s lane o q st).0)
+      → is_accepted (called c s lane o st).0 ≡ true → IsAccepting st o (called c s lane o st).0
+  told_call c o same k e = by_session st.session refl
+    where
+      both : (b : Bool) → b ≡ true → b ≡ false → ⊥
+      both b e f = cc
+
+      by_session : (x : Option Session) → st.session ≡ x → IsAccepting st o (called c s lane o st).0
+      by_session None f = absurd (both (is_accepted (called c s lane o st).0) e (no_session s st lane is_accepted refl refl o c f same))
+      by_session (Some q) f =
+          let is = tells s st lane c o q f same e in
+          subst (IsAccepting st o) (sym is) (k q (ap is_accepted (sym is) ∙ e))
+
+  told_line : (o : Op) (mark : Mark) → is_ordered o ≡ true → is_accepted (happens s (Line lane o) mark st).0 ≡ true → IsAccepting st o (happens s (Line lane o) mark st).0
+  told_line (op.Disable x) mark e = told_call call.Disable (op.Disable x) refl (λ q f. refl)
+  told_line op.Gather mark e = told_call call.Gather op.Gather refl (λ q f. refl)
+  told_line (op.Component x full) mark e = told_call call.Component (op.Component x full) refl (λ q f. component_fine s st x (token s full) q.mode f)
+  told_line op.Document mark e = told_call call.Document op.Document refl (λ q f. (_, refl))
+  told_line op.Start mark e = told_call call.Start op.Start refl (λ q f. refl)
+  told_line (op.Add v) mark e = told_call call.Add (op.Add v) refl (λ q f. add_fine s st v (in_progress st) f)
+  told_line op.Prepare mark e = told_call call.Prepare op.Prepare refl (λ q f. pending_told s st (has_no_volume (in_progress st)) _ _ refl refl f)
+  told_line op.Snapshot mark e = told_call call.Snapshot op.Snapshot refl (λ q f. pending_told s st (has_no_volume (in_progress st)) _ _ refl refl f)
+  told_line op.Complete mark e = told_call call.Complete op.Complete refl (λ q f. refl)
+  told_line o mark e = absurd cc
+
+  -- ## the other calls
+
+  context_there : (n : ℕ) (all : Bool) → is_some (context_of n all) ≡ is_context n all
+  unfolding context_of_number
+  context_there n all =
+      by_tests (nat_eq 0 n) (nat_eq 9 n) (nat_eq 25 n) all
+      ∙ ap (λ b. b || nat_eq 9 n || (nat_eq 25 n && not all)) (other_way 0 n) ∙ ap (λ b. (n == 0) || b || (nat_eq 25 n && not all)) (other_way 9 n) ∙ ap (λ b. (n == 0) || (n == 9) || (b && not all)) (other_way 25 n)
+    where
+      other_way : (a b : ℕ) → nat_eq a b ≡ (b == a)
+      other_way a b = grind arith
+
+      by_tests : (x y z a : Bool) → is_some (option_and_then (without_all a) (if x then Some Backup else if y then Some AppRollback else if z then Some NasRollback else None)) ≡ (x || y || (z && not a))
+      by_tests true y z true = refl
+      by_tests true y z false = refl
+      by_tests false true z true = refl
+      by_tests false true z false = refl
+      by_tests false false true true = refl
+      by_tests false false true false = refl
+      by_tests false false false true = refl
+      by_tests false false false false = refl
+
+  begin_line : (n : ℕ) (all : Bool) → is_fine (called (call.Begin n all) s lane (op.Begin n all) st).0 ≡ (is_none st.session && is_context n all)
+  unfolding called
+  begin_line n all = by_session st.session refl
+    where
+      opens : (o : Option Context) → is_fine (begin_in lane all o st).0 ≡ is_some o
+      opens None = refl
+      opens (Some c) = refl
+
+      by_owner : (b : Bool) → is_fine (judged (begin_verdict b) s lane (op.Begin n all) st).0 ≡ false
+      by_owner true = refl
+      by_owner false = refl
+
+      by_session : (x : Option Session) → st.session ≡ x → is_fine (judged (check_begin st.session lane) s lane (op.Begin n all) st).0 ≡ (is_none st.session && is_context n all)
+      by_session None e = ap (λ x. is_fine (judged (check_begin x lane) s lane (op.Begin n all) st).0) e ∙ ap (λ x. is_fine (line_in s lane (op.Begin n all) x st).0) e ∙ opens (context_of n all) ∙ context_there n all ∙ ap (λ x. is_none x && is_context n all) (sym e)
+      by_session (Some q) e = ap (λ x. is_fine (judged (check_begin x lane) s lane (op.Begin n all) st).0) e ∙ by_owner (q.owner == lane) ∙ ap (λ x. is_none x && is_context n all) (sym e)
+
+  -- the set in progress is the session's
+  makes_its_set : (q : Session) → st.session ≡ Some q → makes_set q.stage ≡ is_some (in_progress st)
+  makes_its_set q e = by_set (in_progress st) (subst (λ x. IsOfSession x st.course.outcome (in_progress st)) e (orderly s so_far).session)
+    where
+      by_set : (o : Option SetRow) → IsOfSession (Some q) st.course.outcome o → makes_set q.stage ≡ is_some o
+      by_set None h = h.0
+      by_set (Some r) h = h.0
+
+  beside : (own may busy : Bool) → (own && (true && (not (busy && false) && (may && (true && true))))) ≡ (own && may)
+  beside false may busy = refl
+  beside true true true = refl
+  beside true true false = refl
+  beside true false true = refl
+  beside true false false = refl
+
+  beside_call : (c : SessionCall) (o : Op) (may : Bool) → check st.session (runs st) lane c ≡ check_other st.session (runs st) lane c → is_start c ≡ false → goes_beside_agenda c ≡ true → is_await c ≡ false
+      → ((q : Session) → st.session ≡ Some q → allows q.stage (has_writers q.context) c ≡ may) → ((q : Session) → is_fine (session_line s lane o q st).0 ≡ true) → is_fine (called c s lane o st).0 ≡ (owns st.session lane && may)
+  beside_call c o may same start on waits allowed fine = by_session st.session refl
+    where
+      by_session : (x : Option Session) → st.session ≡ x → is_fine (called c s lane o st).0 ≡ (owns st.session lane && may)
+      by_session None e = no_session s st lane is_fine refl refl o c e same ∙ ap (λ x. owns x lane && may) (sym e)
+      by_session (Some q) e =
+          passes s st lane is_fine refl refl o c q e same
+          ∙ ap (λ b. (q.owner == lane) && (not (b && makes_set q.stage) && (not (runs st && not (goes_beside_agenda c)) && (allows q.stage (has_writers q.context) c && (not (is_await c && runs st) && is_fine (session_line s lane o q st).0))))) start
+          ∙ ap (λ b. (q.owner == lane) && (true && (not (runs st && not b) && (allows q.stage (has_writers q.context) c && (not (is_await c && runs st) && is_fine (session_line s lane o q st).0))))) on
+          ∙ ap (λ b. (q.owner == lane) && (true && (not (runs st && false) && (allows q.stage (has_writers q.context) c && (not (b && runs st) && is_fine (session_line s lane o q st).0))))) waits
+          ∙ ap (λ b. (q.owner == lane) && (true && (not (runs st && false) && (b && (true && is_fine (session_line s lane o q st).0))))) (allowed q e)
+          ∙ ap (λ b. (q.owner == lane) && (true && (not (runs st && false) && (may && (true && b))))) (fine q)
+          ∙ beside (q.owner == lane) may (runs st)
+          ∙ ap (λ x. owns x lane && may) (sym e)
+
+  and_true : (b : Bool) → (b && true) ≡ b
+  and_true true = refl
+  and_true false = refl
+
+  rows_told : owns st.session lane ≡ true → (called call.Status s lane op.Status st).0 ≡ StatusOf st.course.rows
+  unfolding called
+  rows_told e = by_session st.session refl
+    where
+      by_verdict : (own busy : Bool) (x : Option Session) (q : Session) → own ≡ true → x ≡ Some q → (judged (owner_only own (verdict_of false (busy && false) true false)) s lane op.Status st).0 ≡ (judged Go s lane op.Status st).0
+      by_verdict true true x q e f = refl
+      by_verdict true false x q e f = refl
+      by_verdict false busy x q e f = absurd cc
+
+      by_session : (x : Option Session) → st.session ≡ x → (called call.Status s lane op.Status st).0 ≡ StatusOf st.course.rows
+      by_session None f = absurd (both (owns st.session lane) e (ap (λ x. owns x lane) f))
+        where
+          both : (b : Bool) → b ≡ true → b ≡ false → ⊥
+          both b e f = cc
+      by_session (Some q) f =
+          ap (λ x. (judged (check_other x (runs st) lane call.Status) s lane op.Status st).0) f ∙ by_verdict (q.owner == lane) (runs st) st.session q (ap (λ x. owns x lane) (sym f) ∙ e) f
+          ∙ ap (λ x. (line_in s lane op.Status x st).0) f
 
 -- the reply of a line
 line_reply : (s : Plan) (st : State) (act : Act) (event : Event) → act.event ≡ event → reply s st act ≡ (happens s event act.mark st).0
 line_reply s st act event e = ap (λ x. (happens s x act.mark st).0) e
 
-pub accepts_owner : (s : Plan) (so_far : List Act) (act : Act) → AcceptsOwner s so_far act
-accepts_owner s so_far act =
+pub accepts_in_order : (s : Plan) (so_far : List Act) (act : Act) → AcceptsInOrder s so_far act
+accepts_in_order s so_far act =
     let st = state s so_far in
     record {
-      disables = λ lane w q e may writers stage. line_reply s st act (Line lane (op.Disable w)) e
-          ∙ replies s st lane q call.Disable (op.Disable w) may.own (idle_goes s st lane q call.Disable may refl (allowed_at s st lane q call.Disable Opened true stage writers refl) refl);
-      gathers = λ lane q e may writers stage. line_reply s st act (Line lane op.Gather) e
-          ∙ replies s st lane q call.Gather op.Gather may.own (idle_goes s st lane q call.Gather may refl (allowed_at s st lane q call.Gather Opened true stage writers refl) refl);
-      names = λ lane w full q explicit e may writers stage mode named. line_reply s st act (Line lane (op.Component w full)) e
-          ∙ replies s st lane q call.Component (op.Component w full) may.own (idle_goes s st lane q call.Component may refl (at_either q stage writers) refl)
-          ∙ ap (λ m. (component_in m s w (token s full) st).0) mode ∙ ap (λ n. (named_as n st).0) named;
-      starts = λ lane q e may stage. line_reply s st act (Line lane op.Start) e
-          ∙ replies s st lane q call.Start op.Start may.own (idle_goes s st lane q call.Start may (start_stage q stage).1 (start_stage q stage).0 refl);
-      adds = λ lane v q r e may stage set fresh few room. line_reply s st act (Line lane (op.Add v)) e
-          ∙ replies s st lane q call.Add (op.Add v) may.own (idle_goes s st lane q call.Add may refl (ap (λ x. is_stage x Started) stage) refl)
-          ∙ added s st lane q v r set fresh few room;
-      prepares = λ lane q e may writers stage has. line_reply s st act (Line lane op.Prepare) e
-          ∙ replies s st lane q call.Prepare op.Prepare may.own (idle_goes s st lane q call.Prepare may refl (allowed_at s st lane q call.Prepare Started true stage writers refl) refl)
-          ∙ pending_if s st lane q (has_no_volume (in_progress st)) _ _ (volume_there s st lane q has) refl;
-      snapshots = λ lane q e may stage has. line_reply s st act (Line lane op.Snapshot) e
-          ∙ replies s st lane q call.Snapshot op.Snapshot may.own (idle_goes s st lane q call.Snapshot may refl (snapshot_at q stage) refl)
-          ∙ pending_if s st lane q (has_no_volume (in_progress st)) _ _ (volume_there s st lane q has) refl;
-      completes = λ lane q e may writers stage. line_reply s st act (Line lane op.Complete) e
-          ∙ replies s st lane q call.Complete op.Complete may.own (idle_goes s st lane q call.Complete may refl (allowed_at s st lane q call.Complete Done true stage writers refl) refl);
-      documents = λ lane q e may writers stage. record {
-        bytes = _;
-        is = line_reply s st act (Line lane op.Document) e
-            ∙ replies s st lane q call.Document op.Document may.own
-            (idle_goes s st lane q call.Document may refl (ap (λ b. not (is_stage q.stage Opened) && b) writers ∙ not_opened q.stage stage) refl);
-      };
-      aborts = λ lane q r e own set. line_reply s st act (Line lane op.Abort) e
-          ∙ replies s st lane q call.Abort op.Abort own (other_goes s st lane q call.Abort own refl (off_right (runs st) false refl) (stage_makes s st lane q r own.stands set (orderly s so_far).session) refl);
-      tells_rows = λ lane q e own. line_reply s st act (Line lane op.Status) e
-          ∙ replies s st lane q call.Status op.Status own (other_goes s st lane q call.Status own refl (off_right (runs st) false refl) refl refl);
-      ends = λ lane q e own. line_reply s st act (Line lane op.End) e
-          ∙ replies s st lane q call.End op.End own (other_goes s st lane q call.End own refl (off_right (runs st) false refl) refl refl);
+      ordered = λ lane o e f. ap is_accepted (line_reply s st act (Line lane o) e) ∙ ordered_line s so_far lane o act.mark f;
+      told = λ lane o e f g. subst (IsAccepting st o) (sym (line_reply s st act (Line lane o) e)) (told_line s so_far lane o act.mark f (ap is_accepted (sym (line_reply s st act (Line lane o) e)) ∙ g));
+      begins = λ lane n all e. ap is_fine (line_reply s st act (Line lane (op.Begin n all)) e) ∙ begin_line s so_far lane n all;
+      aborts = λ lane e. ap is_fine (line_reply s st act (Line lane op.Abort) e) ∙ beside_call s so_far lane call.Abort op.Abort (is_some (in_progress st)) refl refl refl refl (λ q f. makes_its_set s so_far lane q f) (λ q. refl);
+      tells_rows = λ lane e f. line_reply s st act (Line lane op.Status) e ∙ rows_told s so_far lane f;
+      ends = λ lane e. ap is_fine (line_reply s st act (Line lane op.End) e) ∙ beside_call s so_far lane call.End op.End true refl refl refl refl (λ q f. refl) (λ q. refl) ∙ and_true s so_far lane (owns st.session lane);
     }
-  where
-    at_either : (q : Session) → (q.stage ≡ Gathered) ⊎ (q.stage ≡ Started) → has_writers q.context ≡ true → allows q.stage (has_writers q.context) call.Component ≡ true
-    at_either q (inl e) f = ap (λ x. allows x (has_writers q.context) call.Component) e ∙ ap (λ x. allows Gathered x call.Component) f
-    at_either q (inr e) f = ap (λ x. allows x (has_writers q.context) call.Component) e ∙ ap (λ x. allows Started x call.Component) f
-
-    start_stage : (q : Session) → ((has_writers q.context ≡ true) × (q.stage ≡ Gathered)) ⊎ ((has_writers q.context ≡ false) × (q.stage ≡ Opened)) → (allows q.stage (has_writers q.context) call.Start ≡ true) × (makes_set q.stage ≡ false)
-    start_stage q (inl e) = (ap (λ x. allows x (has_writers q.context) call.Start) e.1 ∙ ap (λ x. allows Gathered x call.Start) e.0, ap makes_set e.1)
-    start_stage q (inr e) = (ap (λ x. allows x (has_writers q.context) call.Start) e.1 ∙ ap (λ x. allows Opened x call.Start) e.0, ap makes_set e.1)
-
-    snapshot_at : (q : Session) → ((has_writers q.context ≡ true) × (q.stage ≡ Prepared)) ⊎ ((has_writers q.context ≡ false) × (q.stage ≡ Started)) → allows q.stage (has_writers q.context) call.Snapshot ≡ true
-    snapshot_at q (inl e) = ap (λ x. allows x (has_writers q.context) call.Snapshot) e.1 ∙ ap (λ x. allows Prepared x call.Snapshot) e.0
-    snapshot_at q (inr e) = ap (λ x. allows x (has_writers q.context) call.Snapshot) e.1 ∙ ap (λ x. allows Started x call.Snapshot) e.0

@@ -333,7 +333,7 @@ module _ (G : Agenda → Type 0) (k : IsKeptAlong G) where
       deletes_set = λ lane m c mark e. tells_none lane (op.DeleteSet m) mark (Deleted c) (record st { volumes = map (dropped m) st.volumes }) refl refl h (λ i. i);
       deletes_image = λ lane m v x mark e. tells_none lane (op.DeleteImage m v) mark (Deleted 1) (record st { volumes = change_at v (dropped x.row.number) st.volumes }) refl refl h (λ i. i);
       ticks = λ lane k mark. ticks_line lane k mark;
-      begins = λ lane m all c mark e. tells_none lane (op.Begin m all) mark Fine (record st { session = Some (opened lane c all); explicit = [] }) refl refl h (λ i. i);
+      begins = λ lane m all c mark e ctx. tells_none lane (op.Begin m all) mark Fine (record st { session = Some (opened lane c all); explicit = [] }) refl refl h (λ i. i);
       disables = λ lane w q mark g. tells_none lane (op.Disable w) mark Fine (disable w st).1 refl refl h (λ i. i);
       gathers = λ lane q mark g. begins_other lane op.Gather mark (gathered (is_disabled s st) st.clock st.course) refl refl (on_begun Gather _ [] st.clock so_far _ (λ x. absurd cc)) (λ run. begun_incomplete Gather _ [] st.clock _ run);
       names = λ lane w full q explicit mark g named. tells_none lane (op.Component w full) mark Fine (record st { explicit = explicit }) refl refl h (λ i. i);

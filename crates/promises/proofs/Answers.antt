@@ -1,6 +1,6 @@
 -- An answer says what was done.
-use Rattle.std.proofs.Common.{◌≡◌, ◌∙◌, ℕ, ◌+◌, ◌==◌, ◌<◌, zero, suc, List, [], ◌∷◌, length, Option, Some, None, refl, Bool, true, false, ap, sym, subst, map, arith}
-use Rattle.std.specs.Prelude.{◌&&◌, not, nat_lt, is_some, if◌then◌else◌, slice_get}
+use Rattle.std.proofs.Common.{◌≡◌, ◌∙◌, ℕ, ◌+◌, ◌<◌, zero, suc, List, [], ◌∷◌, length, Option, Some, None, refl, Bool, true, false, ap, sym, subst, map, arith}
+use Rattle.std.specs.Prelude.{◌&&◌, not, nat_lt, is_some, if◌then◌else◌}
 use Rattle.write_history.specs.declared.mark.Mark.{Mark}
 use Rattle.write_history.specs.declared.mark.Mark.TheVariants.{Clean, Fault, FaultAfter}
 use Rattle.write_history.specs.History.{Write, History, dropped, point_in}
@@ -14,9 +14,9 @@ use Rattle.scenario.specs.Calls.{Target, target_of}
 use Rattle.scenario.specs.Plan.{Plan}
 use Rattle.vss_model.specs.declared.event.Event.{Event}
 use Rattle.vss_model.specs.declared.event.Event.TheVariants.{Line, Provider, Idle}
-use Rattle.vss_model.specs.Reply.{Reply, Fine, Deleted, Stepped, Idled}
-use Rattle.vss_model.specs.State.{State, Kept, has_image, history_of, history_in, is_kept_set, kept_image, row_of, left_now}
-use Rattle.vss_model.specs.Images.{Replied, reply_of_mark, write, count_images, delete_set, delete_kept, delete_image}
+use Rattle.vss_model.specs.Reply.{Fine, Deleted, Stepped, Idled}
+use Rattle.vss_model.specs.State.{State, Kept, has_image, history_of, is_kept_set, kept_image, row_of, left_now}
+use Rattle.vss_model.specs.Images.{reply_of_mark, write, count_images, delete_set, delete_kept, delete_image}
 use Rattle.vss_model.specs.Steps.{is_flush, is_failed_step}
 use Rattle.vss_model.specs.Acts.{Act, enabled, happens, reply, step_reply, after, state, idle_now}
 use Rattle.vss_model.specs.Causes.{is_fault, is_flush_step}

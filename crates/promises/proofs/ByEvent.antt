@@ -40,6 +40,7 @@ use Rattle.vss_model.specs.Effects.{line_ticks}
 use Rattle.vss_model.specs.Acts.{Act, order_of_writer, is_free, line_enabled, enabled, happens, idle_now, answer_reply, step_reply, after_if, after}
 use Rattle.vss_model.specs.Laws.{LetsGo}
 use Rattle.vss_model.proofs.GoingOn.{Goes, other_goes}
+use Rattle.promises.specs.InOrder.{is_numbered}
 use Rattle.promises.specs.Participants.{is_fine}
 use Rattle.promises.specs.Way.{is_pending_code, is_pending}
 
@@ -50,12 +51,19 @@ abbrev pub changes_session : Op → Bool
 changes_session (Begin n all) = true
 changes_session (Disable w) = true
 changes_session (Component w full) = true
+changes_session End = true
 changes_session _ = false
+
+-- the line that starts a set
+abbrev pub starts_set : Op → Bool
+starts_set Start = true
+starts_set _ = false
 
 -- the reply of a line that changes nothing is not that of a line that does
 pub record ChangesNothing (op : Op) (told : Reply) : Type 0 where
   pub agenda : begins_agenda op ≡ true → is_pending told ≡ false
   pub session : changes_session op ≡ true → is_fine told ≡ false
+  pub set : starts_set op ≡ true → is_numbered told ≡ false
 
 pub record Covers (P : Event → Mark → Replied → Type 0) (s : Plan) (st : State) : Type 0 where
   -- lines that change nothing
@@ -66,7 +74,7 @@ pub record Covers (P : Event → Mark → Replied → Type 0) (s : Plan) (st : S
   pub deletes_image : (lane n v : ℕ) (k : Kept) (mark : Mark) → kept_image st n v ≡ Some k → P (Line lane (DeleteImage n v)) mark (Deleted 1, record st { volumes = change_at v (dropped k.row.number) st.volumes })
   pub ticks : (lane n : ℕ) (mark : Mark) → P (Line lane (Tick n)) mark (Fine, ticked n st)
   -- session calls
-  pub begins : (lane n : ℕ) (all : Bool) (c : Context) (mark : Mark) → st.session ≡ None → P (Line lane (Begin n all)) mark (Fine, record st { session = Some (opened lane c all); explicit = [] })
+  pub begins : (lane n : ℕ) (all : Bool) (c : Context) (mark : Mark) → st.session ≡ None → context_of n all ≡ Some c → P (Line lane (Begin n all)) mark (Fine, record st { session = Some (opened lane c all); explicit = [] })
   pub disables : (lane w : ℕ) (q : Session) (mark : Mark) → LetsGo call.Disable q st → P (Line lane (Disable w)) mark (disable w st)
   pub gathers : (lane : ℕ) (q : Session) (mark : Mark) → LetsGo call.Gather q st → P (Line lane Gather) mark (gather s st)
   pub names : (lane w : ℕ) (full : Span) (q : Session) (explicit : List Pair) (mark : Mark) → LetsGo call.Component q st → naming (known_metas s st) w (token s full) st.explicit ≡ Names explicit → P (Line lane (Component w full)) mark (Fine, record st { explicit = explicit })
@@ -123,26 +131,26 @@ not_so : {X : Type 0} (b : Bool) → b ≡ false → b ≡ true → X
 not_so b e f = absurd cc
 
 -- and one that changes no session
-other_line : (op : Op) (told : Reply) → begins_agenda op ≡ false → changes_session op ≡ false → ChangesNothing op told
-other_line op told e f = record { agenda = not_so (begins_agenda op) e; session = not_so (changes_session op) f }
+other_line : (op : Op) (told : Reply) → begins_agenda op ≡ false → changes_session op ≡ false → starts_set op ≡ false → ChangesNothing op told
+other_line op told e f g = record { agenda = not_so (begins_agenda op) e; session = not_so (changes_session op) f; set = not_so (starts_set op) g }
 
-refused_line : (op : Op) (told : Reply) → begins_agenda op ≡ false → is_fine told ≡ false → ChangesNothing op told
-refused_line op told e f = record { agenda = not_so (begins_agenda op) e; session = λ g. f }
+refused_line : (op : Op) (told : Reply) → begins_agenda op ≡ false → is_fine told ≡ false → starts_set op ≡ false → ChangesNothing op told
+refused_line op told e f g = record { agenda = not_so (begins_agenda op) e; session = λ i. f; set = not_so (starts_set op) g }
 
 module _ (P : Event → Mark → Replied → Type 0) (s : Plan) (st : State) (k : Covers P s st) where
   -- ## images
 
   on_image_block : (lane n v b : ℕ) (kept : Option Kept) (mark : Mark) → P (Line lane (ImageBlock n v b)) mark (image_block v b kept mark st)
-  on_image_block lane n v b None mark = k.stays lane (ImageBlock n v b) mark _ refl (other_line (ImageBlock n v b) _ refl refl)
-  on_image_block lane n v b (Some x) mark = k.stays lane (ImageBlock n v b) mark _ refl (other_line (ImageBlock n v b) _ refl refl)
+  on_image_block lane n v b None mark = k.stays lane (ImageBlock n v b) mark _ refl (other_line (ImageBlock n v b) _ refl refl refl)
+  on_image_block lane n v b (Some x) mark = k.stays lane (ImageBlock n v b) mark _ refl (other_line (ImageBlock n v b) _ refl refl refl)
 
   on_image_blocks : (lane n v : ℕ) (kept : Option Kept) (mark : Mark) → P (Line lane (ImageDigest n v)) mark (image_blocks s v kept mark st)
-  on_image_blocks lane n v None mark = k.stays lane (ImageDigest n v) mark _ refl (other_line (ImageDigest n v) _ refl refl)
-  on_image_blocks lane n v (Some x) mark = k.stays lane (ImageDigest n v) mark _ refl (other_line (ImageDigest n v) _ refl refl)
+  on_image_blocks lane n v None mark = k.stays lane (ImageDigest n v) mark _ refl (other_line (ImageDigest n v) _ refl refl refl)
+  on_image_blocks lane n v (Some x) mark = k.stays lane (ImageDigest n v) mark _ refl (other_line (ImageDigest n v) _ refl refl refl)
 
   on_properties : (lane n v : ℕ) (kept : Option Kept) (mark : Mark) → P (Line lane (Properties n v)) mark (properties s v kept st)
-  on_properties lane n v None mark = k.stays lane (Properties n v) mark _ refl (other_line (Properties n v) _ refl refl)
-  on_properties lane n v (Some x) mark = k.stays lane (Properties n v) mark _ refl (other_line (Properties n v) _ refl refl)
+  on_properties lane n v None mark = k.stays lane (Properties n v) mark _ refl (other_line (Properties n v) _ refl refl refl)
+  on_properties lane n v (Some x) mark = k.stays lane (Properties n v) mark _ refl (other_line (Properties n v) _ refl refl refl)
 
   if_so : (event : Event) (mark : Mark) (b : Bool) (x y : Replied) → (b ≡ true → P event mark x) → P event mark y → P event mark (if b then x else y)
   if_so event mark true x y h i = h refl
@@ -153,10 +161,10 @@ module _ (P : Event → Mark → Replied → Type 0) (s : Plan) (st : State) (k 
   on_delete_set lane n mark =
       if_so (Line lane (DeleteSet n)) mark (is_kept_set st n && nat_lt 0 (count_images n st.volumes)) _ _
       (λ e. k.deletes_set lane n (count_images n st.volumes) mark (first_true (is_kept_set st n) (nat_lt 0 (count_images n st.volumes)) e))
-      (k.stays lane (DeleteSet n) mark _ refl (other_line (DeleteSet n) _ refl refl))
+      (k.stays lane (DeleteSet n) mark _ refl (other_line (DeleteSet n) _ refl refl refl))
 
   on_delete_kept : (lane n v : ℕ) (kept : Option Kept) (mark : Mark) → kept_image st n v ≡ kept → P (Line lane (DeleteImage n v)) mark (delete_kept v kept st)
-  on_delete_kept lane n v None mark e = k.stays lane (DeleteImage n v) mark _ refl (other_line (DeleteImage n v) _ refl refl)
+  on_delete_kept lane n v None mark e = k.stays lane (DeleteImage n v) mark _ refl (other_line (DeleteImage n v) _ refl refl refl)
   on_delete_kept lane n v (Some x) mark e = k.deletes_image lane n v x mark e
 
   on_delete_image : (lane n v : ℕ) (mark : Mark) → P (Line lane (DeleteImage n v)) mark (delete_image n v st)
@@ -164,8 +172,8 @@ module _ (P : Event → Mark → Replied → Type 0) (s : Plan) (st : State) (k 
   on_delete_image lane n v mark = on_delete_kept lane n v (kept_image st n v) mark refl
 
   on_revert_to : (lane n v : ℕ) (refusal : Option VssResult) (kept : Option Kept) (mark : Mark) → kept_image st n v ≡ kept → revert_refusal v kept st ≡ refusal → P (Line lane (Revert n v)) mark (revert_to s v refusal kept mark st)
-  on_revert_to lane n v (Some why) kept mark e f = k.stays lane (Revert n v) mark _ refl (other_line (Revert n v) _ refl refl)
-  on_revert_to lane n v None None mark e f = k.stays lane (Revert n v) mark _ refl (other_line (Revert n v) _ refl refl)
+  on_revert_to lane n v (Some why) kept mark e f = k.stays lane (Revert n v) mark _ refl (other_line (Revert n v) _ refl refl refl)
+  on_revert_to lane n v None None mark e f = k.stays lane (Revert n v) mark _ refl (other_line (Revert n v) _ refl refl refl)
   on_revert_to lane n v None (Some x) mark e f = k.reverts lane n v x mark e f
 
   on_revert : (lane n v : ℕ) (mark : Mark) → P (Line lane (Revert n v)) mark (revert s n v mark st)
@@ -174,41 +182,41 @@ module _ (P : Event → Mark → Replied → Type 0) (s : Plan) (st : State) (k 
 
   -- ## session calls
 
-  on_begin_in : (lane n : ℕ) (all : Bool) (c : Option Context) (mark : Mark) → st.session ≡ None → P (Line lane (Begin n all)) mark (begin_in lane all c st)
-  on_begin_in lane n all None mark e = k.stays lane (Begin n all) mark _ refl (refused_line (Begin n all) (Coded UnsupportedContext) refl refl)
-  on_begin_in lane n all (Some c) mark e = k.begins lane n all c mark e
+  on_begin_in : (lane n : ℕ) (all : Bool) (c : Option Context) (mark : Mark) → st.session ≡ None → context_of n all ≡ c → P (Line lane (Begin n all)) mark (begin_in lane all c st)
+  on_begin_in lane n all None mark e f = k.stays lane (Begin n all) mark _ refl (refused_line (Begin n all) (Coded UnsupportedContext) refl refl refl)
+  on_begin_in lane n all (Some c) mark e f = k.begins lane n all c mark e f
 
   on_begin_line : (lane n : ℕ) (all : Bool) (q : Option Session) (mark : Mark) → st.session ≡ q → P (Line lane (Begin n all)) mark (line_in s lane (Begin n all) q st)
-  on_begin_line lane n all None mark e = on_begin_in lane n all (context_of n all) mark e
-  on_begin_line lane n all (Some q) mark e = k.stays lane (Begin n all) mark _ refl (refused_line (Begin n all) (Coded BadState) refl refl)
+  on_begin_line lane n all None mark e = on_begin_in lane n all (context_of n all) mark e refl
+  on_begin_line lane n all (Some q) mark e = k.stays lane (Begin n all) mark _ refl (refused_line (Begin n all) (Coded BadState) refl refl refl)
 
   on_named : (lane w : ℕ) (full : Span) (q : Session) (n : Naming) (mark : Mark) → LetsGo call.Component q st → naming (known_metas s st) w (token s full) st.explicit ≡ n → P (Line lane (Component w full)) mark (named_as n st)
-  on_named lane w full q IsNotFound mark g e = k.stays lane (Component w full) mark _ refl (refused_line (Component w full) (Coded ObjectNotFound) refl refl)
-  on_named lane w full q IsNotSelectable mark g e = k.stays lane (Component w full) mark _ refl (refused_line (Component w full) NotSelectable refl refl)
-  on_named lane w full q IsNamedAlready mark g e = k.stays lane (Component w full) mark _ refl (refused_line (Component w full) (Coded ObjectAlreadyExists) refl refl)
+  on_named lane w full q IsNotFound mark g e = k.stays lane (Component w full) mark _ refl (refused_line (Component w full) (Coded ObjectNotFound) refl refl refl)
+  on_named lane w full q IsNotSelectable mark g e = k.stays lane (Component w full) mark _ refl (refused_line (Component w full) NotSelectable refl refl refl)
+  on_named lane w full q IsNamedAlready mark g e = k.stays lane (Component w full) mark _ refl (refused_line (Component w full) (Coded ObjectAlreadyExists) refl refl refl)
   on_named lane w full q (Names explicit) mark g e = k.names lane w full q explicit mark g e
 
   on_component : (lane w : ℕ) (full : Span) (q : Session) (mode : Mode) (mark : Mark) → LetsGo call.Component q st → P (Line lane (Component w full)) mark (component_in mode s w (token s full) st)
-  on_component lane w full q All mark g = k.stays lane (Component w full) mark _ refl (refused_line (Component w full) (Coded BadState) refl refl)
+  on_component lane w full q All mark g = k.stays lane (Component w full) mark _ refl (refused_line (Component w full) (Coded BadState) refl refl refl)
   on_component lane w full q Components mark g = on_named lane w full q (naming (known_metas s st) w (token s full) st.explicit) mark g refl
 
   on_add_to : (lane v : ℕ) (r : SetRow) (refusal : Option VssResult) (q : Session) (mark : Mark) → LetsGo call.Add q st → in_progress st ≡ Some r → add_refusal v r st ≡ refusal → P (Line lane (Add v)) mark (add_to v r refusal st)
-  on_add_to lane v r (Some why) q mark g e f = k.stays lane (Add v) mark _ refl (other_line (Add v) _ refl refl)
+  on_add_to lane v r (Some why) q mark g e f = k.stays lane (Add v) mark _ refl (other_line (Add v) _ refl refl refl)
   on_add_to lane v r None q mark g e f = k.adds lane v r q mark g e f
 
   on_add : (lane v : ℕ) (o : Option SetRow) (q : Session) (mark : Mark) → LetsGo call.Add q st → in_progress st ≡ o → P (Line lane (Add v)) mark (add v o st)
-  on_add lane v None q mark g e = k.stays lane (Add v) mark _ refl (other_line (Add v) _ refl refl)
+  on_add lane v None q mark g e = k.stays lane (Add v) mark _ refl (other_line (Add v) _ refl refl refl)
   on_add lane v (Some r) q mark g e = on_add_to lane v r (add_refusal v r st) q mark g e refl
 
   on_await : (lane : ℕ) (last : Option VssResult) (mark : Mark) → P (Line lane Await) mark (await_last last st)
-  on_await lane None mark = k.stays lane Await mark _ refl (other_line Await _ refl refl)
-  on_await lane (Some why) mark = k.stays lane Await mark _ refl (other_line Await _ refl refl)
+  on_await lane None mark = k.stays lane Await mark _ refl (other_line Await _ refl refl refl)
+  on_await lane (Some why) mark = k.stays lane Await mark _ refl (other_line Await _ refl refl refl)
 
   on_judged : (v : Verdict) (lane : ℕ) (op : Op) (mark : Mark) → line_ticks op ≡ None → (begins_agenda op ≡ true → (why : VssResult) → v ≡ Refused why → is_pending_code why ≡ false)
       → (v ≡ Go → P (Line lane op) mark (line_in s lane op st.session st)) → P (Line lane op) mark (judged v s lane op st)
   on_judged Go lane op mark e refuses goes = goes refl
-  on_judged Blocked lane op mark e refuses goes = k.stays lane op mark _ e (record { agenda = λ b. refl; session = λ b. refl })
-  on_judged (Refused why) lane op mark e refuses goes = k.stays lane op mark _ e (record { agenda = λ b. refuses b why refl; session = λ b. refl })
+  on_judged Blocked lane op mark e refuses goes = k.stays lane op mark _ e (record { agenda = λ b. refl; session = λ b. refl; set = λ b. refl })
+  on_judged (Refused why) lane op mark e refuses goes = k.stays lane op mark _ e (record { agenda = λ b. refuses b why refl; session = λ b. refl; set = λ b. refl })
 
   on_called : (c : SessionCall) (lane : ℕ) (op : Op) (mark : Mark) → line_ticks op ≡ None → (begins_agenda op ≡ true → (why : VssResult) → check st.session (runs st) lane c ≡ Refused why → is_pending_code why ≡ false)
       → (check st.session (runs st) lane c ≡ Go → P (Line lane op) mark (line_in s lane op st.session st)) → P (Line lane op) mark (called c s lane op st)
@@ -232,10 +240,10 @@ module _ (P : Event → Mark → Replied → Type 0) (s : Plan) (st : State) (k 
   on_line : (lane : ℕ) (op : Op) (mark : Mark) → line_enabled s st lane op ≡ true → P (Line lane op) mark (line s lane op mark st)
   on_line lane (WriteFill v b x) mark e = k.writes lane (WriteFill v b x) v (record { block = b; bytes = payload_bytes (Fill x) }) mark refl (not_held (is_held st v) (is_free st (acts_as s lane)) e)
   on_line lane (WriteStamp v b n) mark e = k.writes lane (WriteStamp v b n) v (record { block = b; bytes = payload_bytes (Stamp n) }) mark refl (not_held (is_held st v) (is_free st (acts_as s lane)) e)
-  on_line lane (Read v b) mark e = k.stays lane (Read v b) mark _ refl (other_line (Read v b) _ refl refl)
+  on_line lane (Read v b) mark e = k.stays lane (Read v b) mark _ refl (other_line (Read v b) _ refl refl refl)
   on_line lane (ImageDigest n v) mark e = on_image_blocks lane n v (kept_image st n v) mark
   on_line lane (ImageBlock n v b) mark e = on_image_block lane n v b (kept_image st n v) mark
-  on_line lane (Query v) mark e = k.stays lane (Query v) mark _ refl (other_line (Query v) _ refl refl)
+  on_line lane (Query v) mark e = k.stays lane (Query v) mark _ refl (other_line (Query v) _ refl refl refl)
   on_line lane (Properties n v) mark e = on_properties lane n v (kept_image st n v) mark
   on_line lane (Revert n v) mark e = on_revert lane n v mark
   on_line lane (DeleteSet n) mark e = on_delete_set lane n mark
@@ -245,13 +253,13 @@ module _ (P : Event → Mark → Replied → Type 0) (s : Plan) (st : State) (k 
   on_line lane (Disable w) mark e = on_owned call.Disable lane (Disable w) mark refl refl (λ g. k.disables lane w g.own mark (quiet_of call.Disable g refl))
   on_line lane Gather mark e = on_owned call.Gather lane Gather mark refl refl (λ g. k.gathers lane g.own mark (quiet_of call.Gather g refl))
   on_line lane (Component w full) mark e = on_owned call.Component lane (Component w full) mark refl refl (λ g. on_component lane w full g.own g.own.mode mark (quiet_of call.Component g refl))
-  on_line lane Document mark e = on_owned call.Document lane Document mark refl refl (λ g. k.stays lane Document mark _ refl (other_line Document _ refl refl))
+  on_line lane Document mark e = on_owned call.Document lane Document mark refl refl (λ g. k.stays lane Document mark _ refl (other_line Document _ refl refl refl))
   on_line lane Start mark e = on_owned call.Start lane Start mark refl refl (λ g. k.starts lane g.own mark (quiet_of call.Start g refl) (g.free refl))
   on_line lane (Add v) mark e = on_owned call.Add lane (Add v) mark refl refl (λ g. on_add lane v (in_progress st) g.own mark (quiet_of call.Add g refl) refl)
   on_line lane Prepare mark e = on_owned call.Prepare lane Prepare mark refl refl (λ g. k.prepares lane g.own mark (quiet_of call.Prepare g refl))
   on_line lane Snapshot mark e = on_owned call.Snapshot lane Snapshot mark refl refl (λ g. k.snapshots lane g.own mark (quiet_of call.Snapshot g refl))
   on_line lane Await mark e = on_owned call.Await lane Await mark refl refl (λ g. on_await lane g.own.last mark)
-  on_line lane Status mark e = on_owned call.Status lane Status mark refl refl (λ g. k.stays lane Status mark _ refl (other_line Status _ refl refl))
+  on_line lane Status mark e = on_owned call.Status lane Status mark refl refl (λ g. k.stays lane Status mark _ refl (other_line Status _ refl refl refl))
   on_line lane Complete mark e = on_owned call.Complete lane Complete mark refl refl (λ g. k.completes lane g.own mark (quiet_of call.Complete g refl))
   on_line lane Abort mark e = on_owned call.Abort lane Abort mark refl refl (λ g. k.aborts lane g.own mark g.is)
   on_line lane End mark e = on_owned call.End lane End mark refl refl (λ g. k.ends lane g.own mark g.is)

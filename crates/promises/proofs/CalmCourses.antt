@@ -9,7 +9,7 @@ use Rattle.set_agenda.specs.declared.member.Member.{Member}
 use Rattle.set_agenda.specs.Agenda.{left, is_asked, is_working, open_order, order_if, order_now}
 use Rattle.set_agenda.specs.Course.{Course, posted, begun, is_decisive, told, decided, answered_to, answered as course_answered, stepped as course_stepped, timed as course_timed}
 use Rattle.vss_model.specs.Facts.{has_failed}
-use Rattle.promises.proofs.Aborts.{Passes, Fails, over_timed, calm_settled}
+use Rattle.promises.proofs.CourseRows.{PassesOrFails, over_timed, calm_settled}
 use Rattle.promises.proofs.BusyAgendas.{IsBusy, busy_order, busy_step}
 use Rattle.promises.proofs.Limits.{both_parts}
 
@@ -45,7 +45,7 @@ calm_stepped ok now c e = inr (busy_step c.agenda e)
 pub calm_timed : (now : ℕ) (c : Course) → CalmOrBusy c (course_timed now c)
 calm_timed now c = by_result (over_timed now c)
   where
-    by_result : Passes c (course_timed now c) ⊎ Fails c (course_timed now c) → CalmOrBusy c (course_timed now c)
+    by_result : {say : _} → PassesOrFails say c (course_timed now c) → CalmOrBusy c (course_timed now c)
     by_result (inl h) = inl h.calm
     by_result (inr h) = inr h.busy
 

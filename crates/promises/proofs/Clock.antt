@@ -122,7 +122,7 @@ module _ (s : Plan) (st : State) where
     deletes_set = λ lane n c mark e. no_ticks st.clock;
     deletes_image = λ lane n v k mark e. no_ticks st.clock;
     ticks = λ lane n mark. clock-ticked n st;
-    begins = λ lane n all c mark e. no_ticks st.clock;
+    begins = λ lane n all c mark e ctx. no_ticks st.clock;
     disables = λ lane w q mark g. no_ticks st.clock;
     gathers = λ lane q mark g. stands_still st _ None (clock-followed true _ st) refl;
     names = λ lane w full q explicit mark g named. no_ticks st.clock;

@@ -224,7 +224,7 @@ module _ (s : Plan) (st : State) (v b : ℕ) where
     deletes_set = λ lane n c mark e g. by_writes st.volumes _ (same_map (dropped n) (λ h. refl) st.volumes);
     deletes_image = λ lane n u k mark e g. by_writes st.volumes _ (same_change (dropped k.row.number) (λ h. refl) u st.volumes);
     ticks = λ lane n mark g. stay_ticks n;
-    begins = λ lane n all c mark e g. refl;
+    begins = λ lane n all c mark e ctx g. refl;
     disables = λ lane w q mark i g. refl;
     gathers = λ lane q mark i g. stay_followed true _ st refl;
     names = λ lane w full q explicit mark i named g. refl;

@@ -222,7 +222,7 @@ module _ (s : Plan) (st : State) (num : NumberedFrom 1 st.sets) (h : Owned st) w
     deletes_set = λ lane n c mark e. by _ (relates_same st.sets _ (λ m. refl));
     deletes_image = λ lane n v k mark e. by _ (relates_same st.sets _ (λ m. refl));
     ticks = λ lane n mark. by _ (related_tick n);
-    begins = λ lane n all c mark e. on_begin (opened lane c all) _ e refl refl refl;
+    begins = λ lane n all c mark e ctx. on_begin (opened lane c all) _ e refl refl refl;
     disables = λ lane w q mark g. by _ (relates_same st.sets _ (λ m. refl));
     gathers = λ lane q mark g. by _ (relates_followed true _ st);
     names = λ lane w full q explicit mark g named. by _ (relates_same st.sets _ (λ m. refl));

@@ -198,7 +198,7 @@ module _ (s : Plan) (st : State) (n : ℕ) (t : Option ℕ) where
     deletes_set = λ lane m k mark e c h. h;
     deletes_image = λ lane m v k mark e c h. h;
     ticks = λ lane k mark c h. on_tick k ∙ h;
-    begins = λ lane m all x mark e c h. h;
+    begins = λ lane m all x mark e ctx c h. h;
     disables = λ lane w q mark g c h. h;
     gathers = λ lane q mark g c h. times_followed true _ st n ∙ h;
     names = λ lane w full q explicit mark g named c h. h;

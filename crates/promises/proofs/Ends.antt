@@ -1,10 +1,9 @@
 -- Each set ends, and one that nothing disturbs completes.
-use Rattle.std.proofs.Common.{◌≡◌, ◌∙◌, ℕ, ◌+◌, ◌==◌, ◌≤◌, List, [], ◌∷◌, ◌++◌, Option, Some, None, refl, Bool, true, false, ap, sym, subst, find, arith}
-use Rattle.std.specs.Prelude.{◌&&◌, ◌||◌, if◌then◌else◌}
+use Rattle.std.proofs.Common.{◌≡◌, ◌∙◌, ℕ, ◌==◌, List, [], ◌∷◌, ◌++◌, Some, None, refl, Bool, true, false, ap, sym, subst, find}
+use Rattle.std.specs.Prelude.{◌&&◌, if◌then◌else◌}
 use Rattle.std.proofs.lemmas.List.{append_assoc}
 use Rattle.vss_names.specs.declared.set_outcome.SetOutcome.{SetOutcome}
 use Rattle.vss_names.specs.declared.set_outcome.SetOutcome.TheVariants.{Running as RunningSet, Complete as CompleteSet, Failed as FailedSet}
-use Rattle.write_history.specs.declared.mark.Mark.{Mark}
 use Rattle.write_history.specs.declared.move_item.Move.{Move}
 use Rattle.set_agenda.specs.Agenda.{open_group}
 use Rattle.scenario.specs.declared.op.Op.{Op}
@@ -14,7 +13,7 @@ use Rattle.scenario.specs.Plan.{Plan}
 use Rattle.vss_model.specs.declared.event.Event.{Event}
 use Rattle.vss_model.specs.declared.event.Event.TheVariants.{Line, Answer as AnswerEvent, Provider, Idle}
 use Rattle.vss_model.specs.State.{State, SetRow, is_running, is_complete, in_progress, row_of, left_now}
-use Rattle.vss_model.specs.Facts.{NumberedFrom, OverButNewest, has_failed}
+use Rattle.vss_model.specs.Facts.{OverButNewest, has_failed}
 use Rattle.vss_model.specs.Acts.{Act, after, state, idle_now}
 use Rattle.vss_model.specs.Effects.{ticks_of}
 use Rattle.vss_model.specs.Trail.{acts, is_legal, is_complete as is_complete_trail}
@@ -25,7 +24,8 @@ use Rattle.vss_model.proofs.OrderlyActs.{orderly}
 use Rattle.vss_model.proofs.Rows.{row_running}
 use Rattle.promises.specs.Ends.{IsLaterRow, HasLaterRow, HasEnded, EndsEachSet, IsCalm, CalmWhile, HasCompleted, CompletesWhereCalm}
 use Rattle.promises.proofs.Failing.{fails_for_cause}
-use Rattle.promises.proofs.SetRows.{same_row, later_again, go_on_found, later_row, keeps_rows, go_on_from}
+use Rattle.promises.proofs.OwnSlots.{loses_none}
+use Rattle.promises.proofs.SetRows.{later_again, later_row, keeps_rows, go_on_from}
 
 -- ## every set ends
 
@@ -59,8 +59,8 @@ both_false false b f = refl
 
 module _ (s : Plan) (st : State) (act : Act) (calm : IsCalm s st act) where
   calm_line : (lane : ℕ) (o : Op) → act.event ≡ Line lane o → line_gives_cause s st lane o ≡ false
-  calm_line lane (op.WriteFill v b x) e = calm.has_slots lane (op.WriteFill v b x) (record { volume = v; block = b }) e refl
-  calm_line lane (op.WriteStamp v b x) e = calm.has_slots lane (op.WriteStamp v b x) (record { volume = v; block = b }) e refl
+  calm_line lane (op.WriteFill v b x) e = loses_none s st v b (λ r f h. calm.has_slots lane (op.WriteFill v b x) (record { volume = v; block = b }) r e refl f h)
+  calm_line lane (op.WriteStamp v b x) e = loses_none s st v b (λ r f h. calm.has_slots lane (op.WriteStamp v b x) (record { volume = v; block = b }) r e refl f h)
   calm_line lane (op.Tick n) e = calm.in_time n (ap (λ event. ticks_of st event) e)
   calm_line lane op.Abort e = calm.goes_on lane op.Abort e refl
   calm_line lane op.End e = calm.goes_on lane op.End e refl

@@ -222,7 +222,7 @@ module _ (s : Plan) (st : State) (num : NumberedFrom 1 st.sets) (n v : ℕ) wher
     deletes_set = λ lane m c mark e h g. on_delete_set lane m _ refl h g;
     deletes_image = λ lane m u k mark e h g. on_delete_image lane m u k _ e refl h g;
     ticks = λ lane k mark. on_ticks k (Line lane (op.Tick k));
-    begins = λ lane m all c mark e h g. absurd (true_not_false (stands st n v) h g);
+    begins = λ lane m all c mark e ctx h g. absurd (true_not_false (stands st n v) h g);
     disables = λ lane w q mark i h g. absurd (true_not_false (stands st n v) h g);
     gathers = λ lane q mark i h g. by_course (Line lane op.Gather) true _ st refl refl h g;
     names = λ lane w full q explicit mark i named h g. absurd (true_not_false (stands st n v) h g);

@@ -35,7 +35,6 @@ use Rattle.vss_model.specs.Laws.{IsKeptByChanges, IsKeptByWrites}
 use Rattle.vss_model.proofs.Rule.{on_after}
 use Rattle.promises.specs.Numbers.{timeout_in, timeout_of, HasItsNumbers}
 use Rattle.promises.specs.Way.{level_in, level_of}
-use Rattle.tick_limits.specs.Time.{hold_limit, default_freeze, answer_limit}
 
 -- members in the order of their writers, from w on, each once
 abbrev pub Ascends : ℕ → List Member → Type 0

@@ -284,7 +284,7 @@ module _ (s : Plan) (w : ℕ) (st : State) (c : Choosing) (h : Follows s w st c)
     deletes_set = λ lane n x mark e. beside _ refl refl refl;
     deletes_image = λ lane n v k mark e. beside _ refl refl refl;
     ticks = λ lane n mark. same _ (on_ticked n st);
-    begins = λ lane n all x mark e. on_begin lane all x e (subst (λ (o : Option Session). ChosenIn (mode_in o) s w st c) e h.chosen);
+    begins = λ lane n all x mark e ctx. on_begin lane all x e (subst (λ (o : Option Session). ChosenIn (mode_in o) s w st c) e h.chosen);
     disables = λ lane u q mark g. on_disable u q g.stands;
     gathers = λ lane q mark g. same _ (on_agenda_begun kind.Gather _ [] st st (record st.course { rows = map row_gathered st.course.rows }) (same_choice st) (record { disabled = refl; members = refl; rows = length-map st.course.rows row_gathered }));
     names = λ lane u full q explicit mark g named. on_name u (token s full) q explicit g.stands named;

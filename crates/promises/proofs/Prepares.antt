@@ -61,7 +61,7 @@ module _ (s : Plan) (st : State) where
     deletes_set = λ lane n c mark e r g h. refl;
     deletes_image = λ lane n v k mark e r g h. refl;
     ticks = λ lane n mark r g h. (on_ticked n st).course.members;
-    begins = λ lane n all c mark e r g h. refl;
+    begins = λ lane n all c mark e ctx r g h. refl;
     disables = λ lane w q mark e r g h. refl;
     gathers = λ lane q mark e r g h. (on_agenda_begun kind.Gather _ [] st st (record st.course { rows = map row_gathered st.course.rows }) (same_choice st) (record { disabled = refl; members = refl; rows = length-map st.course.rows row_gathered })).course.members;
     names = λ lane w full q explicit mark e f r g h. refl;
@@ -182,7 +182,7 @@ module _ (s : Plan) (w : ℕ) (st : State) (c : Choosing) (h : Follows s w st c)
     deletes_set = λ lane n x mark e other g i. absurd cc;
     deletes_image = λ lane n v k mark e other g i. absurd cc;
     ticks = λ lane n mark other g i. absurd cc;
-    begins = λ lane n all x mark e other g i. absurd cc;
+    begins = λ lane n all x mark e ctx other g i. absurd cc;
     disables = λ lane u q mark e other g i. absurd cc;
     gathers = λ lane q mark e other g i. absurd cc;
     names = λ lane u full q explicit mark e f other g i. absurd cc;

@@ -3,11 +3,13 @@ use Rattle.std.proofs.Common.{List}
 use Rattle.write_history.specs.declared.move_item.Move.{Move}
 use Rattle.scenario.specs.Plan.{Plan}
 use Rattle.promises.specs.Promises.{IsAsPromised}
-use Rattle.promises.proofs.Accepted.{accepts_owner}
+use Rattle.promises.proofs.Accepted.{accepts_in_order}
 use Rattle.promises.proofs.Answers.{answers_say}
+use Rattle.promises.proofs.Asked.{asks_its_own}
 use Rattle.promises.proofs.Awaited.{await_tells}
 use Rattle.promises.proofs.Calls.{calls_are_owned, waits_are_few, waits_are_due, stands_quiet, frozen_do_not_write}
 use Rattle.promises.proofs.Clock.{clock_moves}
+use Rattle.promises.proofs.Codes.{fails_by_code}
 use Rattle.promises.proofs.Completing.{completes_unfailed}
 use Rattle.promises.proofs.Contents.{contents_change}
 use Rattle.promises.proofs.ContextZero.{backups_end}
@@ -17,18 +19,20 @@ use Rattle.promises.proofs.Evicted.{tells_evicted}
 use Rattle.promises.proofs.Failing.{fails_for_cause}
 use Rattle.promises.proofs.Idle.{idles_shortest}
 use Rattle.promises.proofs.Images.{images_go_for_cause}
+use Rattle.promises.proofs.Kept.{finds_the_kept}
 use Rattle.promises.proofs.Levels.{has_its_numbers}
 use Rattle.promises.proofs.Lost.{loses_the_late}
+use Rattle.promises.proofs.OwnSlots.{writes_fail_for_slots}
 use Rattle.promises.proofs.Participants.{chosen_take_part}
 use Rattle.promises.proofs.Prepares.{takes_part}
+use Rattle.promises.proofs.Progress.{has_its_context}
 use Rattle.promises.proofs.Properties.{properties_tell}
 use Rattle.promises.proofs.Refused.{refusals_change_nothing}
 use Rattle.promises.proofs.Replies.{replies_tell}
-use Rattle.promises.proofs.Rows.{rows_tell}
+use Rattle.promises.proofs.RowChanges.{rows_change}
 use Rattle.promises.proofs.SetRows.{keeps_rows}
 use Rattle.promises.proofs.Sets.{volumes_are_distinct}
 use Rattle.promises.proofs.Slots.{slots_suffice}
-use Rattle.promises.proofs.Telling.{tells_failure}
 use Rattle.promises.proofs.Unanswered.{orders_end}
 use Rattle.promises.proofs.Whole.{complete_by_the_way}
 use Rattle.promises.proofs.Within.{stands_within_limits}
@@ -39,22 +43,24 @@ as_promised s trail = record {
     participants = takes_part s so_far act;
     completes = complete_by_the_way s so_far act;
     fails = fails_for_cause s so_far act;
+    code = fails_by_code s so_far act;
+    full = writes_fail_for_slots s so_far act;
     sets = keeps_rows s so_far act;
     images = images_go_for_cause s so_far act;
     evicted = tells_evicted s so_far act;
+    kept = finds_the_kept s so_far act;
     done = is_done s so_far act;
     contents = contents_change s so_far act;
     clock = clock_moves s so_far act;
     calls = calls_are_owned s so_far act;
-    accepts = accepts_owner s so_far act;
+    accepts = accepts_in_order s so_far act;
     refuses = refusals_change_nothing s so_far act;
     answers = answers_say s so_far act;
     replies = replies_tell s so_far act;
     properties = properties_tell s so_far act;
     awaits = await_tells s so_far act;
-    rows = rows_tell s so_far act;
-    tells = tells_failure s so_far act;
+    rows = rows_change s so_far act;
     loses = loses_the_late s so_far act;
   };
-  each_state = λ so_far rest e. record { waits = waits_are_few s so_far; due = waits_are_due s so_far; quiet = stands_quiet s so_far; frozen = frozen_do_not_write s so_far; chosen = chosen_take_part s so_far; volumes = volumes_are_distinct s so_far; idles = idles_shortest s so_far; limits = stands_within_limits s so_far; numbers = has_its_numbers s so_far; orders = orders_end s so_far; completing = completes_unfailed s so_far; backups = backups_end s so_far; slots = slots_suffice s so_far; copies = copies_hold s so_far };
+  each_state = λ so_far rest e. record { waits = waits_are_few s so_far; due = waits_are_due s so_far; quiet = stands_quiet s so_far; frozen = frozen_do_not_write s so_far; context = has_its_context s so_far; chosen = chosen_take_part s so_far; asks = asks_its_own s so_far; volumes = volumes_are_distinct s so_far; idles = idles_shortest s so_far; limits = stands_within_limits s so_far; numbers = has_its_numbers s so_far; orders = orders_end s so_far; completing = completes_unfailed s so_far; backups = backups_end s so_far; slots = slots_suffice s so_far; copies = copies_hold s so_far };
 }

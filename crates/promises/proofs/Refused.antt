@@ -1,5 +1,5 @@
 -- A refusal changes nothing, and neither does a line that only looks.
-use Rattle.std.proofs.Common.{◌≡◌, ◌∙◌, ℕ, List, [], ◌∷◌, ◌++◌, Option, Some, None, refl, Bool, true, false, sym, subst}
+use Rattle.std.proofs.Common.{◌≡◌, ◌∙◌, ℕ, List, Option, Some, None, refl, Bool, true, false}
 use Rattle.std.specs.Prelude.{if◌then◌else◌}
 use Rattle.write_history.specs.declared.mark.Mark.{Mark}
 use Rattle.write_history.specs.declared.mark.Mark.TheVariants.{Clean, Fault, FaultAfter}
@@ -11,7 +11,7 @@ use Rattle.set_agenda.specs.Agenda.{open_group, next_volume}
 use Rattle.scenario.specs.Plan.{Plan}
 use Rattle.vss_model.specs.declared.event.Event.{Event}
 use Rattle.vss_model.specs.State.{State, Kept, in_progress, left_now}
-use Rattle.vss_model.specs.Images.{Replied, reply_of_mark, write, reverted_as}
+use Rattle.vss_model.specs.Images.{Replied, write, reverted_as}
 use Rattle.vss_model.specs.Sessions.{has_no_volume}
 use Rattle.vss_model.specs.Acts.{Act, enabled, order_of_writer, answer_reply, step_reply, reply, after, state}
 use Rattle.promises.specs.Refused.{leaves_all, RefusalsChangeNothing}
@@ -52,7 +52,7 @@ module _ (s : Plan) (st : State) where
     deletes_set = λ lane n c mark e f. absurd cc;
     deletes_image = λ lane n v k mark e f. absurd cc;
     ticks = λ lane n mark e. absurd cc;
-    begins = λ lane n all c mark e f. absurd cc;
+    begins = λ lane n all c mark e ctx f. absurd cc;
     disables = λ lane w q mark g e. absurd cc;
     gathers = λ lane q mark g e. absurd cc;
     names = λ lane w full q explicit mark g named e. absurd cc;

@@ -4,7 +4,7 @@ use Rattle.std.specs.Prelude.{◌&&◌, ◌||◌, is_some, if◌then◌else◌}
 use Rattle.std.specs.List.{range_with_len}
 use Rattle.write_history.specs.declared.mark.Mark.{Mark}
 use Rattle.write_history.specs.declared.mark.Mark.TheVariants.{Clean}
-use Rattle.write_history.specs.History.{Image, content, point_in, sets_of}
+use Rattle.write_history.specs.History.{Image, AreLater, AreInTime, content, point_in, sets_of}
 use Rattle.set_agenda.specs.Agenda.{is_among}
 use Rattle.scenario.specs.declared.op.Op.{Op}
 use Rattle.scenario.specs.declared.op.Op.TheVariants.{Read, ImageDigest, ImageBlock, Query}
@@ -18,7 +18,8 @@ use Rattle.vss_model.specs.Acts.{Act, happens, reply, state}
 use Rattle.vss_model.specs.Headline.{ReadsAsAtTheCut}
 use Rattle.vss_model.proofs.Headline.{keeps_promises}
 use Rattle.promises.specs.Contents.{block_now}
-use Rattle.promises.specs.Replies.{TellsTheCut, RepliesTell}
+use Rattle.vss_model.proofs.OneCut.{images_in_time}
+use Rattle.promises.specs.Replies.{IsBelow, AreRising, TellsTheCut, RepliesTell}
 
 -- ## the point of a kept image
 
@@ -46,6 +47,22 @@ map_along f g e [] = refl
 map_along f g e (n ∷ ns) = ap (λ x. x ∷ map f ns) (e n) ∙ ap (λ xs. g n ∷ xs) (map_along f g e ns)
 
 -- ## the sets that are listed
+
+below_listed : (test : Image → Bool) (i : Image) (images : List Image) → AreLater i images → IsBelow i.set (sets_of (filter test images))
+below_listed test i [] h = tt
+below_listed test i (j ∷ images) h = by_test (test j) (below_listed test i images h.2)
+  where
+    by_test : (b : Bool) → IsBelow i.set (sets_of (filter test images)) → IsBelow i.set (sets_of (if b then j ∷ filter test images else filter test images))
+    by_test true ih = (h.0, ih)
+    by_test false ih = ih
+
+rising_listed : (test : Image → Bool) (most : ℕ) (images : List Image) → AreInTime most images → AreRising (sets_of (filter test images))
+rising_listed test most [] h = tt
+rising_listed test most (i ∷ images) h = by_test (test i) (below_listed test i images h.1) (rising_listed test most images h.2)
+  where
+    by_test : (b : Bool) → IsBelow i.set (sets_of (filter test images)) → AreRising (sets_of (filter test images)) → AreRising (sets_of (if b then i ∷ filter test images else filter test images))
+    by_test true below ih = (below, ih)
+    by_test false below ih = ih
 
 listed : (st : State) (n : ℕ) (images : List Image) → is_among n (sets_of (filter (λ i. is_kept_set st i.set) images)) ≡ (is_kept_set st n && is_some (point_in n images))
 listed st n [] = none (is_kept_set st n)
@@ -122,5 +139,6 @@ replies_tell s so_far act =
         sets = sets_of (kept st (history_of st v));
         tells = told s so_far act lane (Query v) act.mark e refl;
         exactly = λ n. listed st n (history_of st v).images;
+        in_order = rising_listed (λ i. is_kept_set st i.set) _ (history_of st v).images (images_in_time s so_far v);
       };
     }

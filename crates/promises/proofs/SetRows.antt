@@ -1,5 +1,5 @@
 -- The rows of sets go on: no act loses one, and one that is over stays as it is.
-use Rattle.std.proofs.Common.{◌≡◌, ◌∙◌, ℕ, ◌+◌, ◌==◌, ◌<◌, ◌≤◌, List, [], ◌∷◌, ◌++◌, Option, Some, None, refl, Bool, true, false, ap, sym, subst, map, find, fold, arith}
+use Rattle.std.proofs.Common.{◌≡◌, ◌∙◌, ℕ, ◌+◌, ◌==◌, ◌<◌, ◌≤◌, List, [], ◌∷◌, ◌++◌, Option, Some, None, refl, Bool, true, false, ap, sym, subst, map, find, arith}
 use Rattle.std.specs.Prelude.{◌||◌, if◌then◌else◌}
 use Rattle.std.proofs.lemmas.List.{append_assoc}
 use Rattle.std.proofs.lemmas.List.Folds.{list_any-append}
@@ -18,7 +18,7 @@ use Rattle.set_agenda.specs.Course.{Course, answered as course_answered, stepped
 use Rattle.requestor.specs.Session.{Session}
 use Rattle.scenario.specs.Plan.{Plan}
 use Rattle.vss_model.specs.declared.event.Event.{Event}
-use Rattle.vss_model.specs.State.{State, SetRow, Kept, is_running, in_progress, row_changed, row_of, left_now}
+use Rattle.vss_model.specs.State.{State, SetRow, Kept, is_running, in_progress, row_changed, left_now}
 use Rattle.vss_model.specs.Ending.{Ending, NothingEnds, AgendaEnds, SetFails, ending, row_settled, concluded, followed, runs, failed_in, failed}
 use Rattle.vss_model.specs.Images.{Replied, cleared, set_loses_image, with_room_if, put, write, reverted_as}
 use Rattle.vss_model.specs.Sessions.{new_set, new_number, with_volume, has_no_volume, closed}
@@ -236,7 +236,7 @@ module _ (s : Plan) (st : State) (num : NumberedFrom 1 st.sets) where
     deletes_set = λ lane n c mark e. go_on_same st.sets;
     deletes_image = λ lane n v k mark e. go_on_same st.sets;
     ticks = λ lane n mark. in_ticks n;
-    begins = λ lane n all c mark e. go_on_same st.sets;
+    begins = λ lane n all c mark e ctx. go_on_same st.sets;
     disables = λ lane w q mark g. go_on_same st.sets;
     gathers = λ lane q mark g. in_followed true _ st (go_on_same st.sets);
     names = λ lane w full q explicit mark g named. go_on_same st.sets;

@@ -222,7 +222,7 @@ module _ (s : Plan) (st : State) (num : NumberedFrom 1 st.sets) (h : AllDistinct
     deletes_set = λ lane n c mark e. h;
     deletes_image = λ lane n v k mark e. h;
     ticks = λ lane n mark. in_ticks n;
-    begins = λ lane n all c mark e. h;
+    begins = λ lane n all c mark e ctx. h;
     disables = λ lane w q mark g. h;
     gathers = λ lane q mark g. in_followed true _ st h;
     names = λ lane w full q explicit mark g named. h;

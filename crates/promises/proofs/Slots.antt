@@ -1,5 +1,5 @@
 -- Images never use more slots than their group has: of each change of the volumes, that it leaves it so.
-use Rattle.std.proofs.Common.{◌≡◌, ◌∙◌, ℕ, ◌+◌, ◌==◌, ◌≤◌, ◌<◌, List, [], ◌∷◌, ◌++◌, Option, Some, None, refl, Bool, true, false, ap, sym, subst, map, fold, length, arith}
+use Rattle.std.proofs.Common.{◌≡◌, ◌∙◌, ℕ, ◌+◌, ◌==◌, ◌≤◌, ◌<◌, suc, List, [], ◌∷◌, ◌++◌, Option, Some, None, refl, Bool, true, false, ap, sym, subst, map, fold, length, arith}
 use Rattle.std.specs.Prelude.{if◌then◌else◌, slice_get, option_map}
 use Rattle.std.proofs.lemmas.Option.{slice_get_within, get_or_from_slice_get, slice_get-map}
 use Rattle.vss_names.specs.declared.vss_result.VssResult.{VssResult}
@@ -7,8 +7,8 @@ use Rattle.vss_names.specs.declared.vss_result.VssResult.TheVariants.{Insufficie
 use Rattle.writer_state.specs.declared.said.Said.{Said}
 use Rattle.write_history.specs.declared.mark.Mark.{Mark}
 use Rattle.write_history.specs.declared.mark.Mark.TheVariants.{Clean, Fault, FaultAfter}
-use Rattle.write_history.specs.History.{Write, History, fresh, point_in, written, reverted, reverted_in_part, AreInTime}
-use Rattle.write_history.specs.Slots.{Placed, group_used, used, needs_slot}
+use Rattle.write_history.specs.History.{Write, Image, History, fresh, point_in, written, reverted, reverted_in_part, AreInTime}
+use Rattle.write_history.specs.Slots.{Placed, Copy, named, copy_of, copies_of, copies_from, group_used, used, needs_slot}
 use Rattle.writer_calls.specs.Script.{said_of}
 use Rattle.set_agenda.specs.declared.group.Group.{Group}
 use Rattle.set_agenda.specs.declared.group.Group.TheVariants.{Orders, PreCommit, Flush, Hold, Cut, Commit, Release, PostCommit}
@@ -253,7 +253,7 @@ module _ (s : Plan) (plan : IsPlan s) (st : State) (time : (v : ℕ) → AreInTi
       deletes_set = λ lane n c mark e. by_less _ (less_in_map n st.volumes);
       deletes_image = λ lane n v k mark e. by_less _ (less_in_change k.row.number v st.volumes);
       ticks = λ lane n mark. fit_tick n;
-      begins = λ lane n all c mark e. fit;
+      begins = λ lane n all c mark e ctx. fit;
       disables = λ lane w q mark g. fit;
       gathers = λ lane q mark g. by_less _ (less_followed true _ st);
       names = λ lane w full q explicit mark g named. fit;
@@ -296,8 +296,45 @@ none_yet (p ∷ ps) (r ∷ rows) = by_group p.within (none_yet ps rows)
     by_group true e = ap (λ n. 0 + n) e
     by_group false e = ap (λ n. 0 + n) e
 
+-- ## as many slots as copies
+
+joined : (xs ys : List Copy) → length (xs ++ ys) ≡ length xs + length ys
+joined [] ys = none_more (length ys)
+  where
+    none_more : (n : ℕ) → n ≡ 0 + n
+    none_more n = omega arith
+joined (x ∷ xs) ys = ap suc (joined xs ys) ∙ one_more (length xs) (length ys)
+  where
+    one_more : (a b : ℕ) → suc (a + b) ≡ suc a + b
+    one_more a b = omega arith
+
+as_long : (f : ℕ → Copy) (xs : List ℕ) → length (map f xs) ≡ length xs
+as_long f [] = refl
+as_long f (x ∷ xs) = ap suc (as_long f xs)
+
+copies_of_are : (v n : ℕ) (ws : List Write) (images : List Image) → length (copies_of v n ws images) ≡ used n ws images
+copies_of_are v n ws [] = refl
+copies_of_are v n ws (i ∷ newer) =
+    joined (map (copy_of v ws i) (named n ws i newer)) (copies_of v n ws newer) ∙ ap (λ k. k + length (copies_of v n ws newer)) (as_long (copy_of v ws i) (named n ws i newer))
+    ∙ ap (λ k. length (named n ws i newer) + k) (copies_of_are v n ws newer)
+
+copies_are : (v : ℕ) (ps : List Placed) (hs : List History) → length (copies_from v ps hs) ≡ group_used ps hs
+copies_are v [] hs = refl
+copies_are v (p ∷ ps) [] = refl
+copies_are v (p ∷ ps) (h ∷ hs) = by_group p.within (copies_of_are v p.blocks h.writes h.images) (copies_are (v + 1) ps hs) (copies_are v ps hs)
+  where
+    none_more : (n : ℕ) → n ≡ 0 + n
+    none_more n = omega arith
+
+    by_group : (b : Bool) → length (copies_of v p.blocks h.writes h.images) ≡ used p.blocks h.writes h.images → length (copies_from (v + 1) ps hs) ≡ group_used ps hs → length (copies_from v ps hs) ≡ group_used ps hs
+        → length (if b then copies_of v p.blocks h.writes h.images ++ copies_from (v + 1) ps hs else copies_from v ps hs) ≡ (if b then used p.blocks h.writes h.images else 0) + group_used ps hs
+    by_group true e f g = joined (copies_of v p.blocks h.writes h.images) (copies_from (v + 1) ps hs) ∙ ap (λ k. k + length (copies_from (v + 1) ps hs)) e ∙ ap (λ k. used p.blocks h.writes h.images + k) f
+    by_group false e f g = g ∙ none_more (group_used ps hs)
+
 pub slots_suffice : (s : Plan) (so_far : List Act) → SlotsSuffice s so_far
-slots_suffice s so_far plan = fit_from s plan [] so_far (λ v. none_used (group_used (group_of s v) (map (λ _. fresh) s.volumes)) (slots_of s v) (none_yet (group_of s v) s.volumes))
+slots_suffice s so_far plan v =
+    subst (λ n. n ≤ slots_of s v) (sym (copies_are 0 (group_of s v) (state s so_far).volumes))
+    (fit_from s plan [] so_far (λ u. none_used (group_used (group_of s u) (map (λ _. fresh) s.volumes)) (slots_of s u) (none_yet (group_of s u) s.volumes)) v)
   where
     none_used : (m n : ℕ) → m ≡ 0 → m ≤ n
     none_used m n e = omega arith

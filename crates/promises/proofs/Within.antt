@@ -311,7 +311,7 @@ module _ (s : Plan) (st : State) (h : InTimeNow st) where
     deletes_set = λ lane n c mark e. h;
     deletes_image = λ lane n v k mark e. h;
     ticks = λ lane n mark. on_tick n;
-    begins = λ lane n all c mark e. h;
+    begins = λ lane n all c mark e ctx. h;
     disables = λ lane w q mark g. h;
     gathers = λ lane q mark g. followed_in_time true _ st (keeps_begun _ _ _ st.clock _);
     names = λ lane w full q explicit mark g named. h;

@@ -1,62 +1,106 @@
--- In its stage and below its maxima the owner's call is accepted: `disable` and `gather` before the writers are gathered; `component` after
--- that, until `prepare`; `start` once they are gathered, or at once in a context without writers; `add` of a volume that is not in the set yet,
--- while the set has fewer than 64 volumes and the volume fewer than 512 images; `prepare` and `snapshot` of a set that has a volume, in this
--- order; `complete` after the set; `abort` while the set is in progress; `document`, `status` and `end`. (The calls are those of the SDK's
--- IVssBackupComponents; stages and maxima are this project's own.)
-use Rattle.std.specs.Prelude.{ℕ, ◌≡◌, ◌+◌, ◌<◌, ◌⊎◌, true, false, List, Some, length}
+-- Which calls are accepted: exactly those of the session's owner that come in their order while no agenda runs, below their maxima. A
+-- set has at most 64 volumes, none twice, and a volume at most 512 images; `prepare` and `snapshot` want a set with a volume; and a
+-- component is named once, if its writer is known and it can be selected. `begin` is accepted where there is no session, of a context that
+-- there is; `abort` while a set is in progress; `status` and `end` always. (Order and maxima are this project's own, but for 64 and 512,
+-- which are the SDK's.)
+use Rattle.std.specs.Prelude.{ℕ, ◌≡◌, ◌+◌, ◌==◌, ◌&&◌, ◌||◌, not, nat_lt, if◌then◌else◌, Bool, true, false, List, [], ◌∷◌, Option, Some, None, length, slice_get, is_some, is_none}
+use Rattle.std.specs.Str.{bytes_eq}
 use Rattle.vss_names.specs.declared.vss_result.VssResult.TheVariants.{AsyncPending}
+use Rattle.writer_meta.specs.Metadata.{Part, Meta, full_name}
 use Rattle.set_agenda.specs.Agenda.{is_among}
-use Rattle.component_doc.specs.Selection.{Pair, Names, naming}
-use Rattle.requestor.specs.declared.mode.Mode.TheVariants.{Components}
-use Rattle.requestor.specs.declared.stage.Stage.TheVariants.{Opened, Gathered, Started, Prepared, Done}
-use Rattle.requestor.specs.Session.{Session, has_writers}
-use Rattle.scenario.specs.declared.op.Op.TheVariants.{Disable, Gather, Component, Document, Start, Add, Prepare, Snapshot, Status, Complete, Abort, End}
-use Rattle.scenario.specs.declared.span.Span.{Span}
+use Rattle.component_doc.specs.Selection.{Pair, has_pair}
+use Rattle.requestor.specs.Session.{Session}
+use Rattle.scenario.specs.declared.op.Op.{Op}
+use Rattle.scenario.specs.declared.op.Op.TheVariants.{Begin, Disable, Gather, Component, Document, Start, Add, Prepare, Snapshot, Status, Complete, Abort, End}
 use Rattle.scenario.specs.Plan.{Plan, token}
 use Rattle.vss_model.specs.declared.event.Event.TheVariants.{Line}
-use Rattle.vss_model.specs.Reply.{Reply, Fine, Coded, Numbered, DocumentOf, StatusOf}
+use Rattle.vss_model.specs.Reply.{Reply, Fine, Numbered, Coded, DocumentOf, StatusOf}
 use Rattle.vss_model.specs.State.{State, SetRow, in_progress, history_of}
 use Rattle.vss_model.specs.Ending.{runs}
 use Rattle.vss_model.specs.Sessions.{known_metas}
+use Rattle.vss_model.specs.Causes.{owns}
 use Rattle.vss_model.specs.Acts.{Act, reply, state}
+use Rattle.promises.specs.InOrder.{Progress, progress, comes_now}
+use Rattle.promises.specs.Participants.{is_fine}
+use Rattle.promises.specs.Way.{is_pending_code}
 
 -- the lane owns the session q
 pub record Owns (st : State) (lane : ℕ) (q : Session) : Type 0 where
   pub stands : st.session ≡ Some q
   pub owner : q.owner ≡ lane
 
--- and no agenda runs
-pub record MayCall (st : State) (lane : ℕ) (q : Session) : Type 0 where
-  pub own : Owns st lane q
-  pub idle : runs st ≡ false
+-- the calls that come in an order
+abbrev pub is_ordered : Op → Bool
+is_ordered (Disable w) = true
+is_ordered Gather = true
+is_ordered (Component w full) = true
+is_ordered Document = true
+is_ordered Start = true
+is_ordered (Add v) = true
+is_ordered Prepare = true
+is_ordered Snapshot = true
+is_ordered Complete = true
+is_ordered _ = false
 
--- the set in progress, and a volume of it
-pub record HasVolume (st : State) : Type 0 where
-  pub set : SetRow
-  pub is : in_progress st ≡ Some set
-  pub volume : ℕ
-  pub among : is_among volume set.volumes ≡ true
+abbrev pub is_accepted : Reply → Bool
+is_accepted Fine = true
+is_accepted (Numbered n) = true
+is_accepted (Coded why) = is_pending_code why
+is_accepted (DocumentOf bytes) = true
+is_accepted _ = false
 
-pub record IsDocument (told : Reply) : Type 0 where
-  pub bytes : List ℕ
-  pub is : told ≡ DocumentOf bytes
+-- ## what a call wants beside its order
 
-pub record AcceptsOwner (s : Plan) (so_far : List Act) (act : Act) : Type 0 where
-  pub disables : (lane w : ℕ) (q : Session) → act.event ≡ Line lane (Disable w) → MayCall (state s so_far) lane q → has_writers q.context ≡ true → q.stage ≡ Opened → reply s (state s so_far) act ≡ Fine
-  pub gathers : (lane : ℕ) (q : Session) → act.event ≡ Line lane Gather → MayCall (state s so_far) lane q → has_writers q.context ≡ true → q.stage ≡ Opened → reply s (state s so_far) act ≡ Coded AsyncPending
-  -- a component that the session knows, that is selectable, and that it has not named yet
-  pub names : (lane w : ℕ) (full : Span) (q : Session) (explicit : List Pair) → act.event ≡ Line lane (Component w full) → MayCall (state s so_far) lane q → has_writers q.context ≡ true
-      → (q.stage ≡ Gathered) ⊎ (q.stage ≡ Started) → q.mode ≡ Components → naming (known_metas s (state s so_far)) w (token s full) (state s so_far).explicit ≡ Names explicit → reply s (state s so_far) act ≡ Fine
-  pub starts : (lane : ℕ) (q : Session) → act.event ≡ Line lane Start → MayCall (state s so_far) lane q
-      → ((has_writers q.context ≡ true) × (q.stage ≡ Gathered)) ⊎ ((has_writers q.context ≡ false) × (q.stage ≡ Opened)) → reply s (state s so_far) act ≡ Numbered (length (state s so_far).sets + 1)
-  pub adds : (lane v : ℕ) (q : Session) (r : SetRow) → act.event ≡ Line lane (Add v) → MayCall (state s so_far) lane q → q.stage ≡ Started → in_progress (state s so_far) ≡ Some r
-      → is_among v r.volumes ≡ false → length r.volumes < 64 → length (history_of (state s so_far) v).images < 512 → reply s (state s so_far) act ≡ Fine
-  pub prepares : (lane : ℕ) (q : Session) → act.event ≡ Line lane Prepare → MayCall (state s so_far) lane q → has_writers q.context ≡ true → q.stage ≡ Started → HasVolume (state s so_far) → reply s (state s so_far) act ≡ Coded AsyncPending
-  pub snapshots : (lane : ℕ) (q : Session) → act.event ≡ Line lane Snapshot → MayCall (state s so_far) lane q
-      → ((has_writers q.context ≡ true) × (q.stage ≡ Prepared)) ⊎ ((has_writers q.context ≡ false) × (q.stage ≡ Started)) → HasVolume (state s so_far) → reply s (state s so_far) act ≡ Coded AsyncPending
-  pub completes : (lane : ℕ) (q : Session) → act.event ≡ Line lane Complete → MayCall (state s so_far) lane q → has_writers q.context ≡ true → q.stage ≡ Done → reply s (state s so_far) act ≡ Coded AsyncPending
-  pub documents : (lane : ℕ) (q : Session) → act.event ≡ Line lane Document → MayCall (state s so_far) lane q → has_writers q.context ≡ true → (q.stage ≡ Opened → ⊥) → IsDocument (reply s (state s so_far) act)
-  -- also while an agenda runs
-  pub aborts : (lane : ℕ) (q : Session) (r : SetRow) → act.event ≡ Line lane Abort → Owns (state s so_far) lane q → in_progress (state s so_far) ≡ Some r → reply s (state s so_far) act ≡ Fine
-  pub tells_rows : (lane : ℕ) (q : Session) → act.event ≡ Line lane Status → Owns (state s so_far) lane q → reply s (state s so_far) act ≡ StatusOf (state s so_far).course.rows
-  pub ends : (lane : ℕ) (q : Session) → act.event ≡ Line lane End → Owns (state s so_far) lane q → reply s (state s so_far) act ≡ Fine
+-- of a writer's components from place i on, the first of this full name can be selected and is not named yet
+abbrev pub can_name_in : ℕ → List Pair → List ℕ → ℕ → List Part → Bool
+can_name_in w named name i [] = false
+can_name_in w named name i (p ∷ ps) = if bytes_eq (full_name p) name then p.selectable && not (has_pair named w i) else can_name_in w named name (i + 1) ps
+
+-- if its metadata are known
+abbrev pub can_name : ℕ → List Pair → List ℕ → Option (Option Meta) → Bool
+can_name w named name None = false
+can_name w named name (Some None) = false
+can_name w named name (Some (Some m)) = can_name_in w named name 0 m.parts
+
+-- a set that a volume with so many images goes into
+abbrev pub has_place : ℕ → ℕ → Option SetRow → Bool
+has_place v images None = false
+has_place v images (Some r) = not (is_among v r.volumes) && nat_lt (length r.volumes) 64 && nat_lt images 512
+
+abbrev pub has_volume : Option SetRow → Bool
+has_volume None = false
+has_volume (Some r) = nat_lt 0 (length r.volumes)
+
+abbrev pub has_its_wants : Plan → State → Progress → Op → Bool
+has_its_wants s st p (Component w full) = not p.all && can_name w st.explicit (token s full) (slice_get (known_metas s st) w)
+has_its_wants s st p (Add v) = has_place v (length (history_of st v).images) (in_progress st)
+has_its_wants s st p Prepare = has_volume (in_progress st)
+has_its_wants s st p Snapshot = has_volume (in_progress st)
+has_its_wants s st p _ = true
+
+-- ## accepted
+
+-- what an accepted call is answered
+abbrev pub IsAccepting : State → Op → Reply → Type 0
+IsAccepting st Gather told = told ≡ Coded AsyncPending
+IsAccepting st Prepare told = told ≡ Coded AsyncPending
+IsAccepting st Snapshot told = told ≡ Coded AsyncPending
+IsAccepting st Complete told = told ≡ Coded AsyncPending
+IsAccepting st Start told = told ≡ Numbered (length st.sets + 1)
+IsAccepting st Document told = (bytes : List ℕ) × (told ≡ DocumentOf bytes)
+IsAccepting st _ told = told ≡ Fine
+
+-- contexts 0, 9 and 25 are there; 25 has no writers, and so no components to take all of
+abbrev pub is_context : ℕ → Bool → Bool
+is_context n all = (n == 0) || (n == 9) || ((n == 25) && not all)
+
+pub record AcceptsInOrder (s : Plan) (so_far : List Act) (act : Act) : Type 0 where
+  -- an ordered call is accepted just where it may come
+  pub ordered : (lane : ℕ) (op : Op) → act.event ≡ Line lane op → is_ordered op ≡ true
+      → is_accepted (reply s (state s so_far) act)
+      ≡ (owns (state s so_far).session lane && (not (runs (state s so_far)) && (comes_now (progress s so_far) op && has_its_wants s (state s so_far) (progress s so_far) op)))
+  pub told : (lane : ℕ) (op : Op) → act.event ≡ Line lane op → is_ordered op ≡ true → is_accepted (reply s (state s so_far) act) ≡ true → IsAccepting (state s so_far) op (reply s (state s so_far) act)
+  pub begins : (lane n : ℕ) (all : Bool) → act.event ≡ Line lane (Begin n all) → is_fine (reply s (state s so_far) act) ≡ (is_none (state s so_far).session && is_context n all)
+  pub aborts : (lane : ℕ) → act.event ≡ Line lane Abort → is_fine (reply s (state s so_far) act) ≡ (owns (state s so_far).session lane && is_some (in_progress (state s so_far)))
+  pub tells_rows : (lane : ℕ) → act.event ≡ Line lane Status → owns (state s so_far).session lane ≡ true → reply s (state s so_far) act ≡ StatusOf (state s so_far).course.rows
+  pub ends : (lane : ℕ) → act.event ≡ Line lane End → is_fine (reply s (state s so_far) act) ≡ owns (state s so_far).session lane

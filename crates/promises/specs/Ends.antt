@@ -1,7 +1,7 @@
 -- How sets go on and end. A set that was started keeps its row, whatever comes; at the end of a complete trail it is complete or has
 -- failed; and where nothing disturbs it while it is in progress, it is complete. (That a set which nobody refuses and nothing stops
 -- completes is what the SDK's DoSnapshotSet is called for; what counts as a disturbance is this project's own.)
-use Rattle.std.specs.Prelude.{ℕ, ◌≡◌, Bool, true, false, List, [], ◌∷◌, ◌++◌, Some}
+use Rattle.std.specs.Prelude.{ℕ, ◌≡◌, Bool, true, false, List, ◌∷◌, ◌++◌, Some}
 use Rattle.write_history.specs.declared.move_item.Move.{Move}
 use Rattle.writer_calls.specs.declared.answer.Answer.{Answer}
 use Rattle.set_agenda.specs.Agenda.{is_among, open_group}
@@ -14,7 +14,8 @@ use Rattle.vss_model.specs.State.{State, SetRow, is_running, is_complete, in_pro
 use Rattle.vss_model.specs.Acts.{Act, after, order_of_writer, state}
 use Rattle.vss_model.specs.Effects.{ticks_of}
 use Rattle.vss_model.specs.Trail.{acts}
-use Rattle.vss_model.specs.Causes.{is_refused, is_late, is_flush_step, is_fault, loses_own_image, owns}
+use Rattle.vss_model.specs.Causes.{is_refused, is_late, is_flush_step, is_fault, owns}
+use Rattle.promises.specs.Failing.{HasNoSlot}
 
 -- ## rows
 
@@ -60,7 +61,7 @@ pub record IsCalm (s : Plan) (st : State) (act : Act) : Type 0 where
   pub agrees : (w : ℕ) (answer : Answer) → act.event ≡ AnswerEvent w answer → is_refused (order_of_writer st w) answer ≡ false
   pub in_time : (ticks : ℕ) → ticks_of st act.event ≡ Some ticks → is_late st ticks ≡ false
   pub flushes : act.event ≡ Provider → is_flush_step (open_group (left_now st)) ≡ true → is_fault act.mark ≡ false
-  pub has_slots : (lane : ℕ) (op : Op) (t : Target) → act.event ≡ Line lane op → target_of op ≡ Some t → loses_own_image s st t.volume t.block ≡ false
+  pub has_slots : (lane : ℕ) (op : Op) (t : Target) (r : SetRow) → act.event ≡ Line lane op → target_of op ≡ Some t → in_progress st ≡ Some r → HasNoSlot s st r.number t.volume t.block → ⊥
   pub goes_on : (lane : ℕ) (op : Op) → act.event ≡ Line lane op → gives_up op ≡ true → owns st.session lane ≡ false
 
 -- each of these acts that comes while set n is in progress is calm

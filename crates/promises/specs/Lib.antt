@@ -1,6 +1,7 @@
 pub mod Way
 pub mod Gone
 pub mod Done
+pub mod Kept
 pub mod Failing
 pub mod Contents
 pub mod Clock
@@ -18,13 +19,15 @@ pub mod Rows
 pub mod ContextZero
 pub mod Slots
 pub mod Completing
-pub mod Telling
 pub mod Copies
+pub mod InOrder
 pub mod Accepted
 pub mod Participants
 pub mod Lost
+pub mod Asked
 pub mod Evicted
 pub mod Properties
 pub mod Awaited
+pub mod Codes
 pub mod Promises
 pub mod Headline

@@ -1,6 +1,6 @@
 -- Replies tell what stands: `read` a block of the volume as it is, `image` one, or all, as they were at the set's one cut, and
 -- `query` exactly the sets that are complete and whose image stands. (The forms of the replies are this project's own.)
-use Rattle.std.specs.Prelude.{ℕ, ◌≡◌, ◌&&◌, true, List, map, Some, None, is_some}
+use Rattle.std.specs.Prelude.{ℕ, ◌≡◌, ◌<◌, ◌&&◌, true, List, [], ◌∷◌, map, Some, None, is_some}
 use Rattle.std.specs.List.{range_with_len}
 use Rattle.vss_names.specs.declared.vss_result.VssResult.TheVariants.{ObjectNotFound}
 use Rattle.write_history.specs.declared.mark.Mark.TheVariants.{Clean}
@@ -21,11 +21,22 @@ pub record TellsTheCut (s : Plan) (so_far : List Act) (n : ℕ) (told : Reply) (
   pub is_cut : cut s n so_far ≡ Some before
   pub tells : told ≡ answer before
 
--- exactly the complete sets whose image stands on volume v
+-- n is less than each of these
+abbrev pub IsBelow : ℕ → List ℕ → Type 0
+IsBelow n [] = Unit {0}
+IsBelow n (m ∷ ms) = (n < m) × IsBelow n ms
+
+-- each is less than those behind it
+abbrev pub AreRising : List ℕ → Type 0
+AreRising [] = Unit {0}
+AreRising (n ∷ ns) = IsBelow n ns × AreRising ns
+
+-- exactly the complete sets whose image stands on volume v, each once, the oldest first
 pub record ListsKept (s : Plan) (so_far : List Act) (v : ℕ) (told : Reply) : Type 0 where
   pub sets : List ℕ
   pub tells : told ≡ KeptSets sets
   pub exactly : (n : ℕ) → is_among n sets ≡ (is_kept_set (state s so_far) n && stands (state s so_far) n v)
+  pub in_order : AreRising sets
 
 -- where no device fails
 pub record RepliesTell (s : Plan) (so_far : List Act) (act : Act) : Type 0 where

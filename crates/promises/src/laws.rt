@@ -6,11 +6,13 @@ ghost use Rattle.scenario.specs.Plan.{Plan};
 ghost use Rattle.scenario.specs.Bounds.{IsPlan};
 ghost use Rattle.vss_model.specs.Acts.{Act};
 ghost use Rattle.vss_model.specs.Trail.{is_legal, is_complete};
-ghost use Rattle.promises.specs.Accepted.{AcceptsOwner};
+ghost use Rattle.promises.specs.Accepted.{AcceptsInOrder};
 ghost use Rattle.promises.specs.Answers.{AnswersSay};
+ghost use Rattle.promises.specs.Asked.{AsksItsOwn};
 ghost use Rattle.promises.specs.Awaited.{AwaitTells};
 ghost use Rattle.promises.specs.Calls.{CallsAreOwned, WaitsAreFew, WaitsAreDue, StandsQuiet, FrozenDoNotWrite};
 ghost use Rattle.promises.specs.Clock.{ClockMoves};
+ghost use Rattle.promises.specs.Codes.{FailsByCode};
 ghost use Rattle.promises.specs.Completing.{CompletesUnfailed};
 ghost use Rattle.promises.specs.Contents.{ContentsChange};
 ghost use Rattle.promises.specs.ContextZero.{BackupsEnd};
@@ -18,10 +20,12 @@ ghost use Rattle.promises.specs.Copies.{CopiesHold};
 ghost use Rattle.promises.specs.Done.{IsDone};
 ghost use Rattle.promises.specs.Ends.{KeepsRows, EndsEachSet, CompletesWhereCalm};
 ghost use Rattle.promises.specs.Evicted.{TellsEvicted};
-ghost use Rattle.promises.specs.Failing.{FailsForCause};
+ghost use Rattle.promises.specs.Failing.{FailsForCause, WritesFailForSlots};
 ghost use Rattle.promises.specs.Gone.{ImagesGoForCause};
 ghost use Rattle.promises.specs.Headline.{Headline};
 ghost use Rattle.promises.specs.Idle.{IdlesShortest};
+ghost use Rattle.promises.specs.InOrder.{HasItsContext};
+ghost use Rattle.promises.specs.Kept.{FindsTheKept};
 ghost use Rattle.promises.specs.Lost.{LosesTheLate};
 ghost use Rattle.promises.specs.Numbers.{HasItsNumbers};
 ghost use Rattle.promises.specs.Participants.{ChosenTakePart, TakesPart};
@@ -29,10 +33,9 @@ ghost use Rattle.promises.specs.Promises.{IsAsPromised};
 ghost use Rattle.promises.specs.Properties.{PropertiesTell};
 ghost use Rattle.promises.specs.Refused.{RefusalsChangeNothing};
 ghost use Rattle.promises.specs.Replies.{RepliesTell};
-ghost use Rattle.promises.specs.Rows.{RowsTell};
+ghost use Rattle.promises.specs.Rows.{RowsChange};
 ghost use Rattle.promises.specs.Sets.{VolumesAreDistinct};
 ghost use Rattle.promises.specs.Slots.{SlotsSuffice};
-ghost use Rattle.promises.specs.Telling.{TellsFailure};
 ghost use Rattle.promises.specs.Unanswered.{OrdersEnd};
 ghost use Rattle.promises.specs.Way.{CompletesByTheWay};
 ghost use Rattle.promises.specs.Within.{StandsWithinLimits};
@@ -71,7 +74,12 @@ pub fn the_chosen_take_part()
     ensures standing { (s : Plan) (so_far : List Act) → ChosenTakePart s so_far }
 {}
 
-/// The images of a group never use more slots than the group has.
+/// Identify goes to writers of no disabled class, and every other order to those that take part.
+pub fn orders_go_to_those_they_are_for()
+    ensures { (s : Plan) (so_far : List Act) → AsksItsOwn s so_far }
+{}
+
+/// An area never needs more slots than it has: there are no more copies to keep for the images of its group.
 pub fn images_fit_their_slots()
     ensures { (s : Plan) (so_far : List Act) → SlotsSuffice s so_far }
 {}
@@ -84,6 +92,16 @@ pub fn volumes_are_once_in_a_set()
 /// An act that gives a cause fails the set in progress in that act, and no other act fails it.
 pub fn sets_fail_for_cause()
     ensures { (s : Plan) (so_far : List Act) (act : Act) → FailsForCause s so_far act }
+{}
+
+/// A set fails with the code of its cause: of the veto, of a failed flush, of `abort` or `end`, of a write, or of a limit.
+pub fn sets_fail_with_the_code_of_their_cause()
+    ensures { (s : Plan) (so_far : List Act) (act : Act) → FailsByCode s so_far act }
+{}
+
+/// A write fails the set in progress exactly where it finds no slot unless the set's own image goes.
+pub fn writes_fail_sets_for_slots()
+    ensures { (s : Plan) (so_far : List Act) (act : Act) → WritesFailForSlots s so_far act }
 {}
 
 /// A set keeps its row whatever comes, with its number, its context and its volumes; and one that is over stays as it is.
@@ -101,6 +119,12 @@ pub fn each_set_ends()
 pub fn calm_sets_complete()
     ensures { (s : Plan) (trail : List Move) → IsPlan s → is_legal s trail ≡ true → is_complete s trail ≡ true
         → CompletesWhereCalm s trail }
+{}
+
+/// Lines find exactly the images that are kept; a revert is refused only for an image that is not, for one of context 0 or for a volume of
+/// the set in progress, by a code each; and a deletion only where nothing of what it names is kept.
+pub fn lines_find_what_is_kept()
+    ensures { (s : Plan) (so_far : List Act) (act : Act) → FindsTheKept s so_far act }
 {}
 
 /// After a `delete` what it names is gone, and after a revert the images of later sets on its volume are.
@@ -134,9 +158,11 @@ pub fn refusals_change_nothing()
     ensures { (s : Plan) (so_far : List Act) (act : Act) → RefusalsChangeNothing s so_far act }
 {}
 
-/// In its stage and below its maxima the owner's call is accepted.
-pub fn owners_are_accepted_in_their_stage()
-    ensures { (s : Plan) (so_far : List Act) (act : Act) → AcceptsOwner s so_far act }
+/// A call is accepted exactly where it comes in its order, below its maxima, and is the owner's; and a session has the context of its
+/// `begin`.
+pub fn calls_are_accepted_in_order()
+    ensures accepts { (s : Plan) (so_far : List Act) (act : Act) → AcceptsInOrder s so_far act }
+    ensures context { (s : Plan) (so_far : List Act) → HasItsContext s so_far }
 {}
 
 /// Only writes, `begin` and `await` wait; without a session no agenda runs; and no lane writes as a writer that stands frozen.
@@ -168,14 +194,10 @@ pub fn await_tells_the_last_result()
     ensures { (s : Plan) (so_far : List Act) (act : Act) → AwaitTells s so_far act }
 {}
 
-/// A writer's row says what it said last, in the act of its answer, or that its answer was lost.
-pub fn rows_say_what_was_said()
-    ensures { (s : Plan) (so_far : List Act) (act : Act) → RowsTell s so_far act }
-{}
-
-/// A set that fails tells each participant once that has not failed, and nobody else.
-pub fn failing_sets_tell_their_writers()
-    ensures { (s : Plan) (so_far : List Act) (act : Act) → TellsFailure s so_far act }
+/// A writer's row changes by what the writer says, or by its lost answer; by its set's failure, which each participant is told once that has
+/// not failed; by `gather` and by `end`; and by nothing else.
+pub fn rows_change_by_what_is_said()
+    ensures { (s : Plan) (so_far : List Act) (act : Act) → RowsChange s so_far act }
 {}
 
 /// Where the clock goes on, exactly those writers are told as lost that owe the answer to an order whose time is over then.

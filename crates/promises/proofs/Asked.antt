@@ -1,0 +1,340 @@
+-- Whoever has an order to answer is one whom it is for.
+use Rattle.std.proofs.Common.{◌≡◌, ◌∙◌, ℕ, ◌+◌, ◌==◌, List, [], ◌∷◌, Option, Some, None, refl, Bool, true, false, ap, sym, subst, map, filter, fold, arith}
+use Rattle.std.specs.Prelude.{◌&&◌, ◌||◌, not, is_some, if◌then◌else◌}
+use Rattle.std.specs.List.{list_any}
+use Rattle.std.proofs.lemmas.List.Folds.{list_any-append}
+use Rattle.vss_names.specs.declared.order.Order.{Order}
+use Rattle.vss_names.specs.declared.order.Order.TheVariants.{Identify, PrepareBackup, PrepareSnapshot, Freeze, Thaw, PostSnapshot, BackupComplete}
+use Rattle.vss_names.specs.declared.vss_result.VssResult.{VssResult}
+use Rattle.vss_names.specs.declared.vss_result.VssResult.TheVariants.{AsyncCancelled, InsufficientStorage}
+use Rattle.writer_state.specs.declared.said.Said.{Said}
+use Rattle.writer_state.specs.declared.writer_row.WriterRow.{WriterRow}
+use Rattle.writer_state.specs.WriterRow.{row_gathered}
+use Rattle.write_history.specs.declared.mark.Mark.{Mark}
+use Rattle.write_history.specs.declared.mark.Mark.TheVariants.{Clean, Fault, FaultAfter}
+use Rattle.write_history.specs.History.{Write}
+use Rattle.writer_calls.specs.Script.{said_of}
+use Rattle.set_agenda.specs.declared.group.Group.{Group}
+use Rattle.set_agenda.specs.declared.group.Group.TheVariants.{Orders, PreCommit, Flush, Hold, Cut, Commit, Release, PostCommit}
+use Rattle.set_agenda.specs.declared.kind.Kind.{Kind}
+use Rattle.set_agenda.specs.declared.kind.Kind.TheVariants as kind
+use Rattle.set_agenda.specs.declared.member.Member.{Member}
+use Rattle.set_agenda.specs.declared.place.Place.{Place}
+use Rattle.set_agenda.specs.Agenda.{Agenda, Open, places, has_failed, has_said, is_at, writers_at, members_of, waited_for, with_group, left_from, groups_left, left, is_among, is_orders, order_of, order_if, open_order, open_group, is_done}
+use Rattle.set_agenda.specs.Course.{Course, member_if, members_from, is_member, has_row_failed, posted, failed as course_failed, settled_if, settled, begun, released}
+use Rattle.requestor.specs.Session.{Session}
+use Rattle.scenario.specs.Plan.{Plan, class_of}
+use Rattle.vss_model.specs.declared.event.Event.{Event}
+use Rattle.vss_model.specs.State.{State, SetRow, Kept, start, in_progress, left_now}
+use Rattle.vss_model.specs.Ending.{followed, runs, failed_in, failed}
+use Rattle.vss_model.specs.Images.{Replied, cleared, set_loses_image, with_room_if, put, write, reverted_as}
+use Rattle.vss_model.specs.Sessions.{is_disabled, has_no_volume, closed}
+use Rattle.vss_model.specs.Steps.{answered, step_made, is_flush, is_failed_step, stepped_as, stepped, ticked, later}
+use Rattle.vss_model.specs.Facts.{IsAgendaOf}
+use Rattle.vss_model.specs.Acts.{Act, enabled, idle_now, after, state}
+use Rattle.vss_model.proofs.HeldOfSet.{Follows, goes_answered, goes_stepped, goes_timed}
+use Rattle.vss_model.proofs.OrderlyActs.{orderly}
+use Rattle.promises.specs.Asked.{IsFor, AsksItsOwn}
+use Rattle.promises.specs.Participants.{choosing}
+use Rattle.promises.proofs.BusyAgendas.{course_followed}
+use Rattle.promises.proofs.ByEvent.{Covers, covered, after_enabled, after_not_enabled}
+use Rattle.promises.proofs.OpenGroup.{every, in_kind}
+use Rattle.promises.proofs.Participants.{ChosenIn, StandsChosen, follows_all}
+use Rattle.promises.proofs.SameChoice.{SameCourse, mode_in, on_course_answered, on_course_stepped, on_course_timed}
+
+-- ## lists of writers
+
+among_filter : (test : ℕ → Bool) (xs : List ℕ) (w : ℕ) → is_among w (filter test xs) ≡ true → is_among w xs ≡ true
+among_filter test [] w e = absurd cc
+among_filter test (x ∷ xs) w e = by_parts (test x) (x == w) refl e (among_filter test xs w)
+  where
+    by_test : (b c : Bool) → (if b then c || is_among w (filter test xs) else is_among w (filter test xs)) ≡ true → (is_among w (filter test xs) ≡ true → is_among w xs ≡ true) → (c || is_among w xs) ≡ true
+    by_test b true e ih = refl
+    by_test true false e ih = ih e
+    by_test false false e ih = ih e
+
+    by_parts : (b c : Bool) → (x == w) ≡ c → is_among w (if b then x ∷ filter test xs else filter test xs) ≡ true → (is_among w (filter test xs) ≡ true → is_among w xs ≡ true) → ((x == w) || is_among w xs) ≡ true
+    by_parts true c f e ih = by_test true (x == w) e ih
+    by_parts false c f e ih = by_test false (x == w) e ih
+
+member_filter : (test : Member → Bool) (ms : List Member) (w : ℕ) → is_member (filter test ms) w ≡ true → is_member ms w ≡ true
+member_filter test [] w e = absurd cc
+member_filter test (m ∷ ms) w e = by_test (test m) e (member_filter test ms w)
+  where
+    or_right : (a b : Bool) → b ≡ true → (a || b) ≡ true
+    or_right true b e = refl
+    or_right false b e = e
+
+    either : (a b c : Bool) → (b ≡ true → c ≡ true) → (a || b) ≡ true → (a || c) ≡ true
+    either true b c f e = refl
+    either false b c f e = f e
+
+    by_test : (b : Bool) → is_member (if b then m ∷ filter test ms else filter test ms) w ≡ true → (is_member (filter test ms) w ≡ true → is_member ms w ≡ true) → ((m.writer == w) || is_member ms w) ≡ true
+    by_test true e ih = either (m.writer == w) (is_member (filter test ms) w) (is_member ms w) ih e
+    by_test false e ih = or_right (m.writer == w) (is_member ms w) (ih e)
+
+writers_are : (ms : List Member) (w : ℕ) → is_among w (map (λ (m : Member). m.writer) ms) ≡ is_member ms w
+writers_are [] w = refl
+writers_are (m ∷ ms) w = ap (λ b. (m.writer == w) || b) (writers_are ms w)
+
+at_level_are : (ms : List Member) (l : Option _) (w : ℕ) → is_among w (writers_at ms l) ≡ true → is_member ms w ≡ true
+at_level_are ms l w e = member_filter (λ (m : Member). is_at l m.level) ms w (sym (writers_are (filter (λ (m : Member). is_at l m.level) ms) w) ∙ e)
+
+-- those of a group of orders are members
+group_members : (a : Agenda) (o : Order) (l : Option _) (w : ℕ) → is_among w (members_of a (Orders o) l) ≡ true → is_member a.members w ≡ true
+group_members a Identify l w e = at_level_are a.members l w e
+group_members a PrepareBackup l w e = at_level_are a.members l w e
+group_members a PrepareSnapshot l w e = at_level_are a.members l w e
+group_members a Freeze l w e = at_level_are a.members l w e
+group_members a Thaw l w e = at_level_are a.members l w e
+group_members a PostSnapshot l w e = at_level_are a.members l w (among_filter (λ x. not (has_failed a.log x)) (writers_at a.members l) w e)
+group_members a BackupComplete l w e = at_level_are a.members l w e
+
+members_pass : (test : ℕ → Bool) (k : ℕ) (rows : List WriterRow) (w : ℕ) → is_member (members_from test k rows) w ≡ true → test w ≡ true
+members_pass test k [] w e = absurd cc
+members_pass test k (r ∷ rows) w e =
+    by_test (test k) refl (sym (list_any-append (λ (m : Member). m.writer == w) (member_if (test k) k r) (members_from test (k + 1) rows)) ∙ e) (members_pass test (k + 1) rows w)
+  where
+    equal : (a b : ℕ) → (a == b) ≡ true → a ≡ b
+    equal a b e = grind arith
+
+    by_head : (c : Bool) → (k == w) ≡ c → test k ≡ true → ((c || false) || is_member (members_from test (k + 1) rows) w) ≡ true → (is_member (members_from test (k + 1) rows) w ≡ true → test w ≡ true) → test w ≡ true
+    by_head true f g e ih = ap test (sym (equal k w f)) ∙ g
+    by_head false f g e ih = ih e
+
+    by_test : (b : Bool) → test k ≡ b → (is_member (member_if b k r) w || is_member (members_from test (k + 1) rows) w) ≡ true → (is_member (members_from test (k + 1) rows) w ≡ true → test w ≡ true) → test w ≡ true
+    by_test true g e ih = by_head (k == w) refl g e ih
+    by_test false g e ih = ih e
+
+-- ## the fact
+
+-- whom an agenda asks
+abbrev IsOfKind : Plan → Kind → Course → ℕ → Type 0
+IsOfKind s kind.Gather c w = list_any (λ x. class_of s x == class_of s w) c.disabled ≡ false
+IsOfKind s kind.Prepare c w = is_member c.members w ≡ true
+IsOfKind s kind.Snapshot c w = is_member c.members w ≡ true
+IsOfKind s kind.Complete c w = is_member c.members w ≡ true
+
+abbrev Asks : Plan → Option Agenda → Course → Type 0
+Asks s None c = Unit {0}
+Asks s (Some a) c = (w : ℕ) → is_member a.members w ≡ true → IsOfKind s a.kind c w
+
+of_kind : (s : Plan) (k : Kind) (c d : Course) (w : ℕ) → d.disabled ≡ c.disabled → d.members ≡ c.members → IsOfKind s k c w → IsOfKind s k d w
+of_kind s kind.Gather c d w e f h = ap (λ ds. list_any (λ x. class_of s x == class_of s w) ds) e ∙ h
+of_kind s kind.Prepare c d w e f h = ap (λ ms. is_member ms w) f ∙ h
+of_kind s kind.Snapshot c d w e f h = ap (λ ms. is_member ms w) f ∙ h
+of_kind s kind.Complete c d w e f h = ap (λ ms. is_member ms w) f ∙ h
+
+asks_on : (s : Plan) (c d : Course) (a b : Option Agenda) → Follows a c.members c.outcome b d.members d.outcome → SameCourse c d → Asks s a c → Asks s b d
+asks_on s c d a None m same h = tt
+asks_on s c d None (Some b) m same h = absurd m
+asks_on s c d (Some a) (Some b) m same h = λ w e.
+    of_kind s b.kind c d w same.disabled same.members (subst (λ k. IsOfKind s k c w) (sym m.kind) (h w (subst (λ ms. is_member ms w ≡ true) m.members e)))
+
+abbrev AsksIn : Plan → State → Type 0
+AsksIn s x = Asks s x.course.agenda x.course
+
+asks_none : (s : Plan) (a : Option Agenda) (c : Course) → is_some a ≡ false → Asks s a c
+asks_none s None c e = tt
+asks_none s (Some a) c e = absurd cc
+
+module _ (s : Plan) where
+  asks_followed : (ran : Bool) (c : Course) (x : State) → Asks s c.agenda c → AsksIn s (followed ran c x)
+  asks_followed ran c x h = subst (λ (d : Course). Asks s d.agenda d) (sym (course_followed ran c x)) h
+
+  asks_begun : (k : Kind) (ms : List Member) (vs : List ℕ) (now : ℕ) (c : Course) → ((w : ℕ) → is_member ms w ≡ true → IsOfKind s k c w) → Asks s (begun k ms vs now c).agenda (begun k ms vs now c)
+  unfolding begun posted settled
+  asks_begun k ms vs now c h = by_done (is_done (groups_left (record { kind = k; members = ms; volumes = vs; begun = now; log = [] })))
+    where
+      by_done : (b : Bool) → Asks s (posted c (settled_if b k (record c { agenda = Some (record { kind = k; members = ms; volumes = vs; begun = now; log = [] }) }))).agenda (posted c (settled_if b k (record c { agenda = Some (record { kind = k; members = ms; volumes = vs; begun = now; log = [] }) })))
+      by_done true = tt
+      by_done false = λ w e. of_kind s k c _ w refl refl (h w e)
+
+  asks_failed : (o : Option SetRow) (why : VssResult) (x : State) → AsksIn s x → AsksIn s (failed_in o why x)
+  unfolding course_failed
+  asks_failed None why x h = h
+  asks_failed (Some r) why x h = tt
+
+  asks_closed : (q : Session) (x : State) → AsksIn s (closed q x)
+  unfolding closed released
+  asks_closed q x = tt
+
+  asks_room : (b : Bool) (x : State) → AsksIn s x → AsksIn s (with_room_if b x)
+  asks_room true x h = asks_failed (in_progress x) InsufficientStorage x h
+  asks_room false x h = h
+
+  asks_put : (v : ℕ) (w : Write) (mark : Mark) (x : State) → AsksIn s x → AsksIn s (put v w mark x)
+  asks_put v w Clean x h = h
+  asks_put v w Fault x h = h
+  asks_put v w (FaultAfter k) x h = h
+
+  module _ (st : State) (h : AsksIn s st) where
+    abbrev Next : Event → Mark → Replied → Type 0
+    Next event mark x = AsksIn s x.1
+
+    on_write : (v : ℕ) (w : Write) (mark : Mark) → AsksIn s (write s v w mark st).1
+    unfolding write
+    on_write v w mark = asks_put v w mark _ (asks_room (set_loses_image (in_progress st) st.volumes (cleared s v w.block st).volumes) (cleared s v w.block st) h)
+
+    on_revert : (v : ℕ) (k : Kept) (mark : Mark) → AsksIn s (reverted_as s v k mark st).1
+    on_revert v k Clean = h
+    on_revert v k Fault = h
+    on_revert v k (FaultAfter n) = h
+
+    on_answer : (w : ℕ) (said : Said) → AsksIn s (answered w said st)
+    unfolding answered
+    on_answer w said = asks_followed (runs st) _ st (asks_on s st.course _ st.course.agenda _ (goes_answered w said st.clock st.course) (on_course_answered w said st.clock st.course) h)
+
+    on_tick : (n : ℕ) → AsksIn s (ticked n st)
+    unfolding ticked
+    on_tick n = asks_followed (runs st) _ (later n st) (asks_on s st.course _ st.course.agenda _ (goes_timed (st.clock + n) st.course) (on_course_timed (st.clock + n) st.course) h)
+
+    step_as : (b : Bool) (g : Option Group) → AsksIn s (stepped_as b g st)
+    step_as true g = asks_followed (runs st) _ st (asks_on s st.course _ st.course.agenda _ (goes_stepped false st.clock st.course) (on_course_stepped false st.clock st.course) h)
+    step_as false g = asks_followed (runs st) _ (step_made g st) (asks_on s st.course _ st.course.agenda _ (goes_stepped true st.clock st.course) (on_course_stepped true st.clock st.course) h)
+
+    on_step : (mark : Mark) → AsksIn s (stepped mark st)
+    unfolding stepped
+    on_step mark = step_as (is_failed_step (is_flush (open_group (left_now st))) mark) (open_group (left_now st))
+
+    either : (b : Bool) (x y : Replied) → AsksIn s x.1 → AsksIn s y.1 → AsksIn s (if b then x else y).1
+    either true x y h i = h
+    either false x y h i = i
+
+    not_off : (b : Bool) → not b ≡ true → b ≡ false
+    not_off true e = absurd cc
+    not_off false e = refl
+
+    asks_all : Covers Next s st
+    asks_all = record {
+      stays = λ lane o mark told e f. h;
+      writes = λ lane o v w mark e f. on_write v w mark;
+      reverts = λ lane n v k mark e f. on_revert v k mark;
+      deletes_set = λ lane n c mark e. h;
+      deletes_image = λ lane n v k mark e. h;
+      ticks = λ lane n mark. on_tick n;
+      begins = λ lane n all c mark e ctx. h;
+      disables = λ lane w q mark g. asks_none s st.course.agenda _ g.quiet;
+      gathers = λ lane q mark g. asks_followed true _ st (asks_begun kind.Gather _ [] st.clock (record st.course { rows = map row_gathered st.course.rows }) (λ w e. not_off (is_disabled s st w) (members_pass (λ x. not (is_disabled s st x)) 0 _ w e)));
+      names = λ lane w full q explicit mark g named. h;
+      starts = λ lane q mark g e. h;
+      adds = λ lane v r q mark g e f. h;
+      prepares = λ lane q mark g. either (has_no_volume (in_progress st)) _ _ h (asks_followed true _ st (asks_begun kind.Prepare _ [] st.clock _ (λ w e. e)));
+      snapshots = λ lane q mark g. either (has_no_volume (in_progress st)) _ _ h (asks_followed true _ st (asks_begun kind.Snapshot st.course.members _ st.clock st.course (λ w e. e)));
+      completes = λ lane q mark g. asks_followed true _ st (asks_begun kind.Complete _ [] st.clock st.course (λ w e. member_filter (λ (m : Member). not (has_row_failed st.course.rows m.writer)) st.course.members w e));
+      aborts = λ lane q mark e. asks_failed (in_progress st) AsyncCancelled st h;
+      ends = λ lane q mark e. asks_closed q (failed AsyncCancelled st);
+      answers = λ w answer mark e. on_answer w (said_of answer);
+      steps = λ mark e. on_step mark;
+      idles = λ mark e. on_tick (idle_now st);
+    }
+
+    asks_after : (act : Act) → AsksIn s (after s st act)
+    asks_after act = by_enabled (enabled s st act.event) refl
+      where
+        by_enabled : (b : Bool) → enabled s st act.event ≡ b → AsksIn s (after s st act)
+        by_enabled true e = subst (AsksIn s) (sym (after_enabled s st act e)) (covered Next s st asks_all act.event act.mark e)
+        by_enabled false e = subst (AsksIn s) (sym (after_not_enabled s st act e)) h
+
+  asks_fold : (st : State) (acts : List Act) → AsksIn s st → AsksIn s (fold (after s) st acts)
+  asks_fold st [] h = h
+  asks_fold st (act ∷ acts) h = asks_fold (after s st act) acts (asks_after st h act)
+
+-- ## who has an open order
+
+waits_are : (a : Agenda) (ps : List Place) (o : Open) (os : List Open) → left_from a ps ≡ o ∷ os → o.waits ≡ waited_for a o.place
+waits_are a [] o os e = absurd cc
+waits_are a (p ∷ ps) o os e = by_waits (waited_for a p) refl e (waits_are a ps o os)
+  where
+    by_waits : (ws : List ℕ) → waited_for a p ≡ ws → with_group p ws (left_from a ps) ≡ o ∷ os → (left_from a ps ≡ o ∷ os → o.waits ≡ waited_for a o.place) → o.waits ≡ waited_for a o.place
+    by_waits [] f g ih = ih g
+    by_waits (w ∷ ws) f g ih = let same : record { place = p; waits = w ∷ ws } ≡ o = cc in subst (λ (x : Open). x.waits ≡ waited_for a x.place) same (sym f)
+
+abbrev is_identify : Group → Bool
+is_identify (Orders Identify) = true
+is_identify _ = false
+
+module _ (s : Plan) (so_far : List Act) (w : ℕ) (order : Order) where
+  abbrev st : State
+  st = state s so_far
+
+  -- of a group, if w waits in it
+  asked_in : (a : Agenda) (g : Group) (l : Option _) → is_among w (waited_for a (record { group = g; level = l })) ≡ true → order_of g ≡ Some order → is_member a.members w ≡ true
+  asked_in a (Orders o) l e f = group_members a o l w (among_filter (λ who. not (has_said a.log (record { group = Orders o; level = l }) who)) (members_of a (Orders o) l) w e)
+  asked_in a PreCommit l e f = absurd cc
+  asked_in a Flush l e f = absurd cc
+  asked_in a Hold l e f = absurd cc
+  asked_in a Cut l e f = absurd cc
+  asked_in a Commit l e f = absurd cc
+  asked_in a Release l e f = absurd cc
+  asked_in a PostCommit l e f = absurd cc
+
+  now_open : (b : Bool) (x : Option Order) → order_if b x ≡ Some order → (b ≡ true) × (x ≡ Some order)
+  now_open true x e = (refl, e)
+  now_open false x e = absurd cc
+
+  both_true : (a b : Bool) → (a && b) ≡ true → b ≡ true
+  both_true true b e = e
+  both_true false b e = absurd cc
+
+  same_order : (o p : Order) → Some o ≡ Some p → o ≡ p
+  same_order o p e = cc
+
+  identifies : (g : Group) → is_identify g ≡ true → order_of g ≡ Some order → order ≡ Identify
+  identifies (Orders Identify) e f = sym (same_order Identify order f)
+  identifies g e f = absurd cc
+
+  no_identify : (g : Group) → is_identify g ≡ false → order_of g ≡ Some Identify → ⊥
+  no_identify (Orders Identify) e f = absurd cc
+  no_identify (Orders o) e f = cc
+  no_identify g e f = cc
+
+  -- nothing of a disabled class
+  not_disabled : (q : Option Session) → st.session ≡ q → is_some q ≡ true → is_disabled s st w ≡ false → (choosing s w so_far).disabled ≡ false
+  not_disabled None e f g = absurd cc
+  not_disabled (Some q) e f g =
+      let stands : StandsChosen s w st (choosing s w so_far) q.mode = subst (λ (o : Option Session). ChosenIn (mode_in o) s w st (choosing s w so_far)) e (follows_all s w so_far).chosen in
+      sym stands.disabled ∙ g
+
+  in_session : (a : Agenda) (q : Option Session) → IsAgendaOf (Some a) q → is_some q ≡ true
+  in_session a None h = absurd h
+  in_session a (Some q) h = refl
+
+  for_other : (o : Order) → (o ≡ Identify → ⊥) → is_member st.course.members w ≡ true → IsFor s so_far w o
+  for_other Identify e f = absurd (e refl)
+  for_other PrepareBackup e f = f
+  for_other PrepareSnapshot e f = f
+  for_other Freeze e f = f
+  for_other Thaw e f = f
+  for_other PostSnapshot e f = f
+  for_other BackupComplete e f = f
+
+  module _ (a : Agenda) (o : Open) (os : List Open) (runs_is : st.course.agenda ≡ Some a) (open_is : groups_left a ≡ o ∷ os) (order_is : order_of o.place.group ≡ Some order) where
+    others : (k : Kind) → a.kind ≡ k → every (λ q. not (is_identify q.group)) (places k) ≡ true → is_member st.course.members w ≡ true → IsFor s so_far w order
+    others k e f m = for_other order (λ i. no_identify o.place.group (not_off (is_identify o.place.group) (in_kind (λ q. not (is_identify q.group)) k a o os e f open_is)) (order_is ∙ ap Some i)) m
+      where
+        not_off : (b : Bool) → not b ≡ true → b ≡ false
+        not_off true e = absurd cc
+        not_off false e = refl
+
+    by_kind : (k : Kind) → a.kind ≡ k → IsOfKind s k st.course w → IsFor s so_far w order
+    by_kind kind.Gather e m =
+        subst (IsFor s so_far w) (sym (identifies o.place.group (in_kind (λ q. is_identify q.group) kind.Gather a o os e refl open_is) order_is))
+        (not_disabled st.session refl (in_session a st.session (subst (λ x. IsAgendaOf x st.session) runs_is (orderly s so_far).agenda)) m)
+    by_kind kind.Prepare e m = others kind.Prepare e refl m
+    by_kind kind.Snapshot e m = others kind.Snapshot e refl m
+    by_kind kind.Complete e m = others kind.Complete e refl m
+
+  asked_now : (a : Agenda) (os : List Open) → st.course.agenda ≡ Some a → groups_left a ≡ os → Asks s (Some a) st.course → open_order os w ≡ Some order → IsFor s so_far w order
+  asked_now a [] e f h g = absurd cc
+  asked_now a (o ∷ os) e f h g =
+      let open_now = now_open (is_orders o.place.group && is_among w o.waits) (order_of o.place.group) g in
+      let waits = subst (λ ws. is_among w ws ≡ true) (waits_are a (places a.kind) o os f) (both_true (is_orders o.place.group) (is_among w o.waits) open_now.0) in
+      by_kind a o os e f open_now.1 a.kind refl (h w (asked_in a o.place.group o.place.level waits open_now.1))
+
+  asked_by : (x : Option Agenda) → st.course.agenda ≡ x → Asks s x st.course → open_order (left x) w ≡ Some order → IsFor s so_far w order
+  asked_by None e h g = absurd cc
+  asked_by (Some a) e h g = asked_now a (groups_left a) e refl h g
+
+pub asks_its_own : (s : Plan) (so_far : List Act) → AsksItsOwn s so_far
+asks_its_own s so_far w order e = asked_by s so_far w order (state s so_far).course.agenda refl (asks_fold s (start s) so_far tt) e

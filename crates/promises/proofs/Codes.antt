@@ -1,0 +1,251 @@
+-- A set that fails has the code of its cause.
+use Rattle.std.proofs.Common.{◌≡◌, ◌∙◌, ℕ, ◌+◌, List, [], ◌∷◌, Option, Some, None, refl, Bool, true, false, ap, sym, inl, inr}
+use Rattle.std.specs.Prelude.{◌&&◌, ◌⊎◌, not, if◌then◌else◌}
+use Rattle.vss_names.specs.declared.order.Order.{Order}
+use Rattle.vss_names.specs.declared.set_outcome.SetOutcome.{SetOutcome}
+use Rattle.vss_names.specs.declared.set_outcome.SetOutcome.TheVariants.{Failed as FailedSet}
+use Rattle.vss_names.specs.declared.vss_result.VssResult.{VssResult}
+use Rattle.vss_names.specs.declared.vss_result.VssResult.TheVariants.{Writer as WriterFault, AsyncCancelled, UnexpectedProviderError, InsufficientStorage, HoldWritesTimeout, WriterNotResponding, BadState}
+use Rattle.vss_names.specs.declared.writer_error.WriterError.TheVariants.{Timeout}
+use Rattle.writer_state.specs.declared.said.Said.{Said}
+use Rattle.writer_state.specs.declared.said.Said.TheVariants as said
+use Rattle.writer_state.specs.WriterState.{is_ok}
+use Rattle.write_history.specs.declared.mark.Mark.{Mark}
+use Rattle.write_history.specs.declared.mark.Mark.TheVariants.{Clean, Fault, FaultAfter}
+use Rattle.write_history.specs.History.{Write}
+use Rattle.writer_calls.specs.declared.answer.Answer.{Answer}
+use Rattle.writer_calls.specs.declared.answer.Answer.TheVariants.{Ok, Veto}
+use Rattle.writer_calls.specs.Script.{said_of}
+use Rattle.set_agenda.specs.declared.group.Group.{Group}
+use Rattle.set_agenda.specs.declared.kind.Kind.TheVariants as kind
+use Rattle.set_agenda.specs.declared.limit.Limit.{Limit}
+use Rattle.set_agenda.specs.declared.limit.Limit.TheVariants.{Hold as HoldLimit, Freeze as FreezeLimit, Answer as AnswerLimit}
+use Rattle.set_agenda.specs.Agenda.{open_group, open_order, order_now, is_working, left}
+use Rattle.set_agenda.specs.Limits.{Running as RunningLimit, spent_of}
+use Rattle.set_agenda.specs.Course.{Course, posted, failed as course_failed, settled, told, is_decisive, decided, answered_to, answered as course_answered, stepped as course_stepped, limits_now, lost, lost_to, fails_set, lost_decided, treated_as, treated, timed as course_timed}
+use Rattle.requestor.specs.Session.{Session}
+use Rattle.scenario.specs.declared.op.Op.{Op}
+use Rattle.scenario.specs.declared.op.Op.TheVariants as op
+use Rattle.scenario.specs.Calls.{target_of}
+use Rattle.scenario.specs.Plan.{Plan}
+use Rattle.vss_model.specs.declared.event.Event.{Event}
+use Rattle.vss_model.specs.declared.event.Event.TheVariants.{Line}
+use Rattle.vss_model.specs.State.{State, SetRow, in_progress, left_now}
+use Rattle.vss_model.specs.Ending.{followed, runs, failed_in, failed}
+use Rattle.vss_model.specs.Images.{Replied, refused, cleared, set_loses_image, with_room_if, put, write, reverted_as}
+use Rattle.vss_model.specs.Sessions.{has_no_volume, start_set, closed}
+use Rattle.vss_model.specs.Steps.{answered, step_made, is_flush, is_failed_step, stepped_as, stepped, ticked, later}
+use Rattle.vss_model.specs.Facts.{has_failed}
+use Rattle.vss_model.specs.Acts.{Act, idle_now, state}
+use Rattle.vss_model.proofs.FlushFails.{outcome_is_running}
+use Rattle.promises.specs.Awaited.{set_failure}
+use Rattle.promises.specs.Codes.{IsLimitCode, IsAnswerCode, IsLineCode, IsCode, FailsByCode}
+use Rattle.promises.proofs.BusyAgendas.{course_followed}
+use Rattle.promises.proofs.ByEvent.{Covers, covered, after_enabled}
+use Rattle.promises.proofs.CalmCourses.{calm_begun}
+use Rattle.promises.proofs.CourseRows.{calm_settled}
+use Rattle.promises.proofs.GoneImages.{none_stepped}
+use Rattle.promises.proofs.SetFailures.{failure_at}
+use Rattle.promises.proofs.Turns.{Turn, no_failure, write_turn, revert_turn, begun_turn, answer_turn, tick_turn, step_turn, abort_turn, add_turn, none_started}
+
+-- ## what a call of the course fails with
+
+same_reason : (x y : VssResult) → FailedSet x ≡ FailedSet y → x ≡ y
+same_reason x y e = cc
+
+-- an outcome that is no failure
+calm_reason : {X : Type 0} (o : SetOutcome) (why : VssResult) → has_failed o ≡ false → o ≡ FailedSet why → X
+calm_reason o why e f = absurd (both (has_failed o) e (ap has_failed f))
+  where
+    both : (b : Bool) → b ≡ false → b ≡ true → ⊥
+    both b e f = cc
+
+posted_outcome : (prior c : Course) → (posted prior c).outcome ≡ c.outcome
+unfolding posted
+posted_outcome prior c = refl
+
+failed_outcome : (why : VssResult) (c : Course) → (course_failed why c).outcome ≡ FailedSet why
+unfolding course_failed
+failed_outcome why c = refl
+
+told_outcome : (o : Order) (x : Said) (now : ℕ) (ws : List ℕ) (c : Course) → (told o x now ws c).outcome ≡ c.outcome
+unfolding told
+told_outcome o x now ws c = refl
+
+module _ (why : VssResult) (c : Course) (run : has_failed c.outcome ≡ false) where
+  settled_reason : {X : Type 0} (d : Course) → d.outcome ≡ c.outcome → (settled d).outcome ≡ FailedSet why → X
+  settled_reason d e f = calm_reason (settled d).outcome why (calm_settled d (ap has_failed e ∙ run)) f
+
+  answer_reason : (o : Option Order) (w : ℕ) (answer : Answer) (now : ℕ) → (answered_to o w (said_of answer) now c).outcome ≡ FailedSet why → IsAnswerCode answer why
+  answer_reason None w answer now e = calm_reason c.outcome why run e
+  answer_reason (Some o) w answer now e = by_answer answer (is_decisive o) e
+    where
+      by_answer : (a : Answer) (b : Bool) → (decided (b && not (is_ok (said_of a))) (said_of a) (told o (said_of a) now (w ∷ []) c)).outcome ≡ FailedSet why → IsAnswerCode a why
+      by_answer Ok true e = settled_reason (told o said.Ok now (w ∷ []) c) (told_outcome o said.Ok now (w ∷ []) c) e
+      by_answer Ok false e = settled_reason (told o said.Ok now (w ∷ []) c) (told_outcome o said.Ok now (w ∷ []) c) e
+      by_answer (Veto error) true e = same_reason why (WriterFault error) (sym e ∙ failed_outcome (WriterFault error) (told o (said.Veto error) now (w ∷ []) c))
+      by_answer (Veto error) false e = settled_reason (told o (said.Veto error) now (w ∷ []) c) (told_outcome o (said.Veto error) now (w ∷ []) c) e
+
+  lost_outcome : (o : Option Order) (now : ℕ) → (lost_to o now c).outcome ≡ c.outcome
+  lost_outcome None now = refl
+  lost_outcome (Some o) now = told_outcome o said.Lost now _ c
+
+  time_reason : (l : Option RunningLimit) (now : ℕ) → (treated l now c).outcome ≡ FailedSet why → IsLimitCode why
+  time_reason None now e = calm_reason c.outcome why run e
+  time_reason (Some l) now e = by_limit l.limit e
+    where
+      by_order : (b : Bool) → (lost_decided b (lost now c)).outcome ≡ FailedSet why → IsLimitCode why
+      by_order true e = inr (inr (same_reason why WriterNotResponding (sym e ∙ failed_outcome WriterNotResponding (lost now c))))
+      by_order false e = settled_reason (lost now c) (lost_outcome (order_now (left c.agenda)) now) e
+
+      by_limit : (x : Limit) → (treated_as x now c).outcome ≡ FailedSet why → IsLimitCode why
+      by_limit HoldLimit e = inl (same_reason why HoldWritesTimeout (sym e ∙ failed_outcome HoldWritesTimeout c))
+      by_limit FreezeLimit e = inr (inl (same_reason why (WriterFault Timeout) (sym e ∙ failed_outcome (WriterFault Timeout) (lost now c))))
+      by_limit AnswerLimit e = by_order (fails_set (order_now (left c.agenda))) e
+
+-- ## every act
+
+module _ (s : Plan) (so_far : List Act) (why : VssResult) where
+  abbrev st : State
+  st = state s so_far
+
+  some_same : (a b : VssResult) → Some a ≡ Some b → a ≡ b
+  some_same a b e = cc
+
+  not_none : {X : Type 0} (o : Option VssResult) → o ≡ None → o ≡ Some why → X
+  not_none o e f = absurd (both o e f)
+    where
+      both : (o : Option VssResult) → o ≡ None → o ≡ Some why → ⊥
+      both o e f = cc
+
+  -- the course has the code, where the turn is a failure
+  of_turn : (x : State) (ran : Bool) → Turn st x ran → set_failure (in_progress st) x ≡ Some why → x.course.outcome ≡ FailedSet why
+  of_turn x ran (inl t) e = t.outcome ∙ ap FailedSet (some_same t.why why (sym t.failure ∙ e))
+  of_turn x ran (inr (inl t)) e = not_none (set_failure (in_progress st) x) t.failure e
+  of_turn x ran (inr (inr t)) e = not_none (set_failure (in_progress st) x) t.failure e
+
+  -- a set was in progress
+  was_running : (x : State) → set_failure (in_progress st) x ≡ Some why → has_failed st.course.outcome ≡ false
+  was_running x e = by_set (in_progress st) refl e
+    where
+      by_set : (o : Option SetRow) → in_progress st ≡ o → set_failure o x ≡ Some why → has_failed st.course.outcome ≡ false
+      by_set None f g = absurd cc
+      by_set (Some r) f g = ap has_failed (outcome_is_running s so_far r f)
+
+  abbrev Next : Event → Mark → Replied → Type 0
+  Next event mark x = set_failure (in_progress st) x.1 ≡ Some why → IsCode event why
+
+  -- the sets are as they were
+  same_sets : (event : Event) (x : State) → ((n : ℕ) → failure_at x.sets n ≡ failure_at st.sets n) → set_failure (in_progress st) x ≡ Some why → IsCode event why
+  same_sets event x f e = not_none (set_failure (in_progress st) x) (no_failure s so_far x f) e
+
+  abort_reason : (o : Option SetRow) (code : VssResult) → in_progress st ≡ o → has_failed st.course.outcome ≡ false → (failed_in o code st).course.outcome ≡ FailedSet why → why ≡ code
+  unfolding course_failed
+  abort_reason None code e f g = calm_reason st.course.outcome why f g
+  abort_reason (Some r) code e f g = same_reason why code (sym g)
+
+  course_put : (v : ℕ) (w : Write) (mark : Mark) (x : State) → (put v w mark x).course ≡ x.course
+  course_put v w Clean x = refl
+  course_put v w Fault x = refl
+  course_put v w (FaultAfter k) x = refl
+
+  room_reason : (b : Bool) (v block : ℕ) → has_failed st.course.outcome ≡ false → (with_room_if b (cleared s v block st)).course.outcome ≡ FailedSet why → why ≡ InsufficientStorage
+  unfolding course_failed
+  room_reason true v block f g = by_set (in_progress st) g
+    where
+      by_set : (o : Option SetRow) → (failed_in o InsufficientStorage (cleared s v block st)).course.outcome ≡ FailedSet why → why ≡ InsufficientStorage
+      by_set None g = calm_reason st.course.outcome why f g
+      by_set (Some r) g = same_reason why InsufficientStorage (sym g)
+  room_reason false v block f g = calm_reason st.course.outcome why f g
+
+  write_reason : (v : ℕ) (w : Write) (mark : Mark) → set_failure (in_progress st) (write s v w mark st).1 ≡ Some why → why ≡ InsufficientStorage
+  unfolding write
+  write_reason v w mark e =
+      room_reason (set_loses_image (in_progress st) st.volumes (cleared s v w.block st).volumes) v w.block (was_running _ e)
+      (ap (λ (c : Course). c.outcome) (sym (course_put v w mark _)) ∙ of_turn _ (runs st) (write_turn s so_far v w mark) e)
+
+  write_code : (lane : ℕ) (o : Op) (t : _) → target_of o ≡ Some t → why ≡ InsufficientStorage → IsLineCode o why
+  write_code lane (op.WriteFill v b x) t e f = f
+  write_code lane (op.WriteStamp v b n) t e f = f
+  write_code lane o t e f = absurd cc
+
+  begun_code : (event : Event) (c : Course) → (has_failed st.course.outcome ≡ false → has_failed c.outcome ≡ false) → set_failure (in_progress st) (followed true c st) ≡ Some why → IsCode event why
+  begun_code event c calm e =
+      calm_reason c.outcome why (calm (was_running (followed true c st) e)) (ap (λ (d : Course). d.outcome) (sym (course_followed true c st)) ∙ of_turn (followed true c st) true (begun_turn s so_far c calm) e)
+
+  answer_code : (w : ℕ) (answer : Answer) → set_failure (in_progress st) (answered w (said_of answer) st) ≡ Some why → IsAnswerCode answer why
+  unfolding answered
+  answer_code w answer e =
+      let c = course_answered w (said_of answer) st.clock st.course in
+      answer_reason why st.course (was_running (followed (runs st) c st) e) (open_order (left st.course.agenda) w) w answer st.clock
+      (sym (posted_outcome st.course _) ∙ ap (λ (d : Course). d.outcome) (sym (course_followed (runs st) c st)) ∙ of_turn (followed (runs st) c st) (runs st) (answer_turn s so_far w (said_of answer)) e)
+
+  tick_code : (n : ℕ) → set_failure (in_progress st) (ticked n st) ≡ Some why → IsLimitCode why
+  unfolding ticked
+  tick_code n e =
+      let c = course_timed (st.clock + n) st.course in
+      time_reason why st.course (was_running (followed (runs st) c (later n st)) e) (spent_of (st.clock + n) (limits_now st.course)) (st.clock + n)
+      (sym (posted_outcome st.course _) ∙ ap (λ (d : Course). d.outcome) (sym (course_followed (runs st) c (later n st))) ∙ of_turn (followed (runs st) c (later n st)) (runs st) (tick_turn s so_far n) e)
+
+  step_reason : (b : Bool) (g : Option Group) → has_failed st.course.outcome ≡ false → (stepped_as b g st).course.outcome ≡ FailedSet why → why ≡ UnexpectedProviderError
+  step_reason true g f e =
+      same_reason why UnexpectedProviderError
+      (sym (ap (λ (d : Course). d.outcome) (sym (course_followed (runs st) (course_stepped false st.clock st.course) st)) ∙ e) ∙ (posted_outcome st.course _ ∙ failed_outcome UnexpectedProviderError st.course))
+  step_reason false g f e =
+      calm_reason (course_stepped true st.clock st.course).outcome why (none_stepped st.clock st.course f) (ap (λ (d : Course). d.outcome) (sym (course_followed (runs st) (course_stepped true st.clock st.course) (step_made g st))) ∙ e)
+
+  step_code : (mark : Mark) → is_working (left_now st) ≡ true → set_failure (in_progress st) (stepped mark st) ≡ Some why → why ≡ UnexpectedProviderError
+  unfolding stepped
+  step_code mark on e = step_reason (is_failed_step (is_flush (open_group (left_now st))) mark) (open_group (left_now st)) (was_running _ e) (of_turn _ (runs st) (step_turn s so_far mark on) e)
+
+  abort_code : set_failure (in_progress st) (failed AsyncCancelled st) ≡ Some why → why ≡ AsyncCancelled
+  abort_code e = abort_reason (in_progress st) AsyncCancelled refl (was_running (failed AsyncCancelled st) e) (of_turn (failed AsyncCancelled st) (runs st) (abort_turn s so_far) e)
+
+  closed_failure : (q : Session) (x : State) → set_failure (in_progress st) (closed q x) ≡ set_failure (in_progress st) x
+  unfolding closed
+  closed_failure q x = by_set (in_progress st)
+    where
+      by_set : (o : Option SetRow) → set_failure o (closed q x) ≡ set_failure o x
+      by_set None = refl
+      by_set (Some r) = refl
+
+  either : (event : Event) (mark : Mark) (b : Bool) (x y : Replied) → Next event mark x → Next event mark y → Next event mark (if b then x else y)
+  either event mark true x y h i = h
+  either event mark false x y h i = i
+
+  unchanged : (event : Event) → set_failure (in_progress st) st ≡ Some why → IsCode event why
+  unchanged event e = same_sets event st (λ n. refl) e
+
+  revert_course : (v : ℕ) (k : _) (mark : Mark) → (reverted_as s v k mark st).1.course.outcome ≡ st.course.outcome
+  revert_course v k Clean = refl
+  revert_course v k Fault = refl
+  revert_course v k (FaultAfter n) = refl
+
+  codes : Covers Next s st
+  codes = record {
+    stays = λ lane o mark told e f. unchanged (Line lane o);
+    writes = λ lane o v w mark e f g. write_code lane o _ e (write_reason v w mark g);
+    reverts = λ lane n v k mark e f g. calm_reason st.course.outcome why (was_running _ g) (sym (revert_course v k mark) ∙ of_turn _ (runs st) (revert_turn s so_far v k mark) g);
+    deletes_set = λ lane n c mark e. same_sets (Line lane (op.DeleteSet n)) _ (λ m. refl);
+    deletes_image = λ lane n v k mark e. same_sets (Line lane (op.DeleteImage n v)) _ (λ m. refl);
+    ticks = λ lane n mark. tick_code n;
+    begins = λ lane n all c mark e ctx. same_sets (Line lane (op.Begin n all)) _ (λ m. refl);
+    disables = λ lane w q mark g. same_sets (Line lane (op.Disable w)) _ (λ m. refl);
+    gathers = λ lane q mark g. begun_code (Line lane op.Gather) _ (calm_begun kind.Gather _ [] st.clock _);
+    names = λ lane w full q explicit mark g named. same_sets (Line lane (op.Component w full)) _ (λ m. refl);
+    starts = λ lane q mark g e f. not_none (set_failure (in_progress st) (start_set q st).1) (none_started s so_far q (start_set q st).1 g.stands e) f;
+    adds = λ lane v r q mark g e f i. calm_reason st.course.outcome why (was_running _ i) (of_turn _ (runs st) (add_turn s so_far v r) i);
+    prepares = λ lane q mark g. either (Line lane op.Prepare) mark (has_no_volume (in_progress st)) (refused BadState st) _ (unchanged (Line lane op.Prepare)) (begun_code (Line lane op.Prepare) _ (calm_begun kind.Prepare _ [] st.clock _));
+    snapshots = λ lane q mark g. either (Line lane op.Snapshot) mark (has_no_volume (in_progress st)) (refused BadState st) _ (unchanged (Line lane op.Snapshot)) (begun_code (Line lane op.Snapshot) _ (calm_begun kind.Snapshot st.course.members _ st.clock st.course));
+    completes = λ lane q mark g. begun_code (Line lane op.Complete) _ (calm_begun kind.Complete _ [] st.clock st.course);
+    aborts = λ lane q mark e. abort_code;
+    ends = λ lane q mark e f. abort_code (sym (closed_failure q (failed AsyncCancelled st)) ∙ f);
+    answers = λ w answer mark e. answer_code w answer;
+    steps = λ mark e. step_code mark e;
+    idles = λ mark e. tick_code (idle_now st);
+  }
+
+pub fails_by_code : (s : Plan) (so_far : List Act) (act : Act) → FailsByCode s so_far act
+fails_by_code s so_far act why on e =
+    let st = state s so_far in
+    covered (Next s so_far why) s st (codes s so_far why) act.event act.mark on (ap (set_failure (in_progress st)) (sym (after_enabled s st act on)) ∙ e)

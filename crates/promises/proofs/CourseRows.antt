@@ -1,0 +1,306 @@
+-- What each call of the course does to the rows of the writers.
+use Rattle.std.proofs.Common.{◌≡◌, ◌∙◌, ℕ, ◌+◌, zero, suc, List, [], ◌∷◌, ◌++◌, ◌⊎◌, Option, Some, None, refl, Bool, true, false, ap, sym, subst, inl, inr, map, arith}
+use Rattle.std.specs.Prelude.{◌&&◌, not, slice_get}
+use Rattle.vss_names.specs.declared.order.Order.{Order}
+use Rattle.vss_names.specs.declared.set_outcome.SetOutcome.{SetOutcome}
+use Rattle.vss_names.specs.declared.vss_result.VssResult.{VssResult}
+use Rattle.writer_state.specs.declared.said.Said.{Said}
+use Rattle.writer_state.specs.declared.said.Said.TheVariants.{Lost}
+use Rattle.writer_state.specs.declared.writer_row.WriterRow.{WriterRow}
+use Rattle.writer_state.specs.WriterState.{is_ok}
+use Rattle.writer_state.specs.WriterRow.{row_after, row_aborted}
+use Rattle.tick_limits.specs.Time.{answer_limit, hold_limit}
+use Rattle.set_agenda.specs.declared.group.Group.{Group}
+use Rattle.set_agenda.specs.declared.group.Group.TheVariants.{Orders, PreCommit, Flush, Hold, Cut, Commit, Release, PostCommit}
+use Rattle.set_agenda.specs.declared.kind.Kind.{Kind}
+use Rattle.set_agenda.specs.declared.kind.Kind.TheVariants.{Gather, Prepare, Snapshot, Complete}
+use Rattle.set_agenda.specs.declared.limit.Limit.{Limit}
+use Rattle.set_agenda.specs.declared.limit.Limit.TheVariants.{Hold as HoldLimit, Freeze as FreezeLimit, Answer as AnswerLimit}
+use Rattle.set_agenda.specs.declared.member.Member.{Member}
+use Rattle.set_agenda.specs.Agenda.{Agenda, Open, order_of, order_now, open_order, is_among, is_done, groups_left, left, waits_now}
+use Rattle.set_agenda.specs.Limits.{Running as RunningLimit, first_hold, opened_at, freeze_opened_at, hold_runs, freeze_runs, answer_runs, runs_if, hold_running, running_at, running_limits, spent_of}
+use Rattle.set_agenda.specs.Course.{Course, posted, failed as course_failed, rows_where, row_if, is_member, outcome_after, settled_if, settled_in, settled, begun, told, is_decisive, decided, answered_to, answered as course_answered, worked, stepped as course_stepped, freeze_limit, limits_now, lost_to, lost, fails_set, lost_decided, treated_as, treated, timed as course_timed}
+use Rattle.vss_model.specs.Facts.{has_failed}
+use Rattle.promises.proofs.BusyAgendas.{IsBusy, busy_order, busy_limit}
+use Rattle.promises.proofs.Limits.{later_found, first_found, limit_found, none_and_some}
+
+row_where : (f : WriterRow → WriterRow) (test : ℕ → Bool) (k : ℕ) (rows : List WriterRow) (w : ℕ) (r : WriterRow) → slice_get rows w ≡ Some r → slice_get (rows_where f test k rows) w ≡ Some (row_if (test (k + w)) f r)
+row_where f test k [] w r e = absurd cc
+row_where f test k (x ∷ rows) zero r e = ap (λ n. Some (row_if (test n) f x)) (none_more k) ∙ ap (λ y. Some (row_if (test (k + 0)) f y)) (some_same x r e)
+  where
+    none_more : (n : ℕ) → n ≡ n + 0
+    none_more n = omega arith
+
+    some_same : (x y : WriterRow) → Some x ≡ Some y → x ≡ y
+    some_same x y e = cc
+row_where f test k (x ∷ rows) (suc w) r e = row_where f test (k + 1) rows w r e ∙ ap (λ n. Some (row_if (test n) f r)) (shift k w)
+  where
+    shift : (a b : ℕ) → a + 1 + b ≡ a + suc b
+    shift a b = omega arith
+
+-- ## rows
+
+-- each row becomes what f makes of it
+abbrev pub Becomes : (ℕ → WriterRow → WriterRow) → List WriterRow → List WriterRow → Type 0
+Becomes f rows next = (w : ℕ) (r : WriterRow) → slice_get rows w ≡ Some r → slice_get next w ≡ Some (f w r)
+
+abbrev pub as_it_is : ℕ → WriterRow → WriterRow
+as_it_is w r = r
+
+-- and then each of these members is told of the failure
+abbrev pub and_told : List Member → (ℕ → WriterRow → WriterRow) → ℕ → WriterRow → WriterRow
+and_told ms f w r = row_if (is_member ms w) row_aborted (f w r)
+
+pub same_rows : (rows : List WriterRow) → Becomes as_it_is rows rows
+same_rows rows w r e = e
+
+pub rows_where_are : (f : WriterRow → WriterRow) (test : ℕ → Bool) (say : ℕ → WriterRow → WriterRow) (rows more : List WriterRow) → Becomes say rows more → Becomes (λ w r. row_if (test w) f (say w r)) rows (rows_where f test 0 more)
+rows_where_are f test say rows more h w r e = row_where f test 0 more w (say w r) (h w r e) ∙ ap (λ n. Some (row_if (test n) f (say w r))) (none_less w)
+  where
+    none_less : (a : ℕ) → 0 + a ≡ a
+    none_less a = omega arith
+
+pub rows_map_are : (f : WriterRow → WriterRow) (say : ℕ → WriterRow → WriterRow) (rows more : List WriterRow) → Becomes say rows more → Becomes (λ w r. f (say w r)) rows (map f more)
+rows_map_are f say rows more h w r e = mapped more w (say w r) (h w r e)
+  where
+    mapped : (ys : List WriterRow) (n : ℕ) (y : WriterRow) → slice_get ys n ≡ Some y → slice_get (map f ys) n ≡ Some (f y)
+    mapped [] n y e = absurd cc
+    mapped (x ∷ ys) zero y e = ap (λ z. Some (f z)) (some_same x y e)
+      where
+        some_same : (a b : WriterRow) → Some a ≡ Some b → a ≡ b
+        some_same a b e = cc
+    mapped (x ∷ ys) (suc n) y e = mapped ys n y e
+
+-- ## a call that fails the set, and one that does not
+
+-- whether the call fails the set
+abbrev pub Comes : (ℕ → WriterRow → WriterRow) → Bool → Course → Course → Type 0
+Comes say true c d = Becomes (and_told c.members say) c.rows d.rows
+Comes say false c d = Becomes say c.rows d.rows
+
+module _ (say : ℕ → WriterRow → WriterRow) where
+  pub rise_failed : (why : VssResult) (c d : Course) → Becomes say c.rows d.rows → d.members ≡ c.members → Becomes (and_told c.members say) c.rows (course_failed why d).rows
+  unfolding course_failed
+  rise_failed why c d h e = subst (λ ms. Becomes (and_told c.members say) c.rows (rows_where row_aborted (is_member ms) 0 d.rows)) (sym e) (rows_where_are row_aborted (is_member c.members) say c.rows d.rows h)
+
+  stay_posted : (prior c d : Course) → Becomes say c.rows d.rows → Becomes say c.rows (posted prior d).rows
+  unfolding posted
+  stay_posted prior c d h = h
+
+  comes_posted : (b : Bool) (prior c d : Course) → Comes say b c d → Comes say b c (posted prior d)
+  unfolding posted
+  comes_posted true prior c d h = h
+  comes_posted false prior c d h = h
+
+  stay_settled_if : (b : Bool) (k : Kind) (c d : Course) → Becomes say c.rows d.rows → Becomes say c.rows (settled_if b k d).rows
+  stay_settled_if true k c d h = h
+  stay_settled_if false k c d h = h
+
+  stay_settled_in : (x : Option Agenda) (c d : Course) → Becomes say c.rows d.rows → Becomes say c.rows (settled_in x d).rows
+  stay_settled_in None c d h = h
+  stay_settled_in (Some a) c d h = stay_settled_if (is_done (groups_left a)) a.kind c d h
+
+  stay_settled : (c d : Course) → Becomes say c.rows d.rows → Becomes say c.rows (settled d).rows
+  unfolding settled
+  stay_settled c d h = stay_settled_in d.agenda c d h
+
+  pub stay_begun : (k : Kind) (ms : List Member) (vs : List ℕ) (now : ℕ) (c d : Course) → Becomes say c.rows d.rows → Becomes say c.rows (begun k ms vs now d).rows
+  unfolding begun
+  stay_begun k ms vs now c d h = stay_posted d c _ (stay_settled c (record d { agenda = Some (record { kind = k; members = ms; volumes = vs; begun = now; log = [] }) }) h)
+
+  comes_decided : (b : Bool) (said : Said) (c d : Course) → Becomes say c.rows d.rows → d.members ≡ c.members → Comes say b c (decided b said d)
+  comes_decided true said c d h e = rise_failed _ c d h e
+  comes_decided false said c d h e = stay_settled c d h
+
+-- these writers say this to this order
+abbrev pub say_to : Option Order → Said → List ℕ → ℕ → WriterRow → WriterRow
+say_to None said ws w r = r
+say_to (Some o) said ws w r = row_if (is_among w ws) (row_after o said) r
+
+stay_told : (o : Order) (said : Said) (now : ℕ) (ws : List ℕ) (c : Course) → Becomes (say_to (Some o) said ws) c.rows (told o said now ws c).rows
+unfolding told
+stay_told o said now ws c = rows_where_are (row_after o said) (λ w. is_among w ws) as_it_is c.rows c.rows (same_rows c.rows)
+
+members_told : (o : Order) (said : Said) (now : ℕ) (ws : List ℕ) (c : Course) → (told o said now ws c).members ≡ c.members
+unfolding told
+members_told o said now ws c = refl
+
+abbrev pub refuses : Option Order → Said → Bool
+refuses None said = false
+refuses (Some o) said = is_decisive o && not (is_ok said)
+
+comes_answered_to : (x : Option Order) (w : ℕ) (said : Said) (now : ℕ) (c : Course) → Comes (say_to x said (w ∷ [])) (refuses x said) c (answered_to x w said now c)
+comes_answered_to None w said now c = same_rows c.rows
+comes_answered_to (Some o) w said now c = comes_decided (say_to (Some o) said (w ∷ [])) (is_decisive o && not (is_ok said)) said c (told o said now (w ∷ []) c) (stay_told o said now (w ∷ []) c) (members_told o said now (w ∷ []) c)
+
+pub comes_answered : (w : ℕ) (said : Said) (now : ℕ) (c : Course) → Comes (say_to (open_order (left c.agenda) w) said (w ∷ [])) (refuses (open_order (left c.agenda) w) said) c (course_answered w said now c)
+comes_answered w said now c = comes_posted (say_to (open_order (left c.agenda) w) said (w ∷ [])) (refuses (open_order (left c.agenda) w) said) c c _ (comes_answered_to (open_order (left c.agenda) w) w said now c)
+
+stay_worked : (now : ℕ) (c : Course) → Becomes as_it_is c.rows (worked now c).rows
+unfolding worked
+stay_worked now c = same_rows c.rows
+
+pub stay_stepped : (now : ℕ) (c : Course) → Becomes as_it_is c.rows (course_stepped true now c).rows
+stay_stepped now c = stay_posted as_it_is c c _ (stay_settled as_it_is c (worked now c) (stay_worked now c))
+
+pub rise_stepped : (now : ℕ) (c : Course) → Becomes (and_told c.members as_it_is) c.rows (course_stepped false now c).rows
+rise_stepped now c = comes_posted as_it_is true c c _ (rise_failed as_it_is _ c c (same_rows c.rows) refl)
+
+-- ## time
+
+pub record Passes (say : ℕ → WriterRow → WriterRow) (c d : Course) : Type 0 where
+  pub stay : Becomes say c.rows d.rows
+  pub calm : has_failed c.outcome ≡ false → has_failed d.outcome ≡ false
+
+pub record Fails (say : ℕ → WriterRow → WriterRow) (c d : Course) : Type 0 where
+  pub rise : Becomes (and_told c.members say) c.rows d.rows
+  pub failed : has_failed d.outcome ≡ true
+  pub busy : IsBusy c.agenda
+
+abbrev pub PassesOrFails : (ℕ → WriterRow → WriterRow) → Course → Course → Type 0
+PassesOrFails say c d = Passes say c d ⊎ Fails say c d
+
+over_posted : (say : ℕ → WriterRow → WriterRow) (prior c d : Course) → PassesOrFails say c d → PassesOrFails say c (posted prior d)
+unfolding posted
+over_posted say prior c d (inl h) = inl (record { stay = h.stay; calm = h.calm })
+over_posted say prior c d (inr h) = inr (record { rise = h.rise; failed = h.failed; busy = h.busy })
+
+outcome_failed : (why : VssResult) (x : Course) → has_failed (course_failed why x).outcome ≡ true
+unfolding course_failed
+outcome_failed why x = refl
+
+fails_by : (say : ℕ → WriterRow → WriterRow) (why : VssResult) (c d : Course) → Becomes say c.rows d.rows → d.members ≡ c.members → IsBusy c.agenda → Fails say c (course_failed why d)
+fails_by say why c d h e busy = record { rise = rise_failed say why c d h e; failed = outcome_failed why d; busy = busy }
+
+-- where the hold limit is spent, nobody is asked
+
+-- where the hold limit is spent, the provider works
+holds_work : (now f : ℕ) (a : Agenda) (o : Open) (os : List Open) (l : RunningLimit) → spent_of now (running_at f a (o ∷ os)) ≡ Some l → l.limit ≡ HoldLimit → hold_runs o.place.group ≡ true
+holds_work now f a o os l e k =
+    by_limits (hold_running o.place.group (first_hold a.log)) (runs_if (freeze_runs o.place.group) FreezeLimit (freeze_opened_at a) f) (runs_if (answer_runs o.place.group) AnswerLimit (opened_at a o) answer_limit)
+    (spent_of now (hold_running o.place.group (first_hold a.log))) (spent_of now (runs_if (freeze_runs o.place.group) FreezeLimit (freeze_opened_at a) f)) refl refl
+    (at_hold (first_hold a.log)) (λ x i. limit_found now (freeze_runs o.place.group) FreezeLimit (freeze_opened_at a) f x i) (λ x i. limit_found now (answer_runs o.place.group) AnswerLimit (opened_at a o) answer_limit x i) e
+  where
+    some_same : (x y : RunningLimit) → Some x ≡ Some y → x ≡ y
+    some_same x y e = cc
+
+    not_freeze : FreezeLimit ≡ HoldLimit → ⊥
+    not_freeze e = cc
+
+    not_answer : AnswerLimit ≡ HoldLimit → ⊥
+    not_answer e = cc
+
+    at_hold : (t : Option ℕ) (x : RunningLimit) → spent_of now (hold_running o.place.group t) ≡ Some x → hold_runs o.place.group ≡ true
+    at_hold None x i = absurd cc
+    at_hold (Some t) x i = runs_it (hold_runs o.place.group) t i
+      where
+        runs_it : (b : Bool) (t : ℕ) → spent_of now (runs_if b HoldLimit t hold_limit) ≡ Some x → b ≡ true
+        runs_it true t i = refl
+        runs_it false t i = absurd cc
+
+    by_limits : (hs fs xs : List RunningLimit) (h g : Option RunningLimit) → spent_of now hs ≡ h → spent_of now fs ≡ g → ((x : RunningLimit) → spent_of now hs ≡ Some x → hold_runs o.place.group ≡ true)
+        → ((x : RunningLimit) → spent_of now fs ≡ Some x → x.limit ≡ FreezeLimit) → ((x : RunningLimit) → spent_of now xs ≡ Some x → x.limit ≡ AnswerLimit) → spent_of now (hs ++ fs ++ xs) ≡ Some l → hold_runs o.place.group ≡ true
+    by_limits hs fs xs (Some x) g i j at_h at_f at_x e = at_h x i
+    by_limits hs fs xs None (Some x) i j at_h at_f at_x e =
+        let same = some_same x l (sym (first_found now (hs ++ fs) xs x (later_found now hs fs i ∙ j)) ∙ e) in
+        absurd (not_freeze (sym (at_f x j) ∙ ap (λ (y : RunningLimit). y.limit) same ∙ k))
+    by_limits hs fs xs None None i j at_h at_f at_x e = absurd (not_answer (sym (at_x l (sym (later_found now (hs ++ fs) xs (later_found now hs fs i ∙ j)) ∙ e)) ∙ k))
+
+steps_ask_nobody : (g : Group) (o : Order) → hold_runs g ≡ true → order_of g ≡ Some o → ⊥
+steps_ask_nobody (Orders p) o e f = cc
+steps_ask_nobody PreCommit o e f = cc
+steps_ask_nobody Flush o e f = cc
+steps_ask_nobody Hold o e f = cc
+steps_ask_nobody Cut o e f = cc
+steps_ask_nobody Commit o e f = cc
+steps_ask_nobody Release o e f = cc
+steps_ask_nobody PostCommit o e f = cc
+
+no_hold_asks : (now f : ℕ) (x : Option Agenda) (l : RunningLimit) (o : Order) → spent_of now (running_limits f x) ≡ Some l → l.limit ≡ HoldLimit → order_now (left x) ≡ Some o → ⊥
+no_hold_asks now f None l o e k i = none_and_some None l refl e
+no_hold_asks now f (Some a) l o e k i = at_list (groups_left a) e i
+  where
+    at_list : (os : List Open) → spent_of now (running_at f a os) ≡ Some l → order_now os ≡ Some o → ⊥
+    at_list [] e i = none_and_some None l refl e
+    at_list (x ∷ os) e i = steps_ask_nobody x.place.group o (holds_work now f a x os l e k) i
+
+calm_after : (k : Kind) (o : SetOutcome) → has_failed o ≡ false → has_failed (outcome_after k o) ≡ false
+calm_after Gather o e = e
+calm_after Prepare o e = e
+calm_after Snapshot o e = refl
+calm_after Complete o e = e
+
+calm_settled_if : (b : Bool) (k : Kind) (d : Course) → has_failed d.outcome ≡ false → has_failed (settled_if b k d).outcome ≡ false
+calm_settled_if true k d e = calm_after k d.outcome e
+calm_settled_if false k d e = e
+
+calm_settled_in : (x : Option Agenda) (d : Course) → has_failed d.outcome ≡ false → has_failed (settled_in x d).outcome ≡ false
+calm_settled_in None d e = e
+calm_settled_in (Some a) d e = calm_settled_if (is_done (groups_left a)) a.kind d e
+
+pub calm_settled : (d : Course) → has_failed d.outcome ≡ false → has_failed (settled d).outcome ≡ false
+unfolding settled
+calm_settled d e = calm_settled_in d.agenda d e
+
+stay_lost_to : (x : Option Order) (now : ℕ) (c : Course) → Becomes (say_to x Lost (waits_now (left c.agenda))) c.rows (lost_to x now c).rows
+stay_lost_to None now c = same_rows c.rows
+stay_lost_to (Some o) now c = stay_told o Lost now (waits_now (left c.agenda)) c
+
+members_lost_to : (x : Option Order) (now : ℕ) (c : Course) → (lost_to x now c).members ≡ c.members
+members_lost_to None now c = refl
+members_lost_to (Some o) now c = members_told o Lost now (waits_now (left c.agenda)) c
+
+outcome_told : (o : Order) (said : Said) (now : ℕ) (ws : List ℕ) (c : Course) → (told o said now ws c).outcome ≡ c.outcome
+unfolding told
+outcome_told o said now ws c = refl
+
+outcome_lost_to : (x : Option Order) (now : ℕ) (c : Course) → (lost_to x now c).outcome ≡ c.outcome
+outcome_lost_to None now c = refl
+outcome_lost_to (Some o) now c = outcome_told o Lost now (waits_now (left c.agenda)) c
+
+abbrev now_lost : ℕ → Course → Course
+now_lost now c = lost_to (order_now (left c.agenda)) now c
+
+-- those that are waited for are lost
+abbrev pub all_lost : Course → ℕ → WriterRow → WriterRow
+all_lost c = say_to (order_now (left c.agenda)) Lost (waits_now (left c.agenda))
+
+-- where a limit is spent
+abbrev pub lost_by : Option RunningLimit → Course → ℕ → WriterRow → WriterRow
+lost_by None c w r = r
+lost_by (Some l) c w r = all_lost c w r
+
+over_lost : (b : Bool) (now : ℕ) (c : Course) → fails_set (order_now (left c.agenda)) ≡ b → PassesOrFails (all_lost c) c (lost_decided b (lost now c))
+over_lost true now c e = inr (fails_by (all_lost c) _ c (now_lost now c) (stay_lost_to (order_now (left c.agenda)) now c) (members_lost_to (order_now (left c.agenda)) now c) (busy_by (order_now (left c.agenda)) refl e))
+  where
+    busy_by : (x : Option Order) → order_now (left c.agenda) ≡ x → fails_set x ≡ true → IsBusy c.agenda
+    busy_by None f g = absurd cc
+    busy_by (Some o) f g = busy_order c.agenda o f g
+over_lost false now c e = inl (record {
+  stay = stay_settled (all_lost c) c (now_lost now c) (stay_lost_to (order_now (left c.agenda)) now c);
+  calm = λ f. calm_settled (now_lost now c) (ap has_failed (outcome_lost_to (order_now (left c.agenda)) now c) ∙ f);
+})
+
+over_treated_as : (x : Limit) (now : ℕ) (c : Course) (l : RunningLimit) → spent_of now (limits_now c) ≡ Some l → l.limit ≡ x → PassesOrFails (all_lost c) c (treated_as x now c)
+over_treated_as HoldLimit now c l e k = inr (fails_by (all_lost c) _ c c (nobody_asked (order_now (left c.agenda)) refl) refl (busy_limit now (freeze_limit c) c.agenda l e (λ f. not_hold (sym k ∙ f))))
+  where
+    not_hold : HoldLimit ≡ AnswerLimit → ⊥
+    not_hold e = cc
+
+    -- while volumes are held the provider works
+    nobody_asked : (x : Option Order) → order_now (left c.agenda) ≡ x → Becomes (say_to x Lost (waits_now (left c.agenda))) c.rows c.rows
+    nobody_asked None f = same_rows c.rows
+    nobody_asked (Some o) f = absurd (no_hold_asks now (freeze_limit c) c.agenda l o e k f)
+over_treated_as FreezeLimit now c l e k =
+    inr (fails_by (all_lost c) _ c (now_lost now c) (stay_lost_to (order_now (left c.agenda)) now c) (members_lost_to (order_now (left c.agenda)) now c) (busy_limit now (freeze_limit c) c.agenda l e (λ f. not_freeze (sym k ∙ f))))
+  where
+    not_freeze : FreezeLimit ≡ AnswerLimit → ⊥
+    not_freeze e = cc
+over_treated_as AnswerLimit now c l e k = over_lost (fails_set (order_now (left c.agenda))) now c refl
+
+over_treated : (o : Option RunningLimit) (now : ℕ) (c : Course) → spent_of now (limits_now c) ≡ o → PassesOrFails (lost_by o c) c (treated o now c)
+over_treated None now c e = inl (record { stay = same_rows c.rows; calm = λ f. f })
+over_treated (Some l) now c e = over_treated_as l.limit now c l e refl
+
+pub over_timed : (now : ℕ) (c : Course) → PassesOrFails (lost_by (spent_of now (limits_now c)) c) c (course_timed now c)
+over_timed now c = over_posted (lost_by (spent_of now (limits_now c)) c) c c _ (over_treated (spent_of now (limits_now c)) now c refl)

@@ -1,0 +1,300 @@
+-- A session stands where its accepted lines have brought it.
+use Rattle.std.proofs.Common.{◌≡◌, ◌∙◌, ℕ, List, [], ◌∷◌, ◌++◌, Option, Some, None, refl, Bool, true, false, ap, sym, subst, inl, inr, fold}
+use Rattle.std.specs.Prelude.{◌&&◌, is_some, option_map, option_and_then, if◌then◌else◌, length}
+use Rattle.vss_names.specs.declared.context.Context.{Context}
+use Rattle.vss_names.specs.declared.context.Context.TheVariants.{Backup, AppRollback, NasRollback}
+use Rattle.vss_names.specs.declared.set_outcome.SetOutcome.{SetOutcome}
+use Rattle.vss_names.specs.declared.set_outcome.SetOutcome.TheVariants.{Running, Complete as CompleteSet, Failed as FailedSet}
+use Rattle.vss_names.specs.declared.vss_result.VssResult.{VssResult}
+use Rattle.vss_names.specs.declared.vss_result.VssResult.TheVariants.{AsyncPending, AsyncCancelled, BadState}
+use Rattle.vss_names.specs.Context.{number_of, context_of_number}
+use Rattle.vss_names.proofs.ContextRows.{IsLookUp-context_of_number}
+use Rattle.write_history.specs.declared.mark.Mark.{Mark}
+use Rattle.write_history.specs.declared.mark.Mark.TheVariants.{Clean}
+use Rattle.writer_calls.specs.Script.{said_of}
+use Rattle.set_agenda.specs.declared.kind.Kind.TheVariants as kind
+use Rattle.set_agenda.specs.Agenda.{open_group, next_volume}
+use Rattle.set_agenda.specs.Course.{Course, prepared, snapshot_begun}
+use Rattle.component_doc.specs.Selection.{takers}
+use Rattle.requestor.specs.declared.stage.Stage.{Stage}
+use Rattle.requestor.specs.declared.stage.Stage.TheVariants.{Opened, Gathered, Started, Prepared, Done, Finished, Failed}
+use Rattle.requestor.specs.declared.session_call.SessionCall.TheVariants as call
+use Rattle.requestor.specs.Session.{Session, has_writers, makes_set, context_of, context_if, without_all, mode_of, opened, started as session_started, stage_after, agenda_ended, set_failed}
+use Rattle.requestor.specs.Check.{is_stage}
+use Rattle.scenario.specs.declared.op.Op.{Op}
+use Rattle.scenario.specs.declared.op.Op.TheVariants as op
+use Rattle.scenario.specs.Calls.{Target, target_of}
+use Rattle.scenario.specs.Plan.{Plan}
+use Rattle.vss_model.specs.declared.event.Event.{Event}
+use Rattle.vss_model.specs.declared.event.Event.TheVariants.{Line, Answer as AnswerEvent, Provider, Idle}
+use Rattle.vss_model.specs.Reply.{Reply, Fine, Coded, Deleted, Idled}
+use Rattle.vss_model.specs.State.{State, SetRow, start, in_progress, left_now, row_of}
+use Rattle.vss_model.specs.Ending.{followed, runs, failed}
+use Rattle.vss_model.specs.Images.{Replied, refused, write, reverted_as}
+use Rattle.vss_model.specs.Sessions.{selected, start_set, has_no_volume, volumes_of, pending, new_number, closed}
+use Rattle.vss_model.specs.Laws.{LetsGo}
+use Rattle.vss_model.specs.Facts.{IsAgendaOf, IsOfSession, has_failed}
+use Rattle.vss_model.specs.Acts.{Act, order_of_writer, enabled, answer_reply, step_reply, reply, idle_now, after, state}
+use Rattle.vss_model.proofs.Appending.{state-append}
+use Rattle.vss_model.proofs.OrderlyActs.{orderly}
+use Rattle.promises.specs.Awaited.{failure_of, failure_in, set_failure}
+use Rattle.promises.specs.InOrder.{Step, ByBegin, ByGather, ByStart, ByPrepare, BySnapshot, ByComplete, ByFailure, Progress, line_brings, event_brings, lost_if, progress_after, progress_if, progress_from, progress, HasItsContext}
+use Rattle.promises.specs.Rows.{row_fails, set_fails}
+use Rattle.promises.proofs.ByEvent.{Covers, ChangesNothing, covered, after_enabled, after_not_enabled}
+use Rattle.promises.proofs.CalmCourses.{calm_begun}
+use Rattle.promises.proofs.SetFailures.{failure_at}
+use Rattle.promises.proofs.Turns.{Turn, quiet_turn, write_turn, revert_turn, begun_turn, answer_turn, tick_turn, step_turn, abort_turn, add_turn, none_started}
+
+-- ## where a session stands
+
+abbrev pub stage_of : Step → Stage
+stage_of ByBegin = Opened
+stage_of ByGather = Gathered
+stage_of ByStart = Started
+stage_of ByPrepare = Prepared
+stage_of BySnapshot = Done
+stage_of ByComplete = Finished
+stage_of ByFailure = Failed
+
+-- the stage once the agenda that runs has ended
+abbrev pub stage_to_come : Bool → Session → Stage
+stage_to_come true q = stage_after q.context q.stage
+stage_to_come false q = q.stage
+
+pub record StandsAt (q : Session) (busy : Bool) (p : Progress) : Type 0 where
+  pub context : number_of q.context ≡ p.context
+  pub mode : q.mode ≡ mode_of p.all
+  pub stage : stage_to_come busy q ≡ stage_of p.step
+
+-- ## what is known of the parts
+
+fails_so : (o : SetOutcome) → has_failed o ≡ is_some (failure_of o)
+fails_so Running = refl
+fails_so CompleteSet = refl
+fails_so (FailedSet why) = refl
+
+row_so : (o : Option SetRow) → row_fails o ≡ is_some (failure_in o)
+row_so None = refl
+row_so (Some r) = fails_so r.result
+
+set_so : (o : Option SetRow) (x : State) → set_fails o x ≡ is_some (set_failure o x)
+set_so None x = refl
+set_so (Some r) x = row_so (row_of x r.number)
+
+-- a context by its number
+context_is : (n : ℕ) (all : Bool) (c : Context) → context_of n all ≡ Some c → number_of c ≡ n
+context_is n all c e = by_number (context_of_number n) refl e
+  where
+    same_context : (a b : Context) → Some a ≡ Some b → a ≡ b
+    same_context a b e = cc
+
+    named : (b : Bool) (a : Context) → context_if b a ≡ Some c → a ≡ c
+    named true a e = same_context a c e
+    named false a e = absurd cc
+
+    by_mode : (b : Bool) (a : Context) → without_all b a ≡ Some c → a ≡ c
+    by_mode true a e = named (has_writers a) a e
+    by_mode false a e = same_context a c e
+
+    by_number : (o : Option Context) → context_of_number n ≡ o → option_and_then (without_all all) o ≡ Some c → number_of c ≡ n
+    by_number None f e = absurd cc
+    by_number (Some a) f e = ap number_of (sym (by_mode all a e)) ∙ (IsLookUp-context_of_number n (Some a) (sym f)).has
+
+brings_none : (o : Op) (told : Reply) (p : Progress) → ChangesNothing o told → line_brings o told p ≡ p
+brings_none (op.Begin n all) told p g = ap (λ b. if b then record { context = n; all = all; step = ByBegin } else p) (g.session refl)
+brings_none op.Gather told p g = ap (λ b. if b then record p { step = ByGather } else p) (g.agenda refl)
+brings_none op.Start told p g = ap (λ b. if b then record p { step = ByStart } else p) (g.set refl)
+brings_none op.Prepare told p g = ap (λ b. if b then record p { step = ByPrepare } else p) (g.agenda refl)
+brings_none op.Snapshot told p g = ap (λ b. if b then record p { step = BySnapshot } else p) (g.agenda refl)
+brings_none op.Complete told p g = ap (λ b. if b then record p { step = ByComplete } else p) (g.agenda refl)
+brings_none o told p g = refl
+
+write_brings : (o : Op) (t : Target) (told : Reply) (p : Progress) → target_of o ≡ Some t → line_brings o told p ≡ p
+write_brings (op.WriteFill v b x) t told p e = refl
+write_brings (op.WriteStamp v b n) t told p e = refl
+write_brings o t told p e = absurd cc
+
+both_true : (a b : Bool) → (a && b) ≡ true → (a ≡ true) × (b ≡ true)
+both_true true true e = (refl, refl)
+both_true true false e = absurd cc
+both_true false b e = absurd cc
+
+is_opened : (t : Stage) → is_stage t Opened ≡ true → t ≡ Opened
+is_opened Opened e = refl
+is_opened t e = absurd cc
+
+is_started : (t : Stage) → is_stage t Started ≡ true → t ≡ Started
+is_started Started e = refl
+is_started t e = absurd cc
+
+is_prepared : (t : Stage) → is_stage t Prepared ≡ true → t ≡ Prepared
+is_prepared Prepared e = refl
+is_prepared t e = absurd cc
+
+is_done : (t : Stage) → is_stage t Done ≡ true → t ≡ Done
+is_done Done e = refl
+is_done t e = absurd cc
+
+prepares : (c : Context) → has_writers c ≡ true → stage_after c Started ≡ Prepared
+prepares Backup e = refl
+prepares AppRollback e = refl
+prepares NasRollback e = absurd cc
+
+snapshots : (c : Context) (t : Stage) → (if has_writers c then is_stage t Prepared else is_stage t Started) ≡ true → stage_after c t ≡ Done
+snapshots Backup t e = ap (stage_after Backup) (is_prepared t e)
+snapshots AppRollback t e = ap (stage_after AppRollback) (is_prepared t e)
+snapshots NasRollback t e = ap (stage_after NasRollback) (is_started t e)
+
+-- ## every act
+
+module _ (s : Plan) (so_far : List Act) (p : Progress) where
+  abbrev pub st : State
+  st = state s so_far
+
+  abbrev pub Stands : State → Progress → Type 0
+  Stands x q = (own : Session) → x.session ≡ Some own → StandsAt own (runs x) q
+
+  some_same : (a b : Session) → Some a ≡ Some b → a ≡ b
+  some_same a b e = cc
+
+  come_failed : (b : Bool) (why : VssResult) (q : Session) → stage_to_come b (set_failed why q) ≡ Failed
+  come_failed true why q = refl
+  come_failed false why q = refl
+
+  module _ (h : Stands st p) where
+    abbrev Next : Event → Mark → Replied → Type 0
+    Next event mark x = Stands x.1 (progress_after st event x.0 x.1 p)
+
+    comes_to : (event : Event) (told : Reply) (x : State) (to : Progress) (b : Bool) → event_brings event told p ≡ to → set_fails (in_progress st) x ≡ b → progress_after st event told x p ≡ lost_if b to
+    comes_to event told x to b e f = ap (λ c. lost_if c (event_brings event told p)) f ∙ ap (lost_if b) e
+
+    on_failed : (why : VssResult) (o : Option Session) (to : Progress) (busy : Bool) → ((q : Session) → o ≡ Some q → (number_of q.context ≡ to.context) × (q.mode ≡ mode_of to.all)) → (own : Session) → option_map (set_failed why) o ≡ Some own → StandsAt own busy (record to { step = ByFailure })
+    on_failed why None to busy k own e = absurd cc
+    on_failed why (Some q) to busy k own e = subst (λ (y : Session). StandsAt y busy (record to { step = ByFailure })) (some_same (set_failed why q) own e) (record { context = (k q refl).0; mode = (k q refl).1; stage = come_failed busy why q })
+
+    on_ended : (o : Option Session) (to : Progress) → ((q : Session) → o ≡ Some q → StandsAt q true to) → (own : Session) → option_map agenda_ended o ≡ Some own → StandsAt own false to
+    on_ended None to k own e = absurd cc
+    on_ended (Some q) to k own e = subst (λ (y : Session). StandsAt y false to) (some_same (agenda_ended q) own e) (record { context = (k q refl).context; mode = (k q refl).mode; stage = (k q refl).stage })
+
+    by_turn : (event : Event) (told : Reply) (x : State) (ran : Bool) (to : Progress) → event_brings event told p ≡ to → ((q : Session) → st.session ≡ Some q → StandsAt q ran to) → Turn st x ran → Stands x (progress_after st event told x p)
+    by_turn event told x ran to e k (inl t) own i =
+        subst (StandsAt own (runs x)) (sym (comes_to event told x to true e (set_so (in_progress st) x ∙ ap is_some t.failure)))
+        (on_failed t.why st.session to (runs x) (λ q j. ((k q j).context, (k q j).mode)) own (sym t.session ∙ i))
+    by_turn event told x ran to e k (inr (inl t)) own i =
+        subst (StandsAt own (runs x)) (sym (comes_to event told x to false e (set_so (in_progress st) x ∙ ap is_some t.failure)))
+        (subst (λ b. StandsAt own b to) (sym t.quiet) (on_ended st.session to (λ q j. subst (λ b. StandsAt q b to) t.ran_is (k q j)) own (sym t.session ∙ i)))
+    by_turn event told x ran to e k (inr (inr t)) own i =
+        subst (StandsAt own (runs x)) (sym (comes_to event told x to false e (set_so (in_progress st) x ∙ ap is_some t.failure)))
+        (subst (λ b. StandsAt own b to) (sym t.runs_is) (k own (sym t.session ∙ i)))
+
+    goes : (event : Event) (told : Reply) (x : State) → event_brings event told p ≡ p → Turn st x (runs st) → Stands x (progress_after st event told x p)
+    goes event told x e t = by_turn event told x (runs st) p e h t
+
+    quiet : (event : Event) (told : Reply) (x : State) → event_brings event told p ≡ p → x.session ≡ st.session → ((n : ℕ) → failure_at x.sets n ≡ failure_at st.sets n) → runs x ≡ runs st → Stands x (progress_after st event told x p)
+    quiet event told x e f g i = goes event told x e (quiet_turn s so_far x f g i)
+
+    -- an agenda begins in the session q
+    on_begun : (lane : ℕ) (o : Op) (to : Step) (q : Session) (c : Course) → line_brings o (Coded AsyncPending) p ≡ record p { step = to } → st.session ≡ Some q → stage_after q.context q.stage ≡ stage_of to → (has_failed st.course.outcome ≡ false → has_failed c.outcome ≡ false)
+        → Stands (followed true c st) (progress_after st (Line lane o) (Coded AsyncPending) (followed true c st) p)
+    on_begun lane o to q c e f g calm =
+        by_turn (Line lane o) (Coded AsyncPending) (followed true c st) true (record p { step = to }) e
+        (λ x i. subst (λ (y : Session). StandsAt y true (record p { step = to })) (some_same q x (sym f ∙ i)) (record { context = (h q f).context; mode = (h q f).mode; stage = g })) (begun_turn s so_far c calm)
+
+    begun_if : (b : Bool) (lane : ℕ) (o : Op) (mark : Mark) (to : Step) (q : Session) (c : Course) → line_brings o (Coded BadState) p ≡ p → line_brings o (Coded AsyncPending) p ≡ record p { step = to } → st.session ≡ Some q → stage_after q.context q.stage ≡ stage_of to
+        → (has_failed st.course.outcome ≡ false → has_failed c.outcome ≡ false) → Next (Line lane o) mark (if b then refused BadState st else pending c st)
+    begun_if true lane o mark to q c d e f g calm = quiet (Line lane o) (Coded BadState) st d refl (λ n. refl) refl
+    begun_if false lane o mark to q c d e f g calm = on_begun lane o to q c e f g calm
+
+    on_close : (event : Event) (told : Reply) (q : Session) (x : State) → Stands (closed q x) (progress_after st event told (closed q x) p)
+    unfolding closed
+    on_close event told q x own e = absurd cc
+
+    no_agenda : (a : Option _) → IsAgendaOf a None → is_some a ≡ false
+    no_agenda None i = refl
+    no_agenda (Some a) i = absurd i
+
+    no_set : st.session ≡ None → (x : State) → set_fails (in_progress st) x ≡ false
+    no_set e x = by_set (in_progress st) (subst (λ o. IsOfSession o st.course.outcome (in_progress st)) e (orderly s so_far).session)
+      where
+        by_set : (o : Option SetRow) → IsOfSession None st.course.outcome o → set_fails o x ≡ false
+        by_set None i = refl
+        by_set (Some r) i = absurd i
+
+    on_opened : (lane n : ℕ) (all : Bool) (c : Context) → st.session ≡ None → context_of n all ≡ Some c → Next (Line lane (op.Begin n all)) Clean (Fine, record st { session = Some (opened lane c all); explicit = [] })
+    on_opened lane n all c e f own i =
+        let x : State = record st { session = Some (opened lane c all); explicit = [] } in
+        subst (StandsAt own (runs x)) (sym (comes_to (Line lane (op.Begin n all)) Fine x (record { context = n; all = all; step = ByBegin }) false refl (no_set e x)))
+        (subst (λ (y : Session). StandsAt y (runs x) (record { context = n; all = all; step = ByBegin })) (some_same (opened lane c all) own i)
+        (subst (λ b. StandsAt (opened lane c all) b (record { context = n; all = all; step = ByBegin })) (sym (no_agenda st.course.agenda (subst (IsAgendaOf st.course.agenda) e (orderly s so_far).agenda))) (record { context = context_is n all c f; mode = refl; stage = refl })))
+
+    on_start : (lane : ℕ) (q : Session) → LetsGo call.Start q st → makes_set q.stage ≡ false → Stands (start_set q st).1 (progress_after st (Line lane op.Start) (start_set q st).0 (start_set q st).1 p)
+    on_start lane q g e own i =
+        let x = (start_set q st).1 in
+        subst (StandsAt own (runs st)) (sym (comes_to (Line lane op.Start) (start_set q st).0 x (record p { step = ByStart }) false refl (set_so (in_progress st) x ∙ ap is_some (none_started s so_far q x g.stands e))))
+        (subst (λ (y : Session). StandsAt y (runs st) (record p { step = ByStart })) (some_same (session_started (new_number st) q) own i)
+        (subst (λ b. StandsAt (session_started (new_number st) q) b (record p { step = ByStart })) (sym g.quiet) (record { context = (h q g.stands).context; mode = (h q g.stands).mode; stage = refl })))
+
+    stands_on : Covers Next s st
+    stands_on = record {
+      stays = λ lane o mark told e f. quiet (Line lane o) told st (brings_none o told p f) refl (λ n. refl) refl;
+      writes = λ lane o v w mark e f. goes (Line lane o) (write s v w mark st).0 _ (write_brings o _ (write s v w mark st).0 p e) (write_turn s so_far v w mark);
+      reverts = λ lane n v k mark e f. goes (Line lane (op.Revert n v)) (reverted_as s v k mark st).0 _ refl (revert_turn s so_far v k mark);
+      deletes_set = λ lane n c mark e. quiet (Line lane (op.DeleteSet n)) (Deleted c) _ refl refl (λ m. refl) refl;
+      deletes_image = λ lane n v k mark e. quiet (Line lane (op.DeleteImage n v)) (Deleted 1) _ refl refl (λ m. refl) refl;
+      ticks = λ lane n mark. goes (Line lane (op.Tick n)) Fine _ refl (tick_turn s so_far n);
+      begins = λ lane n all c mark e f. on_opened lane n all c e f;
+      disables = λ lane w q mark g. quiet (Line lane (op.Disable w)) Fine _ refl refl (λ m. refl) refl;
+      gathers = λ lane q mark g. on_begun lane op.Gather ByGather q _ refl g.stands (ap (stage_after q.context) (is_opened q.stage (both_true (is_stage q.stage Opened) (has_writers q.context) g.allowed).0)) (calm_begun kind.Gather _ [] st.clock _);
+      names = λ lane w full q explicit mark g named. quiet (Line lane (op.Component w full)) Fine _ refl refl (λ m. refl) refl;
+      starts = λ lane q mark g e. on_start lane q g e;
+      adds = λ lane v r q mark g e f. goes (Line lane (op.Add v)) Fine _ refl (add_turn s so_far v r);
+      prepares = λ lane q mark g. let may = both_true (is_stage q.stage Started) (has_writers q.context) g.allowed in
+          begun_if (has_no_volume (in_progress st)) lane op.Prepare mark ByPrepare q (prepared (takers (length s.writers) (selected s q st)) st.clock st.course) refl refl g.stands
+          (ap (stage_after q.context) (is_started q.stage may.0) ∙ prepares q.context may.1) (calm_begun kind.Prepare _ [] st.clock _);
+      snapshots = λ lane q mark g. begun_if (has_no_volume (in_progress st)) lane op.Snapshot mark BySnapshot q (snapshot_begun (volumes_of (in_progress st)) st.clock st.course) refl refl g.stands (snapshots q.context q.stage g.allowed)
+          (calm_begun kind.Snapshot st.course.members _ st.clock st.course);
+      completes = λ lane q mark g. on_begun lane op.Complete ByComplete q _ refl g.stands (ap (stage_after q.context) (is_done q.stage (both_true (is_stage q.stage Done) (has_writers q.context) g.allowed).0)) (calm_begun kind.Complete _ [] st.clock st.course);
+      aborts = λ lane q mark e. goes (Line lane op.Abort) Fine _ refl (abort_turn s so_far);
+      ends = λ lane q mark e. on_close (Line lane op.End) Fine q (failed AsyncCancelled st);
+      answers = λ w answer mark e. goes (AnswerEvent w answer) (answer_reply (order_of_writer st w) answer) _ refl (answer_turn s so_far w (said_of answer));
+      steps = λ mark e. goes Provider (step_reply (open_group (left_now st)) (next_volume (left_now st)) mark) _ refl (step_turn s so_far mark e);
+      idles = λ mark e. goes Idle (Idled (idle_now st)) _ refl (tick_turn s so_far (idle_now st));
+    }
+
+    stands_if : (b : Bool) (act : Act) → enabled s st act.event ≡ b → Stands (after s st act) (progress_if b s st p act)
+    stands_if true act e = let same = after_enabled s st act e in subst (λ (x : State). Stands x (progress_after st act.event (reply s st act) x p)) (sym same) (covered Next s st stands_on act.event act.mark e)
+    stands_if false act e = subst (λ (x : State). Stands x p) (sym (after_not_enabled s st act e)) h
+
+-- ## every list of acts
+
+progress_from-append : (s : Plan) (x : State) (p : Progress) (acts : List Act) (act : Act)
+    → progress_from s x p (acts ++ act ∷ []) ≡ progress_if (enabled s (fold (after s) x acts) act.event) s (fold (after s) x acts) (progress_from s x p acts) act
+progress_from-append s x p [] act = refl
+progress_from-append s x p (a ∷ acts) act = progress_from-append s (after s x a) (progress_if (enabled s x a.event) s x p a) acts act
+
+abbrev pub StandsSo : Plan → List Act → Type 0
+StandsSo s so_far = (own : Session) → (state s so_far).session ≡ Some own → StandsAt own (runs (state s so_far)) (progress s so_far)
+
+stands_next : (s : Plan) (so_far : List Act) (act : Act) → StandsSo s so_far → StandsSo s (so_far ++ act ∷ [])
+stands_next s so_far act h =
+    subst (λ (x : State). (own : Session) → x.session ≡ Some own → StandsAt own (runs x) (progress s (so_far ++ act ∷ []))) (sym (state-append s so_far act))
+    (subst (λ q. (own : Session) → (after s (state s so_far) act).session ≡ Some own → StandsAt own (runs (after s (state s so_far) act)) q) (sym (progress_from-append s (start s) (record { context = 0; all = false; step = ByBegin }) so_far act))
+    (stands_if s so_far (progress s so_far) h (enabled s (state s so_far) act.event) act refl))
+
+stands_from : (s : Plan) (so_far acts : List Act) → StandsSo s so_far → StandsSo s (so_far ++ acts)
+stands_from s so_far [] h = subst (StandsSo s) (sym (append_none so_far)) h
+  where
+    append_none : (xs : List Act) → xs ++ [] ≡ xs
+    append_none [] = refl
+    append_none (x ∷ xs) = ap (λ ys. x ∷ ys) (append_none xs)
+stands_from s so_far (act ∷ acts) h = subst (StandsSo s) (regrouped so_far acts) (stands_from s (so_far ++ act ∷ []) acts (stands_next s so_far act h))
+  where
+    regrouped : (xs ys : List Act) → (xs ++ act ∷ []) ++ ys ≡ xs ++ act ∷ ys
+    regrouped [] ys = refl
+    regrouped (x ∷ xs) ys = ap (λ zs. x ∷ zs) (regrouped xs ys)
+
+pub stands_all : (s : Plan) (so_far : List Act) → StandsSo s so_far
+stands_all s so_far = stands_from s [] so_far (λ own e. absurd cc)
+
+pub has_its_context : (s : Plan) (so_far : List Act) → HasItsContext s so_far
+has_its_context s so_far q e = (stands_all s so_far q e).context

@@ -1,0 +1,261 @@
+-- What an act makes of a session: its set fails, its agenda ends, or it stays as it is.
+use Rattle.std.proofs.Common.{◌≡◌, ◌∙◌, ℕ, ◌+◌, List, ◌⊎◌, Option, Some, None, refl, Bool, true, false, ap, sym, subst, inl, inr, map}
+use Rattle.std.specs.Prelude.{is_some, option_map}
+use Rattle.vss_names.specs.declared.set_outcome.SetOutcome.{SetOutcome}
+use Rattle.vss_names.specs.declared.set_outcome.SetOutcome.TheVariants.{Running as RunningSet, Complete as CompleteSet, Failed as FailedSet}
+use Rattle.vss_names.specs.declared.vss_result.VssResult.{VssResult}
+use Rattle.vss_names.specs.declared.vss_result.VssResult.TheVariants.{AsyncCancelled, InsufficientStorage}
+use Rattle.writer_state.specs.declared.said.Said.{Said}
+use Rattle.write_history.specs.declared.mark.Mark.{Mark}
+use Rattle.write_history.specs.declared.mark.Mark.TheVariants.{Clean, Fault, FaultAfter}
+use Rattle.write_history.specs.History.{Write}
+use Rattle.set_agenda.specs.declared.group.Group.{Group}
+use Rattle.set_agenda.specs.Agenda.{Agenda, open_group, is_working}
+use Rattle.set_agenda.specs.Course.{Course, failed as course_failed, answered as course_answered, stepped as course_stepped, timed as course_timed}
+use Rattle.requestor.specs.Session.{Session, makes_set, agenda_ended, set_failed}
+use Rattle.scenario.specs.Plan.{Plan}
+use Rattle.vss_model.specs.State.{State, SetRow, Kept, is_running, in_progress, row_changed, left_now}
+use Rattle.vss_model.specs.Ending.{AgendaEnds, SetFails, ending, row_settled, concluded, followed, runs, failed_in, failed}
+use Rattle.vss_model.specs.Images.{cleared, set_loses_image, with_room_if, put, write, reverted_as}
+use Rattle.vss_model.specs.Sessions.{change_set, with_volume}
+use Rattle.vss_model.specs.Steps.{answered, step_made, is_flush, is_failed_step, stepped_as, stepped, ticked, later}
+use Rattle.vss_model.specs.Facts.{IsOfSession, has_failed}
+use Rattle.vss_model.specs.Acts.{Act, state}
+use Rattle.vss_model.proofs.FlushFails.{outcome_is_running}
+use Rattle.vss_model.proofs.LogRule.{course-step_made}
+use Rattle.vss_model.proofs.OrderlyActs.{Moves, MovesOn, moves_answered, moves_stepped, moves_timed, orderly}
+use Rattle.vss_model.proofs.Rows.{running_found, row_running, row_settles, result-settled}
+use Rattle.promises.specs.Awaited.{failure_of, failure_in, set_failure}
+use Rattle.promises.proofs.BusyAgendas.{IsBusy, busy_set, busy_step}
+use Rattle.promises.proofs.CalmCourses.{CalmOrBusy, calm_answered, calm_stepped, calm_timed}
+use Rattle.promises.proofs.Contexts.{settled_number, changed_number}
+use Rattle.promises.proofs.GoneImages.{none_stepped}
+use Rattle.promises.proofs.SetFailures.{failure_at, failure_map, running_calm, settled_calm, changed_result, failures_made, session_made}
+
+-- the set in progress fails, and the session with it
+pub record Falls (st x : State) : Type 0 where
+  pub why : VssResult
+  pub session : x.session ≡ option_map (set_failed why) st.session
+  pub failure : set_failure (in_progress st) x ≡ Some why
+  pub outcome : x.course.outcome ≡ FailedSet why
+
+-- an agenda ends
+pub record AgendaOver (st x : State) (ran : Bool) : Type 0 where
+  pub ran_is : ran ≡ true
+  pub session : x.session ≡ option_map agenda_ended st.session
+  pub failure : set_failure (in_progress st) x ≡ None
+  pub quiet : runs x ≡ false
+
+-- neither; an agenda runs where one ran or began
+pub record StaysSo (st x : State) (ran : Bool) : Type 0 where
+  pub session : x.session ≡ st.session
+  pub failure : set_failure (in_progress st) x ≡ None
+  pub runs_is : runs x ≡ ran
+
+abbrev pub Turn : State → State → Bool → Type 0
+Turn st x ran = Falls st x ⊎ (AgendaOver st x ran ⊎ StaysSo st x ran)
+
+module _ (s : Plan) (so_far : List Act) where
+  abbrev pub st : State
+  st = state s so_far
+
+  none_in : (x : State) (o : Option SetRow) → in_progress st ≡ o → ((n : ℕ) → failure_at x.sets n ≡ failure_at st.sets n) → set_failure o x ≡ None
+  none_in x None e f = refl
+  none_in x (Some r) e f = f r.number ∙ ap failure_in (row_running 1 st.sets r (orderly s so_far).numbered e) ∙ running_calm r.result (running_found st.sets r e)
+
+  pub no_failure : (x : State) → ((n : ℕ) → failure_at x.sets n ≡ failure_at st.sets n) → set_failure (in_progress st) x ≡ None
+  no_failure x f = none_in x (in_progress st) refl f
+
+  -- nothing ends
+  pub quiet_turn : (x : State) → x.session ≡ st.session → ((n : ℕ) → failure_at x.sets n ≡ failure_at st.sets n) → runs x ≡ runs st → Turn st x (runs st)
+  quiet_turn x e f g = inr (inr (record { session = e; failure = no_failure x f; runs_is = g }))
+
+  -- ## the course goes on
+
+  set_there : (o : Option SetRow) (X : Type 0) → is_some o ≡ true → ((r : SetRow) → o ≡ Some r → X) → X
+  set_there None X e f = absurd cc
+  set_there (Some r) X e f = f r refl
+
+  busy_there : IsBusy st.course.agenda → is_some (in_progress st) ≡ true
+  busy_there b = busy_set st.course.agenda st.session st.course.outcome (in_progress st) b (orderly s so_far).agenda (orderly s so_far).session
+
+  failing_set : (c : Course) (why : VssResult) → st.course.outcome ≡ RunningSet → c.outcome ≡ FailedSet why → CalmOrBusy st.course c → is_some (in_progress st) ≡ true
+  failing_set c why e f (inl calm) = absurd (differ (calm (ap has_failed e)) (ap has_failed f))
+    where
+      differ : has_failed c.outcome ≡ false → has_failed c.outcome ≡ true → ⊥
+      differ g i = cc
+  failing_set c why e f (inr busy) = busy_there busy
+
+  -- its row has the result
+  fallen : (x : State) (p : SetOutcome) (why : VssResult) → x.sets ≡ map (row_settled p) st.sets → p ≡ FailedSet why → is_some (in_progress st) ≡ true → set_failure (in_progress st) x ≡ Some why
+  fallen x p why e f g =
+      set_there (in_progress st) (set_failure (in_progress st) x ≡ Some why) g
+      (λ r i. ap (λ o. set_failure o x) i
+      ∙ ap (λ rows. failure_at rows r.number) e
+      ∙ ap failure_in (row_settles p r.number st.sets ∙ ap (option_map (row_settled p)) (row_running 1 st.sets r (orderly s so_far).numbered i))
+      ∙ ap failure_of (result-settled (is_running r.result) p r (running_found st.sets r i) ∙ f))
+
+  -- no set is in progress where the outcome is an end
+  no_set : (x : State) → (st.course.outcome ≡ RunningSet → ⊥) → set_failure (in_progress st) x ≡ None
+  no_set x f = by_set (in_progress st) refl
+    where
+      by_set : (o : Option SetRow) → in_progress st ≡ o → set_failure o x ≡ None
+      by_set None e = refl
+      by_set (Some r) e = absurd (f (outcome_is_running s so_far r e))
+
+  -- from a state with the same session and the same failures; and with the same sets, where the course fails
+  module _ (c : Course) (y : State) (session : y.session ≡ st.session) (failures : (n : ℕ) → failure_at y.sets n ≡ failure_at st.sets n) (calm : CalmOrBusy st.course c) (sets : has_failed c.outcome ≡ true → y.sets ≡ st.sets) where
+    abbrev z : State
+    z = record y { course = c }
+
+    settled_failures : failure_of c.outcome ≡ None → (n : ℕ) → failure_at (map (row_settled c.outcome) y.sets) n ≡ failure_at st.sets n
+    settled_failures e n = failure_map (row_settled c.outcome) (settled_number c.outcome) (settled_calm c.outcome e) y.sets n ∙ failures n
+
+    not_running : (o : SetOutcome) → st.course.outcome ≡ o → is_running o ≡ false → st.course.outcome ≡ RunningSet → ⊥
+    not_running o e f g = differ o f (sym e ∙ g)
+      where
+        differ : (p : SetOutcome) → is_running p ≡ false → p ≡ RunningSet → ⊥
+        differ p e f = absurd (both (is_running p) (ap is_running f) e)
+          where
+            both : (b : Bool) → b ≡ true → b ≡ false → ⊥
+            both b e f = cc
+
+    over : c.agenda ≡ None → set_failure (in_progress st) (concluded AgendaEnds z) ≡ None → Turn st (concluded AgendaEnds z) true
+    over e f = inr (inl (record { ran_is = refl; session = ap (option_map agenda_ended) session; failure = f; quiet = ap is_some e }))
+
+    nothing : (ran : Bool) → is_some c.agenda ≡ ran → set_failure (in_progress st) z ≡ None → Turn st z ran
+    nothing ran e f = inr (inr (record { session = session; failure = f; runs_is = e }))
+
+    by_ending : (o n : SetOutcome) (ran : Bool) (a : Option Agenda) → st.course.outcome ≡ o → c.outcome ≡ n → c.agenda ≡ a → (ran ≡ false → is_some c.agenda ≡ false) → Turn st (concluded (ending o n ran a) z) ran
+    by_ending RunningSet (FailedSet why) ran a e f g idle =
+        inl (record { why = why; session = ap (option_map (set_failed why)) session; failure = fallen (concluded (SetFails why) z) c.outcome why (ap (map (row_settled c.outcome)) (sets (ap has_failed f))) f (failing_set c why e f calm); outcome = f })
+    by_ending RunningSet RunningSet true None e f g idle = over g (no_failure (concluded AgendaEnds z) (settled_failures (ap failure_of f)))
+    by_ending RunningSet RunningSet true (Some a) e f g idle = nothing true (ap is_some g) (no_failure z failures)
+    by_ending RunningSet RunningSet false a e f g idle = nothing false (idle refl) (no_failure z failures)
+    by_ending RunningSet CompleteSet true None e f g idle = over g (no_failure (concluded AgendaEnds z) (settled_failures (ap failure_of f)))
+    by_ending RunningSet CompleteSet true (Some a) e f g idle = nothing true (ap is_some g) (no_failure z failures)
+    by_ending RunningSet CompleteSet false a e f g idle = nothing false (idle refl) (no_failure z failures)
+    by_ending CompleteSet n true None e f g idle = over g (no_set (concluded AgendaEnds z) (not_running CompleteSet e refl))
+    by_ending CompleteSet n true (Some a) e f g idle = nothing true (ap is_some g) (no_set z (not_running CompleteSet e refl))
+    by_ending CompleteSet n false a e f g idle = nothing false (idle refl) (no_set z (not_running CompleteSet e refl))
+    by_ending (FailedSet x) n true None e f g idle = over g (no_set (concluded AgendaEnds z) (not_running (FailedSet x) e refl))
+    by_ending (FailedSet x) n true (Some a) e f g idle = nothing true (ap is_some g) (no_set z (not_running (FailedSet x) e refl))
+    by_ending (FailedSet x) n false a e f g idle = nothing false (idle refl) (no_set z (not_running (FailedSet x) e refl))
+
+    followed_turn : (ran : Bool) → y.course ≡ st.course → (ran ≡ false → is_some c.agenda ≡ false) → Turn st (followed ran c y) ran
+    unfolding followed
+    followed_turn ran g idle = subst (λ o. Turn st (concluded (ending o c.outcome ran c.agenda) z) ran) (ap (λ (d : Course). d.outcome) (sym g)) (by_ending st.course.outcome c.outcome ran c.agenda refl refl refl idle)
+
+  -- no agenda comes where none ran
+  still_idle : (c : Course) → MovesOn st.course c → runs st ≡ false → is_some c.agenda ≡ false
+  still_idle c m e = by_agendas st.course.agenda c.agenda e m
+    where
+      by_agendas : (a b : Option Agenda) → is_some a ≡ false → Moves a st.course.outcome b c.outcome → is_some b ≡ false
+      by_agendas None None e m = refl
+      by_agendas None (Some b) e m = absurd m
+      by_agendas (Some a) b e m = absurd cc
+
+  -- ## the set fails at once
+
+  failed_turn : (o : Option SetRow) (why : VssResult) (y : State) → in_progress st ≡ o → y.sets ≡ st.sets → y.session ≡ st.session → y.course ≡ st.course → Turn st (failed_in o why y) (runs st)
+  unfolding course_failed
+  failed_turn None why y e sets session course = quiet_turn y session (λ n. ap (λ rows. failure_at rows n) sets) (ap (λ (d : Course). is_some d.agenda) course)
+  failed_turn (Some r) why y e sets session course =
+      inl (record { why = why; session = ap (option_map (set_failed why)) session; failure = fallen (failed_in (Some r) why y) (FailedSet why) why (ap (map (row_settled (FailedSet why))) sets) refl (ap is_some e); outcome = refl })
+
+  pub abort_turn : Turn st (failed AsyncCancelled st) (runs st)
+  abort_turn = failed_turn (in_progress st) AsyncCancelled st refl refl refl refl
+
+  -- ## writes and reverts
+
+  room_turn : (v b : ℕ) (c : Bool) → Turn st (with_room_if c (cleared s v b st)) (runs st)
+  room_turn v b true = failed_turn (in_progress st) InsufficientStorage (cleared s v b st) refl refl refl refl
+  room_turn v b false = quiet_turn (cleared s v b st) refl (λ n. refl) refl
+
+  put_turn : (v : ℕ) (w : Write) (mark : Mark) (x : State) → Turn st x (runs st) → Turn st (put v w mark x) (runs st)
+  put_turn v w Clean x i = same_turn i
+    where
+      same_failure : (o : Option SetRow) → set_failure o (put v w Clean x) ≡ set_failure o x
+      same_failure None = refl
+      same_failure (Some r) = refl
+
+      -- volumes alone change
+      same_turn : Turn st x (runs st) → Turn st (put v w Clean x) (runs st)
+      same_turn (inl t) = inl (record { why = t.why; session = t.session; failure = same_failure (in_progress st) ∙ t.failure; outcome = t.outcome })
+      same_turn (inr (inl t)) = inr (inl (record { ran_is = t.ran_is; session = t.session; failure = same_failure (in_progress st) ∙ t.failure; quiet = t.quiet }))
+      same_turn (inr (inr t)) = inr (inr (record { session = t.session; failure = same_failure (in_progress st) ∙ t.failure; runs_is = t.runs_is }))
+  put_turn v w Fault x i = i
+  put_turn v w (FaultAfter k) x i = i
+
+  pub write_turn : (v : ℕ) (w : Write) (mark : Mark) → Turn st (write s v w mark st).1 (runs st)
+  unfolding write
+  write_turn v w mark = put_turn v w mark _ (room_turn v w.block (set_loses_image (in_progress st) st.volumes (cleared s v w.block st).volumes))
+
+  pub revert_turn : (v : ℕ) (k : Kept) (mark : Mark) → Turn st (reverted_as s v k mark st).1 (runs st)
+  revert_turn v k Clean = quiet_turn _ refl (λ m. refl) refl
+  revert_turn v k Fault = quiet_turn st refl (λ m. refl) refl
+  revert_turn v k (FaultAfter j) = quiet_turn _ refl (λ m. refl) refl
+
+  -- ## agendas
+
+  pub begun_turn : (c : Course) → (has_failed st.course.outcome ≡ false → has_failed c.outcome ≡ false) → Turn st (followed true c st) true
+  begun_turn c calm = followed_turn c st refl (λ n. refl) (inl calm) (λ g. refl) true refl (λ e. absurd cc)
+
+  pub answer_turn : (w : ℕ) (said : Said) → Turn st (answered w said st) (runs st)
+  unfolding answered
+  answer_turn w said =
+      let c = course_answered w said st.clock st.course in
+      followed_turn c st refl (λ n. refl) (calm_answered w said st.clock st.course) (λ g. refl) (runs st) refl (still_idle c (moves_answered w said st.clock st.course))
+
+  pub tick_turn : (n : ℕ) → Turn st (ticked n st) (runs st)
+  unfolding ticked
+  tick_turn n =
+      let c = course_timed (st.clock + n) st.course in
+      followed_turn c (later n st) refl (λ m. refl) (calm_timed (st.clock + n) st.course) (λ g. refl) (runs st) refl (still_idle c (moves_timed (st.clock + n) st.course))
+
+  -- a step that is made fails nothing
+  step_calm : is_working (left_now st) ≡ true → has_failed (course_stepped true st.clock st.course).outcome ≡ true → ⊥
+  step_calm e f = set_there (in_progress st) ⊥ (busy_calm (calm_stepped true st.clock st.course e)) (λ r i. differ (none_stepped st.clock st.course (ap has_failed (outcome_is_running s so_far r i))))
+    where
+      differ : has_failed (course_stepped true st.clock st.course).outcome ≡ false → ⊥
+      differ g = absurd (both (has_failed (course_stepped true st.clock st.course).outcome) f g)
+        where
+          both : (b : Bool) → b ≡ true → b ≡ false → ⊥
+          both b e f = cc
+
+      busy_calm : CalmOrBusy st.course (course_stepped true st.clock st.course) → is_some (in_progress st) ≡ true
+      busy_calm (inr b) = busy_there b
+      busy_calm (inl calm) = by_set (in_progress st) refl
+        where
+          by_set : (o : Option SetRow) → in_progress st ≡ o → is_some o ≡ true
+          by_set (Some r) e = refl
+          by_set None i = ap is_some (sym i) ∙ busy_there (busy_step st.course.agenda e)
+
+  step_as : (b : Bool) (g : Option Group) → is_working (left_now st) ≡ true → Turn st (stepped_as b g st) (runs st)
+  step_as true g e =
+      let c = course_stepped false st.clock st.course in
+      followed_turn c st refl (λ n. refl) (calm_stepped false st.clock st.course e) (λ f. refl) (runs st) refl (still_idle c (moves_stepped false st.clock st.course e))
+  step_as false g e =
+      let c = course_stepped true st.clock st.course in
+      followed_turn c (step_made g st) (session_made g st) (failures_made g st) (calm_stepped true st.clock st.course e) (λ f. absurd (step_calm e f)) (runs st) (course-step_made g st) (still_idle c (moves_stepped true st.clock st.course e))
+
+  pub step_turn : (mark : Mark) → is_working (left_now st) ≡ true → Turn st (stepped mark st) (runs st)
+  unfolding stepped
+  step_turn mark e = step_as (is_failed_step (is_flush (open_group (left_now st))) mark) (open_group (left_now st)) e
+
+  -- ## a set starts, or a volume is added
+
+  pub none_started : (q : Session) (x : State) → st.session ≡ Some q → makes_set q.stage ≡ false → set_failure (in_progress st) x ≡ None
+  none_started q x f g = by_set (in_progress st) refl (orderly s so_far).session
+    where
+      both : (b : Bool) → b ≡ true → b ≡ false → ⊥
+      both b e f = cc
+
+      by_set : (o : Option SetRow) → in_progress st ≡ o → IsOfSession st.session st.course.outcome (in_progress st) → set_failure o x ≡ None
+      by_set None e i = refl
+      by_set (Some r) e i =
+          let own : IsOfSession (Some q) st.course.outcome (Some r) = subst (λ o. IsOfSession (Some q) st.course.outcome o) e (subst (λ p. IsOfSession p st.course.outcome (in_progress st)) f i) in
+          absurd (both (makes_set q.stage) own.0 g)
+
+  pub add_turn : (v : ℕ) (r : SetRow) → Turn st (change_set r.number (with_volume v) st) (runs st)
+  add_turn v r = quiet_turn _ refl (failure_map (row_changed r.number (with_volume v)) (λ x. changed_number r.number (with_volume v) x refl) (λ x. changed_result r.number (with_volume v) x refl) st.sets) refl
