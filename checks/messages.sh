@@ -278,33 +278,52 @@ said "it has $((size + 1)) bytes" "an area has $size"
 ran 9 inspect < "$top/examples/first.scenario"
 said "it is a scenario: ./vss run < FILE"
 
-# on a terminal `run` says where the scenario comes from
-python3 - "$top/vss" > "$room/err" << 'END' || wrong "of a terminal: $(cat "$room/err")"
-import os, pty, sys
-said = b""
-child, terminal = pty.fork()
-if child == 0:
-    os.execv(sys.argv[1], [sys.argv[1], "run"])
-os.write(terminal, b"scenario 1\nvoluem C 4 4\n\x04")
-while True:
-    try:
-        piece = os.read(terminal, 4096)
-    except OSError:
-        break
-    if not piece:
-        break
-    said += piece
-print(said.decode(errors="replace"))
-status = os.waitstatus_to_exitcode(os.waitpid(child, 0)[1])
-sys.exit(0 if status == 3 and b"from this terminal" in said and b"did you mean `volume`?" in said else 1)
-END
+# a device that fails: the file, the call and the system's reason are told, and of what the run made nothing is left; then what it says follows,
+# and what stands in the folder at the end, and the folder
+fails() {
+  local told="$1" left="$2" folder="$3"
+  ran 6 run "$folder" < "$top/examples/first.scenario"
+  said "vss: device fault" "     $folder/$told" "no file of this run is left"
+  [ ! -s "$room/out" ] || wrong "a report is written where a device failed"
+  [ ! -d "$folder" ] || [ "$(ls "$folder" | tr '\n' ' ')" = "$left" ] || wrong "behind \"$told\" stand $(ls "$folder")"
+}
+fails "C.vol could not be created: File exists (os error 17)" "C.area C.vol " "$room/disks"
+mkdir "$room/mine" "$room/small" "$room/end"
+echo mine > "$room/mine/C.area"
+fails "C.area could not be created: File exists (os error 17)" "C.area " "$room/mine"
+[ "$(cat "$room/mine/C.area")" = mine ] || wrong "a file that was there is another"
+fails "C.vol could not be created: No such file or directory (os error 2)" "" "$room/none"
+said "mkdir $room/none"
+ulimit -S -f 10
+fails "C.vol could not be given its length: File too large (os error 27)" "" "$room/small"
+ulimit -S -f unlimited
 
-# how long an explanation takes, in milliseconds: of a short text, and of one of 16 MiB
+# no rights, and a full disk, as far as they can be had here
+mkdir -m 555 "$room/sealed"
+as_nobody=()
+[ "$(id -u)" != 0 ] || as_nobody=(setpriv --reuid=65534 --regid=65534 --clear-groups)
+chmod 711 "$room"
+cp "$vss" "$room/program" && chmod 755 "$room/program"
+"${as_nobody[@]}" "$room/program" run "$room/sealed" < "$top/examples/first.scenario" 2> "$room/err"
+said "vss: device fault" "     $room/sealed/C.vol could not be created: Permission denied (os error 13)"
+if mount -t tmpfs -o size=48k tmpfs "$room/end" 2> /dev/null; then
+  fails "C.area could not be written: No space left on device (os error 28)" "" "$room/end"
+  umount "$room/end"
+fi
+if [ -w /dev/full ]; then
+  mkdir "$room/whole"
+  "$top/vss" run "$room/whole" < "$top/examples/first.scenario" > /dev/full 2> "$room/err"
+  [ "$?" = 5 ] && [ "$(ls "$room/whole" | wc -l)" = 2 ] || wrong "where the report finds no room, the files are gone"
+fi
+
+# on a terminal: where the scenario comes from, how far a long run is, and Ctrl-C
+trials=$((trials + 3))
+python3 checks/messages/on_terminal.py "$top/vss" "$room" || failed=1
+
+# how long an explanation takes, in milliseconds of a processor: of a short text, and of one of 16 MiB
 took() {
-  local began
-  began="$(date +%s%N)"
-  "$explainer" scenario < "$1" > "$room/out"
-  echo $((($(date +%s%N) - began) / 1000000))
+  local TIMEFORMAT='%U %S'
+  { time "$explainer" scenario < "$1" > "$room/out"; } 2>&1 | awk '{ printf "%d", ($1 + $2) * 1000 }'
 }
 { printf 'scenario 1\n'; yes '# a comment of forty bytes, or about that' | head -c 16777000; printf '\nvoluem\n'; } > "$room/long"
 short="$(took "$room/bad.scenario")" long="$(took "$room/long")"

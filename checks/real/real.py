@@ -4,6 +4,7 @@ import ctypes
 import fcntl
 import hashlib
 import os
+import re
 import resource
 import socket
 import struct
@@ -44,6 +45,12 @@ def run(text, *words, **others):
 
 def ended(done, status, line=b""):
     return done.returncode == status and done.stderr == line and (status == 0 or not done.stdout)
+
+
+def failed(done, path, call):
+    """Whether a run says that of the file of this path, or of some file, this call failed."""
+    place = re.escape(path.encode()) if path else b"\\S+"
+    return re.fullmatch(b"vss: device fault\n     " + place + b" could not be " + call + b"\n", done.stderr) and ended(done, 6, done.stderr)
 
 
 # ## streams
@@ -155,7 +162,9 @@ def is_refused_where_there_is():
                     file.write(b"mine")
                 if kind == "link":
                     os.symlink(other, path)
-            holds(ended(run(SET, disks), 6, b"vss: device fault\n"), f"a {kind} {name} that is there is not told")
+            there = rb"created: File exists \(os error 17\)"
+            holds(failed(run(SET, disks), path, there), f"a {kind} {name} that is there is not told")
+            holds(os.listdir(disks) == [name], f"where a {kind} {name} is there other files are left")
             if kind == "folder":
                 holds(os.listdir(path) == [], f"a folder {name} that is there is changed")
             elif kind == "dead_link":
@@ -163,7 +172,8 @@ def is_refused_where_there_is():
             else:
                 with open(path, "rb") as file:
                     holds(file.read() == b"mine", f"a {kind} {name} that is there is changed")
-    holds(ended(run(SET, os.path.join(FOLDER, "none")), 6, b"vss: device fault\n"), "a folder that is not there is not told")
+    none = os.path.join(FOLDER, "none")
+    holds(failed(run(SET, none), f"{none}/C.vol", rb"created: No such file or directory \(os error 2\)"), "a folder that is not there is not told")
 
 
 # ## what is made to last
@@ -189,13 +199,15 @@ def is_synced():
         return ", but the system lets no calls be refused, so it was not seen which files are synced"
     came = []
     for descriptor in range(3, 16):
-        done = run(SET, folder(f"synced_{descriptor}"), preexec_fn=lambda descriptor=descriptor: refuse_syncs(descriptor))
-        if ended(done, 6, b"vss: device fault\n"):
-            came.append("area")
+        disks = folder(f"synced_{descriptor}")
+        done = run(SET, disks, preexec_fn=lambda descriptor=descriptor: refuse_syncs(descriptor))
+        if failed(done, None, rb"synced: Input/output error \(os error 5\)"):
+            holds(not os.listdir(disks), "where an area is not synced, the files of the run are left")
+            came.append(os.path.basename(done.stderr.split()[3].decode()))
         else:
             holds(ended(done, 0), f"where a sync fails the run ended with {done.returncode}")
             came += [line.split()[-2] for line in done.stdout.decode().splitlines() if " provider flush " in line and line.endswith(" fault")]
-    holds(sorted(came) == sorted(list(VOLUMES) + ["area"] * len(AREAS)), f"where the sync of one file after another fails, it is told of {came}")
+    holds(sorted(came) == sorted([*VOLUMES, *AREAS]), f"where the sync of one file after another fails, it is told of {came}")
     return ""
 
 
