@@ -38,23 +38,40 @@ fn taken_up(alloc: Global, disk: RamDisk, under: RamDisk) -> Option<CowGroup<Ram
     CowGroup::resume(alloc, disks, area, &[images]).ok()
 }
 
+/// Prints the first byte of a block.
+fn tell(rt: &HostRuntime, whose: &str, block: &BlockBuf) -> Option<()> {
+    println!(rt; "{whose} has {}", block.bytes()[0]).ok()
+}
+
+/// Cuts the image of set 1, overwrites a block, and prints what the volume and the image have.
+fn overwrite(rt: &HostRuntime, volume: &mut CowVolume<RamDisk>, out: &mut BlockBuf) -> Option<()>
+    requires { image_sets volume.old ≡ [] }
+{
+    volume.cut(1);
+    volume.write(3, &Payload::Fill(7)).ok()?;
+    volume.read_into(3, out.bytes_mut()).ok()?;
+    tell(rt, "the volume", out)?;
+    volume.read_image_into(1, 3, out.bytes_mut()).ok()?;
+    tell(rt, "the image", out)?;
+    println!(rt; "slots used: {} of {}", volume.used(), volume.slots()).ok()
+}
+
+/// Has both disks keep what the volume and its area have.
+fn keep(volume: &mut CowVolume<RamDisk>) -> Option<()> {
+    volume.flush().ok()?;
+    volume.sync().ok()
+}
+
 /// Cuts, overwrites, reads, syncs, takes up again and reads once more. None where a call did not succeed.
 fn show(rt: &HostRuntime) -> Option<()> {
     let mut out = BlockBuf::zeroed(rt.alloc()).ok()?;
     let mut volume = new_volume(rt.alloc())?;
-    volume.cut(1);
-    volume.write(3, &Payload::Fill(7)).ok()?;
-    volume.read_into(3, out.bytes_mut()).ok()?;
-    println!(rt; "the volume has {}", out.bytes()[0]).ok()?;
-    volume.read_image_into(1, 3, out.bytes_mut()).ok()?;
-    println!(rt; "the image has {}", out.bytes()[0]).ok()?;
-    println!(rt; "slots used: {} of {}", volume.used(), volume.slots()).ok()?;
-    volume.flush().ok()?;
-    volume.sync().ok()?;
+    overwrite(rt, &mut volume, &mut out)?;
+    keep(&mut volume)?;
     let (disk, area) = volume.into_parts();
     let mut group = taken_up(rt.alloc(), disk, area.into_device())?;
     group.read_image_into(0, 1, 3, out.bytes_mut()).ok()?;
-    println!(rt; "taken up again, the image has {}", out.bytes()[0]).ok()
+    tell(rt, "taken up again, the image", &out)
 }
 
 fn main(rt: HostRuntime) -> ExitCode {
