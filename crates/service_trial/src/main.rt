@@ -6,12 +6,15 @@
 //!     service_trial in_turn [-- FAILING..]          makes all moves in turn, and closes the report
 //!     service_trial turns LETTERS [-- FAILING..]    the actors of these letters come to one turn, one after another, each until it leaves
 //!     service_trial writers                         makes the moves of a core whose writers are three values of types of their own
-//!     service_trial both LETTERS [-- FAILING..]     `turns LETTERS` over the first scenario of the input, and then `writers` over the second
+//!     service_trial provider                        prepares a set of one volume by a provider alone, whose first flush fails
+//!     service_trial all LETTERS [-- FAILING..]      `turns LETTERS` over the first scenario of the input, then `writers` and `provider` over
+//!                                                   the second
 //!
 //! The standard input is what the service reads, sixteen bytes a call. What it wrote comes on the standard output. The standard error has
 //! the line that `vss` prints, and then how many devices were given back, how often each side failed, and how often the gate was called
 //! before and after a step. Of `turns` the standard output has, before the report, how many entries the turn had as each actor left, and
-//! the same of the gate. Of `writers` it has a line for each move, as `driving` says.
+//! the same of the gate. Of `writers` it has a line for each move, as `driving` says; of `provider` what the volume was answered that joined
+//! the set twice, and what the flush was.
 //!
 //! FAILING is `fails DEVICE CALL NUMBERS ..`, for each device of which calls fail. CALL is `make`, `read`, `write` or `flush`; NUMBERS are
 //! those of the calls that fail, counted from 1, as `1,4` or `3-7`; further pairs of CALL and NUMBERS may follow. In place of a device,
@@ -33,6 +36,7 @@ mod move_line;
 mod numbers;
 mod one_turn;
 mod opening;
+mod preparing;
 mod runs;
 mod seat;
 mod service;
@@ -44,7 +48,8 @@ use came::Came;
 use driving::drive_three;
 use failing::Failing;
 use io_edge::{InSource, OutSink, ReadError, read_all, write_all};
-use opening::open;
+use opening::{group_of, open};
+use preparing::{prepare_one, provider_over};
 use runs::{Way, report_of, scenario_of};
 use service::{Called, call};
 use std::env;
@@ -54,7 +59,7 @@ use std::thread::Threads;
 use trial_error::TrialError;
 use volume_device::{MemMaker, Planned};
 use vss_main::{MOST_BYTES, Status};
-use vss_names::Text;
+use vss_names::{Numbers, Text};
 
 /// The words after the program's name, and those after `--`.
 fn given(rt: &HostRuntime) -> Result<(Vec<String>, Vec<String>), TrialError> {
@@ -116,6 +121,16 @@ fn drive(rt: &HostRuntime, input: &[u8]) -> Result<ExitCode, TrialError> {
     Ok(ExitCode::SUCCESS)
 }
 
+/// Prepares a set by a provider over a device in memory whose first flush fails.
+fn prepare_alone(rt: &HostRuntime, input: &[u8]) -> Result<ExitCode, TrialError> {
+    let scenario = scenario_of(rt.alloc(), input)?;
+    let first = Numbers::copy(rt.alloc(), &[1])?;
+    let group = group_of(rt.alloc(), &scenario, first)?;
+    let mut provider = provider_over(rt.alloc(), &scenario, group)?;
+    prepare_one(rt, &scenario, &mut provider)?;
+    Ok(ExitCode::SUCCESS)
+}
+
 /// The two scenarios of an input: the second begins with the next line that is `scenario 1`.
 fn two_scenarios(input: &[u8]) -> Result<(&[u8], &[u8]), TrialError> {
     let begins = b"\nscenario 1\n";
@@ -130,8 +145,8 @@ fn two_scenarios(input: &[u8]) -> Result<(&[u8], &[u8]), TrialError> {
     }
 }
 
-/// Makes a run of the first scenario of an input, and drives a core over the second.
-fn make_both<R: Threads + Wait + Sync>(
+/// Makes a run of the first scenario of an input, and over the second drives a core and prepares a set by a provider alone.
+fn make_all<R: Threads + Wait + Sync>(
     rt: &HostRuntime,
     threads: &R,
     input: &[u8],
@@ -140,7 +155,8 @@ fn make_both<R: Threads + Wait + Sync>(
 ) -> Result<ExitCode, TrialError> {
     let (first, second) = two_scenarios(input)?;
     make_run(rt, threads, first, Way::Turns(letters), plan)?;
-    drive(rt, second)
+    drive(rt, second)?;
+    prepare_alone(rt, second)
 }
 
 /// What is given: the words, which calls fail, and the input.
@@ -162,7 +178,8 @@ fn answer<R: Threads + Wait + Sync>(
         Asked::Service => tell(rt, call(threads, rt.alloc(), words, input, failing)),
         Asked::Run(way) => make_run(rt, threads, input, way, failing.plan),
         Asked::Writers => drive(rt, input),
-        Asked::Both(letters) => make_both(rt, threads, input, letters, failing.plan),
+        Asked::Provider => prepare_alone(rt, input),
+        Asked::All(letters) => make_all(rt, threads, input, letters, failing.plan),
     }
 }
 
