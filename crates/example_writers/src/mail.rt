@@ -8,8 +8,6 @@ pub struct Mail {
 }
 
 impl VssWriter for Mail {
-    ghost use Rattle.std.specs.Prelude.{Unit};
-
     ghost may_answer = { λ w order nth answer. Unit {0} };
 
     ghost aborts_told = { λ w. w.aborts };

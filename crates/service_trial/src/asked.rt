@@ -9,8 +9,10 @@ pub enum Asked<'a> {
     Run(Way<'a>),
     /// To drive a core with writers of this program's own.
     Writers,
-    /// To let the actors of these letters come to one turn, and then to drive a core.
-    Both(&'a [u8]),
+    /// To prepare a set by a provider alone.
+    Provider,
+    /// To let the actors of these letters come to one turn, then to drive a core, and then to prepare a set.
+    All(&'a [u8]),
 }
 
 impl<'a> Asked<'a> {
@@ -19,9 +21,10 @@ impl<'a> Asked<'a> {
         match words.len() {
             1 if words[0].as_str() == "in_turn" => Asked::Run(Way::InTurn),
             1 if words[0].as_str() == "writers" => Asked::Writers,
+            1 if words[0].as_str() == "provider" => Asked::Provider,
             2 if words[0].as_str() == "moves" => Asked::Run(Way::Moves(words[1].as_bytes())),
             2 if words[0].as_str() == "turns" => Asked::Run(Way::Turns(words[1].as_bytes())),
-            2 if words[0].as_str() == "both" => Asked::Both(words[1].as_bytes()),
+            2 if words[0].as_str() == "all" => Asked::All(words[1].as_bytes()),
             _ => Asked::Service,
         }
     }

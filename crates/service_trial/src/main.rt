@@ -6,12 +6,15 @@
 //!     service_trial in_turn [-- FAILING..]          makes all moves in turn, and closes the report
 //!     service_trial turns LETTERS [-- FAILING..]    the actors of these letters come to one turn, one after another, each until it leaves
 //!     service_trial writers                         makes the moves of a core whose writers are three values of types of their own
-//!     service_trial both LETTERS [-- FAILING..]     `turns LETTERS` over the first scenario of the input, and then `writers` over the second
+//!     service_trial provider                        prepares a set of one volume by a provider alone, whose first flush fails
+//!     service_trial all LETTERS [-- FAILING..]      `turns LETTERS` over the first scenario of the input, then `writers` and `provider` over
+//!                                                   the second
 //!
 //! The standard input is what the service reads, sixteen bytes a call. What it wrote comes on the standard output. The standard error has
 //! the line that `vss` prints, and then how many devices were given back, how often each side failed, and how often the gate was called
 //! before and after a step. Of `turns` the standard output has, before the report, how many entries the turn had as each actor left, and
-//! the same of the gate. Of `writers` it has a line for each move, as `driving` says.
+//! the same of the gate. Of `writers` it has a line for each move, as `driving` says; of `provider` what the volume was answered that joined
+//! the set twice, and what the flush was.
 //!
 //! FAILING is `fails DEVICE CALL NUMBERS ..`, for each device of which calls fail. CALL is `make`, `read`, `write` or `flush`; NUMBERS are
 //! those of the calls that fail, counted from 1, as `1,4` or `3-7`; further pairs of CALL and NUMBERS may follow. In place of a device,
@@ -31,6 +34,7 @@ mod letters;
 mod move_line;
 mod numbers;
 mod one_turn;
+mod preparing;
 mod runs;
 mod service;
 mod silent_writer;
@@ -41,6 +45,7 @@ use came::Came;
 use driving::drive_three;
 use failing::Failing;
 use io_edge::{InSource, OutSink, ReadError, read_all, write_all};
+use preparing::prepare_alone;
 use runs::{Way, report_of, scenario_of};
 use service::{Called, call};
 use std::env;
@@ -115,6 +120,12 @@ fn drive(rt: &HostRuntime, input: &[u8]) -> Result<ExitCode, TrialError> {
     Ok(ExitCode::SUCCESS)
 }
 
+/// Prepares a set of the first volume by a provider alone.
+fn prepare(rt: &HostRuntime, input: &[u8]) -> Result<ExitCode, TrialError> {
+    prepare_alone(rt, &scenario_of(rt.alloc(), input)?)?;
+    Ok(ExitCode::SUCCESS)
+}
+
 /// The two scenarios of an input: the second begins with the next line that is `scenario 1`.
 fn two_scenarios(input: &[u8]) -> Result<(&[u8], &[u8]), TrialError> {
     let begins = b"\nscenario 1\n";
@@ -129,8 +140,8 @@ fn two_scenarios(input: &[u8]) -> Result<(&[u8], &[u8]), TrialError> {
     }
 }
 
-/// Makes a run of the first scenario of an input, and drives a core over the second.
-fn make_both<R: Threads + Wait + Sync>(
+/// Makes a run of the first scenario of an input, and over the second drives a core and prepares a set by a provider alone.
+fn make_all<R: Threads + Wait + Sync>(
     rt: &HostRuntime,
     threads: &R,
     input: &[u8],
@@ -139,11 +150,12 @@ fn make_both<R: Threads + Wait + Sync>(
 ) -> Result<ExitCode, TrialError> {
     let (first, second) = two_scenarios(input)?;
     make_run(rt, threads, first, Way::Turns(letters), plan)?;
-    drive(rt, second)
+    drive(rt, second)?;
+    prepare(rt, second)
 }
 
 /// What is given: the words, which calls fail, and the input.
-fn prepare(rt: &HostRuntime) -> Result<(Vec<String>, Failing, Text), TrialError> {
+fn all_given(rt: &HostRuntime) -> Result<(Vec<String>, Failing, Text), TrialError> {
     let (words, more) = given(rt)?;
     let failing = Failing::of_words(rt.alloc(), &more)?;
     Ok((words, failing, input_of(rt)?))
@@ -161,7 +173,8 @@ fn answer<R: Threads + Wait + Sync>(
         Asked::Service => tell(rt, call(threads, rt.alloc(), words, input, failing)),
         Asked::Run(way) => make_run(rt, threads, input, way, failing.plan),
         Asked::Writers => drive(rt, input),
-        Asked::Both(letters) => make_both(rt, threads, input, letters, failing.plan),
+        Asked::Provider => prepare(rt, input),
+        Asked::All(letters) => make_all(rt, threads, input, letters, failing.plan),
     }
 }
 
@@ -171,8 +184,8 @@ fn fail(rt: &HostRuntime, error: TrialError) -> ExitCode {
 }
 
 fn main(rt: HostRuntime) -> ExitCode {
-    let (words, failing, text) = match prepare(&rt) {
-        Ok(prepared) => prepared,
+    let (words, failing, text) = match all_given(&rt) {
+        Ok(given) => given,
         Err(error) => return fail(&rt, error),
     };
     match answer(&rt, &rt, &words, failing, text.bytes()) {

@@ -5,8 +5,7 @@ ghost use Rattle.vss_model.specs.Acts.{enabled};
 ghost use Rattle.vss_world.specs.Moves.{IsEvent, IsStepped, AreListed, takes_memory};
 ghost use Rattle.vss_world.specs.Stands.{IsOf, Stands, IsStanding, IfStands};
 
-use crate::devices::make_devices;
-use crate::groups::open_groups;
+use crate::new_groups::open_new;
 use crate::play_fault::PlayFault;
 use crate::step_fault::StepFault;
 use scenario::Scenario;
@@ -58,10 +57,7 @@ impl<D: Device> Service<D> {
         ensures rose { IsErrOf result PlayFault.Failed → Rose (M.count maker.old) (M.count maker.new) }
     {
         let _facts = scenario.lanes();
-        let devices = make_devices(alloc, &scenario, store, maker)?;
-        let Ok(groups) = open_groups(alloc, &scenario, devices) else {
-            return Err(PlayFault::OutOfMemory);
-        };
+        let groups = open_new(alloc, &scenario, store, maker)?;
         match World::new(alloc, &scenario, groups) {
             Ok(world) => Ok(Service {
                 scenario,

@@ -1,16 +1,5 @@
-use Rattle.vss_play.proofs.NewDevices.{new_zeros}
-use Rattle.vss_play.proofs.Opening.{new_groups}
 use Rattle.vss_play.proofs.Serving.{serving_new}
 use Rattle.vss_play.proofs.service.Service.new.Goals as goal
 
-pub open_groups-requires-clause-sizes : goal.open_groups-requires-clause-sizes
-open_groups-requires-clause-sizes g c = c.in_ok-devices.ensures.made.sizes_are
-
-pub open_groups-requires-clause-zeros : goal.open_groups-requires-clause-zeros
-open_groups-requires-clause-zeros g c = new_zeros g.D.Device.told g.D.Device.size g.D.Device.count _ _ c.in_ok-devices.ensures.made.each
-
-pub new-requires : goal.new-requires
-new-requires g c = new_groups g.D.Device.told c.args.scenario c.in_ok-devices.devices.items c.in-Ok.groups.items c.in-Ok.ensures
-
 pub invariant_of-result : goal.invariant_of-result
-invariant_of-result g c = serving_new g.D.Device.told c.args.scenario c.in-Ok-new.world c.in-Ok-new.ensures.of c.in-Ok-new.ensures.stands
+invariant_of-result g c = serving_new g.D.Device.told c.args.scenario c.in-Ok.world c.in-Ok.ensures.of c.in-Ok.ensures.stands

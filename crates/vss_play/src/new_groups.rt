@@ -1,0 +1,31 @@
+ghost use Rattle.std.specs.Prelude.{◌≡◌, OnOk, IfOk, IsErrOf};
+ghost use Rattle.vss_names.specs.Faults.{Rose};
+ghost use Rattle.vss_world.specs.Quiet.{AreNew};
+
+use crate::devices::make_devices;
+use crate::groups::open_groups;
+use crate::play_fault::PlayFault;
+use cow_volume::CowGroup;
+use scenario::Scenario;
+use std::alloc::Global;
+use volume_device::{Device, Maker, Store};
+
+/// The groups of a scenario over devices that the maker makes, as for a run: those of the volumes, and then those of the
+/// areas. Where one is refused, the maker gets back the others.
+pub fn open_new<D: Device, M: Maker<Made = D>>(
+    alloc: Global,
+    scenario: &Scenario,
+    store: &Store,
+    maker: &mut M,
+) -> Result<Vec<CowGroup<D>>, PlayFault>
+    ensures new { IfOk result (λ groups. AreNew D.told scenario.now groups.items) }
+    ensures unfailed { OnOk result (M.count maker.new ≡ M.count maker.old) }
+    ensures unmade { IsErrOf result PlayFault.OutOfMemory → M.count maker.new ≡ M.count maker.old }
+    ensures rose { IsErrOf result PlayFault.Failed → Rose (M.count maker.old) (M.count maker.new) }
+{
+    let devices = make_devices(alloc, scenario, store, maker)?;
+    match open_groups(alloc, scenario, devices) {
+        Ok(groups) => Ok(groups),
+        Err(_) => Err(PlayFault::OutOfMemory),
+    }
+}
