@@ -91,6 +91,8 @@ shows() {
   "$program" < "$room/in" > "$room/out" || wrong "signs of markup are not drawn"
   grep -q '<b>' "$room/out" && wrong "a text is not escaped"
   python3 -c 'import sys, xml.dom.minidom as x; x.parse(sys.argv[1])' "$room/out" || wrong "what is drawn is no XML"
+  "$program" --text < "$room/in" > "$room/out" || wrong "signs of markup have no lines"
+  LC_ALL=C grep -q '[^ -~]' "$room/out" && wrong "a byte that could be a command of a terminal is written"
 }
 
 for program in "${builds[@]}"; do

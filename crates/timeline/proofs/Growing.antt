@@ -6,7 +6,7 @@ use Rattle.std.proofs.lemmas.Grind.{flat_map-append}
 use Rattle.std.proofs.lemmas.List.{drop-take, length-take, map-append, take-append-drop, take-take}
 use Rattle.std.proofs.lemmas.List.Elements.{All-append}
 use Rattle.timeline.specs.Grown.{Grown}
-use Rattle.timeline.specs.Narrow.{AddsLines, IsInLines, IsLines, with_newline}
+use Rattle.timeline.specs.Narrow.{AddsLines, IsInLines, IsLines, printable, printable_byte, with_newline}
 use Rattle.timeline.specs.declared.mark.Mark.{Mark}
 
 pub grown_none : {X : Type 0} (text_of : X → List ℕ) (mark_of : X → Mark) (old new : List ℕ) → new ≡ old → Grown text_of mark_of old new []
@@ -55,10 +55,11 @@ adds_more old mid one two text part whole h short e f w = record {
   all = f ∙ ap (λ t. t ++ 10 ∷ []) (e ∙ ap (λ t. t ++ part) h.all) ∙ simp append_assoc;
 }
 
-pub is_lines_more : (old new text : List ℕ) → AddsLines old new text → IsLines old → IsLines new
+pub is_lines_more : (old new text : List ℕ) → AddsLines old new (printable text) → IsLines old → IsLines new
 is_lines_more old new text a h = record {
   text = h.text ++ text;
-  lines = subst (λ t. IsInLines t (h.text ++ text)) (sym a.all) (lines_join old a.bytes h.text text h.lines a.lines);
+  lines = subst (IsInLines new) (sym (flat_map-append printable_byte h.text text))
+      (subst (λ t. IsInLines t (printable h.text ++ printable text)) (sym a.all) (lines_join old a.bytes (printable h.text) (printable text) h.lines a.lines));
 }
 
 pub is_lines_none : IsLines []

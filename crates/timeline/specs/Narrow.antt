@@ -1,6 +1,6 @@
 -- Lines for a terminal: each is at most 100 bytes long, and ends with a newline. What is longer goes on in the next line. Each mark has
--- its own, in order, which end with its label. (This project's own.)
-use Rattle.std.specs.Prelude.{ℕ, ◌≡◌, ◌≤◌, List, [], ◌∷◌, ◌++◌, length, All}
+-- its own, in order, which end with its label. A byte that is no printable ASCII is a question mark there. (This project's own.)
+use Rattle.std.specs.Prelude.{ℕ, ◌≡◌, ◌≤◌, ◌&&◌, nat_le, List, [], ◌∷◌, ◌++◌, codes, length, All, if◌then◌else◌}
 use Rattle.std.specs.List.{flat_map}
 use Rattle.timeline.specs.declared.mark.Mark.{Mark}
 use Rattle.timeline.specs.Grown.{Grown}
@@ -8,6 +8,12 @@ use Rattle.timeline.specs.Told.{written}
 
 abbrev pub with_newline : List ℕ → List ℕ
 with_newline line = line ++ 10 ∷ []
+
+abbrev pub printable_byte : ℕ → List ℕ
+printable_byte byte = if nat_le 32 byte && nat_le byte 126 then byte ∷ [] else codes "?"
+
+abbrev pub printable : List ℕ → List ℕ
+printable text = flat_map printable_byte text
 
 -- a text in lines of at most 100 bytes
 pub record IsInLines (out text : List ℕ) : Type 0 where
@@ -24,14 +30,14 @@ pub record AddsLines (old new text : List ℕ) : Type 0 where
 
 pub record IsLines (bytes : List ℕ) : Type 0 where
   pub text : List ℕ
-  pub lines : IsInLines bytes text
+  pub lines : IsInLines bytes (printable text)
 
 -- the lines of a mark: how it stands, and its label
 pub record Shown : Type 0 where
   pub mark : Mark
   pub front : List ℕ
   pub bytes : List ℕ
-  pub lines : IsInLines bytes (front ++ written mark.label)
+  pub lines : IsInLines bytes (printable (front ++ written mark.label))
 
 abbrev pub ShowsOn : List ℕ → List ℕ → List Mark → Type 0
 ShowsOn old new marks = Grown (λ (s : Shown). s.bytes) (λ (s : Shown). s.mark) old new marks

@@ -8,7 +8,8 @@
 //! Contracts promise that the marks tell all that the report does, in order (`specs/Told.antt`): each the line, its label and its shape;
 //! that a report is refused exactly at its first line that is none or is another scenario's (`specs/Refused.antt`); that the drawing
 //! has the element of each mark once and in order, and that each text in it is escaped (`specs/Drawn.antt`); and that the other form
-//! has the label of each mark, in lines of at most 100 bytes (`specs/Narrow.antt`). Which rows and bars there are, and where, is tested only.
+//! has the label of each mark, in lines of at most 100 printable bytes (`specs/Narrow.antt`). Which rows and bars there are, and where, is
+//! tested only.
 #![tactic(auto)]
 
 mod band;

@@ -1,7 +1,7 @@
 //! A picture as lines for a terminal.
 
-ghost use Rattle.std.specs.Prelude.{◌∷◌, [], IfOk, OnOk};
-ghost use Rattle.timeline.specs.Narrow.{AddsLines, IsLines, IsNarrow, ShowsOn};
+ghost use Rattle.std.specs.Prelude.{◌≡◌, ◌∷◌, ◌++◌, [], IfOk, OnOk};
+ghost use Rattle.timeline.specs.Narrow.{AddsLines, IsLines, IsNarrow, ShowsOn, printable, printable_byte};
 
 use crate::labels::add_label;
 use crate::lines::is_effect;
@@ -17,8 +17,28 @@ use vss_names::{OutOfMemory, Text};
 /// The most bytes of a line.
 const WIDTH: usize = 100;
 
-/// Appends a line of the picture, in as many lines as it needs.
-fn add_line(out: &mut Text, line: &[u8]) -> Result<(), OutOfMemory>
+/// Appends a byte of a text.
+fn add_printable_byte(out: &mut Text, byte: u8) -> Result<(), OutOfMemory>
+    ensures { OnOk result (out.new.bytes ≡ out.old.bytes ++ printable_byte byte) }
+{
+    match byte {
+        b' '..=b'~' => out.add(&[byte]),
+        _ => out.add(b"?"),
+    }
+}
+
+/// Appends a text as it stands on a terminal, where other bytes than these could be commands.
+fn add_printable(out: &mut Text, text: &[u8]) -> Result<(), OutOfMemory>
+    ensures { OnOk result (out.new.bytes ≡ out.old.bytes ++ printable text.now) }
+{
+    for byte in text {
+        add_printable_byte(out, *byte)?;
+    }
+    Ok(())
+}
+
+/// Appends a line of printable bytes, in as many lines as it needs.
+fn add_pieces(out: &mut Text, line: &[u8]) -> Result<(), OutOfMemory>
     ensures { OnOk result (AddsLines out.old.bytes out.new.bytes line.now) }
 {
     let count = line.len() / WIDTH;
@@ -31,11 +51,21 @@ fn add_line(out: &mut Text, line: &[u8]) -> Result<(), OutOfMemory>
     Ok(())
 }
 
+/// Appends a line of the picture.
+fn add_line(alloc: Global, out: &mut Text, line: &[u8]) -> Result<(), OutOfMemory>
+    ensures { OnOk result (AddsLines out.old.bytes out.new.bytes (printable line.now)) }
+{
+    let mut shown = Text::new(alloc);
+    add_printable(&mut shown, line)?;
+    add_pieces(out, shown.bytes())?;
+    Ok(())
+}
+
 /// Appends a line above the moves.
-fn add_heading_line(out: &mut Text, line: &[u8]) -> Result<(), OutOfMemory>
+fn add_heading_line(alloc: Global, out: &mut Text, line: &[u8]) -> Result<(), OutOfMemory>
     ensures { OnOk result (IsLines out.old.bytes → IsLines out.new.bytes) }
 {
-    add_line(out, line)?;
+    add_line(alloc, out, line)?;
     Ok(())
 }
 
@@ -61,8 +91,9 @@ fn add_title(alloc: Global, out: &mut Text, name: &str) -> Result<(), OutOfMemor
 {
     let mut line = Text::new(alloc);
     line.add(name.as_bytes())?;
-    add_heading_line(out, line.bytes())?;
+    add_heading_line(alloc, out, line.bytes())?;
     add_heading_line(
+        alloc,
         out,
         b"F: frozen; H: held; S, m: a set, an image in the making; 1 to 9 and +: so many images stand.",
     )
@@ -82,7 +113,7 @@ fn add_shown(alloc: Global, out: &mut Text, picture: &Picture<'_>) -> Result<(),
         line.add(&[letter])?;
         line.add(b"  ")?;
         add_row(&mut line, *row)?;
-        add_heading_line(out, line.bytes())?;
+        add_heading_line(alloc, out, line.bytes())?;
         letter = letter.saturating_add(1);
     }
     Ok(())
@@ -100,7 +131,7 @@ fn add_heading(alloc: Global, out: &mut Text, shown: usize) -> Result<(), OutOfM
         letter = letter.saturating_add(1);
     }
     line.add(b"  who: what")?;
-    add_heading_line(out, line.bytes())
+    add_heading_line(alloc, out, line.bytes())
 }
 
 /// Appends who makes the move of a mark, or the sign of an effect.
@@ -157,7 +188,7 @@ fn add_mark(
 {
     let mut line = front_of(alloc, mark, letters)?;
     add_label(&mut line, &mark.label)?;
-    add_line(out, line.bytes())?;
+    add_line(alloc, out, line.bytes())?;
     Ok(())
 }
 

@@ -6,7 +6,7 @@ text{font-family:'DejaVu Sans Mono',Menlo,Consolas,monospace;font-size:11px;fill
 .title{font-size:16px}.name{font-size:13px}.small,.light,.used,.number{font-size:10px}.number{text-anchor:middle}
 .refused,.veto,.lost,.gone,.loss{fill:#b34700;font-weight:bold}.loss{font-size:10px}.cut,.strong,.used{font-weight:bold}
 rect.session{fill:#d9d9d9}rect.set{fill:#cc79a7}rect.frozen{fill:#56b4e9}rect.held{fill:#e69f00}rect.image{fill:#009e73}
-rect.making{fill:#009e73;fill-opacity:.3;stroke:#009e73;stroke-dasharray:4 3}text.light,text.used{fill:#fff}
+rect.making{fill:#009e73;fill-opacity:.3;stroke:#009e73;stroke-dasharray:4 3}text.light,text.used{fill:#fff;stroke:#009e73;stroke-width:3px;paint-order:stroke}
 rect.even{fill:#f5f5f5}rect.passing{fill:#f0e442;fill-opacity:.45}.grid{stroke:#ddd}.cutline{stroke:#000;stroke-dasharray:5 3}
 </style>
 <defs>

@@ -1,5 +1,5 @@
 use Rattle.std.proofs.Common.{◌∙◌, List, ℕ, subst}
-use Rattle.timeline.specs.Narrow.{IsInLines, Shown}
+use Rattle.timeline.specs.Narrow.{IsInLines, Shown, printable}
 use Rattle.timeline.proofs.Growing.{grown_one}
 use Rattle.timeline.proofs.plain.add_mark.Goals as goal
 
@@ -11,6 +11,6 @@ returns c =
       mark = c.args.mark.now;
       front = c.in_ok-line.line.bytes;
       bytes = added.bytes;
-      lines = subst (IsInLines added.bytes) (c.bytes.ensures ∙ c.in_ok-add_label.ensures) added.lines;
+      lines = subst (λ t. IsInLines added.bytes (printable t)) (c.bytes.ensures ∙ c.in_ok-add_label.ensures) added.lines;
     })
     c.args.out.now.bytes c.add_line.new.out.bytes added.all

@@ -1,6 +1,6 @@
 use Rattle.std.proofs.Common.{◌*◌, take}
 use Rattle.timeline.specs.Narrow.{AddsLines}
-use Rattle.timeline.proofs.plain.add_line.Given as goal
+use Rattle.timeline.proofs.plain.add_pieces.Given as goal
 
 -- so many full lines are written
 abbrev pub invariant-loop-at : goal.invariant-loop-at

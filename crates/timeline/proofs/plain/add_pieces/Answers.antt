@@ -1,7 +1,7 @@
 use Rattle.std.proofs.Common.{◌∙◌, ◌+◌, ◌*◌, ◌/◌, ◌-◌, ◌++◌, ◌≡◌, ap, arith, drop, length, take}
 use Rattle.std.proofs.lemmas.List.{take_all}
 use Rattle.timeline.proofs.Growing.{adds_more, adds_none, part_next, part_short}
-use Rattle.timeline.proofs.plain.add_line.Goals as goal
+use Rattle.timeline.proofs.plain.add_pieces.Goals as goal
 
 pub loop-at-init : goal.loop-at-init
 loop-at-init c = adds_none c.args.out.now.bytes
