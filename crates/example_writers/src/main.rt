@@ -84,7 +84,11 @@ fn back_up(rt: &HostRuntime, service: &mut Service<MemDevice>, seats: &mut [Seat
             return Some(());
         };
         let goes = service.may(line);
-        let event = if goes { line } else { next_event(service, seats) };
+        let event = if goes {
+            line
+        } else {
+            next_event(service, seats)
+        };
         let Ok(Reply::Moved(outcome)) = service.step(rt.alloc(), event) else {
             return None;
         };

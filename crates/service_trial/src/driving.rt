@@ -211,7 +211,10 @@ fn script(alloc: Global) -> Result<ScriptedWriter, TrialError> {
 }
 
 /// Makes the moves of the first lane and of three writers, and tells of them and of how each writer stands.
-pub fn drive_three<D: Device>(rt: &HostRuntime, service: &mut Service<D>) -> Result<(), TrialError> {
+pub fn drive_three<D: Device>(
+    rt: &HostRuntime,
+    service: &mut Service<D>,
+) -> Result<(), TrialError> {
     let scripted = Seat::of(Box::new(rt.alloc(), script(rt.alloc())?)?);
     let silent = Seat::of(Box::new(rt.alloc(), SilentWriter::new())?);
     let counting = Seat::of(Box::new(rt.alloc(), CountingWriter::vetoing(VETOED))?);

@@ -13,7 +13,9 @@ const PAUSE: u64 = 250;
 
 /// Shows the line again and again, from the first move until the run is over, and then clears it.
 fn show<R: Wait + Clock + Eprint>(rt: &R, progress: &Progress) {
-    let Ok(mut began) = Instant::now(rt) else { return };
+    let Ok(mut began) = Instant::now(rt) else {
+        return
+    };
     let pause = Duration::from_millis(PAUSE);
     let mut shown = began;
     for _ in rt.forever() {
