@@ -12,7 +12,8 @@ invariant_of-self g c =
     let before = c.index_mut-mirror.result.now in
     let at = at_place c.self.inside.mirrors.items c.args.mirror before within c.index_mut-mirror.ensures.value in
     let after : Mirror _ = record { device = c.flush.new.self; holds = before.holds; stale = before.stale } in
-    keeps_one g.D.Device.size c.self.inside.primary c.self.inside.primary c.self.inside.mirrors.items c.self.inside.images c.args.mirror before after refl at c.flush.ensures.size refl refl c.self.invariant
+    let primary = c.self.inside.primary in
+    keeps_one g.D.Device.size primary primary c.self.inside.mirrors.items c.self.inside.images c.args.mirror before after refl at c.flush.ensures.size refl refl c.self.invariant
 
 pub returns-clause-flushed : goal.returns-clause-flushed
 returns-clause-flushed g c =
