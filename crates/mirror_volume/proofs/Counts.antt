@@ -83,7 +83,7 @@ count_few xs i at =
 
 -- ## what is kept
 
--- a new mirror's blocks are all in the queue
+-- the queue of a mirror has all its blocks
 pub keeps_new : (n : ℕ) → n < 2 ^ 32 → KeepsStale (replicate n false) (replicate n true) 0
 keeps_new n low = record {
   holds = record {
@@ -93,6 +93,22 @@ keeps_new n low = record {
   is_count = sym (count-none n);
   narrow = let long = length-replicate n false in omega arith;
 }
+
+count-all : (n : ℕ) → stale_count (replicate n true) ≡ n
+count-all zero = refl
+count-all (suc n) = let all = count-all n in let more = stale-true (replicate n true) in omega arith
+
+pub keeps_stale : (n : ℕ) → n < 2 ^ 32 → KeepsStale (replicate n true) (replicate n true) n
+keeps_stale n low = record {
+  holds = record { long = refl; queued = λ b at. at };
+  is_count = sym (count-all n);
+  narrow = let long = length-replicate n true in omega arith;
+}
+
+-- all blocks are stale, or none
+pub keeps_of : (stale : Bool) (n : ℕ) → n < 2 ^ 32 → KeepsStale (replicate n stale) (replicate n true) (if stale then n else 0)
+keeps_of true n low = keeps_stale n low
+keeps_of false n low = keeps_new n low
 
 -- a block that stands in the queue already is marked
 pub keeps_marked : (stale queue : List Bool) (count b : ℕ) → KeepsStale stale queue count → slice_get stale b ≡ Some false → slice_get queue b ≡ Some true → KeepsStale (slice_set stale b true) queue (count + 1)

@@ -7,7 +7,7 @@ use Rattle.cow_volume.specs.Calls.{is_among}
 use Rattle.cow_volume.proofs.Group.{slice_get-set_same, slice_get-set_other, length-slice_set, slice_get_inside, same_number, other_number}
 use Rattle.cow_volume.proofs.Merging.{was_row}
 use Rattle.mirror_volume.specs.declared.mirror.Mirror.{Mirror}
-use Rattle.mirror_volume.specs.Mirrors.{AreMirrors, AreHeld, holds_of, new_mirror}
+use Rattle.mirror_volume.specs.Mirrors.{AreMirrors, AreHeld, holds_of, mirror_over}
 use Rattle.mirror_volume.specs.MirrorCalls.{IsFollowed, IsLeft, IsMirrored, IsMissed, AreFollowed}
 use Rattle.mirror_volume.proofs.Among.{among_more, among_last, among_of_more, among_without, among_was}
 use Rattle.mirror_volume.proofs.Standing.{All-at}
@@ -140,24 +140,24 @@ holds_followed {D = D} told size count b bytes (m ∷ old) (n ∷ new) are =
     ap (λ (o : Option ℕ). o ∷ holds_of new) (are.each 0 m n refl refl).holds ∙ ap (λ os. m.holds ∷ os) (holds_followed told size count b bytes old new (followed_rest told size count b bytes m n old new are))
 
 -- new mirrors
-pub mirrors_new : {D : Type 0} → (size : D → ℕ) (n : ℕ) (devices : List D) → 0 < length devices → length devices ≤ 8 → All (λ d. size d ≡ n) devices → AreMirrors size n (map (new_mirror n) devices)
-mirrors_new {D = D} size n devices some few sized = let long = length-map devices (new_mirror n) in record {
+pub mirrors_new : {D : Type 0} → (size : D → ℕ) (stale : Bool) (n : ℕ) (devices : List D) → 0 < length devices → length devices ≤ 8 → All (λ d. size d ≡ n) devices → AreMirrors size n (map (mirror_over stale n) devices)
+mirrors_new {D = D} size stale n devices some few sized = let long = length-map devices (mirror_over stale n) in record {
   some = omega arith;
   few = omega arith;
-  sizes = λ k m at. let was = was_row (new_mirror n) devices k m at in ap (λ (x : Mirror D). size x.device) (sym was.2) ∙ All-at (λ (d : D). size d ≡ n) devices k was.0 sized was.1;
-  stale = λ k m at. let was = was_row (new_mirror n) devices k m at in ap (λ (x : Mirror D). length x.stale) (sym was.2) ∙ length-replicate n false;
+  sizes = λ k m at. let was = was_row (mirror_over stale n) devices k m at in ap (λ (x : Mirror D). size x.device) (sym was.2) ∙ All-at (λ (d : D). size d ≡ n) devices k was.0 sized was.1;
+  stale = λ k m at. let was = was_row (mirror_over stale n) devices k m at in ap (λ (x : Mirror D). length x.stale) (sym was.2) ∙ length-replicate n stale;
 }
 
-holds_new : {D : Type 0} → (n : ℕ) (devices : List D) (k : ℕ) (o : Option ℕ) → slice_get (holds_of (map (new_mirror n) devices)) k ≡ Some o → o ≡ None
-holds_new n [] k o at = cc
-holds_new n (d ∷ devices) zero o at = sym (same_Some None o at)
-holds_new n (d ∷ devices) (suc k) o at = holds_new n devices k o at
+holds_new : {D : Type 0} → (stale : Bool) (n : ℕ) (devices : List D) (k : ℕ) (o : Option ℕ) → slice_get (holds_of (map (mirror_over stale n) devices)) k ≡ Some o → o ≡ None
+holds_new stale n [] k o at = cc
+holds_new stale n (d ∷ devices) zero o at = sym (same_Some None o at)
+holds_new stale n (d ∷ devices) (suc k) o at = holds_new stale n devices k o at
 
-pub held_new : {D : Type 0} → (n : ℕ) (devices : List D) → AreHeld (holds_of (map (new_mirror n) devices)) []
-held_new n devices = record {
-  each = λ k set at. absurd (no set (holds_new n devices k (Some set) at));
+pub held_new : {D : Type 0} → (stale : Bool) (n : ℕ) (devices : List D) → AreHeld (holds_of (map (mirror_over stale n) devices)) []
+held_new stale n devices = record {
+  each = λ k set at. absurd (no set (holds_new stale n devices k (Some set) at));
   held = λ set is. absurd (never is);
-  one = λ k j set at also. absurd (no set (holds_new n devices k (Some set) at));
+  one = λ k j set at also. absurd (no set (holds_new stale n devices k (Some set) at));
 } where
   no : (set : ℕ) → Some set ≡ None → ⊥
   no set e = cc

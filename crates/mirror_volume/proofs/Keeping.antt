@@ -7,7 +7,7 @@ use Rattle.std.proofs.lemmas.Option.{slice_get_within, same_Some}
 use Rattle.cow_volume.proofs.Group.{slice_get_map, slice_set-same, length-slice_set}
 use Rattle.cow_volume.proofs.Merging.{was_row}
 use Rattle.mirror_volume.specs.declared.mirror.Mirror.{Mirror}
-use Rattle.mirror_volume.specs.Mirrors.{MirrorValue, KeepsMirrors, AreMirrors, AreHeld, StandsFor, holds_of, new_mirror, is_ready}
+use Rattle.mirror_volume.specs.Mirrors.{MirrorValue, KeepsMirrors, AreMirrors, AreHeld, StandsFor, holds_of, mirror_over, is_ready}
 use Rattle.mirror_volume.specs.MirrorCalls.{AreFollowed, IsFirstReady, IsHolder, HaveBlock, IsQuiet, IsQuietDevice, IsCalled, IsMirrorRead, IsCalledFor, IsImageRead}
 use Rattle.cow_volume.specs.declared.image_fault.ImageFault.{ImageFault}
 use Rattle.cow_volume.specs.declared.image_fault.ImageFault.TheVariants.{Volume as VolumeFailed}
@@ -24,11 +24,11 @@ use Rattle.mirror_volume.proofs.Standing.{ready_holds, quiet_on_stands}
 use Rattle.mirror_volume.proofs.Held.{map-slice_set, held_cut, held_drop, mirrors_one, mirrors_followed, holds_followed, mirrors_new, held_new}
 use Rattle.mirror_volume.proofs.Among.{new_set}
 
-pub keeps_new : {D : Type 0} → (size : D → ℕ) (primary : D) (devices : List D) (mirrors : List (Mirror D)) (images : Vec ℕ Global) → 0 < length devices → length devices ≤ 8 → All (λ d. size d ≡ size primary) devices
-    → mirrors ≡ map (new_mirror (size primary)) devices → images.items ≡ [] → 512 ≤ vec_capacity images → KeepsMirrors size primary mirrors images
-keeps_new {D = D} size primary devices mirrors images some few sized are none room = record {
-  are_mirrors = subst (λ (ms : List (Mirror D)). AreMirrors size (size primary) ms) (sym are) (mirrors_new size (size primary) devices some few sized);
-  are_held = subst (λ (is : List ℕ). AreHeld (holds_of mirrors) is) (sym none) (subst (λ (ms : List (Mirror D)). AreHeld (holds_of ms) []) (sym are) (held_new (size primary) devices));
+pub keeps_new : {D : Type 0} → (size : D → ℕ) (stale : Bool) (primary : D) (devices : List D) (mirrors : List (Mirror D)) (images : Vec ℕ Global) → 0 < length devices → length devices ≤ 8 → All (λ d. size d ≡ size primary) devices
+    → mirrors ≡ map (mirror_over stale (size primary)) devices → images.items ≡ [] → 512 ≤ vec_capacity images → KeepsMirrors size primary mirrors images
+keeps_new {D = D} size stale primary devices mirrors images some few sized are none room = record {
+  are_mirrors = subst (λ (ms : List (Mirror D)). AreMirrors size (size primary) ms) (sym are) (mirrors_new size stale (size primary) devices some few sized);
+  are_held = subst (λ (is : List ℕ). AreHeld (holds_of mirrors) is) (sym none) (subst (λ (ms : List (Mirror D)). AreHeld (holds_of ms) []) (sym are) (held_new stale (size primary) devices));
   room = room;
 }
 

@@ -16,7 +16,7 @@ use Rattle.cow_volume.proofs.Writing.{content-more, contents-more, content-befor
 use Rattle.cow_volume.proofs.Merging.{sets_of-filter, and_left, and_right, was_row}
 use Rattle.mirror_volume.specs.declared.mirror.Mirror.{Mirror}
 use Rattle.mirror_volume.specs.Stale.{IsInStep, stale_count}
-use Rattle.mirror_volume.specs.Mirrors.{MirrorValue, is_ready, new_mirror, EqualsPrimary, IsSplitAt, IsMirror, StandsFor, AreMirrors, AreHeld, holds_of}
+use Rattle.mirror_volume.specs.Mirrors.{MirrorValue, is_ready, mirror_over, EqualsPrimary, IsSplitAt, IsMirror, StandsFor, AreMirrors, AreHeld, holds_of}
 use Rattle.mirror_volume.specs.MirrorCalls.{IsFollowed, IsLeft, IsMirrored, IsMissed, IsWritten, IsQuiet, IsQuietOn, IsSplit, IsJoined}
 use Rattle.mirror_volume.specs.declared.synced.Synced.{Synced}
 use Rattle.mirror_volume.specs.declared.synced.Synced.TheVariants.{Copied, InStep}
@@ -438,7 +438,7 @@ All-at P (y ∷ xs) (suc k) x all at = All-at P xs k x (All-tail P y xs all) at
 
 pub fresh_stands : {D : Type 0} → (told : D → Option (List (List ℕ))) (size : D → ℕ) (primary : D) (devices : List D) → All (λ d. size d ≡ size primary) devices
     → IfSome (told primary) (λ blocks. blocks ≡ replicate (size primary) zeros) → All (λ d. IfSome (told d) (λ blocks. blocks ≡ replicate (size d) zeros)) devices
-    → StandsFor told size (record { primary = primary; mirrors = map (new_mirror (size primary)) devices; images = [] }) fresh
+    → StandsFor told size (record { primary = primary; mirrors = map (mirror_over false (size primary)) devices; images = [] }) fresh
 fresh_stands {D = D} told size primary devices sized primary_zeros mirror_zeros = record {
   sets = refl;
   above_zero = λ set among. absurd (never among);
@@ -448,13 +448,42 @@ fresh_stands {D = D} told size primary devices sized primary_zeros mirror_zeros 
   never : false ≡ true → ⊥
   never e = cc
 
-  mirror_at : (k : ℕ) (m : Mirror D) → slice_get (map (new_mirror (size primary)) devices) k ≡ Some m → IsMirror (told_in (told primary) (told m.device)) (size primary) m.holds m.stale fresh
+  mirror_at : (k : ℕ) (m : Mirror D) → slice_get (map (mirror_over false (size primary)) devices) k ≡ Some m → IsMirror (told_in (told primary) (told m.device)) (size primary) m.holds m.stale fresh
   mirror_at k m at =
-      let was = was_row (new_mirror (size primary)) devices k m at in
+      let was = was_row (mirror_over false (size primary)) devices k m at in
       let is_size = All-at (λ (d : D). size d ≡ size primary) devices k was.0 sized was.1 in
       let are_zeros = All-at (λ (d : D). IfSome (told d) (λ blocks. blocks ≡ replicate (size d) zeros)) devices k was.0 mirror_zeros was.1 in
       subst (λ (x : Mirror D). IsMirror (told_in (told primary) (told x.device)) (size primary) x.holds x.stale fresh) was.2
       (fresh_mirror (told primary) (told was.0) (size primary) (subst (λ (n : ℕ). IfSome (told was.0) (λ blocks. blocks ≡ replicate n zeros)) is_size are_zeros))
+
+-- ## a volume taken up again
+
+no_step : (n b : ℕ) → IsInStep (replicate n true) b → ⊥
+no_step zero b at = cc
+no_step (suc n) zero at = cc
+no_step (suc n) (suc b) at = no_step n b at
+
+stale_mirror : (known : Option (List (List ℕ))) (n : ℕ) (h : History) → IsMirror known n None (replicate n true) h
+stale_mirror known n h = record {
+  in_step = λ blocks b tells step. absurd (no_step n b step);
+  split = λ set holding. absurd (none set holding);
+} where
+  none : (set : ℕ) → None ≡ Some set → ⊥
+  none set e = cc
+
+-- it stands for each history without images whose content its primary has
+pub resumed_stands : {D : Type 0} → (told : D → Option (List (List ℕ))) (size : D → ℕ) (primary : D) (devices : List D) (h : History) → h.images ≡ []
+    → IfSome (told primary) (λ blocks. blocks ≡ contents (size primary) h.writes (length h.writes))
+    → StandsFor told size (record { primary = primary; mirrors = map (mirror_over true (size primary)) devices; images = [] }) h
+resumed_stands {D = D} told size primary devices h none primary_is = record {
+  sets = sym (ap sets_of none);
+  above_zero = λ set among. absurd (never among);
+  primary = primary_is;
+  mirrors = λ k m at. let was = was_row (mirror_over true (size primary)) devices k m at in
+      subst (λ (x : Mirror D). IsMirror (told_in (told primary) (told x.device)) (size primary) x.holds x.stale h) was.2 (stale_mirror (told_in (told primary) (told was.0)) (size primary) h);
+} where
+  never : false ≡ true → ⊥
+  never e = cc
 
 -- ## what is read
 

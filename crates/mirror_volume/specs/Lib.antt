@@ -5,3 +5,4 @@ pub mod MirrorCalls
 pub mod Resync
 pub mod CowFaults
 pub mod Replies
+pub mod Messages

@@ -1,6 +1,8 @@
 -- What the calls on a volume with mirrors come to. (This project's own.)
-use Rattle.std.specs.Prelude.{ℕ, ◌≡◌, ◌<◌, ◌≤◌, ◌⊎◌, ◌==◌, not, true, false, List, [], ◌∷◌, ◌++◌, length, filter, Option, Some, None, IfSome, is_some, slice_get, slice_set, option_map, Result, Ok, Err}
+use Rattle.std.specs.Prelude.{ℕ, ◌≡◌, ◌<◌, ◌≤◌, ◌⊎◌, ◌==◌, not, true, false, List, [], ◌∷◌, ◌++◌, length, filter, Option, Some, None, IfSome, is_some, slice_get, slice_set, option_map, Result, Ok, Err, OnOk}
 use Rattle.vss_names.specs.Faults.{Rose}
+use Rattle.vss_names.specs.Faults as Faults
+use Rattle.vss_names.specs.declared.failed.Failed.{Failed}
 use Rattle.volume_device.specs.Blocks.{AreBlocks}
 use Rattle.write_history.specs.History.{History, Write, written}
 use Rattle.cow_volume.specs.Calls.{is_among}
@@ -139,6 +141,15 @@ IsImageRead told size count old new set b bytes (Err NoSuchImage) = (is_among se
 IsImageRead told size count old new set b bytes (Err NoBlock) = (is_among set old.images ≡ true) × (size old.primary ≤ b) × (new ≡ old)
 IsImageRead told size count old new set b bytes (Err VolumeFailed) = (call : IsCalledFor told size count old new set b) × Rose (count call.mirror.device) (count call.quiet.after)
 IsImageRead told size count old new set b bytes (Err AreaFailed) = ⊥
+
+-- ## what lasts
+
+-- what was written to mirror k lasts, or its device failed
+pub record IsMirrorFlush {D : Type 0} (told lasting : D → Option (List (List ℕ))) (size count : D → ℕ) (old new : MirrorValue D) (k : ℕ) (result : Result Unit Failed) : Type 0 where
+  pub mirror : Mirror D
+  pub quiet : IsQuietOn told size count old new k mirror
+  pub lasts : OnOk result (lasting quiet.after ≡ told quiet.after)
+  pub cause : Faults.HasCause (count mirror.device) (count quiet.after) result
 
 -- ## images
 

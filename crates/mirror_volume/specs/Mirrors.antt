@@ -44,9 +44,9 @@ tells told v = is_some (told v.primary) && list_all (λ m. is_some (told m.devic
 abbrev pub holds_of : {D : Type 0} → List (Mirror D) → List (Option ℕ)
 holds_of mirrors = map (λ m. m.holds) mirrors
 
--- a mirror over a device of so many zero blocks
-abbrev pub new_mirror : {D : Type 0} → ℕ → D → Mirror D
-new_mirror n device = record { device = device; holds = None; stale = replicate n false }
+-- a mirror that holds no image, over a device of so many blocks, all of which are stale, or none
+abbrev pub mirror_over : {D : Type 0} → Bool → ℕ → D → Mirror D
+mirror_over stale n device = record { device = device; holds = None; stale = replicate n stale }
 
 -- ## what is always so
 

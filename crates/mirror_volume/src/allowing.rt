@@ -1,6 +1,6 @@
 //! Which commands may be given.
 
-ghost use Rattle.std.specs.Prelude.{◌≡◌, ◌<◌, ◌∷◌, List, IfSome, IsSome, IsTrue};
+ghost use Rattle.std.specs.Prelude.{◌≡◌, ◌<◌, ◌≤◌, ◌-◌, ◌∷◌, ◌↔◌, List, All, length, IfSome, IsSome, IsNone, IsTrue};
 ghost use Rattle.mirror_volume.specs.declared.command.Command.{Command as Given};
 ghost use Rattle.mirror_volume.specs.Replies.{AreAllowed, MayBeGiven};
 
@@ -9,7 +9,7 @@ use crate::command::Command;
 /// What is left as it is, where the block is one of so many.
 fn within(blocks: u32, newest: u32, room: u32, block: u32) -> Option<(u32, u32)>
     ensures left { IfSome result (λ left. (left.0 ≡ newest) × (left.1 ≡ room)) }
-    ensures low { IsSome result → block < blocks }
+    ensures low { IsSome result ↔ (block < blocks) }
 {
     if block >= blocks {
         return None;
@@ -20,7 +20,9 @@ fn within(blocks: u32, newest: u32, room: u32, block: u32) -> Option<(u32, u32)>
 /// What is left for further commands after one: the greatest set, and for how many cuts there is room. None where the command may
 /// not be given to a volume of so many blocks.
 fn after_command(blocks: u32, newest: u32, room: u32, command: Command) -> Option<(u32, u32)>
-    ensures { IfSome result (λ left. (rest : List Given) → AreAllowed blocks left.0 left.1 rest → AreAllowed blocks newest room (command ∷ rest)) }
+    ensures allows { IfSome result (λ left. (rest : List Given) → AreAllowed blocks left.0 left.1 rest → AreAllowed blocks newest room (command ∷ rest)) }
+    ensures leaves { IfSome result (λ left. (rest : List Given) → AreAllowed blocks newest room (command ∷ rest) → AreAllowed blocks left.0 left.1 rest) }
+    ensures refuses { IsNone result → (rest : List Given) → ¬ AreAllowed blocks newest room (command ∷ rest) }
 {
     match command {
         Command::Write { block, .. } => within(blocks, newest, room, block),
@@ -41,7 +43,8 @@ fn after_command(blocks: u32, newest: u32, room: u32, command: Command) -> Optio
 
 /// Whether these commands may be given to a volume of so many blocks that has images of these sets, none of them past `newest`.
 pub fn may_be_given(blocks: u32, sets: &[u32], newest: u32, commands: &[Command]) -> bool
-    ensures { IsTrue result → MayBeGiven blocks sets.now commands.now }
+    ensures may { IsTrue result → MayBeGiven blocks sets.now commands.now }
+    ensures exact { length sets.now ≤ 512 → All (λ s. s ≤ newest) sets.now → AreAllowed blocks newest (512 - length sets.now) commands.now → IsTrue result }
 {
     if sets.len() > 512 {
         return false;

@@ -30,6 +30,7 @@ pub use laws::{
     cuts_are_refused_for_a_cause, plain_replies_are_the_definitions,
     steps_bring_a_mirror_into_step, two_volumes_reply_alike,
 };
+pub use mirror::Mirror;
 pub use mirror_volume::MirrorVolume;
 pub use no_mirror::NoMirror;
 pub use reply_list::ReplyList;

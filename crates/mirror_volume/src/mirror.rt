@@ -1,7 +1,7 @@
 ghost use Rattle.std.specs.Prelude.{◌≡◌, ◌<◌, length, map, option_map, slice_set, IfOk, IfSome, IsNone, OnOk, OnErr};
 ghost use Rattle.vss_names.specs.Faults.{HasCause};
 ghost use Rattle.block_data.specs.PayloadBytes.{payload_bytes};
-ghost use Rattle.mirror_volume.specs.Mirrors.{new_mirror, is_held, is_ready};
+ghost use Rattle.mirror_volume.specs.Mirrors.{mirror_over, is_held, is_ready};
 ghost use Rattle.mirror_volume.specs.MirrorCalls.{HaveBlock, IsMirrorRead, IsFollowed, AreFollowed, IsFirstReady, NoneReady, IsHolder, NoneHolds};
 
 use crate::stale_blocks::StaleBlocks;
@@ -13,23 +13,35 @@ use vss_names::{Failed, OutOfMemory};
 
 /// A whole mirror of a volume: its device, the set of the image that it holds, and the blocks that may differ from the primary's.
 #[derive(Drop)]
-pub(crate) struct Mirror<D: Device> {
+pub struct Mirror<D: Device> {
     pub(crate) device: D,
     pub(crate) holds: Option<u32>,
     pub(crate) stale: StaleBlocks,
 }
 
 impl<D: Device> Mirror<D> {
-    /// A mirror that holds no image, over a device of so many blocks, all of which are in step.
-    pub(crate) fn new(alloc: Global, device: D, blocks: u32) -> Result<Mirror<D>, OutOfMemory>
-        ensures { IfOk result (λ mirror. mirror ≡ new_mirror blocks device) }
+    /// A mirror that holds no image, over a device of so many blocks, all of which are stale, or in step.
+    pub(crate) fn new(
+        alloc: Global,
+        device: D,
+        blocks: u32,
+        stale: bool,
+    ) -> Result<Mirror<D>, OutOfMemory>
+        ensures { IfOk result (λ mirror. mirror ≡ mirror_over stale blocks device) }
     {
-        let stale = StaleBlocks::new(alloc, blocks)?;
+        let stale = StaleBlocks::new(alloc, blocks, stale)?;
         Ok(Mirror {
             device,
             holds: None,
             stale,
         })
+    }
+
+    /// Its device, as it is.
+    pub fn into_device(self) -> D
+        ensures { result ≡ self.device }
+    {
+        self.device
     }
 
     /// Whether it holds no image and has no stale block.
@@ -113,17 +125,18 @@ pub(crate) fn follow_all<D: Device>(mirrors: &mut [Mirror<D>], block: u32, bytes
     }
 }
 
-/// Mirrors in step over these devices, each of so many blocks.
+/// Mirrors over these devices, each of so many blocks, all of which are stale, or in step.
 pub(crate) fn all_mirrors<D: Device>(
     alloc: Global,
     devices: Vec<D>,
     blocks: u32,
+    stale: bool,
 ) -> Result<Vec<Mirror<D>>, OutOfMemory>
-    ensures { IfOk result (λ mirrors. mirrors.items ≡ map (new_mirror blocks) devices.items) }
+    ensures { IfOk result (λ mirrors. mirrors.items ≡ map (mirror_over stale blocks) devices.items) }
 {
     let mut mirrors = Vec::with_capacity(alloc, devices.len())?;
     for device in devices {
-        mirrors.push(Mirror::new(alloc, device, blocks)?)?;
+        mirrors.push(Mirror::new(alloc, device, blocks, stale)?)?;
     }
     Ok(mirrors)
 }

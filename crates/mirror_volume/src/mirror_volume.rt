@@ -1,9 +1,10 @@
-ghost use Rattle.std.specs.Prelude.{◌≡◌, ◌<◌, ◌≤◌, [], Some, length, map, replicate, All, IfOk, IfErr, IfSome, OnOk, slice_get};
+ghost use Rattle.std.specs.Prelude.{◌≡◌, ◌<◌, ◌≤◌, [], Some, false, true, length, map, replicate, All, IfOk, IfErr, IfSome, OnOk, slice_get};
+ghost use Rattle.vss_names.specs.Faults.{HasCause};
 ghost use Rattle.block_data.specs.Runs.{zeros};
 ghost use Rattle.block_data.specs.PayloadBytes.{payload_bytes};
-ghost use Rattle.write_history.specs.History.{History, fresh, dropped, cut};
-ghost use Rattle.mirror_volume.specs.Mirrors.{StandsFor, new_mirror, ready_count, EqualsPrimary};
-ghost use Rattle.mirror_volume.specs.MirrorCalls.{IsWrite, after_write, IsRead, IsImageRead, IsCut, IsDropped};
+ghost use Rattle.write_history.specs.History.{History, contents, fresh, dropped, cut};
+ghost use Rattle.mirror_volume.specs.Mirrors.{StandsFor, mirror_over, ready_count, EqualsPrimary};
+ghost use Rattle.mirror_volume.specs.MirrorCalls.{IsWrite, after_write, IsRead, IsImageRead, IsCut, IsDropped, IsQuiet, IsMirrorFlush};
 ghost use Rattle.mirror_volume.specs.Resync.{IsSynced, stale_at};
 
 use crate::mirror::{Mirror, all_mirrors, first_ready, follow_all, holder, put_block, read_mirror};
@@ -16,7 +17,7 @@ use cow_volume::{Cause, ImageFault, WriteFault, Written};
 use std::alloc::Global;
 use std::marker::Model;
 use volume_device::Device;
-use vss_names::OutOfMemory;
+use vss_names::{Failed, OutOfMemory};
 
 /// The most images that a volume has.
 const MOST_IMAGES: usize = 512;
@@ -53,12 +54,36 @@ impl<D: Device> MirrorVolume<D> {
         requires fits { All (λ d. D.size d ≡ D.size primary) mirrors.items }
         requires primary_zeros { IfSome (D.told primary) (λ blocks. blocks ≡ replicate (D.size primary) zeros) }
         requires mirrors_zeros { All (λ d. IfSome (D.told d) (λ blocks. blocks ≡ replicate (D.size d) zeros)) mirrors.items }
-        ensures value { IfOk result (λ volume. volume ≡ record { primary = primary; mirrors = map (new_mirror (D.size primary)) mirrors.items; images = [] }) }
+        ensures value { IfOk result (λ volume. volume ≡ record { primary = primary; mirrors = map (mirror_over false (D.size primary)) mirrors.items; images = [] }) }
         ensures stands { IfOk result (λ volume. StandsFor D.told D.size volume fresh) }
     {
         let images = Vec::with_capacity(alloc, MOST_IMAGES)?;
         let scratch = BlockBuf::zeroed(alloc)?;
-        let mirrors = all_mirrors(alloc, mirrors, primary.blocks())?;
+        let mirrors = all_mirrors(alloc, mirrors, primary.blocks(), false)?;
+        Ok(MirrorVolume {
+            primary,
+            mirrors,
+            images,
+            scratch,
+        })
+    }
+
+    /// A volume without images over devices that hold what they hold: all blocks of its mirrors are stale until they are brought into
+    /// step. It takes all memory that the volume ever needs.
+    pub fn resume(
+        alloc: Global,
+        primary: D,
+        mirrors: Vec<D>,
+    ) -> Result<MirrorVolume<D>, OutOfMemory>
+        requires some { 0 < length mirrors.items }
+        requires few { length mirrors.items ≤ 8 }
+        requires fits { All (λ d. D.size d ≡ D.size primary) mirrors.items }
+        ensures value { IfOk result (λ volume. volume ≡ record { primary = primary; mirrors = map (mirror_over true (D.size primary)) mirrors.items; images = [] }) }
+        ensures stands { IfOk result (λ volume. (h : History) → h.images ≡ [] → IfSome (D.told primary) (λ blocks. blocks ≡ contents (D.size primary) h.writes (length h.writes)) → StandsFor D.told D.size volume h) }
+    {
+        let images = Vec::with_capacity(alloc, MOST_IMAGES)?;
+        let scratch = BlockBuf::zeroed(alloc)?;
+        let mirrors = all_mirrors(alloc, mirrors, primary.blocks(), true)?;
         Ok(MirrorVolume {
             primary,
             mirrors,
@@ -205,5 +230,33 @@ impl<D: Device> MirrorVolume<D> {
     {
         let mirror = &mut self.mirrors[mirror as usize];
         step(&mut self.primary, mirror, &mut self.scratch)
+    }
+
+    /// Brings all accepted writes of the volume to where they last. The mirrors are flushed one by one.
+    pub fn flush(&mut self) -> Result<(), Failed>
+        ensures lasts { OnOk result (D.lasting self.new.primary ≡ D.told self.new.primary) }
+        ensures quiet { IsQuiet D.told D.size D.count self.old self.new }
+        ensures cause { HasCause (D.count self.old.primary) (D.count self.new.primary) result }
+        ensures stands { (h : History) → StandsFor D.told D.size self.old h → StandsFor D.told D.size self.new h }
+    {
+        self.primary.flush()
+    }
+
+    /// Brings all that was written to a mirror to where it lasts: the image that it holds, or its blocks in step.
+    pub fn flush_mirror(&mut self, mirror: u32) -> Result<(), Failed>
+        requires { mirror < length self.old.mirrors }
+        ensures flushed { IsMirrorFlush D.told D.lasting D.size D.count self.old self.new mirror result }
+        ensures stands { (h : History) → StandsFor D.told D.size self.old h → StandsFor D.told D.size self.new h }
+    {
+        let mirror = &mut self.mirrors[mirror as usize];
+        mirror.device.flush()
+    }
+
+    /// The primary's device, and the mirrors, as they are.
+    pub fn into_parts(self) -> (D, Vec<Mirror<D>>)
+        ensures primary { result.0 ≡ self.primary }
+        ensures mirrors { result.1.items ≡ self.mirrors }
+    {
+        (self.primary, self.mirrors)
     }
 }

@@ -1,4 +1,4 @@
-ghost use Rattle.std.specs.Prelude.{◌≡◌, ◌<◌, false, true, length, replicate, slice_set, IfOk, IfSome, IsNone, ◌↔◌};
+ghost use Rattle.std.specs.Prelude.{◌≡◌, ◌<◌, false, true, length, replicate, slice_set, if◌then◌else◌, IfOk, IfSome, IsNone, ◌↔◌};
 ghost use Rattle.mirror_volume.specs.Stale.{IsLowestStale, HoldsStale, stale_count};
 
 use slot_pool::SlotPool;
@@ -30,16 +30,17 @@ impl Model for StaleBlocks {
 }
 
 impl StaleBlocks {
-    /// So many blocks, none of them stale. It takes all memory that is ever needed.
-    pub(crate) fn new(alloc: Global, blocks: u32) -> Result<StaleBlocks, OutOfMemory>
-        ensures { IfOk result (λ stale. stale ≡ replicate blocks false) }
+    /// So many blocks, all of them stale, or none. It takes all memory that is ever needed.
+    pub(crate) fn new(alloc: Global, blocks: u32, stale: bool) -> Result<StaleBlocks, OutOfMemory>
+        ensures { IfOk result (λ blocks_are. blocks_are ≡ replicate blocks stale) }
     {
-        let stale = vec![in alloc; false; blocks as usize]?;
+        let marks = vec![in alloc; stale; blocks as usize]?;
         let queue = SlotPool::new(alloc, blocks)?;
+        let count = count_at_first(blocks, stale);
         Ok(StaleBlocks {
-            stale,
+            stale: marks,
             queue,
-            count: 0,
+            count,
         })
     }
 
@@ -88,6 +89,13 @@ impl StaleBlocks {
         }
         lowest_in(&self.stale, &mut self.queue)
     }
+}
+
+/// How many of so many blocks are stale, where all are, or none.
+fn count_at_first(blocks: u32, stale: bool) -> u32
+    ensures { result ≡ (if stale then blocks else 0) }
+{
+    if stale { blocks } else { 0 }
 }
 
 /// The lowest stale block of a queue that holds them all. What is stale no longer is taken out on the way.

@@ -17,3 +17,4 @@ pub mod Ops
 pub mod Declarations
 pub mod Entries
 pub mod Named
+pub mod Messages

@@ -1,3 +1,6 @@
+ghost use Rattle.std.specs.Prelude.{◌≡◌, Some};
+ghost use Rattle.scenario.specs.Messages.{name_of_reason, number_of_reason};
+
 use std::fmt;
 
 /// Why a line of a scenario is refused: the first check that it does not pass.
@@ -27,7 +30,32 @@ pub enum Reason {
     Empty,
 }
 
+impl Reason {
+    /// Its number, 1 to 13 in the order above.
+    pub fn number(self) -> u32
+        ensures { result ≡ number_of_reason self }
+    {
+        match self {
+            Reason::BadByte => 1,
+            Reason::NoNewline => 2,
+            Reason::UnknownWord => 3,
+            Reason::Misplaced => 4,
+            Reason::BadCount => 5,
+            Reason::BadNumber => 6,
+            Reason::OutOfRange => 7,
+            Reason::BadName => 8,
+            Reason::DoubleName => 9,
+            Reason::UnknownName => 10,
+            Reason::BadDocument => 11,
+            Reason::TooMany => 12,
+            Reason::Empty => 13,
+        }
+    }
+}
+
 impl fmt::Display for Reason {
+    ghost output = { λ reason. Some (name_of_reason reason) };
+
     fn fmt<W: fmt::Write>(&self, f: &mut fmt::Formatter<W>) -> fmt::Result {
         f.write_str(match self {
             Reason::BadByte => "BadByte",

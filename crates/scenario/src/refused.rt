@@ -1,7 +1,11 @@
+ghost use Rattle.std.specs.Prelude.{Some};
+ghost use Rattle.scenario.specs.Messages.{message_of_refused};
 ghost use Rattle.scenario.specs.Grammar.{Reading, IsRefused, IsUnreadAt};
 
 use crate::reason::Reason;
 use crate::unread::Unread;
+use std::error::Error;
+use std::fmt;
 
 /// Why a text is no scenario.
 #[derive(Clone, Copy, Debug, PartialEq, Eq)]
@@ -26,3 +30,16 @@ impl Refused {
         }
     }
 }
+
+impl fmt::Display for Refused {
+    ghost output = { λ refused. Some (message_of_refused refused) };
+
+    fn fmt<W: fmt::Write>(&self, f: &mut fmt::Formatter<W>) -> fmt::Result {
+        match self {
+            Refused::Line { line, reason } => write!(f, "line {line}: {reason}"),
+            Refused::OutOfMemory => f.write_str("out of memory"),
+        }
+    }
+}
+
+impl Error for Refused {}

@@ -5,3 +5,4 @@ pub mod RecoverValue
 pub mod Calls
 pub mod Keeping
 pub mod OverlayCalls
+pub mod Messages

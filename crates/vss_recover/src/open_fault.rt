@@ -1,3 +1,9 @@
+ghost use Rattle.std.specs.Prelude.{Some};
+ghost use Rattle.vss_recover.specs.Messages.{open_message};
+
+use std::error::Error;
+use std::fmt;
+
 /// Why no window was opened. The first cause in this order is told, and nothing changed.
 #[derive(Clone, Copy, Debug, PartialEq, Eq)]
 pub enum OpenFault {
@@ -14,3 +20,22 @@ pub enum OpenFault {
     /// Two claims have a block in common. The second is the first that meets an earlier one.
     Overlap { first: u32, second: u32 },
 }
+
+impl fmt::Display for OpenFault {
+    ghost output = { λ fault. Some (open_message fault) };
+
+    fn fmt<W: fmt::Write>(&self, f: &mut fmt::Formatter<W>) -> fmt::Result {
+        match self {
+            OpenFault::NoSuchImage => f.write_str("no such image"),
+            OpenFault::NotNewest { newest } => write!(f, "the newest image is of set {newest}"),
+            OpenFault::AlreadyOpen { set } => write!(f, "the window of set {set} is open"),
+            OpenFault::Final => f.write_str("the image is final"),
+            OpenFault::BadRange { claim } => write!(f, "claim {claim} is out of range"),
+            OpenFault::Overlap { first, second } => {
+                write!(f, "claims {first} and {second} overlap")
+            }
+        }
+    }
+}
+
+impl Error for OpenFault {}

@@ -60,6 +60,13 @@ impl<D: Device> Overlay<D> {
         })
     }
 
+    /// The area, as it is.
+    pub(crate) fn into_area(self) -> Area<D>
+        ensures { result ≡ self }
+    {
+        self.area
+    }
+
     /// How many slots there are.
     pub(crate) fn slots(&self) -> u32
         ensures slots { result ≡ length self.now.records }

@@ -1,9 +1,9 @@
-ghost use Rattle.std.specs.Prelude.{◌≡◌, ◌<◌, ◌≤◌, ◌++◌, ◌∷◌, ◌&&◌, ◌||◌, ◌==◌, [], true, None, Some, length, replicate, vec_capacity, not, List, All, IfOk, IfErr, OnOk};
+ghost use Rattle.std.specs.Prelude.{◌≡◌, ◌<◌, ◌≤◌, ◌++◌, ◌∷◌, ◌&&◌, ◌||◌, ◌==◌, [], true, None, Some, length, replicate, slice_get, vec_capacity, not, List, All, IfOk, IfErr, OnOk};
 ghost use Rattle.block_data.specs.PayloadBytes.{payload_bytes};
 ghost use Rattle.write_history.specs.History.{History, point_in, names};
 ghost use Rattle.write_history.specs.Slots.{used};
 ghost use Rattle.diff_area.specs.Records.{free, used_in};
-ghost use Rattle.cow_volume.specs.Calls.{IsQuiet, IsUnfailed, is_among};
+ghost use Rattle.cow_volume.specs.Calls.{IsQuiet, IsUnfailed, VolumeRose, is_among};
 ghost use Rattle.cow_volume.specs.OneVolume.{StandsForOne, blocks_of, image_sets, IsOneWrite, IsOneCopiedOnce, IsOneNow, HasOneCause, IsOneDropped};
 ghost use Rattle.vss_recover.specs.Calls.{IsStep, IsBeside, IsSettledUpTo, IsDropped, IsReadAlone, AreUnfailed, HasReadCause, IsShown, IsOpened, IsRecoverWrite, IsReverted, IsRevertStep, IsClosed, IsClosingStep, IsSettled, HasOpenCause, MayOpen};
 ghost use Rattle.vss_recover.specs.OverlayCalls.{count_in, lacks_room};
@@ -284,6 +284,27 @@ impl<D: Device> RecoverVolume<D> {
             Ok(()) => Ok(()),
             Err(fault) => Err(RecoverRevert::Other(fault)),
         }
+    }
+
+    /// Brings all accepted writes of the volume to where they last.
+    pub fn flush(&mut self) -> Result<(), Cause>
+        ensures lasts { OnOk result ((d : D) → slice_get self.new.volume.devices 0 ≡ Some d → D.lasting d ≡ D.told d) }
+        ensures same { OnOk result (IsUnfailed D.count self.old.volume self.new.volume) }
+        ensures cause { IfErr result (λ cause. cause ≡ Cause.Volume) }
+        ensures rose { IfErr result (λ cause. VolumeRose D.count 0 self.old.volume self.new.volume) }
+        ensures quiet { IsQuiet D.told D.size D.count D.lending self.old.volume self.new.volume }
+        ensures beside { IsBeside self.old self.new }
+        ensures stands { (h : Recovering) → StandsFor D.told self.old h → StandsFor D.told self.new h }
+    {
+        self.volume.flush()
+    }
+
+    /// The volume and the overlay, as they are.
+    pub fn into_parts(self) -> (CowVolume<D>, Area<D>)
+        ensures volume { result.0 ≡ self.volume }
+        ensures overlay { result.1 ≡ self.overlay }
+    {
+        (self.volume, self.overlay.into_area())
     }
 
     /// Whether an image of a set stands.

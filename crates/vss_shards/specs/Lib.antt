@@ -7,3 +7,4 @@ pub mod Reads
 pub mod Gathered
 pub mod GoingOn
 pub mod OneMoment
+pub mod Messages

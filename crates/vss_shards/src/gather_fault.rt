@@ -1,4 +1,9 @@
+ghost use Rattle.std.specs.Prelude.{Some};
+ghost use Rattle.vss_shards.specs.Messages.{gather_message};
+
 use crate::entry::Entry;
+use std::error::Error;
+use std::fmt;
 
 /// Why shards and a journal are not one whole.
 #[derive(Clone, Copy, Debug, PartialEq, Eq)]
@@ -16,3 +21,18 @@ pub enum GatherFault {
         journalled: Option<Entry>,
     },
 }
+
+impl fmt::Display for GatherFault {
+    ghost output = { λ fault. Some (gather_message fault) };
+
+    fn fmt<W: fmt::Write>(&self, f: &mut fmt::Formatter<W>) -> fmt::Result {
+        match self {
+            GatherFault::Held { volume } => write!(f, "volume {volume} is held for a cut"),
+            GatherFault::Differs { volume, at, .. } => {
+                write!(f, "volume {volume} differs from the journal at entry {at}")
+            }
+        }
+    }
+}
+
+impl Error for GatherFault {}

@@ -1,5 +1,5 @@
-ghost use Rattle.std.specs.Prelude.{Some};
-ghost use Rattle.writer_meta.specs.Messages.{message_of};
+ghost use Rattle.std.specs.Prelude.{◌≡◌, Some};
+ghost use Rattle.writer_meta.specs.Messages.{message_of, number_of};
 
 use crate::field::Field;
 use crate::shown::Shown;
@@ -23,6 +23,23 @@ pub enum MetaFault {
     /// More than 1,024 components.
     TooMany,
     OutOfMemory,
+}
+
+impl MetaFault {
+    /// Its number, 1 to 6 in the order of the format; out of memory has none.
+    pub fn number(&self) -> Option<u32>
+        ensures { result ≡ number_of self.now }
+    {
+        match self {
+            MetaFault::NotJson => Some(1),
+            MetaFault::MissingField(_) => Some(2),
+            MetaFault::WrongKind(_) => Some(3),
+            MetaFault::UnknownName(_) => Some(4),
+            MetaFault::DoubleComponent(_) => Some(5),
+            MetaFault::TooMany => Some(6),
+            MetaFault::OutOfMemory => None,
+        }
+    }
 }
 
 impl fmt::Display for MetaFault {

@@ -1,0 +1,21 @@
+use Rattle.std.proofs.Common.{true, ◌∙◌, List, ℕ, ap, sym, subst, map}
+use Rattle.mirror_volume.specs.declared.mirror.Mirror.{Mirror}
+use Rattle.mirror_volume.specs.Mirrors.{StandsFor, mirror_over}
+use Rattle.mirror_volume.proofs.Standing.{resumed_stands}
+use Rattle.mirror_volume.proofs.Keeping.{value_of, keeps_new}
+use Rattle.mirror_volume.proofs.mirror_volume.MirrorVolume.resume.Goals as goal
+
+pub invariant_of-result : goal.invariant_of-result
+invariant_of-result g c =
+    let are = c.in_ok-mirrors.ensures ∙ ap (λ (n : ℕ). map (mirror_over true n) c.args.mirrors.items) c.blocks-2.ensures.size in
+    let none = c.in_ok-images.ensures.items in
+    let room = c.in_ok-images.ensures.capacity in
+    keeps_new g.D.Device.size true c.args.primary c.args.mirrors.items c.in_ok-mirrors.mirrors.items c.in_ok-images.images c.requires.some c.requires.few c.requires.fits are none room
+
+pub returns-clause-stands : goal.returns-clause-stands
+returns-clause-stands g c h none is =
+    let are = c.in_ok-mirrors.ensures ∙ ap (λ (n : ℕ). map (mirror_over true n) c.args.mirrors.items) c.blocks-2.ensures.size in
+    subst (λ (ms : List (Mirror _)). StandsFor g.D.Device.told g.D.Device.size (value_of c.args.primary ms c.in_ok-images.images.items) h) (sym are)
+    (subst (λ (is : List ℕ). StandsFor g.D.Device.told g.D.Device.size (value_of c.args.primary (map (mirror_over true (g.D.Device.size c.args.primary)) c.args.mirrors.items) is) h)
+    (sym c.in_ok-images.ensures.items)
+    (resumed_stands g.D.Device.told g.D.Device.size c.args.primary c.args.mirrors.items h none is))
