@@ -2,21 +2,24 @@
 //! writer vetoes its first freeze, the second hangs in its second, and the third try completes. `stdout` has what it prints.
 #![tactic(auto)]
 
-ghost use Rattle.std.specs.Prelude.{IfSome};
+ghost use Rattle.std.specs.Prelude.{◌<◌, length, IfSome};
 ghost use Rattle.vss_world.specs.Moves.{IsEvent};
 
 mod ledger;
 mod mail;
+mod seat;
 
 use ledger::Ledger;
 use mail::Mail;
 use scenario::parse;
+use seat::Seat;
 use std::process::ExitCode;
 use volume_device::{MemDevice, MemMaker, Store};
 use vss_model::{Event, Outcome, Told};
 use vss_names::SetOutcome;
-use vss_play::{Seat, Service};
+use vss_play::Service;
 use vss_world::Reply;
+use writer_calls::Answer;
 
 /// One volume, two writers, and the lines of a backup.
 const SCENARIO: &[u8] = b"scenario 1
@@ -38,15 +41,24 @@ await
 end
 ";
 
-/// The answer of the first writer that has an order which it was not given yet, and answers it.
+/// What a writer answers, if it has an order that it was not given yet, and answers it.
+fn answer_of(service: &Service<MemDevice>, seats: &mut [Seat], writer: u32) -> Option<Answer>
+    requires { writer < length service.now.plan.writers }
+{
+    let order = service.poll(writer)?;
+    if writer as usize >= seats.len() {
+        return None;
+    }
+    seats[writer as usize].answer(order)
+}
+
+/// The answer of the first writer that has one.
 fn next_answer(service: &Service<MemDevice>, seats: &mut [Seat]) -> Option<Event>
     ensures { IfSome result (IsEvent service.now.plan) }
 {
     for writer in 0..service.scenario().writers() {
-        if let Some(order) = service.poll(writer) {
-            if let Some(answer) = seats.get_mut(writer as usize)?.answer(order) {
-                return Some(Event::Answer { writer, answer });
-            }
+        if let Some(answer) = answer_of(service, seats, writer) {
+            return Some(Event::Answer { writer, answer });
         }
     }
     None
@@ -76,6 +88,16 @@ fn show(rt: &HostRuntime, outcome: Outcome) -> Option<()> {
     Some(())
 }
 
+/// Tells each writer of an abort that its row has more.
+fn tell_aborts(service: &Service<MemDevice>, seats: &mut [Seat]) {
+    for (writer, row) in service.rows().iter().enumerate() {
+        if writer >= seats.len() {
+            return;
+        }
+        let _ = seats[writer].tell(*row);
+    }
+}
+
 /// Makes all lines of the backup, each as soon as it may come.
 fn back_up(rt: &HostRuntime, service: &mut Service<MemDevice>, seats: &mut [Seat]) -> Option<()> {
     let mut at = 0;
@@ -93,9 +115,7 @@ fn back_up(rt: &HostRuntime, service: &mut Service<MemDevice>, seats: &mut [Seat
             return None;
         };
         show(rt, outcome)?;
-        for (row, seat) in service.rows().iter().zip(seats.iter_mut()) {
-            let _ = seat.tell(*row);
-        }
+        tell_aborts(service, seats);
         at = at.saturating_add(u32::from(goes));
     }
     None

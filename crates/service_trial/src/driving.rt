@@ -12,13 +12,14 @@ ghost use Rattle.vss_world.specs.Moves.{IsEvent};
 use crate::counting_writer::CountingWriter;
 use crate::enabled::Enabled;
 use crate::move_line::MoveLine;
+use crate::seat::Seat;
 use crate::silent_writer::SilentWriter;
 use crate::trial_error::TrialError;
 use std::alloc::Global;
 use volume_device::Device;
 use vss_model::{Event, Outcome};
 use vss_names::{Order, SetOutcome, WriterError};
-use vss_play::{Seat, Service};
+use vss_play::Service;
 use vss_world::Reply;
 use writer_calls::{Answer, Scripted, ScriptedWriter};
 

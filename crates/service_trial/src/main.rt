@@ -36,6 +36,7 @@ mod numbers;
 mod one_turn;
 mod preparing;
 mod runs;
+mod seat;
 mod service;
 mod silent_writer;
 mod trial_error;
