@@ -1,7 +1,8 @@
 -- The metadata of one writer, by its number.
-use Rattle.std.proofs.Common.{◌≡◌, ◌∙◌, ℕ, zero, suc, ◌+◌, ◌<◌, ◌≤◌, ◌==◌, ◌↔◌, append_assoc, append-nil, is_some, if◌then◌else◌, List, [], ◌∷◌, ◌++◌, length, drop, map, nat_le, Bool, true, ◌&&◌, Option, None, Some, option_map, slice_get, arith, refl, sym, ap, subst}
+use Rattle.std.proofs.Common.{◌≡◌, ◌∙◌, ℕ, zero, suc, ◌+◌, ◌<◌, ◌≤◌, ◌==◌, ◌↔◌, append_assoc, append-nil, is_some, if◌then◌else◌, List, [], ◌∷◌, ◌++◌, length, drop, map, nat_le, Bool, true, false, ◌&&◌, inl, inr, Option, None, Some, option_map, slice_get, arith, refl, sym, ap, subst}
+use Rattle.std.specs.Prelude.{Result, IfOk}
 use Rattle.std.proofs.lemmas.Bool.Decides.{nat_tests}
-use Rattle.std.proofs.lemmas.Bool.{eqb-true}
+use Rattle.std.proofs.lemmas.Bool.{eqb-true, cases_eq, false≢true}
 use Rattle.std.proofs.lemmas.List.{drop_all, length-map}
 use Rattle.std.proofs.lemmas.Option.{none-some, same_Some}
 use Rattle.writer_meta.specs.declared.metadata.Metadata.{Metadata}
@@ -11,7 +12,7 @@ use Rattle.writer_meta.proofs.Laws.{and_left, and_right}
 use Rattle.component_doc.specs.declared.choice.Choice.{Choice}
 use Rattle.component_doc.proofs.Order.{both, drop-further}
 use Rattle.component_doc.specs.Held.{metas_of, has_few, all_have_few}
-use Rattle.component_doc.specs.Over.{AreAllowed, IsOver, IsSelectedOver, meta_at}
+use Rattle.component_doc.specs.Over.{AreAllowed, IsKnownAllowed, IsOver, IsSelectedOver, meta_at}
 use Rattle.component_doc.specs.Selection.{Selected, choices_of, chosen, chosen_from, found_in, found_of, known_from}
 
 pub map-at : {A B : Type 0} (f : A → B) (xs : List A) (i : ℕ) (x : A) → slice_get xs i ≡ Some x → slice_get (map f xs) i ≡ Some (f x)
@@ -51,6 +52,41 @@ allowed-known (None ∷ ms) zero m at all = absurd (none-some m (sym at))
 allowed-known (Some x ∷ ms) zero m at all = subst IsAllowed (sym (same_Some m x at)) all.0
 allowed-known (None ∷ ms) (suc w) m at all = allowed-known ms w m at all
 allowed-known (Some x ∷ ms) (suc w) m at all = allowed-known ms w m at all.1
+
+-- all that are known are allowed, just where each is
+pub each-allowed : (ms : List (Option Meta)) (w : ℕ) → AreAllowed ms → IsKnownAllowed (meta_at (slice_get ms w))
+each-allowed [] w all = tt
+each-allowed (None ∷ ms) zero all = tt
+each-allowed (Some x ∷ ms) zero all = all.0
+each-allowed (None ∷ ms) (suc w) all = each-allowed ms w all
+each-allowed (Some x ∷ ms) (suc w) all = each-allowed ms w all.1
+
+pub all-allowed : (ms : List (Option Meta)) → ((w : ℕ) → w < length ms → IsKnownAllowed (meta_at (slice_get ms w))) → AreAllowed ms
+all-allowed [] each = tt
+all-allowed (None ∷ ms) each = all-allowed ms (λ w low. each (suc w) (omega arith))
+all-allowed (Some m ∷ ms) each = (each 0 (omega arith), all-allowed ms (λ w low. each (suc w) (omega arith)))
+
+-- the test of one writer
+pub known_allowed : {R E : Type 0} (r : Option R) (m : R) (f : R → Metadata) (x : Option Meta) (result : Result Bool E) → r ≡ Some m → option_map (λ k. meta_of (f k)) r ≡ x
+    → IfOk result (λ a. (a ≡ true) ↔ IsAllowed (meta_of (f m))) → IfOk result (λ a. (a ≡ true) ↔ IsKnownAllowed x)
+known_allowed r m f x result is at allowed = subst (λ (o : Option Meta). IfOk result (λ a. (a ≡ true) ↔ IsKnownAllowed o)) (known-is r m f x is at) allowed
+
+pub none_allowed : {R : Type 0} (r : Option R) (f : R → Metadata) (x : Option Meta) → r ≡ None → option_map (λ k. meta_of (f k)) r ≡ x → (true ≡ true) ↔ IsKnownAllowed x
+none_allowed r f x is at = subst (λ (o : Option Meta). (true ≡ true) ↔ IsKnownAllowed o) (sym (ap (option_map (λ k. meta_of (f k))) is) ∙ at) (λ e. tt, λ u. refl)
+
+-- and of all: one is refused, one more is not, and none is left
+pub one_refused : (ms : List (Option Meta)) (w : ℕ) (b : Bool) → (b ≡ true) ↔ IsKnownAllowed (meta_at (slice_get ms w)) → b ≡ false → (false ≡ true) ↔ AreAllowed ms
+one_refused ms w b is refused = (λ e. absurd (false≢true e), λ all. absurd (false≢true (sym refused ∙ is.1 (each-allowed ms w all))))
+
+pub allowed-on : (ms : List (Option Meta)) (k : ℕ) (b : Bool) → (b ≡ true) ↔ IsKnownAllowed (meta_at (slice_get ms k)) → b ≡ true → ((w : ℕ) → w < k → IsKnownAllowed (meta_at (slice_get ms w)))
+    → (w : ℕ) → w < k + 1 → IsKnownAllowed (meta_at (slice_get ms w))
+allowed-on ms k b is test before w low = elim (cases_eq w k) [
+  | inl same ↦ subst (λ (i : ℕ). IsKnownAllowed (meta_at (slice_get ms i))) (sym same) (is.0 test)
+  | inr other ↦ before w (omega arith)
+]
+
+pub allowed-end : (ms : List (Option Meta)) (k : ℕ) → length ms ≤ k → ((w : ℕ) → w < k → IsKnownAllowed (meta_at (slice_get ms w))) → (true ≡ true) ↔ AreAllowed ms
+allowed-end ms k past each = (λ e. all-allowed ms (λ w low. each w (omega arith)), λ all. refl)
 
 -- ## a component by its full name
 

@@ -13,6 +13,11 @@ AreAllowed [] = ⊤
 AreAllowed (None ∷ ms) = AreAllowed ms
 AreAllowed (Some m ∷ ms) = IsAllowed m × AreAllowed ms
 
+-- those of one writer are, where they are known
+abbrev pub IsKnownAllowed : Option Meta → Type 0
+IsKnownAllowed None = ⊤
+IsKnownAllowed (Some m) = IsAllowed m
+
 abbrev pub meta_at : Option (Option Meta) → Option Meta
 meta_at None = None
 meta_at (Some m) = m

@@ -1,4 +1,4 @@
-ghost use Rattle.std.specs.Prelude.{◌≡◌, ◌<◌, ◌≤◌, ◌^◌, ◌++◌, ◌∷◌, [], List, Option, if◌then◌else◌, map, length, option_map, slice_get, IfOk, OnOk};
+ghost use Rattle.std.specs.Prelude.{◌≡◌, ◌↔◌, ◌<◌, ◌≤◌, ◌^◌, ◌++◌, ◌∷◌, [], List, Option, if◌then◌else◌, map, length, option_map, slice_get, IfOk, OnOk};
 ghost use Rattle.writer_meta.specs.declared.metadata.Metadata.{Metadata};
 ghost use Rattle.writer_meta.specs.Metadata.{part_of};
 ghost use Rattle.component_doc.specs.Over.{is_selectable};
@@ -27,7 +27,7 @@ impl<'a> Metas<'a> {
     ghost use Rattle.std.specs.Prelude.{IsTrue};
     ghost use Rattle.writer_meta.specs.Metadata.{meta_of};
     ghost use Rattle.component_doc.specs.Held.{metas_of, all_have_few};
-    ghost use Rattle.component_doc.specs.Over.{meta_at, names_selectable};
+    ghost use Rattle.component_doc.specs.Over.{AreAllowed, IsKnownAllowed, meta_at, names_selectable};
     ghost use Rattle.component_doc.specs.Selection.{found_in, found_of, known_from};
 
     /// These metadata, without taking memory.
@@ -51,6 +51,30 @@ impl<'a> Metas<'a> {
         match self.items.get(writer as usize) {
             None => None,
             Some(known) => *known,
+        }
+    }
+
+    /// Whether all metadata that are known are as their format allows, as the calls on component documents ask.
+    pub fn are_allowed(&self, alloc: Global) -> Result<bool, OutOfMemory>
+        requires { length self.now < 2 ^ 32 }
+        ensures { IfOk result (λ allowed. IsTrue allowed ↔ AreAllowed (metas_of self.now)) }
+    {
+        for writer in 0..self.len() as u32 {
+            let allowed = self.is_allowed(alloc, writer)?;
+            if !allowed {
+                return Ok(false);
+            }
+        }
+        Ok(true)
+    }
+
+    fn is_allowed(&self, alloc: Global, writer: u32) -> Result<bool, OutOfMemory>
+        ensures { IfOk result
+            (λ allowed. IsTrue allowed ↔ IsKnownAllowed (meta_at (slice_get (metas_of self.now) writer))) }
+    {
+        match self.of_writer(writer) {
+            None => Ok(true),
+            Some(metadata) => metadata.is_allowed(alloc),
         }
     }
 

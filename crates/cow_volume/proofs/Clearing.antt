@@ -52,14 +52,17 @@ pub length-cleared : (v set : ℕ) (records : List Record) → length (cleared v
 length-cleared v set records = length-map records (cleared_row v set)
 
 -- the records of the other volumes stay at their slots
-pub others_cleared : (v set slot u image b : ℕ) (records : List Record) → u ≢ v → slice_get records slot ≡ Some (record_of u image b) → slice_get (cleared v set records) slot ≡ Some (record_of u image b)
+pub others_cleared : (v set slot u image b : ℕ) (records : List Record) → u ≢ v → slice_get records slot ≡ Some (record_of u image b)
+    → slice_get (cleared v set records) slot ≡ Some (record_of u image b)
 others_cleared v set slot u image b records d e = to_cleared v set slot records (record_of u image b) e (λ s. absurd (d s))
 
-pub others_stood : (v set slot u image b : ℕ) (records : List Record) → 0 < image → slice_get (cleared v set records) slot ≡ Some (record_of u image b) → slice_get records slot ≡ Some (record_of u image b)
+pub others_stood : (v set slot u image b : ℕ) (records : List Record) → 0 < image → slice_get (cleared v set records) slot ≡ Some (record_of u image b)
+    → slice_get records slot ≡ Some (record_of u image b)
 others_stood v set slot u image b records above e = (from_cleared v set slot records (record_of u image b) e above).0
 
 -- so the other volumes stand for their histories
-pub other_volume_cleared : (told slots : Option (List (List ℕ))) (records : List Record) (v set u n : ℕ) (sets : List ℕ) (h : History) → u ≢ v → IsVolume told slots records u n sets h → IsVolume told slots (cleared v set records) u n sets h
+pub other_volume_cleared : (told slots : Option (List (List ℕ))) (records : List Record) (v set u n : ℕ) (sets : List ℕ) (h : History) → u ≢ v → IsVolume told slots records u n sets h
+    → IsVolume told slots (cleared v set records) u n sets h
 other_volume_cleared told slots records v set u n sets h d is = record {
   blocks = is.blocks;
   sets_are = is.sets_are;

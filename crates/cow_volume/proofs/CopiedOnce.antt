@@ -15,7 +15,8 @@ use Rattle.cow_volume.proofs.Merging.{and_left}
 use Rattle.cow_volume.proofs.MakingRoom.{gone_nothing}
 
 -- what lacks a copy once images went lacked it before
-pub lacked : {D : Type 0} (c new : CopiesValue D) (v b up_to : ℕ) → AreRecords c.area.volumes c.area.records → AreOfImages c.area.records c.images → IsRoomMade c.area.records c.images v b up_to → new ≡ after_gone c up_to
+pub lacked : {D : Type 0} (c new : CopiesValue D) (v b up_to : ℕ) → AreRecords c.area.volumes c.area.records → AreOfImages c.area.records c.images → IsRoomMade c.area.records c.images v b up_to
+    → new ≡ after_gone c up_to
     → lacks_copy new.area.records v (images_on new v) b ≡ true → lacks_copy c.area.records v (images_on c v) b ≡ true
 lacked c new v b zero are of room gone lacks = ap (λ x. lacks_copy x.area.records v (images_on x v) b) (gone_nothing c are of ∙ sym gone) ∙ lacks
 lacked c new v b (suc up_to) are of room gone lacks =
@@ -23,7 +24,8 @@ lacked c new v b (suc up_to) are of room gone lacks =
     (ap (λ x. lacks_slot x.area.records v (images_on x v) b) (gone_nothing c are of) ∙ room.needed zero (omega arith))
 
 -- so a write that copies once after images went copies once
-pub once_with_room : {D : Type 0} (told : D → Option (List (List ℕ))) (old mid new : GroupValue D) (v b up_to : ℕ) → mid ≡ gone_group up_to old → (lacks_copy mid.area.records v (sets_at mid v) b ≡ true → lacks_copy old.area.records v (sets_at old v) b ≡ true)
+pub once_with_room : {D : Type 0} (told : D → Option (List (List ℕ))) (old mid new : GroupValue D) (v b up_to : ℕ) → mid ≡ gone_group up_to old
+    → (lacks_copy mid.area.records v (sets_at mid v) b ≡ true → lacks_copy old.area.records v (sets_at old v) b ≡ true)
     → IsCopiedOnce told mid new v b → IsCopiedOnce told old new v b
 once_with_room told old mid new v b up_to gone lacks_before once = elim once [
   | inl same ↦ inl (same ∙ ap (λ x. told x.area.device) gone)

@@ -1,6 +1,7 @@
 -- How many slots the images use: as many as the definitions of slots say, since the records that are not free and the
 -- copies of the definitions are the same, each once.
-use Rattle.std.proofs.Common.{◌≡◌, ◌≢◌, ◌<◌, ℕ, zero, suc, ◌+◌, List, [], ◌∷◌, length, map, refl, ap, sym, subst, ◌∙◌, arith, Bool, true, false, not, ◌&&◌, ◌||◌, Option, Some, None, inl, inr, IsPermutation}
+use Rattle.std.proofs.Common.{◌≡◌, ◌≢◌, ◌<◌, ℕ, zero, suc, ◌+◌, List, [], ◌∷◌, length, map, refl, ap, sym, subst, ◌∙◌, arith, Bool, true, false, not, ◌&&◌, ◌||◌, Option, Some, None, inl, inr}
+use Rattle.std.proofs.Common.{IsPermutation}
 use Rattle.std.specs.Prelude.{filter, slice_get, slice_index, count_by, if◌then◌else◌, ◌==◌, nat_lt}
 use Rattle.std.proofs.lemmas.List.{map-append, length-map, length-append}
 use Rattle.std.proofs.lemmas.List.Sums.{length-filter}
@@ -35,7 +36,8 @@ joined true b e f = f
 joined false b e f = cc
 
 -- the block of a record is one of its volume's
-pub within : (volumes : List ℕ) (records : List Record) (slot n v : ℕ) (r : Record) → AreRecords volumes records → slice_get volumes v ≡ Some n → slice_get records slot ≡ Some r → r.volume ≡ v → 0 < r.set → r.block < n
+pub within : (volumes : List ℕ) (records : List Record) (slot n v : ℕ) (r : Record) → AreRecords volumes records → slice_get volumes v ≡ Some n → slice_get records slot ≡ Some r → r.volume ≡ v
+    → 0 < r.set → r.block < n
 within volumes records slot n v r are is at volume above =
     let used = are.each slot r at (not_free r above) in
     let here : slice_index volumes r.volume ≡ n = ap (λ u. slice_index volumes u) volume ∙ get_or_from_slice_get volumes v n 0 is in
@@ -45,7 +47,8 @@ within volumes records slot n v r are is at volume above =
 -- ## one volume
 
 -- the record is that of a copy which the definitions give the volume
-pub copy_there : (told slots : Option (List (List ℕ))) (records : List Record) (v n : ℕ) (sets : List ℕ) (h : History) (slot : ℕ) (r : Record) → IsVolume told slots records v n sets h → slice_get records slot ≡ Some r → r.volume ≡ v → 0 < r.set → r.block < n → Has r (map key (copies_of v n h.writes h.images))
+pub copy_there : (told slots : Option (List (List ℕ))) (records : List Record) (v n : ℕ) (sets : List ℕ) (h : History) (slot : ℕ) (r : Record) → IsVolume told slots records v n sets h
+    → slice_get records slot ≡ Some r → r.volume ≡ v → 0 < r.set → r.block < n → Has r (map key (copies_of v n h.writes h.images))
 copy_there told slots records v n sets h slot r is at volume above l =
     let same : r ≡ record_of v r.set r.block = ap (λ u. record_of u r.set r.block) volume in
     let named = is.named slot r.set r.block above (at ∙ ap (λ (x : Record). Some x) same) in
@@ -62,7 +65,8 @@ pub record ItsRecord (records : List Record) (v : ℕ) (r : Record) : Type 0 whe
   pub volume : r.volume ≡ v
   pub above : 0 < r.set
 
-pub record_there : (told slots : Option (List (List ℕ))) (records : List Record) (v n : ℕ) (sets : List ℕ) (h : History) (c : Copy) → IsVolume told slots records v n sets h → Has c (copies_of v n h.writes h.images) → ItsRecord records v (key c)
+pub record_there : (told slots : Option (List (List ℕ))) (records : List Record) (v n : ℕ) (sets : List ℕ) (h : History) (c : Copy) → IsVolume told slots records v n sets h
+    → Has c (copies_of v n h.writes h.images) → ItsRecord records v (key c)
 record_there told slots records v n sets h c is has =
     let of = is-copy v n h.writes h.images c has in
     let named = named_of (length h.writes) h.writes h.images of.image of.newer c.block is.images.in_time of.stands ∙ of.named in
@@ -73,8 +77,10 @@ record_there told slots records v n sets h c is has =
     subst P same (record { slot = at.0; at = at.1; volume = refl; above = above })
 
 -- the records that a test lets through, where it is for the volume's copies, are those of the copies
-pub held_of : (told slots : Option (List (List ℕ))) (volumes : List ℕ) (records : List Record) (v n : ℕ) (sets : List ℕ) (h : History) (test : Record → Bool) → IsVolume told slots records v n sets h → AreRecords volumes records → slice_get volumes v ≡ Some n
-    → ((r : Record) → test r ≡ true → (r.volume ≡ v) × (0 < r.set)) → ((r : Record) → r.volume ≡ v → 0 < r.set → test r ≡ true) → IsPermutation (filter test records) (map key (copies_of v n h.writes h.images))
+pub held_of : (told slots : Option (List (List ℕ))) (volumes : List ℕ) (records : List Record) (v n : ℕ) (sets : List ℕ) (h : History) (test : Record → Bool) → IsVolume told slots records v n sets h
+    → AreRecords volumes records → slice_get volumes v ≡ Some n
+    → ((r : Record) → test r ≡ true → (r.volume ≡ v) × (0 < r.set)) → ((r : Record) → r.volume ≡ v → 0 < r.set → test r ≡ true)
+    → IsPermutation (filter test records) (map key (copies_of v n h.writes h.images))
 held_of told slots volumes records v n sets h test is are at says passes = permuted (filter test records) (map key (copies_of v n h.writes h.images))
     (apart-filter test records (λ i j r e f g. are.once i j r f g (not_free r (says r e).1)))
     (apart-copies (length h.writes) v n h.writes h.images is.images.in_time)
@@ -89,7 +95,8 @@ held_of told slots volumes records v n sets h test is are at says passes = permu
     let P : Record → Type 0 = λ x. Has x (filter test records) in
     subst P of.2 (has-filter test (key of.0) records (passes (key of.0) its.volume its.above) (has_at records its.slot (key of.0) its.at)))
 
-pub counted : (told slots : Option (List (List ℕ))) (volumes : List ℕ) (records : List Record) (v n : ℕ) (sets : List ℕ) (h : History) (test : Record → Bool) → IsVolume told slots records v n sets h → AreRecords volumes records → slice_get volumes v ≡ Some n
+pub counted : (told slots : Option (List (List ℕ))) (volumes : List ℕ) (records : List Record) (v n : ℕ) (sets : List ℕ) (h : History) (test : Record → Bool) → IsVolume told slots records v n sets h
+    → AreRecords volumes records → slice_get volumes v ≡ Some n
     → ((r : Record) → test r ≡ true → (r.volume ≡ v) × (0 < r.set)) → ((r : Record) → r.volume ≡ v → 0 < r.set → test r ≡ true) → count_by test records ≡ used n h.writes h.images
 counted told slots volumes records v n sets h test is are at says passes =
     sym (length-filter test records)
@@ -98,7 +105,8 @@ counted told slots volumes records v n sets h test is are at says passes =
     ∙ length-copies v n h.writes h.images
 
 -- as many records are of a volume as its images use slots
-pub used_of : (told slots : Option (List (List ℕ))) (volumes : List ℕ) (records : List Record) (v n : ℕ) (sets : List ℕ) (h : History) → IsVolume told slots records v n sets h → AreRecords volumes records → slice_get volumes v ≡ Some n
+pub used_of : (told slots : Option (List (List ℕ))) (volumes : List ℕ) (records : List Record) (v n : ℕ) (sets : List ℕ) (h : History) → IsVolume told slots records v n sets h
+    → AreRecords volumes records → slice_get volumes v ≡ Some n
     → count_by (is_on v) records ≡ used n h.writes h.images
 used_of told slots volumes records v n sets h is are at = counted told slots volumes records v n sets h (is_on v) is are at
     (λ r e. let parts = both (r.volume == v) (nat_lt 0 r.set) e in (same_number r.volume v parts.0, ltb-true 0 r.set parts.1))
@@ -109,7 +117,8 @@ used_of told slots volumes records v n sets h is are at = counted told slots vol
 is_of_both : (v set : ℕ) (r : Record) → is_of v set r ≡ true → (r.volume ≡ v) × (r.set ≡ set)
 is_of_both v set r e = let parts = both (r.volume == v) (r.set == set) e in (same_number r.volume v parts.0, same_number r.set set parts.1)
 
-by_image : (told slots : Option (List (List ℕ))) (volumes : List ℕ) (records : List Record) (v n : ℕ) (sets : List ℕ) (h : History) (i : Image) (newer : List Image) → IsVolume told slots records v n sets h → AreRecords volumes records → slice_get volumes v ≡ Some n → Stands i newer h.images
+by_image : (told slots : Option (List (List ℕ))) (volumes : List ℕ) (records : List Record) (v n : ℕ) (sets : List ℕ) (h : History) (i : Image) (newer : List Image)
+    → IsVolume told slots records v n sets h → AreRecords volumes records → slice_get volumes v ≡ Some n → Stands i newer h.images
     → IsPermutation (filter (is_of v i.set) records) (map (λ b. record_of v i.set b) (named n h.writes i newer))
 by_image told slots volumes records v n sets h i newer is are at stands =
     let above = above_zero h.images i newer is.images.above_zero stands in
@@ -136,7 +145,8 @@ by_image told slots volumes records v n sets h i newer is are at stands =
     subst P of.2 (has-filter (is_of v i.set) (record_of v i.set of.0) records (joined (v == v) (i.set == i.set) (number_is v) (number_is i.set)) (has_at records its.0 (record_of v i.set of.0) its.1)))
 
 -- as many records are of an image as it uses slots
-pub used_by_of : (told slots : Option (List (List ℕ))) (volumes : List ℕ) (records : List Record) (v n : ℕ) (sets : List ℕ) (h : History) (set : ℕ) → IsVolume told slots records v n sets h → AreRecords volumes records → slice_get volumes v ≡ Some n → is_among set sets ≡ true
+pub used_by_of : (told slots : Option (List (List ℕ))) (volumes : List ℕ) (records : List Record) (v n : ℕ) (sets : List ℕ) (h : History) (set : ℕ) → IsVolume told slots records v n sets h
+    → AreRecords volumes records → slice_get volumes v ≡ Some n → is_among set sets ≡ true
     → used_by n h.writes h.images set ≡ Some (count_by (is_of v set) records)
 used_by_of told slots volumes records v n sets h set is are at stands =
     let o = of_set set h.images (ap (is_among set) (sym is.sets_are) ∙ stands) in
@@ -151,15 +161,18 @@ used_by_of told slots volumes records v n sets h set is are at stands =
 unused : (n : ℕ) (ws : List Write) (images : List Image) (set : ℕ) → is_among set (sets_of images) ≡ false → used_by n ws images set ≡ None
 unused n ws [] set e = refl
 unused n ws (j ∷ js) set e = by_test (j.set == set) e (unused n ws js set) where
-  by_test : (t : Bool) → (t || is_among set (sets_of js)) ≡ false → (is_among set (sets_of js) ≡ false → used_by n ws js set ≡ None) → (if t then Some (length (named n ws j js)) else used_by n ws js set) ≡ None
+  by_test : (t : Bool) → (t || is_among set (sets_of js)) ≡ false → (is_among set (sets_of js) ≡ false → used_by n ws js set ≡ None)
+      → (if t then Some (length (named n ws j js)) else used_by n ws js set) ≡ None
   by_test true f rest = cc
   by_test false f rest = rest f
 
 -- and just the others have no image
-pub not_used_by_of : (told slots : Option (List (List ℕ))) (records : List Record) (v n : ℕ) (sets : List ℕ) (h : History) (set : ℕ) → IsVolume told slots records v n sets h → is_among set sets ≡ false → used_by n h.writes h.images set ≡ None
+pub not_used_by_of : (told slots : Option (List (List ℕ))) (records : List Record) (v n : ℕ) (sets : List ℕ) (h : History) (set : ℕ) → IsVolume told slots records v n sets h
+    → is_among set sets ≡ false → used_by n h.writes h.images set ≡ None
 not_used_by_of told slots records v n sets h set is none = unused n h.writes h.images set (ap (is_among set) (sym is.sets_are) ∙ none)
 
-pub only_used_by_of : (told slots : Option (List (List ℕ))) (volumes : List ℕ) (records : List Record) (v n : ℕ) (sets : List ℕ) (h : History) (set : ℕ) → IsVolume told slots records v n sets h → AreRecords volumes records → slice_get volumes v ≡ Some n → used_by n h.writes h.images set ≡ None → is_among set sets ≡ false
+pub only_used_by_of : (told slots : Option (List (List ℕ))) (volumes : List ℕ) (records : List Record) (v n : ℕ) (sets : List ℕ) (h : History) (set : ℕ) → IsVolume told slots records v n sets h
+    → AreRecords volumes records → slice_get volumes v ≡ Some n → used_by n h.writes h.images set ≡ None → is_among set sets ≡ false
 only_used_by_of told slots volumes records v n sets h set is are at none = by_test (is_among set sets) refl where
   by_test : (t : Bool) → is_among set sets ≡ t → is_among set sets ≡ false
   by_test true e = (let some = used_by_of told slots volumes records v n sets h set is are at e in absurd cc)
@@ -175,7 +188,8 @@ pub record OneOf {D : Type 0} (told : D → Option (List (List ℕ))) (g : Group
   pub sets_are : slice_get g.images v ≡ Some sets
   pub volume : IsVolume (told_in (told g.area.device) (told device)) (told g.area.device) g.area.records v n sets h
 
-pub one_of : {D : Type 0} (told : D → Option (List (List ℕ))) (g : GroupValue D) (hs : List History) (v n : ℕ) (h : History) → StandsFor told g hs → slice_get g.area.volumes v ≡ Some n → slice_get hs v ≡ Some h → OneOf told g v n h
+pub one_of : {D : Type 0} (told : D → Option (List (List ℕ))) (g : GroupValue D) (hs : List History) (v n : ℕ) (h : History) → StandsFor told g hs → slice_get g.area.volumes v ≡ Some n
+    → slice_get hs v ≡ Some h → OneOf told g v n h
 one_of told g hs v n h stands at is =
     let l = slice_get_within g.area.volumes v n at in
     let few = stands.devices in
@@ -211,10 +225,19 @@ is-group-copy first (n ∷ volumes) (h ∷ hs) c m = elim (has_either c (copies_
       record { at = 0; blocks = n; history = h; blocks_is = refl; history_is = refl; has = subst (λ u. Has c (copies_of u n h.writes h.images)) same k })
   | inr k ↦ (let of = is-group-copy (first + 1) volumes hs c k in
       let same : first + 1 + of.at ≡ first + suc of.at = omega arith in
-      record { at = suc of.at; blocks = of.blocks; history = of.history; blocks_is = of.blocks_is; history_is = of.history_is; has = subst (λ u. Has c (copies_of u of.blocks of.history.writes of.history.images)) same of.has })
+      record {
+        at = suc of.at;
+        blocks = of.blocks;
+        history = of.history;
+        blocks_is = of.blocks_is;
+        history_is = of.history_is;
+        has = subst
+            (λ u. Has c (copies_of u of.blocks of.history.writes of.history.images)) same of.has;
+      })
 ]
 
-pub has-group-copy : (first : ℕ) (volumes : List ℕ) (hs : List History) (v n : ℕ) (h : History) (c : Copy) → slice_get volumes v ≡ Some n → slice_get hs v ≡ Some h → Has c (copies_of (first + v) n h.writes h.images) → Has c (copies_from first (placed volumes) hs)
+pub has-group-copy : (first : ℕ) (volumes : List ℕ) (hs : List History) (v n : ℕ) (h : History) (c : Copy) → slice_get volumes v ≡ Some n → slice_get hs v ≡ Some h
+    → Has c (copies_of (first + v) n h.writes h.images) → Has c (copies_from first (placed volumes) hs)
 has-group-copy first [] hs v n h c at is m = absurd cc
 has-group-copy first (k ∷ volumes) [] v n h c at is m = absurd cc
 has-group-copy first (k ∷ volumes) (i ∷ hs) zero n h c at is m =
@@ -243,7 +266,8 @@ pub copy-volume : (v n : ℕ) (ws : List Write) (images : List Image) (c : Copy)
 copy-volume v n ws images c m = ap (λ (x : Copy). x.volume) (is-copy v n ws images c m).is
 
 -- no two are of one block of one image of one volume
-pub apart-group : (first : ℕ) (volumes : List ℕ) (hs : List History) → ((v : ℕ) (h : History) → slice_get hs v ≡ Some h → AreInTime (length h.writes) h.images) → AreApart (map key (copies_from first (placed volumes) hs))
+pub apart-group : (first : ℕ) (volumes : List ℕ) (hs : List History) → ((v : ℕ) (h : History) → slice_get hs v ≡ Some h → AreInTime (length h.writes) h.images)
+    → AreApart (map key (copies_from first (placed volumes) hs))
 apart-group first [] hs times = tt
 apart-group first (n ∷ volumes) [] times = tt
 apart-group first (n ∷ volumes) (h ∷ hs) times =
@@ -279,7 +303,8 @@ record_is_used r l = by_test (r.set == 0) refl where
   by_test true e = (let none = same_number r.set 0 e in absurd (omega arith))
   by_test false e = refl
 
-pub images_in_time : {D : Type 0} (told : D → Option (List (List ℕ))) (g : GroupValue D) (hs : List History) → StandsFor told g hs → (v : ℕ) (h : History) → slice_get hs v ≡ Some h → AreInTime (length h.writes) h.images
+pub images_in_time : {D : Type 0} (told : D → Option (List (List ℕ))) (g : GroupValue D) (hs : List History) → StandsFor told g hs → (v : ℕ) (h : History) → slice_get hs v ≡ Some h
+    → AreInTime (length h.writes) h.images
 images_in_time told g hs stands v h e =
     let l = slice_get_within hs v h e in
     let as_many = stands.histories in
@@ -299,7 +324,8 @@ group_held told g hs stands are = permuted (filter (λ r. not (is_free r)) g.are
     let used = are.each place.0 r place.1 (used_record r (not_false (is_free r) of.1)) in
     let its = history_of g.area.volumes hs r.volume stands.histories used.volume in
     let one = one_of told g hs r.volume its.0 its.1 stands its.2 its.3 in
-    let there = copy_there (told_in (told g.area.device) (told one.device)) (told g.area.device) g.area.records r.volume its.0 one.sets its.1 place.0 r one.volume place.1 refl used.set (within g.area.volumes g.area.records place.0 its.0 r.volume r are its.2 place.1 refl used.set) in
+    let there = copy_there (told_in (told g.area.device) (told one.device)) (told g.area.device) g.area.records r.volume its.0 one.sets its.1 place.0 r one.volume place.1 refl used.set
+    (within g.area.volumes g.area.records place.0 its.0 r.volume r are its.2 place.1 refl used.set) in
     let c = from-map key r (copies_of r.volume its.0 its.1.writes its.1.images) there in
     let same : r.volume ≡ 0 + r.volume = omega arith in
     let P : Record → Type 0 = λ x. Has x (map key (copies (placed g.area.volumes) hs)) in
@@ -310,12 +336,14 @@ group_held told g hs stands are = permuted (filter (λ r. not (is_free r)) g.are
     let of = is-group-copy 0 g.area.volumes hs at.0 at.1 in
     let one = one_of told g hs of.at of.blocks of.history stands of.blocks_is of.history_is in
     let same : 0 + of.at ≡ of.at = omega arith in
-    let its = record_there (told_in (told g.area.device) (told one.device)) (told g.area.device) g.area.records of.at of.blocks one.sets of.history at.0 one.volume (subst (λ u. Has at.0 (copies_of u of.blocks of.history.writes of.history.images)) same of.has) in
+    let its = record_there (told_in (told g.area.device) (told one.device)) (told g.area.device) g.area.records of.at of.blocks one.sets of.history at.0 one.volume
+    (subst (λ u. Has at.0 (copies_of u of.blocks of.history.writes of.history.images)) same of.has) in
     let P : Record → Type 0 = λ x. Has x (filter (λ r. not (is_free r)) g.area.records) in
     subst P at.2 (has-filter (λ r. not (is_free r)) (key at.0) g.area.records (is_not (is_free (key at.0)) (record_is_used (key at.0) its.above)) (has_at g.area.records its.slot (key at.0) its.at)))
 
 -- as many records are used as the images of the group use slots
-pub group_used_of : {D : Type 0} (told : D → Option (List (List ℕ))) (g : GroupValue D) (hs : List History) → StandsFor told g hs → AreRecords g.area.volumes g.area.records → used_in g.area.records ≡ group_used (placed g.area.volumes) hs
+pub group_used_of : {D : Type 0} (told : D → Option (List (List ℕ))) (g : GroupValue D) (hs : List History) → StandsFor told g hs → AreRecords g.area.volumes g.area.records
+    → used_in g.area.records ≡ group_used (placed g.area.volumes) hs
 group_used_of told g hs stands are =
     sym (length-filter (λ r. not (is_free r)) g.area.records)
     ∙ sym (length_permutation (filter (λ r. not (is_free r)) g.area.records) (map key (copies (placed g.area.volumes) hs)) (group_held told g hs stands are))

@@ -80,7 +80,8 @@ cut_stands told slots records v n sets h set volume below above few =
       images = record {
         in_time = in_time-cut (length h.writes) h.images set below_image volume.images.in_time;
         above_zero = All-push (λ (i : Image). 0 < i.set) h.images (record { set = set; point = length h.writes }) volume.images.above_zero above;
-        few = let long = ap length volume.sets_are in let same = length-map h.images (λ (i : Image). i.set) in let more = length_push h.images (record { set = set; point = length h.writes }) in omega arith;
+        few = let long = ap length volume.sets_are in let same = length-map h.images (λ (i : Image). i.set) in let more = length_push h.images
+            (record { set = set; point = length h.writes }) in omega arith;
       };
       named = λ slot s b over at. named-cut h.writes h.images set s b ∙ volume.named slot s b over at;
       recorded = λ s b within is. volume.recorded s b within (sym (named-cut h.writes h.images set s b) ∙ is);
@@ -112,7 +113,8 @@ free_at (suc k) zero r at = same_Some free r at
 free_at (suc k) (suc slot) r at = free_at k slot r at
 
 -- a volume of zeros without an image, where no slot is used, stands for the fresh history
-pub fresh_stands : (told slots : Option (List (List ℕ))) (records : List Record) (k v n : ℕ) → IfSome told (λ blocks. blocks ≡ replicate n zeros) → records ≡ replicate k free → IsVolume told slots records v n [] fresh
+pub fresh_stands : (told slots : Option (List (List ℕ))) (records : List Record) (k v n : ℕ) → IfSome told (λ blocks. blocks ≡ replicate n zeros) → records ≡ replicate k free
+    → IsVolume told slots records v n [] fresh
 fresh_stands told slots records k v n held unused = record {
   blocks = fresh_told told n held;
   sets_are = refl;
@@ -144,7 +146,8 @@ group_cut told g new hs v set stands within below above few devices images area 
     (subst (λ (ss : List ℕ). IsVolume (told_in (told g.area.device) (told place.device)) (told g.area.device) g.area.records v place.blocks ss h) sets_are place.stands) below above few in
     let records = ap (λ (a : AreaValue _). a.records) area in
     let slots = ap (λ (a : AreaValue _). told a.device) area in
-    on_one told g new hs v place.blocks place.device place.device (sets_at g v) (sets_at g v ++ set ∷ []) h (cut set) stands place.blocks_at place.device_at (place.sets_at ∙ ap Some sets_are) place.history
+    on_one told g new hs v place.blocks place.device place.device (sets_at g v) (sets_at g v ++ set ∷ []) h (cut set) stands place.blocks_at place.device_at
+    (place.sets_at ∙ ap Some sets_are) place.history
     (devices ∙ sym (slice_set-same g.devices v place.device place.device_at)) images (ap (λ (a : AreaValue _). a.volumes) area)
     (others_same v g.area.records new.area.records records) (slots_same v g.area.records (told g.area.device) (told new.area.device) slots)
     (subst (λ (a : AreaValue _). IsVolume (told_in (told a.device) (told place.device)) (told a.device) a.records v place.blocks (sets_at g v ++ set ∷ []) (cut set h)) (sym area) volume)

@@ -47,8 +47,10 @@ size_row size devices volumes v d sizes at = ap (λ (ns : List ℕ). slice_get n
 pub device_read : {D : Type 0} (devices : List D) (v : ℕ) (d : D) → v < length devices → d ≡ get_or devices v d → slice_get devices v ≡ Some d
 device_read devices v d l is = slice_get_read devices (length devices) v d refl l is
 
-abbrev pub called : {D E : Type 0} (told : D → Option (List (List ℕ))) (size count : D → ℕ) (lending : D → Bool) (v : ℕ) (devices : List D) (before after : D) (r : Result Unit E) → slice_get devices v ≡ Some before
-    → is_some (told after) ≡ is_some (told before) → size after ≡ size before → lending after ≡ lending before → HasCause (count before) (count after) r → IsCalled told size count lending v devices (slice_set devices v after) (is_err r)
+abbrev pub called : {D E : Type 0} (told : D → Option (List (List ℕ))) (size count : D → ℕ) (lending : D → Bool) (v : ℕ) (devices : List D) (before after : D) (r : Result Unit E)
+    → slice_get devices v ≡ Some before
+    → is_some (told after) ≡ is_some (told before) → size after ≡ size before → lending after ≡ lending before → HasCause (count before) (count after) r
+    → IsCalled told size count lending v devices (slice_set devices v after) (is_err r)
 called told size count lending v devices before after r at tells size_is lends cause = record {
   before = before;
   after = after;
@@ -63,12 +65,15 @@ tells_put : (old new : Option (List (List ℕ))) (b : ℕ) (bytes : List ℕ) �
 tells_put None new b bytes e = ap is_some e
 tells_put (Some blocks) new b bytes e = ap is_some e
 
-tells_after : {E : Type 0} (old new : Option (List (List ℕ))) (b : ℕ) (bytes : List ℕ) (r : Result Unit E) → OnOk r (new ≡ option_map (λ blocks. slice_set blocks b bytes) old) → OnErr r (new ≡ old) → is_some new ≡ is_some old
+tells_after : {E : Type 0} (old new : Option (List (List ℕ))) (b : ℕ) (bytes : List ℕ) (r : Result Unit E) → OnOk r (new ≡ option_map (λ blocks. slice_set blocks b bytes) old) → OnErr r (new ≡ old)
+    → is_some new ≡ is_some old
 tells_after old new b bytes (Ok x) ok err = tells_put old new b bytes ok
 tells_after old new b bytes (Err x) ok err = ap is_some err
 
-pub device_put : {D E : Type 0} (told : D → Option (List (List ℕ))) (size count : D → ℕ) (lending : D → Bool) (v b : ℕ) (bytes : List ℕ) (devices : List D) (before after : D) (r : Result Unit E) → slice_get devices v ≡ Some before
-    → OnOk r (told after ≡ option_map (λ blocks. slice_set blocks b bytes) (told before)) → OnErr r (told after ≡ told before) → size after ≡ size before → lending after ≡ lending before → HasCause (count before) (count after) r
+pub device_put : {D E : Type 0} (told : D → Option (List (List ℕ))) (size count : D → ℕ) (lending : D → Bool) (v b : ℕ) (bytes : List ℕ) (devices : List D) (before after : D) (r : Result Unit E)
+    → slice_get devices v ≡ Some before
+    → OnOk r (told after ≡ option_map (λ blocks. slice_set blocks b bytes) (told before)) → OnErr r (told after ≡ told before) → size after ≡ size before → lending after ≡ lending before
+    → HasCause (count before) (count after) r
     → IsPut told size count lending v b bytes devices (slice_set devices v after) (is_err r)
 device_put told size count lending v b bytes devices before after r at written kept size_is lends cause = record {
   call = called told size count lending v devices before after r at (tells_after (told before) (told after) b bytes r written kept) size_is lends cause;
@@ -92,19 +97,23 @@ pub in_range_of : (volumes : List ℕ) (v b n : ℕ) → slice_get volumes v ≡
 in_range_of volumes v b n at l = subst (λ (o : Option ℕ). b < blocks_in o) (sym at) l
 
 -- the device of a volume that has a block
-pub device_with : {D : Type 0} (size : D → ℕ) (devices : List D) (volumes : List ℕ) (v b : ℕ) → map size devices ≡ volumes → b < blocks_in (slice_get volumes v) → (d : D) × (slice_get devices v ≡ Some d)
+pub device_with : {D : Type 0} (size : D → ℕ) (devices : List D) (volumes : List ℕ) (v b : ℕ) → map size devices ≡ volumes → b < blocks_in (slice_get volumes v)
+    → (d : D) × (slice_get devices v ≡ Some d)
 device_with size devices volumes v b sizes l =
     slice_get_inside devices v (size_within size devices v b (subst (λ (ns : List ℕ). b < blocks_in (slice_get ns v)) (sym sizes) l))
 
 -- what was read of a volume's device is what the volume has now
-pub read_is_now : {D : Type 0} (told : D → Option (List (List ℕ))) (size count : D → ℕ) (lending : D → Bool) (devices new : List D) (copies : CopiesValue D) (v b : ℕ) (bytes : List ℕ) → b < blocks_in (slice_get copies.area.volumes v)
+pub read_is_now : {D : Type 0} (told : D → Option (List (List ℕ))) (size count : D → ℕ) (lending : D → Bool) (devices new : List D) (copies : CopiesValue D) (v b : ℕ) (bytes : List ℕ)
+    → b < blocks_in (slice_get copies.area.volumes v)
     → IsRead told size count lending v b bytes devices new false → IsNow told (group_of devices copies) v b bytes
 read_is_now told size count lending devices new copies v b bytes l read = group_now told (group_of devices copies) v b read.call.before bytes l read.call.was (read.block refl)
 
 -- where no image has a copy, it is what the image shows
-pub read_is_shown : {D : Type 0} (told : D → Option (List (List ℕ))) (size count : D → ℕ) (lending : D → Bool) (devices new : List D) (copies : CopiesValue D) (v set b : ℕ) (bytes : List ℕ) → b < blocks_in (slice_get copies.area.volumes v)
+pub read_is_shown : {D : Type 0} (told : D → Option (List (List ℕ))) (size count : D → ℕ) (lending : D → Bool) (devices new : List D) (copies : CopiesValue D) (v set b : ℕ) (bytes : List ℕ)
+    → b < blocks_in (slice_get copies.area.volumes v)
     → IsRead told size count lending v b bytes devices new false → HasNoCopy copies.area.records v set b → IsShown told (group_of devices copies) v set b bytes
-read_is_shown told size count lending devices new copies v set b bytes l read none = group_shown_there told (group_of devices copies) v set b read.call.before bytes l read.call.was (read.block refl) none
+read_is_shown told size count lending devices new copies v set b bytes l read none = group_shown_there told (group_of devices copies) v set b read.call.before bytes l read.call.was
+    (read.block refl) none
 
 -- a buffer that was filled has what it was filled with
 pub filled : (out old : List ℕ) → length out ≡ length old → take (length old) (out ++ drop (length out) old) ≡ out

@@ -100,26 +100,30 @@ images_row c v set e = row_if (slice_get c.images v) set e
 
 -- ## an image goes
 
-pub merged_stands : {D : Type 0} (told : D → Option (List (List ℕ))) (devices : List D) (old : CopiesValue D) (hs : List History) (v set : ℕ) → AreRecords old.area.volumes old.area.records → Contains (images_on old v) set
+pub merged_stands : {D : Type 0} (told : D → Option (List (List ℕ))) (devices : List D) (old : CopiesValue D) (hs : List History) (v set : ℕ) → AreRecords old.area.volumes old.area.records
+    → Contains (images_on old v) set
     → StandsFor told (group_of devices old) hs → StandsFor told (group_of devices (after_merge old v set)) (changed_at v (dropped set) hs)
 merged_stands told devices old hs v set are at stands =
     let among = among_of set (images_on old v) at in
     image_dropped told (group_of devices old) (group_of devices (after_merge old v set)) hs v set (images_on old v) stands are (images_row old v set among) among refl refl refl refl refl
 
-pub merged_stands_within : {D : Type 0} (told : D → Option (List (List ℕ))) (devices : List D) (old : CopiesValue D) (hs : List History) (v set : ℕ) → ((n : ℕ) → slice_get old.area.volumes v ≡ Some n → AreWithin v n old.area.records) → Contains (images_on old v) set
+pub merged_stands_within : {D : Type 0} (told : D → Option (List (List ℕ))) (devices : List D) (old : CopiesValue D) (hs : List History) (v set : ℕ)
+    → ((n : ℕ) → slice_get old.area.volumes v ≡ Some n → AreWithin v n old.area.records) → Contains (images_on old v) set
     → StandsFor told (group_of devices old) hs → StandsFor told (group_of devices (after_merge old v set)) (changed_at v (dropped set) hs)
 merged_stands_within told devices old hs v set within at stands =
     let among = among_of set (images_on old v) at in
     image_dropped_within told (group_of devices old) (group_of devices (after_merge old v set)) hs v set (images_on old v) stands within (images_row old v set among) among refl refl refl refl refl
 
 -- one image goes, and nothing else changes
-pub image_gone : {D : Type 0} (told : D → Option (List (List ℕ))) (size count : D → ℕ) (lending : D → Bool) (devices : List D) (old new : CopiesValue D) (v set : ℕ) → is_among set (images_on old v) ≡ true → new ≡ after_merge old v set
+pub image_gone : {D : Type 0} (told : D → Option (List (List ℕ))) (size count : D → ℕ) (lending : D → Bool) (devices : List D) (old new : CopiesValue D) (v set : ℕ)
+    → is_among set (images_on old v) ≡ true → new ≡ after_merge old v set
     → ((hs : List History) → StandsFor told (group_of devices old) hs → StandsFor told (group_of devices new) (changed_at v (dropped set) hs))
     → (is_among set (images_on old v) ≡ true) × IsChanged told size count lending (group_of devices old) (group_of devices new) v (dropped set)
 image_gone {D = D} told size count lending devices old new v set among is stands = (
   among,
   record {
-    kept = kept_records told size count lending devices old new (ap (λ (x : CopiesValue D). x.area.volumes) is) (ap (λ (x : CopiesValue D). length x.area.records) is ∙ length-map old.area.records _) (ap (λ (x : CopiesValue D). x.area.device) is);
+    kept = kept_records told size count lending devices old new (ap (λ (x : CopiesValue D). x.area.volumes) is) (ap (λ (x : CopiesValue D). length x.area.records) is ∙ length-map old.area.records _)
+        (ap (λ (x : CopiesValue D). x.area.device) is);
     devices = refl;
     area = ap (λ (x : CopiesValue D). x.area.device) is;
     stands = stands;
@@ -149,7 +153,8 @@ fewer_left c new v set is at =
     let l = one_fewer set (images_on c v) among in
     omega arith
 
-pub dropping_more : {D : Type 0} (told : D → Option (List (List ℕ))) (old now new : CopiesValue D) (v set newest : ℕ) → IsDropping told old now v set → set < newest → Contains (images_on now v) newest → new ≡ after_merge now v newest
+pub dropping_more : {D : Type 0} (told : D → Option (List (List ℕ))) (old now new : CopiesValue D) (v set newest : ℕ) → IsDropping told old now v set → set < newest
+    → Contains (images_on now v) newest → new ≡ after_merge now v newest
     → ((devices : List D) (hs : List History) → StandsFor told (group_of devices now) hs → StandsFor told (group_of devices new) (changed_at v (dropped newest) hs)) → IsDropping told old new v set
 dropping_more {D = D} told old now new v set newest dropping newer at is drops =
     let there = among_of newest (images_on now v) at in
@@ -161,7 +166,8 @@ dropping_more {D = D} told old now new v set newest dropping newer at is drops =
       going = λ devices. going_more told (group_of devices old) (group_of devices now) (group_of devices new) v set newest (dropping.going devices) newer (drops devices);
     }
 
-pub dropping_end : {D : Type 0} (told : D → Option (List (List ℕ))) (old now : CopiesValue D) (v set : ℕ) → IsDropping told old now v set → v < length old.area.volumes → All (λ s. s ≤ set) (images_on now v) → AreNewerGone told old now v set
+pub dropping_end : {D : Type 0} (told : D → Option (List (List ℕ))) (old now : CopiesValue D) (v set : ℕ) → IsDropping told old now v set → v < length old.area.volumes
+    → All (λ s. s ≤ set) (images_on now v) → AreNewerGone told old now v set
 dropping_end told old now v set dropping inside most = record {
   among = dropping.among;
   most = most;

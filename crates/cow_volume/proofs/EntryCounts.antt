@@ -47,7 +47,8 @@ count_set p (z ∷ xs) (suc k) x y h out =
     let rest = count_set p xs k x y h out in
     omega arith
 
-count_none : (p : Record → Bool) (v : ℕ) (records : List Record) → ((r : Record) → p r ≡ true → (nat_lt 0 r.set && (r.volume == v)) ≡ true) → p free ≡ false → count_by p (followed v (map (option_and_then none) (map (copied_for v) records)) records) ≡ 0
+count_none : (p : Record → Bool) (v : ℕ) (records : List Record) → ((r : Record) → p r ≡ true → (nat_lt 0 r.set && (r.volume == v)) ≡ true) → p free ≡ false
+    → count_by p (followed v (map (option_and_then none) (map (copied_for v) records)) records) ≡ 0
 count_none p v [] on out = refl
 count_none p v (r ∷ records) on out =
     let first = count_cons p (followed_row v (option_and_then none (copied_for v r)) r) (followed v (map (option_and_then none) (map (copied_for v) records)) records) in
@@ -67,7 +68,8 @@ count_none p v (r ∷ records) on out =
     by_test true e = let both = both_from r.set v r.volume e in ap p (follows-of v (option_and_then none (copied_for v r)) r both.0 both.1 ∙ no_copy (copied_for v r)) ∙ out
     by_test false e = ap p (follows-other v (option_and_then none (copied_for v r)) r e) ∙ by_other (p r) refl e
 
-module _ (p : Record → Bool) (v : ℕ) (entries : List Entry) (records : List Record) (index : IsIndex entries (map (copied_for v) records)) (on : (r : Record) → p r ≡ true → (nat_lt 0 r.set && (r.volume == v)) ≡ true) (out : p free ≡ false) where
+module _ (p : Record → Bool) (v : ℕ) (entries : List Entry) (records : List Record) (index : IsIndex entries (map (copied_for v) records))
+    (on : (r : Record) → p r ≡ true → (nat_lt 0 r.set && (r.volume == v)) ≡ true) (out : p free ≡ false) where
   -- whether the record of an entry is counted
   abbrev counts : Entry → Bool
   counts e = p (record_of v e.set e.block)
@@ -100,7 +102,8 @@ module _ (p : Record → Bool) (v : ℕ) (entries : List Entry) (records : List 
   entries_count =
       let whole = take_all (length entries) entries (omega arith) in
       let all = passed_count (length entries) (omega arith) in
-      let left : count_by p (passed v none (take (length entries) entries) records) ≡ 0 = ap (λ (es : List Entry). count_by p (passed v none es records)) whole ∙ ap (count_by p) (passed_all v none entries records index) ∙ count_none p v records on out in
+      let left : count_by p (passed v none (take (length entries) entries) records) ≡ 0 = ap (λ (es : List Entry). count_by p (passed v none es records)) whole
+      ∙ ap (count_by p) (passed_all v none entries records index) ∙ count_none p v records on out in
       let taken : count_by counts (take (length entries) entries) ≡ count_by counts entries = ap (count_by counts) whole in
       omega arith
 
@@ -132,7 +135,8 @@ count_all q (x ∷ xs) all =
 -- each entry is one of a record of the volume
 pub entries_on : (v : ℕ) (entries : List Entry) (records : List Record) → IsIndex entries (map (copied_for v) records) → length entries ≡ count_on v records
 entries_on v entries records index =
-    sym (count_all (λ e. is_on v (record_of v e.set e.block)) entries (λ i e at. is_counted v e.set e.block (record_of_row v records e.slot (copy_of e.set e.block) (noted_at v none entries records index i e at)).0))
+    sym (count_all (λ e. is_on v (record_of v e.set e.block)) entries
+    (λ i e at. is_counted v e.set e.block (record_of_row v records e.slot (copy_of e.set e.block) (noted_at v none entries records index i e at)).0))
     ∙ entries_count (is_on v) v entries records index (on_volume v) (free_is_off v)
 
 of_set : (v set : ℕ) (r : Record) → 0 < set → is_for set (copied_for v r) ≡ is_of v set r

@@ -107,7 +107,8 @@ pub record AreGone {D : Type 0} (m : ℕ) (old new : GroupValue D) : Type 0 wher
   pub records : new.area.records ≡ gone_to m old.area.records
   pub images : new.images ≡ map (filter (λ s. nat_lt m s)) old.images
 
-pub gone_up_to-at : (m : ℕ) (volumes : List ℕ) (hs : List History) (v n : ℕ) (h : History) → slice_get volumes v ≡ Some n → slice_get hs v ≡ Some h → slice_get (gone_up_to m (placed volumes) hs) v ≡ Some (gone m h)
+pub gone_up_to-at : (m : ℕ) (volumes : List ℕ) (hs : List History) (v n : ℕ) (h : History) → slice_get volumes v ≡ Some n → slice_get hs v ≡ Some h
+    → slice_get (gone_up_to m (placed volumes) hs) v ≡ Some (gone m h)
 gone_up_to-at m [] hs v n h at is = absurd cc
 gone_up_to-at m (k ∷ volumes) [] v n h at is = absurd cc
 gone_up_to-at m (k ∷ volumes) (x ∷ hs) zero n h at is = let same : x ≡ h = cc in ap (λ (y : History). Some (gone m y)) same
@@ -119,7 +120,8 @@ length-gone_up_to m (p ∷ ps) [] = refl
 length-gone_up_to m (p ∷ ps) (x ∷ hs) = ap suc (length-gone_up_to m ps hs)
 
 -- Without the images up to m, and their records, the group stands for the histories without them.
-pub gone_stands : {D : Type 0} → (told : D → Option (List (List ℕ))) (g new : GroupValue D) (hs : List History) (m : ℕ) → AreGone m g new → StandsFor told g hs → StandsFor told new (gone_up_to m (placed g.area.volumes) hs)
+pub gone_stands : {D : Type 0} → (told : D → Option (List (List ℕ))) (g new : GroupValue D) (hs : List History) (m : ℕ) → AreGone m g new → StandsFor told g hs
+    → StandsFor told new (gone_up_to m (placed g.area.volumes) hs)
 gone_stands told g new hs m went stands = record {
   devices = ap length went.devices ∙ stands.devices ∙ ap length (sym went.volumes);
   images = ap length went.images ∙ length-map g.images (filter (λ s. nat_lt m s)) ∙ stands.images ∙ ap length (sym went.volumes);
@@ -136,7 +138,8 @@ gone_stands told g new hs m went stands = record {
       subst (λ (k : History). IsVolume (told_in (told new.area.device) (told d)) (told new.area.device) new.area.records v n sets k) is
       (subst (λ (ss : List ℕ). IsVolume (told_in (told new.area.device) (told d)) (told new.area.device) new.area.records v n ss (gone m x.0)) row_was.2
       (subst (λ (rs : List Record). IsVolume (told_in (told new.area.device) (told d)) (told new.area.device) rs v n (filter (λ s. nat_lt m s) row_was.0) (gone m x.0)) (sym went.records)
-      (subst (λ (t : Option (List (List ℕ))). IsVolume (told_in t (told d)) t (gone_to m g.area.records) v n (filter (λ s. nat_lt m s) row_was.0) (gone m x.0)) (sym (ap told went.device)) went_volume)));
+      (subst (λ (t : Option (List (List ℕ))). IsVolume (told_in t (told d)) t (gone_to m g.area.records) v n (filter (λ s. nat_lt m s) row_was.0) (gone m x.0))
+      (sym (ap told went.device)) went_volume)));
 }
 
 -- ## one set after another
@@ -176,7 +179,8 @@ past_again : (m l : ℕ) (sets : List ℕ) → m ≤ l → filter (λ s. nat_lt 
 past_again m l [] le = refl
 past_again m l (s ∷ sets) le = by_test (nat_lt m s) refl (past_again m l sets le) where
   by_test : (t : Bool) → nat_lt m s ≡ t → filter (λ s. nat_lt l s) (filter (λ s. nat_lt m s) sets) ≡ filter (λ s. nat_lt l s) sets
-      → filter (λ s. nat_lt l s) (if t then s ∷ filter (λ s. nat_lt m s) sets else filter (λ s. nat_lt m s) sets) ≡ (if nat_lt l s then s ∷ filter (λ s. nat_lt l s) sets else filter (λ s. nat_lt l s) sets)
+      → filter (λ s. nat_lt l s)
+      (if t then s ∷ filter (λ s. nat_lt m s) sets else filter (λ s. nat_lt m s) sets) ≡ (if nat_lt l s then s ∷ filter (λ s. nat_lt l s) sets else filter (λ s. nat_lt l s) sets)
   by_test true past rest = ap (λ (xs : List ℕ). if nat_lt l s then s ∷ xs else xs) rest
   by_test false low rest =
       let high = ltb-false m s low in
@@ -185,7 +189,8 @@ past_again m l (s ∷ sets) le = by_test (nat_lt m s) refl (past_again m l sets 
 pub images_again : (m l : ℕ) (images : List (List ℕ)) → m ≤ l → map (filter (λ s. nat_lt l s)) (map (filter (λ s. nat_lt m s)) images) ≡ map (filter (λ s. nat_lt l s)) images
 images_again m l [] le = refl
 images_again m l (sets ∷ images) le =
-    ap (λ (xs : List ℕ). xs ∷ map (filter (λ s. nat_lt l s)) (map (filter (λ s. nat_lt m s)) images)) (past_again m l sets le) ∙ ap (λ (rows : List (List ℕ)). filter (λ s. nat_lt l s) sets ∷ rows) (images_again m l images le)
+    ap (λ (xs : List ℕ). xs ∷ map (filter (λ s. nat_lt l s)) (map (filter (λ s. nat_lt m s)) images)) (past_again m l sets le)
+    ∙ ap (λ (rows : List (List ℕ)). filter (λ s. nat_lt l s) sets ∷ rows) (images_again m l images le)
 
 -- further images go
 pub gone_further : {D : Type 0} → (m l : ℕ) (old now new : GroupValue D) → m ≤ l → AreGone m old now → AreGone l now new → AreGone l old new
@@ -223,10 +228,12 @@ pub gone_between : (m k l : ℕ) (ps : List Placed) (hs : List History) → m �
 gone_between m k l [] hs le low none = refl
 gone_between m k l (p ∷ ps) [] le low none = refl
 gone_between m k l (p ∷ ps) (h ∷ hs) le low none =
-    ap (λ (xs : List Image). (if p.within then record { writes = h.writes; images = xs } else h) ∷ gone_up_to k ps hs) (none_past k m h.images (λ s some. same_past m k l s le low (none 0 h s refl some)))
+    ap (λ (xs : List Image). (if p.within then record { writes = h.writes; images = xs } else h) ∷ gone_up_to k ps hs)
+    (none_past k m h.images (λ s some. same_past m k l s le low (none 0 h s refl some)))
     ∙ ap (λ (xs : List History). (if p.within then gone m h else h) ∷ xs) (gone_between m k l ps hs le low (λ u x s at. none (suc u) x s at))
 
-pub still_lacks : (slots : ℕ) (ps : List Placed) (v b m k l : ℕ) (hs : List History) → m ≤ k → k < l → NoneBetween m l hs → lacks_slot slots ps v b (gone_up_to m ps hs) ≡ true → lacks_slot slots ps v b (gone_up_to k ps hs) ≡ true
+pub still_lacks : (slots : ℕ) (ps : List Placed) (v b m k l : ℕ) (hs : List History) → m ≤ k → k < l → NoneBetween m l hs → lacks_slot slots ps v b (gone_up_to m ps hs) ≡ true
+    → lacks_slot slots ps v b (gone_up_to k ps hs) ≡ true
 still_lacks slots ps v b m k l hs le low none lacks = ap (lacks_slot slots ps v b) (gone_between m k l ps hs le low none) ∙ lacks
 
 -- ## the number that is reached
@@ -244,7 +251,8 @@ find_first test a (suc n) m le within none found =
       before : a ≢ m → a < m
       before other = omega arith
 
-      by_test : (t : Bool) → (a == m) ≡ t → (a + 1 ≤ m → unwrap_or (find test (range_with_len (a + 1) n)) (a + 1 + n) ≡ m) → unwrap_or (if test a then Some a else find test (range_with_len (a + 1) n)) (a + suc n) ≡ m
+      by_test : (t : Bool) → (a == m) ≡ t → (a + 1 ≤ m → unwrap_or (find test (range_with_len (a + 1) n)) (a + 1 + n) ≡ m)
+          → unwrap_or (if test a then Some a else find test (range_with_len (a + 1) n)) (a + suc n) ≡ m
       by_test true is rest = let same = same_number a m is in ap (λ (t : Bool). unwrap_or (if t then Some a else find test (range_with_len (a + 1) n)) (a + suc n)) (ap test same ∙ found) ∙ same
       by_test false is rest =
           let other = other_number a m is in
@@ -273,7 +281,8 @@ pub reached_none : (slots : ℕ) (ps : List Placed) (v b : ℕ) (hs : List Histo
 reached_none slots ps v b hs = record { lacked = λ k low. absurd (omega arith); low = λ sets all. omega arith }
 
 -- while the write lacks its slot, it comes to the least set after m that has an image
-pub reached_more : (slots : ℕ) (ps : List Placed) (v b m l u : ℕ) (hs : List History) (h : History) → IsReached slots ps v b hs m → lacks_slot slots ps v b (gone_up_to m ps hs) ≡ true → NoneBetween m l hs
+pub reached_more : (slots : ℕ) (ps : List Placed) (v b m l u : ℕ) (hs : List History) (h : History) → IsReached slots ps v b hs m → lacks_slot slots ps v b (gone_up_to m ps hs) ≡ true
+    → NoneBetween m l hs
     → slice_get hs u ≡ Some h → is_some (point_in l h.images) ≡ true → IsReached slots ps v b hs l
 reached_more slots ps v b m l u hs h reached lacks none at image = record {
   lacked = λ k low. by_test k (nat_lt k m) refl low;
@@ -304,7 +313,8 @@ and_false true b e = e
 and_false false b e = refl
 
 -- a write that needs a slot lacks it where as many records are used as there are
-pub lacks_where_full : (slots : ℕ) (ps : List Placed) (v b used : ℕ) (hs : List History) → needs_slot_in (slice_get hs v) b ≡ true → used ≡ group_used ps hs → used ≡ slots → lacks_slot slots ps v b hs ≡ true
+pub lacks_where_full : (slots : ℕ) (ps : List Placed) (v b used : ℕ) (hs : List History) → needs_slot_in (slice_get hs v) b ≡ true → used ≡ group_used ps hs → used ≡ slots
+    → lacks_slot slots ps v b hs ≡ true
 lacks_where_full slots ps v b used hs needs is full =
     and_true (needs_slot_in (slice_get hs v) b) (group_used ps hs == slots) needs (ap (λ (k : ℕ). group_used ps hs == k) (sym full ∙ is) ∙ number_is (group_used ps hs))
 
@@ -318,7 +328,8 @@ pub has_unneeded : (slots : ℕ) (ps : List Placed) (v b : ℕ) (hs : List Histo
 has_unneeded slots ps v b hs e = ap (λ (t : Bool). t && (group_used ps hs == slots)) e
 
 -- where no image of volume v is left, no slot is needed
-pub room_for_gone : {D : Type 0} → (told : D → Option (List (List ℕ))) (g : GroupValue D) (hs : List History) (v b : ℕ) → StandsFor told g hs → slice_get g.images v ≡ Some [] → needs_slot_in (slice_get hs v) b ≡ false
+pub room_for_gone : {D : Type 0} → (told : D → Option (List (List ℕ))) (g : GroupValue D) (hs : List History) (v b : ℕ) → StandsFor told g hs → slice_get g.images v ≡ Some []
+    → needs_slot_in (slice_get hs v) b ≡ false
 room_for_gone told g hs v b stands at =
     let inside = slice_get_within g.images v [] at in
     let long = stands.images in
@@ -327,7 +338,8 @@ room_for_gone told g hs v b stands at =
     ap (λ (h : Option History). needs_slot_in h b) place.history ∙ no_image (history_at hs v).writes (history_at hs v).images b (sym place.stands.sets_are ∙ sym none)
 
 -- a write that needs a slot has an image of its volume
-pub needed_image : {D : Type 0} → (told : D → Option (List (List ℕ))) (g : GroupValue D) (hs : List History) (v b : ℕ) (sets : List ℕ) → StandsFor told g hs → slice_get g.images v ≡ Some sets → needs_slot_in (slice_get hs v) b ≡ true → 0 < length sets
+pub needed_image : {D : Type 0} → (told : D → Option (List (List ℕ))) (g : GroupValue D) (hs : List History) (v b : ℕ) (sets : List ℕ) → StandsFor told g hs → slice_get g.images v ≡ Some sets
+    → needs_slot_in (slice_get hs v) b ≡ true → 0 < length sets
 needed_image told g hs v b [] stands at needs = absurd (true_not_false (sym needs ∙ room_for_gone told g hs v b stands at))
 needed_image told g hs v b (s ∷ sets) stands at needs = omega arith
 
@@ -346,7 +358,8 @@ IsAtMostFirst l (s ∷ sets) = l ≤ s
 among_at : (s : ℕ) (sets : List ℕ) → is_among s sets ≡ true → (k : ℕ) × (k < length sets) × (get_or sets k 0 ≡ s)
 among_at s [] e = absurd (true_not_false (sym e))
 among_at s (x ∷ sets) e = by_test (x == s) refl (among_at s sets) e where
-  by_test : (t : Bool) → (x == s) ≡ t → (is_among s sets ≡ true → (k : ℕ) × (k < length sets) × (get_or sets k 0 ≡ s)) → (t || is_among s sets) ≡ true → (k : ℕ) × (k < length (x ∷ sets)) × (get_or (x ∷ sets) k 0 ≡ s)
+  by_test : (t : Bool) → (x == s) ≡ t → (is_among s sets ≡ true → (k : ℕ) × (k < length sets) × (get_or sets k 0 ≡ s)) → (t || is_among s sets) ≡ true
+      → (k : ℕ) × (k < length (x ∷ sets)) × (get_or (x ∷ sets) k 0 ≡ s)
   by_test true same rest f = (0, omega arith, same_number x s same)
   by_test false same rest f = let there = rest f in (suc there.0, let l = there.1 in omega arith, there.2)
 
@@ -393,7 +406,8 @@ none_older l sets least = kept sets least where
 pub among_of_point : (s : ℕ) (images : List Image) → is_some (point_in s images) ≡ true → is_among s (sets_of images) ≡ true
 among_of_point s [] e = absurd (true_not_false (sym e))
 among_of_point s (i ∷ images) e = by_test (i.set == s) (among_of_point s images) e where
-  by_test : (t : Bool) → (is_some (point_in s images) ≡ true → is_among s (sets_of images) ≡ true) → is_some (if t then Some i.point else point_in s images) ≡ true → (t || is_among s (sets_of images)) ≡ true
+  by_test : (t : Bool) → (is_some (point_in s images) ≡ true → is_among s (sets_of images) ≡ true) → is_some (if t then Some i.point else point_in s images) ≡ true
+      → (t || is_among s (sets_of images)) ≡ true
   by_test true rest f = refl
   by_test false rest f = rest f
 
@@ -418,7 +432,8 @@ pub record WasImage (hs : List History) (m u l : ℕ) : Type 0 where
   pub image : is_some (point_in l history.images) ≡ true
   pub past : m < l
 
-pub was_image : {D : Type 0} → (told : D → Option (List (List ℕ))) (now : GroupValue D) (volumes : List ℕ) (hs : List History) (m u l : ℕ) (sets : List ℕ) → now.area.volumes ≡ volumes → StandsFor told now (gone_up_to m (placed volumes) hs)
+pub was_image : {D : Type 0} → (told : D → Option (List (List ℕ))) (now : GroupValue D) (volumes : List ℕ) (hs : List History) (m u l : ℕ) (sets : List ℕ) → now.area.volumes ≡ volumes
+    → StandsFor told now (gone_up_to m (placed volumes) hs)
     → slice_get now.images u ≡ Some sets → is_among l sets ≡ true → WasImage hs m u l
 was_image told now volumes hs m u l sets same stands at among =
     let inside = slice_get_within now.images u sets at in
@@ -438,7 +453,8 @@ was_image told now volumes hs m u l sets same stands at among =
     }
 
 -- where l is at most all that are left after m, no image was between
-pub none_between : {D : Type 0} → (told : D → Option (List (List ℕ))) (now : GroupValue D) (volumes : List ℕ) (hs : List History) (m l : ℕ) → now.area.volumes ≡ volumes → StandsFor told now (gone_up_to m (placed volumes) hs)
+pub none_between : {D : Type 0} → (told : D → Option (List (List ℕ))) (now : GroupValue D) (volumes : List ℕ) (hs : List History) (m l : ℕ) → now.area.volumes ≡ volumes
+    → StandsFor told now (gone_up_to m (placed volumes) hs)
     → IsAtMostAll l now.images → NoneBetween m l hs
 none_between told now volumes hs m l same stands least u h s at some past =
     let inside = slice_get_within hs u h at in
@@ -451,8 +467,10 @@ none_between told now volumes hs m l same stands least u h s at some past =
     least u s sets.0 sets.1 (ap (is_among s) volume.sets_are ∙ among_of_point s (after_set m h.images) (ap (λ (p : Option ℕ). is_some p) (point_after m s h.images past) ∙ some))
 
 -- While the write lacks its slot, the images of the least set that is left go next.
-pub reached_next : {D : Type 0} → (told : D → Option (List (List ℕ))) (now : GroupValue D) (volumes : List ℕ) (hs : List History) (slots v b m l u : ℕ) (sets : List ℕ) → now.area.volumes ≡ volumes → StandsFor told now (gone_up_to m (placed volumes) hs)
-    → IsReached slots (placed volumes) v b hs m → lacks_slot slots (placed volumes) v b (gone_up_to m (placed volumes) hs) ≡ true → IsAtMostAll l now.images → slice_get now.images u ≡ Some sets → is_among l sets ≡ true
+pub reached_next : {D : Type 0} → (told : D → Option (List (List ℕ))) (now : GroupValue D) (volumes : List ℕ) (hs : List History) (slots v b m l u : ℕ) (sets : List ℕ) → now.area.volumes ≡ volumes
+    → StandsFor told now (gone_up_to m (placed volumes) hs)
+    → IsReached slots (placed volumes) v b hs m → lacks_slot slots (placed volumes) v b (gone_up_to m (placed volumes) hs) ≡ true → IsAtMostAll l now.images → slice_get now.images u ≡ Some sets
+    → is_among l sets ≡ true
     → IsReached slots (placed volumes) v b hs l × (m < l)
 reached_next told now volumes hs slots v b m l u sets same stands reached lacks least at among =
     let was = was_image told now volumes hs m u l sets same stands at among in
@@ -519,14 +537,16 @@ gone_up_to_none (p ∷ ps) (h ∷ hs) above =
 after_all : (sets : ℕ) (images : List Image) → ((n : ℕ) → is_some (point_in n images) ≡ true → n ≤ sets) → after_set sets images ≡ []
 after_all sets [] low = refl
 after_all sets (i ∷ images) low =
-    ap (λ (t : Bool). if t then i ∷ after_set sets images else after_set sets images) (le-ltb sets i.set (low i.set (ap (λ (t : Bool). is_some (if t then Some i.point else point_in i.set images)) (number_is i.set))))
+    ap (λ (t : Bool). if t then i ∷ after_set sets images else after_set sets images)
+    (le-ltb sets i.set (low i.set (ap (λ (t : Bool). is_some (if t then Some i.point else point_in i.set images)) (number_is i.set))))
     ∙ after_all sets images (λ n some. low n (still_some n (i.set == n) some)) where
       still_some : (n : ℕ) (t : Bool) → is_some (point_in n images) ≡ true → is_some (if t then Some i.point else point_in n images) ≡ true
       still_some n true e = refl
       still_some n false e = e
 
 -- where all images are gone, no slot is needed
-pub needs_none_after : (sets : ℕ) (volumes : List ℕ) (hs : List History) (v b : ℕ) → AreUpTo sets hs → needs_slot_in (slice_get (gone_up_to sets (placed volumes) hs) v) b ≡ true → length hs ≡ length volumes → ⊥
+pub needs_none_after : (sets : ℕ) (volumes : List ℕ) (hs : List History) (v b : ℕ) → AreUpTo sets hs → needs_slot_in (slice_get (gone_up_to sets (placed volumes) hs) v) b ≡ true
+    → length hs ≡ length volumes → ⊥
 needs_none_after sets [] [] v b all needs long = true_not_false (sym needs)
 needs_none_after sets [] (h ∷ hs) v b all needs long = absurd (omega arith)
 needs_none_after sets (n ∷ volumes) [] v b all needs long = absurd (omega arith)
@@ -546,7 +566,8 @@ room_made told g hs v b m stands lacked has =
     reached_end g v b m hs (record { lacked = lacked; low = λ sets all. at_most sets all (nat_lt sets m) refl }) has where
       at_most : (sets : ℕ) → AreUpTo sets hs → (t : Bool) → nat_lt sets m ≡ t → m ≤ sets
       at_most sets all true before =
-          absurd (needs_none_after sets g.area.volumes hs v b all (needs_if_lacks _ (group_used (placed g.area.volumes) (gone_up_to sets (placed g.area.volumes) hs) == length g.area.records) (lacked sets (ltb-true sets m before))) stands.histories)
+          absurd (needs_none_after sets g.area.volumes hs v b all
+          (needs_if_lacks _ (group_used (placed g.area.volumes) (gone_up_to sets (placed g.area.volumes) hs) == length g.area.records) (lacked sets (ltb-true sets m before))) stands.histories)
       at_most sets all false after = ltb-false sets m after
 
 -- ## the group without the images up to a set
@@ -580,7 +601,8 @@ gone_records volumes records m are = record {
 }
 
 -- the definition's test by the records that are left
-pub lacks_by_records : (records : List Record) (ps : List Placed) (v b m : ℕ) (hs : List History) (needed : Bool) → needed ≡ needs_slot_in (slice_get (gone_up_to m ps hs) v) b → used_in (gone_to m records) ≡ group_used ps (gone_up_to m ps hs)
+pub lacks_by_records : (records : List Record) (ps : List Placed) (v b m : ℕ) (hs : List History) (needed : Bool) → needed ≡ needs_slot_in (slice_get (gone_up_to m ps hs) v) b
+    → used_in (gone_to m records) ≡ group_used ps (gone_up_to m ps hs)
     → (needed && (used_in (gone_to m records) == length (gone_to m records))) ≡ lacks_slot (length records) ps v b (gone_up_to m ps hs)
 lacks_by_records records ps v b m hs needed needs used =
     ap (λ (t : Bool). t && (used_in (gone_to m records) == length (gone_to m records))) needs

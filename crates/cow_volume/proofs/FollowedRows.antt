@@ -19,7 +19,8 @@ length-followed v [] records = refl
 length-followed v (c ∷ copies) [] = refl
 length-followed v (c ∷ copies) (r ∷ rs) = ap suc (length-followed v copies rs)
 
-pub followed_at : (v : ℕ) (copies : List (Option Copied)) (records : List Record) (k : ℕ) (r : Record) → length copies ≡ length records → slice_get records k ≡ Some r → slice_get (followed v copies records) k ≡ Some (followed_row v (copied_at copies k) r)
+pub followed_at : (v : ℕ) (copies : List (Option Copied)) (records : List Record) (k : ℕ) (r : Record) → length copies ≡ length records → slice_get records k ≡ Some r
+    → slice_get (followed v copies records) k ≡ Some (followed_row v (copied_at copies k) r)
 followed_at v [] [] k r long h = absurd (none-some r h)
 followed_at v [] (q ∷ rs) k r long h = absurd (omega arith)
 followed_at v (c ∷ copies) [] k r long h = absurd (none-some r h)

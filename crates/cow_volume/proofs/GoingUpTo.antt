@@ -70,11 +70,12 @@ records_more u k records = map_as (gone_on_row u k) (gone_below_row u k) (gone_b
 -- at first no record is gone
 pub records_none : (k : ℕ) (records : List Record) → gone_below 0 k records ≡ records
 records_none k [] = refl
-records_none k (r ∷ records) = ap (λ (x : Record). x ∷ gone_below 0 k records) (row_none (nat_lt 0 r.set) (nat_lt r.volume 0) (le-ltb r.volume 0 (omega arith))) ∙ ap (λ (rs : List Record). r ∷ rs) (records_none k records) where
-  row_none : (a b : Bool) → b ≡ false → row_by a b (nat_le r.set k) r ≡ r
-  row_none true true e = absurd (false≢true (sym e))
-  row_none true false e = refl
-  row_none false b e = refl
+records_none k (r ∷ records) = ap (λ (x : Record). x ∷ gone_below 0 k records) (row_none (nat_lt 0 r.set) (nat_lt r.volume 0) (le-ltb r.volume 0 (omega arith)))
+    ∙ ap (λ (rs : List Record). r ∷ rs) (records_none k records) where
+      row_none : (a b : Bool) → b ≡ false → row_by a b (nat_le r.set k) r ≡ r
+      row_none true true e = absurd (false≢true (sym e))
+      row_none true false e = refl
+      row_none false b e = refl
 
 -- after all volumes the records up to the set are gone
 pub records_all : (volumes : List ℕ) (k : ℕ) (records : List Record) → AreRecords volumes records → gone_below (length volumes) k records ≡ gone_to k records
@@ -89,7 +90,8 @@ records_all volumes k records are = map_at (gone_below_row (length volumes) k) (
     by_test true e = let is = free_if r e in ap (gone_below_row (length volumes) k) is ∙ sym (either (nat_le 0 k)) ∙ ap (gone_row k) (sym is)
     by_test false e =
         let used = are.each slot r at (free_if_not r e) in
-        ap (λ (t : Bool). row_by t (nat_lt r.volume (length volumes)) (nat_le r.set k) r) (lt-ltb 0 r.set used.set) ∙ ap (λ (t : Bool). row_by true t (nat_le r.set k) r) (lt-ltb r.volume (length volumes) used.volume)
+        ap (λ (t : Bool). row_by t (nat_lt r.volume (length volumes)) (nat_le r.set k) r) (lt-ltb 0 r.set used.set)
+        ∙ ap (λ (t : Bool). row_by true t (nat_le r.set k) r) (lt-ltb r.volume (length volumes) used.volume)
 
 -- ## the images
 
@@ -128,9 +130,11 @@ pub part_more : {D : Type 0} (c : CopiesValue D) (u k : ℕ) → after_gone_on (
 part_more c u k = same_parts (with_records (gone_on u k (gone_below u k c.area.records)) c.area) (with_records (gone_below (u + 1) k c.area.records) c.area)
     (slice_set (images_below u k c.images) u (after k (images_on (part_gone c u k) u))) (images_below (u + 1) k c.images)
     (ap (λ rs. with_records rs c.area) (records_more u k c.area.records))
-    (ap (λ (o : Option (List ℕ)). slice_set (images_below u k c.images) u (after k (sets_in o))) (images_above u u k c.images (omega arith)) ∙ images_step u k c.images ∙ ap (λ (n : ℕ). images_below n k c.images) (sym (add-one u)))
+    (ap (λ (o : Option (List ℕ)). slice_set (images_below u k c.images) u (after k (sets_in o))) (images_above u u k c.images (omega arith)) ∙ images_step u k c.images
+    ∙ ap (λ (n : ℕ). images_below n k c.images) (sym (add-one u)))
 
-pub part_all : {D : Type 0} (c : CopiesValue D) (k n : ℕ) → AreRecords c.area.volumes c.area.records → length c.images ≡ length c.area.volumes → n ≡ length c.area.volumes → part_gone c n k ≡ after_gone c k
+pub part_all : {D : Type 0} (c : CopiesValue D) (k n : ℕ) → AreRecords c.area.volumes c.area.records → length c.images ≡ length c.area.volumes → n ≡ length c.area.volumes
+    → part_gone c n k ≡ after_gone c k
 part_all c k n are long end = same_parts (with_records (gone_below n k c.area.records) c.area) (with_records (gone_to k c.area.records) c.area) (images_below n k c.images) (all_after k c.images)
     (ap (λ rs. with_records rs c.area) (ap (λ (u : ℕ). gone_below u k c.area.records) end ∙ records_all c.area.volumes k c.area.records are))
     (ap (λ (u : ℕ). images_below u k c.images) (end ∙ sym long) ∙ images_all k c.images)

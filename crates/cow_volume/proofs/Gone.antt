@@ -25,7 +25,8 @@ use Rattle.cow_volume.proofs.MergeRules.{rule-merged, rule-cleared, rule-gone}
 pub image_above : (images : List ℕ) (set : ℕ) → AreImages images → Contains images set → 0 < set
 image_above images set are at = (All-contains (λ image. (0 < image) × (image < 4294967296)) images set are.above_zero at).0
 
-pub merge_rules : (records : List Record) (v set : ℕ) (m : MapValue) → m.copies ≡ map (copied_for v) records → AreImages m.images → Contains m.images set → IsRuleOf records v (merged_rule m.copies (next_older m.images set) set) (merged_row records v (next_older m.images set) set)
+pub merge_rules : (records : List Record) (v set : ℕ) (m : MapValue) → m.copies ≡ map (copied_for v) records → AreImages m.images → Contains m.images set
+    → IsRuleOf records v (merged_rule m.copies (next_older m.images set) set) (merged_row records v (next_older m.images set) set)
 merge_rules records v set m copies are at =
     subst (λ (cs : List (Option Copied)). IsRuleOf records v (merged_rule cs (next_older m.images set) set) (merged_row records v (next_older m.images set) set)) (sym copies)
     (rule-merged records v (next_older m.images set) set (image_above m.images set are at) (λ n older. image_above m.images n are (next_older_is m.images set n older).1))
@@ -47,7 +48,8 @@ pub cut_is : {D : Type 0} (area : AreaValue D) (maps : List MapValue) (v set : �
 cut_is area maps v set m n at images = same_parts area area (images_of (slice_set maps v n)) (slice_set (images_of maps) v (sets_in (slice_get (images_of maps) v) ++ set ∷ [])) refl
     (images_after maps v n ∙ ap (λ s. slice_set (images_of maps) v s) (images ∙ ap (λ s. s ++ set ∷ []) (sym (on_map maps v m at))))
 
-pub merge_is : {D : Type 0} (area new : AreaValue D) (maps : List MapValue) (v set : ℕ) (m n : MapValue) → slice_get maps v ≡ Some m → m.copies ≡ map (copied_for v) area.records → AreImages m.images → Contains m.images set
+pub merge_is : {D : Type 0} (area new : AreaValue D) (maps : List MapValue) (v set : ℕ) (m n : MapValue) → slice_get maps v ≡ Some m → m.copies ≡ map (copied_for v) area.records → AreImages m.images
+    → Contains m.images set
     → n ≡ record { blocks = m.blocks; images = filter (λ image. not (image == set)) m.images; copies = renewed (merged_rule m.copies (next_older m.images set) set) m.copies }
     → new ≡ with_records (followed v n.copies area.records) area
     → ◌≡◌ {A = CopiesValue D} (record { area = new; images = images_of (slice_set maps v n) }) (after_merge (record { area = area; images = images_of maps }) v set)
@@ -55,11 +57,14 @@ merge_is {D = D} area new maps v set m n at copies are has n_is new_is =
     let on = on_map maps v m at in
     same_parts new (with_records (merged v (next_older (sets_in (slice_get (images_of maps) v)) set) set area.records) area)
     (images_of (slice_set maps v n)) (slice_set (images_of maps) v (filter (λ s. not (s == set)) (sets_in (slice_get (images_of maps) v))))
-    (new_is ∙ ap (λ rs. with_records rs area) (followed_is area.records v m n (merged_rule m.copies (next_older m.images set) set) (merged_row area.records v (next_older m.images set) set) copies (ap (λ (x : MapValue). x.copies) n_is) (merge_rules area.records v set m copies are has))
+    (new_is ∙ ap (λ rs. with_records rs area)
+    (followed_is area.records v m n (merged_rule m.copies (next_older m.images set) set) (merged_row area.records v (next_older m.images set) set) copies (ap (λ (x : MapValue). x.copies) n_is)
+    (merge_rules area.records v set m copies are has))
     ∙ ap (λ (s : List ℕ). with_records (merged v (next_older s set) set area.records) area) (sym on))
     (images_after maps v n ∙ ap (λ s. slice_set (images_of maps) v s) (ap (λ (x : MapValue). x.images) n_is ∙ ap (λ (s : List ℕ). filter (λ image. not (image == set)) s) (sym on)))
 
-pub clear_is : {D : Type 0} (area new : AreaValue D) (maps : List MapValue) (v set : ℕ) (m n : MapValue) → slice_get maps v ≡ Some m → m.copies ≡ map (copied_for v) area.records → AreImages m.images → Contains m.images set
+pub clear_is : {D : Type 0} (area new : AreaValue D) (maps : List MapValue) (v set : ℕ) (m n : MapValue) → slice_get maps v ≡ Some m → m.copies ≡ map (copied_for v) area.records → AreImages m.images
+    → Contains m.images set
     → n ≡ record { blocks = m.blocks; images = filter (λ image. nat_le image set) m.images; copies = renewed (cleared_rule set) m.copies }
     → new ≡ with_records (followed v n.copies area.records) area
     → ◌≡◌ {A = CopiesValue D} (record { area = new; images = images_of (slice_set maps v n) }) (after_clear (record { area = area; images = images_of maps }) v set)
@@ -67,7 +72,8 @@ clear_is {D = D} area new maps v set m n at copies are has n_is new_is =
     let on = on_map maps v m at in
     same_parts new (with_records (cleared v set area.records) area)
     (images_of (slice_set maps v n)) (slice_set (images_of maps) v (filter (λ s. nat_le s set) (sets_in (slice_get (images_of maps) v))))
-    (new_is ∙ ap (λ rs. with_records rs area) (followed_is area.records v m n (cleared_rule set) (cleared_row v set) copies (ap (λ (x : MapValue). x.copies) n_is) (clear_rules area.records v set m.images are has)))
+    (new_is ∙ ap (λ rs. with_records rs area)
+    (followed_is area.records v m n (cleared_rule set) (cleared_row v set) copies (ap (λ (x : MapValue). x.copies) n_is) (clear_rules area.records v set m.images are has)))
     (images_after maps v n ∙ ap (λ s. slice_set (images_of maps) v s) (ap (λ (x : MapValue). x.images) n_is ∙ ap (λ (s : List ℕ). filter (λ image. nat_le image set) s) (sym on)))
 
 pub gone_is : {D : Type 0} (area new : AreaValue D) (maps : List MapValue) (v up_to : ℕ) (m n : MapValue) → slice_get maps v ≡ Some m → m.copies ≡ map (copied_for v) area.records

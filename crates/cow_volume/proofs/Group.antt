@@ -134,7 +134,8 @@ pub record Place {D : Type 0} (told : D → Option (List (List ℕ))) (g : Group
 
 -- a volume stands for its history
 pub volume_at : {D : Type 0} → (told : D → Option (List (List ℕ))) (g : GroupValue D) (hs : List History) (v n : ℕ) (d : D) (sets : List ℕ) → StandsFor told g hs
-    → slice_get g.area.volumes v ≡ Some n → slice_get g.devices v ≡ Some d → slice_get g.images v ≡ Some sets → IsVolume (told_in (told g.area.device) (told d)) (told g.area.device) g.area.records v n sets (history_at hs v)
+    → slice_get g.area.volumes v ≡ Some n → slice_get g.devices v ≡ Some d → slice_get g.images v ≡ Some sets
+    → IsVolume (told_in (told g.area.device) (told d)) (told g.area.device) g.area.records v n sets (history_at hs v)
 volume_at told g hs v n d sets stands blocks device images =
     let long = stands.histories in
     let within = slice_get_within g.area.volumes v n blocks in
@@ -192,13 +193,15 @@ slots_same v records old new same = record {
 }
 
 -- the set of an image that stands is above 0
-set_above_if : (t : Bool) (set p : ℕ) (i : Image) (images : List Image) → (i.set == set) ≡ t → 0 < i.set → (point_in set images ≡ Some p → 0 < set) → (if t then Some i.point else point_in set images) ≡ Some p → 0 < set
+set_above_if : (t : Bool) (set p : ℕ) (i : Image) (images : List Image) → (i.set == set) ≡ t → 0 < i.set → (point_in set images ≡ Some p → 0 < set)
+    → (if t then Some i.point else point_in set images) ≡ Some p → 0 < set
 set_above_if true set p i images e above rest at = let same = same_number i.set set e in omega arith
 set_above_if false set p i images e above rest at = rest at
 
 pub set_above : (set p : ℕ) (images : List Image) → All (λ (i : Image). 0 < i.set) images → point_in set images ≡ Some p → 0 < set
 set_above set p [] above at = cc
-set_above set p (i ∷ images) above at = set_above_if (i.set == set) set p i images refl (All-head (λ (i : Image). 0 < i.set) i images above) (set_above set p images (All-tail (λ (i : Image). 0 < i.set) i images above)) at
+set_above set p (i ∷ images) above at = set_above_if (i.set == set) set p i images refl (All-head (λ (i : Image). 0 < i.set) i images above)
+    (set_above set p images (All-tail (λ (i : Image). 0 < i.set) i images above)) at
 
 -- the image that names a block stands
 named_point_if : (t : Bool) (ws : List Write) (set b : ℕ) (i : Image) (images : List Image) → (is_named ws images set b ≡ true → (p : ℕ) × (point_in set images ≡ Some p))
@@ -230,7 +233,8 @@ other_volume told slots new_slots old new v u n sets h other records held volume
 }
 
 -- a volume of which nothing is told
-untold_volume : (told slots new_slots : Option (List (List ℕ))) (records : List Record) (v n : ℕ) (sets : List ℕ) (h : History) → IsVolume told slots records v n sets h → IsVolume None new_slots records v n sets h
+untold_volume : (told slots new_slots : Option (List (List ℕ))) (records : List Record) (v n : ℕ) (sets : List ℕ) (h : History) → IsVolume told slots records v n sets h
+    → IsVolume None new_slots records v n sets h
 untold_volume told slots new_slots records v n sets h volume = record {
   blocks = tt;
   sets_are = volume.sets_are;
@@ -246,7 +250,8 @@ untold_volume told slots new_slots records v n sets h volume = record {
 told_volume : (told slots new_slots : Option (List (List ℕ))) (records : List Record) (v n : ℕ) (sets : List ℕ) (h : History) → (is_some new_slots ≡ true → is_some slots ≡ true)
     → IsVolume (told_in slots told) new_slots records v n sets h → IsVolume (told_in new_slots told) new_slots records v n sets h
 told_volume told slots None records v n sets h tells volume = untold_volume (told_in slots told) None None records v n sets h volume
-told_volume told slots (Some blocks) records v n sets h tells volume = subst (λ (t : Option (List (List ℕ))). IsVolume t (Some blocks) records v n sets h) (told_in-tells slots told (tells refl)) volume
+told_volume told slots (Some blocks) records v n sets h tells volume = subst (λ (t : Option (List (List ℕ))). IsVolume t (Some blocks) records v n sets h)
+    (told_in-tells slots told (tells refl)) volume
 
 -- the same volume, as it is spelled otherwise
 same_volume : (told new_told slots : Option (List (List ℕ))) (records : List Record) (v u n m : ℕ) (sets new_sets : List ℕ) (h k : History)
@@ -262,7 +267,8 @@ same_volume told new_told slots records v u n m sets new_sets h k tells number b
 
 -- Where one volume stands for what its history becomes, and the records of the others and their slots were kept, the
 -- group stands for the changed histories.
-pub on_one : {D : Type 0} → (told : D → Option (List (List ℕ))) (g new : GroupValue D) (hs : List History) (v n : ℕ) (d e : D) (sets new_sets : List ℕ) (h : History) (f : History → History) → StandsFor told g hs
+pub on_one : {D : Type 0} → (told : D → Option (List (List ℕ))) (g new : GroupValue D) (hs : List History) (v n : ℕ) (d e : D) (sets new_sets : List ℕ) (h : History) (f : History → History)
+    → StandsFor told g hs
     → slice_get g.area.volumes v ≡ Some n → slice_get g.devices v ≡ Some d → slice_get g.images v ≡ Some sets → slice_get hs v ≡ Some h
     → new.devices ≡ slice_set g.devices v e → new.images ≡ slice_set g.images v new_sets → new.area.volumes ≡ g.area.volumes
     → OthersKept v g.area.records new.area.records → SlotsKept v g.area.records (told g.area.device) (told new.area.device)
@@ -278,10 +284,13 @@ on_one {D = D} told g new hs v n d e sets new_sets h f stands blocks_is device_i
   by_number u m x ss k true is number device row history =
       let same = same_number u v is in
       let at_blocks : Some n ≡ Some m = sym blocks_is ∙ ap (slice_get g.area.volumes) (sym same) ∙ ap (λ (ns : List ℕ). slice_get ns u) (sym volumes) ∙ number in
-      let at_device : Some e ≡ Some x = sym (slice_get-set_same g.devices v d e device_is) ∙ ap (slice_get (slice_set g.devices v e)) (sym same) ∙ ap (λ (ds : List D). slice_get ds u) (sym devices) ∙ device in
-      let at_sets : Some new_sets ≡ Some ss = sym (slice_get-set_same g.images v sets new_sets sets_is) ∙ ap (slice_get (slice_set g.images v new_sets)) (sym same) ∙ ap (λ (rows : List (List ℕ)). slice_get rows u) (sym images) ∙ row in
+      let at_device : Some e ≡ Some x = sym (slice_get-set_same g.devices v d e device_is) ∙ ap (slice_get (slice_set g.devices v e)) (sym same) ∙ ap (λ (ds : List D). slice_get ds u) (sym devices)
+      ∙ device in
+      let at_sets : Some new_sets ≡ Some ss = sym (slice_get-set_same g.images v sets new_sets sets_is) ∙ ap (slice_get (slice_set g.images v new_sets)) (sym same)
+      ∙ ap (λ (rows : List (List ℕ)). slice_get rows u) (sym images) ∙ row in
       let at_history : Some (f h) ≡ Some k = sym (changed_at-same v f hs h history_is) ∙ ap (slice_get (changed_at v f hs)) (sym same) ∙ history in
-      same_volume (told_in (told new.area.device) (told e)) (told_in (told new.area.device) (told x)) (told new.area.device) new.area.records v u n m new_sets ss (f h) k (ap (λ (y : D). told_in (told new.area.device) (told y)) (same_Some e x at_device)) (sym same) (same_Some n m at_blocks) (same_Some new_sets ss at_sets) (same_Some (f h) k at_history) volume
+      same_volume (told_in (told new.area.device) (told e)) (told_in (told new.area.device) (told x)) (told new.area.device) new.area.records v u n m new_sets ss (f h) k
+      (ap (λ (y : D). told_in (told new.area.device) (told y)) (same_Some e x at_device)) (sym same) (same_Some n m at_blocks) (same_Some new_sets ss at_sets) (same_Some (f h) k at_history) volume
   by_number u m x ss k false is number device row history =
       let other = other_number u v is in
       let away : v ≢ u = λ e. other (sym e) in
@@ -297,7 +306,8 @@ on_one {D = D} told g new hs v n d e sets new_sets h f stands blocks_is device_i
 
 -- Where the devices tell what they told, and the records and the images are the same, the group stands for the same.
 pub quiet_stands : {D : Type 0} → (told : D → Option (List (List ℕ))) (g new : GroupValue D) (hs : List History) → StandsFor told g hs
-    → map told new.devices ≡ map told g.devices → new.images ≡ g.images → new.area.volumes ≡ g.area.volumes → new.area.records ≡ g.area.records → told new.area.device ≡ told g.area.device → StandsFor told new hs
+    → map told new.devices ≡ map told g.devices → new.images ≡ g.images → new.area.volumes ≡ g.area.volumes → new.area.records ≡ g.area.records → told new.area.device ≡ told g.area.device
+    → StandsFor told new hs
 quiet_stands {D = D} told g new hs stands devices images volumes records slots =
     let long : length new.devices ≡ length g.devices = sym (length-map new.devices told) ∙ ap length devices ∙ length-map g.devices told in
     record {
@@ -307,7 +317,8 @@ quiet_stands {D = D} told g new hs stands devices images volumes records slots =
       each = λ v n x sets h number device row history.
           let within = slice_get_within new.devices v x device in
           let old = slice_get_inside g.devices v (omega arith) in
-          let tells : Some (told old.0) ≡ Some (told x) = sym (slice_get_map told g.devices v old.0 old.1) ∙ ap (λ (ts : List (Option (List (List ℕ)))). slice_get ts v) (sym devices) ∙ slice_get_map told new.devices v x device in
+          let tells : Some (told old.0) ≡ Some (told x) = sym (slice_get_map told g.devices v old.0 old.1) ∙ ap (λ (ts : List (Option (List (List ℕ)))). slice_get ts v) (sym devices)
+          ∙ slice_get_map told new.devices v x device in
           subst (λ (t : Option (List (List ℕ))). IsVolume (told_in (told new.area.device) t) (told new.area.device) new.area.records v n sets h) (same_Some (told old.0) (told x) tells)
           (subst (λ (t : Option (List (List ℕ))). IsVolume (told_in t (told old.0)) t new.area.records v n sets h) (sym slots)
           (subst (λ (rs : List Record). IsVolume (told_in (told g.area.device) (told old.0)) (told g.area.device) rs v n sets h) (sym records)

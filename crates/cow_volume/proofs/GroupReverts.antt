@@ -33,11 +33,13 @@ changed_at-none zero (h ∷ hs) = refl
 changed_at-none (suc v) (h ∷ hs) = ap (λ xs. h ∷ xs) (changed_at-none v hs)
 
 -- what a volume's history was changed to is changed further
-pub on_history : {D : Type 0} (told : D → Option (List (List ℕ))) (g new : GroupValue D) (hs : List History) (v n : ℕ) (d e : D) (sets new_sets : List ℕ) (h : History) (f k : History → History) → StandsFor told g (changed_at v f hs)
+pub on_history : {D : Type 0} (told : D → Option (List (List ℕ))) (g new : GroupValue D) (hs : List History) (v n : ℕ) (d e : D) (sets new_sets : List ℕ) (h : History) (f k : History → History)
+    → StandsFor told g (changed_at v f hs)
     → slice_get g.area.volumes v ≡ Some n → slice_get g.devices v ≡ Some d → slice_get g.images v ≡ Some sets → slice_get hs v ≡ Some h
     → new.devices ≡ slice_set g.devices v e → new.images ≡ slice_set g.images v new_sets → new.area.volumes ≡ g.area.volumes
     → OthersKept v g.area.records new.area.records → SlotsKept v g.area.records (told g.area.device) (told new.area.device)
-    → (IsVolume (told_in (told g.area.device) (told d)) (told g.area.device) g.area.records v n sets (f h) → IsVolume (told_in (told new.area.device) (told e)) (told new.area.device) new.area.records v n new_sets (k h)) → StandsFor told new (changed_at v k hs)
+    → (IsVolume (told_in (told g.area.device) (told d)) (told g.area.device) g.area.records v n sets (f h)
+    → IsVolume (told_in (told new.area.device) (told e)) (told new.area.device) new.area.records v n new_sets (k h)) → StandsFor told new (changed_at v k hs)
 on_history told g new hs v n d e sets new_sets h f k stands blocks_is device_is sets_is history_is devices images volumes others slots step =
     let now = changed_at-same v f hs h history_is in
     let volume = step (stands.each v n d sets (f h) blocks_is device_is sets_is now) in
@@ -65,7 +67,8 @@ dropped_all-push : (sets : List ℕ) (s : ℕ) (h : History) → dropped s (drop
 dropped_all-push [] s h = refl
 dropped_all-push (x ∷ sets) s h = dropped_all-push sets s (dropped x h)
 
-pub going_more : {D : Type 0} (told : D → Option (List (List ℕ))) (old now new : GroupValue D) (v set s : ℕ) → AreGoing told old now v set → set < s → ((hs : List History) → StandsFor told now hs → StandsFor told new (changed_at v (dropped s) hs)) → AreGoing told old new v set
+pub going_more : {D : Type 0} (told : D → Option (List (List ℕ))) (old now new : GroupValue D) (v set s : ℕ) → AreGoing told old now v set → set < s
+    → ((hs : List History) → StandsFor told now hs → StandsFor told new (changed_at v (dropped s) hs)) → AreGoing told old new v set
 going_more told old now new v set s going newer drops = record {
   gone = going.gone ++ s ∷ [];
   later = λ x m. elim (has_either x going.gone (s ∷ []) m) [
@@ -74,7 +77,8 @@ going_more told old now new v set s going newer drops = record {
   ];
   stands = λ hs stands.
       subst (λ xs. StandsFor told new xs)
-      (changed_at-twice v (dropped s) (dropped_all going.gone) hs ∙ changed_at-agree v (λ h. dropped s (dropped_all going.gone h)) (dropped_all (going.gone ++ s ∷ [])) hs (λ h at. dropped_all-push going.gone s h))
+      (changed_at-twice v (dropped s) (dropped_all going.gone) hs
+      ∙ changed_at-agree v (λ h. dropped s (dropped_all going.gone h)) (dropped_all (going.gone ++ s ∷ [])) hs (λ h at. dropped_all-push going.gone s h))
       (drops (changed_at v (dropped_all going.gone) hs) (going.stands hs stands));
 } where
   only : (x : ℕ) → Has x (s ∷ []) → set < x
@@ -86,18 +90,22 @@ up_to_sets set [] h = tt
 up_to_sets set (i ∷ is) h = (h i.set (inl refl), up_to_sets set is (λ s m. h s (inr m)))
 
 -- where no newer one is left, the images up to the set are left
-pub going_all : {D : Type 0} (told : D → Option (List (List ℕ))) (old now : GroupValue D) (v set : ℕ) → AreGoing told old now v set → v < length now.area.volumes → ((s : ℕ) → Has s (sets_at now v) → s ≤ set) → (hs : List History) → StandsFor told old hs → StandsFor told now (changed_at v (without_newer set) hs)
+pub going_all : {D : Type 0} (told : D → Option (List (List ℕ))) (old now : GroupValue D) (v set : ℕ) → AreGoing told old now v set → v < length now.area.volumes
+    → ((s : ℕ) → Has s (sets_at now v) → s ≤ set) → (hs : List History) → StandsFor told old hs → StandsFor told now (changed_at v (without_newer set) hs)
 going_all told old now v set going inside most hs stands =
     let after = going.stands hs stands in
     let place = place_at told now (changed_at v (dropped_all going.gone) hs) v after inside in
     let same_sets : sets_at now v ≡ sets_of (history_at (changed_at v (dropped_all going.gone) hs) v).images = ap sets_in place.sets_at ∙ place.stands.sets_are in
     subst (λ xs. StandsFor told now xs) (changed_at-agree v (dropped_all going.gone) (without_newer set) hs (λ h at.
-    let here : history_at (changed_at v (dropped_all going.gone) hs) v ≡ dropped_all going.gone h = history_at_is (changed_at v (dropped_all going.gone) hs) v (dropped_all going.gone h) (changed_at-same v (dropped_all going.gone) hs h at) in
-    newer_gone set going.gone h going.later (up_to_sets set (dropped_all going.gone h).images (λ s m. most s (subst (λ ss. Has s ss) (sym (same_sets ∙ ap (λ (x : History). sets_of x.images) here)) m)))))
+    let here : history_at (changed_at v (dropped_all going.gone) hs) v ≡ dropped_all going.gone h = history_at_is (changed_at v (dropped_all going.gone) hs) v (dropped_all going.gone h)
+    (changed_at-same v (dropped_all going.gone) hs h at) in
+    newer_gone set going.gone h going.later
+    (up_to_sets set (dropped_all going.gone h).images (λ s m. most s (subst (λ ss. Has s ss) (sym (same_sets ∙ ap (λ (x : History). sets_of x.images) here)) m)))))
     after
 
 -- the point of an image is none past the end
-pub point_in_time : {D : Type 0} (told : D → Option (List (List ℕ))) (g : GroupValue D) (hs : List History) (v set p : ℕ) (h : History) → StandsFor told g hs → v < length g.area.volumes → slice_get hs v ≡ Some h → point_in set h.images ≡ Some p → p ≤ length h.writes
+pub point_in_time : {D : Type 0} (told : D → Option (List (List ℕ))) (g : GroupValue D) (hs : List History) (v set p : ℕ) (h : History) → StandsFor told g hs → v < length g.area.volumes
+    → slice_get hs v ≡ Some h → point_in set h.images ≡ Some p → p ≤ length h.writes
 point_in_time told g hs v set p h stands inside at e =
     let place = place_at told g hs v stands inside in
     let P : History → Type 0 = λ x. AreInTime (length x.writes) x.images in
@@ -105,11 +113,13 @@ point_in_time told g hs v set p h stands inside at e =
 
 -- ## the blocks are restored
 
-pub restoring_none : {D : Type 0} (told : D → Option (List (List ℕ))) (g : GroupValue D) (hs : List History) (v n set p : ℕ) → StandsFor told g (changed_at v (without_newer set) hs) → StandsFor told g (changed_at v (restored_below n set p 0) hs)
+pub restoring_none : {D : Type 0} (told : D → Option (List (List ℕ))) (g : GroupValue D) (hs : List History) (v n set p : ℕ) → StandsFor told g (changed_at v (without_newer set) hs)
+    → StandsFor told g (changed_at v (restored_below n set p 0) hs)
 restoring_none told g hs v n set p stands = subst (λ xs. StandsFor told g xs) (changed_at-agree v (without_newer set) (restored_below n set p 0) hs (λ h at. restored_none n set p h)) stands
 
 -- block m has no copy for the set
-pub restoring_past : {D : Type 0} (told : D → Option (List (List ℕ))) (g : GroupValue D) (hs : List History) (v n set p m : ℕ) (d : D) (sets : List ℕ) (h : History) → StandsFor told g (changed_at v (restored_below n set p m) hs)
+pub restoring_past : {D : Type 0} (told : D → Option (List (List ℕ))) (g : GroupValue D) (hs : List History) (v n set p m : ℕ) (d : D) (sets : List ℕ) (h : History)
+    → StandsFor told g (changed_at v (restored_below n set p m) hs)
     → slice_get g.area.volumes v ≡ Some n → slice_get g.devices v ≡ Some d → slice_get g.images v ≡ Some sets → slice_get hs v ≡ Some h → point_in set h.images ≡ Some p → p ≤ length h.writes → m < n
     → ((slot : ℕ) → slice_get g.area.records slot ≡ Some (record_of v set m) → ⊥) → StandsFor told g (changed_at v (restored_below n set p (m + 1)) hs)
 restoring_past told g hs v n set p m d sets h stands blocks_is device_is sets_is history_is point l within none =
@@ -119,10 +129,12 @@ restoring_past told g hs v n set p m d sets h stands blocks_is device_is sets_is
     (λ is. restored_past (told_in (told g.area.device) (told d)) (told g.area.device) g.area.records v n sets h set p m l within is point none)
 
 -- block m got the bytes of its slot
-pub restoring_at : {D : Type 0} (told : D → Option (List (List ℕ))) (g new : GroupValue D) (hs : List History) (v n set p m slot : ℕ) (bytes : List ℕ) (d e : D) (sets : List ℕ) (h : History) → StandsFor told g (changed_at v (restored_below n set p m) hs)
+pub restoring_at : {D : Type 0} (told : D → Option (List (List ℕ))) (g new : GroupValue D) (hs : List History) (v n set p m slot : ℕ) (bytes : List ℕ) (d e : D) (sets : List ℕ) (h : History)
+    → StandsFor told g (changed_at v (restored_below n set p m) hs)
     → slice_get g.area.volumes v ≡ Some n → slice_get g.devices v ≡ Some d → slice_get g.images v ≡ Some sets → slice_get hs v ≡ Some h → point_in set h.images ≡ Some p → p ≤ length h.writes → m < n
     → slice_get g.area.records slot ≡ Some (record_of v set m) → IfSome (told g.area.device) (λ blocks. slice_get blocks (place_of_slot (length g.area.records) slot) ≡ Some bytes)
-    → new.devices ≡ slice_set g.devices v e → told e ≡ option_map (λ blocks. slice_set blocks m bytes) (told d) → new.images ≡ g.images → new.area.volumes ≡ g.area.volumes → new.area.records ≡ g.area.records → told new.area.device ≡ told g.area.device
+    → new.devices ≡ slice_set g.devices v e → told e ≡ option_map (λ blocks. slice_set blocks m bytes) (told d) → new.images ≡ g.images → new.area.volumes ≡ g.area.volumes
+    → new.area.records ≡ g.area.records → told new.area.device ≡ told g.area.device
     → StandsFor told new (changed_at v (restored_below n set p (m + 1)) hs)
 restoring_at told g new hs v n set p m slot bytes d e sets h stands blocks_is device_is sets_is history_is point l within at read devices written images volumes records area =
     on_history told g new hs v n d e sets sets h (restored_below n set p m) (restored_below n set p (m + 1)) stands blocks_is device_is sets_is history_is
@@ -138,7 +150,8 @@ restoring_at told g new hs v n set p m slot bytes d e sets h stands blocks_is de
     subst P (sym written) (subst Q (sym area) (subst R (sym (told_in-map (told g.area.device) (told d) (λ blocks. slice_set blocks m bytes))) (subst S (sym records) done))))
 
 -- while block m is still to be restored, fewer are than there are to restore
-pub restoring_fewer : {D : Type 0} (told : D → Option (List (List ℕ))) (g : GroupValue D) (hs : List History) (v n set p m slot : ℕ) (d : D) (sets : List ℕ) (h : History) → StandsFor told g (changed_at v (restored_below n set p m) hs)
+pub restoring_fewer : {D : Type 0} (told : D → Option (List (List ℕ))) (g : GroupValue D) (hs : List History) (v n set p m slot : ℕ) (d : D) (sets : List ℕ) (h : History)
+    → StandsFor told g (changed_at v (restored_below n set p m) hs)
     → slice_get g.area.volumes v ≡ Some n → slice_get g.devices v ≡ Some d → slice_get g.images v ≡ Some sets → slice_get hs v ≡ Some h → point_in set h.images ≡ Some p → p ≤ length h.writes → m < n
     → slice_get g.area.records slot ≡ Some (record_of v set m) → length (to_restore m h.writes p) < length (to_restore n h.writes p)
 restoring_fewer told g hs v n set p m slot d sets h stands blocks_is device_is sets_is history_is point l within at =
@@ -154,7 +167,8 @@ cleared_others v set records = record {
 }
 
 -- all blocks are restored, and the set's copies go
-pub restoring_all : {D : Type 0} (told : D → Option (List (List ℕ))) (g new : GroupValue D) (hs : List History) (v n set p : ℕ) (d : D) (sets : List ℕ) (h : History) → StandsFor told g (changed_at v (restored_below n set p n) hs)
+pub restoring_all : {D : Type 0} (told : D → Option (List (List ℕ))) (g new : GroupValue D) (hs : List History) (v n set p : ℕ) (d : D) (sets : List ℕ) (h : History)
+    → StandsFor told g (changed_at v (restored_below n set p n) hs)
     → slice_get g.area.volumes v ≡ Some n → slice_get g.devices v ≡ Some d → slice_get g.images v ≡ Some sets → slice_get hs v ≡ Some h → point_in set h.images ≡ Some p → p ≤ length h.writes
     → new.devices ≡ g.devices → new.images ≡ g.images → new.area.volumes ≡ g.area.volumes → new.area.records ≡ cleared v set g.area.records → told new.area.device ≡ told g.area.device
     → StandsFor told new (changed_at v (reverted set p) hs)

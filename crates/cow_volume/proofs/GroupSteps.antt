@@ -1,5 +1,6 @@
 -- What the steps of a call leave of a group.
-use Rattle.std.proofs.Common.{ℕ, zero, suc, ◌≡◌, ◌<◌, ◌≤◌, Bool, List, [], ◌∷◌, ◌++◌, take, drop, length, map, Option, Some, None, slice_get, slice_set, refl, sym, ap, ◌∙◌, subst, arith, inl, inr, get_or}
+use Rattle.std.proofs.Common.{ℕ, zero, suc, ◌≡◌, ◌<◌, ◌≤◌, Bool, List, [], ◌∷◌, ◌++◌, take, drop, length, map, Option, Some, None, slice_get, slice_set, refl, sym, ap, ◌∙◌, subst, arith, inl, inr}
+use Rattle.std.proofs.Common.{get_or}
 use Rattle.std.specs.Prelude.{is_some, IfSome}
 use Rattle.std.proofs.lemmas.List.{length-set, length-map, map-set}
 use Rattle.std.proofs.lemmas.Option.{none-some, same_Some, slice_get_read}
@@ -21,7 +22,8 @@ module _ {D : Type 0} (told : D → Option (List (List ℕ))) (size count : D �
   same_on d e now on tells = record { tells = ap is_some on.tells ∙ tells; size_is = on.size_is; lends = on.lends; later = on.later }
 
   -- one device and the area's changed
-  pub kept : (devices : List D) (v : ℕ) (d e : D) (old new : CopiesValue D) → slice_get devices v ≡ Some d → IsSameDevice told size count lending d e → IsSameDevice told size count lending old.area.device new.area.device → new.area.volumes ≡ old.area.volumes → length new.area.records ≡ length old.area.records
+  pub kept : (devices : List D) (v : ℕ) (d e : D) (old new : CopiesValue D) → slice_get devices v ≡ Some d → IsSameDevice told size count lending d e
+      → IsSameDevice told size count lending old.area.device new.area.device → new.area.volumes ≡ old.area.volumes → length new.area.records ≡ length old.area.records
       → IsKept told size count lending (group_of devices old) (group_of (slice_set devices v e) new)
   kept devices v d e old new at same area volumes slots = record {
     volumes = volumes;
@@ -39,13 +41,15 @@ module _ {D : Type 0} (told : D → Option (List (List ℕ))) (size count : D �
   }
 
   pub told_set : (devices : List D) (v : ℕ) (d e : D) → slice_get devices v ≡ Some d → told e ≡ told d → map told (slice_set devices v e) ≡ map told devices
-  told_set devices v d e at same = map-set told devices v e ∙ ap (λ (t : Option (List (List ℕ))). slice_set (map told devices) v t) same ∙ slice_set-same (map told devices) v (told d) (mapped devices v at) where
-    mapped : (ds : List D) (k : ℕ) → slice_get ds k ≡ Some d → slice_get (map told ds) k ≡ Some (told d)
-    mapped [] k h = absurd (none-some d h)
-    mapped (x ∷ ds) zero h = ap (λ (y : D). Some (told y)) (same_Some x d h)
-    mapped (x ∷ ds) (suc k) h = mapped ds k h
+  told_set devices v d e at same = map-set told devices v e ∙ ap (λ (t : Option (List (List ℕ))). slice_set (map told devices) v t) same
+      ∙ slice_set-same (map told devices) v (told d) (mapped devices v at) where
+        mapped : (ds : List D) (k : ℕ) → slice_get ds k ≡ Some d → slice_get (map told ds) k ≡ Some (told d)
+        mapped [] k h = absurd (none-some d h)
+        mapped (x ∷ ds) zero h = ap (λ (y : D). Some (told y)) (same_Some x d h)
+        mapped (x ∷ ds) (suc k) h = mapped ds k h
 
-  pub volume_rose : (devices : List D) (v : ℕ) (d e : D) (old new : CopiesValue D) → slice_get devices v ≡ Some d → Rose (count d) (count e) → count new.area.device ≡ count old.area.device → VolumeRose count v (group_of devices old) (group_of (slice_set devices v e) new)
+  pub volume_rose : (devices : List D) (v : ℕ) (d e : D) (old new : CopiesValue D) → slice_get devices v ≡ Some d → Rose (count d) (count e) → count new.area.device ≡ count old.area.device
+      → VolumeRose count v (group_of devices old) (group_of (slice_set devices v e) new)
   volume_rose devices v d e old new at rose area = record { before = d; now = e; was = at; is = set_here devices v at; rose = rose; devices = map-set count devices v e; area = area } where
     set_here : (ds : List D) (k : ℕ) → slice_get ds k ≡ Some d → slice_get (slice_set ds k e) k ≡ Some e
     set_here [] k h = absurd (none-some d h)
@@ -53,16 +57,20 @@ module _ {D : Type 0} (told : D → Option (List (List ℕ))) (size count : D �
     set_here (x ∷ ds) (suc k) h = set_here ds k h
 
 -- a volume's device, and how many blocks it has
-pub device_at : {D : Type 0} (size : D → ℕ) (devices : List D) (volumes : List ℕ) (v : ℕ) (d : D) → map size devices ≡ volumes → v < length volumes → d ≡ get_or devices v d → slice_get devices v ≡ Some d
+pub device_at : {D : Type 0} (size : D → ℕ) (devices : List D) (volumes : List ℕ) (v : ℕ) (d : D) → map size devices ≡ volumes → v < length volumes → d ≡ get_or devices v d
+    → slice_get devices v ≡ Some d
 device_at size devices volumes v d fits within is =
     let long : length devices ≡ length volumes = sym (length-map devices size) ∙ ap length fits in
     slice_get_read devices (length devices) v d refl (omega arith) is
 
 -- a device of the same size in its place
-pub fits_set : {D : Type 0} (size : D → ℕ) (devices : List D) (volumes : List ℕ) (v : ℕ) (d e : D) → map size devices ≡ volumes → slice_get devices v ≡ Some d → size e ≡ size d → map size (slice_set devices v e) ≡ volumes
-fits_set size devices volumes v d e fits at same = map-set size devices v e ∙ ap (λ (n : ℕ). slice_set (map size devices) v n) same ∙ slice_set-same (map size devices) v (size d) (ap (λ (ns : List ℕ). slice_get ns v) fits ∙ size_row size devices volumes v d fits at) ∙ fits
+pub fits_set : {D : Type 0} (size : D → ℕ) (devices : List D) (volumes : List ℕ) (v : ℕ) (d e : D) → map size devices ≡ volumes → slice_get devices v ≡ Some d → size e ≡ size d
+    → map size (slice_set devices v e) ≡ volumes
+fits_set size devices volumes v d e fits at same = map-set size devices v e ∙ ap (λ (n : ℕ). slice_set (map size devices) v n) same
+    ∙ slice_set-same (map size devices) v (size d) (ap (λ (ns : List ℕ). slice_get ns v) fits ∙ size_row size devices volumes v d fits at) ∙ fits
 
-pub device_within : {D : Type 0} (size : D → ℕ) (devices : List D) (volumes : List ℕ) (v b : ℕ) (d : D) → map size devices ≡ volumes → slice_get devices v ≡ Some d → b < blocks_in (slice_get volumes v) → b < size d
+pub device_within : {D : Type 0} (size : D → ℕ) (devices : List D) (volumes : List ℕ) (v b : ℕ) (d : D) → map size devices ≡ volumes → slice_get devices v ≡ Some d
+    → b < blocks_in (slice_get volumes v) → b < size d
 device_within size devices volumes v b d fits at low = subst (λ (o : Option ℕ). b < blocks_in o) (size_row size devices volumes v d fits at) low
 
 -- ## a block is copied
@@ -73,9 +81,12 @@ on_itself told size count lending d = record { tells = refl; size_is = refl; len
 pub area_itself : {D : Type 0} (told : D → Option (List (List ℕ))) (size count : D → ℕ) (lending : D → Bool) (c : CopiesValue D) → IsAreaOn told size count lending c c (told c.area.device)
 area_itself told size count lending c = record { device = on_itself told size count lending c.area.device; volumes = refl; records = refl; images = refl }
 
-pub slot_copied : {D : Type 0} (told : D → Option (List (List ℕ))) (size count : D → ℕ) (lending : D → Bool) (device new_device : D) (old new : CopiesValue D) (block slot : ℕ) (bytes : List ℕ) (r : Result Unit Cause) → IsOn told size count lending device new_device (told device) → count new_device ≡ count device
-    → IfSome (told device) (λ blocks. slice_get blocks block ≡ Some bytes) → IsSlotCopy told size count lending old new slot bytes r → IsCopy told size count lending device new_device old new block slot r
-slot_copied told size count lending device new_device old new block slot bytes (Ok done) on same read h = record { copy = bytes; read = read; device_on = on; area_on = h.0; device_same = same; area_same = h.1 }
+pub slot_copied : {D : Type 0} (told : D → Option (List (List ℕ))) (size count : D → ℕ) (lending : D → Bool) (device new_device : D) (old new : CopiesValue D) (block slot : ℕ) (bytes : List ℕ)
+    (r : Result Unit Cause) → IsOn told size count lending device new_device (told device) → count new_device ≡ count device
+    → IfSome (told device) (λ blocks. slice_get blocks block ≡ Some bytes) → IsSlotCopy told size count lending old new slot bytes r
+    → IsCopy told size count lending device new_device old new block slot r
+slot_copied told size count lending device new_device old new block slot bytes
+    (Ok done) on same read h = record { copy = bytes; read = read; device_on = on; area_on = h.0; device_same = same; area_same = h.1 }
 slot_copied told size count lending device new_device old new block slot bytes (Err cause) on same read h = record {
   device_on = on;
   area_on = h.area_on;

@@ -32,12 +32,14 @@ use Rattle.cow_volume.proofs.Kept.{same_itself}
 use Rattle.cow_volume.proofs.Kept.{kept_itself, map_set_told}
 use Rattle.cow_volume.proofs.GroupSteps.{same_on, kept, told_set, volume_rose, put_tells}
 
-module _ {D : Type 0} (told : D → Option (List (List ℕ))) (size count : D → ℕ) (lending : D → Bool) (devices : List D) (c : CopiesValue D) (v : ℕ) (d : D) (w : Write) (low : w.block < blocks_at (group_of devices c) v) (at : slice_get devices v ≡ Some d) where
+module _ {D : Type 0} (told : D → Option (List (List ℕ))) (size count : D → ℕ) (lending : D → Bool) (devices : List D) (c : CopiesValue D) (v : ℕ) (d : D) (w : Write)
+    (low : w.block < blocks_at (group_of devices c) v) (at : slice_get devices v ≡ Some d) where
   -- a block that needs no copy is written
   pub put_again : (e : D) (r : Result Unit Cause) → lacks_copy c.area.records v (sets_at (group_of devices c) v) w.block ≡ false → IsPutOn told size count lending d e w.block w.bytes r
       → IsPutOr told size count lending (group_of devices c) (group_of (slice_set devices v e) c) v w r
   put_again e (Ok done) has on = record {
-    kept = kept told size count lending devices v d e c c at (same_on told size count lending d e (put w.block w.bytes (told d)) on.0 (put_tells w.block w.bytes (told d))) (same_itself told size count lending c.area.device) refl refl;
+    kept = kept told size count lending devices v d e c c at (same_on told size count lending d e (put w.block w.bytes (told d)) on.0 (put_tells w.block w.bytes (told d)))
+        (same_itself told size count lending c.area.device) refl refl;
     stands = λ hs stood. group_written_again told (group_of devices c) (group_of (slice_set devices v e) c) hs v d e w stood low
         (sym (needs_by_records told (group_of devices c) hs v w.block stood low) ∙ has) at on.0.tells refl refl refl refl refl;
     unfailed = record { devices = map_set_told count devices v d e at on.1; area = refl };
@@ -45,14 +47,18 @@ module _ {D : Type 0} (told : D → Option (List (List ℕ))) (size count : D �
   put_again e (Err cause) has failed = record {
     kept = kept told size count lending devices v d e c c at (same_on told size count lending d e (told d) failed.0 refl) (same_itself told size count lending c.area.device) refl refl;
     stands = λ hs stood. quiet_stands told (group_of devices c) (group_of (slice_set devices v e) c) hs stood (told_set told size count lending devices v d e at failed.0.tells) refl refl refl refl;
-    rose = subst (λ (f : Cause). DeviceRose count v (group_of devices c) (group_of (slice_set devices v e) c) f) (sym failed.1) (volume_rose told size count lending devices v d e c c at failed.2 refl);
+    rose = subst (λ (f : Cause). DeviceRose count v (group_of devices c) (group_of (slice_set devices v e) c) f) (sym failed.1)
+        (volume_rose told size count lending devices v d e c c at failed.2 refl);
   }
 
   -- the copy failed
-  pub not_copied : (e : D) (new : CopiesValue D) (cause : Cause) → IsNotCopied told size count lending d e c new cause → IsNotPut told size count lending (group_of devices c) (group_of (slice_set devices v e) new) v cause
+  pub not_copied : (e : D) (new : CopiesValue D) (cause : Cause) → IsNotCopied told size count lending d e c new cause
+      → IsNotPut told size count lending (group_of devices c) (group_of (slice_set devices v e) new) v cause
   not_copied e new cause failed = record {
-    kept = kept told size count lending devices v d e c new at (same_on told size count lending d e (told d) failed.device_on refl) (same_on told size count lending c.area.device new.area.device (told c.area.device) failed.area_on.device refl) failed.area_on.volumes (ap length failed.area_on.records);
-    stands = λ hs stood. quiet_stands told (group_of devices c) (group_of (slice_set devices v e) new) hs stood (told_set told size count lending devices v d e at failed.device_on.tells) failed.area_on.images failed.area_on.volumes failed.area_on.records failed.area_on.device.tells;
+    kept = kept told size count lending devices v d e c new at (same_on told size count lending d e (told d) failed.device_on refl)
+        (same_on told size count lending c.area.device new.area.device (told c.area.device) failed.area_on.device refl) failed.area_on.volumes (ap length failed.area_on.records);
+    stands = λ hs stood. quiet_stands told (group_of devices c) (group_of (slice_set devices v e) new) hs stood
+        (told_set told size count lending devices v d e at failed.device_on.tells) failed.area_on.images failed.area_on.volumes failed.area_on.records failed.area_on.device.tells;
     rose = by_cause cause failed.rose;
   } where
     by_cause : (cause : Cause) → RoseBy count d e c.area.device new.area.device cause → DeviceRose count v (group_of devices c) (group_of (slice_set devices v e) new) cause
@@ -60,15 +66,18 @@ module _ {D : Type 0} (told : D → Option (List (List ℕ))) (size count : D �
     by_cause Volume rose = volume_rose told size count lending devices v d e c new at rose.0 rose.1
     by_cause Area rose = record { rose = rose.0; devices = map_set_told count devices v d e at rose.1 }
 
-  module _ (slot : ℕ) (free_at : IsLowestFree (map is_free c.area.records) slot) (fits : size c.area.device ≡ blocks_for (length c.area.records)) (whole : IfSome (told c.area.device) (AreBlocks (size c.area.device))) (e f : D) (new : CopiesValue D) (copied : IsCopiedIn told size count lending d e c new w.block slot) where
+  module _ (slot : ℕ) (free_at : IsLowestFree (map is_free c.area.records) slot) (fits : size c.area.device ≡ blocks_for (length c.area.records))
+      (whole : IfSome (told c.area.device) (AreBlocks (size c.area.device))) (e f : D) (new : CopiesValue D) (copied : IsCopiedIn told size count lending d e c new w.block slot) where
     is_there : slice_get c.area.records slot ≡ Some free
     is_there = free_slot_is c.area.records slot free_at
 
     area_same : IsSameDevice told size count lending c.area.device new.area.device
-    area_same = same_on told size count lending c.area.device new.area.device (put (place_of_slot (length c.area.records) slot) copied.copy (told c.area.device)) copied.area_on.device (put_tells (place_of_slot (length c.area.records) slot) copied.copy (told c.area.device))
+    area_same = same_on told size count lending c.area.device new.area.device (put (place_of_slot (length c.area.records) slot) copied.copy (told c.area.device)) copied.area_on.device
+        (put_tells (place_of_slot (length c.area.records) slot) copied.copy (told c.area.device))
 
     -- the copy was made, and the overwrite failed
-    pub not_overwritten : (cause : Cause) → IsOn told size count lending e f (told e) → cause ≡ Volume → Rose (count e) (count f) → IsNotPut told size count lending (group_of devices c) (group_of (slice_set devices v f) new) v cause
+    pub not_overwritten : (cause : Cause) → IsOn told size count lending e f (told e) → cause ≡ Volume → Rose (count e) (count f)
+        → IsNotPut told size count lending (group_of devices c) (group_of (slice_set devices v f) new) v cause
     not_overwritten cause on is rose = record {
       kept = kept told size count lending devices v d f c new at (record {
         tells = ap is_some (on.tells ∙ copied.device_on.tells);
@@ -76,23 +85,27 @@ module _ {D : Type 0} (told : D → Option (List (List ℕ))) (size count : D �
         lends = on.lends ∙ copied.device_on.lends;
         later = let a = on.later in let b = copied.device_on.later in omega arith;
       }) area_same copied.area_on.volumes (ap length copied.area_on.records);
-      stands = λ hs stood. group_overwritten told (group_of devices c) (group_of (slice_set devices v f) new) hs slot copied.copy stood is_there (told_set told size count lending devices v d f at (on.tells ∙ copied.device_on.tells))
+      stands = λ hs stood. group_overwritten told (group_of devices c) (group_of (slice_set devices v f) new) hs slot copied.copy stood is_there
+          (told_set told size count lending devices v d f at (on.tells ∙ copied.device_on.tells))
           copied.area_on.images copied.area_on.volumes copied.area_on.records copied.area_on.device.tells;
-      rose = subst (λ (x : Cause). DeviceRose count v (group_of devices c) (group_of (slice_set devices v f) new) x) (sym is) (volume_rose told size count lending devices v d f c new at (risen rose copied.device_on.later) copied.area_same);
+      rose = subst (λ (x : Cause). DeviceRose count v (group_of devices c) (group_of (slice_set devices v f) new) x) (sym is)
+          (volume_rose told size count lending devices v d f c new at (risen rose copied.device_on.later) copied.area_same);
     } where
       risen : Rose (count e) (count f) → count d ≤ count e → Rose (count d) (count f)
       risen (inl up) le = inl (omega arith)
       risen (inr most_now) le = inr most_now
 
     -- the block was copied, written and noted
-    pub put_first : (last : CopiesValue D) → lacks_copy c.area.records v (sets_at (group_of devices c) v) w.block ≡ true → IsOn told size count lending e f (put w.block w.bytes (told e)) → count f ≡ count e → last ≡ after_note new v w.block slot
+    pub put_first : (last : CopiesValue D) → lacks_copy c.area.records v (sets_at (group_of devices c) v) w.block ≡ true → IsOn told size count lending e f (put w.block w.bytes (told e))
+        → count f ≡ count e → last ≡ after_note new v w.block slot
         → IsPut told size count lending (group_of devices c) (group_of (slice_set devices v f) last) v w
     put_first last lacks on unfailed is =
         let told_is : told f ≡ put w.block w.bytes (told d) = on.tells ∙ ap (put w.block w.bytes) copied.device_on.tells in
         let device_is : last.area.device ≡ new.area.device = ap (λ x. x.area.device) is in
         let on_new : images_on new v ≡ images_on c v = ap (λ (i : List (List ℕ)). images_on (record { area = c.area; images = i }) v) copied.area_on.images in
         let records_are : last.area.records ≡ noted slot (record_of v (newest (sets_at (group_of devices c) v)) w.block) c.area.records =
-        ap (λ x. x.area.records) is ∙ ap (λ (s : List ℕ). noted slot (record_of v (newest s) w.block) new.area.records) on_new ∙ ap (λ (rs : List Record). noted slot (record_of v (newest (images_on c v)) w.block) rs) copied.area_on.records in
+        ap (λ x. x.area.records) is ∙ ap (λ (s : List ℕ). noted slot (record_of v (newest s) w.block) new.area.records) on_new
+        ∙ ap (λ (rs : List Record). noted slot (record_of v (newest (images_on c v)) w.block) rs) copied.area_on.records in
         record {
           kept = kept told size count lending devices v d f c last at (record {
             tells = ap is_some told_is ∙ put_tells w.block w.bytes (told d);
@@ -112,15 +125,18 @@ module _ {D : Type 0} (told : D → Option (List (List ℕ))) (size count : D �
 
 -- ## the whole write
 
-kept_gone : {D : Type 0} (told : D → Option (List (List ℕ))) (size count : D → ℕ) (lending : D → Bool) (m : ℕ) (old new : GroupValue D) → IsKept told size count lending (gone_group m old) new → IsKept told size count lending old new
+kept_gone : {D : Type 0} (told : D → Option (List (List ℕ))) (size count : D → ℕ) (lending : D → Bool) (m : ℕ) (old new : GroupValue D) → IsKept told size count lending (gone_group m old) new
+    → IsKept told size count lending old new
 kept_gone told size count lending m old new k = record { volumes = k.volumes; slots = k.slots ∙ length-map old.area.records (gone_row m); area = k.area; devices = k.devices; each = k.each }
 
-rose_gone : {D : Type 0} (count : D → ℕ) (v b m : ℕ) (old new : GroupValue D) (cause : Cause) → b < blocks_at old v → DeviceRose count v (gone_group m old) new cause → HasCauseAt count v b old new cause
+rose_gone : {D : Type 0} (count : D → ℕ) (v b m : ℕ) (old new : GroupValue D) (cause : Cause) → b < blocks_at old v → DeviceRose count v (gone_group m old) new cause
+    → HasCauseAt count v b old new cause
 rose_gone count v b m old new NoSuchBlock low rose = absurd rose
 rose_gone count v b m old new Volume low rose = (low, record { before = rose.before; now = rose.now; was = rose.was; is = rose.is; rose = rose.rose; devices = rose.devices; area = rose.area })
 rose_gone count v b m old new Area low rose = (low, record { rose = rose.rose; devices = rose.devices })
 
-module _ {D : Type 0} (told : D → Option (List (List ℕ))) (size count : D → ℕ) (lending : D → Bool) (old mid new : GroupValue D) (v : ℕ) (w : Write) (m : ℕ) (low : w.block < blocks_at old v) (gone : mid ≡ gone_group m old)
+module _ {D : Type 0} (told : D → Option (List (List ℕ))) (size count : D → ℕ) (lending : D → Bool) (old mid new : GroupValue D) (v : ℕ) (w : Write) (m : ℕ) (low : w.block < blocks_at old v)
+    (gone : mid ≡ gone_group m old)
     (evicted : (hs : List History) → StandsFor told old hs → IsEvicted old v w.block hs m) (room : (hs : List History) → StandsFor told old hs → StandsFor told mid (made_room old m hs)) where
   pub is_written : IsPut told size count lending mid new v w → IsWritten told size count lending old new v w m
   is_written done = record {
@@ -141,7 +157,8 @@ module _ {D : Type 0} (told : D → Option (List (List ℕ))) (size count : D �
   }
 
 -- there is no such block
-pub no_block : {D : Type 0} (told : D → Option (List (List ℕ))) (size count : D → ℕ) (lending : D → Bool) (g : GroupValue D) (v b : ℕ) → blocks_at g v ≤ b → IsUnwritten told size count lending g g v b (record { cause = NoSuchBlock; evicted_up_to = 0 })
+pub no_block : {D : Type 0} (told : D → Option (List (List ℕ))) (size count : D → ℕ) (lending : D → Bool) (g : GroupValue D) (v b : ℕ) → blocks_at g v ≤ b
+    → IsUnwritten told size count lending g g v b (record { cause = NoSuchBlock; evicted_up_to = 0 })
 no_block told size count lending g v b past = record {
   cause = (past, refl);
   kept = kept_itself told size count lending g;
@@ -152,7 +169,8 @@ no_block told size count lending g v b past = record {
 
 -- ## what a copy leaves
 
-pub lacks_still : {D : Type 0} (c new : CopiesValue D) (v b : ℕ) → new.area.records ≡ c.area.records → new.images ≡ c.images → lacks_copy c.area.records v (images_on c v) b ≡ true → lacks_copy new.area.records v (images_on new v) b ≡ true
+pub lacks_still : {D : Type 0} (c new : CopiesValue D) (v b : ℕ) → new.area.records ≡ c.area.records → new.images ≡ c.images → lacks_copy c.area.records v (images_on c v) b ≡ true
+    → lacks_copy new.area.records v (images_on new v) b ≡ true
 lacks_still c new v b records images lacks =
     ap (λ (rs : List Record). lacks_copy rs v (sets_in (slice_get new.images v)) b) records ∙ ap (λ (i : List (List ℕ)). lacks_copy c.area.records v (sets_in (slice_get i v)) b) images ∙ lacks
 
@@ -165,6 +183,7 @@ pub and_rest : (a b : Bool) → a ≡ true → (a && b) ≡ false → b ≡ fals
 and_rest true b e h = h
 and_rest false b e h = absurd (false≢true e)
 
-pub put_size : {D : Type 0} (told : D → Option (List (List ℕ))) (size count : D → ℕ) (lending : D → Bool) (d e : D) (block : ℕ) (bytes : List ℕ) (r : Result Unit Cause) → IsPutOn told size count lending d e block bytes r → size e ≡ size d
+pub put_size : {D : Type 0} (told : D → Option (List (List ℕ))) (size count : D → ℕ) (lending : D → Bool) (d e : D) (block : ℕ) (bytes : List ℕ) (r : Result Unit Cause)
+    → IsPutOn told size count lending d e block bytes r → size e ≡ size d
 put_size told size count lending d e block bytes (Ok done) on = on.0.size_is
 put_size told size count lending d e block bytes (Err cause) failed = failed.0.size_is

@@ -18,21 +18,24 @@ use Rattle.cow_volume.proofs.Group.{same_number, other_number, slice_get-set_sam
 pub same_itself : {D : Type 0} (told : D → Option (List (List ℕ))) (size count : D → ℕ) (lending : D → Bool) (d : D) → IsSameDevice told size count lending d d
 same_itself told size count lending d = record { tells = refl; size_is = refl; lends = refl; later = omega arith }
 
-pub same_further : {D : Type 0} (told : D → Option (List (List ℕ))) (size count : D → ℕ) (lending : D → Bool) (d e f : D) → IsSameDevice told size count lending d e → IsSameDevice told size count lending e f → IsSameDevice told size count lending d f
+pub same_further : {D : Type 0} (told : D → Option (List (List ℕ))) (size count : D → ℕ) (lending : D → Bool) (d e f : D) → IsSameDevice told size count lending d e
+    → IsSameDevice told size count lending e f → IsSameDevice told size count lending d f
 same_further told size count lending d e f first second =
     let one = first.later in
     let two = second.later in
     record { tells = second.tells ∙ first.tells; size_is = second.size_is ∙ first.size_is; lends = second.lends ∙ first.lends; later = omega arith }
 
 -- each device is the same one after a call on one of them
-pub each_same : {D : Type 0} (told : D → Option (List (List ℕ))) (size count : D → ℕ) (lending : D → Bool) (v : ℕ) (old new : List D) (failed : Bool) → IsCalled told size count lending v old new failed
+pub each_same : {D : Type 0} (told : D → Option (List (List ℕ))) (size count : D → ℕ) (lending : D → Bool) (v : ℕ) (old new : List D) (failed : Bool)
+    → IsCalled told size count lending v old new failed
     → (u : ℕ) (d e : D) → slice_get old u ≡ Some d → slice_get new u ≡ Some e → IsSameDevice told size count lending d e
 each_same {D = D} told size count lending v old new failed call u d e was is = by_number (u == v) refl where
   by_number : (t : Bool) → (u == v) ≡ t → IsSameDevice told size count lending d e
   by_number true f =
       let n = same_number u v f in
       let one : call.before ≡ d = same_Some call.before d (sym call.was ∙ ap (slice_get old) (sym n) ∙ was) in
-      let two : call.after ≡ e = same_Some call.after e (sym (slice_get-set_same old v call.before call.after call.was) ∙ ap (slice_get (slice_set old v call.after)) (sym n) ∙ ap (λ (ds : List D). slice_get ds u) (sym call.devices) ∙ is) in
+      let two : call.after ≡ e = same_Some call.after e
+      (sym (slice_get-set_same old v call.before call.after call.was) ∙ ap (slice_get (slice_set old v call.after)) (sym n) ∙ ap (λ (ds : List D). slice_get ds u) (sym call.devices) ∙ is) in
       subst (λ (x : D). IsSameDevice told size count lending x e) one (subst (λ (x : D). IsSameDevice told size count lending call.before x) two call.same)
   by_number false f =
       let n = other_number u v f in
@@ -45,11 +48,13 @@ map_set_told f (x ∷ xs) zero before after at e = let same : x ≡ before = cc 
 map_set_told f (x ∷ xs) (suc v) before after at e = ap (λ ys. f x ∷ ys) (map_set_told f xs v before after at e)
 
 -- what a list of devices tells is as before where the device that was called tells the same
-pub all_told : {D : Type 0} (told : D → Option (List (List ℕ))) (size count : D → ℕ) (lending : D → Bool) (v : ℕ) (old new : List D) (failed : Bool) (call : IsCalled told size count lending v old new failed) → told call.after ≡ told call.before → map told new ≡ map told old
+pub all_told : {D : Type 0} (told : D → Option (List (List ℕ))) (size count : D → ℕ) (lending : D → Bool) (v : ℕ) (old new : List D) (failed : Bool)
+    (call : IsCalled told size count lending v old new failed) → told call.after ≡ told call.before → map told new ≡ map told old
 all_told told size count lending v old new failed call e = ap (map told) call.devices ∙ map_set_told told old v call.before call.after call.was e
 
 -- the count of the device of a volume rose where the call failed
-pub volume_rose_if : {D : Type 0} (told : D → Option (List (List ℕ))) (size count : D → ℕ) (lending : D → Bool) (v : ℕ) (old new : List D) (failed : Bool) (g h : CopiesValue D) → IsCalled told size count lending v old new failed → failed ≡ true → count h.area.device ≡ count g.area.device → VolumeRose count v (group_of old g) (group_of new h)
+pub volume_rose_if : {D : Type 0} (told : D → Option (List (List ℕ))) (size count : D → ℕ) (lending : D → Bool) (v : ℕ) (old new : List D) (failed : Bool) (g h : CopiesValue D)
+    → IsCalled told size count lending v old new failed → failed ≡ true → count h.area.device ≡ count g.area.device → VolumeRose count v (group_of old g) (group_of new h)
 volume_rose_if {D = D} told size count lending v old new failed g h call e area = record {
   before = call.before;
   now = call.after;
@@ -60,7 +65,8 @@ volume_rose_if {D = D} told size count lending v old new failed g h call e area 
   area = area;
 }
 
-pub volume_rose : {D : Type 0} (told : D → Option (List (List ℕ))) (size count : D → ℕ) (lending : D → Bool) (v : ℕ) (old new : List D) (g h : CopiesValue D) → IsCalled told size count lending v old new true → count h.area.device ≡ count g.area.device → VolumeRose count v (group_of old g) (group_of new h)
+pub volume_rose : {D : Type 0} (told : D → Option (List (List ℕ))) (size count : D → ℕ) (lending : D → Bool) (v : ℕ) (old new : List D) (g h : CopiesValue D)
+    → IsCalled told size count lending v old new true → count h.area.device ≡ count g.area.device → VolumeRose count v (group_of old g) (group_of new h)
 volume_rose told size count lending v old new g h call area = volume_rose_if told size count lending v old new true g h call refl area
 
 -- ## the group
@@ -79,7 +85,8 @@ pub quiet_itself : {D : Type 0} (told : D → Option (List (List ℕ))) (size co
 quiet_itself told size count lending g = record { kept = kept_itself told size count lending g; records = refl; images = refl; blocks = refl; slots = refl }
 
 -- one call after another
-pub kept_further : {D : Type 0} (told : D → Option (List (List ℕ))) (size count : D → ℕ) (lending : D → Bool) (a b c : GroupValue D) → IsKept told size count lending a b → IsKept told size count lending b c → IsKept told size count lending a c
+pub kept_further : {D : Type 0} (told : D → Option (List (List ℕ))) (size count : D → ℕ) (lending : D → Bool) (a b c : GroupValue D) → IsKept told size count lending a b
+    → IsKept told size count lending b c → IsKept told size count lending a c
 kept_further {D = D} told size count lending a b c first second = record {
   volumes = second.volumes ∙ first.volumes;
   slots = second.slots ∙ first.slots;
@@ -93,7 +100,8 @@ kept_further {D = D} told size count lending a b c first second = record {
 }
 
 -- one quiet call after another
-pub quiet_further : {D : Type 0} (told : D → Option (List (List ℕ))) (size count : D → ℕ) (lending : D → Bool) (a b c : GroupValue D) → IsQuiet told size count lending a b → IsQuiet told size count lending b c → IsQuiet told size count lending a c
+pub quiet_further : {D : Type 0} (told : D → Option (List (List ℕ))) (size count : D → ℕ) (lending : D → Bool) (a b c : GroupValue D) → IsQuiet told size count lending a b
+    → IsQuiet told size count lending b c → IsQuiet told size count lending a c
 quiet_further told size count lending a b c first second = record {
   kept = kept_further told size count lending a b c first.kept second.kept;
   records = second.records ∙ first.records;
@@ -103,7 +111,8 @@ quiet_further told size count lending a b c first second = record {
 }
 
 -- a device was called
-pub kept_called : {D : Type 0} (told : D → Option (List (List ℕ))) (size count : D → ℕ) (lending : D → Bool) (v : ℕ) (old new : List D) (failed : Bool) (c : CopiesValue D) → IsCalled told size count lending v old new failed → IsKept told size count lending (group_of old c) (group_of new c)
+pub kept_called : {D : Type 0} (told : D → Option (List (List ℕ))) (size count : D → ℕ) (lending : D → Bool) (v : ℕ) (old new : List D) (failed : Bool) (c : CopiesValue D)
+    → IsCalled told size count lending v old new failed → IsKept told size count lending (group_of old c) (group_of new c)
 kept_called told size count lending v old new failed c call = record {
   volumes = refl;
   slots = refl;
@@ -112,7 +121,8 @@ kept_called told size count lending v old new failed c call = record {
   each = each_same told size count lending v old new failed call;
 }
 
-pub quiet_called : {D : Type 0} (told : D → Option (List (List ℕ))) (size count : D → ℕ) (lending : D → Bool) (v : ℕ) (old new : List D) (failed : Bool) (c : CopiesValue D) (call : IsCalled told size count lending v old new failed) → told call.after ≡ told call.before → IsQuiet told size count lending (group_of old c) (group_of new c)
+pub quiet_called : {D : Type 0} (told : D → Option (List (List ℕ))) (size count : D → ℕ) (lending : D → Bool) (v : ℕ) (old new : List D) (failed : Bool) (c : CopiesValue D)
+    (call : IsCalled told size count lending v old new failed) → told call.after ≡ told call.before → IsQuiet told size count lending (group_of old c) (group_of new c)
 quiet_called told size count lending v old new failed c call e = record {
   kept = kept_called told size count lending v old new failed c call;
   records = refl;
@@ -122,7 +132,8 @@ quiet_called told size count lending v old new failed c call e = record {
 }
 
 -- the area's device was called
-pub kept_area : {D : Type 0} (told : D → Option (List (List ℕ))) (size count : D → ℕ) (lending : D → Bool) (devices : List D) (old new : CopiesValue D) → KeepsTable size lending old.area new.area → is_some (told new.area.device) ≡ is_some (told old.area.device) → count old.area.device ≤ count new.area.device
+pub kept_area : {D : Type 0} (told : D → Option (List (List ℕ))) (size count : D → ℕ) (lending : D → Bool) (devices : List D) (old new : CopiesValue D) → KeepsTable size lending old.area new.area
+    → is_some (told new.area.device) ≡ is_some (told old.area.device) → count old.area.device ≤ count new.area.device
     → IsKept told size count lending (group_of devices old) (group_of devices new)
 kept_area {D = D} told size count lending devices old new table tells later = record {
   volumes = table.volumes;
@@ -132,7 +143,8 @@ kept_area {D = D} told size count lending devices old new table tells later = re
   each = λ v d e was is. let same : d ≡ e = same_Some d e (sym was ∙ is) in subst (λ (x : D). IsSameDevice told size count lending d x) same (same_itself told size count lending d);
 }
 
-pub quiet_area : {D : Type 0} (told : D → Option (List (List ℕ))) (size count : D → ℕ) (lending : D → Bool) (devices : List D) (old new : CopiesValue D) → KeepsTable size lending old.area new.area → new.images ≡ old.images → told new.area.device ≡ told old.area.device → count old.area.device ≤ count new.area.device
+pub quiet_area : {D : Type 0} (told : D → Option (List (List ℕ))) (size count : D → ℕ) (lending : D → Bool) (devices : List D) (old new : CopiesValue D) → KeepsTable size lending old.area new.area
+    → new.images ≡ old.images → told new.area.device ≡ told old.area.device → count old.area.device ≤ count new.area.device
     → IsQuiet told size count lending (group_of devices old) (group_of devices new)
 quiet_area told size count lending devices old new table images same later = record {
   kept = kept_area told size count lending devices old new table (ap is_some same) later;
@@ -143,7 +155,8 @@ quiet_area told size count lending devices old new table images same later = rec
 }
 
 -- the records changed in memory, and no device was called
-pub kept_records : {D : Type 0} (told : D → Option (List (List ℕ))) (size count : D → ℕ) (lending : D → Bool) (devices : List D) (old new : CopiesValue D) → new.area.volumes ≡ old.area.volumes → length new.area.records ≡ length old.area.records → new.area.device ≡ old.area.device
+pub kept_records : {D : Type 0} (told : D → Option (List (List ℕ))) (size count : D → ℕ) (lending : D → Bool) (devices : List D) (old new : CopiesValue D) → new.area.volumes ≡ old.area.volumes
+    → length new.area.records ≡ length old.area.records → new.area.device ≡ old.area.device
     → IsKept told size count lending (group_of devices old) (group_of devices new)
 kept_records {D = D} told size count lending devices old new volumes slots device = record {
   volumes = volumes;
@@ -154,7 +167,8 @@ kept_records {D = D} told size count lending devices old new volumes slots devic
 }
 
 -- the device that was called
-pub called_is : {D : Type 0} (told : D → Option (List (List ℕ))) (size count : D → ℕ) (lending : D → Bool) (v : ℕ) (old new : List D) (failed : Bool) (d : D) (call : IsCalled told size count lending v old new failed) → slice_get new v ≡ Some d → call.after ≡ d
+pub called_is : {D : Type 0} (told : D → Option (List (List ℕ))) (size count : D → ℕ) (lending : D → Bool) (v : ℕ) (old new : List D) (failed : Bool) (d : D)
+    (call : IsCalled told size count lending v old new failed) → slice_get new v ≡ Some d → call.after ≡ d
 called_is {D = D} told size count lending v old new failed d call is =
     same_Some call.after d (sym (slice_get-set_same old v call.before call.after call.was) ∙ ap (λ (ds : List D). slice_get ds v) (sym call.devices) ∙ is)
 
@@ -167,7 +181,8 @@ pub unfailed_further : {D : Type 0} (count : D → ℕ) (a b c : GroupValue D) �
 unfailed_further count a b c first second = record { devices = second.devices ∙ first.devices; area = second.area ∙ first.area }
 
 -- the device of a volume was called, and did not fail
-pub unfailed_called : {D : Type 0} (told : D → Option (List (List ℕ))) (size count : D → ℕ) (lending : D → Bool) (v : ℕ) (old new : List D) (failed : Bool) (g h : CopiesValue D) → IsCalled told size count lending v old new failed → failed ≡ false → count h.area.device ≡ count g.area.device
+pub unfailed_called : {D : Type 0} (told : D → Option (List (List ℕ))) (size count : D → ℕ) (lending : D → Bool) (v : ℕ) (old new : List D) (failed : Bool) (g h : CopiesValue D)
+    → IsCalled told size count lending v old new failed → failed ≡ false → count h.area.device ≡ count g.area.device
     → IsUnfailed count (group_of old g) (group_of new h)
 unfailed_called told size count lending v old new failed g h call e area = record {
   devices = ap (map count) call.devices ∙ map_set_told count old v call.before call.after call.was (call.unfailed e);
@@ -184,7 +199,8 @@ maps_same f (x ∷ xs) (y ∷ ys) long each =
     let rest : map f ys ≡ map f xs = maps_same f xs ys (omega arith) (λ v d e was is. each (suc v) d e was is) in
     ap (λ z. z ∷ map f ys) first ∙ ap (λ zs. f x ∷ zs) rest
 
-pub sizes_kept : {D : Type 0} (told : D → Option (List (List ℕ))) (size count : D → ℕ) (lending : D → Bool) (old new : GroupValue D) → IsKept told size count lending old new → map size old.devices ≡ old.area.volumes → map size new.devices ≡ new.area.volumes
+pub sizes_kept : {D : Type 0} (told : D → Option (List (List ℕ))) (size count : D → ℕ) (lending : D → Bool) (old new : GroupValue D) → IsKept told size count lending old new
+    → map size old.devices ≡ old.area.volumes → map size new.devices ≡ new.area.volumes
 sizes_kept told size count lending old new kept sizes = maps_same size old.devices new.devices kept.devices (λ v d e was is. (kept.each v d e was is).size_is) ∙ sizes ∙ sym kept.volumes
 
 -- ## what it stands for
@@ -198,14 +214,16 @@ told_before f xs ys v e same at =
       from (Some d) g h = (d, g, same_Some (f d) (f e) h)
 
 -- a group of which only counts of devices changed stands for what it stood for
-pub quiet_stands : {D : Type 0} (told : D → Option (List (List ℕ))) (size count : D → ℕ) (lending : D → Bool) (old new : GroupValue D) (hs : List History) → IsQuiet told size count lending old new → StandsFor told old hs → StandsFor told new hs
+pub quiet_stands : {D : Type 0} (told : D → Option (List (List ℕ))) (size count : D → ℕ) (lending : D → Bool) (old new : GroupValue D) (hs : List History) → IsQuiet told size count lending old new
+    → StandsFor told old hs → StandsFor told new hs
 quiet_stands told size count lending old new hs quiet stands = record {
   devices = quiet.kept.devices ∙ stands.devices ∙ ap length (sym quiet.kept.volumes);
   images = ap length quiet.images ∙ stands.images ∙ ap length (sym quiet.kept.volumes);
   histories = stands.histories ∙ ap length (sym quiet.kept.volumes);
   each = λ v n e sets h blocks device images history.
       let was = told_before told old.devices new.devices v e quiet.blocks device in
-      let volume = stands.each v n was.0 sets h (ap (λ (ns : List ℕ). slice_get ns v) (sym quiet.kept.volumes) ∙ blocks) was.1 (ap (λ (ss : List (List ℕ)). slice_get ss v) (sym quiet.images) ∙ images) history in
+      let volume = stands.each v n was.0 sets h (ap (λ (ns : List ℕ). slice_get ns v) (sym quiet.kept.volumes) ∙ blocks) was.1
+      (ap (λ (ss : List (List ℕ)). slice_get ss v) (sym quiet.images) ∙ images) history in
       subst (λ (t : Option (List (List ℕ))). IsVolume (told_in (told new.area.device) t) (told new.area.device) new.area.records v n sets h) was.2
       (subst (λ (t : Option (List (List ℕ))). IsVolume (told_in t (told was.0)) t new.area.records v n sets h) (sym quiet.slots)
       (subst (λ (rs : List Record). IsVolume (told_in (told old.area.device) (told was.0)) (told old.area.device) rs v n sets h) (sym quiet.records) volume));

@@ -1,5 +1,6 @@
 -- A group that is taken up again stands for the histories for which its parts stand; and a synced group leaves such parts.
-use Rattle.std.proofs.Common.{◌≡◌, ◌<◌, ℕ, zero, suc, ◌+◌, List, [], ◌∷◌, length, map, get_or, refl, ap, sym, subst, ◌∙◌, arith, Bool, true, Option, Some, None, is_some, inl, inr, IsPermutation, Contains}
+use Rattle.std.proofs.Common.{◌≡◌, ◌<◌, ℕ, zero, suc, ◌+◌, List, [], ◌∷◌, length, map, get_or, refl, ap, sym, subst, ◌∙◌, arith, Bool, true, Option, Some, None, is_some, inl, inr, IsPermutation}
+use Rattle.std.proofs.Common.{Contains}
 use Rattle.std.specs.Prelude.{slice_get, slice_index_or, IfSome, Ok}
 use Rattle.std.proofs.lemmas.List.{length-map}
 use Rattle.std.proofs.lemmas.List.Sorted.{Contains-permutation, IsPermutation-sym}
@@ -45,7 +46,8 @@ slot_in blocks records slot = slice_index_or blocks (place_of_slot (length recor
 record ItsCopy (blocks : List (List ℕ)) (records : List Record) (v n : ℕ) (h : History) (slot set b : ℕ) : Type 0 where
   has : Has (held (record_of v set b) (slot_in blocks records slot)) (copies_of v n h.writes h.images)
 
-its_copy : (volumes : List ℕ) (hs : List History) (blocks : List (List ℕ)) (records : List Record) (v n : ℕ) (h : History) (slot set b : ℕ) → IsPermutation (copies_from 0 records (slot_in blocks records)) (copies (placed volumes) hs)
+its_copy : (volumes : List ℕ) (hs : List History) (blocks : List (List ℕ)) (records : List Record) (v n : ℕ) (h : History) (slot set b : ℕ)
+    → IsPermutation (copies_from 0 records (slot_in blocks records)) (copies (placed volumes) hs)
     → slice_get volumes v ≡ Some n → slice_get hs v ≡ Some h → 0 < set → slice_get records slot ≡ Some (record_of v set b) → ItsCopy blocks records v n h slot set b
 its_copy volumes hs blocks records v n h slot set b same at is above row =
     let bytes : ℕ → List ℕ = slot_in blocks records in
@@ -59,12 +61,16 @@ its_copy volumes hs blocks records v n h slot set b same at is above row =
     let blocks_are : of.blocks ≡ n = same_Some of.blocks n (sym of.blocks_is ∙ ap (slice_get volumes) place ∙ at) in
     let history_is : of.history ≡ h = same_Some of.history h (sym of.history_is ∙ ap (slice_get hs) place ∙ is) in
     let P : History → Type 0 = λ x. Has c (copies_of v n x.writes x.images) in
-    record { has = subst P history_is (subst (λ k. Has c (copies_of v k of.history.writes of.history.images)) blocks_are (subst (λ u. Has c (copies_of u of.blocks of.history.writes of.history.images)) volume of.has)) }
+    record {
+      has = subst P history_is
+          (subst (λ k. Has c (copies_of v k of.history.writes of.history.images)) blocks_are (subst (λ u. Has c (copies_of u of.blocks of.history.writes of.history.images)) volume of.has));
+    }
 
 get_of : (blocks : List (List ℕ)) (place : ℕ) → place < length blocks → slice_get blocks place ≡ Some (slice_index_or blocks place [])
 get_of blocks place l = let at = slice_get_inside blocks place l in at.1 ∙ ap (λ (x : List ℕ). Some x) (sym (get_or_from_slice_get blocks place at.0 [] at.1))
 
-kept_volume : (told : Option (List (List ℕ))) (volumes : List ℕ) (hs : List History) (blocks : List (List ℕ)) (records : List Record) (v n : ℕ) (sets : List ℕ) (h : History) → IsVolumeKept told n sets h → IsPermutation (copies_from 0 records (slot_in blocks records)) (copies (placed volumes) hs)
+kept_volume : (told : Option (List (List ℕ))) (volumes : List ℕ) (hs : List History) (blocks : List (List ℕ)) (records : List Record) (v n : ℕ) (sets : List ℕ) (h : History)
+    → IsVolumeKept told n sets h → IsPermutation (copies_from 0 records (slot_in blocks records)) (copies (placed volumes) hs)
     → length blocks ≡ blocks_for (length records) → slice_get volumes v ≡ Some n → slice_get hs v ≡ Some h → IsVolume told (Some blocks) records v n sets h
 kept_volume told volumes hs blocks records v n sets h kept same long at is = record {
   blocks = kept.blocks;
@@ -81,7 +87,9 @@ kept_volume told volumes hs blocks records v n sets h kept same long at is = rec
       let c = copy_of v h.writes o.image b in
       let zero_more : v ≡ 0 + v = omega arith in
       let there = has-group-copy 0 volumes hs v n h c at is (subst (λ u. Has c (copies_of u n h.writes h.images)) zero_more (has-copy v n h.writes h.images o.image o.newer b o.stands low since)) in
-      let here = is-held 0 records (slot_in blocks records) c (moved c (copies (placed volumes) hs) (copies_from 0 records (slot_in blocks records)) (IsPermutation-sym (copies_from 0 records (slot_in blocks records)) (copies (placed volumes) hs) same) there) in
+      let here = is-held 0 records (slot_in blocks records) c
+      (moved c (copies (placed volumes) hs) (copies_from 0 records (slot_in blocks records))
+      (IsPermutation-sym (copies_from 0 records (slot_in blocks records)) (copies (placed volumes) hs) same) there) in
       let row_is : here.row ≡ record_of v set b = ap key here.is ∙ ap (λ s. record_of v s b) o.set_is in
       (here.at, here.row_is ∙ ap (λ (r : Record). Some r) row_is);
   copied = λ slot set b p row point tells.
@@ -93,7 +101,8 @@ kept_volume told volumes hs blocks records v n sets h kept same long at is = rec
       let of = is-copy v n h.writes h.images (held (record_of v set b) (slot_in blocks records slot)) its.has in
       let set_is : of.image.set ≡ set = ap (λ (x : Copy). x.set) of.is in
       let bytes_are : content h.writes of.image.point b ≡ slot_in blocks records slot = ap (λ (x : Copy). x.bytes) of.is in
-      let point_is : of.image.point ≡ p = same_Some of.image.point p (sym (point_of (length h.writes) h.images of.image of.newer kept.images.in_time of.stands) ∙ ap (λ s. point_in s h.images) set_is ∙ point) in
+      let point_is : of.image.point ≡ p = same_Some of.image.point p
+      (sym (point_of (length h.writes) h.images of.image of.newer kept.images.in_time of.stands) ∙ ap (λ s. point_in s h.images) set_is ∙ point) in
       let inside = slice_get_within records slot (record_of v set b) row in
       get_of blocks (place_of_slot (length records) slot) (omega arith) ∙ ap (λ (x : List ℕ). Some x) (sym bytes_are ∙ ap (λ k. content h.writes k b) point_is);
 }
@@ -104,8 +113,11 @@ none_tells : (t : Option (List (List ℕ))) → t ≡ None → is_some t ≡ tru
 none_tells None e is = cc
 none_tells (Some blocks) e is = cc
 
-kept_told : {D : Type 0} (told : D → Option (List (List ℕ))) (devices : List D) (area : AreaValue D) (images : List (List ℕ)) (hs : List History) (t : Option (List (List ℕ))) → told area.device ≡ t → AreKept told devices area images hs → length devices ≡ length area.volumes → length images ≡ length area.volumes
-    → IfSome t (λ blocks. length blocks ≡ blocks_for (length area.records)) → IfSome t (λ blocks. IsPermutation (copies_from 0 area.records (slot_in blocks area.records)) (copies (placed area.volumes) hs)) → StandsFor told (record { devices = devices; area = area; images = images }) hs
+kept_told : {D : Type 0} (told : D → Option (List (List ℕ))) (devices : List D) (area : AreaValue D) (images : List (List ℕ)) (hs : List History) (t : Option (List (List ℕ))) → told area.device ≡ t
+    → AreKept told devices area images hs → length devices ≡ length area.volumes → length images ≡ length area.volumes
+    → IfSome t (λ blocks. length blocks ≡ blocks_for (length area.records))
+    → IfSome t (λ blocks. IsPermutation (copies_from 0 area.records (slot_in blocks area.records)) (copies (placed area.volumes) hs))
+    → StandsFor told (record { devices = devices; area = area; images = images }) hs
 kept_told told devices area images hs None e kept many lists long held = absurd (none_tells (told area.device) e kept.tells)
 kept_told told devices area images hs (Some blocks) e kept many lists long held = record {
   devices = many;
@@ -117,7 +129,8 @@ kept_told told devices area images hs (Some blocks) e kept many lists long held 
 }
 
 -- the parts stand for histories, and so does the group
-pub kept_stands : {D : Type 0} (told : D → Option (List (List ℕ))) (size : D → ℕ) (devices : List D) (area : AreaValue D) (images : List (List ℕ)) (hs : List History) → AreKept told devices area images hs → map size devices ≡ area.volumes → length images ≡ length area.volumes
+pub kept_stands : {D : Type 0} (told : D → Option (List (List ℕ))) (size : D → ℕ) (devices : List D) (area : AreaValue D) (images : List (List ℕ)) (hs : List History)
+    → AreKept told devices area images hs → map size devices ≡ area.volumes → length images ≡ length area.volumes
     → size area.device ≡ blocks_for (length area.records) → IfSome (told area.device) (AreBlocks (size area.device)) → StandsFor told (record { devices = devices; area = area; images = images }) hs
 kept_stands told size devices area images hs kept fits lists long whole =
     kept_told told devices area images hs (told area.device) refl kept (sym (length-map devices size) ∙ ap length fits) lists (long_if (told area.device) whole) kept.held where
@@ -134,15 +147,18 @@ tells_both : (slots told : Option (List (List ℕ))) → is_some slots ≡ true 
 tells_both None told e = cc
 tells_both (Some blocks) told e = refl
 
-pub synced_kept : {D : Type 0} (told : D → Option (List (List ℕ))) (size count : D → ℕ) (lending : D → Bool) (old new : GroupValue D) (area : AreaValue D) (hs : List History) → IsSync told size count lending old new (Ok tt) → StandsFor told old hs → AllTell told old.devices → is_some (told old.area.device) ≡ true
-    → area.volumes ≡ new.area.volumes → told area.device ≡ told new.area.device → ((cs : List Copy) → AreStored (told new.area.device) cs → AreHeld (told area.device) area.records cs) → AreKept told new.devices area new.images hs
+pub synced_kept : {D : Type 0} (told : D → Option (List (List ℕ))) (size count : D → ℕ) (lending : D → Bool) (old new : GroupValue D) (area : AreaValue D) (hs : List History)
+    → IsSync told size count lending old new (Ok tt) → StandsFor told old hs → AllTell told old.devices → is_some (told old.area.device) ≡ true
+    → area.volumes ≡ new.area.volumes → told area.device ≡ told new.area.device → ((cs : List Copy) → AreStored (told new.area.device) cs → AreHeld (told area.device) area.records cs)
+    → AreKept told new.devices area new.images hs
 synced_kept {D = D} told size count lending old new area hs sync stands all tells volumes same loaded =
     let kept = sync.0.kept in
     let volumes_are : area.volumes ≡ old.area.volumes = volumes ∙ kept.volumes in
     record {
       histories = stands.histories ∙ ap length (sym volumes_are);
       each = λ v n d sets h at device row is.
-          let volume = stands.each v n d sets h (ap (λ (ns : List ℕ). slice_get ns v) (sym volumes_are) ∙ at) (ap (λ (ds : List D). slice_get ds v) (sym sync.0.devices) ∙ device) (ap (λ (ss : List (List ℕ)). slice_get ss v) (sym sync.0.images) ∙ row) is in
+          let volume = stands.each v n d sets h (ap (λ (ns : List ℕ). slice_get ns v) (sym volumes_are) ∙ at) (ap (λ (ds : List D). slice_get ds v) (sym sync.0.devices) ∙ device)
+          (ap (λ (ss : List (List ℕ)). slice_get ss v) (sym sync.0.images) ∙ row) is in
           volume_kept (told d) (told old.area.device) old.area.records v n sets h
           (subst (λ (t : Option (List (List ℕ))). IsVolume t (told old.area.device) old.area.records v n sets h) (tells_both (told old.area.device) (told d) tells) volume);
       tells = ap is_some same ∙ kept.area.tells ∙ tells;

@@ -39,6 +39,7 @@ pub mod GroupCounts
 pub mod CopiedOnce
 pub mod MixedRows
 pub mod TakingUp
+pub mod SomeHistory
 pub mod KeptParts
 pub mod OneVolume
 pub mod Listed

@@ -1,5 +1,6 @@
 -- The images of the sets up to one, listed set by set and in each volume by volume: what is added at a step, and how many there are.
-use Rattle.std.proofs.Common.{ℕ, zero, suc, ◌≡◌, ◌<◌, ◌≤◌, ◌+◌, ◌-◌, ◌*◌, Bool, true, false, ◌||◌, get_or, List, [], ◌∷◌, ◌++◌, length, drop, Option, Some, None, slice_get, refl, sym, ap, ◌∙◌, subst, arith, append_assoc, inl, inr}
+use Rattle.std.proofs.Common.{ℕ, zero, suc, ◌≡◌, ◌<◌, ◌≤◌, ◌+◌, ◌-◌, ◌*◌, Bool, true, false, ◌||◌, get_or, List, [], ◌∷◌, ◌++◌, length, drop, Option, Some, None, slice_get, refl, sym, ap, ◌∙◌, subst}
+use Rattle.std.proofs.Common.{arith, append_assoc, inl, inr}
 use Rattle.std.specs.Prelude.{◌==◌, nat_lt, if◌then◌else◌, IfSome}
 use Rattle.std.specs.List.{flat_map, range_with_len}
 use Rattle.std.proofs.lemmas.Bool.{cases_lt}
@@ -37,7 +38,8 @@ one_more images n v first now inside has so_far =
     ∙ ap (λ (vs : List ℕ). now ++ evicted_of n vs) (sym (rest_is n v images true inside has))
     ∙ so_far
 
-pub none_more : (images : List (List ℕ)) (n v : ℕ) (first now : List Evicted) → v < length images → is_among n (sets_in (slice_get images v)) ≡ false → IsSoFar images n first now v → IsSoFar images n first now (v + 1)
+pub none_more : (images : List (List ℕ)) (n v : ℕ) (first now : List Evicted) → v < length images → is_among n (sets_in (slice_get images v)) ≡ false → IsSoFar images n first now v
+    → IsSoFar images n first now (v + 1)
 none_more images n v first now inside has so_far = ap (λ (vs : List ℕ). now ++ evicted_of n vs) (sym (rest_is n v images false inside has)) ∙ so_far
 
 append_none : {X : Type 0} (xs : List X) → xs ++ [] ≡ xs
@@ -112,7 +114,8 @@ all_above n [] above = refl
 all_above n (s ∷ sets) above = not_among n s sets (apart_above s n (above 0 (omega arith))) (all_above n sets (λ i l. above (suc i) (omega arith)))
 
 -- no set between is among sets that rise
-none_between : (above n : ℕ) (sets : List ℕ) → ((i j : ℕ) → i < j → j < length sets → get_or sets i 0 < get_or sets j 0) → above < n → IfSome (first_above above sets) (λ s. n < s) → is_among n sets ≡ false
+none_between : (above n : ℕ) (sets : List ℕ) → ((i j : ℕ) → i < j → j < length sets → get_or sets i 0 < get_or sets j 0) → above < n → IfSome (first_above above sets) (λ s. n < s)
+    → is_among n sets ≡ false
 none_between above n [] rise l h = refl
 none_between above n (s ∷ sets) rise l h = by_test (nat_lt above s) refl h (none_between above n sets (λ i j low inside. rise (suc i) (suc j) (omega arith) (omega arith)) l) where
   far : (a b c : ℕ) → a < b → b < c → a < c
@@ -122,7 +125,8 @@ none_between above n (s ∷ sets) rise l h = by_test (nat_lt above s) refl h (no
   higher less zero inside = less
   higher less (suc i) inside = far n s (get_or sets i 0) less (rise 0 (suc i) (omega arith) inside)
 
-  by_test : (t : Bool) → nat_lt above s ≡ t → IfSome (if t then Some s else first_above above sets) (λ k. n < k) → (IfSome (first_above above sets) (λ k. n < k) → is_among n sets ≡ false) → is_among n (s ∷ sets) ≡ false
+  by_test : (t : Bool) → nat_lt above s ≡ t → IfSome (if t then Some s else first_above above sets) (λ k. n < k) → (IfSome (first_above above sets) (λ k. n < k) → is_among n sets ≡ false)
+      → is_among n (s ∷ sets) ≡ false
   by_test true e less rest = all_above n (s ∷ sets) (higher less)
   by_test false e less rest = let most = at_most above s e in not_among n s sets (apart_below s n (omega arith)) (rest less)
 
@@ -142,36 +146,38 @@ first_is above (s ∷ sets) = by_test (nat_lt above s) refl (first_is above sets
   by_test true e rest = grind (arith, nat_tests)
   by_test false e rest = rest
 
-pub next_more : (images : List (List ℕ)) (above up_to next v : ℕ) (sets : List ℕ) → slice_get images v ≡ Some sets → AreImages sets → IsNextBelow images above up_to next v → IsNextBelow images above up_to (lesser next (first_above above sets)) (v + 1)
-next_more images above up_to next v sets at are so_far = by_first (first_above above sets) (first_is above sets) (λ n high low. none_between above n sets (λ i j l inside. are.ascend i j 0 l inside) high low) where
-  last : (n u : ℕ) (xs : List ℕ) → is_among n sets ≡ false → u < v + 1 → slice_get images u ≡ Some xs → (u < v → is_among n xs ≡ false) → is_among n xs ≡ false
-  last n u xs none inside here before = elim (cases_lt u v) [
-    | inl low ↦ before low
-    | inr high ↦
-        let is : u ≡ v = omega arith in
-        let same : Some xs ≡ Some sets = sym here ∙ ap (slice_get images) is ∙ at in
-        let equal : xs ≡ sets = cc in
-        ap (is_among n) equal ∙ none
-  ]
+pub next_more : (images : List (List ℕ)) (above up_to next v : ℕ) (sets : List ℕ) → slice_get images v ≡ Some sets → AreImages sets → IsNextBelow images above up_to next v
+    → IsNextBelow images above up_to (lesser next (first_above above sets)) (v + 1)
+next_more images above up_to next v sets at are so_far = by_first (first_above above sets) (first_is above sets)
+    (λ n high low. none_between above n sets (λ i j l inside. are.ascend i j 0 l inside) high low) where
+      last : (n u : ℕ) (xs : List ℕ) → is_among n sets ≡ false → u < v + 1 → slice_get images u ≡ Some xs → (u < v → is_among n xs ≡ false) → is_among n xs ≡ false
+      last n u xs none inside here before = elim (cases_lt u v) [
+        | inl low ↦ before low
+        | inr high ↦
+            let is : u ≡ v = omega arith in
+            let same : Some xs ≡ Some sets = sym here ∙ ap (slice_get images) is ∙ at in
+            let equal : xs ≡ sets = cc in
+            ap (is_among n) equal ∙ none
+      ]
 
-  by_first : (o : Option ℕ) → IfSome o (λ s. above < s) → ((n : ℕ) → above < n → IfSome o (λ s. n < s) → is_among n sets ≡ false) → IsNextBelow images above up_to (lesser next o) (v + 1)
-  by_first None above_is absent = record {
-    higher = so_far.higher;
-    within = so_far.within;
-    none = λ n u xs high low inside here. last n u xs (absent n high tt) inside here (λ before. so_far.none n u xs high low before here);
-  }
-  by_first (Some s) above_is absent = elim (lesser_of next s) [
-    | inl less ↦ let below = less.0 in let most = so_far.within in subst (λ (m : ℕ). IsNextBelow images above up_to m (v + 1)) (sym less.1) (record {
-      higher = above_is;
-      within = omega arith;
-      none = λ n u xs high low inside here. last n u xs (absent n high low) inside here (λ before. so_far.none n u xs high (omega arith) before here);
-    })
-    | inr least ↦ let bound = least.0 in subst (λ (m : ℕ). IsNextBelow images above up_to m (v + 1)) (sym least.1) (record {
-      higher = so_far.higher;
-      within = so_far.within;
-      none = λ n u xs high low inside here. last n u xs (absent n high (omega arith)) inside here (λ before. so_far.none n u xs high low before here);
-    })
-  ]
+      by_first : (o : Option ℕ) → IfSome o (λ s. above < s) → ((n : ℕ) → above < n → IfSome o (λ s. n < s) → is_among n sets ≡ false) → IsNextBelow images above up_to (lesser next o) (v + 1)
+      by_first None above_is absent = record {
+        higher = so_far.higher;
+        within = so_far.within;
+        none = λ n u xs high low inside here. last n u xs (absent n high tt) inside here (λ before. so_far.none n u xs high low before here);
+      }
+      by_first (Some s) above_is absent = elim (lesser_of next s) [
+        | inl less ↦ let below = less.0 in let most = so_far.within in subst (λ (m : ℕ). IsNextBelow images above up_to m (v + 1)) (sym less.1) (record {
+          higher = above_is;
+          within = omega arith;
+          none = λ n u xs high low inside here. last n u xs (absent n high low) inside here (λ before. so_far.none n u xs high (omega arith) before here);
+        })
+        | inr least ↦ let bound = least.0 in subst (λ (m : ℕ). IsNextBelow images above up_to m (v + 1)) (sym least.1) (record {
+          higher = so_far.higher;
+          within = so_far.within;
+          none = λ n u xs high low inside here. last n u xs (absent n high (omega arith)) inside here (λ before. so_far.none n u xs high low before here);
+        })
+      ]
 
 none_hold : (n v : ℕ) (images : List (List ℕ)) → ((u : ℕ) (sets : List ℕ) → slice_get images u ≡ Some sets → is_among n sets ≡ false) → holders n v images ≡ []
 none_hold n v [] none = refl
@@ -291,7 +297,8 @@ pub few_going : (up_to : ℕ) (images : List (List ℕ)) → ((u : ℕ) (sets : 
 few_going up_to images few = few_listed 1 up_to 0 images few
 
 -- so there is room for the next set
-pub few_next : (images : List (List ℕ)) (above up_to set room : ℕ) (now : List Evicted) → IsNextSet images above up_to set → now ≡ images_going above images → ((u : ℕ) (sets : List ℕ) → slice_get images u ≡ Some sets → length sets ≤ 512)
+pub few_next : (images : List (List ℕ)) (above up_to set room : ℕ) (now : List Evicted) → IsNextSet images above up_to set → now ≡ images_going above images
+    → ((u : ℕ) (sets : List ℕ) → slice_get images u ≡ Some sets → length sets ≤ 512)
     → 512 * length images ≤ room → length now + length (holders set 0 images) ≤ room
 few_next images above up_to set room now next listed few fits =
     let most = few_going set images few in

@@ -1,5 +1,6 @@
 -- Images go up to a set so that a write has its slot.
-use Rattle.std.proofs.Common.{ℕ, zero, suc, ◌≡◌, ◌≢◌, ◌<◌, ◌≤◌, ◌+◌, ◌-◌, Bool, true, false, ◌&&◌, ◌||◌, get_or, List, [], ◌∷◌, length, map, filter, Option, Some, None, slice_get, refl, sym, ap, ◌∙◌, subst, arith, inl, inr, ◌⊎◌}
+use Rattle.std.proofs.Common.{ℕ, zero, suc, ◌≡◌, ◌≢◌, ◌<◌, ◌≤◌, ◌+◌, ◌-◌, Bool, true, false, ◌&&◌, ◌||◌, get_or, List, [], ◌∷◌, length, map, filter, Option, Some, None, slice_get, refl, sym, ap, ◌∙◌}
+use Rattle.std.proofs.Common.{subst, arith, inl, inr, ◌⊎◌}
 use Rattle.std.specs.Prelude.{◌==◌, nat_lt, nat_le, if◌then◌else◌, IfSome, IsNone}
 use Rattle.std.proofs.lemmas.Bool.{false≢true, cases_lt, cases_eq, lt-ltb, le-ltb}
 use Rattle.std.proofs.lemmas.Bool.Decides.{nat_tests}
@@ -55,7 +56,8 @@ free_where volumes records slot r are at none = by_test (is_free r) refl where
       let some = used.set in
       absurd (omega arith)
 
-pub gone_to_stays : (volumes : List ℕ) (records : List Record) (k : ℕ) → AreRecords volumes records → ((slot : ℕ) (r : Record) → slice_get records slot ≡ Some r → 0 < r.set → k < r.set) → gone_to k records ≡ records
+pub gone_to_stays : (volumes : List ℕ) (records : List Record) (k : ℕ) → AreRecords volumes records → ((slot : ℕ) (r : Record) → slice_get records slot ≡ Some r → 0 < r.set → k < r.set)
+    → gone_to k records ≡ records
 gone_to_stays volumes records k are above = map_stays (gone_row k) records (λ slot r at. row_stays k r (free_where volumes records slot r are at) (above slot r at))
 
 filter_stays : (k : ℕ) (sets : List ℕ) → ((s : ℕ) → is_among s sets ≡ true → k < s) → after k sets ≡ sets
@@ -81,7 +83,8 @@ gone_nothing c are of = same_parts c.area (with_records (gone_to 0 c.area.record
     (sym (all_after_stays c.images 0 (λ u s sets at among. (All-contains (λ image. (0 < image) × (image < 4294967296)) sets s (of.sets u sets at).above_zero (contains_among s sets among)).0)))
 
 -- nothing goes where nothing has to
-pub room_there : {D : Type 0} (c : CopiesValue D) (v b : ℕ) → AreRecords c.area.volumes c.area.records → AreOfImages c.area.records c.images → lacks_slot c.area.records v (images_on c v) b ≡ false → IsRoomMade c.area.records c.images v b 0
+pub room_there : {D : Type 0} (c : CopiesValue D) (v b : ℕ) → AreRecords c.area.volumes c.area.records → AreOfImages c.area.records c.images → lacks_slot c.area.records v (images_on c v) b ≡ false
+    → IsRoomMade c.area.records c.images v b 0
 room_there c v b are of has = record {
   enough = ap (λ x. lacks_slot x.area.records v (images_on x v) b) (sym (gone_nothing c are of)) ∙ has;
   needed = λ fewer low. absurd (omega arith);
@@ -124,7 +127,8 @@ newest_most sets i s are at =
     let inside = slice_get_within sets i s at in
     let is : get_or sets i 0 ≡ s = get_or_from_slice_get sets i s 0 at in
     elim (cases_lt i (length sets - 1)) [
-      | inl low ↦ let up : get_or sets i 0 < get_or sets (length sets - 1) 0 = are.ascend i (length sets - 1) 0 low (omega arith) in let last : newest sets ≡ get_or sets (length sets - 1) 0 = refl in omega arith
+      | inl low ↦ let up : get_or sets i 0 < get_or sets (length sets - 1) 0 = are.ascend i (length sets - 1) 0 low (omega arith) in let last : newest sets ≡ get_or sets
+          (length sets - 1) 0 = refl in omega arith
       | inr high ↦ let same : i ≡ length sets - 1 = omega arith in let last : get_or sets i 0 ≡ newest sets = ap (λ (n : ℕ). get_or sets n 0) same in omega arith
     ]
 
@@ -141,20 +145,24 @@ not_full records slot k r at same =
     not_full_if (gone_to k records) _ refl (λ none. absurd (omega arith))
 
 -- up to that set the images have to go, and no further
-pub room_made_by : {D : Type 0} (c : CopiesValue D) (v b up_to : ℕ) → AreRecords c.area.volumes c.area.records → length c.images ≡ length c.area.volumes → AreOfImages c.area.records c.images → v < length c.area.volumes
+pub room_made_by : {D : Type 0} (c : CopiesValue D) (v b up_to : ℕ) → AreRecords c.area.volumes c.area.records → length c.images ≡ length c.area.volumes → AreOfImages c.area.records c.images
+    → v < length c.area.volumes
     → lacks_slot c.area.records v (images_on c v) b ≡ true → IsFirstToFree c.area.records (images_on c v) up_to → IsRoomMade c.area.records c.images v b up_to
 room_made_by c v b up_to are long of within lacks first = record {
   enough = elim first.one [
     | inl newest_is ↦
         let at = get_inside c.images v (omega arith) in
         let on : images_on c v ≡ at.0 = ap sets_in at.1 in
-        let none : after up_to (images_on c v) ≡ [] = none_after up_to (images_on c v) (λ i s there. let most = newest_most (images_on c v) i s (subst AreImages (sym on) (of.sets v at.0 at.1)) there in omega arith) in
+        let none : after up_to (images_on c v) ≡ [] = none_after up_to (images_on c v)
+        (λ i s there. let most = newest_most (images_on c v) i s (subst AreImages (sym on) (of.sets v at.0 at.1)) there in omega arith) in
         ap (λ (sets : List ℕ). lacks_slot (gone_to up_to c.area.records) v sets b) (sets_after up_to v c.images ∙ none)
-    | inr at ↦ sym (and_false (lacks_copy (gone_to up_to c.area.records) v (sets_in (slice_get (all_after up_to c.images) v)) b) (is_full (gone_to up_to c.area.records)) (not_full c.area.records at.0 up_to at.1 at.2 at.3))
+    | inr at ↦ sym (and_false (lacks_copy (gone_to up_to c.area.records) v (sets_in (slice_get (all_after up_to c.images) v)) b) (is_full (gone_to up_to c.area.records))
+        (not_full c.area.records at.0 up_to at.1 at.2 at.3))
   ];
   needed = λ fewer low.
       let most = first.most in
-      ap (λ (rs : List Record). lacks_slot rs v (sets_in (slice_get (all_after fewer c.images) v)) b) (gone_to_stays c.area.volumes c.area.records fewer are (λ slot r at some. let least = first.least slot r at in omega arith))
+      ap (λ (rs : List Record). lacks_slot rs v (sets_in (slice_get (all_after fewer c.images) v)) b)
+      (gone_to_stays c.area.volumes c.area.records fewer are (λ slot r at some. let least = first.least slot r at in omega arith))
       ∙ ap (λ (sets : List ℕ). lacks_slot c.area.records v sets b) (sets_after fewer v c.images)
       ∙ ap (λ (t : Bool). t && is_full c.area.records) (keeps_newest c.area.records v b fewer (images_on c v) (omega arith)).1
       ∙ lacks;
@@ -217,7 +225,8 @@ full_used records slot r full at is =
     let some = some_free (map is_free records) slot (get-map is_free records slot r at ∙ ap (λ (x : Record). Some (is_free x)) is) in
     absurd (omega arith)
 
-pub first_all : (volumes : List ℕ) (records : List Record) (sets : List ℕ) (least u : ℕ) → AreRecords volumes records → is_full records ≡ true → IsLeastSoFar records sets least u → length volumes ≤ u → IsFirstToFree records sets least
+pub first_all : (volumes : List ℕ) (records : List Record) (sets : List ℕ) (least u : ℕ) → AreRecords volumes records → is_full records ≡ true → IsLeastSoFar records sets least u → length volumes ≤ u
+    → IsFirstToFree records sets least
 first_all volumes records sets least u are full so_far whole = record {
   most = so_far.most;
   least = λ j r at. let used = are.each j r at (full_used records j r full at) in let inside = used.volume in so_far.least j r at used.set (omega arith);
@@ -226,13 +235,16 @@ first_all volumes records sets least u are full so_far whole = record {
 
 -- ## the oldest image of a volume that has a copy
 
-pub oldest_on : (o : Option ℕ) (copies : List (Option Copied)) (records : List Record) (v : ℕ) → copies ≡ map (copied_for v) records → IfSome o (IsOldestUsed copies) → (IsNone o → (slot : ℕ) → copied_at copies slot ≡ None) → IsOldestOn records v o
-oldest_on None copies records v is found none = λ slot r at same some. none-some (copy_of r.set r.block) (sym (none refl slot) ∙ ap (λ (cs : List (Option Copied)). copied_at cs slot) is ∙ row_at v records slot r at ∙ copied_for-is v r some same)
+pub oldest_on : (o : Option ℕ) (copies : List (Option Copied)) (records : List Record) (v : ℕ) → copies ≡ map (copied_for v) records → IfSome o (IsOldestUsed copies)
+    → (IsNone o → (slot : ℕ) → copied_at copies slot ≡ None) → IsOldestOn records v o
+oldest_on None copies records v is found none = λ slot r at same some. none-some (copy_of r.set r.block)
+    (sym (none refl slot) ∙ ap (λ (cs : List (Option Copied)). copied_at cs slot) is ∙ row_at v records slot r at ∙ copied_for-is v r some same)
 oldest_on (Some set) copies records v is found none =
     let row = record_of_row v records found.slot (copy_of set found.block) (ap (λ (cs : List (Option Copied)). copied_at cs found.slot) (sym is) ∙ found.row) in
     record {
       slot = found.slot;
       block = found.block;
       row = row.1;
-      oldest = λ other r at same some. found.oldest other (copy_of r.set r.block) (ap (λ (cs : List (Option Copied)). copied_at cs other) is ∙ row_at v records other r at ∙ copied_for-is v r some same);
+      oldest = λ other r at same some. found.oldest other (copy_of r.set r.block)
+          (ap (λ (cs : List (Option Copied)). copied_at cs other) is ∙ row_at v records other r at ∙ copied_for-is v r some same);
     }

@@ -49,10 +49,12 @@ not_used v r h = by_set (cases_lt 0 r.set) where
 
 -- ## an image is merged down
 
-handed : (records : List Record) (v : ℕ) (older : Option ℕ) (set block : ℕ) → ((n : ℕ) → older ≡ Some n → 0 < n) → record_for v (handed_on (map (copied_for v) records) older block) ≡ handed_down records v older block
+handed : (records : List Record) (v : ℕ) (older : Option ℕ) (set block : ℕ) → ((n : ℕ) → older ≡ Some n → 0 < n)
+    → record_for v (handed_on (map (copied_for v) records) older block) ≡ handed_down records v older block
 handed records v None set block above = refl
 handed records v (Some n) set block above = by_test (has_copy (map (copied_for v) records) n block) refl where
-  by_test : (t : Bool) → has_copy (map (copied_for v) records) n block ≡ t → record_for v (if has_copy (map (copied_for v) records) n block then None else Some (copy_of n block)) ≡ (if has_record records (record_of v n block) then free else record_of v n block)
+  by_test : (t : Bool) → has_copy (map (copied_for v) records) n block ≡ t
+      → record_for v (if has_copy (map (copied_for v) records) n block then None else Some (copy_of n block)) ≡ (if has_record records (record_of v n block) then free else record_of v n block)
   by_test true e =
       ap (λ (t : Bool). record_for v (if t then None else Some (copy_of n block))) e
       ∙ sym (ap (λ (t : Bool). if t then free else record_of v n block) (sym (has_copy-record records v n block (above n refl)) ∙ e))
@@ -60,7 +62,8 @@ handed records v (Some n) set block above = by_test (has_copy (map (copied_for v
       ap (λ (t : Bool). record_for v (if t then None else Some (copy_of n block))) e
       ∙ sym (ap (λ (t : Bool). if t then free else record_of v n block) (sym (has_copy-record records v n block (above n refl)) ∙ e))
 
-merge_row : (records : List Record) (v : ℕ) (older : Option ℕ) (set : ℕ) → 0 < set → ((n : ℕ) → older ≡ Some n → 0 < n) → (r : Record) → followed_row v (option_and_then (merged_rule (map (copied_for v) records) older set) (copied_for v r)) r ≡ merged_row records v older set r
+merge_row : (records : List Record) (v : ℕ) (older : Option ℕ) (set : ℕ) → 0 < set → ((n : ℕ) → older ≡ Some n → 0 < n) → (r : Record)
+    → followed_row v (option_and_then (merged_rule (map (copied_for v) records) older set) (copied_for v r)) r ≡ merged_row records v older set r
 merge_row records v older set some above r = by_test (nat_lt 0 r.set && (r.volume == v)) refl where
   by_set : 0 < r.set → r.volume ≡ v → (t : Bool) → (r.set == set) ≡ t → record_for v (merged_rule (map (copied_for v) records) older set (copy_of r.set r.block)) ≡ merged_row records v older set r
   by_set a b true e =
@@ -74,7 +77,8 @@ merge_row records v older set some above r = by_test (nat_lt 0 r.set && (r.volum
       ∙ same_record (record_of v r.set r.block) r refl refl (sym b)
       ∙ sym (ap (λ (t : Bool). if t then handed_down records v older r.block else r) (not_of_set v set r.volume r.set (inr apart)))
 
-  by_test : (t : Bool) → (nat_lt 0 r.set && (r.volume == v)) ≡ t → followed_row v (option_and_then (merged_rule (map (copied_for v) records) older set) (copied_for v r)) r ≡ merged_row records v older set r
+  by_test : (t : Bool) → (nat_lt 0 r.set && (r.volume == v)) ≡ t
+      → followed_row v (option_and_then (merged_rule (map (copied_for v) records) older set) (copied_for v r)) r ≡ merged_row records v older set r
   by_test true e =
       let both = both_from r.set v r.volume e in
       follows-of v (option_and_then (merged_rule (map (copied_for v) records) older set) (copied_for v r)) r both.0 both.1
@@ -82,19 +86,22 @@ merge_row records v older set some above r = by_test (nat_lt 0 r.set && (r.volum
       ∙ by_set both.0 both.1 (r.set == set) refl
   by_test false e =
       follows-other v (option_and_then (merged_rule (map (copied_for v) records) older set) (copied_for v r)) r e
-      ∙ sym (ap (λ (t : Bool). if t then handed_down records v older r.block else r) (not_of_set v set r.volume r.set (elim (not_used v r e) [ inl other ↦ inl other | inr none ↦ inr (λ same. absurd (omega arith)) ])))
+      ∙ sym (ap (λ (t : Bool). if t then handed_down records v older r.block else r)
+      (not_of_set v set r.volume r.set (elim (not_used v r e) [ inl other ↦ inl other | inr none ↦ inr (λ same. absurd (omega arith)) ])))
 
 merge_above : (copies : List (Option Copied)) (older : Option ℕ) (set : ℕ) (c d : Copied) → ((n : ℕ) → older ≡ Some n → 0 < n) → Merged copies older set c d → 0 < c.set → 0 < d.set
 merge_above copies older set c d above (stayed other is) some = let e : d.set ≡ c.set = ap (λ x. x.set) is in omega arith
 merge_above copies older set c d above (moved n same is d_is lacks) some = let e : d.set ≡ n = ap (λ x. x.set) d_is in let a = above n is in omega arith
 
-merge_fresh : (records : List Record) (v : ℕ) (older : Option ℕ) (set : ℕ) (c d : Copied) → ((n : ℕ) → older ≡ Some n → 0 < n) → Merged (map (copied_for v) records) older set c d → (d ≡ c) ⊎ ((other : ℕ) → slice_get records other ≡ Some (record_of v d.set d.block) → ⊥)
+merge_fresh : (records : List Record) (v : ℕ) (older : Option ℕ) (set : ℕ) (c d : Copied) → ((n : ℕ) → older ≡ Some n → 0 < n) → Merged (map (copied_for v) records) older set c d
+    → (d ≡ c) ⊎ ((other : ℕ) → slice_get records other ≡ Some (record_of v d.set d.block) → ⊥)
 merge_fresh records v older set c d above (stayed other is) = inl is
 merge_fresh records v older set c d above (moved n same is d_is lacks) = inr (λ other h.
     let row = row_of_record v records other n c.block (above n is) (h ∙ ap (λ (x : Copied). Some (record_of v x.set x.block)) d_is) in
     false≢true (sym lacks ∙ has_from_row (map (copied_for v) records) other n c.block row))
 
-pub rule-merged : (records : List Record) (v : ℕ) (older : Option ℕ) (set : ℕ) → 0 < set → ((n : ℕ) → older ≡ Some n → 0 < n) → IsRuleOf records v (merged_rule (map (copied_for v) records) older set) (merged_row records v older set)
+pub rule-merged : (records : List Record) (v : ℕ) (older : Option ℕ) (set : ℕ) → 0 < set → ((n : ℕ) → older ≡ Some n → 0 < n)
+    → IsRuleOf records v (merged_rule (map (copied_for v) records) older set) (merged_row records v older set)
 rule-merged records v older set some above = record {
   above = λ c d gives more. merge_above (map (copied_for v) records) older set c d above (merged_from (map (copied_for v) records) older set c d gives) more;
   fresh = λ c d gives more. merge_fresh records v older set c d above (merged_from (map (copied_for v) records) older set c d gives);

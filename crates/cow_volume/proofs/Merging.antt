@@ -26,7 +26,8 @@ use Rattle.cow_volume.proofs.Group.{OthersKept, slots_same, on_one, place_at, sl
 
 range-split : (ws : List Write) (p q r : ℕ) → p ≤ q → q ≤ r → slice_range ws p r ≡ slice_range ws p q ++ slice_range ws q r
 range-split ws p q r le more = append_cancel_right (slice_range ws p r) (slice_range ws p q ++ slice_range ws q r) (drop r ws)
-    (sym (drop_split ws p r (omega arith)) ∙ drop_split ws p q le ∙ ap (λ (xs : List Write). slice_range ws p q ++ xs) (drop_split ws q r more) ∙ sym (append_assoc (slice_range ws p q) (slice_range ws q r) (drop r ws)))
+    (sym (drop_split ws p r (omega arith)) ∙ drop_split ws p q le ∙ ap (λ (xs : List Write). slice_range ws p q ++ xs) (drop_split ws q r more)
+    ∙ sym (append_assoc (slice_range ws p q) (slice_range ws q r) (drop r ws)))
 
 -- the writes since a point, parted at a later one
 names-split : (ws : List Write) (p q : ℕ) (newer : List Image) (b : ℕ) → p ≤ q → ((next : Image) (rest : List Image) → newer ≡ next ∷ rest → q ≤ next.point)
@@ -53,7 +54,8 @@ later_is_other set i j e l = number_is_other j.set set (λ same. absurd (omega a
 without_set-later : (set : ℕ) (i : Image) (images : List Image) → i.set ≡ set → AreLater i images → without_set set images ≡ images
 without_set-later set i [] e later = refl
 without_set-later set i (j ∷ images) e later =
-    ap (λ (t : Bool). if not t then j ∷ without_set set images else without_set set images) (later_is_other set i j e later.0) ∙ ap (λ (xs : List Image). j ∷ xs) (without_set-later set i images e later.2)
+    ap (λ (t : Bool). if not t then j ∷ without_set set images else without_set set images) (later_is_other set i j e later.0)
+    ∙ ap (λ (xs : List Image). j ∷ xs) (without_set-later set i images e later.2)
 
 -- what was before an image is it, or what the walk began with, or one of those between
 before_later : (i : Image) (a set o : ℕ) (images : List Image) → AreLater i images → i.set < a → before (Some a) set images ≡ Some o → i.set < o
@@ -79,7 +81,8 @@ next_of i o set (j ∷ images) is other later e = by_test (j.set == set) refl e 
 next_from : (last : Option ℕ) (o set n : ℕ) (images : List Image) → AreInTime n images → last ≢ Some o → before last set images ≡ Some o → AreNext o set images
 next_from last o set n [] times new e = absurd cc
 next_from last o set n (i ∷ images) times new e = by_tests (i.set == set) (i.set == o) refl refl (next_from (Some i.set) o set n images times.2) e where
-  by_tests : (t u : Bool) → (i.set == set) ≡ t → (i.set == o) ≡ u → (Some i.set ≢ Some o → before (Some i.set) set images ≡ Some o → AreNext o set images) → (if t then last else before (Some i.set) set images) ≡ Some o → AreNext o set (i ∷ images)
+  by_tests : (t u : Bool) → (i.set == set) ≡ t → (i.set == o) ≡ u → (Some i.set ≢ Some o → before (Some i.set) set images ≡ Some o → AreNext o set images)
+      → (if t then last else before (Some i.set) set images) ≡ Some o → AreNext o set (i ∷ images)
   by_tests true u same is rest f = absurd (new f)
   by_tests false true same is rest f = next_of i o set images (same_number i.set o is) (other_number i.set set same) times.1 f
   by_tests false false same is rest f = further i images (other_number i.set o is) (other_number i.set set same) (rest (λ both. let one : i.set ≡ o = cc in other_number i.set o is one) f)
@@ -132,14 +135,16 @@ gone_named ws set b (i ∷ images) = by_test (i.set == set) refl (gone_named ws 
   by_test false e rest = simp e rest
 
 -- every other image names what it named
-kept_named : (ws : List Write) (last : Option ℕ) (set s b n : ℕ) (images : List Image) → AreInTime n images → s ≢ set → before last set images ≢ Some s → is_named ws (without_set set images) s b ≡ is_named ws images s b
+kept_named : (ws : List Write) (last : Option ℕ) (set s b n : ℕ) (images : List Image) → AreInTime n images → s ≢ set → before last set images ≢ Some s
+    → is_named ws (without_set set images) s b ≡ is_named ws images s b
 kept_named ws last set s b n [] times apart not_older = refl
 kept_named ws last set s b n (i ∷ images) times apart not_older =
     by_tests (i.set == set) (i.set == s) refl refl not_older (λ never. kept_named ws (Some i.set) set s b n images times.2 apart never) where
       since : (js : List Image) → before (Some i.set) set js ≢ Some i.set → writes_since ws i.point (without_set set js) ≡ writes_since ws i.point js
       since [] never = refl
       since (j ∷ js) never = at_next (j.set == set) never where
-        at_next : (t : Bool) → (if t then Some i.set else before (Some j.set) set js) ≢ Some i.set → writes_since ws i.point (if not t then j ∷ without_set set js else without_set set js) ≡ writes_since ws i.point (j ∷ js)
+        at_next : (t : Bool) → (if t then Some i.set else before (Some j.set) set js) ≢ Some i.set
+            → writes_since ws i.point (if not t then j ∷ without_set set js else without_set set js) ≡ writes_since ws i.point (j ∷ js)
         at_next true never = absurd (never refl)
         at_next false never = refl
 
@@ -189,7 +194,8 @@ older_is set n images times e = walk_before None set n images times e
 pub point_of : (set : ℕ) (images : List Image) → is_among set (sets_of images) ≡ true → (p : ℕ) × (point_in set images ≡ Some p)
 point_of set [] e = absurd cc
 point_of set (i ∷ images) e = by_test (i.set == set) (point_of set images) e where
-  by_test : (t : Bool) → (is_among set (sets_of images) ≡ true → (p : ℕ) × (point_in set images ≡ Some p)) → (t || is_among set (sets_of images)) ≡ true → (p : ℕ) × ((if t then Some i.point else point_in set images) ≡ Some p)
+  by_test : (t : Bool) → (is_among set (sets_of images) ≡ true → (p : ℕ) × (point_in set images ≡ Some p)) → (t || is_among set (sets_of images)) ≡ true
+      → (p : ℕ) × ((if t then Some i.point else point_in set images) ≡ Some p)
   by_test true rest f = (i.point, refl)
   by_test false rest f = rest f
 
@@ -222,7 +228,8 @@ pub sets_of-filter : (test : ℕ → Bool) (images : List Image) → filter test
 sets_of-filter test [] = refl
 sets_of-filter test (i ∷ images) = by_test (test i.set) (sets_of-filter test images) where
   by_test : (t : Bool) → filter test (sets_of images) ≡ sets_of (filter (λ (i : Image). test i.set) images)
-      → (if t then i.set ∷ filter test (sets_of images) else filter test (sets_of images)) ≡ sets_of (if t then i ∷ filter (λ (i : Image). test i.set) images else filter (λ (i : Image). test i.set) images)
+      → (if t then i.set ∷ filter test (sets_of images) else filter test (sets_of images)) ≡ sets_of
+      (if t then i ∷ filter (λ (i : Image). test i.set) images else filter (λ (i : Image). test i.set) images)
   by_test true rest = ap (λ (xs : List ℕ). i.set ∷ xs) rest
   by_test false rest = rest
 
@@ -269,7 +276,8 @@ record_is r q s b v =
 
 -- a record of the image of a set on volume v
 pub of_image : (v set : ℕ) (r : Record) → is_of v set r ≡ true → r ≡ record_of v set r.block
-of_image v set r e = record_is r (record_of v set r.block) (same_number r.set set (and_right (r.volume == v) (r.set == set) e)) refl (same_number r.volume v (and_left (r.volume == v) (r.set == set) e))
+of_image v set r e = record_is r (record_of v set r.block) (same_number r.set set (and_right (r.volume == v) (r.set == set) e)) refl
+    (same_number r.volume v (and_left (r.volume == v) (r.set == set) e))
 
 is_of-it : (v set b : ℕ) → is_of v set (record_of v set b) ≡ true
 is_of-it v set b = simp (number_is v, number_is set)
@@ -292,7 +300,8 @@ same_it q = simp (number_is q.set, number_is q.block, number_is q.volume)
 pub found_record : (records : List Record) (q : Record) → has_record records q ≡ true → (slot : ℕ) × (slice_get records slot ≡ Some q)
 found_record [] q e = absurd cc
 found_record (r ∷ records) q e = by_test (is_same_record q r) refl (found_record records q) e where
-  by_test : (t : Bool) → is_same_record q r ≡ t → (has_record records q ≡ true → (slot : ℕ) × (slice_get records slot ≡ Some q)) → (t || has_record records q) ≡ true → (slot : ℕ) × (slice_get (r ∷ records) slot ≡ Some q)
+  by_test : (t : Bool) → is_same_record q r ≡ t → (has_record records q ≡ true → (slot : ℕ) × (slice_get records slot ≡ Some q)) → (t || has_record records q) ≡ true
+      → (slot : ℕ) × (slice_get (r ∷ records) slot ≡ Some q)
   by_test true same rest f = (0, ap Some (same_if q r same))
   by_test false same rest f = let there = rest f in (suc there.0, there.1)
 
@@ -325,11 +334,13 @@ pub merged_from : (records : List Record) (v : ℕ) (older : Option ℕ) (set : 
 merged_from records v older set r q e = subst (λ (x : Record). MergedRow records v older set r x) e (merged_to records v older set r)
 
 -- a record of another image or another volume stays
-pub merged_stays : (records : List Record) (v : ℕ) (older : Option ℕ) (set slot : ℕ) (r : Record) → is_of v set r ≡ false → slice_get records slot ≡ Some r → slice_get (merged v older set records) slot ≡ Some r
+pub merged_stays : (records : List Record) (v : ℕ) (older : Option ℕ) (set slot : ℕ) (r : Record) → is_of v set r ≡ false → slice_get records slot ≡ Some r
+    → slice_get (merged v older set records) slot ≡ Some r
 merged_stays records v older set slot r e at = slice_get_map (merged_row records v older set) records slot r at ∙ ap (λ (t : Bool). Some (if t then handed_down records v older r.block else r)) e
 
 -- a record of the image that goes is given to the next older one, which lacks it
-pub merged_moves : (records : List Record) (v o set slot b : ℕ) → has_record records (record_of v o b) ≡ false → slice_get records slot ≡ Some (record_of v set b) → slice_get (merged v (Some o) set records) slot ≡ Some (record_of v o b)
+pub merged_moves : (records : List Record) (v o set slot b : ℕ) → has_record records (record_of v o b) ≡ false → slice_get records slot ≡ Some (record_of v set b)
+    → slice_get (merged v (Some o) set records) slot ≡ Some (record_of v o b)
 merged_moves records v o set slot b none at =
     slice_get_map (merged_row records v (Some o) set) records slot (record_of v set b) at
     ∙ ap (λ (t : Bool). Some (if t then handed_down records v (Some o) b else record_of v set b)) (is_of-it v set b)
@@ -372,7 +383,8 @@ older_below : (o set n : ℕ) (images : List Image) → AreInTime n images → A
 older_below o set n _ times (here i j newer is_o is_set) = let low = times.1.0 in omega arith
 older_below o set n _ times (further i images not_o not_set next) = older_below o set n images times.2 next
 
-module _ (told slots : Option (List (List ℕ))) (records : List Record) (v n : ℕ) (sets : List ℕ) (h : History) (set p_set : ℕ) (older : Option ℕ) (volume : IsVolume told slots records v n sets h) (within : AreWithin v n records) (is_older : before None set h.images ≡ older) (at_set : point_in set h.images ≡ Some p_set) where
+module _ (told slots : Option (List (List ℕ))) (records : List Record) (v n : ℕ) (sets : List ℕ) (h : History) (set p_set : ℕ) (older : Option ℕ) (volume : IsVolume told slots records v n sets h)
+    (within : AreWithin v n records) (is_older : before None set h.images ≡ older) (at_set : point_in set h.images ≡ Some p_set) where
   above_set : 0 < set
   above_set = set_above set p_set h.images volume.images.above_zero at_set
 
@@ -457,7 +469,8 @@ module _ (told slots : Option (List (List ℕ))) (records : List Record) (v n : 
   abbrev Copied : ℕ → ℕ → ℕ → Type 0
   Copied slot p b = IfSome slots (λ blocks. slice_get blocks (place_of_slot (length records) slot) ≡ Some (content h.writes p b))
 
-  copied_row : (slot s b p : ℕ) (r : Record) → slice_get records slot ≡ Some r → MergedRow records v older set r (record_of v s b) → point_in s (without_set set h.images) ≡ Some p → is_some told ≡ true → Copied slot p b
+  copied_row : (slot s b p : ℕ) (r : Record) → slice_get records slot ≡ Some r → MergedRow records v older set r (record_of v s b) → point_in s (without_set set h.images) ≡ Some p
+      → is_some told ≡ true → Copied slot p b
   copied_row slot s b p r at (stayed e is) point tells = volume.copied slot s b p (at ∙ ap Some (sym is)) (point_before (λ k. not (k == set)) s p h.images point) tells
   copied_row slot s b p r at (freed e is) point tells =
       absurd (free_set v s b is (set_above s p h.images volume.images.above_zero (point_before (λ k. not (k == set)) s p h.images point)))
@@ -498,15 +511,18 @@ dropped_stands told slots records v n sets h set within among volume =
     merged_volume told slots records v n sets h set at.0 (next_older sets set) volume within (sym older) at.1
 
 -- The oldest image of a volume goes.
-pub without_oldest : (told slots : Option (List (List ℕ))) (records : List Record) (v n : ℕ) (sets : List ℕ) (h : History) (set : ℕ) → AreWithin v n records → is_among set sets ≡ true → next_older sets set ≡ None
+pub without_oldest : (told slots : Option (List (List ℕ))) (records : List Record) (v n : ℕ) (sets : List ℕ) (h : History) (set : ℕ) → AreWithin v n records → is_among set sets ≡ true
+    → next_older sets set ≡ None
     → IsVolume told slots records v n sets h → IsVolume told slots (merged v None set records) v n (filter (λ s. not (s == set)) sets) (dropped set h)
 without_oldest told slots records v n sets h set within among oldest volume =
-    subst (λ (older : Option ℕ). IsVolume told slots (merged v older set records) v n (filter (λ s. not (s == set)) sets) (dropped set h)) oldest (dropped_stands told slots records v n sets h set within among volume)
+    subst (λ (older : Option ℕ). IsVolume told slots (merged v older set records) v n (filter (λ s. not (s == set)) sets) (dropped set h)) oldest
+    (dropped_stands told slots records v n sets h set within among volume)
 
 -- ## the group
 
 -- An image goes from one volume of a group.
-pub image_dropped_within : {D : Type 0} → (told : D → Option (List (List ℕ))) (g new : GroupValue D) (hs : List History) (v set : ℕ) (sets : List ℕ) → StandsFor told g hs → ((n : ℕ) → slice_get g.area.volumes v ≡ Some n → AreWithin v n g.area.records)
+pub image_dropped_within : {D : Type 0} → (told : D → Option (List (List ℕ))) (g new : GroupValue D) (hs : List History) (v set : ℕ) (sets : List ℕ) → StandsFor told g hs
+    → ((n : ℕ) → slice_get g.area.volumes v ≡ Some n → AreWithin v n g.area.records)
     → slice_get g.images v ≡ Some sets → is_among set sets ≡ true → new.devices ≡ g.devices → new.area.device ≡ g.area.device → new.area.volumes ≡ g.area.volumes
     → new.area.records ≡ merged v (next_older sets set) set g.area.records → new.images ≡ slice_set g.images v (filter (λ s. not (s == set)) sets) → StandsFor told new (changed_at v (dropped set) hs)
 image_dropped_within told g new hs v set sets stands blocks at among devices device volumes records images =
@@ -519,13 +535,16 @@ image_dropped_within told g new hs v set sets stands blocks at among devices dev
     let within = blocks place.blocks place.blocks_at in
     let kept : OthersKept v g.area.records new.area.records = subst (λ (rs : List Record). OthersKept v g.area.records rs) (sym records) (others_merged v (next_older sets set) set g.area.records) in
     let after : IsVolume (told_in (told new.area.device) (told place.device)) (told new.area.device) new.area.records v place.blocks (filter (λ s. not (s == set)) sets) (dropped set (history_at hs v))
-    = subst (λ (t : Option (List (List ℕ))). IsVolume (told_in t (told place.device)) t new.area.records v place.blocks (filter (λ s. not (s == set)) sets) (dropped set (history_at hs v))) (sym (ap told device))
-    (subst (λ (rs : List Record). IsVolume (told_in (told g.area.device) (told place.device)) (told g.area.device) rs v place.blocks (filter (λ s. not (s == set)) sets) (dropped set (history_at hs v))) (sym records)
+    = subst (λ (t : Option (List (List ℕ))). IsVolume (told_in t (told place.device)) t new.area.records v place.blocks (filter (λ s. not (s == set)) sets) (dropped set (history_at hs v)))
+    (sym (ap told device))
+    (subst (λ (rs : List Record). IsVolume (told_in (told g.area.device) (told place.device)) (told g.area.device) rs v place.blocks (filter (λ s. not (s == set)) sets)
+    (dropped set (history_at hs v))) (sym records)
     (dropped_stands (told_in (told g.area.device) (told place.device)) (told g.area.device) g.area.records v place.blocks sets (history_at hs v) set within among volume)) in
     on_one told g new hs v place.blocks place.device place.device sets (filter (λ s. not (s == set)) sets) (history_at hs v) (dropped set) stands place.blocks_at place.device_at at place.history
     (devices ∙ sym (slice_set-same g.devices v place.device place.device_at)) images volumes kept (slots_same v g.area.records (told g.area.device) (told new.area.device) (ap told device)) after
 
-pub image_dropped : {D : Type 0} → (told : D → Option (List (List ℕ))) (g new : GroupValue D) (hs : List History) (v set : ℕ) (sets : List ℕ) → StandsFor told g hs → AreRecords g.area.volumes g.area.records
+pub image_dropped : {D : Type 0} → (told : D → Option (List (List ℕ))) (g new : GroupValue D) (hs : List History) (v set : ℕ) (sets : List ℕ) → StandsFor told g hs
+    → AreRecords g.area.volumes g.area.records
     → slice_get g.images v ≡ Some sets → is_among set sets ≡ true → new.devices ≡ g.devices → new.area.device ≡ g.area.device → new.area.volumes ≡ g.area.volumes
     → new.area.records ≡ merged v (next_older sets set) set g.area.records → new.images ≡ slice_set g.images v (filter (λ s. not (s == set)) sets) → StandsFor told new (changed_at v (dropped set) hs)
 image_dropped told g new hs v set sets stands are at among devices device volumes records images =

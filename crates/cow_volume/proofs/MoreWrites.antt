@@ -1,6 +1,7 @@
 -- What more writes, or fewer, change of what the images name and of the blocks; and a write of a block that the newest
 -- image names, which needs no copy.
-use Rattle.std.proofs.Common.{◌≡◌, ◌≢◌, ◌<◌, ◌≤◌, ℕ, ◌+◌, ◌-◌, List, [], ◌∷◌, ◌++◌, length, take, drop, map, refl, ap, sym, subst, ◌∙◌, arith, Bool, true, false, ◌||◌, Option, Some, is_some, IfSome, option_map, inl, inr}
+use Rattle.std.proofs.Common.{◌≡◌, ◌≢◌, ◌<◌, ◌≤◌, ℕ, ◌+◌, ◌-◌, List, [], ◌∷◌, ◌++◌, length, take, drop, map, refl, ap, sym, subst, ◌∙◌, arith, Bool, true, false, ◌||◌, Option, Some, is_some, IfSome}
+use Rattle.std.proofs.Common.{option_map, inl, inr}
 use Rattle.std.specs.Prelude.{slice_get, slice_set, slice_range, if◌then◌else◌, ◌==◌}
 use Rattle.std.proofs.lemmas.List.{length-take-le, take-take, drop-take, drop_all}
 use Rattle.write_history.specs.History.{Write, Image, History, content, written, names, AreInTime}
@@ -31,7 +32,8 @@ range-cut ws p q r l m =
     ap (λ k. take (q - p) (drop p (take k ws))) split ∙ ap (take (q - p)) (drop-take p (r - p) ws) ∙ take-take (q - p) (r - p) (drop p ws) (omega arith)
 
 -- writes of blocks that the last image names leave what is named as it was
-pub named-more : (ws more : List Write) (is : List Image) (i : Image) (s b : ℕ) → Stands i [] is → AreInTime (length ws) is → (names more b ≡ true → names (drop i.point ws) b ≡ true) → is_named (ws ++ more) is s b ≡ is_named ws is s b
+pub named-more : (ws more : List Write) (is : List Image) (i : Image) (s b : ℕ) → Stands i [] is → AreInTime (length ws) is → (names more b ≡ true → names (drop i.point ws) b ≡ true)
+    → is_named (ws ++ more) is s b ≡ is_named ws is s b
 named-more ws more [] i s b h t n = absurd h
 named-more ws more (j ∷ []) i s b (inl e) t n =
     let P : Image → Type 0 = λ x. names more b ≡ true → names (drop x.point ws) b ≡ true in
@@ -72,11 +74,13 @@ map-same f g (x ∷ xs) h = ap (λ y. y ∷ map f xs) (h x (inl refl)) ∙ ap (�
 
 -- ## a write of a block that the newest image names
 
-pub slots-before : (slots : Option (List (List ℕ))) (at : ℕ) (bytes same : List ℕ) → bytes ≡ same → IfSome slots (λ blocks. slice_get blocks at ≡ Some bytes) → IfSome slots (λ blocks. slice_get blocks at ≡ Some same)
+pub slots-before : (slots : Option (List (List ℕ))) (at : ℕ) (bytes same : List ℕ) → bytes ≡ same → IfSome slots (λ blocks. slice_get blocks at ≡ Some bytes)
+    → IfSome slots (λ blocks. slice_get blocks at ≡ Some same)
 slots-before slots at bytes same e h = subst (λ x. IfSome slots (λ blocks. slice_get blocks at ≡ Some x)) e h
 
 -- it needs no copy: the records are those of the history with one more write
-pub restored_one : (told slots : Option (List (List ℕ))) (records : List Record) (v n : ℕ) (sets : List ℕ) (h : History) (i : Image) (w : Write) (bytes : List ℕ) → IsVolume told slots records v n sets h → Stands i [] h.images → names (drop i.point h.writes) w.block ≡ true → w.block < n → (is_some told ≡ true → bytes ≡ w.bytes)
+pub restored_one : (told slots : Option (List (List ℕ))) (records : List Record) (v n : ℕ) (sets : List ℕ) (h : History) (i : Image) (w : Write) (bytes : List ℕ)
+    → IsVolume told slots records v n sets h → Stands i [] h.images → names (drop i.point h.writes) w.block ≡ true → w.block < n → (is_some told ≡ true → bytes ≡ w.bytes)
     → IsVolume (option_map (λ blocks. slice_set blocks w.block bytes) told) slots records v n sets (written w h)
 restored_one told slots records v n sets h i w bytes is last named l known =
     let only : (b : ℕ) → names (w ∷ []) b ≡ true → names (drop i.point h.writes) b ≡ true = λ b e. by_test b (w.block == b) refl e in

@@ -12,7 +12,8 @@ use Rattle.diff_area.specs.declared.table_record.Record.{Record}
 use Rattle.cow_volume.specs.StandsFor.{is_named, record_of}
 use Rattle.cow_volume.specs.Calls.{is_among}
 use Rattle.cow_volume.proofs.Group.{same_number, number_is}
-use Rattle.cow_volume.proofs.Members.{Has, AreApart, has_left, has_right, has_either, has-map, from-map, apart-append, apart-map, has-filter, from-filter, has-range, from-range, apart-range, apart-filtered}
+use Rattle.cow_volume.proofs.Members.{Has, AreApart, has_left, has_right, has_either, has-map, from-map, apart-append, apart-map, has-filter, from-filter, has-range, from-range, apart-range}
+use Rattle.cow_volume.proofs.Members.{apart-filtered}
 
 -- ## tests on numbers
 
@@ -48,7 +49,8 @@ point_of w (j ∷ js) i newer t (inr h) =
     ap (λ (t : Bool). if t then Some j.point else point_in i.set js) (number_is_less j.set i.set (later_stands j i newer js t.1 h).0) ∙ point_of w js i newer t.2 h
 
 -- an image names what is written since
-pub named_of : (w : ℕ) (ws : List Write) (images : List Image) (i : Image) (newer : List Image) (b : ℕ) → AreInTime w images → Stands i newer images → is_named ws images i.set b ≡ names (writes_since ws i.point newer) b
+pub named_of : (w : ℕ) (ws : List Write) (images : List Image) (i : Image) (newer : List Image) (b : ℕ) → AreInTime w images → Stands i newer images
+    → is_named ws images i.set b ≡ names (writes_since ws i.point newer) b
 named_of w ws [] i newer b t h = absurd h
 named_of w ws (j ∷ js) i newer b t (inl e) =
     let P : Image → Type 0 = λ x. (if j.set == x.set then names (writes_since ws j.point js) b else is_named ws js x.set b) ≡ names (writes_since ws x.point js) b in
@@ -58,7 +60,8 @@ named_of w ws (j ∷ js) i newer b t (inr h) =
     ap (λ (t : Bool). if t then names (writes_since ws j.point js) b else is_named ws js i.set b) (number_is_less j.set i.set (later_stands j i newer js t.1 h).0) ∙ named_of w ws js i newer b t.2 h
 
 -- and uses as many slots
-pub used_by_it : (w n : ℕ) (ws : List Write) (images : List Image) (i : Image) (newer : List Image) → AreInTime w images → Stands i newer images → used_by n ws images i.set ≡ Some (length (named n ws i newer))
+pub used_by_it : (w n : ℕ) (ws : List Write) (images : List Image) (i : Image) (newer : List Image) → AreInTime w images → Stands i newer images
+    → used_by n ws images i.set ≡ Some (length (named n ws i newer))
 used_by_it w n ws [] i newer t h = absurd h
 used_by_it w n ws (j ∷ js) i newer t (inl e) =
     let P : Image → Type 0 = λ x. (if j.set == x.set then Some (length (named n ws j js)) else used_by n ws js x.set) ≡ Some (length (named n ws x js)) in
@@ -147,7 +150,8 @@ is-copy v n ws (j ∷ js) c h = elim (has_either c (map (copy_of v ws j) (named 
       record { image = at.image; newer = at.newer; stands = inr at.stands; within = at.within; named = at.named; is = at.is })
 ]
 
-pub has-copy : (v n : ℕ) (ws : List Write) (images : List Image) (i : Image) (newer : List Image) (b : ℕ) → Stands i newer images → b < n → names (writes_since ws i.point newer) b ≡ true → Has (copy_of v ws i b) (copies_of v n ws images)
+pub has-copy : (v n : ℕ) (ws : List Write) (images : List Image) (i : Image) (newer : List Image) (b : ℕ) → Stands i newer images → b < n → names (writes_since ws i.point newer) b ≡ true
+    → Has (copy_of v ws i b) (copies_of v n ws images)
 has-copy v n ws [] i newer b h l e = absurd h
 has-copy v n ws (j ∷ js) i newer b (inl f) l e =
     let P : Image → Type 0 = λ x. Has (copy_of v ws x b) (map (copy_of v ws j) (named n ws j js)) in

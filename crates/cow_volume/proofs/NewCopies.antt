@@ -39,7 +39,8 @@ pool_new : (k : ℕ) → replicate k true ≡ map is_free (replicate k free)
 pool_new zero = refl
 pool_new (suc k) = ap (λ xs. true ∷ xs) (pool_new k)
 
-pub tied_new : (volumes : List ℕ) (records : List Record) → records ≡ replicate (length records) free → AreTied volumes records (map (new_map (length records)) volumes) (replicate (length records) true)
+pub tied_new : (volumes : List ℕ) (records : List Record) → records ≡ replicate (length records) free
+    → AreTied volumes records (map (new_map (length records)) volumes) (replicate (length records) true)
 tied_new volumes records is = record {
   number = length-map volumes (new_map (length records));
   each = λ v m h.
@@ -61,8 +62,10 @@ same_for_each [] x = refl
 same_for_each (n ∷ volumes) x = ap (λ xs. x ∷ xs) (same_for_each volumes x)
 
 -- a new group stands for fresh histories
-pub new_stands : {D : Type 0} (told : D → Option (List (List ℕ))) (size : D → ℕ) (devices : List D) (area : AreaValue D) → map size devices ≡ area.volumes → area.records ≡ replicate (length area.records) free
-    → All (λ d. IfSome (told d) (λ blocks. blocks ≡ replicate (size d) zeros)) devices → StandsFor told (record { devices = devices; area = area; images = map (λ n. []) area.volumes }) (map (λ n. fresh) area.volumes)
+pub new_stands : {D : Type 0} (told : D → Option (List (List ℕ))) (size : D → ℕ) (devices : List D) (area : AreaValue D) → map size devices ≡ area.volumes
+    → area.records ≡ replicate (length area.records) free
+    → All (λ d. IfSome (told d) (λ blocks. blocks ≡ replicate (size d) zeros)) devices
+    → StandsFor told (record { devices = devices; area = area; images = map (λ n. []) area.volumes }) (map (λ n. fresh) area.volumes)
 new_stands {D = D} told size devices area fits is_free_all zeroed =
     let long : length devices ≡ length area.volumes = sym (length-map devices size) ∙ ap length fits in
     subst (λ (hs : List History). StandsFor told (record { devices = devices; area = area; images = map (λ n. []) area.volumes }) hs) (sym (same_for_each area.volumes fresh))

@@ -148,7 +148,8 @@ newest_gone w (k ∷ ks) i j newer t (inl e) =
 newest_gone w (k ∷ ks) i j newer t (inr h) =
     let before = (later_stands k i (j ∷ newer) ks t.1 h).0 in
     let after = next_later ks i j newer t.2 h in
-    ap (without_set j.set) (kept j.set k ks (omega arith)) ∙ first_without j.set k (up_to_set j.set ks) (omega arith) ∙ ap (λ xs. k ∷ xs) (newest_gone w ks i j newer t.2 h) ∙ sym (kept i.set k ks (omega arith)) where
+    ap (without_set j.set) (kept j.set k ks (omega arith)) ∙ first_without j.set k (up_to_set j.set ks) (omega arith) ∙ ap (λ xs. k ∷ xs) (newest_gone w ks i j newer t.2 h)
+    ∙ sym (kept i.set k ks (omega arith)) where
       next_later : (xs : List Image) (i j : Image) (newer : List Image) → AreInTime w xs → Stands i (j ∷ newer) xs → i.set < j.set
       next_later [] i j newer t h = absurd h
       next_later (x ∷ xs) i j newer t (inl e) =
@@ -158,7 +159,8 @@ newest_gone w (k ∷ ks) i j newer t (inr h) =
           subst Q e.0 later.0
       next_later (x ∷ xs) i j newer t (inr h) = next_later xs i j newer t.2 h
 
-pub dropped_newest : (h : History) (i j : Image) (newer : List Image) → AreInTime (length h.writes) h.images → Stands i (j ∷ newer) h.images → dropped j.set (without_newer j.set h) ≡ without_newer i.set h
+pub dropped_newest : (h : History) (i j : Image) (newer : List Image) → AreInTime (length h.writes) h.images → Stands i (j ∷ newer) h.images
+    → dropped j.set (without_newer j.set h) ≡ without_newer i.set h
 dropped_newest h i j newer t s = ap (λ is. record { writes = h.writes; images = is }) (newest_gone (length h.writes) h.images i j newer t s)
 
 -- a revert is the same from there

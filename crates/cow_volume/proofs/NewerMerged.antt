@@ -39,7 +39,8 @@ pub record CameFrom (records : List Record) (v : ℕ) (older : Option ℕ) (newe
 is_of_it : (v set : ℕ) (r : Record) → r.volume ≡ v → r.set ≡ set → is_of v set r ≡ true
 is_of_it v set r a b = grind (arith, nat_tests)
 
-came_from : (records : List Record) (v : ℕ) (older : Option ℕ) (newest slot set b : ℕ) → 0 < set → slice_get (merged v older newest records) slot ≡ Some (record_of v set b) → CameFrom records v older newest slot set b
+came_from : (records : List Record) (v : ℕ) (older : Option ℕ) (newest slot set b : ℕ) → 0 < set → slice_get (merged v older newest records) slot ≡ Some (record_of v set b)
+    → CameFrom records v older newest slot set b
 came_from records v older newest slot set b above at =
     let was = was_row (merged_row records v older newest) records slot (record_of v set b) at in
     by_case was.0 was.1 (merged_from records v older newest was.0 (record_of v set b) was.2) where
@@ -60,7 +61,8 @@ came_from records v older newest slot set b above at =
           }
 
 -- what is found for an older set stays where it was
-module _ (records : List Record) (images : List ℕ) (v set newest b : ℕ) (rise : AreImages images) (of : AreOf v records images) (above : 0 < set) (newer : set < newest) (o : ℕ) (next : next_older images newest ≡ Some o) (reached : set ≤ o) where
+module _ (records : List Record) (images : List ℕ) (v set newest b : ℕ) (rise : AreImages images) (of : AreOf v records images) (above : 0 < set) (newer : set < newest) (o : ℕ)
+    (next : next_older images newest ≡ Some o) (reached : set ≤ o) where
   gone_down : o < newest
   gone_down = (next_older_is images newest o next).0
 
@@ -126,12 +128,15 @@ module _ (records : List Record) (images : List ℕ) (v set newest b : ℕ) (ris
         | inr given ↦ none slot newest (from.was ∙ ap (λ (s : ℕ). Some (record_of v s b)) given.0) (omega arith)
       ]
 
-found_merged : (records : List Record) (images : List ℕ) (v set newest b slot : ℕ) → AreImages images → AreOf v records images → 0 < set → set < newest → Contains images set → IsFirstCopy records v set b slot → IsFirstCopy (merged v (next_older images newest) newest records) v set b slot
+found_merged : (records : List Record) (images : List ℕ) (v set newest b slot : ℕ) → AreImages images → AreOf v records images → 0 < set → set < newest → Contains images set
+    → IsFirstCopy records v set b slot → IsFirstCopy (merged v (next_older images newest) newest records) v set b slot
 found_merged records images v set newest b slot rise of above newer at found =
     let reach = next_older_reaches images newest set rise.ascend at newer in
-    subst (λ (older : Option ℕ). IsFirstCopy (merged v older newest records) v set b slot) (sym reach.1) (found_after records images v set newest b rise of above newer reach.0 reach.1 reach.2 slot found)
+    subst (λ (older : Option ℕ). IsFirstCopy (merged v older newest records) v set b slot) (sym reach.1)
+    (found_after records images v set newest b rise of above newer reach.0 reach.1 reach.2 slot found)
 
-none_merged : (records : List Record) (images : List ℕ) (v set newest b : ℕ) → AreImages images → AreOf v records images → 0 < set → set < newest → Contains images set → HasNoCopy records v set b → HasNoCopy (merged v (next_older images newest) newest records) v set b
+none_merged : (records : List Record) (images : List ℕ) (v set newest b : ℕ) → AreImages images → AreOf v records images → 0 < set → set < newest → Contains images set → HasNoCopy records v set b
+    → HasNoCopy (merged v (next_older images newest) newest records) v set b
 none_merged records images v set newest b rise of above newer at none =
     let reach = next_older_reaches images newest set rise.ascend at newer in
     subst (λ (older : Option ℕ). HasNoCopy (merged v older newest records) v set b) (sym reach.1) (none_after records images v set newest b rise of above newer reach.0 reach.1 reach.2 none)
@@ -193,7 +198,8 @@ map_same : {X Y : Type 0} (f g : X → Y) (xs : List X) → ((x : X) → f x ≡
 map_same f g [] e = refl
 map_same f g (x ∷ xs) e = ap (λ y. y ∷ map f xs) (e x) ∙ ap (λ ys. g x ∷ ys) (map_same f g xs e)
 
-cleared_same : (records : List Record) (images : List ℕ) (v set newest : ℕ) → AreImages images → set < newest → Contains images set → cleared v set (merged v (next_older images newest) newest records) ≡ cleared v set records
+cleared_same : (records : List Record) (images : List ℕ) (v set newest : ℕ) → AreImages images → set < newest → Contains images set
+    → cleared v set (merged v (next_older images newest) newest records) ≡ cleared v set records
 cleared_same records images v set newest rise newer at =
     let reach = next_older_reaches images newest set rise.ascend at newer in
     let low = (next_older_is images newest reach.0 reach.1).0 in
@@ -231,7 +237,8 @@ pub record IsMerging {D : Type 0} (told : D → Option (List (List ℕ))) (old n
   pub sets : filter (λ s. nat_le s set) (images_on now v) ≡ filter (λ s. nat_le s set) (images_on old v)
   pub others : (xs : List ℕ) → slice_set now.images v xs ≡ slice_set old.images v xs
 
-pub merging_none : {D : Type 0} (told : D → Option (List (List ℕ))) (old : CopiesValue D) (v set : ℕ) → is_among set (images_on old v) ≡ true → 0 < set → AreImages (images_on old v) → AreOf v old.area.records (images_on old v)
+pub merging_none : {D : Type 0} (told : D → Option (List (List ℕ))) (old : CopiesValue D) (v set : ℕ) → is_among set (images_on old v) ≡ true → 0 < set → AreImages (images_on old v)
+    → AreOf v old.area.records (images_on old v)
     → ((n : ℕ) → slice_get old.area.volumes v ≡ Some n → AreWithin v n old.area.records) → IsMerging told old old v set
 merging_none told old v set among above rise of within = record {
   dropping = dropping_none told old v set among;
@@ -248,7 +255,8 @@ merging_none told old v set among above rise of within = record {
 
 -- one more
 merging_one : {D : Type 0} (told : D → Option (List (List ℕ))) (old now : CopiesValue D) (v set newest : ℕ) → IsMerging told old now v set → set < newest → Contains (images_on now v) newest
-    → ((devices : List D) (hs : List History) → StandsFor told (group_of devices now) hs → StandsFor told (group_of devices (after_merge now v newest)) (changed_at v (dropped newest) hs)) → IsMerging told old (after_merge now v newest) v set
+    → ((devices : List D) (hs : List History) → StandsFor told (group_of devices now) hs → StandsFor told (group_of devices (after_merge now v newest)) (changed_at v (dropped newest) hs))
+    → IsMerging told old (after_merge now v newest) v set
 merging_one {D = D} told old now v set newest m newer at drops =
     let there = among_of newest (images_on now v) at in
     let has = contains_of set (images_on now v) m.dropping.among in
@@ -266,13 +274,15 @@ merging_one {D = D} told old now v set newest m newer at drops =
       others = λ xs. set_twice now.images v (filter (λ s. not (s == newest)) (images_on now v)) xs ∙ m.others xs;
     }
 
-pub merging_more : {D : Type 0} (told : D → Option (List (List ℕ))) (old now new : CopiesValue D) (v set newest : ℕ) → IsMerging told old now v set → set < newest → Contains (images_on now v) newest → new ≡ after_merge now v newest
+pub merging_more : {D : Type 0} (told : D → Option (List (List ℕ))) (old now new : CopiesValue D) (v set newest : ℕ) → IsMerging told old now v set → set < newest → Contains (images_on now v) newest
+    → new ≡ after_merge now v newest
     → ((devices : List D) (hs : List History) → StandsFor told (group_of devices now) hs → StandsFor told (group_of devices new) (changed_at v (dropped newest) hs)) → IsMerging told old new v set
 merging_more {D = D} told old now new v set newest m newer at is drops =
     subst (λ (c : CopiesValue D). IsMerging told old c v set) (sym is) (merging_one told old now v set newest m newer at
     (λ devices hs stands. subst (λ (c : CopiesValue D). StandsFor told (group_of devices c) (changed_at v (dropped newest) hs)) is (drops devices hs stands)))
 
-pub merging_end : {D : Type 0} (told : D → Option (List (List ℕ))) (old now : CopiesValue D) (v set : ℕ) → IsMerging told old now v set → v < length old.area.volumes → All (λ s. s ≤ set) (images_on now v) → IsMergedTo told old now v set
+pub merging_end : {D : Type 0} (told : D → Option (List (List ℕ))) (old now : CopiesValue D) (v set : ℕ) → IsMerging told old now v set → v < length old.area.volumes
+    → All (λ s. s ≤ set) (images_on now v) → IsMergedTo told old now v set
 merging_end told old now v set m inside most = record {
   gone = dropping_end told old now v set m.dropping inside most;
   found = m.found;
@@ -296,7 +306,8 @@ last_or (x ∷ rest) set rise =
       | inr older ↦ inl (last_most xs set 0 rise.ascend older)
     ]
 
-pub merge_all : {D : Type 0} (told : D → Option (List (List ℕ))) (old now : CopiesValue D) (v set fuel : ℕ) → length (images_on now v) ≤ fuel → IsMerging told old now v set → v < length old.area.volumes → AreMergeable told old v set
+pub merge_all : {D : Type 0} (told : D → Option (List (List ℕ))) (old now : CopiesValue D) (v set fuel : ℕ) → length (images_on now v) ≤ fuel → IsMerging told old now v set
+    → v < length old.area.volumes → AreMergeable told old v set
 merge_all told old now v set zero few m inside =
     record { mid = now; merged_to = merging_end told old now v set m inside (λ k d l. absurd (omega arith)) }
 merge_all {D = D} told old now v set (suc fuel) few m inside = elim (last_or (images_on now v) set m.rise) [

@@ -73,6 +73,15 @@ pub one_cut : {D : Type 0} → (told : D → Option (List (List ℕ))) (old new 
     → ((hs : List History) → StandsFor told old hs → StandsFor told new (changed_at 0 f hs)) → (h : History) → StandsForOne told old h → StandsForOne told new (f h)
 one_cut told old new f stands h stood = stands (h ∷ []) stood
 
+-- histories of a group of one volume are one history
+pub one_untold : {D : Type 0} → (told : D → Option (List (List ℕ))) (volume : GroupValue D) → length volume.area.volumes ≡ 1 → (hs : List History) × StandsFor told volume hs
+    → (h : History) × StandsForOne told volume h
+one_untold told volume one some = of_one some.0 some.1 where
+  of_one : (hs : List History) → StandsFor told volume hs → (h : History) × StandsForOne told volume h
+  of_one [] stood = let many = stood.histories in absurd (omega arith)
+  of_one (h ∷ []) stood = (h, stood)
+  of_one (h ∷ k ∷ hs) stood = let many = stood.histories in absurd (omega arith)
+
 -- ## reads
 
 pub one_now : {D : Type 0} → (told : D → Option (List (List ℕ))) (volume : GroupValue D) (b : ℕ) (bytes : List ℕ)
@@ -110,7 +119,8 @@ one_lent told volume set b (Ok (Some x)) bytes_of one is = one_shown told volume
 one_lent told volume set b (Err e) bytes_of one is = tt
 
 -- why no block of an image is shown, where nothing was called
-pub one_unseen : {D : Type 0} → (count : D → ℕ) (volume : GroupValue D) (set b : ℕ) (fault : ImageFault) → IsUnseen (image_sets volume) (blocks_of volume) set b fault → HasImageCause count 0 set b volume volume fault
+pub one_unseen : {D : Type 0} → (count : D → ℕ) (volume : GroupValue D) (set b : ℕ) (fault : ImageFault) → IsUnseen (image_sets volume) (blocks_of volume) set b fault
+    → HasImageCause count 0 set b volume volume fault
 one_unseen count volume set b NoImage is = (is, refl)
 one_unseen count volume set b NoBlock is = (is.0, is.1, refl)
 one_unseen count volume set b VolumeFailed is = absurd is
@@ -167,6 +177,7 @@ one_revert told size count lending old new set (Ok done) is = record {
   kept = is.kept;
   stands = λ h p stood point. is.stands (h ∷ []) p stood point;
   unfailed = is.unfailed;
+  slots = is.slots;
 }
 one_revert told size count lending old new set (Err NoSuchImage) is = is
 one_revert told size count lending old new set (Err (Fault restored cause)) is = (
@@ -175,6 +186,7 @@ one_revert told size count lending old new set (Err (Fault restored cause)) is =
     kept = is.0.kept;
     fewer = λ h p stood point. is.0.fewer (h ∷ []) p stood point;
     stands = λ h p stood point. is.0.stands (h ∷ []) p stood point;
+    slots = is.0.slots;
   },
   is.1,
 )

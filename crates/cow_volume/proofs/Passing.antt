@@ -1,5 +1,6 @@
 -- The records of a volume, brought in step with its map's rows entry by entry of the map's list.
-use Rattle.std.proofs.Common.{ℕ, zero, suc, ◌≡◌, ◌≢◌, ◌<◌, ◌≤◌, ◌+◌, Bool, true, false, ◌&&◌, List, [], ◌∷◌, length, map, take, get_or, Option, Some, slice_get, slice_set, refl, sym, ap, ◌∙◌, subst, arith, inl, inr, ◌⊎◌}
+use Rattle.std.proofs.Common.{ℕ, zero, suc, ◌≡◌, ◌≢◌, ◌<◌, ◌≤◌, ◌+◌, Bool, true, false, ◌&&◌, List, [], ◌∷◌, length, map, take, get_or, Option, Some, slice_get, slice_set, refl, sym, ap, ◌∙◌, subst}
+use Rattle.std.proofs.Common.{arith, inl, inr, ◌⊎◌}
 use Rattle.std.specs.Prelude.{◌==◌, nat_lt}
 use Rattle.std.specs.Option.{option_and_then}
 use Rattle.std.proofs.lemmas.Bool.{cases_eq}
@@ -76,7 +77,8 @@ module _ (v : ℕ) (rule : Copied → Option Copied) where
   set_own : (rs : List Record) (e : Entry) (k : ℕ) (y : Record) → k < length rs → e.slot ≡ k → entry_row v rule e ≡ y → slice_get (pass v rule rs e) k ≡ Some y
   set_own rs e k y inside own is = ap (λ (j : ℕ). slice_get (slice_set rs j (entry_row v rule e)) k) own ∙ own_set rs k (entry_row v rule e) inside ∙ ap (λ (x : Record). Some x) is
 
-  stays : (es : List Entry) (rs : List Record) (k : ℕ) (y : Record) → slice_get rs k ≡ Some y → ((i : ℕ) (e : Entry) → slice_get es i ≡ Some e → e.slot ≡ k → entry_row v rule e ≡ y) → slice_get (passed v rule es rs) k ≡ Some y
+  stays : (es : List Entry) (rs : List Record) (k : ℕ) (y : Record) → slice_get rs k ≡ Some y → ((i : ℕ) (e : Entry) → slice_get es i ≡ Some e → e.slot ≡ k → entry_row v rule e ≡ y)
+      → slice_get (passed v rule es rs) k ≡ Some y
   stays [] rs k y at same = at
   stays (e ∷ es) rs k y at same = stays es (pass v rule rs e) k y
       (elim (cases_eq e.slot k) [
@@ -85,7 +87,8 @@ module _ (v : ℕ) (rule : Copied → Option Copied) where
       ])
       (λ i f. same (suc i) f)
 
-  reached : (es : List Entry) (rs : List Record) (k : ℕ) (y : Record) (i : ℕ) (e : Entry) → slice_get es i ≡ Some e → e.slot ≡ k → k < length rs → ((j : ℕ) (f : Entry) → slice_get es j ≡ Some f → f.slot ≡ k → entry_row v rule f ≡ y) → slice_get (passed v rule es rs) k ≡ Some y
+  reached : (es : List Entry) (rs : List Record) (k : ℕ) (y : Record) (i : ℕ) (e : Entry) → slice_get es i ≡ Some e → e.slot ≡ k → k < length rs
+      → ((j : ℕ) (f : Entry) → slice_get es j ≡ Some f → f.slot ≡ k → entry_row v rule f ≡ y) → slice_get (passed v rule es rs) k ≡ Some y
   reached [] rs k y i e at own inside same = absurd (none-some e at)
   reached (x ∷ es) rs k y zero e at own inside same =
       let is : x.slot ≡ k = ap (λ (z : Entry). z.slot) (same_Some x e at) ∙ own in
@@ -95,7 +98,8 @@ module _ (v : ℕ) (rule : Copied → Option Copied) where
       reached es (pass v rule rs x) k y i e at own (omega arith) (λ j f. same (suc j) f)
 
   -- a record stood there before, or is that of an entry that was passed
-  pub passed_from : (es : List Entry) (rs : List Record) (k : ℕ) (y : Record) → slice_get (passed v rule es rs) k ≡ Some y → (slice_get rs k ≡ Some y) ⊎ ((i : ℕ) × (e : Entry) × (slice_get es i ≡ Some e) × (e.slot ≡ k) × (entry_row v rule e ≡ y))
+  pub passed_from : (es : List Entry) (rs : List Record) (k : ℕ) (y : Record) → slice_get (passed v rule es rs) k ≡ Some y
+      → (slice_get rs k ≡ Some y) ⊎ ((i : ℕ) × (e : Entry) × (slice_get es i ≡ Some e) × (e.slot ≡ k) × (entry_row v rule e ≡ y))
   passed_from [] rs k y h = inl h
   passed_from (e ∷ es) rs k y h = elim (passed_from es (pass v rule rs e) k y h) [
     | inr at ↦ inr (suc at.0, at.1, at.2, at.3, at.4)
@@ -134,7 +138,8 @@ module _ (v : ℕ) (rule : Copied → Option Copied) (entries : List Entry) (rec
   still_there i e at = untouched v rule (take i entries) records e.slot (λ j f there. let was = taken_at entries i j f there in differ j i f e was.1 at was.0) ∙ record_at i e at
 
   -- an entry that is passed as it is
-  pub passed_kept : (i : ℕ) (e : Entry) → slice_get entries i ≡ Some e → rule (copy_of e.set e.block) ≡ Some (copy_of e.set e.block) → passed v rule (take (i + 1) entries) records ≡ passed v rule (take i entries) records
+  pub passed_kept : (i : ℕ) (e : Entry) → slice_get entries i ≡ Some e → rule (copy_of e.set e.block) ≡ Some (copy_of e.set e.block)
+      → passed v rule (take (i + 1) entries) records ≡ passed v rule (take i entries) records
   passed_kept i e at keeps =
       passed_more v rule entries records i e at
       ∙ set-same (passed v rule (take i entries) records) e.slot (entry_row v rule e)
@@ -144,7 +149,8 @@ module _ (v : ℕ) (rule : Copied → Option Copied) (entries : List Entry) (rec
   row_by k r y at is = by_test (nat_lt 0 r.set && (r.volume == v)) refl where
     by_test : (t : Bool) → (nat_lt 0 r.set && (r.volume == v)) ≡ t → slice_get (passed v rule entries records) k ≡ Some y
     by_test false e =
-        untouched v rule entries records k (λ i f there own. none-some (copy_of f.set f.block) (sym (copied_for-none v r e) ∙ sym (row_at v records k r at) ∙ ap (copied_at (map (copied_for v) records)) (sym own) ∙ noted_at i f there))
+        untouched v rule entries records k
+        (λ i f there own. none-some (copy_of f.set f.block) (sym (copied_for-none v r e) ∙ sym (row_at v records k r at) ∙ ap (copied_at (map (copied_for v) records)) (sym own) ∙ noted_at i f there))
         ∙ at ∙ ap (λ (x : Record). Some x) (sym (is ∙ follows-other v (option_and_then rule (copied_for v r)) r e))
     by_test true e =
         let both = both_from r.set v r.volume e in
@@ -184,7 +190,8 @@ pub entry_at : (entries : List Entry) (i : ℕ) (d : Entry) → i < length entri
 entry_at entries i d inside = slice_get_read entries (length entries) i (get_or entries i d) refl inside (sym (get_or_default entries i (get_or entries i d) d inside))
 
 -- the record of an entry was set
-pub step_set : {D : Type 0} (first old new : AreaValue D) (v : ℕ) (rule : Copied → Option Copied) (entries : List Entry) (i : ℕ) (e : Entry) (row : Record) → slice_get entries i ≡ Some e → old ≡ with_records (passed v rule (take i entries) first.records) first
+pub step_set : {D : Type 0} (first old new : AreaValue D) (v : ℕ) (rule : Copied → Option Copied) (entries : List Entry) (i : ℕ) (e : Entry) (row : Record) → slice_get entries i ≡ Some e
+    → old ≡ with_records (passed v rule (take i entries) first.records) first
     → new ≡ with_records (slice_set old.records e.slot row) old → entry_row v rule e ≡ row → new ≡ with_records (passed v rule (take (i + 1) entries) first.records) first
 step_set {D = D} first old new v rule entries i e row at was new_is row_is =
     new_is ∙ ap (λ (a : AreaValue D). with_records (slice_set a.records e.slot row) a) was
@@ -192,11 +199,13 @@ step_set {D = D} first old new v rule entries i e row at was new_is row_is =
     ∙ ap (λ rs. with_records rs first) (sym (passed_more v rule entries first.records i e at))
 
 -- the record of an entry stayed
-pub step_kept : {D : Type 0} (first old : AreaValue D) (v : ℕ) (rule : Copied → Option Copied) (entries : List Entry) (i : ℕ) (e : Entry) → IsIndex entries (map (copied_for v) first.records) → slice_get entries i ≡ Some e → old ≡ with_records (passed v rule (take i entries) first.records) first
+pub step_kept : {D : Type 0} (first old : AreaValue D) (v : ℕ) (rule : Copied → Option Copied) (entries : List Entry) (i : ℕ) (e : Entry) → IsIndex entries (map (copied_for v) first.records)
+    → slice_get entries i ≡ Some e → old ≡ with_records (passed v rule (take i entries) first.records) first
     → rule (copy_of e.set e.block) ≡ Some (copy_of e.set e.block) → old ≡ with_records (passed v rule (take (i + 1) entries) first.records) first
 step_kept first old v rule entries i e index at was keeps = was ∙ ap (λ rs. with_records rs first) (sym (passed_kept v rule entries first.records index i e at keeps))
 
-pub slot_within : {D : Type 0} (first old : AreaValue D) (v : ℕ) (rule : Copied → Option Copied) (entries : List Entry) (i : ℕ) (e : Entry) → IsIndex entries (map (copied_for v) first.records) → slice_get entries i ≡ Some e → old ≡ with_records (passed v rule (take i entries) first.records) first
+pub slot_within : {D : Type 0} (first old : AreaValue D) (v : ℕ) (rule : Copied → Option Copied) (entries : List Entry) (i : ℕ) (e : Entry) → IsIndex entries (map (copied_for v) first.records)
+    → slice_get entries i ≡ Some e → old ≡ with_records (passed v rule (take i entries) first.records) first
     → e.slot < length old.records
 slot_within first old v rule entries i e index at was =
     let same : length old.records ≡ length (passed v rule (take i entries) first.records) = ap (λ a. length a.records) was in
@@ -205,6 +214,7 @@ slot_within first old v rule entries i e index at was =
     omega arith
 
 -- all entries were passed
-pub passes_end : {D : Type 0} (first old : AreaValue D) (v : ℕ) (rule : Copied → Option Copied) (entries : List Entry) (n : ℕ) → IsIndex entries (map (copied_for v) first.records) → old ≡ with_records (passed v rule (take n entries) first.records) first → length entries ≤ n
+pub passes_end : {D : Type 0} (first old : AreaValue D) (v : ℕ) (rule : Copied → Option Copied) (entries : List Entry) (n : ℕ) → IsIndex entries (map (copied_for v) first.records)
+    → old ≡ with_records (passed v rule (take n entries) first.records) first → length entries ≤ n
     → old ≡ with_records (followed v (renewed rule (map (copied_for v) first.records)) first.records) first
 passes_end first old v rule entries n index was whole = was ∙ ap (λ rs. with_records rs first) (passed_whole v rule entries first.records index n whole)

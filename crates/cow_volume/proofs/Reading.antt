@@ -26,7 +26,8 @@ pub content_all : (ws : List Write) (b : ℕ) → content ws (length ws) b ≡ l
 content_all ws b = ap (last_bytes b zeros) (take_all (length ws) ws (omega arith))
 
 -- a block that no write names is as it was
-unnamed_test : (t : Bool) (b : ℕ) (before bytes : List ℕ) (ws : List Write) → ((found : List ℕ) → names ws b ≡ false → last_bytes b found ws ≡ found) → (t || names ws b) ≡ false → last_bytes b (if t then bytes else before) ws ≡ before
+unnamed_test : (t : Bool) (b : ℕ) (before bytes : List ℕ) (ws : List Write) → ((found : List ℕ) → names ws b ≡ false → last_bytes b found ws ≡ found) → (t || names ws b) ≡ false
+    → last_bytes b (if t then bytes else before) ws ≡ before
 unnamed_test true b before bytes ws rest none = cc
 unnamed_test false b before bytes ws rest none = rest before none
 
@@ -83,13 +84,15 @@ named_rest ws i newer set b other = ap (λ (t : Bool). if t then names (writes_s
 -- ## a block that no image names
 
 -- from the first image on
-unnamed_from : (ws : List Write) (i : Image) (newer : List Image) (b : ℕ) → AreInTime (length ws) (i ∷ newer) → ((m : ℕ) → i.set ≤ m → is_named ws (i ∷ newer) m b ≡ false) → content ws i.point b ≡ content ws (length ws) b
+unnamed_from : (ws : List Write) (i : Image) (newer : List Image) (b : ℕ) → AreInTime (length ws) (i ∷ newer) → ((m : ℕ) → i.set ≤ m → is_named ws (i ∷ newer) m b ≡ false)
+    → content ws i.point b ≡ content ws (length ws) b
 unnamed_from ws i [] b time none = unnamed_since ws i.point b (sym (named_first ws i [] b) ∙ none i.set (omega arith))
 unnamed_from ws i (j ∷ newer) b time none =
     unnamed_between ws i.point j.point b time.1.1 (sym (named_first ws i (j ∷ newer) b) ∙ none i.set (omega arith))
     ∙ unnamed_from ws j newer b time.2 (λ m l. let later = time.1.0 in sym (named_rest ws i (j ∷ newer) m b (λ e. absurd (omega arith))) ∙ none m (omega arith))
 
-to_end_if : (t : Bool) (ws : List Write) (i : Image) (images : List Image) (set p b : ℕ) → (i.set == set) ≡ t → AreInTime (length ws) (i ∷ images) → ((m : ℕ) → set ≤ m → is_named ws (i ∷ images) m b ≡ false)
+to_end_if : (t : Bool) (ws : List Write) (i : Image) (images : List Image) (set p b : ℕ) → (i.set == set) ≡ t → AreInTime (length ws) (i ∷ images)
+    → ((m : ℕ) → set ≤ m → is_named ws (i ∷ images) m b ≡ false)
     → (point_in set images ≡ Some p → ((m : ℕ) → set ≤ m → is_named ws images m b ≡ false) → content ws p b ≡ content ws (length ws) b)
     → (if t then Some i.point else point_in set images) ≡ Some p → content ws p b ≡ content ws (length ws) b
 to_end_if true ws i images set p b is time none rest at =
@@ -99,12 +102,14 @@ to_end_if false ws i images set p b is time none rest at =
     let later = later_set i images set p time.1 at in
     rest at (λ m l. sym (named_rest ws i images m b (λ e. absurd (omega arith))) ∙ none m l)
 
-pub unnamed_to_end : (ws : List Write) (images : List Image) (set p b : ℕ) → AreInTime (length ws) images → point_in set images ≡ Some p → ((m : ℕ) → set ≤ m → is_named ws images m b ≡ false) → content ws p b ≡ content ws (length ws) b
+pub unnamed_to_end : (ws : List Write) (images : List Image) (set p b : ℕ) → AreInTime (length ws) images → point_in set images ≡ Some p → ((m : ℕ) → set ≤ m → is_named ws images m b ≡ false)
+    → content ws p b ≡ content ws (length ws) b
 unnamed_to_end ws [] set p b time at none = cc
 unnamed_to_end ws (i ∷ images) set p b time at none = to_end_if (i.set == set) ws i images set p b refl time none (unnamed_to_end ws images set p b time.2) at
 
 -- from the first image on to another
-unnamed_up_to : (ws : List Write) (i : Image) (newer : List Image) (m q b : ℕ) → AreInTime (length ws) (i ∷ newer) → point_in m (i ∷ newer) ≡ Some q → ((k : ℕ) → i.set ≤ k → k < m → is_named ws (i ∷ newer) k b ≡ false)
+unnamed_up_to : (ws : List Write) (i : Image) (newer : List Image) (m q b : ℕ) → AreInTime (length ws) (i ∷ newer) → point_in m (i ∷ newer) ≡ Some q
+    → ((k : ℕ) → i.set ≤ k → k < m → is_named ws (i ∷ newer) k b ≡ false)
     → content ws i.point b ≡ content ws q b
 unnamed_up_to ws i [] m q b time at none = only (i.set == m) at where
   only : (t : Bool) → (if t then Some i.point else None) ≡ Some q → content ws i.point b ≡ content ws q b
@@ -135,7 +140,8 @@ up_to_if false ws i images set m p q b is l time at none rest from =
 pub unnamed_to : (ws : List Write) (images : List Image) (set m p q b : ℕ) → set ≤ m → AreInTime (length ws) images → point_in set images ≡ Some p → point_in m images ≡ Some q
     → ((k : ℕ) → set ≤ k → k < m → is_named ws images k b ≡ false) → content ws p b ≡ content ws q b
 unnamed_to ws [] set m p q b l time from at none = cc
-unnamed_to ws (i ∷ images) set m p q b l time from at none = up_to_if (i.set == set) ws i images set m p q b refl l time at none (λ from at none. unnamed_to ws images set m p q b l time.2 from at none) from
+unnamed_to ws (i ∷ images) set m p q b l time from at none = up_to_if (i.set == set) ws i images set m p q b refl l time at none
+    (λ from at none. unnamed_to ws images set m p q b l time.2 from at none) from
 
 -- ## what is read
 
@@ -147,7 +153,8 @@ slice_get-range f a (suc n) (suc i) l = let e : a + 1 + i ≡ a + suc i = omega 
 pub contents_at : (n : ℕ) (ws : List Write) (k b : ℕ) → b < n → slice_get (contents n ws k) b ≡ Some (content ws k b)
 contents_at n ws k b l = let e : 0 + b ≡ b = omega arith in slice_get-range (content ws k) 0 n b l ∙ ap (λ c. Some (content ws k c)) e
 
-now_if : (told : Option (List (List ℕ))) (n b : ℕ) (ws : List Write) → b < n → IfSome told (λ blocks. blocks ≡ contents n ws (length ws)) → IfSome told (λ blocks. slice_get blocks b ≡ Some (content ws (length ws) b))
+now_if : (told : Option (List (List ℕ))) (n b : ℕ) (ws : List Write) → b < n → IfSome told (λ blocks. blocks ≡ contents n ws (length ws))
+    → IfSome told (λ blocks. slice_get blocks b ≡ Some (content ws (length ws) b))
 now_if None n b ws l held = tt
 now_if (Some blocks) n b ws l held = ap (λ (bs : List (List ℕ)). slice_get bs b) held ∙ contents_at n ws (length ws) b l
 
@@ -220,7 +227,8 @@ place_of_block told g hs v b stands l =
     }
 
 -- a block of a device that tells is one
-pub one_told : (told : Option (List (List ℕ))) (b : ℕ) (x y : List ℕ) → IfSome told (λ blocks. slice_get blocks b ≡ Some x) → IfSome told (λ blocks. slice_get blocks b ≡ Some y) → is_some told ≡ true → x ≡ y
+pub one_told : (told : Option (List (List ℕ))) (b : ℕ) (x y : List ℕ) → IfSome told (λ blocks. slice_get blocks b ≡ Some x) → IfSome told (λ blocks. slice_get blocks b ≡ Some y) → is_some told ≡ true
+    → x ≡ y
 one_told None b x y one two tells = cc
 one_told (Some blocks) b x y one two tells = same_Some x y (sym one ∙ two)
 
@@ -234,7 +242,8 @@ group_now told g v b d bytes l device held = λ hs x stands at tells area_tells.
     one_told (told x) b bytes (content (history_at hs v).writes (length (history_at hs v).writes) b)
     (subst (λ (y : _). IfSome (told y) (λ blocks. slice_get blocks b ≡ Some bytes)) there held)
     (subst (λ (y : _). IfSome (told y) (λ blocks. slice_get blocks b ≡ Some (content (history_at hs v).writes (length (history_at hs v).writes) b))) here
-    (subst (λ (t : Option (List (List ℕ))). IfSome t (λ blocks. slice_get blocks b ≡ Some (content (history_at hs v).writes (length (history_at hs v).writes) b))) (told_in-tells (told g.area.device) (told place.device) area_tells)
+    (subst (λ (t : Option (List (List ℕ))). IfSome t (λ blocks. slice_get blocks b ≡ Some (content (history_at hs v).writes (length (history_at hs v).writes) b)))
+    (told_in-tells (told g.area.device) (told place.device) area_tells)
     (now (told_in (told g.area.device) (told place.device)) (told g.area.device) g.area.records v place.blocks (sets_at g v) (history_at hs v) b place.stands place.within))) tells
 
 -- where no image from the asked one on has a copy, it is what the image shows

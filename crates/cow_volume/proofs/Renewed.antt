@@ -1,5 +1,6 @@
 -- What the parts keep in step where the copies of a volume's images are renewed by a rule.
-use Rattle.std.proofs.Common.{ℕ, zero, suc, ◌≡◌, ◌≢◌, ◌<◌, Bool, true, false, ◌&&◌, List, [], ◌∷◌, length, map, Option, Some, None, slice_get, slice_set, refl, sym, ap, ◌∙◌, subst, arith, inl, inr, ◌⊎◌}
+use Rattle.std.proofs.Common.{ℕ, zero, suc, ◌≡◌, ◌≢◌, ◌<◌, Bool, true, false, ◌&&◌, List, [], ◌∷◌, length, map, Option, Some, None, slice_get, slice_set, refl, sym, ap, ◌∙◌, subst, arith, inl, inr}
+use Rattle.std.proofs.Common.{◌⊎◌}
 use Rattle.std.specs.Prelude.{◌==◌, nat_lt, is_some, IsSome, IsNone}
 use Rattle.std.specs.Option.{option_and_then}
 use Rattle.std.proofs.lemmas.Bool.{false≢true}
@@ -42,7 +43,8 @@ noted_taken records v slot (Some c) e some =
     mapped (q ∷ rs) zero r h = ap (λ (x : Record). Some (is_free x)) (same_Some q r h)
     mapped (q ∷ rs) (suc k) r h = mapped rs k r h
 
-pub all_taken : (volumes : List ℕ) (records : List Record) (maps : List MapValue) (pool : List Bool) (v : ℕ) (m : MapValue) → AreTied volumes records maps pool → slice_get maps v ≡ Some m → AllTaken m.copies pool
+pub all_taken : (volumes : List ℕ) (records : List Record) (maps : List MapValue) (pool : List Bool) (v : ℕ) (m : MapValue) → AreTied volumes records maps pool → slice_get maps v ≡ Some m
+    → AllTaken m.copies pool
 all_taken volumes records maps pool v m tied at slot some =
     let copies = (tied.each v m at).copies in
     subst (λ (p : List Bool). IsTaken p slot) (sym tied.pool_is)
@@ -50,11 +52,13 @@ all_taken volumes records maps pool v m tied at slot some =
 
 -- ## what follows
 
-followed_map : (v : ℕ) (rule : Copied → Option Copied) (f : Record → Record) (xs : List Record) → ((r : Record) → followed_row v (option_and_then rule (copied_for v r)) r ≡ f r) → followed v (map (option_and_then rule) (map (copied_for v) xs)) xs ≡ map f xs
+followed_map : (v : ℕ) (rule : Copied → Option Copied) (f : Record → Record) (xs : List Record) → ((r : Record) → followed_row v (option_and_then rule (copied_for v r)) r ≡ f r)
+    → followed v (map (option_and_then rule) (map (copied_for v) xs)) xs ≡ map f xs
 followed_map v rule f [] row = refl
 followed_map v rule f (r ∷ rs) row = ap (λ x. x ∷ followed v (map (option_and_then rule) (map (copied_for v) rs)) rs) (row r) ∙ ap (λ xs. f r ∷ xs) (followed_map v rule f rs row)
 
-pub followed_is : (records : List Record) (v : ℕ) (m n : MapValue) (rule : Copied → Option Copied) (f : Record → Record) → m.copies ≡ map (copied_for v) records → n.copies ≡ renewed rule m.copies → IsRuleOf records v rule f → followed v n.copies records ≡ map f records
+pub followed_is : (records : List Record) (v : ℕ) (m n : MapValue) (rule : Copied → Option Copied) (f : Record → Record) → m.copies ≡ map (copied_for v) records → n.copies ≡ renewed rule m.copies
+    → IsRuleOf records v rule f → followed v n.copies records ≡ map f records
 followed_is records v m n rule f was is rules =
     ap (λ cs. followed v cs records) (is ∙ ap (λ cs. map (option_and_then rule) cs) was) ∙ followed_map v rule f records rules.row
 
@@ -79,7 +83,8 @@ other_map u v (c ∷ copies) [] other = refl
 other_map u v (c ∷ copies) (r ∷ rs) other = ap (λ x. x ∷ map (copied_for u) (followed v copies rs)) (other_row u v c r other) ∙ ap (λ xs. copied_for u r ∷ xs) (other_map u v copies rs other)
 
 -- its own map
-own_row : (v : ℕ) (rule : Copied → Option Copied) (r : Record) → ((c d : Copied) → rule c ≡ Some d → 0 < c.set → 0 < d.set) → copied_for v (followed_row v (option_and_then rule (copied_for v r)) r) ≡ option_and_then rule (copied_for v r)
+own_row : (v : ℕ) (rule : Copied → Option Copied) (r : Record) → ((c d : Copied) → rule c ≡ Some d → 0 < c.set → 0 < d.set)
+    → copied_for v (followed_row v (option_and_then rule (copied_for v r)) r) ≡ option_and_then rule (copied_for v r)
 own_row v rule r above = by_test (nat_lt 0 r.set && (r.volume == v)) refl where
   by_copy : (p : Option Copied) → ((c : Copied) → p ≡ Some c → 0 < c.set) → copied_for v (record_for v p) ≡ p
   by_copy None some = refl
@@ -94,7 +99,8 @@ own_row v rule r above = by_test (nat_lt 0 r.set && (r.volume == v)) refl where
   by_test false e =
       ap (copied_for v) (follows-other v (option_and_then rule (copied_for v r)) r e) ∙ copied_for-none v r e ∙ sym (ap (option_and_then rule) (copied_for-none v r e))
 
-pub own_map : (v : ℕ) (rule : Copied → Option Copied) (records : List Record) → ((c d : Copied) → rule c ≡ Some d → 0 < c.set → 0 < d.set) → map (copied_for v) (followed v (map (option_and_then rule) (map (copied_for v) records)) records) ≡ map (option_and_then rule) (map (copied_for v) records)
+pub own_map : (v : ℕ) (rule : Copied → Option Copied) (records : List Record) → ((c d : Copied) → rule c ≡ Some d → 0 < c.set → 0 < d.set)
+    → map (copied_for v) (followed v (map (option_and_then rule) (map (copied_for v) records)) records) ≡ map (option_and_then rule) (map (copied_for v) records)
 own_map v rule [] above = refl
 own_map v rule (r ∷ rs) above =
     ap (λ x. x ∷ map (copied_for v) (followed v (map (option_and_then rule) (map (copied_for v) rs)) rs)) (own_row v rule r above)
@@ -114,18 +120,21 @@ get-map g (z ∷ xs) zero x h = ap (λ w. Some (g w)) (same_Some z x h)
 get-map g (z ∷ xs) (suc k) x h = get-map g xs k x h
 
 -- the pool, slot by slot
-pool_slot : (v : ℕ) (r : Record) (was is : Option Copied) (old new : Option Bool) → was ≡ copied_for v r → old ≡ Some (is_free r) → (IsSome was → IsNone is → new ≡ Some true) → (IsNone was ⊎ IsSome is → new ≡ old) → ((c : Copied) → is ≡ Some c → 0 < c.set) → (was ≡ None → is ≡ None) → new ≡ Some (is_free (followed_row v is r))
+pool_slot : (v : ℕ) (r : Record) (was is : Option Copied) (old new : Option Bool) → was ≡ copied_for v r → old ≡ Some (is_free r) → (IsSome was → IsNone is → new ≡ Some true)
+    → (IsNone was ⊎ IsSome is → new ≡ old) → ((c : Copied) → is ≡ Some c → 0 < c.set) → (was ≡ None → is ≡ None) → new ≡ Some (is_free (followed_row v is r))
 pool_slot v r was is old new was_is old_is freed kept above stays = by_test (nat_lt 0 r.set && (r.volume == v)) refl where
   by_copy : (p : Option Copied) → is ≡ p → 0 < r.set → r.volume ≡ v → new ≡ Some (is_free (record_for v is))
   by_copy None e some same = freed (ap is_some (was_is ∙ copied_for-is v r some same)) (ap is_some e) ∙ ap (λ (p : Option Copied). Some (is_free (record_for v p))) (sym e)
   by_copy (Some c) e some same =
-      kept (inr (ap is_some e)) ∙ old_is ∙ ap (λ (b : Bool). Some b) (used_is r some ∙ sym (used_is (record_of v c.set c.block) (above c e))) ∙ ap (λ (p : Option Copied). Some (is_free (record_for v p))) (sym e)
+      kept (inr (ap is_some e)) ∙ old_is ∙ ap (λ (b : Bool). Some b) (used_is r some ∙ sym (used_is (record_of v c.set c.block) (above c e)))
+      ∙ ap (λ (p : Option Copied). Some (is_free (record_for v p))) (sym e)
 
   by_test : (t : Bool) → (nat_lt 0 r.set && (r.volume == v)) ≡ t → new ≡ Some (is_free (followed_row v is r))
   by_test true e = let both = both_from r.set v r.volume e in by_copy is refl both.0 both.1 ∙ ap (λ (x : Record). Some (is_free x)) (sym (follows-of v is r both.0 both.1))
   by_test false e = kept (inl (ap is_some (was_is ∙ copied_for-none v r e))) ∙ old_is ∙ ap (λ (x : Record). Some (is_free x)) (sym (follows-other v is r e))
 
-pub pool_after : (records : List Record) (v : ℕ) (was is : List (Option Copied)) (rule : Copied → Option Copied) (old new : List Bool) → was ≡ map (copied_for v) records → is ≡ renewed rule was → old ≡ map is_free records → GivesBack was is old new → ((c d : Copied) → rule c ≡ Some d → 0 < c.set → 0 < d.set) → new ≡ map is_free (followed v is records)
+pub pool_after : (records : List Record) (v : ℕ) (was is : List (Option Copied)) (rule : Copied → Option Copied) (old new : List Bool) → was ≡ map (copied_for v) records → is ≡ renewed rule was
+    → old ≡ map is_free records → GivesBack was is old new → ((c d : Copied) → rule c ≡ Some d → 0 < c.set → 0 < d.set) → new ≡ map is_free (followed v is records)
 pool_after records v was is rule old new was_is is_is old_is gives above =
     let long_is : length is ≡ length records = ap length is_is ∙ length-map was (option_and_then rule) ∙ ap length was_is ∙ length-map records (copied_for v) in
     let long : length new ≡ length (map is_free (followed v is records)) =
@@ -145,7 +154,8 @@ pool_after records v was is rule old new was_is is_is old_is gives above =
     (λ none. is_at ∙ ap (option_and_then rule) none) in
     slot ∙ ap (λ (x : Record). Some (is_free x)) (sym row_is) ∙ ap (λ (t : Bool). Some t) from.2)
   where
-    some_above : (k : ℕ) (r : Record) (c : Copied) → slice_get records k ≡ Some r → copied_at was k ≡ copied_for v r → copied_at is k ≡ option_and_then rule (copied_at was k) → copied_at is k ≡ Some c → 0 < c.set
+    some_above : (k : ℕ) (r : Record) (c : Copied) → slice_get records k ≡ Some r → copied_at was k ≡ copied_for v r → copied_at is k ≡ option_and_then rule (copied_at was k)
+        → copied_at is k ≡ Some c → 0 < c.set
     some_above k r c at was_at is_at e = by_row (copied_for v r) refl where
       by_row : (o : Option Copied) → copied_for v r ≡ o → 0 < c.set
       by_row None h = absurd (none-some c (sym (is_at ∙ ap (option_and_then rule) (was_at ∙ h)) ∙ e))
@@ -153,7 +163,9 @@ pool_after records v was is rule old new was_is is_is old_is gives above =
 
 -- ## all of it
 
-pub tied_after : (volumes : List ℕ) (records : List Record) (maps : List MapValue) (pool new_pool : List Bool) (v : ℕ) (m n : MapValue) (rule : Copied → Option Copied) (f : Record → Record) → AreTied volumes records maps pool → slice_get maps v ≡ Some m → n.copies ≡ renewed rule m.copies → n.blocks ≡ m.blocks → IsMap n → GivesBack m.copies n.copies pool new_pool → IsRuleOf records v rule f → AreTied volumes (followed v n.copies records) (slice_set maps v n) new_pool
+pub tied_after : (volumes : List ℕ) (records : List Record) (maps : List MapValue) (pool new_pool : List Bool) (v : ℕ) (m n : MapValue) (rule : Copied → Option Copied) (f : Record → Record)
+    → AreTied volumes records maps pool → slice_get maps v ≡ Some m → n.copies ≡ renewed rule m.copies → n.blocks ≡ m.blocks → IsMap n → GivesBack m.copies n.copies pool new_pool
+    → IsRuleOf records v rule f → AreTied volumes (followed v n.copies records) (slice_set maps v n) new_pool
 tied_after volumes records maps pool new_pool v m n rule f tied at copies_are blocks_are is_map gives rules =
     let was = (tied.each v m at).copies in
     let is : n.copies ≡ map (option_and_then rule) (map (copied_for v) records) = copies_are ∙ ap (λ cs. map (option_and_then rule) cs) was in
@@ -162,7 +174,8 @@ tied_after volumes records maps pool new_pool v m n rule f tied at copies_are bl
       each = λ u w h. elim (get-set maps v u n w h) [
         | inl own ↦ record {
           blocks = ap (λ (k : ℕ). slice_get volumes k) own.0 ∙ (tied.each v m at).blocks ∙ ap (λ (k : ℕ). Some k) (sym (ap (λ (x : MapValue). x.blocks) own.1 ∙ blocks_are));
-          copies = ap (λ (x : MapValue). x.copies) own.1 ∙ is ∙ sym (own_map v rule records rules.above) ∙ ap (λ cs. map (copied_for v) (followed v cs records)) (sym is) ∙ ap (λ (k : ℕ). map (copied_for k) (followed v n.copies records)) (sym own.0);
+          copies = ap (λ (x : MapValue). x.copies) own.1 ∙ is ∙ sym (own_map v rule records rules.above) ∙ ap (λ cs. map (copied_for v) (followed v cs records)) (sym is)
+              ∙ ap (λ (k : ℕ). map (copied_for k) (followed v n.copies records)) (sym own.0);
           valid = subst IsMap (sym own.1) is_map;
         }
         | inr other ↦ record {

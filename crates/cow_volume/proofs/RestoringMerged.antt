@@ -28,29 +28,43 @@ use Rattle.cow_volume.proofs.RestoringSteps.{revert_done, revert_failed}
 pub keeps_itself : {D : Type 0} (told : D → Option (List (List ℕ))) (size count : D → ℕ) (lending : D → Bool) (g : GroupValue D) → KeepsCopies told size count lending g g
 keeps_itself told size count lending g = record { kept = kept_itself told size count lending g; records = refl; images = refl; slots = refl }
 
-keeps_more : {D : Type 0} (told : D → Option (List (List ℕ))) (size count : D → ℕ) (lending : D → Bool) (g now new : GroupValue D) → KeepsCopies told size count lending g now → KeepsCopies told size count lending now new → KeepsCopies told size count lending g new
-keeps_more told size count lending g now new a b = record { kept = kept_further told size count lending g now new a.kept b.kept; records = b.records ∙ a.records; images = b.images ∙ a.images; slots = b.slots ∙ a.slots }
+keeps_more : {D : Type 0} (told : D → Option (List (List ℕ))) (size count : D → ℕ) (lending : D → Bool) (g now new : GroupValue D) → KeepsCopies told size count lending g now
+    → KeepsCopies told size count lending now new → KeepsCopies told size count lending g new
+keeps_more told size count lending g now new a b = record {
+  kept = kept_further told size count lending g now new a.kept b.kept;
+  records = b.records ∙ a.records;
+  images = b.images
+      ∙ a.images;
+  slots = b.slots ∙ a.slots;
+}
 
-one_keeps : {D : Type 0} (told : D → Option (List (List ℕ))) (size count : D → ℕ) (lending : D → Bool) (now new : GroupValue D) (v set b : ℕ) (r : Result Bool Cause) → IsOneRestored told size count lending now new v set b r → KeepsCopies told size count lending now new
-one_keeps {D = D} told size count lending now new v set b (Ok false) one = subst (λ (x : GroupValue D). KeepsCopies told size count lending now x) (sym one.0) (keeps_itself told size count lending now)
+one_keeps : {D : Type 0} (told : D → Option (List (List ℕ))) (size count : D → ℕ) (lending : D → Bool) (now new : GroupValue D) (v set b : ℕ) (r : Result Bool Cause)
+    → IsOneRestored told size count lending now new v set b r → KeepsCopies told size count lending now new
+one_keeps {D = D} told size count lending now new v set b (Ok false) one = subst (λ (x : GroupValue D). KeepsCopies told size count lending now x) (sym one.0)
+    (keeps_itself told size count lending now)
 one_keeps told size count lending now new v set b (Ok true) one = record { kept = one.kept; records = one.records; images = one.images; slots = one.slots }
 one_keeps told size count lending now new v set b (Err cause) one = record { kept = one.quiet.kept; records = one.quiet.records; images = one.quiet.images; slots = one.quiet.slots }
 
-pub keeps_one : {D : Type 0} (told : D → Option (List (List ℕ))) (size count : D → ℕ) (lending : D → Bool) (g now new : GroupValue D) (v set b : ℕ) (r : Result Bool Cause) → KeepsCopies told size count lending g now → IsOneRestored told size count lending now new v set b r → KeepsCopies told size count lending g new
+pub keeps_one : {D : Type 0} (told : D → Option (List (List ℕ))) (size count : D → ℕ) (lending : D → Bool) (g now new : GroupValue D) (v set b : ℕ) (r : Result Bool Cause)
+    → KeepsCopies told size count lending g now → IsOneRestored told size count lending now new v set b r → KeepsCopies told size count lending g new
 keeps_one told size count lending g now new v set b r had one = keeps_more told size count lending g now new had (one_keeps told size count lending now new v set b r one)
 
 -- ## one block, seen so
 
-rose_merged : {D : Type 0} (count : D → ℕ) (v : ℕ) (devices after : List D) (mid now new : CopiesValue D) (cause : Cause) → DeviceRose count v (group_of devices now) (group_of after new) cause → DeviceRose count v (group_of devices (merged_as mid now)) (group_of after (merged_as mid new)) cause
+rose_merged : {D : Type 0} (count : D → ℕ) (v : ℕ) (devices after : List D) (mid now new : CopiesValue D) (cause : Cause) → DeviceRose count v (group_of devices now) (group_of after new) cause
+    → DeviceRose count v (group_of devices (merged_as mid now)) (group_of after (merged_as mid new)) cause
 rose_merged count v devices after mid now new NoSuchBlock rose = rose
 rose_merged count v devices after mid now new Volume rose = record { before = rose.before; now = rose.now; was = rose.was; is = rose.is; rose = rose.rose; devices = rose.devices; area = rose.area }
 rose_merged count v devices after mid now new Area rose = record { rose = rose.rose; devices = rose.devices }
 
-kept_merged : {D : Type 0} (told : D → Option (List (List ℕ))) (size count : D → ℕ) (lending : D → Bool) (devices after : List D) (mid now new : CopiesValue D) → IsKept told size count lending (group_of devices now) (group_of after new) → IsKept told size count lending (group_of devices (merged_as mid now)) (group_of after (merged_as mid new))
+kept_merged : {D : Type 0} (told : D → Option (List (List ℕ))) (size count : D → ℕ) (lending : D → Bool) (devices after : List D) (mid now new : CopiesValue D)
+    → IsKept told size count lending (group_of devices now) (group_of after new) → IsKept told size count lending (group_of devices (merged_as mid now)) (group_of after (merged_as mid new))
 kept_merged told size count lending devices after mid now new kept = record { volumes = kept.volumes; slots = refl; area = kept.area; devices = kept.devices; each = kept.each }
 
-pub one_merged : {D : Type 0} (told : D → Option (List (List ℕ))) (size count : D → ℕ) (lending : D → Bool) (devices after : List D) (old mid now new : CopiesValue D) (v set b : ℕ) (r : Result Bool Cause) → IsMergedTo told old mid v set → now.area.records ≡ old.area.records
-    → IsOneRestored told size count lending (group_of devices now) (group_of after new) v set b r → IsOneRestored told size count lending (group_of devices (merged_as mid now)) (group_of after (merged_as mid new)) v set b r
+pub one_merged : {D : Type 0} (told : D → Option (List (List ℕ))) (size count : D → ℕ) (lending : D → Bool) (devices after : List D) (old mid now new : CopiesValue D) (v set b : ℕ)
+    (r : Result Bool Cause) → IsMergedTo told old mid v set → now.area.records ≡ old.area.records
+    → IsOneRestored told size count lending (group_of devices now) (group_of after new) v set b r
+    → IsOneRestored told size count lending (group_of devices (merged_as mid now)) (group_of after (merged_as mid new)) v set b r
 one_merged {D = D} told size count lending devices after old mid now new v set b (Ok false) m same one = (
   ap (λ (g : GroupValue D). let x : GroupValue D = record { devices = g.devices; area = with_records mid.area.records g.area; images = mid.images } in x) one.0,
   m.none b (subst (λ (rs : List Record). HasNoCopy rs v set b) same one.1),
@@ -90,33 +104,44 @@ pub gone_as : {D : Type 0} (told : D → Option (List (List ℕ))) (old mid : Co
 gone_as {D = D} told old mid v set m = subst (λ (c : CopiesValue D). AreNewerGone told old c v set) (sym (same_copies old mid m.gone.device m.gone.volumes)) m.gone
 
 -- what all copies keep
-pub merging_start : {D : Type 0} (told : D → Option (List (List ℕ))) (old : CopiesValue D) (v set : ℕ) → is_among set (images_on old v) ≡ true → 0 < set → AreOfImages old.area.records old.images → AreRecords old.area.volumes old.area.records → IsMerging told old old v set
+pub merging_start : {D : Type 0} (told : D → Option (List (List ℕ))) (old : CopiesValue D) (v set : ℕ) → is_among set (images_on old v) ≡ true → 0 < set → AreOfImages old.area.records old.images
+    → AreRecords old.area.volumes old.area.records → IsMerging told old old v set
 merging_start told old v set among above of are =
     let row = images_row old v set among in
-    merging_none told old v set among above (of.sets v (images_on old v) row) (λ slot s b some at. of.each slot (record_of v s b) at some (images_on old v) row) (λ n at. within_blocks old.area.volumes old.area.records v n are at)
+    merging_none told old v set among above (of.sets v (images_on old v) row) (λ slot s b some at. of.each slot (record_of v s b) at some (images_on old v) row)
+    (λ n at. within_blocks old.area.volumes old.area.records v n are at)
 
 -- they can be merged down
-pub mergeable : {D : Type 0} (told : D → Option (List (List ℕ))) (old : CopiesValue D) (v set : ℕ) → v < length old.area.volumes → is_among set (images_on old v) ≡ true → 0 < set → AreOfImages old.area.records old.images → AreRecords old.area.volumes old.area.records → AreMergeable told old v set
+pub mergeable : {D : Type 0} (told : D → Option (List (List ℕ))) (old : CopiesValue D) (v set : ℕ) → v < length old.area.volumes → is_among set (images_on old v) ≡ true → 0 < set
+    → AreOfImages old.area.records old.images → AreRecords old.area.volumes old.area.records → AreMergeable told old v set
 mergeable told old v set inside among above of are = merge_all told old old v set (length (images_on old v)) (omega arith) (merging_start told old v set among above of are) inside
 
 -- ## the end
 
-clear_merged : {D : Type 0} (told : D → Option (List (List ℕ))) (old mid now : CopiesValue D) (v set : ℕ) → IsMergedTo told old mid v set → now.area.records ≡ old.area.records → now.images ≡ old.images → after_clear now v set ≡ after_clear (merged_as mid now) v set
+clear_merged : {D : Type 0} (told : D → Option (List (List ℕ))) (old mid now : CopiesValue D) (v set : ℕ) → IsMergedTo told old mid v set → now.area.records ≡ old.area.records
+    → now.images ≡ old.images → after_clear now v set ≡ after_clear (merged_as mid now) v set
 clear_merged {D = D} told old mid now v set m records images =
     let from : List Record → List (List ℕ) → CopiesValue D = λ rs ss. record { area = with_records rs now.area; images = ss } in
     ap (λ rs. from (cleared v set rs) (after_clear now v set).images) records ∙ ap (λ rs. from rs (after_clear now v set).images) (sym m.records)
-    ∙ ap (from (cleared v set mid.area.records)) (ap (λ (ss : List (List ℕ)). slice_set ss v (filter (λ s. nat_le s set) (images_in ss))) images ∙ sym (m.others (filter (λ s. nat_le s set) (images_on old v))) ∙ ap (slice_set mid.images v) (sym m.sets))
+    ∙ ap (from (cleared v set mid.area.records))
+    (ap (λ (ss : List (List ℕ)). slice_set ss v (filter (λ s. nat_le s set) (images_in ss))) images ∙ sym (m.others (filter (λ s. nat_le s set) (images_on old v)))
+    ∙ ap (slice_set mid.images v) (sym m.sets))
   where
     images_in : List (List ℕ) → List ℕ
     images_in ss = images_on (let c : CopiesValue D = record { area = now.area; images = ss } in c) v
 
-pub restored_then_cleared : {D : Type 0} (told : D → Option (List (List ℕ))) (size count : D → ℕ) (lending : D → Bool) (devices after : List D) (old mid now new : CopiesValue D) (v set : ℕ) (x : Unit) → v < length old.area.volumes → is_among set (images_on old v) ≡ true → IsMergedTo told old mid v set
-    → IsRestoring told size count lending (group_of devices (merged_as mid old)) (group_of after (merged_as mid now)) v set (Ok x) → KeepsCopies told size count lending (group_of devices old) (group_of after now) → new ≡ after_clear now v set → IsReverted told size count lending (group_of devices old) (group_of after new) v set
+pub restored_then_cleared : {D : Type 0} (told : D → Option (List (List ℕ))) (size count : D → ℕ) (lending : D → Bool) (devices after : List D) (old mid now new : CopiesValue D) (v set : ℕ)
+    (x : Unit) → v < length old.area.volumes → is_among set (images_on old v) ≡ true → IsMergedTo told old mid v set
+    → IsRestoring told size count lending (group_of devices (merged_as mid old)) (group_of after (merged_as mid now)) v set (Ok x)
+    → KeepsCopies told size count lending (group_of devices old) (group_of after now) → new ≡ after_clear now v set
+    → IsReverted told size count lending (group_of devices old) (group_of after new) v set
 restored_then_cleared told size count lending devices after old mid now new v set x inside image m done keeps is =
-    revert_done told size count lending devices after old (merged_as mid old) (merged_as mid now) new v set x inside image (gone_as told old mid v set m) done (is ∙ clear_merged told old mid now v set m keeps.records keeps.images)
+    revert_done told size count lending devices after old (merged_as mid old) (merged_as mid now) new v set x inside image (gone_as told old mid v set m) done
+    (is ∙ clear_merged told old mid now v set m keeps.records keeps.images)
 
 -- a device failed, and then the newer images were merged down
-merged_before : {D : Type 0} (told : D → Option (List (List ℕ))) (size count : D → ℕ) (lending : D → Bool) (devices after : List D) (old now new : CopiesValue D) (v set : ℕ) → IsMergedTo told now new v set → KeepsCopies told size count lending (group_of devices old) (group_of after now) → IsMergedTo told old (merged_as new old) v set
+merged_before : {D : Type 0} (told : D → Option (List (List ℕ))) (size count : D → ℕ) (lending : D → Bool) (devices after : List D) (old now new : CopiesValue D) (v set : ℕ)
+    → IsMergedTo told now new v set → KeepsCopies told size count lending (group_of devices old) (group_of after now) → IsMergedTo told old (merged_as new old) v set
 merged_before {D = D} told size count lending devices after old now new v set m keeps =
     let records = keeps.records in
     let images = keeps.images in
@@ -142,9 +167,11 @@ merged_before {D = D} told size count lending devices after old now new v set m 
     images_in : List (List ℕ) → List ℕ
     images_in ss = images_on (let c : CopiesValue D = record { area = now.area; images = ss } in c) v
 
-pub stopped_then_merged : {D : Type 0} (told : D → Option (List (List ℕ))) (size count : D → ℕ) (lending : D → Bool) (devices after : List D) (old now new : CopiesValue D) (v set : ℕ) (fault : RevertFault) → v < length old.area.volumes → is_among set (images_on old v) ≡ true
+pub stopped_then_merged : {D : Type 0} (told : D → Option (List (List ℕ))) (size count : D → ℕ) (lending : D → Bool) (devices after : List D) (old now new : CopiesValue D) (v set : ℕ)
+    (fault : RevertFault) → v < length old.area.volumes → is_among set (images_on old v) ≡ true
     → ((mid : CopiesValue D) → IsMergedTo told old mid v set → IsRestoring told size count lending (group_of devices (merged_as mid old)) (group_of after (merged_as mid now)) v set (Err fault))
-    → KeepsCopies told size count lending (group_of devices old) (group_of after now) → IsMergedTo told now new v set → IsRevert told size count lending (group_of devices old) (group_of after new) v set (Err fault)
+    → KeepsCopies told size count lending (group_of devices old) (group_of after now) → IsMergedTo told now new v set
+    → IsRevert told size count lending (group_of devices old) (group_of after new) v set (Err fault)
 stopped_then_merged {D = D} told size count lending devices after old now new v set fault inside image stopped keeps m =
     let before = merged_before told size count lending devices after old now new v set m keeps in
     let end = revert_failed told size count lending devices after old (merged_as new old) (merged_as new now) v set fault inside image before.gone (stopped (merged_as new old) before) in

@@ -29,7 +29,8 @@ use Rattle.cow_volume.proofs.Clearing.{length-cleared}
 use Rattle.cow_volume.proofs.NewerGone.{without_newer, AreUpTo, all_kept, point_kept, reverted_from, reverted_in_part_from}
 use Rattle.cow_volume.proofs.Reverting.{restores, restored_none, restored_below, point_within, block_kept, block_restored, next_restored}
 use Rattle.cow_volume.proofs.GroupReverts.{changed_at-twice, changed_at-agree, changed_at-none, restoring_at, restoring_all}
-use Rattle.cow_volume.proofs.Kept.{kept_itself, kept_further, sizes_kept, kept_records, kept_area, kept_called, quiet_area, quiet_called, quiet_further, quiet_stands, volume_rose_if, unfailed_itself, unfailed_called}
+use Rattle.cow_volume.proofs.Kept.{kept_itself, kept_further, sizes_kept, kept_records, kept_area, kept_called, quiet_area, quiet_called, quiet_further, quiet_stands, volume_rose_if, unfailed_itself}
+use Rattle.cow_volume.proofs.Kept.{unfailed_called}
 use Rattle.cow_volume.proofs.DroppingNewer.{most_of, contains_of, images_row}
 
 -- ## the volume before the first block
@@ -50,7 +51,8 @@ pub record IsAtStart {D : Type 0} (told : D → Option (List (List ℕ))) (g : G
   pub stands : IsVolume (told_in (told g.area.device) (told device)) (told g.area.device) g.area.records v (blocks_at g v) (sets_at g v) (without_newer set (history_at hs v))
   pub point_past : p ≤ length (history_at hs v).writes
 
-pub at_start : {D : Type 0} (told : D → Option (List (List ℕ))) (g : GroupValue D) (hs : List History) (v set p : ℕ) → StandsFor told g hs → v < length g.area.volumes → All (λ s. s ≤ set) (sets_at g v) → point_in set (history_at hs v).images ≡ Some p → IsAtStart told g hs v set p
+pub at_start : {D : Type 0} (told : D → Option (List (List ℕ))) (g : GroupValue D) (hs : List History) (v set p : ℕ) → StandsFor told g hs → v < length g.area.volumes
+    → All (λ s. s ≤ set) (sets_at g v) → point_in set (history_at hs v).images ≡ Some p → IsAtStart told g hs v set p
 at_start told g hs v set p stands inside newest point =
     let place = place_at told g hs v stands inside in
     let blocks_are : place.blocks ≡ blocks_at g v = sym (ap blocks_in place.blocks_at) in
@@ -77,12 +79,14 @@ at_start told g hs v set p stands inside newest point =
 named_has : (ws : List Write) (s b : ℕ) (is : List Image) → is_named ws is s b ≡ true → Has s (sets_of is)
 named_has ws s b [] e = absurd cc
 named_has ws s b (i ∷ is) e = by_test (i.set == s) refl e (named_has ws s b is) where
-  by_test : (t : Bool) → (i.set == s) ≡ t → (if t then names (writes_since ws i.point is) b else is_named ws is s b) ≡ true → (is_named ws is s b ≡ true → Has s (sets_of is)) → Has s (i.set ∷ sets_of is)
+  by_test : (t : Bool) → (i.set == s) ≡ t → (if t then names (writes_since ws i.point is) b else is_named ws is s b) ≡ true → (is_named ws is s b ≡ true → Has s (sets_of is))
+      → Has s (i.set ∷ sets_of is)
   by_test true f g rest = inl (same_number i.set s f)
   by_test false f g rest = inr (rest g)
 
 -- the slot that was found is that of the set itself
-pub slot_of_set : {D : Type 0} (told : D → Option (List (List ℕ))) (g : GroupValue D) (hs : List History) (v set p b slot : ℕ) → IsAtStart told g hs v set p → All (λ s. s ≤ set) (sets_at g v) → 0 < set → IsFirstCopy g.area.records v set b slot → slice_get g.area.records slot ≡ Some (record_of v set b)
+pub slot_of_set : {D : Type 0} (told : D → Option (List (List ℕ))) (g : GroupValue D) (hs : List History) (v set p b slot : ℕ) → IsAtStart told g hs v set p → All (λ s. s ≤ set) (sets_at g v)
+    → 0 < set → IsFirstCopy g.area.records v set b slot → slice_get g.area.records slot ≡ Some (record_of v set b)
 slot_of_set told g hs v set p b slot start newest above found =
     let from = found.from_set in
     let named = start.stands.named slot found.image b (omega arith) found.is_noted in
@@ -96,28 +100,33 @@ abbrev HasNoRecord : List Record → ℕ → ℕ → ℕ → Type 0
 HasNoRecord records v set b = (slot : ℕ) → slice_get records slot ≡ Some (record_of v set b) → ⊥
 
 -- a block that has a copy for the set is named since its point, and one that has none is not
-named_at : {D : Type 0} (told : D → Option (List (List ℕ))) (g : GroupValue D) (hs : List History) (v set p b slot : ℕ) → IsAtStart told g hs v set p → point_in set (history_at hs v).images ≡ Some p → b < blocks_at g v → slice_get g.area.records slot ≡ Some (record_of v set b)
+named_at : {D : Type 0} (told : D → Option (List (List ℕ))) (g : GroupValue D) (hs : List History) (v set p b slot : ℕ) → IsAtStart told g hs v set p → point_in set (history_at hs v).images ≡ Some p
+    → b < blocks_at g v → slice_get g.area.records slot ≡ Some (record_of v set b)
     → names (drop p (history_at hs v).writes) b ≡ true
 named_at told g hs v set p b slot start point l at =
     (restores (told_in (told g.area.device) (told start.device)) (told g.area.device) g.area.records v (blocks_at g v) (sets_at g v) (history_at hs v) set p b start.stands point l).0 (slot, at)
 
-not_named : {D : Type 0} (told : D → Option (List (List ℕ))) (g : GroupValue D) (hs : List History) (v set p b : ℕ) → IsAtStart told g hs v set p → point_in set (history_at hs v).images ≡ Some p → b < blocks_at g v → HasNoRecord g.area.records v set b
+not_named : {D : Type 0} (told : D → Option (List (List ℕ))) (g : GroupValue D) (hs : List History) (v set p b : ℕ) → IsAtStart told g hs v set p → point_in set (history_at hs v).images ≡ Some p
+    → b < blocks_at g v → HasNoRecord g.area.records v set b
     → names (drop p (history_at hs v).writes) b ≡ false
 not_named told g hs v set p b start point l none = by_test (names (drop p (history_at hs v).writes) b) refl where
   by_test : (t : Bool) → names (drop p (history_at hs v).writes) b ≡ t → names (drop p (history_at hs v).writes) b ≡ false
-  by_test true e = (let at = (restores (told_in (told g.area.device) (told start.device)) (told g.area.device) g.area.records v (blocks_at g v) (sets_at g v) (history_at hs v) set p b start.stands point l).1 e in absurd (none at.0 at.1))
+  by_test true e = (let at = (restores (told_in (told g.area.device) (told start.device)) (told g.area.device) g.area.records v (blocks_at g v) (sets_at g v)
+      (history_at hs v) set p b start.stands point l).1 e in absurd (none at.0 at.1))
   by_test false e = e
 
 -- ## block after block
 
 -- so many restored blocks are those of the first m blocks
-below : (hs : List History) (v n set p m restored : ℕ) → restored ≡ length (to_restore m (history_at hs v).writes p) → changed_at v (reverted_in_part n set p restored) hs ≡ changed_at v (restored_below n set p m) hs
+below : (hs : List History) (v n set p m restored : ℕ) → restored ≡ length (to_restore m (history_at hs v).writes p)
+    → changed_at v (reverted_in_part n set p restored) hs ≡ changed_at v (restored_below n set p m) hs
 below hs v n set p m restored e = changed_at-agree v (reverted_in_part n set p restored) (restored_below n set p m) hs (λ h at.
     let here : history_at hs v ≡ h = history_at_is hs v h at in
     ap (λ (k : ℕ). reverted_in_part n set p k h) (e ∙ ap (λ (x : History). length (to_restore m x.writes p)) here))
 
 -- none so far
-pub restoring_start : {D : Type 0} (told : D → Option (List (List ℕ))) (size count : D → ℕ) (lending : D → Bool) (g : GroupValue D) (v set : ℕ) → v < length g.area.volumes → All (λ s. s ≤ set) (sets_at g v) → AreRestored told size count lending g g v set 0 0
+pub restoring_start : {D : Type 0} (told : D → Option (List (List ℕ))) (size count : D → ℕ) (lending : D → Bool) (g : GroupValue D) (v set : ℕ) → v < length g.area.volumes
+    → All (λ s. s ≤ set) (sets_at g v) → AreRestored told size count lending g g v set 0 0
 restoring_start told size count lending g v set inside newest = record {
   kept = kept_itself told size count lending g;
   records = refl;
@@ -135,7 +144,8 @@ restoring_start told size count lending g v set inside newest = record {
 }
 
 -- block m has no copy for the set
-pub restoring_skips : {D : Type 0} (told : D → Option (List (List ℕ))) (size count : D → ℕ) (lending : D → Bool) (g now : GroupValue D) (v set m restored : ℕ) → v < length g.area.volumes → All (λ s. s ≤ set) (sets_at g v) → m < blocks_at g v
+pub restoring_skips : {D : Type 0} (told : D → Option (List (List ℕ))) (size count : D → ℕ) (lending : D → Bool) (g now : GroupValue D) (v set m restored : ℕ) → v < length g.area.volumes
+    → All (λ s. s ≤ set) (sets_at g v) → m < blocks_at g v
     → AreRestored told size count lending g now v set m restored → HasNoRecord now.area.records v set m → AreRestored told size count lending g now v set (m + 1) restored
 restoring_skips told size count lending g now v set m restored inside newest l done none = record {
   kept = done.kept;
@@ -150,7 +160,8 @@ restoring_skips told size count lending g now v set m restored inside newest l d
 }
 
 -- block m got the bytes of its slot
-pub restoring_puts : {D : Type 0} (told : D → Option (List (List ℕ))) (size count : D → ℕ) (lending : D → Bool) (g now new : GroupValue D) (v set m restored : ℕ) → v < length g.area.volumes → All (λ s. s ≤ set) (sets_at g v) → m < blocks_at g v → 0 < set
+pub restoring_puts : {D : Type 0} (told : D → Option (List (List ℕ))) (size count : D → ℕ) (lending : D → Bool) (g now new : GroupValue D) (v set m restored : ℕ) → v < length g.area.volumes
+    → All (λ s. s ≤ set) (sets_at g v) → m < blocks_at g v → 0 < set
     → AreRestored told size count lending g now v set m restored → IsPutBack told size count lending now new v set m → AreRestored told size count lending g new v set (m + 1) (restored + 1)
 restoring_puts {D = D} told size count lending g now new v set m restored inside newest l above done put = record {
   kept = kept_further told size count lending g now new done.kept put.kept;
@@ -162,7 +173,8 @@ restoring_puts {D = D} told size count lending g now new v set m restored inside
       let start = at_start told g hs v set p stands inside newest point in
       let before = subst (λ (xs : List History). StandsFor told now xs) (below hs v (blocks_at g v) set p m restored (done.number hs p stands point)) (done.stands hs p stands point) in
       let after = restoring_at told now new hs v (blocks_at g v) set p m put.slot put.bytes put.before put.after (sets_at g v) (history_at hs v) before
-      (ap (λ (ns : List ℕ). slice_get ns v) done.kept.volumes ∙ start.blocks_is) put.was (ap (λ (ss : List (List ℕ)). slice_get ss v) done.images ∙ start.sets_is) start.history_is point start.point_past l
+      (ap (λ (ns : List ℕ). slice_get ns v) done.kept.volumes ∙ start.blocks_is) put.was
+      (ap (λ (ss : List (List ℕ)). slice_get ss v) done.images ∙ start.sets_is) start.history_is point start.point_past l
       (ap (λ (rs : List Record). slice_get rs put.slot) done.records ∙ slot_at hs p start) put.held put.devices put.written put.images put.kept.volumes put.records put.slots in
       subst (λ (xs : List History). StandsFor told new xs) (sym (below hs v (blocks_at g v) set p (m + 1) (restored + 1) (numbered hs p stands point))) after;
 } where
@@ -181,7 +193,8 @@ pub rose_further : (a b c : ℕ) → a ≤ b → Rose b c → Rose a c
 rose_further a b c l (inl m) = inl (omega arith)
 rose_further a b c l (inr e) = inr e
 
-volume_rose_further : {D : Type 0} (told : D → Option (List (List ℕ))) (size count : D → ℕ) (lending : D → Bool) (g now new : GroupValue D) (v : ℕ) → IsKept told size count lending g now → IsUnfailed count g now → VolumeRose count v now new → VolumeRose count v g new
+volume_rose_further : {D : Type 0} (told : D → Option (List (List ℕ))) (size count : D → ℕ) (lending : D → Bool) (g now new : GroupValue D) (v : ℕ) → IsKept told size count lending g now
+    → IsUnfailed count g now → VolumeRose count v now new → VolumeRose count v g new
 volume_rose_further told size count lending g now new v kept same rose =
     let inside = slice_get_within now.devices v rose.before rose.was in
     let long = kept.devices in
@@ -196,14 +209,17 @@ volume_rose_further told size count lending g now new v kept same rose =
       area = rose.area ∙ same.area;
     }
 
-pub device_rose_further : {D : Type 0} (told : D → Option (List (List ℕ))) (size count : D → ℕ) (lending : D → Bool) (g now new : GroupValue D) (v : ℕ) (cause : Cause) → IsKept told size count lending g now → IsUnfailed count g now → DeviceRose count v now new cause → DeviceRose count v g new cause
+pub device_rose_further : {D : Type 0} (told : D → Option (List (List ℕ))) (size count : D → ℕ) (lending : D → Bool) (g now new : GroupValue D) (v : ℕ) (cause : Cause)
+    → IsKept told size count lending g now → IsUnfailed count g now → DeviceRose count v now new cause → DeviceRose count v g new cause
 device_rose_further told size count lending g now new v NoSuchBlock kept same rose = rose
 device_rose_further told size count lending g now new v Volume kept same rose = volume_rose_further told size count lending g now new v kept same rose
 device_rose_further told size count lending g now new v Area kept same rose =
     record { rose = rose_further (count g.area.device) (count now.area.device) (count new.area.device) kept.area.later rose.rose; devices = rose.devices ∙ same.devices }
 
-pub restoring_stops : {D : Type 0} (told : D → Option (List (List ℕ))) (size count : D → ℕ) (lending : D → Bool) (g now new : GroupValue D) (v set m restored : ℕ) (cause : Cause) → v < length g.area.volumes → All (λ s. s ≤ set) (sets_at g v) → m < blocks_at g v → 0 < set
-    → AreRestored told size count lending g now v set m restored → IsUnfailed count g now → IsNotPutBack told size count lending now new v set m cause → IsStopped told size count lending g new v set restored cause
+pub restoring_stops : {D : Type 0} (told : D → Option (List (List ℕ))) (size count : D → ℕ) (lending : D → Bool) (g now new : GroupValue D) (v set m restored : ℕ) (cause : Cause)
+    → v < length g.area.volumes → All (λ s. s ≤ set) (sets_at g v) → m < blocks_at g v → 0 < set
+    → AreRestored told size count lending g now v set m restored → IsUnfailed count g now → IsNotPutBack told size count lending now new v set m cause
+    → IsStopped told size count lending g new v set restored cause
 restoring_stops told size count lending g now new v set m restored cause inside newest l above done same failed = record {
   block = m;
   done = record {
@@ -219,7 +235,8 @@ restoring_stops told size count lending g now new v set m restored cause inside 
       let at = slot_of_set told g hs v set p m failed.slot start newest above (subst (λ (rs : List Record). IsFirstCopy rs v set m failed.slot) done.records failed.found) in
       let named = named_at told g hs v set p m failed.slot start point l at in
       let number = done.number hs p stands point in
-      let within = slice_get_within (to_restore (blocks_at g v) (history_at hs v).writes p) (length (to_restore m (history_at hs v).writes p)) m (next_restored m (blocks_at g v) (history_at hs v).writes p l named) in
+      let within = slice_get_within (to_restore (blocks_at g v) (history_at hs v).writes p) (length (to_restore m (history_at hs v).writes p)) m
+      (next_restored m (blocks_at g v) (history_at hs v).writes p l named) in
       omega arith;
   rose = device_rose_further told size count lending g now new v cause done.kept same failed.rose;
 }
@@ -227,8 +244,11 @@ restoring_stops told size count lending g now new v set m restored cause inside 
 -- ## one block
 
 -- what was read of its slot was written to it
-pub put_back : {D : Type 0} (told : D → Option (List (List ℕ))) (size count : D → ℕ) (lending : D → Bool) (devices after : List D) (old new : CopiesValue D) (v set b slot : ℕ) (bytes : List ℕ) (failed : Bool) → IsFirstCopy old.area.records v set b slot → KeepsTable size lending old.area new.area → new.images ≡ old.images
-    → told new.area.device ≡ told old.area.device → count old.area.device ≤ count new.area.device → count new.area.device ≡ count old.area.device → IfSome (told old.area.device) (λ blocks. slice_get blocks (place_of_slot (length old.area.records) slot) ≡ Some bytes) → IsPut told size count lending v b bytes devices after failed → failed ≡ false
+pub put_back : {D : Type 0} (told : D → Option (List (List ℕ))) (size count : D → ℕ) (lending : D → Bool) (devices after : List D) (old new : CopiesValue D) (v set b slot : ℕ) (bytes : List ℕ)
+    (failed : Bool) → IsFirstCopy old.area.records v set b slot → KeepsTable size lending old.area new.area → new.images ≡ old.images
+    → told new.area.device ≡ told old.area.device → count old.area.device ≤ count new.area.device → count new.area.device ≡ count old.area.device
+    → IfSome (told old.area.device) (λ blocks. slice_get blocks (place_of_slot (length old.area.records) slot) ≡ Some bytes) → IsPut told size count lending v b bytes devices after failed
+    → failed ≡ false
     → IsPutBack told size count lending (group_of devices old) (group_of after new) v set b
 put_back told size count lending devices after old new v set b slot bytes failed found table images same later unfailed held put e = record {
   slot = slot;
@@ -241,19 +261,23 @@ put_back told size count lending devices after old new v set b slot bytes failed
   devices = put.call.devices;
   written = put.written e;
   unfailed = unfailed_called told size count lending v devices after failed old new put.call e unfailed;
-  kept = kept_further told size count lending (group_of devices old) (group_of devices new) (group_of after new) (kept_area told size count lending devices old new table (ap is_some same) later) (kept_called told size count lending v devices after failed new put.call);
+  kept = kept_further told size count lending (group_of devices old) (group_of devices new) (group_of after new) (kept_area told size count lending devices old new table (ap is_some same) later)
+      (kept_called told size count lending v devices after failed new put.call);
   records = table.records;
   images = images;
   slots = same;
 }
 
 -- the volume's device failed
-pub not_put_back : {D : Type 0} (told : D → Option (List (List ℕ))) (size count : D → ℕ) (lending : D → Bool) (devices after : List D) (old new : CopiesValue D) (v set b slot : ℕ) (bytes : List ℕ) (failed : Bool) → IsFirstCopy old.area.records v set b slot → KeepsTable size lending old.area new.area → new.images ≡ old.images
-    → told new.area.device ≡ told old.area.device → count old.area.device ≤ count new.area.device → count new.area.device ≡ count old.area.device → IsPut told size count lending v b bytes devices after failed → failed ≡ true → IsNotPutBack told size count lending (group_of devices old) (group_of after new) v set b Volume
+pub not_put_back : {D : Type 0} (told : D → Option (List (List ℕ))) (size count : D → ℕ) (lending : D → Bool) (devices after : List D) (old new : CopiesValue D) (v set b slot : ℕ) (bytes : List ℕ)
+    (failed : Bool) → IsFirstCopy old.area.records v set b slot → KeepsTable size lending old.area new.area → new.images ≡ old.images
+    → told new.area.device ≡ told old.area.device → count old.area.device ≤ count new.area.device → count new.area.device ≡ count old.area.device
+    → IsPut told size count lending v b bytes devices after failed → failed ≡ true → IsNotPutBack told size count lending (group_of devices old) (group_of after new) v set b Volume
 not_put_back told size count lending devices after old new v set b slot bytes failed found table images same later unfailed put e = record {
   slot = slot;
   found = found;
-  quiet = quiet_further told size count lending (group_of devices old) (group_of devices new) (group_of after new) (quiet_area told size count lending devices old new table images same later) (quiet_called told size count lending v devices after failed new put.call (put.kept e));
+  quiet = quiet_further told size count lending (group_of devices old) (group_of devices new) (group_of after new) (quiet_area told size count lending devices old new table images same later)
+      (quiet_called told size count lending v devices after failed new put.call (put.kept e));
   rose = volume_rose_if told size count lending v devices after failed old new put.call e unfailed;
 }
 
@@ -262,17 +286,21 @@ at_most_one true = omega arith
 at_most_one false = omega arith
 
 -- one block more, which has a copy or has none
-pub restoring_one : {D : Type 0} (told : D → Option (List (List ℕ))) (size count : D → ℕ) (lending : D → Bool) (g now new : GroupValue D) (v set m restored : ℕ) (put : Bool) (more : ℕ) → v < length g.area.volumes → All (λ s. s ≤ set) (sets_at g v) → m < blocks_at g v → 0 < set → more ≡ from_bool put
-    → AreRestored told size count lending g now v set m restored → IsOneRestored told size count lending now new v set m (Ok put) → AreRestored told size count lending g new v set (m + 1) (restored + more)
+pub restoring_one : {D : Type 0} (told : D → Option (List (List ℕ))) (size count : D → ℕ) (lending : D → Bool) (g now new : GroupValue D) (v set m restored : ℕ) (put : Bool) (more : ℕ)
+    → v < length g.area.volumes → All (λ s. s ≤ set) (sets_at g v) → m < blocks_at g v → 0 < set → more ≡ from_bool put
+    → AreRestored told size count lending g now v set m restored → IsOneRestored told size count lending now new v set m (Ok put)
+    → AreRestored told size count lending g new v set (m + 1) (restored + more)
 restoring_one told size count lending g now new v set m restored true more inside newest l above e done one =
     subst (λ (k : ℕ). AreRestored told size count lending g new v set (m + 1) (restored + k)) (sym e) (restoring_puts told size count lending g now new v set m restored inside newest l above done one)
 restoring_one {D = D} told size count lending g now new v set m restored false more inside newest l above e done one =
     let none : restored ≡ restored + more = omega arith in
     subst (λ (k : ℕ). AreRestored told size count lending g new v set (m + 1) k) none
-    (subst (λ (x : GroupValue D). AreRestored told size count lending g x v set (m + 1) restored) (sym one.0) (restoring_skips told size count lending g now v set m restored inside newest l done (λ slot at. one.1 slot set at (omega arith))))
+    (subst (λ (x : GroupValue D). AreRestored told size count lending g x v set (m + 1) restored) (sym one.0)
+    (restoring_skips told size count lending g now v set m restored inside newest l done (λ slot at. one.1 slot set at (omega arith))))
 
 -- no device failed
-pub one_unfailed : {D : Type 0} (told : D → Option (List (List ℕ))) (size count : D → ℕ) (lending : D → Bool) (now new : GroupValue D) (v set m : ℕ) (put : Bool) → IsOneRestored told size count lending now new v set m (Ok put) → IsUnfailed count now new
+pub one_unfailed : {D : Type 0} (told : D → Option (List (List ℕ))) (size count : D → ℕ) (lending : D → Bool) (now new : GroupValue D) (v set m : ℕ) (put : Bool)
+    → IsOneRestored told size count lending now new v set m (Ok put) → IsUnfailed count now new
 one_unfailed told size count lending now new v set m true one = one.unfailed
 one_unfailed told size count lending now new v set m false one = subst (λ (x : GroupValue _). IsUnfailed count now x) (sym one.0) (unfailed_itself count now)
 
@@ -284,7 +312,8 @@ record IsNewer {D : Type 0} (told : D → Option (List (List ℕ))) (devices : L
   same : history_at (changed_at v (with_up_to set) hs) v ≡ with_up_to set (history_at hs v)
   point : point_in set (history_at (changed_at v (with_up_to set) hs) v).images ≡ Some p
 
-newer_of : {D : Type 0} (told : D → Option (List (List ℕ))) (devices : List D) (old mid : CopiesValue D) (hs : List History) (v set p : ℕ) → v < length old.area.volumes → AreNewerGone told old mid v set → StandsFor told (group_of devices old) hs
+newer_of : {D : Type 0} (told : D → Option (List (List ℕ))) (devices : List D) (old mid : CopiesValue D) (hs : List History) (v set p : ℕ) → v < length old.area.volumes
+    → AreNewerGone told old mid v set → StandsFor told (group_of devices old) hs
     → point_in set (history_at hs v).images ≡ Some p → IsNewer told devices old mid hs v set p
 newer_of told devices old mid hs v set p inside gone stands point =
     let place = place_at told (group_of devices old) hs v stands inside in
@@ -313,8 +342,10 @@ images_same : {D : Type 0} (c d : CopiesValue D) (v : ℕ) → d.images ≡ c.im
 images_same c d v e = ap (λ (ss : List (List ℕ)). sets_in (slice_get ss v)) e
 
 -- all blocks are restored, and the copies of the set go
-pub reverted_all : {D : Type 0} (told : D → Option (List (List ℕ))) (size count : D → ℕ) (lending : D → Bool) (devices after : List D) (old mid now : CopiesValue D) (v set restored : ℕ) → v < length old.area.volumes → is_among set (images_on old v) ≡ true → AreNewerGone told old mid v set
-    → AreRestored told size count lending (group_of devices mid) (group_of after now) v set (blocks_at (group_of devices mid) v) restored → IsUnfailed count (group_of devices mid) (group_of after now) → IsReverted told size count lending (group_of devices old) (group_of after (after_clear now v set)) v set
+pub reverted_all : {D : Type 0} (told : D → Option (List (List ℕ))) (size count : D → ℕ) (lending : D → Bool) (devices after : List D) (old mid now : CopiesValue D) (v set restored : ℕ)
+    → v < length old.area.volumes → is_among set (images_on old v) ≡ true → AreNewerGone told old mid v set
+    → AreRestored told size count lending (group_of devices mid) (group_of after now) v set (blocks_at (group_of devices mid) v) restored
+    → IsUnfailed count (group_of devices mid) (group_of after now) → IsReverted told size count lending (group_of devices old) (group_of after (after_clear now v set)) v set
 reverted_all {D = D} told size count lending devices after old mid now v set restored inside image gone done unfailed = record {
   image = image;
   kept = kept_further told size count lending (group_of devices old) (group_of devices mid) (group_of after (after_clear now v set))
@@ -333,8 +364,10 @@ reverted_all {D = D} told size count lending devices after old mid now v set res
       let long = done.kept.devices in
       let d = slice_get_inside after v (omega arith) in
       let images = images_same mid now v done.images in
-      let end = restoring_all told (group_of after now) (group_of after (after_clear now v set)) (changed_at v (with_up_to set) hs) v n set p d.0 (sets_at (group_of devices mid) v) (history_at (changed_at v (with_up_to set) hs) v) all
-      (ap (λ (ns : List ℕ). slice_get ns v) done.kept.volumes ∙ start.blocks_is) d.1 (ap (λ (ss : List (List ℕ)). slice_get ss v) done.images ∙ start.sets_is) start.history_is newer.point start.point_past
+      let end = restoring_all told (group_of after now) (group_of after (after_clear now v set)) (changed_at v (with_up_to set) hs) v n set p d.0 (sets_at (group_of devices mid) v)
+      (history_at (changed_at v (with_up_to set) hs) v) all
+      (ap (λ (ns : List ℕ). slice_get ns v) done.kept.volumes ∙ start.blocks_is) d.1
+      (ap (λ (ss : List (List ℕ)). slice_get ss v) done.images ∙ start.sets_is) start.history_is newer.point start.point_past
       refl (clear_images now v set (ap (is_among set) images ∙ gone.among) (subst (λ (ss : List ℕ). All (λ s. s ≤ set) ss) (sym images) gone.most)) refl refl refl in
       subst (λ (xs : List History). StandsFor told (group_of after (after_clear now v set)) xs)
       (changed_at-twice v (reverted set p) (with_up_to set) hs ∙ changed_at-agree v (λ h. reverted set p (with_up_to set h)) (reverted set p) hs (λ h at. reverted_from set p h))
@@ -344,7 +377,8 @@ reverted_all {D = D} told size count lending devices after old mid now v set res
 }
 
 -- a device failed
-pub reverted_some : {D : Type 0} (told : D → Option (List (List ℕ))) (size count : D → ℕ) (lending : D → Bool) (devices after : List D) (old mid now : CopiesValue D) (v set restored : ℕ) (cause : Cause) → v < length old.area.volumes → is_among set (images_on old v) ≡ true → AreNewerGone told old mid v set
+pub reverted_some : {D : Type 0} (told : D → Option (List (List ℕ))) (size count : D → ℕ) (lending : D → Bool) (devices after : List D) (old mid now : CopiesValue D) (v set restored : ℕ)
+    (cause : Cause) → v < length old.area.volumes → is_among set (images_on old v) ≡ true → AreNewerGone told old mid v set
     → IsStopped told size count lending (group_of devices mid) (group_of after now) v set restored cause
     → IsRevertedInPart told size count lending (group_of devices old) (group_of after now) v set restored × DeviceRose count v (group_of devices old) (group_of after now) cause
 reverted_some {D = D} told size count lending devices after old mid now v set restored cause inside image gone stopped =
@@ -364,7 +398,8 @@ reverted_some {D = D} told size count lending devices after old mid now v set re
             subst (λ (n : ℕ). StandsFor told (group_of after now) (changed_at v (reverted_in_part n set p restored) hs)) blocks
             (subst (λ (xs : List History). StandsFor told (group_of after now) xs)
             (changed_at-twice v (reverted_in_part (blocks_at (group_of devices mid) v) set p restored) (with_up_to set) hs
-            ∙ changed_at-agree v (λ h. reverted_in_part (blocks_at (group_of devices mid) v) set p restored (with_up_to set h)) (reverted_in_part (blocks_at (group_of devices mid) v) set p restored) hs
+            ∙ changed_at-agree v (λ h. reverted_in_part (blocks_at (group_of devices mid) v) set p restored (with_up_to set h))
+            (reverted_in_part (blocks_at (group_of devices mid) v) set p restored) hs
             (λ h at. reverted_in_part_from (blocks_at (group_of devices mid) v) set p restored h))
             (done.stands (changed_at v (with_up_to set) hs) p newer.stands newer.point));
         slots = done.slots ∙ ap told gone.device;
@@ -372,25 +407,33 @@ reverted_some {D = D} told size count lending devices after old mid now v set re
       device_rose_further told size count lending (group_of devices old) (group_of devices mid) (group_of after now) v cause kept (record { devices = refl; area = ap count gone.device }) stopped.rose,
     )
 
-pub revert_done : {D : Type 0} (told : D → Option (List (List ℕ))) (size count : D → ℕ) (lending : D → Bool) (devices after : List D) (old mid now new : CopiesValue D) (v set : ℕ) (x : Unit) → v < length old.area.volumes → is_among set (images_on old v) ≡ true → AreNewerGone told old mid v set
-    → IsRestoring told size count lending (group_of devices mid) (group_of after now) v set (Ok x) → new ≡ after_clear now v set → IsReverted told size count lending (group_of devices old) (group_of after new) v set
+pub revert_done : {D : Type 0} (told : D → Option (List (List ℕ))) (size count : D → ℕ) (lending : D → Bool) (devices after : List D) (old mid now new : CopiesValue D) (v set : ℕ) (x : Unit)
+    → v < length old.area.volumes → is_among set (images_on old v) ≡ true → AreNewerGone told old mid v set
+    → IsRestoring told size count lending (group_of devices mid) (group_of after now) v set (Ok x) → new ≡ after_clear now v set
+    → IsReverted told size count lending (group_of devices old) (group_of after new) v set
 revert_done {D = D} told size count lending devices after old mid now new v set x inside image gone done is =
-    subst (λ (c : CopiesValue D). IsReverted told size count lending (group_of devices old) (group_of after c) v set) (sym is) (reverted_all told size count lending devices after old mid now v set done.0 inside image gone done.1 done.2)
+    subst (λ (c : CopiesValue D). IsReverted told size count lending (group_of devices old) (group_of after c) v set) (sym is)
+    (reverted_all told size count lending devices after old mid now v set done.0 inside image gone done.1 done.2)
 
-pub revert_failed : {D : Type 0} (told : D → Option (List (List ℕ))) (size count : D → ℕ) (lending : D → Bool) (devices after : List D) (old mid now : CopiesValue D) (v set : ℕ) (fault : RevertFault) → v < length old.area.volumes → is_among set (images_on old v) ≡ true → AreNewerGone told old mid v set
+pub revert_failed : {D : Type 0} (told : D → Option (List (List ℕ))) (size count : D → ℕ) (lending : D → Bool) (devices after : List D) (old mid now : CopiesValue D) (v set : ℕ) (fault : RevertFault)
+    → v < length old.area.volumes → is_among set (images_on old v) ≡ true → AreNewerGone told old mid v set
     → IsRestoring told size count lending (group_of devices mid) (group_of after now) v set (Err fault) → IsRevert told size count lending (group_of devices old) (group_of after now) v set (Err fault)
 revert_failed told size count lending devices after old mid now v set NoSuchImage inside image gone failed = absurd failed
-revert_failed told size count lending devices after old mid now v set (Fault restored cause) inside image gone failed = reverted_some told size count lending devices after old mid now v set restored cause inside image gone failed
+revert_failed told size count lending devices after old mid now v set
+    (Fault restored cause) inside image gone failed = reverted_some told size count lending devices after old mid now v set restored cause inside image gone failed
 
 -- the image is still there
-pub image_left : {D : Type 0} (told : D → Option (List (List ℕ))) (size count : D → ℕ) (lending : D → Bool) (devices after : List D) (old mid now : CopiesValue D) (v set m restored : ℕ) → AreNewerGone told old mid v set → AreRestored told size count lending (group_of devices mid) (group_of after now) v set m restored → Contains (images_on now v) set
+pub image_left : {D : Type 0} (told : D → Option (List (List ℕ))) (size count : D → ℕ) (lending : D → Bool) (devices after : List D) (old mid now : CopiesValue D) (v set m restored : ℕ)
+    → AreNewerGone told old mid v set → AreRestored told size count lending (group_of devices mid) (group_of after now) v set m restored → Contains (images_on now v) set
 image_left told size count lending devices after old mid now v set m restored gone done = contains_of set (images_on now v) (ap (is_among set) (images_same mid now v done.images) ∙ gone.among)
 
-pub inside_left : {D : Type 0} (told : D → Option (List (List ℕ))) (size count : D → ℕ) (lending : D → Bool) (devices after : List D) (old mid now : CopiesValue D) (v set m restored : ℕ) → v < length old.area.volumes → AreNewerGone told old mid v set → AreRestored told size count lending (group_of devices mid) (group_of after now) v set m restored → v < length now.area.volumes
+pub inside_left : {D : Type 0} (told : D → Option (List (List ℕ))) (size count : D → ℕ) (lending : D → Bool) (devices after : List D) (old mid now : CopiesValue D) (v set m restored : ℕ)
+    → v < length old.area.volumes → AreNewerGone told old mid v set → AreRestored told size count lending (group_of devices mid) (group_of after now) v set m restored → v < length now.area.volumes
 inside_left told size count lending devices after old mid now v set m restored inside gone done = subst (λ (ns : List ℕ). v < length ns) (sym (done.kept.volumes ∙ gone.volumes)) inside
 
 -- each device still has as many blocks as its volume
-pub sizes_reverted : {D : Type 0} (told : D → Option (List (List ℕ))) (size count : D → ℕ) (lending : D → Bool) (old new : GroupValue D) (v set : ℕ) (r : Result Unit RevertFault) → IsRevert told size count lending old new v set r → map size old.devices ≡ old.area.volumes → map size new.devices ≡ new.area.volumes
+pub sizes_reverted : {D : Type 0} (told : D → Option (List (List ℕ))) (size count : D → ℕ) (lending : D → Bool) (old new : GroupValue D) (v set : ℕ) (r : Result Unit RevertFault)
+    → IsRevert told size count lending old new v set r → map size old.devices ≡ old.area.volumes → map size new.devices ≡ new.area.volumes
 sizes_reverted told size count lending old new v set (Ok done) is sizes = sizes_kept told size count lending old new is.kept sizes
 sizes_reverted told size count lending old new v set (Err NoSuchImage) is sizes = subst (λ (g : GroupValue _). map size g.devices ≡ g.area.volumes) (sym is.1) sizes
 sizes_reverted told size count lending old new v set (Err (Fault restored cause)) is sizes = sizes_kept told size count lending old new is.0.kept sizes

@@ -1,6 +1,7 @@
 -- A revert of a volume to the image of a set: each block that has a copy for the set is restored, in ascending order,
 -- and at the end the set's copies go too.
-use Rattle.std.proofs.Common.{◌≡◌, ◌≢◌, ◌<◌, ◌≤◌, ◌↔◌, ℕ, zero, suc, ◌+◌, ◌-◌, List, [], ◌∷◌, ◌++◌, length, take, drop, map, refl, ap, sym, subst, ◌∙◌, arith, eq-or-lt_of_le, Bool, true, false, ◌||◌, Option, Some, None, is_some, IfSome, option_map, inl, inr}
+use Rattle.std.proofs.Common.{◌≡◌, ◌≢◌, ◌<◌, ◌≤◌, ◌↔◌, ℕ, zero, suc, ◌+◌, ◌-◌, List, [], ◌∷◌, ◌++◌, length, take, drop, map, refl, ap, sym, subst, ◌∙◌, arith, eq-or-lt_of_le, Bool, true, false, ◌||◌}
+use Rattle.std.proofs.Common.{Option, Some, None, is_some, IfSome, option_map, inl, inr}
 use Rattle.std.specs.Prelude.{filter, slice_get, slice_set, if◌then◌else◌, ◌==◌}
 use Rattle.std.specs.List.{range_with_len}
 use Rattle.std.proofs.lemmas.List.{append_assoc, append-nil, map-append, length-append, length-take-le, take_all, take-take, take_at}
@@ -30,16 +31,19 @@ filter-same p q (x ∷ xs) h =
     ap (λ (t : Bool). if t then x ∷ filter p xs else filter p xs) (h x (inl refl))
     ∙ ap (λ ys. if q x then x ∷ ys else ys) (filter-same p q xs (λ z m. h z (inr m)))
 
-newest_names : (told slots : Option (List (List ℕ))) (records : List Record) (v n : ℕ) (sets : List ℕ) (h : History) (set p b : ℕ) → IsVolume told slots records v n sets (without_newer set h) → point_in set h.images ≡ Some p
+newest_names : (told slots : Option (List (List ℕ))) (records : List Record) (v n : ℕ) (sets : List ℕ) (h : History) (set p b : ℕ) → IsVolume told slots records v n sets (without_newer set h)
+    → point_in set h.images ≡ Some p
     → is_named h.writes (up_to_set set h.images) set b ≡ names (drop p h.writes) b
 newest_names told slots records v n sets h set p b is e =
     named_of (length h.writes) h.writes (up_to_set set h.images) (image_at set p) [] b is.images.in_time (last_of set p h is.images.in_time e)
 
-set_above : (told slots : Option (List (List ℕ))) (records : List Record) (v n : ℕ) (sets : List ℕ) (h : History) (set p : ℕ) → IsVolume told slots records v n sets (without_newer set h) → point_in set h.images ≡ Some p → 0 < set
+set_above : (told slots : Option (List (List ℕ))) (records : List Record) (v n : ℕ) (sets : List ℕ) (h : History) (set p : ℕ) → IsVolume told slots records v n sets (without_newer set h)
+    → point_in set h.images ≡ Some p → 0 < set
 set_above told slots records v n sets h set p is e = above_zero (up_to_set set h.images) (image_at set p) [] is.images.above_zero (last_of set p h is.images.in_time e)
 
 -- the blocks that have a copy for the set are those that are named since its point
-pub restores : (told slots : Option (List (List ℕ))) (records : List Record) (v n : ℕ) (sets : List ℕ) (h : History) (set p b : ℕ) → IsVolume told slots records v n sets (without_newer set h) → point_in set h.images ≡ Some p → b < n
+pub restores : (told slots : Option (List (List ℕ))) (records : List Record) (v n : ℕ) (sets : List ℕ) (h : History) (set p b : ℕ) → IsVolume told slots records v n sets (without_newer set h)
+    → point_in set h.images ≡ Some p → b < n
     → ((slot : ℕ) × (slice_get records slot ≡ Some (record_of v set b))) ↔ (names (drop p h.writes) b ≡ true)
 restores told slots records v n sets h set p b is e l =
     let same = newest_names told slots records v n sets h set p b is e in
@@ -51,11 +55,13 @@ same_test false true f g = g refl
 same_test false false f g = refl
 
 -- the point is none past the end
-pub point_within : (told slots : Option (List (List ℕ))) (records : List Record) (v n : ℕ) (sets : List ℕ) (h : History) (set p : ℕ) → IsVolume told slots records v n sets (without_newer set h) → point_in set h.images ≡ Some p → p ≤ length h.writes
+pub point_within : (told slots : Option (List (List ℕ))) (records : List Record) (v n : ℕ) (sets : List ℕ) (h : History) (set p : ℕ) → IsVolume told slots records v n sets (without_newer set h)
+    → point_in set h.images ≡ Some p → p ≤ length h.writes
 point_within told slots records v n sets h set p is e = point_in_time (length h.writes) set p (up_to_set set h.images) is.images.in_time (point_kept set h.images ∙ e)
 
 -- so the ascending list of them is that of the blocks to restore
-pub to_restore_of : (told slots : Option (List (List ℕ))) (records : List Record) (v n : ℕ) (sets : List ℕ) (h : History) (set p : ℕ) → IsVolume told slots records v n sets (without_newer set h) → point_in set h.images ≡ Some p
+pub to_restore_of : (told slots : Option (List (List ℕ))) (records : List Record) (v n : ℕ) (sets : List ℕ) (h : History) (set p : ℕ) → IsVolume told slots records v n sets (without_newer set h)
+    → point_in set h.images ≡ Some p
     → to_restore n h.writes p ≡ filter (λ b. has_record records (record_of v set b)) (range_with_len 0 n)
 to_restore_of told slots records v n sets h set p is e = filter-same (names (drop p h.writes)) (λ b. has_record records (record_of v set b)) (range_with_len 0 n) (λ b m.
     let l = from-range 0 n b m in
@@ -74,8 +80,10 @@ from-to_restore n ws p b h =
     (omega arith, of.1)
 
 -- the bytes that were read of a slot are those that a revert restores, where both devices tell
-pub slot_restores : (told slots : Option (List (List ℕ))) (records : List Record) (v n : ℕ) (sets : List ℕ) (h : History) (set p slot b : ℕ) (bytes : List ℕ) → IsVolume told slots records v n sets (without_newer set h) → point_in set h.images ≡ Some p
-    → slice_get records slot ≡ Some (record_of v set b) → IfSome slots (λ blocks. slice_get blocks (place_of_slot (length records) slot) ≡ Some bytes) → is_some told ≡ true → is_some slots ≡ true → bytes ≡ content h.writes p b
+pub slot_restores : (told slots : Option (List (List ℕ))) (records : List Record) (v n : ℕ) (sets : List ℕ) (h : History) (set p slot b : ℕ) (bytes : List ℕ)
+    → IsVolume told slots records v n sets (without_newer set h) → point_in set h.images ≡ Some p
+    → slice_get records slot ≡ Some (record_of v set b) → IfSome slots (λ blocks. slice_get blocks (place_of_slot (length records) slot) ≡ Some bytes) → is_some told ≡ true → is_some slots ≡ true
+    → bytes ≡ content h.writes p b
 slot_restores told None records v n sets h set p slot b bytes is e at read tells lends = cc
 slot_restores told (Some blocks) records v n sets h set p slot b bytes is e at read tells lends =
     let found = is.copied slot set b p at (point_kept set h.images ∙ e) tells in
@@ -94,16 +102,19 @@ pub restored_none : (n set p : ℕ) (h : History) → without_newer set h ≡ re
 restored_none n set p h = ap (λ ws. record { writes = ws; images = up_to_set set h.images }) (sym (append-nil h.writes))
 
 -- one more
-pub one_more_write : (n set p k b : ℕ) (h : History) → slice_get (to_restore n h.writes p) k ≡ Some b → written (restoring h.writes p b) (reverted_in_part n set p k h) ≡ reverted_in_part n set p (k + 1) h
+pub one_more_write : (n set p k b : ℕ) (h : History) → slice_get (to_restore n h.writes p) k ≡ Some b
+    → written (restoring h.writes p b) (reverted_in_part n set p k h) ≡ reverted_in_part n set p (k + 1) h
 one_more_write n set p k b h at = ap (λ ws. record { writes = ws; images = up_to_set set h.images })
     (append_assoc h.writes (map (restoring h.writes p) (take k (to_restore n h.writes p))) (restoring h.writes p b ∷ [])
     ∙ ap (λ xs. h.writes ++ xs) (sym (ap (map (restoring h.writes p)) (take_next (to_restore n h.writes p) k b at) ∙ map-append (restoring h.writes p) (take k (to_restore n h.writes p)) (b ∷ []))))
 
-last_in_part : (told slots : Option (List (List ℕ))) (records : List Record) (v n : ℕ) (sets : List ℕ) (h : History) (set p k : ℕ) → IsVolume told slots records v n sets (reverted_in_part n set p k h) → point_in set h.images ≡ Some p → Stands (image_at set p) [] (up_to_set set h.images)
+last_in_part : (told slots : Option (List (List ℕ))) (records : List Record) (v n : ℕ) (sets : List ℕ) (h : History) (set p k : ℕ)
+    → IsVolume told slots records v n sets (reverted_in_part n set p k h) → point_in set h.images ≡ Some p → Stands (image_at set p) [] (up_to_set set h.images)
 last_in_part told slots records v n sets h set p k is e =
     stands_last (length (reverted_in_part n set p k h).writes) set p (up_to_set set h.images) is.images.in_time (are_up_to set h.images) (point_kept set h.images ∙ e)
 
-pub restored_more : (told slots : Option (List (List ℕ))) (records : List Record) (v n : ℕ) (sets : List ℕ) (h : History) (set p k b : ℕ) (bytes : List ℕ) → p ≤ length h.writes → IsVolume told slots records v n sets (reverted_in_part n set p k h) → point_in set h.images ≡ Some p
+pub restored_more : (told slots : Option (List (List ℕ))) (records : List Record) (v n : ℕ) (sets : List ℕ) (h : History) (set p k b : ℕ) (bytes : List ℕ) → p ≤ length h.writes
+    → IsVolume told slots records v n sets (reverted_in_part n set p k h) → point_in set h.images ≡ Some p
     → slice_get (to_restore n h.writes p) k ≡ Some b → (is_some told ≡ true → bytes ≡ content h.writes p b)
     → IsVolume (option_map (λ blocks. slice_set blocks b bytes) told) slots records v n sets (reverted_in_part n set p (k + 1) h)
 restored_more told slots records v n sets h set p k b bytes l is e at known =
@@ -112,7 +123,8 @@ restored_more told slots records v n sets h set p k b bytes l is e at known =
     let named : names (drop p (h.writes ++ more)) b ≡ true = since-more h.writes more p b l ∙ or_first (names (drop p h.writes) b) (names more b) of.1 in
     let P : History → Type 0 = λ x. IsVolume (option_map (λ blocks. slice_set blocks b bytes) told) slots records v n sets x in
     subst P (one_more_write n set p k b h at)
-    (restored_one told slots records v n sets (reverted_in_part n set p k h) (image_at set p) (restoring h.writes p b) bytes is (last_in_part told slots records v n sets h set p k is e) named of.0 known)
+    (restored_one told slots records v n sets (reverted_in_part n set p k h) (image_at set p) (restoring h.writes p b) bytes is
+    (last_in_part told slots records v n sets h set p k is e) named of.0 known)
 
 -- these blocks of a device get these bytes, one after another
 abbrev pub put_back : List Write → List (List ℕ) → List (List ℕ)
@@ -127,12 +139,14 @@ put_back_none : (told : Option (List (List ℕ))) → told ≡ option_map (put_b
 put_back_none None = refl
 put_back_none (Some blocks) = refl
 
-put_back_more : (told : Option (List (List ℕ))) (ws : List Write) (w : Write) → option_map (λ blocks. slice_set blocks w.block w.bytes) (option_map (put_back ws) told) ≡ option_map (put_back (ws ++ w ∷ [])) told
+put_back_more : (told : Option (List (List ℕ))) (ws : List Write) (w : Write)
+    → option_map (λ blocks. slice_set blocks w.block w.bytes) (option_map (put_back ws) told) ≡ option_map (put_back (ws ++ w ∷ [])) told
 put_back_more None ws w = refl
 put_back_more (Some blocks) ws w = ap (λ bs. Some bs) (put_back-push ws w blocks)
 
 -- so many blocks are restored, each with its bytes at the point
-pub restored_some : (told slots : Option (List (List ℕ))) (records : List Record) (v n : ℕ) (sets : List ℕ) (h : History) (set p k : ℕ) → IsVolume told slots records v n sets (without_newer set h) → point_in set h.images ≡ Some p → k ≤ length (to_restore n h.writes p)
+pub restored_some : (told slots : Option (List (List ℕ))) (records : List Record) (v n : ℕ) (sets : List ℕ) (h : History) (set p k : ℕ) → IsVolume told slots records v n sets (without_newer set h)
+    → point_in set h.images ≡ Some p → k ≤ length (to_restore n h.writes p)
     → IsVolume (option_map (put_back (map (restoring h.writes p) (take k (to_restore n h.writes p)))) told) slots records v n sets (reverted_in_part n set p k h)
 restored_some told slots records v n sets h set p zero is e l =
     let P : History → Type 0 = λ x. IsVolume told slots records v n sets x in
@@ -244,12 +258,14 @@ content_restored n ws p b l =
           unnamed_same b (last_bytes b zeros ws) (map (restoring ws p) (to_restore n ws p)) (unnamed (names (map (restoring ws p) (to_restore n ws p)) b) refl e)
           ∙ sym (unnamed_since ws p b e ∙ content_all ws b)
 
-pub contents_restored : (n : ℕ) (ws : List Write) (p : ℕ) → contents n (ws ++ map (restoring ws p) (to_restore n ws p)) (length (ws ++ map (restoring ws p) (to_restore n ws p))) ≡ contents n (take p ws) (length (take p ws))
+pub contents_restored : (n : ℕ) (ws : List Write) (p : ℕ)
+    → contents n (ws ++ map (restoring ws p) (to_restore n ws p)) (length (ws ++ map (restoring ws p) (to_restore n ws p))) ≡ contents n (take p ws) (length (take p ws))
 contents_restored n ws p =
     map-same (content (ws ++ map (restoring ws p) (to_restore n ws p)) (length (ws ++ map (restoring ws p) (to_restore n ws p)))) (content (take p ws) (length (take p ws))) (range_with_len 0 n)
     (λ b m. let l = from-range 0 n b m in content_restored n ws p b (omega arith) ∙ sym (content_all (take p ws) b))
 
-told_restored : (told : Option (List (List ℕ))) (n : ℕ) (ws : List Write) (p : ℕ) → IfSome told (λ blocks. blocks ≡ contents n (ws ++ map (restoring ws p) (to_restore n ws p)) (length (ws ++ map (restoring ws p) (to_restore n ws p))))
+told_restored : (told : Option (List (List ℕ))) (n : ℕ) (ws : List Write) (p : ℕ)
+    → IfSome told (λ blocks. blocks ≡ contents n (ws ++ map (restoring ws p) (to_restore n ws p)) (length (ws ++ map (restoring ws p) (to_restore n ws p))))
     → IfSome told (λ blocks. blocks ≡ contents n (take p ws) (length (take p ws)))
 told_restored None n ws p held = tt
 told_restored (Some blocks) n ws p held = held ∙ contents_restored n ws p
@@ -260,8 +276,10 @@ up_to_all set (j ∷ js) i newer u (inl e) = let P : Image → Type 0 = λ x. x.
 up_to_all set (j ∷ js) i newer u (inr h) = up_to_all set js i newer u.1 h
 
 -- the last image of a history whose writes are these, and those that restore its blocks
-restored_last : (told slots : Option (List (List ℕ))) (records : List Record) (v n : ℕ) (sets : List ℕ) (ws : List Write) (is : List Image) (set p : ℕ) → p ≤ length ws → AreUpTo set is → Stands (image_at set p) [] is
-    → IsVolume told slots records v n sets (record { writes = ws ++ map (restoring ws p) (to_restore n ws p); images = is }) → IsVolume told slots (cleared v set records) v n sets (record { writes = take p ws; images = is })
+restored_last : (told slots : Option (List (List ℕ))) (records : List Record) (v n : ℕ) (sets : List ℕ) (ws : List Write) (is : List Image) (set p : ℕ) → p ≤ length ws → AreUpTo set is
+    → Stands (image_at set p) [] is
+    → IsVolume told slots records v n sets (record { writes = ws ++ map (restoring ws p) (to_restore n ws p); images = is })
+    → IsVolume told slots (cleared v set records) v n sets (record { writes = take p ws; images = is })
 restored_last told slots records v n sets ws is set p l u last volume =
     let more = map (restoring ws p) (to_restore n ws p) in
     let times = volume.images.in_time in
@@ -308,14 +326,17 @@ restored_last told slots records v n sets ws is set p l u last volume =
       ]
 
 -- after all of them, and without the set's copies, the volume stands for the reverted history
-pub restored_all : (told slots : Option (List (List ℕ))) (records : List Record) (v n : ℕ) (sets : List ℕ) (h : History) (set p k : ℕ) → p ≤ length h.writes → IsVolume told slots records v n sets (reverted_in_part n set p k h) → point_in set h.images ≡ Some p → length (to_restore n h.writes p) ≤ k
+pub restored_all : (told slots : Option (List (List ℕ))) (records : List Record) (v n : ℕ) (sets : List ℕ) (h : History) (set p k : ℕ) → p ≤ length h.writes
+    → IsVolume told slots records v n sets (reverted_in_part n set p k h) → point_in set h.images ≡ Some p → length (to_restore n h.writes p) ≤ k
     → IsVolume told slots (cleared v set records) v n sets (reverted set p h)
 restored_all told slots records v n sets h set p k l is e m =
     let P : List ℕ → Type 0 = λ bs. IsVolume told slots records v n sets (record { writes = h.writes ++ map (restoring h.writes p) bs; images = up_to_set set h.images }) in
-    restored_last told slots records v n sets h.writes (up_to_set set h.images) set p l (are_up_to set h.images) (last_in_part told slots records v n sets h set p k is e) (subst P (take_all k (to_restore n h.writes p) m) is)
+    restored_last told slots records v n sets h.writes (up_to_set set h.images) set p l (are_up_to set h.images) (last_in_part told slots records v n sets h set p k is e)
+    (subst P (take_all k (to_restore n h.writes p) m) is)
 
 -- from the start to the end
-pub reverted_of : (told slots : Option (List (List ℕ))) (records : List Record) (v n : ℕ) (sets : List ℕ) (h : History) (set p : ℕ) → IsVolume told slots records v n sets (without_newer set h) → point_in set h.images ≡ Some p
+pub reverted_of : (told slots : Option (List (List ℕ))) (records : List Record) (v n : ℕ) (sets : List ℕ) (h : History) (set p : ℕ) → IsVolume told slots records v n sets (without_newer set h)
+    → point_in set h.images ≡ Some p
     → IsVolume (option_map (put_back (map (restoring h.writes p) (to_restore n h.writes p))) told) slots (cleared v set records) v n sets (reverted set p h)
 reverted_of told slots records v n sets h set p is e =
     let all = length (to_restore n h.writes p) in
@@ -337,7 +358,8 @@ from-take x (suc k) [] h = absurd h
 from-take x (suc k) (y ∷ xs) (inl e) = inl e
 from-take x (suc k) (y ∷ xs) (inr h) = inr (from-take x k xs h)
 
-in_part_names : (told slots : Option (List (List ℕ))) (records : List Record) (v n : ℕ) (sets : List ℕ) (h : History) (set p k b : ℕ) → p ≤ length h.writes → IsVolume told slots records v n sets (reverted_in_part n set p k h) → point_in set h.images ≡ Some p
+in_part_names : (told slots : Option (List (List ℕ))) (records : List Record) (v n : ℕ) (sets : List ℕ) (h : History) (set p k b : ℕ) → p ≤ length h.writes
+    → IsVolume told slots records v n sets (reverted_in_part n set p k h) → point_in set h.images ≡ Some p
     → is_named (reverted_in_part n set p k h).writes (up_to_set set h.images) set b ≡ names (drop p h.writes) b
 in_part_names told slots records v n sets h set p k b l is e =
     let more = map (restoring h.writes p) (take k (to_restore n h.writes p)) in
@@ -348,7 +370,8 @@ in_part_names told slots records v n sets h set p k b l is e =
     ∙ named_of (length h.writes) h.writes (up_to_set set h.images) (image_at set p) [] b early last
 
 -- a block that has a copy for the set is one to restore
-pub to_restore_at : (told slots : Option (List (List ℕ))) (records : List Record) (v n : ℕ) (sets : List ℕ) (h : History) (set p k slot b : ℕ) → p ≤ length h.writes → IsVolume told slots records v n sets (reverted_in_part n set p k h) → point_in set h.images ≡ Some p
+pub to_restore_at : (told slots : Option (List (List ℕ))) (records : List Record) (v n : ℕ) (sets : List ℕ) (h : History) (set p k slot b : ℕ) → p ≤ length h.writes
+    → IsVolume told slots records v n sets (reverted_in_part n set p k h) → point_in set h.images ≡ Some p
     → slice_get records slot ≡ Some (record_of v set b) → names (drop p h.writes) b ≡ true
 to_restore_at told slots records v n sets h set p k slot b l is e at =
     let last = last_in_part told slots records v n sets h set p k is e in
@@ -359,15 +382,18 @@ test_is true h = absurd (h refl)
 test_is false h = refl
 
 -- and one that has none is not
-pub not_to_restore : (told slots : Option (List (List ℕ))) (records : List Record) (v n : ℕ) (sets : List ℕ) (h : History) (set p k b : ℕ) → p ≤ length h.writes → b < n → IsVolume told slots records v n sets (reverted_in_part n set p k h) → point_in set h.images ≡ Some p
+pub not_to_restore : (told slots : Option (List (List ℕ))) (records : List Record) (v n : ℕ) (sets : List ℕ) (h : History) (set p k b : ℕ) → p ≤ length h.writes → b < n
+    → IsVolume told slots records v n sets (reverted_in_part n set p k h) → point_in set h.images ≡ Some p
     → ((slot : ℕ) → slice_get records slot ≡ Some (record_of v set b) → ⊥) → names (drop p h.writes) b ≡ false
 not_to_restore told slots records v n sets h set p k b l m is e none = test_is (names (drop p h.writes) b) (λ f.
     let at = is.recorded set b m (in_part_names told slots records v n sets h set p k b l is e ∙ f) in
     none at.0 at.1)
 
 -- what a slot of the set holds is what the block gets
-pub slot_bytes : (told slots : Option (List (List ℕ))) (records : List Record) (v n : ℕ) (sets : List ℕ) (h : History) (set p k slot b : ℕ) (bytes : List ℕ) → p ≤ length h.writes → IsVolume told slots records v n sets (reverted_in_part n set p k h) → point_in set h.images ≡ Some p
-    → slice_get records slot ≡ Some (record_of v set b) → IfSome slots (λ blocks. slice_get blocks (place_of_slot (length records) slot) ≡ Some bytes) → is_some told ≡ true → is_some slots ≡ true → bytes ≡ content h.writes p b
+pub slot_bytes : (told slots : Option (List (List ℕ))) (records : List Record) (v n : ℕ) (sets : List ℕ) (h : History) (set p k slot b : ℕ) (bytes : List ℕ) → p ≤ length h.writes
+    → IsVolume told slots records v n sets (reverted_in_part n set p k h) → point_in set h.images ≡ Some p
+    → slice_get records slot ≡ Some (record_of v set b) → IfSome slots (λ blocks. slice_get blocks (place_of_slot (length records) slot) ≡ Some bytes) → is_some told ≡ true → is_some slots ≡ true
+    → bytes ≡ content h.writes p b
 slot_bytes told None records v n sets h set p k slot b bytes l is e at read tells both = cc
 slot_bytes told (Some blocks) records v n sets h set p k slot b bytes l is e at read tells both =
     let found = is.copied slot set b p at (point_kept set h.images ∙ e) tells in
@@ -376,13 +402,15 @@ slot_bytes told (Some blocks) records v n sets h set p k slot b bytes l is e at 
     bytes_are ∙ content-before h.writes (map (restoring h.writes p) (take k (to_restore n h.writes p))) p b l
 
 -- at the start
-pub restored_start : (told slots : Option (List (List ℕ))) (records : List Record) (v n : ℕ) (sets : List ℕ) (h : History) (set p : ℕ) → IsVolume told slots records v n sets (without_newer set h) → IsVolume told slots records v n sets (restored_below n set p 0 h)
+pub restored_start : (told slots : Option (List (List ℕ))) (records : List Record) (v n : ℕ) (sets : List ℕ) (h : History) (set p : ℕ) → IsVolume told slots records v n sets (without_newer set h)
+    → IsVolume told slots records v n sets (restored_below n set p 0 h)
 restored_start told slots records v n sets h set p is =
     let P : History → Type 0 = λ x. IsVolume told slots records v n sets x in
     subst P (restored_none n set p h) is
 
 -- block m has no copy for the set, and is left as it is
-pub restored_past : (told slots : Option (List (List ℕ))) (records : List Record) (v n : ℕ) (sets : List ℕ) (h : History) (set p m : ℕ) → p ≤ length h.writes → m < n → IsVolume told slots records v n sets (restored_below n set p m h) → point_in set h.images ≡ Some p
+pub restored_past : (told slots : Option (List (List ℕ))) (records : List Record) (v n : ℕ) (sets : List ℕ) (h : History) (set p m : ℕ) → p ≤ length h.writes → m < n
+    → IsVolume told slots records v n sets (restored_below n set p m h) → point_in set h.images ≡ Some p
     → ((slot : ℕ) → slice_get records slot ≡ Some (record_of v set m) → ⊥) → IsVolume told slots records v n sets (restored_below n set p (m + 1) h)
 restored_past told slots records v n sets h set p m l b is e none =
     let k = length (to_restore m h.writes p) in
@@ -391,7 +419,8 @@ restored_past told slots records v n sets h set p m l b is e none =
     subst P (sym same) is
 
 -- block m has a copy for the set, and is restored from its slot
-pub restored_at : (told slots : Option (List (List ℕ))) (records : List Record) (v n : ℕ) (sets : List ℕ) (h : History) (set p m slot : ℕ) (bytes : List ℕ) → p ≤ length h.writes → m < n → IsVolume told slots records v n sets (restored_below n set p m h) → point_in set h.images ≡ Some p
+pub restored_at : (told slots : Option (List (List ℕ))) (records : List Record) (v n : ℕ) (sets : List ℕ) (h : History) (set p m slot : ℕ) (bytes : List ℕ) → p ≤ length h.writes → m < n
+    → IsVolume told slots records v n sets (restored_below n set p m h) → point_in set h.images ≡ Some p
     → slice_get records slot ≡ Some (record_of v set m) → IfSome slots (λ blocks. slice_get blocks (place_of_slot (length records) slot) ≡ Some bytes) → (is_some told ≡ true → is_some slots ≡ true)
     → IsVolume (option_map (λ blocks. slice_set blocks m bytes) told) slots records v n sets (restored_below n set p (m + 1) h)
 restored_at told slots records v n sets h set p m slot bytes l b is e at read tells =
@@ -403,12 +432,14 @@ restored_at told slots records v n sets h set p m slot bytes l b is e at read te
     (λ t. slot_bytes told slots records v n sets h set p k slot m bytes l is e at read t (tells t)))
 
 -- while block m is still to be restored, fewer are than there are to restore
-pub fewer_restored : (told slots : Option (List (List ℕ))) (records : List Record) (v n : ℕ) (sets : List ℕ) (h : History) (set p m slot : ℕ) → p ≤ length h.writes → m < n → IsVolume told slots records v n sets (restored_below n set p m h) → point_in set h.images ≡ Some p
+pub fewer_restored : (told slots : Option (List (List ℕ))) (records : List Record) (v n : ℕ) (sets : List ℕ) (h : History) (set p m slot : ℕ) → p ≤ length h.writes → m < n
+    → IsVolume told slots records v n sets (restored_below n set p m h) → point_in set h.images ≡ Some p
     → slice_get records slot ≡ Some (record_of v set m) → length (to_restore m h.writes p) < length (to_restore n h.writes p)
 fewer_restored told slots records v n sets h set p m slot l b is e at =
     let k = length (to_restore m h.writes p) in
     slice_get_within (to_restore n h.writes p) k m (next_restored m n h.writes p b (to_restore_at told slots records v n sets h set p k slot m l is e at))
 
 -- at the end, without the set's copies
-pub restored_end : (told slots : Option (List (List ℕ))) (records : List Record) (v n : ℕ) (sets : List ℕ) (h : History) (set p : ℕ) → p ≤ length h.writes → IsVolume told slots records v n sets (restored_below n set p n h) → point_in set h.images ≡ Some p → IsVolume told slots (cleared v set records) v n sets (reverted set p h)
+pub restored_end : (told slots : Option (List (List ℕ))) (records : List Record) (v n : ℕ) (sets : List ℕ) (h : History) (set p : ℕ) → p ≤ length h.writes
+    → IsVolume told slots records v n sets (restored_below n set p n h) → point_in set h.images ≡ Some p → IsVolume told slots (cleared v set records) v n sets (reverted set p h)
 restored_end told slots records v n sets h set p l is e = restored_all told slots records v n sets h set p (length (to_restore n h.writes p)) l is e (omega arith)

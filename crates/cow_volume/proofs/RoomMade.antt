@@ -20,7 +20,8 @@ use Rattle.cow_volume.proofs.Rows.{lacks_newest, has_slot, has_from_slot}
 use Rattle.cow_volume.proofs.CopiedOnce.{lacked}
 
 -- a write needs a slot just where the newest image lacks a copy of the block
-pub needs_by_records : {D : Type 0} (told : D → Option (List (List ℕ))) (g : GroupValue D) (hs : List History) (v b : ℕ) → StandsFor told g hs → b < blocks_at g v → lacks_copy g.area.records v (sets_at g v) b ≡ needs_slot_in (slice_get hs v) b
+pub needs_by_records : {D : Type 0} (told : D → Option (List (List ℕ))) (g : GroupValue D) (hs : List History) (v b : ℕ) → StandsFor told g hs → b < blocks_at g v
+    → lacks_copy g.area.records v (sets_at g v) b ≡ needs_slot_in (slice_get hs v) b
 needs_by_records told g hs v b stands within = by_sets (sets_at g v) refl where
   by_test : (t : Bool) → 0 < length (sets_at g v) → has_record g.area.records (record_of v (newest (sets_at g v)) b) ≡ t → not t ≡ needs_slot_in (slice_get hs v) b
   by_test true some e = let at = has_slot g.area.records (record_of v (newest (sets_at g v)) b) e in sym (group_needs_not told g hs v b at.0 stands within at.1)
@@ -54,7 +55,8 @@ room_lift told g hs v b m stands are within room =
     (sym (lacks_lift told g hs v b m stands are within) ∙ room.enough)
 
 -- where the images went that had to, there is room
-pub room_is : {D : Type 0} (told : D → Option (List (List ℕ))) (devices : List D) (old new : CopiesValue D) (v b up_to : ℕ) → AreRecords old.area.volumes old.area.records → AreOfImages old.area.records old.images
+pub room_is : {D : Type 0} (told : D → Option (List (List ℕ))) (devices : List D) (old new : CopiesValue D) (v b up_to : ℕ) → AreRecords old.area.volumes old.area.records
+    → AreOfImages old.area.records old.images
     → b < blocks_at (group_of devices old) v → IsRoomMade old.area.records old.images v b up_to → new ≡ after_gone old up_to → HasRoom told (group_of devices old) (group_of devices new) v b up_to
 room_is told devices old new v b up_to are of within made gone =
     let g = group_of devices old in

@@ -87,18 +87,21 @@ row_at v [] slot r h = absurd (none-some r h)
 row_at v (q ∷ rs) zero r h = ap (copied_for v) (same_Some q r h)
 row_at v (q ∷ rs) (suc slot) r h = row_at v rs slot r h
 
-pub record_at_row : (v : ℕ) (records : List Record) (slot : ℕ) (c : Copied) → copied_at (map (copied_for v) records) slot ≡ Some c → (r : Record) × (slice_get records slot ≡ Some r) × (copied_for v r ≡ Some c)
+pub record_at_row : (v : ℕ) (records : List Record) (slot : ℕ) (c : Copied) → copied_at (map (copied_for v) records) slot ≡ Some c
+    → (r : Record) × (slice_get records slot ≡ Some r) × (copied_for v r ≡ Some c)
 record_at_row v [] slot c h = absurd (none-some c h)
 record_at_row v (q ∷ rs) zero c h = (q, refl, h)
 record_at_row v (q ∷ rs) (suc slot) c h = record_at_row v rs slot c h
 
-pub record_of_row : (v : ℕ) (records : List Record) (slot : ℕ) (c : Copied) → copied_at (map (copied_for v) records) slot ≡ Some c → (0 < c.set) × (slice_get records slot ≡ Some (record_of v c.set c.block))
+pub record_of_row : (v : ℕ) (records : List Record) (slot : ℕ) (c : Copied) → copied_at (map (copied_for v) records) slot ≡ Some c
+    → (0 < c.set) × (slice_get records slot ≡ Some (record_of v c.set c.block))
 record_of_row v records slot c h =
     let at = record_at_row v records slot c h in
     let from = record-from v at.0 c at.2 in
     (from.0, at.1 ∙ ap (λ (r : Record). Some r) from.1)
 
-pub row_of_record : (v : ℕ) (records : List Record) (slot set block : ℕ) → 0 < set → slice_get records slot ≡ Some (record_of v set block) → copied_at (map (copied_for v) records) slot ≡ Some (copy_of set block)
+pub row_of_record : (v : ℕ) (records : List Record) (slot set block : ℕ) → 0 < set → slice_get records slot ≡ Some (record_of v set block)
+    → copied_at (map (copied_for v) records) slot ≡ Some (copy_of set block)
 row_of_record v records slot set block some h = row_at v records slot (record_of v set block) h ∙ copied_for-is v (record_of v set block) some refl
 
 -- ## what is found

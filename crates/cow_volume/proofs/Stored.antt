@@ -35,14 +35,16 @@ is-held slot (r ∷ rs) bytes c m = by_test (is_free r) refl m (is-held (slot + 
       let same : slot + suc h.at ≡ slot + 1 + h.at = omega arith in
       record { at = suc h.at; row = h.row; row_is = h.row_is; used = h.used; is = ap (λ k. held h.row (bytes k)) same ∙ h.is }
 
-  by_test : (t : Bool) → is_free r ≡ t → Has c (if t then copies_from (slot + 1) rs bytes else held r (bytes slot) ∷ copies_from (slot + 1) rs bytes) → (Has c (copies_from (slot + 1) rs bytes) → IsHeld (slot + 1) rs bytes c) → IsHeld slot (r ∷ rs) bytes c
+  by_test : (t : Bool) → is_free r ≡ t → Has c (if t then copies_from (slot + 1) rs bytes else held r (bytes slot) ∷ copies_from (slot + 1) rs bytes)
+      → (Has c (copies_from (slot + 1) rs bytes) → IsHeld (slot + 1) rs bytes c) → IsHeld slot (r ∷ rs) bytes c
   by_test true e m rest = later (rest m)
   by_test false e (inl same) rest =
       let zero_more : slot + 0 ≡ slot = omega arith in
       record { at = 0; row = r; row_is = refl; used = e; is = ap (λ k. held r (bytes k)) zero_more ∙ same }
   by_test false e (inr m) rest = later (rest m)
 
-pub has-held : (slot : ℕ) (records : List Record) (bytes : ℕ → List ℕ) (at : ℕ) (r : Record) → slice_get records at ≡ Some r → is_free r ≡ false → Has (held r (bytes (slot + at))) (copies_from slot records bytes)
+pub has-held : (slot : ℕ) (records : List Record) (bytes : ℕ → List ℕ) (at : ℕ) (r : Record) → slice_get records at ≡ Some r → is_free r ≡ false
+    → Has (held r (bytes (slot + at))) (copies_from slot records bytes)
 has-held slot [] bytes at r e f = absurd cc
 has-held slot (q ∷ rs) bytes zero r e f = by_test (is_free q) refl where
   by_test : (t : Bool) → is_free q ≡ t → Has (held r (bytes (slot + 0))) (if t then copies_from (slot + 1) rs bytes else held q (bytes slot) ∷ copies_from (slot + 1) rs bytes)
@@ -55,7 +57,8 @@ has-held slot (q ∷ rs) bytes (suc at) r e f =
     let same : slot + 1 + at ≡ slot + suc at = omega arith in
     let P : ℕ → Type 0 = λ k. Has (held r (bytes k)) (copies_from slot (q ∷ rs) bytes) in
     subst P same (by_test (is_free q) (has-held (slot + 1) rs bytes at r e f)) where
-      by_test : (t : Bool) → Has (held r (bytes (slot + 1 + at))) (copies_from (slot + 1) rs bytes) → Has (held r (bytes (slot + 1 + at))) (if t then copies_from (slot + 1) rs bytes else held q (bytes slot) ∷ copies_from (slot + 1) rs bytes)
+      by_test : (t : Bool) → Has (held r (bytes (slot + 1 + at))) (copies_from (slot + 1) rs bytes)
+          → Has (held r (bytes (slot + 1 + at))) (if t then copies_from (slot + 1) rs bytes else held q (bytes slot) ∷ copies_from (slot + 1) rs bytes)
       by_test true m = m
       by_test false m = inr m
 
@@ -63,7 +66,8 @@ keys_held : (slot : ℕ) (records : List Record) (bytes : ℕ → List ℕ) → 
 keys_held slot [] bytes = refl
 keys_held slot (r ∷ rs) bytes = by_test (is_free r) (keys_held (slot + 1) rs bytes) where
   by_test : (t : Bool) → map key (copies_from (slot + 1) rs bytes) ≡ filter (λ r. not (is_free r)) rs
-      → map key (if t then copies_from (slot + 1) rs bytes else held r (bytes slot) ∷ copies_from (slot + 1) rs bytes) ≡ (if not t then r ∷ filter (λ r. not (is_free r)) rs else filter (λ r. not (is_free r)) rs)
+      → map key (if t then copies_from (slot + 1) rs bytes else held r (bytes slot) ∷ copies_from (slot + 1) rs bytes)
+      ≡ (if not t then r ∷ filter (λ r. not (is_free r)) rs else filter (λ r. not (is_free r)) rs)
   by_test true e = e
   by_test false e = ap (λ xs. r ∷ xs) e
 
@@ -80,7 +84,8 @@ apart_held volumes records bytes are = apart_by key (copies_from 0 records bytes
 -- ## bytes
 
 -- the slot of a copy has its bytes
-pub slot_bytes : (told : Option (List (List ℕ))) (blocks : List (List ℕ)) (records : List Record) (v n : ℕ) (sets : List ℕ) (h : History) (slot : ℕ) (c : Copy) → IsVolume told (Some blocks) records v n sets h → is_some told ≡ true → slice_get records slot ≡ Some (key c) → Has c (copies_of v n h.writes h.images)
+pub slot_bytes : (told : Option (List (List ℕ))) (blocks : List (List ℕ)) (records : List Record) (v n : ℕ) (sets : List ℕ) (h : History) (slot : ℕ) (c : Copy)
+    → IsVolume told (Some blocks) records v n sets h → is_some told ≡ true → slice_get records slot ≡ Some (key c) → Has c (copies_of v n h.writes h.images)
     → slice_index_or blocks (place_of_slot (length records) slot) [] ≡ c.bytes
 slot_bytes told blocks records v n sets h slot c is tells at m =
     let of = is-copy v n h.writes h.images c m in
@@ -90,7 +95,8 @@ slot_bytes told blocks records v n sets h slot c is tells at m =
 
 -- ## the group
 
-held_told : {D : Type 0} (told : D → Option (List (List ℕ))) (g : GroupValue D) (hs : List History) (t : Option (List (List ℕ))) → told g.area.device ≡ t → StandsFor told g hs → AreRecords g.area.volumes g.area.records
+held_told : {D : Type 0} (told : D → Option (List (List ℕ))) (g : GroupValue D) (hs : List History) (t : Option (List (List ℕ))) → told g.area.device ≡ t → StandsFor told g hs
+    → AreRecords g.area.volumes g.area.records
     → ((v : ℕ) (d : D) → slice_get g.devices v ≡ Some d → is_some (told d) ≡ true) → AreHeld t g.area.records (copies (placed g.area.volumes) hs)
 held_told told g hs None e stands are tells = tt
 held_told told g hs (Some blocks) e stands are tells =
@@ -103,10 +109,12 @@ held_told told g hs (Some blocks) e stands are tells =
     let used = are.each of.at of.row of.row_is (used_record of.row of.used) in
     let its = history_of g.area.volumes hs of.row.volume stands.histories used.volume in
     let one = one_of told g hs of.row.volume its.0 its.1 stands its.2 its.3 in
-    let there = copy_there (told_in (told g.area.device) (told one.device)) (told g.area.device) g.area.records of.row.volume its.0 one.sets its.1 of.at of.row one.volume of.row_is refl used.set (within g.area.volumes g.area.records of.at its.0 of.row.volume of.row are its.2 of.row_is refl used.set) in
+    let there = copy_there (told_in (told g.area.device) (told one.device)) (told g.area.device) g.area.records of.row.volume its.0 one.sets its.1 of.at of.row one.volume of.row_is refl used.set
+    (within g.area.volumes g.area.records of.at its.0 of.row.volume of.row are its.2 of.row_is refl used.set) in
     let x = from-map key of.row (copies_of of.row.volume its.0 its.1.writes its.1.images) there in
     let P : Option (List (List ℕ)) → Type 0 = λ s. IsVolume (told_in s (told one.device)) s g.area.records of.row.volume its.0 one.sets its.1 in
-    let same_bytes = slot_bytes (told one.device) blocks g.area.records of.row.volume its.0 one.sets its.1 of.at x.0 (subst P e one.volume) (tells of.row.volume one.device one.device_is) (of.row_is ∙ ap (λ (r : Record). Some r) (sym x.2)) x.1 in
+    let same_bytes = slot_bytes (told one.device) blocks g.area.records of.row.volume its.0 one.sets its.1 of.at x.0 (subst P e one.volume) (tells of.row.volume one.device one.device_is)
+    (of.row_is ∙ ap (λ (r : Record). Some r) (sym x.2)) x.1 in
     let zero_more : 0 + of.at ≡ of.at = omega arith in
     let same : x.0 ≡ c = ap (λ b. held (key x.0) b) (sym same_bytes) ∙ ap (λ r. held r (bytes of.at)) x.2 ∙ ap (λ k. held of.row (bytes k)) (sym zero_more) ∙ of.is in
     let Q : Copy → Type 0 = λ y. Has y (copies (placed g.area.volumes) hs) in

@@ -23,23 +23,28 @@ use Rattle.cow_volume.proofs.Group.{told_in-slots, quiet_stands as group_stands}
 use Rattle.cow_volume.proofs.Stored.{held_copies}
 use Rattle.cow_volume.proofs.Kept.{kept_area, kept_further, sizes_kept, quiet_stands}
 
-tells_written : (old new : Option (List (List ℕ))) (first : List (List ℕ)) → new ≡ option_map (with_first first) old → is_some new ≡ is_some old
+pub tells_written : (old new : Option (List (List ℕ))) (first : List (List ℕ)) → new ≡ option_map (with_first first) old → is_some new ≡ is_some old
 tells_written None new first e = ap is_some e
 tells_written (Some blocks) new first e = ap is_some e
 
 -- what stands past the first blocks stands there
-past_first : (old new : Option (List (List ℕ))) (first : List (List ℕ)) (place : ℕ) (bytes : List ℕ) → length first ≤ place → new ≡ option_map (with_first first) old → IfSome old (λ blocks. slice_get blocks place ≡ Some bytes) → IfSome new (λ blocks. slice_get blocks place ≡ Some bytes)
+pub past_first : (old new : Option (List (List ℕ))) (first : List (List ℕ)) (place : ℕ) (bytes : List ℕ) → length first ≤ place → new ≡ option_map (with_first first) old
+    → IfSome old (λ blocks. slice_get blocks place ≡ Some bytes) → IfSome new (λ blocks. slice_get blocks place ≡ Some bytes)
 past_first None new first place bytes l e h = subst (λ (o : Option (List (List ℕ))). IfSome o (λ blocks. slice_get blocks place ≡ Some bytes)) (sym e) tt
-past_first (Some blocks) new first place bytes l e h = subst (λ (o : Option (List (List ℕ))). IfSome o (λ blocks. slice_get blocks place ≡ Some bytes)) (sym e) (get-with_first-past first blocks place l ∙ h)
+past_first (Some blocks) new first place bytes l e h = subst (λ (o : Option (List (List ℕ))). IfSome o (λ blocks. slice_get blocks place ≡ Some bytes)) (sym e)
+    (get-with_first-past first blocks place l ∙ h)
 
-before_first : (old new : Option (List (List ℕ))) (first : List (List ℕ)) (place : ℕ) (bytes : List ℕ) → length first ≤ place → new ≡ option_map (with_first first) old → IfSome new (λ blocks. slice_get blocks place ≡ Some bytes) → IfSome old (λ blocks. slice_get blocks place ≡ Some bytes)
+before_first : (old new : Option (List (List ℕ))) (first : List (List ℕ)) (place : ℕ) (bytes : List ℕ) → length first ≤ place → new ≡ option_map (with_first first) old
+    → IfSome new (λ blocks. slice_get blocks place ≡ Some bytes) → IfSome old (λ blocks. slice_get blocks place ≡ Some bytes)
 before_first None new first place bytes l e h = tt
-before_first (Some blocks) new first place bytes l e h = sym (get-with_first-past first blocks place l) ∙ subst (λ (o : Option (List (List ℕ))). IfSome o (λ blocks. slice_get blocks place ≡ Some bytes)) e h
+before_first (Some blocks) new first place bytes l e h = sym (get-with_first-past first blocks place l)
+    ∙ subst (λ (o : Option (List (List ℕ))). IfSome o (λ blocks. slice_get blocks place ≡ Some bytes)) e h
 
 further_on : (a b c : ℕ) → a ≤ b → a ≤ b + c
 further_on a b c l = omega arith
 
-synced_volume : (told old new : Option (List (List ℕ))) (records : List Record) (v n : ℕ) (sets : List ℕ) (h : History) (first : List (List ℕ)) → length first ≤ table_for (length records) → new ≡ option_map (with_first first) old
+synced_volume : (told old new : Option (List (List ℕ))) (records : List Record) (v n : ℕ) (sets : List ℕ) (h : History) (first : List (List ℕ)) → length first ≤ table_for (length records)
+    → new ≡ option_map (with_first first) old
     → IsVolume told old records v n sets h → IsVolume told new records v n sets h
 synced_volume told old new records v n sets h first l e volume = record {
   blocks = volume.blocks;
@@ -48,10 +53,12 @@ synced_volume told old new records v n sets h first l e volume = record {
   named = volume.named;
   recorded = volume.recorded;
   copied = λ slot set b p at point tells.
-      past_first old new first (place_of_slot (length records) slot) (content h.writes p b) (further_on (length first) (table_for (length records)) slot l) e (volume.copied slot set b p at point tells);
+      past_first old new first (place_of_slot (length records) slot) (content h.writes p b) (further_on (length first) (table_for (length records)) slot l) e
+      (volume.copied slot set b p at point tells);
 }
 
-stood_volume : (told old new : Option (List (List ℕ))) (records : List Record) (v n : ℕ) (sets : List ℕ) (h : History) (first : List (List ℕ)) → length first ≤ table_for (length records) → new ≡ option_map (with_first first) old
+stood_volume : (told old new : Option (List (List ℕ))) (records : List Record) (v n : ℕ) (sets : List ℕ) (h : History) (first : List (List ℕ)) → length first ≤ table_for (length records)
+    → new ≡ option_map (with_first first) old
     → IsVolume told new records v n sets h → IsVolume told old records v n sets h
 stood_volume told old new records v n sets h first l e volume = record {
   blocks = volume.blocks;
@@ -60,11 +67,14 @@ stood_volume told old new records v n sets h first l e volume = record {
   named = volume.named;
   recorded = volume.recorded;
   copied = λ slot set b p at point tells.
-      before_first old new first (place_of_slot (length records) slot) (content h.writes p b) (further_on (length first) (table_for (length records)) slot l) e (volume.copied slot set b p at point tells);
+      before_first old new first (place_of_slot (length records) slot) (content h.writes p b) (further_on (length first) (table_for (length records)) slot l) e
+      (volume.copied slot set b p at point tells);
 }
 
-synced_stands : {D : Type 0} (told : D → Option (List (List ℕ))) (size : D → ℕ) (lending : D → Bool) (devices : List D) (old new : CopiesValue D) (first : List (List ℕ)) (hs : List History) → KeepsTable size lending old.area new.area → new.images ≡ old.images
-    → length first ≤ table_for (length old.area.records) → told new.area.device ≡ option_map (with_first first) (told old.area.device) → StandsFor told (group_of devices old) hs → StandsFor told (group_of devices new) hs
+synced_stands : {D : Type 0} (told : D → Option (List (List ℕ))) (size : D → ℕ) (lending : D → Bool) (devices : List D) (old new : CopiesValue D) (first : List (List ℕ)) (hs : List History)
+    → KeepsTable size lending old.area new.area → new.images ≡ old.images
+    → length first ≤ table_for (length old.area.records) → told new.area.device ≡ option_map (with_first first) (told old.area.device) → StandsFor told (group_of devices old) hs
+    → StandsFor told (group_of devices new) hs
 synced_stands told size lending devices old new first hs table images l e stands = record {
   devices = stands.devices ∙ ap length (sym table.volumes);
   images = ap length images ∙ stands.images ∙ ap length (sym table.volumes);
@@ -77,8 +87,10 @@ synced_stands told size lending devices old new first hs table images l e stands
       (synced_volume (told_in (told old.area.device) (told d)) (told old.area.device) (told new.area.device) old.area.records v n sets h first l e volume));
 }
 
-stood_first : {D : Type 0} (told : D → Option (List (List ℕ))) (size : D → ℕ) (lending : D → Bool) (devices : List D) (old new : CopiesValue D) (first : List (List ℕ)) (hs : List History) → KeepsTable size lending old.area new.area → new.images ≡ old.images
-    → length first ≤ table_for (length old.area.records) → told new.area.device ≡ option_map (with_first first) (told old.area.device) → StandsFor told (group_of devices new) hs → StandsFor told (group_of devices old) hs
+stood_first : {D : Type 0} (told : D → Option (List (List ℕ))) (size : D → ℕ) (lending : D → Bool) (devices : List D) (old new : CopiesValue D) (first : List (List ℕ)) (hs : List History)
+    → KeepsTable size lending old.area new.area → new.images ≡ old.images
+    → length first ≤ table_for (length old.area.records) → told new.area.device ≡ option_map (with_first first) (told old.area.device) → StandsFor told (group_of devices new) hs
+    → StandsFor told (group_of devices old) hs
 stood_first told size lending devices old new first hs table images l e stands = record {
   devices = stands.devices ∙ ap length table.volumes;
   images = ap length (sym images) ∙ stands.images ∙ ap length table.volumes;
@@ -91,8 +103,10 @@ stood_first told size lending devices old new first hs table images l e stands =
       (subst (λ (rs : List Record). IsVolume (told_in (told new.area.device) (told d)) (told new.area.device) rs v n sets h) table.records volume));
 }
 
-synced_first : {D : Type 0} (told : D → Option (List (List ℕ))) (size count : D → ℕ) (lending : D → Bool) (devices : List D) (old new : CopiesValue D) (first : List (List ℕ)) → KeepsTable size lending old.area new.area → new.images ≡ old.images
-    → count old.area.device ≤ count new.area.device → length first ≤ table_for (length old.area.records) → told new.area.device ≡ option_map (with_first first) (told old.area.device) → IsSynced told size count lending (group_of devices old) (group_of devices new)
+synced_first : {D : Type 0} (told : D → Option (List (List ℕ))) (size count : D → ℕ) (lending : D → Bool) (devices : List D) (old new : CopiesValue D) (first : List (List ℕ))
+    → KeepsTable size lending old.area new.area → new.images ≡ old.images
+    → count old.area.device ≤ count new.area.device → length first ≤ table_for (length old.area.records) → told new.area.device ≡ option_map (with_first first) (told old.area.device)
+    → IsSynced told size count lending (group_of devices old) (group_of devices new)
 synced_first told size count lending devices old new first table images later l e = record {
   kept = kept_area told size count lending devices old new table (tells_written (told old.area.device) (told new.area.device) first e) later;
   devices = refl;
@@ -103,14 +117,17 @@ synced_first told size count lending devices old new first table images later l 
 }
 
 -- the table was written
-pub synced_all : {D : Type 0} (told : D → Option (List (List ℕ))) (size count : D → ℕ) (lending : D → Bool) (devices : List D) (old new : CopiesValue D) → KeepsTable size lending old.area new.area → new.images ≡ old.images → count old.area.device ≤ count new.area.device
-    → told new.area.device ≡ option_map (with_first (table_blocks old.area.volumes old.area.records)) (told old.area.device) → IsSynced told size count lending (group_of devices old) (group_of devices new)
+pub synced_all : {D : Type 0} (told : D → Option (List (List ℕ))) (size count : D → ℕ) (lending : D → Bool) (devices : List D) (old new : CopiesValue D) → KeepsTable size lending old.area new.area
+    → new.images ≡ old.images → count old.area.device ≤ count new.area.device
+    → told new.area.device ≡ option_map (with_first (table_blocks old.area.volumes old.area.records)) (told old.area.device)
+    → IsSynced told size count lending (group_of devices old) (group_of devices new)
 synced_all told size count lending devices old new table images later e =
     let long : length (table_blocks old.area.volumes old.area.records) ≤ table_for (length old.area.records) = (let same = length-table old.area.volumes old.area.records in omega arith) in
     synced_first told size count lending devices old new (table_blocks old.area.volumes old.area.records) table images later long e
 
 -- a part of it was
-pub synced_part : {D : Type 0} (told : D → Option (List (List ℕ))) (size count : D → ℕ) (lending : D → Bool) (devices : List D) (old new : CopiesValue D) → KeepsTable size lending old.area new.area → new.images ≡ old.images → count old.area.device ≤ count new.area.device
+pub synced_part : {D : Type 0} (told : D → Option (List (List ℕ))) (size count : D → ℕ) (lending : D → Bool) (devices : List D) (old new : CopiesValue D) → KeepsTable size lending old.area new.area
+    → new.images ≡ old.images → count old.area.device ≤ count new.area.device
     → AreInPart (table_blocks old.area.volumes old.area.records) (told old.area.device) (told new.area.device) → IsSynced told size count lending (group_of devices old) (group_of devices new)
 synced_part told size count lending devices old new table images later part =
     let long : length (take part.count (table_blocks old.area.volumes old.area.records)) ≤ table_for (length old.area.records) = (
@@ -121,7 +138,8 @@ synced_part told size count lending devices old new table images later part =
     synced_first told size count lending devices old new (take part.count (table_blocks old.area.volumes old.area.records)) table images later long part.blocks
 
 -- and then only a count may have changed
-pub synced_further : {D : Type 0} (told : D → Option (List (List ℕ))) (size count : D → ℕ) (lending : D → Bool) (devices : List D) (old mid new : CopiesValue D) → IsSynced told size count lending (group_of devices old) (group_of devices mid)
+pub synced_further : {D : Type 0} (told : D → Option (List (List ℕ))) (size count : D → ℕ) (lending : D → Bool) (devices : List D) (old mid new : CopiesValue D)
+    → IsSynced told size count lending (group_of devices old) (group_of devices mid)
     → IsQuiet told size count lending (group_of devices mid) (group_of devices new) → IsSynced told size count lending (group_of devices old) (group_of devices new)
 synced_further told size count lending devices old mid new synced quiet = record {
   kept = kept_further told size count lending (group_of devices old) (group_of devices mid) (group_of devices new) synced.kept quiet.kept;
@@ -129,11 +147,13 @@ synced_further told size count lending devices old mid new synced quiet = record
   records = quiet.records ∙ synced.records;
   images = quiet.images ∙ synced.images;
   stands = λ hs stands. quiet_stands told size count lending (group_of devices mid) (group_of devices new) hs quiet (synced.stands hs stands);
-  stood = λ hs stands. synced.stood hs (group_stands told (group_of devices new) (group_of devices mid) hs stands (sym quiet.blocks) (sym quiet.images) (sym quiet.kept.volumes) (sym quiet.records) (sym quiet.slots));
+  stood = λ hs stands. synced.stood hs
+      (group_stands told (group_of devices new) (group_of devices mid) hs stands (sym quiet.blocks) (sym quiet.images) (sym quiet.kept.volumes) (sym quiet.records) (sym quiet.slots));
 }
 
 -- the copies of the definitions stand on the area's device
-pub stored_all : {D : Type 0} (told : D → Option (List (List ℕ))) (devices : List D) (old mid new : CopiesValue D) → AreRecords old.area.volumes old.area.records → told new.area.device ≡ told mid.area.device
+pub stored_all : {D : Type 0} (told : D → Option (List (List ℕ))) (devices : List D) (old mid new : CopiesValue D) → AreRecords old.area.volumes old.area.records
+    → told new.area.device ≡ told mid.area.device
     → ((cs : List Copy) → AreHeld (told old.area.device) old.area.records cs → AreStored (told mid.area.device) cs)
     → (hs : List History) → StandsFor told (group_of devices old) hs → AllTell told devices → AreStored (told new.area.device) (copies (placed old.area.volumes) hs)
 stored_all told devices old mid new are same written hs stands tells =
@@ -141,6 +161,7 @@ stored_all told devices old mid new are same written hs stands tells =
     (written (copies (placed old.area.volumes) hs) (held_copies told (group_of devices old) hs stands are tells))
 
 -- each device still has as many blocks as its volume
-pub sizes_synced : {D : Type 0} (told : D → Option (List (List ℕ))) (size count : D → ℕ) (lending : D → Bool) (old new : GroupValue D) (r : Result Unit Cause) → IsSync told size count lending old new r → map size old.devices ≡ old.area.volumes → map size new.devices ≡ new.area.volumes
+pub sizes_synced : {D : Type 0} (told : D → Option (List (List ℕ))) (size count : D → ℕ) (lending : D → Bool) (old new : GroupValue D) (r : Result Unit Cause)
+    → IsSync told size count lending old new r → map size old.devices ≡ old.area.volumes → map size new.devices ≡ new.area.volumes
 sizes_synced told size count lending old new (Ok done) is sizes = sizes_kept told size count lending old new is.0.kept sizes
 sizes_synced told size count lending old new (Err cause) is sizes = sizes_kept told size count lending old new is.0.kept sizes

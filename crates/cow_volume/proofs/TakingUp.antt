@@ -1,5 +1,6 @@
 -- The maps and the pool of a group that is taken up again, slot after slot.
-use Rattle.std.proofs.Common.{ℕ, zero, suc, ◌≡◌, ◌<◌, ◌≤◌, ◌⊎◌, ◌+◌, Bool, true, false, List, [], ◌∷◌, ◌++◌, length, map, replicate, Option, Some, None, slice_get, slice_set, refl, sym, ap, ◌∙◌, subst, arith, inl, inr, Contains}
+use Rattle.std.proofs.Common.{ℕ, zero, suc, ◌≡◌, ◌<◌, ◌≤◌, ◌⊎◌, ◌+◌, Bool, true, false, List, [], ◌∷◌, ◌++◌, length, map, replicate, Option, Some, None, slice_get, slice_set, refl, sym, ap, ◌∙◌}
+use Rattle.std.proofs.Common.{subst, arith, inl, inr, Contains}
 use Rattle.std.specs.Prelude.{IfSome, IsNone, ◌↔◌}
 use Rattle.std.proofs.lemmas.Bool.{cases_eq}
 use Rattle.std.proofs.lemmas.List.{length-set, length-append, length-map}
@@ -27,7 +28,8 @@ rows_without : (records : List Record) → replicate (length records) None ≡ m
 rows_without [] = refl
 rows_without (r ∷ rs) = ap (λ xs. None ∷ xs) (rows_without rs)
 
-pub map_begun : (volumes : List ℕ) (records : List Record) (images : List (List ℕ)) (v n slots : ℕ) (sets : List ℕ) (m : MapValue) → m ≡ record { blocks = n; images = sets; copies = replicate slots None } → slots ≡ length records
+pub map_begun : (volumes : List ℕ) (records : List Record) (images : List (List ℕ)) (v n slots : ℕ) (sets : List ℕ) (m : MapValue)
+    → m ≡ record { blocks = n; images = sets; copies = replicate slots None } → slots ≡ length records
     → slice_get volumes v ≡ Some n → slice_get images v ≡ Some sets → IsMap m → IsTakenUp volumes records images 0 v m
 map_begun volumes records images v n slots sets m is long blocks row valid = record {
   blocks = blocks ∙ ap (λ (x : MapValue). Some x.blocks) (sym is);
@@ -45,7 +47,8 @@ pushed_at (z ∷ zs) x (suc v) y h = elim (pushed_at zs x v y h) [
   | inr old ↦ inr old
 ]
 
-pub maps_more : (volumes : List ℕ) (records : List Record) (images : List (List ℕ)) (v : ℕ) (maps new : List MapValue) (m : MapValue) → AreTakenUp volumes records images 0 v maps → IsTakenUp volumes records images 0 v m → new ≡ maps ++ m ∷ [] → AreTakenUp volumes records images 0 (v + 1) new
+pub maps_more : (volumes : List ℕ) (records : List Record) (images : List (List ℕ)) (v : ℕ) (maps new : List MapValue) (m : MapValue) → AreTakenUp volumes records images 0 v maps
+    → IsTakenUp volumes records images 0 v m → new ≡ maps ++ m ∷ [] → AreTakenUp volumes records images 0 (v + 1) new
 maps_more volumes records images v maps new m up one is = record {
   number = (let long = ap length is in let more = length-append maps (m ∷ []) in let had = up.number in omega arith);
   each = λ u w h. elim (pushed_at maps m u w (ap (λ (ms : List MapValue). slice_get ms u) (sym is) ∙ h)) [
@@ -63,7 +66,8 @@ maps_none volumes records images = record { number = refl; each = λ v m h. absu
 -- ## one record more
 
 -- the row of the next record, where it is of no copy of the volume
-pub map_same : (volumes : List ℕ) (records : List Record) (images : List (List ℕ)) (k v : ℕ) (m : MapValue) (r : Record) → slice_get records k ≡ Some r → copied_for v r ≡ None → IsTakenUp volumes records images k v m → IsTakenUp volumes records images (k + 1) v m
+pub map_same : (volumes : List ℕ) (records : List Record) (images : List (List ℕ)) (k v : ℕ) (m : MapValue) (r : Record) → slice_get records k ≡ Some r → copied_for v r ≡ None
+    → IsTakenUp volumes records images k v m → IsTakenUp volumes records images (k + 1) v m
 map_same volumes records images k v m r at none up = record {
   blocks = up.blocks;
   sets = up.sets;
@@ -71,7 +75,8 @@ map_same volumes records images k v m r at none up = record {
   valid = up.valid;
 }
 
-pub maps_same : (volumes : List ℕ) (records : List Record) (images : List (List ℕ)) (k count : ℕ) (maps : List MapValue) (r : Record) → slice_get records k ≡ Some r → is_free r ≡ true → AreTakenUp volumes records images k count maps → AreTakenUp volumes records images (k + 1) count maps
+pub maps_same : (volumes : List ℕ) (records : List Record) (images : List (List ℕ)) (k count : ℕ) (maps : List MapValue) (r : Record) → slice_get records k ≡ Some r → is_free r ≡ true
+    → AreTakenUp volumes records images k count maps → AreTakenUp volumes records images (k + 1) count maps
 maps_same volumes records images k count maps r at free up = record {
   number = up.number;
   each = λ v m h. map_same volumes records images k v m r at (ap (copied_for v) (free_is r free) ∙ copied_for-free v) (up.each v m h);
@@ -81,11 +86,13 @@ maps_same volumes records images k count maps r at free up = record {
 pub some_set : (volumes : List ℕ) (records : List Record) (k : ℕ) (r : Record) → AreRecords volumes records → slice_get records k ≡ Some r → is_free r ≡ false → 0 < r.set
 some_set volumes records k r are at is_used = (are.each k r at (used_record r is_used)).set
 
-pub map_unnoted : (volumes : List ℕ) (records : List Record) (images : List (List ℕ)) (k v : ℕ) (m : MapValue) (r : Record) → slice_get records k ≡ Some r → IsTakenUp volumes records images k v m → slice_get m.copies k ≡ Some None
+pub map_unnoted : (volumes : List ℕ) (records : List Record) (images : List (List ℕ)) (k v : ℕ) (m : MapValue) (r : Record) → slice_get records k ≡ Some r → IsTakenUp volumes records images k v m
+    → slice_get m.copies k ≡ Some None
 map_unnoted volumes records images k v m r at up = ap (λ (cs : List (Option Copied)). slice_get cs k) up.copies ∙ mixed-from (copied_for v) unnoted k records k r (omega arith) at
 
 -- an entry of the rows so far is of a record before
-noted_before : (v : ℕ) (records : List Record) (k slot : ℕ) (c : Copied) → copied_at (mixed (copied_for v) unnoted k records) slot ≡ Some c → (r : Record) × (slot < k) × (slice_get records slot ≡ Some r) × (copied_for v r ≡ Some c)
+pub noted_before : (v : ℕ) (records : List Record) (k slot : ℕ) (c : Copied) → copied_at (mixed (copied_for v) unnoted k records) slot ≡ Some c
+    → (r : Record) × (slot < k) × (slice_get records slot ≡ Some r) × (copied_for v r ≡ Some c)
 noted_before v records zero slot c h = absurd (none_from records slot h) where
   none_from : (rs : List Record) (s : ℕ) → copied_at (map unnoted rs) s ≡ Some c → ⊥
   none_from [] s e = none-some c e
@@ -95,7 +102,8 @@ noted_before v [] (suc k) slot c h = absurd (none-some c h)
 noted_before v (q ∷ rs) (suc k) zero c h = (q, omega arith, refl, h)
 noted_before v (q ∷ rs) (suc k) (suc slot) c h = let from = noted_before v rs k slot c h in (from.0, (let l = from.1 in omega arith), from.2, from.3)
 
-pub map_lacks : (volumes : List ℕ) (records : List Record) (images : List (List ℕ)) (k : ℕ) (m : MapValue) (r : Record) → AreRecords volumes records → slice_get records k ≡ Some r → is_free r ≡ false → IsTakenUp volumes records images k r.volume m → HasCopy m.copies r.set r.block → ⊥
+pub map_lacks : (volumes : List ℕ) (records : List Record) (images : List (List ℕ)) (k : ℕ) (m : MapValue) (r : Record) → AreRecords volumes records → slice_get records k ≡ Some r → is_free r ≡ false
+    → IsTakenUp volumes records images k r.volume m → HasCopy m.copies r.set r.block → ⊥
 map_lacks volumes records images k m r are at is_used up has =
     let before = noted_before r.volume records k has.0 (copy_of r.set r.block) (ap (λ (cs : List (Option Copied)). copied_at cs has.0) (sym up.copies) ∙ has.1) in
     let same = record-from r.volume before.0 (copy_of r.set r.block) before.3 in
@@ -103,15 +111,19 @@ map_lacks volumes records images k m r are at is_used up has =
     let low = before.1 in
     absurd (omega arith)
 
-pub map_has_image : (volumes : List ℕ) (records : List Record) (images : List (List ℕ)) (k : ℕ) (m : MapValue) (r : Record) → HasImage images r → is_free r ≡ false → IsTakenUp volumes records images k r.volume m → Contains m.images r.set
+pub map_has_image : (volumes : List ℕ) (records : List Record) (images : List (List ℕ)) (k : ℕ) (m : MapValue) (r : Record) → HasImage images r → is_free r ≡ false
+    → IsTakenUp volumes records images k r.volume m → Contains m.images r.set
 map_has_image volumes records images k m r has is_used up = contains_of r.set m.images (ap (λ (o : Option (List ℕ)). is_among r.set (sets_in o)) (sym up.sets) ∙ has is_used)
 
-pub map_in_range : (volumes : List ℕ) (records : List Record) (images : List (List ℕ)) (k : ℕ) (m : MapValue) (r : Record) → AreRecords volumes records → slice_get records k ≡ Some r → is_free r ≡ false → IsTakenUp volumes records images k r.volume m → r.block < m.blocks
+pub map_in_range : (volumes : List ℕ) (records : List Record) (images : List (List ℕ)) (k : ℕ) (m : MapValue) (r : Record) → AreRecords volumes records → slice_get records k ≡ Some r
+    → is_free r ≡ false → IsTakenUp volumes records images k r.volume m → r.block < m.blocks
 map_in_range volumes records images k m r are at is_used up = within volumes records k m.blocks r.volume r are up.blocks at refl (some_set volumes records k r are at is_used)
 
 -- the slot was noted there
-pub maps_noted : (volumes : List ℕ) (records : List Record) (images : List (List ℕ)) (k count : ℕ) (maps new : List MapValue) (m n : MapValue) (r : Record) → AreRecords volumes records → slice_get records k ≡ Some r → is_free r ≡ false → AreTakenUp volumes records images k count maps
-    → slice_get maps r.volume ≡ Some m → n ≡ record m { copies = slice_set m.copies k (Some (copy_of r.set r.block)) } → IsMap n → new ≡ slice_set maps r.volume n → AreTakenUp volumes records images (k + 1) count new
+pub maps_noted : (volumes : List ℕ) (records : List Record) (images : List (List ℕ)) (k count : ℕ) (maps new : List MapValue) (m n : MapValue) (r : Record) → AreRecords volumes records
+    → slice_get records k ≡ Some r → is_free r ≡ false → AreTakenUp volumes records images k count maps
+    → slice_get maps r.volume ≡ Some m → n ≡ record m { copies = slice_set m.copies k (Some (copy_of r.set r.block)) } → IsMap n → new ≡ slice_set maps r.volume n
+    → AreTakenUp volumes records images (k + 1) count new
 maps_noted volumes records images k count maps new m n r are at is_used up here is valid set = record {
   number = ap length set ∙ length-set maps r.volume n ∙ up.number;
   each = λ u w h. elim (get-set maps r.volume u n w (ap (λ (ms : List MapValue). slice_get ms u) (sym set) ∙ h)) [
@@ -133,7 +145,8 @@ maps_noted volumes records images k count maps new m n r are at is_used up here 
 
 -- ## which records have their image
 
-pub all_more : (records : List Record) (images : List (List ℕ)) (k : ℕ) (r : Record) → ((slot : ℕ) (q : Record) → slot < k → slice_get records slot ≡ Some q → HasImage images q) → slice_get records k ≡ Some r → HasImage images r → (slot : ℕ) (q : Record) → slot < k + 1 → slice_get records slot ≡ Some q → HasImage images q
+pub all_more : (records : List Record) (images : List (List ℕ)) (k : ℕ) (r : Record) → ((slot : ℕ) (q : Record) → slot < k → slice_get records slot ≡ Some q → HasImage images q)
+    → slice_get records k ≡ Some r → HasImage images r → (slot : ℕ) (q : Record) → slot < k + 1 → slice_get records slot ≡ Some q → HasImage images q
 all_more records images k r before at has slot q low h = elim (cases_eq slot k) [
   | inl same ↦ (
       let is : r ≡ q = same_Some r q (sym at ∙ ap (slice_get records) (sym same) ∙ h) in
@@ -142,7 +155,8 @@ all_more records images k r before at has slot q low h = elim (cases_eq slot k) 
 ]
 
 -- where each record is of an image that its volume has, each has its image
-pub all_have : (volumes : List ℕ) (records : List Record) (images : List (List ℕ)) → AreRecords volumes records → AreOfImages records images → length images ≡ length volumes → AllHaveImages records images
+pub all_have : (volumes : List ℕ) (records : List Record) (images : List (List ℕ)) → AreRecords volumes records → AreOfImages records images → length images ≡ length volumes
+    → AllHaveImages records images
 all_have volumes records images are of many = λ slot r at is_used.
     let its = are.each slot r at (used_record r is_used) in
     let low = its.volume in
@@ -157,14 +171,16 @@ same_lists [] (y ∷ ys) l each = absurd (omega arith)
 same_lists (x ∷ xs) [] l each = absurd (omega arith)
 same_lists (x ∷ xs) (y ∷ ys) l each = ap (λ z. z ∷ xs) (sym (same_Some y x (each 0 x refl))) ∙ ap (λ zs. y ∷ zs) (same_lists xs ys (omega arith) (λ v z h. each (suc v) z h))
 
-pub images_all : (volumes : List ℕ) (records : List Record) (images : List (List ℕ)) (k : ℕ) (maps : List MapValue) → AreTakenUp volumes records images k (length volumes) maps → length images ≡ length volumes → images_of maps ≡ images
+pub images_all : (volumes : List ℕ) (records : List Record) (images : List (List ℕ)) (k : ℕ) (maps : List MapValue) → AreTakenUp volumes records images k (length volumes) maps
+    → length images ≡ length volumes → images_of maps ≡ images
 images_all volumes records images k maps up many =
     same_lists (images_of maps) images (length-map maps (λ (m : MapValue). m.images) ∙ up.number ∙ sym many)
     (λ v sets h.
     let from = map-from (λ (m : MapValue). m.images) maps v sets h in
     (up.each v from.0 from.1).sets ∙ ap (λ (s : List ℕ). Some s) from.2)
 
-pub tied_all : (volumes : List ℕ) (records : List Record) (images : List (List ℕ)) (maps : List MapValue) (pool : List Bool) → AreTakenUp volumes records images (length records) (length volumes) maps → pool ≡ map is_free records → AreTied volumes records maps pool
+pub tied_all : (volumes : List ℕ) (records : List Record) (images : List (List ℕ)) (maps : List MapValue) (pool : List Bool) → AreTakenUp volumes records images (length records) (length volumes) maps
+    → pool ≡ map is_free records → AreTied volumes records maps pool
 tied_all volumes records images maps pool up is = record {
   number = up.number;
   each = λ v m h.
@@ -175,7 +191,8 @@ tied_all volumes records images maps pool up is = record {
 
 -- ## the pool
 
-pub slot_taken : (records : List Record) (k : ℕ) (r : Record) (o : Option ℕ) (old new : List Bool) → slice_get records k ≡ Some r → old ≡ mixed used unused k records → IfSome o (IsLowestFree old) → IfSome o (λ s. new ≡ slice_set old s false) → (IsNone o ↔ (free_count old ≡ 0)) → new ≡ mixed used unused (k + 1) records
+pub slot_taken : (records : List Record) (k : ℕ) (r : Record) (o : Option ℕ) (old new : List Bool) → slice_get records k ≡ Some r → old ≡ mixed used unused k records → IfSome o (IsLowestFree old)
+    → IfSome o (λ s. new ≡ slice_set old s false) → (IsNone o ↔ (free_count old ≡ 0)) → new ≡ mixed used unused (k + 1) records
 slot_taken records k r o old new at is low took none =
     let lowest : IsLowestFree (mixed used unused k records) k = record {
       free = mixed-from used unused k records k r (omega arith) at;
@@ -185,10 +202,13 @@ slot_taken records k r o old new at is low took none =
     ∙ ap (λ (p : List Bool). slice_set p k false) is
     ∙ sym (mixed-set used unused k records r at)
 
-pub slot_given : (records : List Record) (k : ℕ) (r : Record) (old new : List Bool) → slice_get records k ≡ Some r → is_free r ≡ true → old ≡ mixed is_free used k records → new ≡ slice_set old k true → new ≡ mixed is_free used (k + 1) records
-slot_given records k r old new at free is set = set ∙ ap (λ (p : List Bool). slice_set p k true) is ∙ ap (λ (b : Bool). slice_set (mixed is_free used k records) k b) (sym free) ∙ sym (mixed-set is_free used k records r at)
+pub slot_given : (records : List Record) (k : ℕ) (r : Record) (old new : List Bool) → slice_get records k ≡ Some r → is_free r ≡ true → old ≡ mixed is_free used k records → new ≡ slice_set old k true
+    → new ≡ mixed is_free used (k + 1) records
+slot_given records k r old new at free is set = set ∙ ap (λ (p : List Bool). slice_set p k true) is ∙ ap (λ (b : Bool). slice_set (mixed is_free used k records) k b) (sym free)
+    ∙ sym (mixed-set is_free used k records r at)
 
-pub slot_kept : (records : List Record) (k : ℕ) (r : Record) (old : List Bool) → slice_get records k ≡ Some r → is_free r ≡ false → old ≡ mixed is_free used k records → old ≡ mixed is_free used (k + 1) records
+pub slot_kept : (records : List Record) (k : ℕ) (r : Record) (old : List Bool) → slice_get records k ≡ Some r → is_free r ≡ false → old ≡ mixed is_free used k records
+    → old ≡ mixed is_free used (k + 1) records
 slot_kept records k r old at is_used is = is ∙ sym (mixed-same is_free used k records r at is_used)
 
 pub pool_all : (f g : Record → Bool) (k : ℕ) (records : List Record) (pool : List Bool) → length records ≤ k → pool ≡ mixed f g k records → pool ≡ map f records

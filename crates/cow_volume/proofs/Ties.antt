@@ -1,5 +1,6 @@
 -- What the parts that find copies keep in step.
-use Rattle.std.proofs.Common.{ℕ, zero, suc, ◌≡◌, ◌≢◌, ◌<◌, ◌+◌, ◌-◌, Bool, true, false, not, ◌&&◌, List, [], ◌∷◌, length, map, Option, Some, None, slice_get, slice_set, refl, sym, ap, ◌∙◌, subst, arith, inl, inr, get_or, Contains}
+use Rattle.std.proofs.Common.{ℕ, zero, suc, ◌≡◌, ◌≢◌, ◌<◌, ◌+◌, ◌-◌, Bool, true, false, not, ◌&&◌, List, [], ◌∷◌, length, map, Option, Some, None, slice_get, slice_set, refl, sym, ap, ◌∙◌, subst}
+use Rattle.std.proofs.Common.{arith, inl, inr, get_or, Contains}
 use Rattle.std.specs.Prelude.{◌==◌, if◌then◌else◌, IfSome, IsNone, IsTrue, ◌↔◌}
 use Rattle.std.proofs.lemmas.Bool.{false≢true, cases_lt}
 use Rattle.std.proofs.lemmas.Bool.Decides.{nat_tests}
@@ -19,11 +20,13 @@ use Rattle.cow_volume.specs.Changes.{IsFirstCopy, HasNoCopy}
 use Rattle.cow_volume.specs.Calls.{sets_in}
 use Rattle.cow_volume.specs.Room.{lacks_copy, is_full}
 use Rattle.cow_volume.specs.Tied.{copied_for, AreTied, AreOfImages, images_of}
-use Rattle.cow_volume.proofs.Rows.{same_record, used_is, copied_for-other, copied_for-is, record_of_row, row_of_record, map-from, has_from_slot, found_copy, absent_copy, copy_absent, newest_has_record, lacks_newest}
+use Rattle.cow_volume.proofs.Rows.{same_record, used_is, copied_for-other, copied_for-is, record_of_row, row_of_record, map-from, has_from_slot, found_copy, absent_copy, copy_absent}
+use Rattle.cow_volume.proofs.Rows.{newest_has_record, lacks_newest}
 
 -- ## a volume's map
 
-pub map_at : (volumes : List ℕ) (records : List Record) (maps : List MapValue) (pool : List Bool) (v : ℕ) (m : MapValue) → AreTied volumes records maps pool → v < length volumes → m ≡ get_or maps v m → slice_get maps v ≡ Some m
+pub map_at : (volumes : List ℕ) (records : List Record) (maps : List MapValue) (pool : List Bool) (v : ℕ) (m : MapValue) → AreTied volumes records maps pool → v < length volumes → m ≡ get_or maps v m
+    → slice_get maps v ≡ Some m
 map_at volumes records maps pool v m tied within is = let same = tied.number in slice_get_read maps (length maps) v m refl (omega arith) is
 
 pub images_at : (maps : List MapValue) (v : ℕ) (m : MapValue) → slice_get maps v ≡ Some m → slice_get (images_of maps) v ≡ Some m.images
@@ -34,7 +37,8 @@ images_at maps v m at = slice_get-map (λ (x : MapValue). x.images) maps v ∙ a
 
 -- ## what is found
 
-pub found_if : (o : Option ℕ) (copies : List (Option Copied)) (records : List Record) (v set block : ℕ) → copies ≡ map (copied_for v) records → 0 < set → IfSome o (IsFound copies set block) → IfSome o (IsFirstCopy records v set block)
+pub found_if : (o : Option ℕ) (copies : List (Option Copied)) (records : List Record) (v set block : ℕ) → copies ≡ map (copied_for v) records → 0 < set → IfSome o (IsFound copies set block)
+    → IfSome o (IsFirstCopy records v set block)
 found_if None copies records v set block e some f = tt
 found_if (Some slot) copies records v set block e some f = found_copy v records set block slot some (subst (λ (cs : List (Option Copied)). IsFound cs set block slot) e f)
 
@@ -42,7 +46,8 @@ pub within_if : (o : Option ℕ) (records : List Record) (v set block : ℕ) →
 within_if None records v set block f = tt
 within_if (Some slot) records v set block f = slice_get_within records slot (record_of v f.image block) f.is_noted
 
-pub none_if : (o : Option ℕ) (copies : List (Option Copied)) (records : List Record) (v set block : ℕ) → copies ≡ map (copied_for v) records → 0 < set → (IsNone o ↔ IsAbsent copies set block) → (IsNone o ↔ HasNoCopy records v set block)
+pub none_if : (o : Option ℕ) (copies : List (Option Copied)) (records : List Record) (v set block : ℕ) → copies ≡ map (copied_for v) records → 0 < set → (IsNone o ↔ IsAbsent copies set block)
+    → (IsNone o ↔ HasNoCopy records v set block)
 none_if o copies records v set block e some h = (
   λ none. absent_copy v records set block some (subst (λ (cs : List (Option Copied)). IsAbsent cs set block) e (h.0 none)),
   λ none. h.1 (subst (λ (cs : List (Option Copied)). IsAbsent cs set block) (sym e) (copy_absent v records set block none)),
@@ -54,13 +59,15 @@ pub lacks_none : (records : List Record) (v : ℕ) (images : List ℕ) (b : ℕ)
 lacks_none records v [] b none = refl
 lacks_none records v (s ∷ rest) b none = absurd (omega arith)
 
-pub lacks_if : (records : List Record) (copies : List (Option Copied)) (v : ℕ) (images : List ℕ) (b : ℕ) (has : Bool) → copies ≡ map (copied_for v) records → 0 < length images → 0 < newest images → (IsTrue has ↔ HasCopy copies (newest images) b) → not has ≡ lacks_copy records v images b
+pub lacks_if : (records : List Record) (copies : List (Option Copied)) (v : ℕ) (images : List ℕ) (b : ℕ) (has : Bool) → copies ≡ map (copied_for v) records → 0 < length images → 0 < newest images
+    → (IsTrue has ↔ HasCopy copies (newest images) b) → not has ≡ lacks_copy records v images b
 lacks_if records copies v images b has e some above h =
     ap not (newest_has_record records v (newest images) b has above (subst (λ (cs : List (Option Copied)). IsTrue has ↔ HasCopy cs (newest images) b) e h)) ∙ sym (lacks_newest records v images b some)
 
 -- ## the pool
 
-more_free : (t : Bool) (free_all used_all free_rest used_rest long : ℕ) → free_all ≡ (if t then 1 else 0) + free_rest → used_all ≡ (if not t then 1 else 0) + used_rest → free_rest + used_rest ≡ long → free_all + used_all ≡ suc long
+more_free : (t : Bool) (free_all used_all free_rest used_rest long : ℕ) → free_all ≡ (if t then 1 else 0) + free_rest → used_all ≡ (if not t then 1 else 0) + used_rest → free_rest + used_rest ≡ long
+    → free_all + used_all ≡ suc long
 more_free true free_all used_all free_rest used_rest long a b rest = omega arith
 more_free false free_all used_all free_rest used_rest long a b rest = omega arith
 
@@ -131,7 +138,8 @@ some_free (b ∷ bs) zero h = first_free b (free_count (b ∷ bs)) (free_count b
 some_free (b ∷ bs) (suc slot) h = more_than b (free_count (b ∷ bs)) (free_count bs) (some_free bs slot h) (sum_by-cons (λ (t : Bool). if t then 1 else 0) b bs)
 
 -- the slot that is taken is the lowest free one
-pub taken_lowest : (o : Option ℕ) (old new : List Bool) (slot : ℕ) → IsLowestFree old slot → IfSome o (IsLowestFree old) → IfSome o (λ s. new ≡ slice_set old s false) → (IsNone o ↔ (free_count old ≡ 0)) → new ≡ slice_set old slot false
+pub taken_lowest : (o : Option ℕ) (old new : List Bool) (slot : ℕ) → IsLowestFree old slot → IfSome o (IsLowestFree old) → IfSome o (λ s. new ≡ slice_set old s false)
+    → (IsNone o ↔ (free_count old ≡ 0)) → new ≡ slice_set old slot false
 taken_lowest None old new slot low took is none = let some = some_free old slot low.free in let zero_count = none.0 refl in absurd (omega arith)
 taken_lowest (Some s) old new slot low took is none = is ∙ ap (λ (k : ℕ). slice_set old k false) same where
   same : s ≡ slot
@@ -160,17 +168,21 @@ lacks_record records v images b slot h at =
     let has = has_from_slot records (record_of v (newest images) b) slot at in
     false≢true (sym (ap not has) ∙ sym (lacks_newest records v images b (lacks_some records v images b h)) ∙ h)
 
-pub lacks_row : (records : List Record) (copies : List (Option Copied)) (v : ℕ) (images : List ℕ) (b : ℕ) → copies ≡ map (copied_for v) records → lacks_copy records v images b ≡ true → HasCopy copies (newest images) b → ⊥
+pub lacks_row : (records : List Record) (copies : List (Option Copied)) (v : ℕ) (images : List ℕ) (b : ℕ) → copies ≡ map (copied_for v) records → lacks_copy records v images b ≡ true
+    → HasCopy copies (newest images) b → ⊥
 lacks_row records copies v images b e h has =
     lacks_record records v images b has.0 h (record_of_row v records has.0 (copy_of (newest images) b) (ap (λ (cs : List (Option Copied)). copied_at cs has.0) (sym e) ∙ has.1)).1
 
 -- what is noted there, for the maps
-set_map : (v : ℕ) (records : List Record) (slot : ℕ) (r : Record) → slice_get records slot ≡ Some free → copied_for v r ≡ None → map (copied_for v) (slice_set records slot r) ≡ map (copied_for v) records
+set_map : (v : ℕ) (records : List Record) (slot : ℕ) (r : Record) → slice_get records slot ≡ Some free → copied_for v r ≡ None
+    → map (copied_for v) (slice_set records slot r) ≡ map (copied_for v) records
 set_map v [] slot r h none = refl
 set_map v (q ∷ rs) zero r h none = ap (λ (x : Option Copied). x ∷ map (copied_for v) rs) (none ∙ sym (ap (copied_for v) (same_Some q free h)))
 set_map v (q ∷ rs) (suc slot) r h none = ap (λ xs. copied_for v q ∷ xs) (set_map v rs slot r h none)
 
-pub tied_noted : (volumes : List ℕ) (records : List Record) (maps : List MapValue) (pool new_pool : List Bool) (v slot set block : ℕ) (m n : MapValue) → AreTied volumes records maps pool → slice_get maps v ≡ Some m → slice_get records slot ≡ Some free → 0 < set → n.blocks ≡ m.blocks → n.copies ≡ slice_set m.copies slot (Some (copy_of set block)) → IsMap n → new_pool ≡ slice_set pool slot false → AreTied volumes (slice_set records slot (record_of v set block)) (slice_set maps v n) new_pool
+pub tied_noted : (volumes : List ℕ) (records : List Record) (maps : List MapValue) (pool new_pool : List Bool) (v slot set block : ℕ) (m n : MapValue) → AreTied volumes records maps pool
+    → slice_get maps v ≡ Some m → slice_get records slot ≡ Some free → 0 < set → n.blocks ≡ m.blocks → n.copies ≡ slice_set m.copies slot (Some (copy_of set block)) → IsMap n
+    → new_pool ≡ slice_set pool slot false → AreTied volumes (slice_set records slot (record_of v set block)) (slice_set maps v n) new_pool
 tied_noted volumes records maps pool new_pool v slot set block m n tied at is_free_slot some blocks_are copies_are is_map pool_are = record {
   number = length-set maps v n ∙ tied.number;
   each = λ u w h. elim (get-set maps v u n w h) [
@@ -187,11 +199,13 @@ tied_noted volumes records maps pool new_pool v slot set block m n tied at is_fr
       valid = (tied.each u w other.1).valid;
     }
   ];
-  pool_is = pool_are ∙ ap (λ (p : List Bool). slice_set p slot false) tied.pool_is ∙ ap (λ (b : Bool). slice_set (map is_free records) slot b) (sym (used_is (record_of v set block) some)) ∙ sym (map-set is_free records slot (record_of v set block));
+  pool_is = pool_are ∙ ap (λ (p : List Bool). slice_set p slot false) tied.pool_is ∙ ap (λ (b : Bool). slice_set (map is_free records) slot b) (sym (used_is (record_of v set block) some))
+      ∙ sym (map-set is_free records slot (record_of v set block));
 }
 
 -- an image was added
-pub tied_added : (volumes : List ℕ) (records : List Record) (maps : List MapValue) (pool : List Bool) (v : ℕ) (m n : MapValue) → AreTied volumes records maps pool → slice_get maps v ≡ Some m → n.blocks ≡ m.blocks → n.copies ≡ m.copies → IsMap n → AreTied volumes records (slice_set maps v n) pool
+pub tied_added : (volumes : List ℕ) (records : List Record) (maps : List MapValue) (pool : List Bool) (v : ℕ) (m n : MapValue) → AreTied volumes records maps pool → slice_get maps v ≡ Some m
+    → n.blocks ≡ m.blocks → n.copies ≡ m.copies → IsMap n → AreTied volumes records (slice_set maps v n) pool
 tied_added volumes records maps pool v m n tied at blocks_are copies_are is_map = record {
   number = length-set maps v n ∙ tied.number;
   each = λ u w h. elim (get-set maps v u n w h) [
@@ -205,7 +219,8 @@ tied_added volumes records maps pool v m n tied at blocks_are copies_are is_map 
   pool_is = tied.pool_is;
 }
 
-pub noted_lacks : (records : List Record) (maps : List MapValue) (v b : ℕ) (m : MapValue) → slice_get maps v ≡ Some m → lacks_copy records v (sets_in (slice_get (images_of maps) v)) b ≡ true → lacks_copy records v m.images b ≡ true
+pub noted_lacks : (records : List Record) (maps : List MapValue) (v b : ℕ) (m : MapValue) → slice_get maps v ≡ Some m → lacks_copy records v (sets_in (slice_get (images_of maps) v)) b ≡ true
+    → lacks_copy records v m.images b ≡ true
 noted_lacks records maps v b m at h = ap (λ (s : List ℕ). lacks_copy records v s b) (sym (ap sets_in (images_at maps v m at))) ∙ h
 
 -- ## what all maps keep
@@ -216,6 +231,7 @@ of_images volumes records maps pool tied = record {
   each = λ slot r at some sets h.
       let from = map-from (λ (m : MapValue). m.images) maps r.volume sets h in
       let its = tied.each r.volume from.0 from.1 in
-      let row : copied_at from.0.copies slot ≡ Some (copy_of r.set r.block) = ap (λ (cs : List (Option Copied)). copied_at cs slot) its.copies ∙ row_of_record r.volume records slot r.set r.block some at in
+      let row : copied_at from.0.copies slot ≡ Some (copy_of r.set r.block) = ap (λ (cs : List (Option Copied)). copied_at cs slot) its.copies
+      ∙ row_of_record r.volume records slot r.set r.block some at in
       subst (λ (s : List ℕ). Contains s r.set) from.2 (its.valid.of_images slot (copy_of r.set r.block) row);
 }

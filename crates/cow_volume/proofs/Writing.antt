@@ -1,6 +1,7 @@
 -- What an effective write leaves of the history that a volume stands for, with the copy of the old block where one is
 -- needed.
-use Rattle.std.proofs.Common.{◌≡◌, ◌≢◌, ℕ, zero, suc, ◌+◌, ◌-◌, ◌<◌, ◌≤◌, List, [], ◌∷◌, ◌++◌, length, take, drop, refl, ap, sym, ◌∙◌, arith, Bool, true, false, ◌||◌, Option, Some, None, subst, inl, inr}
+use Rattle.std.proofs.Common.{◌≡◌, ◌≢◌, ℕ, zero, suc, ◌+◌, ◌-◌, ◌<◌, ◌≤◌, List, [], ◌∷◌, ◌++◌, length, take, drop, refl, ap, sym, ◌∙◌, arith, Bool, true, false, ◌||◌, Option, Some, None, subst, inl}
+use Rattle.std.proofs.Common.{inr}
 use Rattle.std.specs.Prelude.{◌⊎◌, slice_get, slice_set, slice_index, slice_range, ◌==◌, not, if◌then◌else◌, IfSome, is_some, map, option_map}
 use Rattle.std.specs.List.{range_with_len}
 use Rattle.std.proofs.lemmas.Option.{same_Some, slice_get_within}
@@ -18,7 +19,8 @@ use Rattle.cow_volume.specs.StandsFor.{AreImages, is_named, record_of, told_in, 
 use Rattle.cow_volume.specs.Changes.{noted}
 use Rattle.cow_volume.specs.GroupValue.{GroupValue}
 use Rattle.cow_volume.specs.Calls.{history_at, changed_at, blocks_at, sets_at}
-use Rattle.cow_volume.proofs.Group.{slice_get-set_same, slice_get-set_other, length-slice_set, slice_get_inside, same_number, other_number, number_is, number_is_other, set_above, named_point, named_above, OthersKept, SlotsKept, slice_set-same, slice_get_map, others_same, slots_same, told_in-if, told_in-map, told_in-slots, on_one}
+use Rattle.cow_volume.proofs.Group.{slice_get-set_same, slice_get-set_other, length-slice_set, slice_get_inside, same_number, other_number, number_is, number_is_other, set_above, named_point}
+use Rattle.cow_volume.proofs.Group.{named_above, OthersKept, SlotsKept, slice_set-same, slice_get_map, others_same, slots_same, told_in-if, told_in-map, told_in-slots, on_one}
 use Rattle.cow_volume.proofs.Reading.{last_bytes-append, content_all, point_within, later_set, named_first, named_rest, unnamed_to_end, now, place_of_block, one_told}
 
 -- ## one more write
@@ -195,7 +197,8 @@ is_needed told slots records v n sets h b volume need =
 
 -- ## what the images name after a write
 
-named-since : (ws : List Write) (w : Write) (i : Image) (newer : List Image) (b : ℕ) → AreInTime (length ws) (i ∷ newer) → names (writes_since ws i.point newer) b ≡ true → names (writes_since (ws ++ w ∷ []) i.point newer) b ≡ true
+named-since : (ws : List Write) (w : Write) (i : Image) (newer : List Image) (b : ℕ) → AreInTime (length ws) (i ∷ newer) → names (writes_since ws i.point newer) b ≡ true
+    → names (writes_since (ws ++ w ∷ []) i.point newer) b ≡ true
 named-since ws w i [] b time is = names-more ws w i.point b time.0 ∙ ap (λ (t : Bool). t || (w.block == b)) is
 named-since ws w i (j ∷ newer) b time is = ap (λ (since : List Write). names since b) (range-more ws (w ∷ []) i.point j.point time.1.1 time.2.0) ∙ is
 
@@ -248,7 +251,8 @@ named_now ws w (i ∷ j ∷ newer) m time last =
 -- ## what is told
 
 -- a block gets the bytes of a write, where it is told
-pub put_told : (n : ℕ) (ws : List Write) (w : Write) (told : Option (List (List ℕ))) (bytes : List ℕ) → w.block < n → (is_some told ≡ true → bytes ≡ w.bytes) → IfSome told (λ blocks. blocks ≡ contents n ws (length ws))
+pub put_told : (n : ℕ) (ws : List Write) (w : Write) (told : Option (List (List ℕ))) (bytes : List ℕ) → w.block < n → (is_some told ≡ true → bytes ≡ w.bytes)
+    → IfSome told (λ blocks. blocks ≡ contents n ws (length ws))
     → IfSome (option_map (λ blocks. slice_set blocks w.block bytes) told) (λ blocks. blocks ≡ contents n (ws ++ w ∷ []) (length (ws ++ w ∷ [])))
 put_told n ws w None bytes l known held = tt
 put_told n ws w (Some blocks) bytes l known held =
@@ -259,12 +263,14 @@ put_tells None k bytes = refl
 put_tells (Some blocks) k bytes = refl
 
 -- a block of a device is set: that block
-put_same : (told : Option (List (List ℕ))) (k : ℕ) (bytes : List ℕ) → IfSome told (λ blocks. k < length blocks) → IfSome (option_map (λ blocks. slice_set blocks k bytes) told) (λ blocks. slice_get blocks k ≡ Some bytes)
+put_same : (told : Option (List (List ℕ))) (k : ℕ) (bytes : List ℕ) → IfSome told (λ blocks. k < length blocks)
+    → IfSome (option_map (λ blocks. slice_set blocks k bytes) told) (λ blocks. slice_get blocks k ≡ Some bytes)
 put_same None k bytes within = tt
 put_same (Some blocks) k bytes within = let found = slice_get_inside blocks k within in slice_get-set_same blocks k found.0 bytes found.1
 
 -- a block of a device is set: each other block
-put_other : (told : Option (List (List ℕ))) (k j : ℕ) (bytes : List ℕ) (x : Option (List ℕ)) → k ≢ j → IfSome told (λ blocks. slice_get blocks j ≡ x) → IfSome (option_map (λ blocks. slice_set blocks k bytes) told) (λ blocks. slice_get blocks j ≡ x)
+put_other : (told : Option (List (List ℕ))) (k j : ℕ) (bytes : List ℕ) (x : Option (List ℕ)) → k ≢ j → IfSome told (λ blocks. slice_get blocks j ≡ x)
+    → IfSome (option_map (λ blocks. slice_set blocks k bytes) told) (λ blocks. slice_get blocks j ≡ x)
 put_other None k j bytes x other held = tt
 put_other (Some blocks) k j bytes x other held = slice_get-set_other blocks k j bytes other ∙ held
 
@@ -287,7 +293,8 @@ others_noted records v m b slot is_free = record {
   stays = λ u s set c other above at. slice_get-set_other records slot s (record_of v m b) (λ e. not_free records slot s u set c is_free at above (sym e)) ∙ at;
   was = λ u s set c other above at. was_there u s set c other at (s == slot) refl;
 } where
-  was_there : (u s set c : ℕ) → u ≢ v → slice_get (slice_set records slot (record_of v m b)) s ≡ Some (record_of u set c) → (t : Bool) → (s == slot) ≡ t → slice_get records s ≡ Some (record_of u set c)
+  was_there : (u s set c : ℕ) → u ≢ v → slice_get (slice_set records slot (record_of v m b)) s ≡ Some (record_of u set c) → (t : Bool) → (s == slot) ≡ t
+      → slice_get records s ≡ Some (record_of u set c)
   was_there u s set c other at true e =
       let now_at : slice_get (slice_set records slot (record_of v m b)) s ≡ Some (record_of v m b)
       = ap (slice_get (slice_set records slot (record_of v m b))) (same_number s slot e) ∙ slice_get-set_same records slot free (record_of v m b) is_free in
@@ -346,7 +353,8 @@ written_again told slots records v n sets h w volume l need = record {
 -- ## a block is written for the first time since the newest cut
 
 -- a block that the newest image does not name is still as it was at its point
-newest_content : (ws : List Write) (images : List Image) (m p b : ℕ) → AreInTime (length ws) images → IsNewest (sets_of images) m → is_named ws images m b ≡ false → point_in m images ≡ Some p → content ws p b ≡ content ws (length ws) b
+newest_content : (ws : List Write) (images : List Image) (m p b : ℕ) → AreInTime (length ws) images → IsNewest (sets_of images) m → is_named ws images m b ≡ false → point_in m images ≡ Some p
+    → content ws p b ≡ content ws (length ws) b
 newest_content ws images m p b time last none point = unnamed_to_end ws images m p b time point (λ k l. by_test k l (is_named ws images k b) refl) where
   by_test : (k : ℕ) → m ≤ k → (t : Bool) → is_named ws images k b ≡ t → is_named ws images k b ≡ false
   by_test k l true is =
@@ -376,13 +384,15 @@ module _ (told slots : Option (List (List ℕ))) (records : List Record) (v n : 
   is_here : (s set b : ℕ) → (s == slot) ≡ true → slice_get (noted slot (record_of v m w.block) records) s ≡ Some (record_of v set b) → record_of v m w.block ≡ record_of v set b
   is_here s set b e at = same_Some (record_of v m w.block) (record_of v set b) (sym here ∙ ap (slice_get (noted slot (record_of v m w.block) records)) (sym (same_number s slot e)) ∙ at)
 
-  named_first_written : (s set b : ℕ) → 0 < set → slice_get (noted slot (record_of v m w.block) records) s ≡ Some (record_of v set b) → (t : Bool) → (s == slot) ≡ t → is_named (h.writes ++ w ∷ []) h.images set b ≡ true
+  named_first_written : (s set b : ℕ) → 0 < set → slice_get (noted slot (record_of v m w.block) records) s ≡ Some (record_of v set b) → (t : Bool) → (s == slot) ≡ t
+      → is_named (h.writes ++ w ∷ []) h.images set b ≡ true
   named_first_written s set b above at true e =
       let same = is_here s set b e at in
       ap (λ (r : Record). is_named (h.writes ++ w ∷ []) h.images r.set r.block) (sym same) ∙ named_now h.writes w h.images m volume.images.in_time last_image
   named_first_written s set b above at false e = named-more h.writes w h.images set b volume.images.in_time (volume.named s set b above (sym (there s e) ∙ at))
 
-  recorded_first : (set b : ℕ) → b < n → (is_named h.writes h.images set b ≡ true) ⊎ (IsNewest (sets_of h.images) set × (w.block ≡ b)) → (s : ℕ) × (slice_get (noted slot (record_of v m w.block) records) s ≡ Some (record_of v set b))
+  recorded_first : (set b : ℕ) → b < n → (is_named h.writes h.images set b ≡ true) ⊎ (IsNewest (sets_of h.images) set × (w.block ≡ b))
+      → (s : ℕ) × (slice_get (noted slot (record_of v m w.block) records) s ≡ Some (record_of v set b))
   recorded_first set b within (inl was) =
       let found = volume.recorded set b within was in
       let away = not_free records slot found.0 v set b is_free found.1 (named_above h.writes set b h.images volume.images.above_zero was) in
@@ -407,19 +417,25 @@ module _ (told slots : Option (List (List ℕ))) (records : List Record) (v n : 
       ∙ sym (content-before h.writes (w ∷ []) p w.block (point_within (length h.writes) m p h.images volume.images.in_time my_point))
       ∙ ap (content (h.writes ++ w ∷ []) p) block_is
 
-  copied_first : (s set b p : ℕ) → slice_get (noted slot (record_of v m w.block) records) s ≡ Some (record_of v set b) → point_in set h.images ≡ Some p → is_some told ≡ true → (t : Bool) → (s == slot) ≡ t
-      → IfSome (option_map (λ blocks. slice_set blocks (place_of_slot (length records) slot) copy) slots) (λ blocks. slice_get blocks (place_of_slot (length records) s) ≡ Some (content (h.writes ++ w ∷ []) p b))
+  copied_first : (s set b p : ℕ) → slice_get (noted slot (record_of v m w.block) records) s ≡ Some (record_of v set b) → point_in set h.images ≡ Some p → is_some told ≡ true → (t : Bool)
+      → (s == slot) ≡ t
+      → IfSome (option_map (λ blocks. slice_set blocks (place_of_slot (length records) slot) copy) slots)
+      (λ blocks. slice_get blocks (place_of_slot (length records) s) ≡ Some (content (h.writes ++ w ∷ []) p b))
   copied_first s set b p at point tells true e =
-      subst (λ (k : ℕ). IfSome (option_map (λ blocks. slice_set blocks (place_of_slot (length records) slot) copy) slots) (λ blocks. slice_get blocks (place_of_slot (length records) k) ≡ Some (content (h.writes ++ w ∷ []) p b))) (sym (same_number s slot e))
-      (subst (λ (bytes : List ℕ). IfSome (option_map (λ blocks. slice_set blocks (place_of_slot (length records) slot) copy) slots) (λ blocks. slice_get blocks (place_of_slot (length records) slot) ≡ Some bytes)) (copied_now set b p (is_here s set b e at) point tells)
+      subst (λ (k : ℕ). IfSome (option_map (λ blocks. slice_set blocks (place_of_slot (length records) slot) copy) slots)
+      (λ blocks. slice_get blocks (place_of_slot (length records) k) ≡ Some (content (h.writes ++ w ∷ []) p b))) (sym (same_number s slot e))
+      (subst (λ (bytes : List ℕ). IfSome (option_map (λ blocks. slice_set blocks (place_of_slot (length records) slot) copy) slots)
+      (λ blocks. slice_get blocks (place_of_slot (length records) slot) ≡ Some bytes)) (copied_now set b p (is_here s set b e at) point tells)
       (put_same slots (place_of_slot (length records) slot) copy room))
   copied_first s set b p at point tells false e =
-      put_other slots (place_of_slot (length records) slot) (place_of_slot (length records) s) copy (Some (content (h.writes ++ w ∷ []) p b)) (other_place (table_for (length records)) s slot (other_number s slot e))
+      put_other slots (place_of_slot (length records) slot) (place_of_slot (length records) s) copy (Some (content (h.writes ++ w ∷ []) p b))
+      (other_place (table_for (length records)) s slot (other_number s slot e))
       (subst (λ (bytes : List ℕ). IfSome slots (λ blocks. slice_get blocks (place_of_slot (length records) s) ≡ Some bytes))
       (sym (content-before h.writes (w ∷ []) p b (point_within (length h.writes) set p h.images volume.images.in_time point)))
       (volume.copied s set b p (sym (there s e) ∙ at) point tells))
 
-  pub written_first : IsVolume (option_map (λ blocks. slice_set blocks w.block w.bytes) told) (option_map (λ blocks. slice_set blocks (place_of_slot (length records) slot) copy) slots) (noted slot (record_of v m w.block) records) v n sets (written w h)
+  pub written_first : IsVolume (option_map (λ blocks. slice_set blocks w.block w.bytes) told) (option_map (λ blocks. slice_set blocks (place_of_slot (length records) slot) copy) slots)
+      (noted slot (record_of v m w.block) records) v n sets (written w h)
   written_first = record {
     blocks = put_told n h.writes w told w.bytes l (λ tells. refl) volume.blocks;
     sets_are = volume.sets_are;
@@ -427,7 +443,8 @@ module _ (told slots : Option (List (List ℕ))) (records : List Record) (v n : 
     named = λ s set b above at. named_first_written s set b above at (s == slot) refl;
     recorded = λ set b within is. recorded_first set b within (named_was h.writes w h.images set b volume.images.in_time is);
     copied = λ s set b p at point tells.
-        subst (λ (k : ℕ). IfSome (option_map (λ blocks. slice_set blocks (place_of_slot (length records) slot) copy) slots) (λ blocks. slice_get blocks (place_of_slot k s) ≡ Some (content (h.writes ++ w ∷ []) p b))) (sym (length-slice_set records slot (record_of v m w.block)))
+        subst (λ (k : ℕ). IfSome (option_map (λ blocks. slice_set blocks (place_of_slot (length records) slot) copy) slots)
+        (λ blocks. slice_get blocks (place_of_slot k s) ≡ Some (content (h.writes ++ w ∷ []) p b))) (sym (length-slice_set records slot (record_of v m w.block)))
         (copied_first s set b p at point (sym (put_tells told w.block w.bytes) ∙ tells) (s == slot) refl);
   }
 
@@ -438,10 +455,12 @@ pub group_needs : {D : Type 0} → (told : D → Option (List (List ℕ))) (g : 
     → IsNeeded g.area.records v (sets_at g v) b → needs_slot_in (slice_get hs v) b ≡ true
 group_needs told g hs v b stands l needed =
     let place = place_of_block told g hs v b stands l in
-    ap (λ (h : Option History). needs_slot_in h b) place.history_is ∙ needs (told_in (told g.area.device) (told place.device)) (told g.area.device) g.area.records v place.blocks (sets_at g v) (history_at hs v) b place.stands place.within needed
+    ap (λ (h : Option History). needs_slot_in h b) place.history_is
+    ∙ needs (told_in (told g.area.device) (told place.device)) (told g.area.device) g.area.records v place.blocks (sets_at g v) (history_at hs v) b place.stands place.within needed
 
 -- a write needs no slot where no image stands, or where the newest has a copy
-pub group_needs_none : {D : Type 0} → (told : D → Option (List (List ℕ))) (g : GroupValue D) (hs : List History) (v b : ℕ) → StandsFor told g hs → b < blocks_at g v → sets_at g v ≡ [] → needs_slot_in (slice_get hs v) b ≡ false
+pub group_needs_none : {D : Type 0} → (told : D → Option (List (List ℕ))) (g : GroupValue D) (hs : List History) (v b : ℕ) → StandsFor told g hs → b < blocks_at g v → sets_at g v ≡ []
+    → needs_slot_in (slice_get hs v) b ≡ false
 group_needs_none told g hs v b stands l none =
     let place = place_of_block told g hs v b stands l in
     ap (λ (h : Option History). needs_slot_in h b) place.history_is ∙ no_image (history_at hs v).writes (history_at hs v).images b (sym place.stands.sets_are ∙ none)
@@ -451,11 +470,14 @@ pub group_needs_not : {D : Type 0} → (told : D → Option (List (List ℕ))) (
 group_needs_not {D = D} told g hs v b slot stands l at =
     let place = place_of_block told g hs v b stands l in
     by_sets place.device place.blocks (sets_at g v) place.history_is place.stands at where
-      by_sets : (d : D) (n : ℕ) (sets : List ℕ) → slice_get hs v ≡ Some (history_at hs v) → IsVolume (told_in (told g.area.device) (told d)) (told g.area.device) g.area.records v n sets (history_at hs v)
+      by_sets : (d : D) (n : ℕ) (sets : List ℕ) → slice_get hs v ≡ Some (history_at hs v)
+          → IsVolume (told_in (told g.area.device) (told d)) (told g.area.device) g.area.records v n sets (history_at hs v)
           → slice_get g.area.records slot ≡ Some (record_of v (newest sets) b) → needs_slot_in (slice_get hs v) b ≡ false
-      by_sets d n [] is volume at = ap (λ (h : Option History). needs_slot_in h b) is ∙ needs_none (told_in (told g.area.device) (told d)) (told g.area.device) g.area.records v n (history_at hs v) b volume
+      by_sets d n [] is volume at = ap (λ (h : Option History). needs_slot_in h b) is
+          ∙ needs_none (told_in (told g.area.device) (told d)) (told g.area.device) g.area.records v n (history_at hs v) b volume
       by_sets d n (set ∷ sets) is volume at = ap (λ (h : Option History). needs_slot_in h b) is
-          ∙ needs_not (told_in (told g.area.device) (told d)) (told g.area.device) g.area.records v n (set ∷ sets) (history_at hs v) (newest (set ∷ sets)) b slot volume (newest_is (set ∷ sets) (omega arith)) at
+          ∙ needs_not (told_in (told g.area.device) (told d)) (told g.area.device) g.area.records v n (set ∷ sets) (history_at hs v) (newest (set ∷ sets)) b slot volume
+          (newest_is (set ∷ sets) (omega arith)) at
 
 -- the place of a slot is within the area's device
 pub slot_room : (slots : Option (List (List ℕ))) (k slot : ℕ) → IfSome slots (AreBlocks (blocks_for k)) → slot < k → IfSome slots (λ blocks. place_of_slot k slot < length blocks)
@@ -481,8 +503,10 @@ group_written_again {D = D} told g new hs v d e w stands l need device tells dev
     devices (images ∙ sym (slice_set-same g.images v (sets_at g v) place.sets_is)) volumes
     (others_same v g.area.records new.area.records records) (slots_same v g.area.records (told g.area.device) (told new.area.device) slots)
     (subst (λ (t : Option (List (List ℕ))). IsVolume (told_in (told new.area.device) t) (told new.area.device) new.area.records v place.blocks (sets_at g v) (written w h)) (sym tells)
-    (subst (λ (t : Option (List (List ℕ))). IsVolume (told_in t (option_map (λ blocks. slice_set blocks w.block w.bytes) (told d))) t new.area.records v place.blocks (sets_at g v) (written w h)) (sym slots)
-    (subst (λ (t : Option (List (List ℕ))). IsVolume t (told g.area.device) new.area.records v place.blocks (sets_at g v) (written w h)) (sym (told_in-map (told g.area.device) (told d) (λ blocks. slice_set blocks w.block w.bytes)))
+    (subst (λ (t : Option (List (List ℕ))). IsVolume (told_in t (option_map (λ blocks. slice_set blocks w.block w.bytes) (told d))) t new.area.records v place.blocks (sets_at g v) (written w h))
+    (sym slots)
+    (subst (λ (t : Option (List (List ℕ))). IsVolume t (told g.area.device) new.area.records v place.blocks (sets_at g v) (written w h))
+    (sym (told_in-map (told g.area.device) (told d) (λ blocks. slice_set blocks w.block w.bytes)))
     (subst (λ (rs : List Record). IsVolume more (told g.area.device) rs v place.blocks (sets_at g v) (written w h)) (sym records) volume))))
 
 newest_some : (sets : List ℕ) (m : ℕ) → IsNewest sets m → 0 < length sets
@@ -490,9 +514,11 @@ newest_some [] m last = absurd last
 newest_some (set ∷ sets) m last = omega arith
 
 -- a block's old bytes are copied into a free slot, and the block is written
-pub group_written_first : {D : Type 0} → (told : D → Option (List (List ℕ))) (g new : GroupValue D) (hs : List History) (v : ℕ) (d e : D) (w : Write) (slot : ℕ) (copy : List ℕ) → StandsFor told g hs → w.block < blocks_at g v
+pub group_written_first : {D : Type 0} → (told : D → Option (List (List ℕ))) (g new : GroupValue D) (hs : List History) (v : ℕ) (d e : D) (w : Write) (slot : ℕ) (copy : List ℕ) → StandsFor told g hs
+    → w.block < blocks_at g v
     → needs_slot_in (slice_get hs v) w.block ≡ true → slice_get g.devices v ≡ Some d → told e ≡ option_map (λ blocks. slice_set blocks w.block w.bytes) (told d)
-    → slice_get g.area.records slot ≡ Some free → IfSome (told d) (λ blocks. slice_get blocks w.block ≡ Some copy) → IfSome (told g.area.device) (λ blocks. place_of_slot (length g.area.records) slot < length blocks)
+    → slice_get g.area.records slot ≡ Some free → IfSome (told d) (λ blocks. slice_get blocks w.block ≡ Some copy)
+    → IfSome (told g.area.device) (λ blocks. place_of_slot (length g.area.records) slot < length blocks)
     → new.devices ≡ slice_set g.devices v e → new.images ≡ g.images → new.area.volumes ≡ g.area.volumes → new.area.records ≡ noted slot (record_of v (newest (sets_at g v)) w.block) g.area.records
     → told new.area.device ≡ option_map (λ blocks. slice_set blocks (place_of_slot (length g.area.records) slot) copy) (told g.area.device) → StandsFor told new (changed_at v (written w) hs)
 group_written_first {D = D} told g new hs v d e w slot copy stands l need device tells is_free old room devices images volumes records slots =
@@ -515,14 +541,16 @@ group_written_first {D = D} told g new hs v d e w slot copy stands l need device
     (subst (λ (rs : List Record). OthersKept v g.area.records rs) (sym records) (others_noted g.area.records v m w.block slot is_free))
     (subst (λ (t : Option (List (List ℕ))). SlotsKept v g.area.records (told g.area.device) t) (sym slots) (others_overwritten g.area.records v slot (told g.area.device) copy is_free))
     (subst (λ (t : Option (List (List ℕ))). IsVolume (told_in (told new.area.device) t) (told new.area.device) new.area.records v place.blocks (sets_at g v) (written w h)) (sym tells)
-    (subst (λ (t : Option (List (List ℕ))). IsVolume (told_in t (option_map (λ blocks. slice_set blocks w.block w.bytes) (told d))) t new.area.records v place.blocks (sets_at g v) (written w h)) (sym slots)
+    (subst (λ (t : Option (List (List ℕ))). IsVolume (told_in t (option_map (λ blocks. slice_set blocks w.block w.bytes) (told d))) t new.area.records v place.blocks (sets_at g v) (written w h))
+    (sym slots)
     (subst (λ (t : Option (List (List ℕ))). IsVolume t held new.area.records v place.blocks (sets_at g v) (written w h))
     (sym (told_in-slots (told g.area.device) (option_map (λ blocks. slice_set blocks w.block w.bytes) (told d)) (λ blocks. slice_set blocks (place_of_slot (length g.area.records) slot) copy)
     ∙ told_in-map (told g.area.device) (told d) (λ blocks. slice_set blocks w.block w.bytes)))
     (subst (λ (rs : List Record). IsVolume more held rs v place.blocks (sets_at g v) (written w h)) (sym records) volume))))
 
 -- a free slot was overwritten, and nothing else changed
-pub group_overwritten : {D : Type 0} → (told : D → Option (List (List ℕ))) (g new : GroupValue D) (hs : List History) (slot : ℕ) (bytes : List ℕ) → StandsFor told g hs → slice_get g.area.records slot ≡ Some free
+pub group_overwritten : {D : Type 0} → (told : D → Option (List (List ℕ))) (g new : GroupValue D) (hs : List History) (slot : ℕ) (bytes : List ℕ) → StandsFor told g hs
+    → slice_get g.area.records slot ≡ Some free
     → map told new.devices ≡ map told g.devices → new.images ≡ g.images → new.area.volumes ≡ g.area.volumes → new.area.records ≡ g.area.records
     → told new.area.device ≡ option_map (λ blocks. slice_set blocks (place_of_slot (length g.area.records) slot) bytes) (told g.area.device) → StandsFor told new hs
 group_overwritten {D = D} told g new hs slot bytes stands is_free devices images volumes records slots =
@@ -535,10 +563,12 @@ group_overwritten {D = D} told g new hs slot bytes stands is_free devices images
       each = λ v n x sets h number device row history.
           let within = slice_get_within new.devices v x device in
           let old = slice_get_inside g.devices v (omega arith) in
-          let tells : Some (told old.0) ≡ Some (told x) = sym (slice_get_map told g.devices v old.0 old.1) ∙ ap (λ (ts : List (Option (List (List ℕ)))). slice_get ts v) (sym devices) ∙ slice_get_map told new.devices v x device in
+          let tells : Some (told old.0) ≡ Some (told x) = sym (slice_get_map told g.devices v old.0 old.1) ∙ ap (λ (ts : List (Option (List (List ℕ)))). slice_get ts v) (sym devices)
+          ∙ slice_get_map told new.devices v x device in
           subst (λ (t : Option (List (List ℕ))). IsVolume (told_in (told new.area.device) t) (told new.area.device) new.area.records v n sets h) (same_Some (told old.0) (told x) tells)
           (subst (λ (t : Option (List (List ℕ))). IsVolume (told_in t (told old.0)) t new.area.records v n sets h) (sym slots)
-          (subst (λ (t : Option (List (List ℕ))). IsVolume t held new.area.records v n sets h) (sym (told_in-slots (told g.area.device) (told old.0) (λ blocks. slice_set blocks (place_of_slot (length g.area.records) slot) bytes)))
+          (subst (λ (t : Option (List (List ℕ))). IsVolume t held new.area.records v n sets h)
+          (sym (told_in-slots (told g.area.device) (told old.0) (λ blocks. slice_set blocks (place_of_slot (length g.area.records) slot) bytes)))
           (subst (λ (rs : List Record). IsVolume (told_in (told g.area.device) (told old.0)) held rs v n sets h) (sym records)
           (slot_overwritten (told_in (told g.area.device) (told old.0)) (told g.area.device) g.area.records v n sets h slot bytes
           (stands.each v n old.0 sets h (ap (λ (ns : List ℕ). slice_get ns v) (sym volumes) ∙ number) old.1 (ap (λ (rows : List (List ℕ)). slice_get rows v) (sym images) ∙ row) history) is_free))));

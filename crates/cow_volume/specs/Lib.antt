@@ -15,3 +15,4 @@ pub mod Counts
 pub mod Resuming
 pub mod TakingUp
 pub mod OneVolume
+pub mod Messages

@@ -112,19 +112,21 @@ IsOneDropped told size count lending old new set (Err fault) = (fault ≡ NoSuch
 
 -- ## revert
 
--- the volume was brought back to the image of a set
+-- the volume was brought back to the image of a set; no slot's bytes changed
 pub record IsOneReverted {D : Type 0} (told : D → Option (List (List ℕ))) (size count : D → ℕ) (lending : D → Bool) (old new : GroupValue D) (set : ℕ) : Type 0 where
   pub image : is_among set (image_sets old) ≡ true
   pub kept : IsKept told size count lending old new
   pub stands : (h : History) (p : ℕ) → StandsForOne told old h → point_in set h.images ≡ Some p → StandsForOne told new (reverted set p h)
   pub unfailed : IsUnfailed count old new
+  pub slots : told new.area.device ≡ told old.area.device
 
--- a device failed after so many blocks were restored, in ascending order: fewer than there are to restore
+-- a device failed after so many blocks were restored, in ascending order: fewer than there are to restore; no slot's bytes changed
 pub record IsOneRevertedInPart {D : Type 0} (told : D → Option (List (List ℕ))) (size count : D → ℕ) (lending : D → Bool) (old new : GroupValue D) (set restored : ℕ) : Type 0 where
   pub image : is_among set (image_sets old) ≡ true
   pub kept : IsKept told size count lending old new
   pub fewer : (h : History) (p : ℕ) → StandsForOne told old h → point_in set h.images ≡ Some p → restored < length (to_restore (blocks_of old) h.writes p)
   pub stands : (h : History) (p : ℕ) → StandsForOne told old h → point_in set h.images ≡ Some p → StandsForOne told new (reverted_in_part (blocks_of old) set p restored h)
+  pub slots : told new.area.device ≡ told old.area.device
 
 abbrev pub IsOneRevert : {D : Type 0} → (D → Option (List (List ℕ))) → (D → ℕ) → (D → ℕ) → (D → Bool) → GroupValue D → GroupValue D → ℕ → Result Unit RevertFault → Type 0
 IsOneRevert told size count lending old new set (Ok done) = IsOneReverted told size count lending old new set

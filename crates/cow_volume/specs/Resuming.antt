@@ -1,6 +1,6 @@
 -- When a group is taken up again from its devices, its area and lists of the sets of its images: which records have their image,
 -- and what the parts have to hold so that the group stands for histories. (This project's own.)
-use Rattle.std.specs.Prelude.{ℕ, ◌≡◌, ◌<◌, true, false, List, length, Option, IfSome, is_some, slice_get, Some}
+use Rattle.std.specs.Prelude.{ℕ, ◌≡◌, ◌<◌, true, false, List, [], ◌∷◌, length, Option, IfSome, is_some, slice_get, Some, None}
 use Rattle.write_history.specs.History.{History, contents, sets_of}
 use Rattle.write_history.specs.Slots.{copies}
 use Rattle.diff_area.specs.AreaValue.{AreaValue}
@@ -8,7 +8,7 @@ use Rattle.diff_area.specs.Copies.{AreHeld}
 use Rattle.diff_area.specs.Records.{is_free}
 use Rattle.diff_area.specs.declared.table_record.Record.{Record}
 use Rattle.cow_volume.specs.GroupValue.{placed}
-use Rattle.cow_volume.specs.StandsFor.{AreImages}
+use Rattle.cow_volume.specs.StandsFor.{AreImages, told_in}
 use Rattle.cow_volume.specs.Calls.{sets_in, is_among}
 use Rattle.cow_volume.specs.declared.resume_fault.ResumeFault.{ResumeFault}
 use Rattle.cow_volume.specs.declared.resume_fault.ResumeFault.TheVariants.{NoImage, OutOfMemory}
@@ -53,3 +53,11 @@ pub record AreKept {D : Type 0} (told : D → Option (List (List ℕ))) (devices
       → slice_get images v ≡ Some sets → slice_get hs v ≡ Some h → IsVolumeKept (told d) n sets h
   pub tells : is_some (told area.device) ≡ true
   pub held : AreHeld (told area.device) area.records (copies (placed area.volumes) hs)
+
+-- no volume's device tells what it holds, where the area's does; files tell nothing
+abbrev pub NoneTell : {D : Type 0} → (D → Option (List (List ℕ))) → List D → D → Type 0
+NoneTell {D = D} told devices area = (v : ℕ) (d : D) → slice_get devices v ≡ Some d → told_in (told area) (told d) ≡ None
+
+-- the same of one volume with an area of its own
+abbrev pub IsOneKept : {D : Type 0} → (D → Option (List (List ℕ))) → D → AreaValue D → List ℕ → History → Type 0
+IsOneKept told device area sets h = AreKept told (device ∷ []) area (sets ∷ []) (h ∷ [])

@@ -10,7 +10,7 @@ ghost use Rattle.cow_volume.specs.StandsFor.{StandsFor};
 ghost use Rattle.cow_volume.specs.Calls.{HasCauseAt, HasImageCause, IsNow, IsShown, IsQuiet, IsUnfailed, IsWrite, IsDropped, IsRevert, IsEvicted, VolumeRose, history_at, changed_at, is_among, sets_at, blocks_at};
 ghost use Rattle.cow_volume.specs.Parts.{IsLentBy, IsUnseen};
 ghost use Rattle.cow_volume.specs.Ending.{IsSync};
-ghost use Rattle.cow_volume.specs.Resuming.{AllHaveImages, IsResumeFault, AreKept};
+ghost use Rattle.cow_volume.specs.Resuming.{AllHaveImages, IsResumeFault, AreKept, NoneTell};
 ghost use Rattle.cow_volume.specs.Room.{HasRoom, lacks_copy, lacks_slot, is_full, images_going};
 ghost use Rattle.cow_volume.specs.Steps.{IsPutOr};
 ghost use Rattle.cow_volume.specs.CopiedOnce.{IsCopiedOnce};
@@ -75,7 +75,8 @@ impl<D: Device> CowGroup<D> {
     }
 
     /// Takes a group up again: its devices, its area, and for each volume the sets of its images, the oldest first. The first slot
-    /// whose copy is of no such image refuses that. No device is read. It takes all memory that the group ever needs.
+    /// whose copy is of no such image refuses that. No device is read. It takes all memory that the group ever needs. Where no device
+    /// tells what it holds, the group stands for some histories with these records and images.
     pub fn resume(
         alloc: Global,
         devices: Vec<D>,
@@ -87,6 +88,7 @@ impl<D: Device> CowGroup<D> {
         requires rise { All AreImages images.now }
         ensures value { IfOk result (λ group. group ≡ record { devices = devices.items; area = area; images = images.now }) }
         ensures stands { IfOk result (λ group. (hs : List History) → AreKept D.told devices.items area images.now hs → StandsFor D.told group hs) }
+        ensures untold { IfOk result (λ group. NoneTell D.told devices.items area.device → (hs : List History) × StandsFor D.told group hs) }
         ensures have_images { OnOk result (AllHaveImages area.records images.now) }
         ensures refused { IfErr result (IsResumeFault area.records images.now) }
     {

@@ -4,13 +4,16 @@ ghost use Rattle.block_data.specs.PayloadBytes.{payload_bytes};
 ghost use Rattle.write_history.specs.History.{History, fresh, cut};
 ghost use Rattle.write_history.specs.Slots.{used, used_by};
 ghost use Rattle.diff_area.specs.Records.{free};
+ghost use Rattle.diff_map.specs.MapValue.{AreImages};
 ghost use Rattle.cow_volume.specs.Calls.{IsQuiet, IsUnfailed, VolumeRose, is_among};
 ghost use Rattle.cow_volume.specs.Parts.{IsUnseen};
+ghost use Rattle.cow_volume.specs.Resuming.{AllHaveImages, IsResumeFault, IsOneKept, NoneTell};
 ghost use Rattle.cow_volume.specs.OneVolume.{StandsForOne, blocks_of, image_sets, tells, IsOneWrite, IsOneCopiedOnce, IsOneNow, IsOneShown, HasOneCause, HasOneImageCause, IsOneLentBy, IsOneDropped, IsOneRevert, IsOneSync};
 
 use crate::cause::Cause;
 use crate::cow_group::CowGroup;
 use crate::image_fault::ImageFault;
+use crate::resume_fault::ResumeFault;
 use crate::revert_fault::RevertFault;
 use crate::write_fault::WriteFault;
 use crate::written::Written;
@@ -19,7 +22,7 @@ use diff_area::Area;
 use std::alloc::Global;
 use std::marker::Model;
 use volume_device::Device;
-use vss_names::OutOfMemory;
+use vss_names::{Numbers, OutOfMemory};
 
 /// A copy-on-write volume by itself, with a diff area of its own, and the images that stand of it. Contracts see its device, its
 /// area, and the sets of its images.
@@ -48,10 +51,49 @@ impl<D: Device> CowVolume<D> {
         ensures value { IfOk result (λ volume. volume ≡ record { devices = device ∷ []; area = area; images = [] ∷ [] }) }
         ensures stands { IfOk result (λ volume. StandsForOne D.told volume fresh) }
     {
-        let mut devices = Vec::with_capacity(alloc, 1)?;
-        devices.push(device)?;
+        let devices = one_device(alloc, device)?;
         let group = CowGroup::new(alloc, devices, area)?;
         Ok(CowVolume { group })
+    }
+
+    /// Takes a volume up again: its device, its area, and the sets of its images, the oldest first. The first slot whose copy is of
+    /// no such image refuses that. No device is read. It takes all memory that the volume ever needs. Where no device tells what it
+    /// holds, the volume stands for some history with these records and images.
+    pub fn resume(
+        alloc: Global,
+        device: D,
+        area: Area<D>,
+        images: Numbers,
+    ) -> Result<CowVolume<D>, ResumeFault>
+        requires fits { area.volumes ≡ D.size device ∷ [] }
+        requires rise { AreImages images }
+        ensures value { IfOk result (λ volume. volume ≡ record { devices = device ∷ []; area = area; images = images ∷ [] }) }
+        ensures stands { IfOk result (λ volume. (h : History) → IsOneKept D.told device area images h → StandsForOne D.told volume h) }
+        ensures untold { IfOk result (λ volume. NoneTell D.told (device ∷ []) area.device → (h : History) × StandsForOne D.told volume h) }
+        ensures have_images { OnOk result (AllHaveImages area.records (images ∷ [])) }
+        ensures refused { IfErr result (IsResumeFault area.records (images ∷ [])) }
+    {
+        let Ok(devices) = one_device(alloc, device) else {
+            return Err(ResumeFault::OutOfMemory);
+        };
+        let group = CowGroup::resume(alloc, devices, area, &[images])?;
+        Ok(CowVolume { group })
+    }
+
+    /// The volume of a group that has no other.
+    pub fn of(group: CowGroup<D>) -> CowVolume<D>
+        requires { length group.area.volumes ≡ 1 }
+        ensures { result ≡ group }
+    {
+        CowVolume { group }
+    }
+
+    /// The volume as a group of its own.
+    pub fn into_group(self) -> CowGroup<D>
+        ensures group { result ≡ self }
+        ensures one { length result.area.volumes ≡ 1 }
+    {
+        self.group
     }
 
     /// How many slots the area has.
@@ -72,6 +114,7 @@ impl<D: Device> CowVolume<D> {
     pub fn images(&self) -> &[u32]
         ensures images { result.now ≡ image_sets self.now }
         ensures few { length result.now ≤ 512 }
+        ensures rise { AreImages result.now }
     {
         self.group.images(0)
     }
@@ -216,6 +259,7 @@ impl<D: Device> CowVolume<D> {
     pub fn into_parts(self) -> (D, Area<D>)
         ensures device { self.devices ≡ result.0 ∷ [] }
         ensures area { result.1 ≡ self.area }
+        ensures fits { result.1.volumes ≡ D.size result.0 ∷ [] }
     {
         let CowVolume { group } = self;
         let _valid = group.volumes();
@@ -247,4 +291,13 @@ impl<D: Device> CowVolume<D> {
         }
         Ok(())
     }
+}
+
+/// A list of one device.
+fn one_device<D: Device>(alloc: Global, device: D) -> Result<Vec<D>, OutOfMemory>
+    ensures { IfOk result (λ devices. devices.items ≡ device ∷ []) }
+{
+    let mut devices = Vec::with_capacity(alloc, 1)?;
+    devices.push(device)?;
+    Ok(devices)
 }

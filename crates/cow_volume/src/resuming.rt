@@ -103,8 +103,8 @@ fn give_free_slots<D: Device>(pool: &mut SlotPool, area: &Area<D>)
     }
 }
 
-/// A pool in which the slots of the free records are free.
-pub(crate) fn pool_of<D: Device>(alloc: Global, area: &Area<D>) -> Result<SlotPool, OutOfMemory>
+/// A pool in which the slots of the free records of an area are free.
+pub fn pool_of<D: Device>(alloc: Global, area: &Area<D>) -> Result<SlotPool, OutOfMemory>
     ensures { IfOk result (λ pool. pool ≡ map is_free area.now.records) }
 {
     let mut pool = SlotPool::new(alloc, area.slots())?;

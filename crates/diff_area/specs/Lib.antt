@@ -12,3 +12,4 @@ pub mod Refusals
 pub mod Seen
 pub mod ViewValue
 pub mod Written
+pub mod Messages

@@ -21,6 +21,7 @@ mod header;
 mod header_field;
 mod layout;
 mod loading;
+mod messages;
 mod reading;
 mod rows;
 mod table_record;

@@ -16,7 +16,7 @@ mod image_count;
 mod index;
 
 pub use copied::Copied;
-pub use diff_map::DiffMap;
+pub use diff_map::{DiffMap, MOST_IMAGES};
 pub use entry::Entry;
 pub use going::Going;
 pub use index::{follows, next_older};

@@ -9,11 +9,13 @@ use Rattle.mirror_volume.specs.declared.command.Command.{Command}
 use Rattle.mirror_volume.specs.declared.command.Command.TheVariants.{Write, Read, Cut, Image, Drop}
 use Rattle.mirror_volume.specs.declared.said.Said.{Said}
 use Rattle.mirror_volume.specs.declared.said.Said.TheVariants.{Ok, Wrote, Bytes, NoSuchImage, NoMirror, Fault}
-use Rattle.mirror_volume.specs.Replies.{Kind, after, after_all, IsWriteReply, IsReadReply, IsCutReply, IsImageReply, IsDropReply, IsReply, used_up, IsStep, IsRun, image_reply, drop_reply, reply_of, replies_of, is_plain, are_plain, used_by_all}
+use Rattle.mirror_volume.specs.Replies.{Kind, after, after_all, IsWriteReply, IsReadReply, IsCutReply, IsImageReply, IsDropReply, IsReply, used_up, IsStep, IsRun, image_reply, drop_reply, reply_of}
+use Rattle.mirror_volume.specs.Replies.{replies_of, is_plain, are_plain, used_by_all, AreUsedUp, IsRefused}
 
 -- ## one command more
 
-pub after_all-more : (h : History) (commands : List Command) (said : List Said) (c : Command) (s : Said) → length said ≡ length commands → after_all h (commands ++ c ∷ []) (said ++ s ∷ []) ≡ after (after_all h commands said) c s
+pub after_all-more : (h : History) (commands : List Command) (said : List Said) (c : Command) (s : Said) → length said ≡ length commands
+    → after_all h (commands ++ c ∷ []) (said ++ s ∷ []) ≡ after (after_all h commands said) c s
 after_all-more h [] [] c s long = refl
 after_all-more h [] (t ∷ said) c s long = absurd (omega arith)
 after_all-more h (d ∷ commands) [] c s long = absurd (omega arith)
@@ -23,7 +25,8 @@ pub run-more : (kind : Kind) (tells : Bool) (h : History) (ready count mid_ready
     → IsRun kind tells h ready count commands said mid_ready mid_count → IsStep kind tells (after_all h commands said) c s mid_ready mid_count now_ready now_count
     → IsRun kind tells h ready count (commands ++ c ∷ []) (said ++ s ∷ []) now_ready now_count
 run-more kind tells h ready count mid_ready mid_count now_ready now_count [] [] c s run step =
-    let from : IsStep kind tells h c s ready count now_ready now_count = subst (λ (r : ℕ). IsStep kind tells h c s r count now_ready now_count) run.0 (subst (λ (k : ℕ). IsStep kind tells h c s mid_ready k now_ready now_count) run.1 step) in
+    let from : IsStep kind tells h c s ready count now_ready now_count = subst (λ (r : ℕ). IsStep kind tells h c s r count now_ready now_count) run.0
+    (subst (λ (k : ℕ). IsStep kind tells h c s mid_ready k now_ready now_count) run.1 step) in
     (now_ready, now_count, from, (refl, refl))
 run-more kind tells h ready count mid_ready mid_count now_ready now_count [] (t ∷ said) c s run step = absurd run
 run-more kind tells h ready count mid_ready mid_count now_ready now_count (d ∷ commands) [] c s run step = absurd run
@@ -80,7 +83,8 @@ and_second true t e = e
 and_second false t e = cc
 
 -- where no device failed, no image was evicted and no cut refused, each reply is the definition's
-pub plain_replies : (kind : Kind) (h : History) (ready count now_ready now_count : ℕ) (commands : List Command) (said : List Said) → IsRun kind true h ready count commands said now_ready now_count → are_plain said ≡ true → said ≡ replies_of h commands
+pub plain_replies : (kind : Kind) (h : History) (ready count now_ready now_count : ℕ) (commands : List Command) (said : List Said) → IsRun kind true h ready count commands said now_ready now_count
+    → are_plain said ≡ true → said ≡ replies_of h commands
 plain_replies kind h ready count now_ready now_count [] [] run plain = refl
 plain_replies kind h ready count now_ready now_count [] (s ∷ said) run plain = absurd run
 plain_replies kind h ready count now_ready now_count (c ∷ commands) [] run plain = absurd run
@@ -98,7 +102,8 @@ later_rose a b c m (inr top) l = by_test (c == b) refl where
   by_test true e = inr (same_number c b e ∙ top)
   by_test false e = let other = other_number c b e in inl (omega arith)
 
-pub run_later : (kind : Kind) (tells : Bool) (h : History) (ready count now_ready now_count : ℕ) (commands : List Command) (said : List Said) → IsRun kind tells h ready count commands said now_ready now_count → count ≤ now_count
+pub run_later : (kind : Kind) (tells : Bool) (h : History) (ready count now_ready now_count : ℕ) (commands : List Command) (said : List Said)
+    → IsRun kind tells h ready count commands said now_ready now_count → count ≤ now_count
 run_later kind tells h ready count now_ready now_count [] [] run = let same = run.1 in omega arith
 run_later kind tells h ready count now_ready now_count [] (s ∷ said) run = absurd run
 run_later kind tells h ready count now_ready now_count (c ∷ commands) [] run = absurd run
@@ -106,17 +111,47 @@ run_later kind tells h ready count now_ready now_count (c ∷ commands) (s ∷ s
     let rest = run_later kind tells (after h c s) run.0 run.1 now_ready now_count commands said run.3 in let first = run.2.later in omega arith
 
 -- a run leaves a volume ready for no fewer cuts than it began with, but for those that were used up; or a count rose
-pub spent : (kind : Kind) (tells : Bool) (h : History) (ready count now_ready now_count : ℕ) (commands : List Command) (said : List Said) → IsRun kind tells h ready count commands said now_ready now_count
+pub spent : (kind : Kind) (tells : Bool) (h : History) (ready count now_ready now_count : ℕ) (commands : List Command) (said : List Said)
+    → IsRun kind tells h ready count commands said now_ready now_count
     → (ready ≤ now_ready + used_by_all kind.per_cut commands said) ⊎ Rose count now_count
 spent kind tells h ready count now_ready now_count [] [] run = inl (let same = run.0 in omega arith)
 spent kind tells h ready count now_ready now_count [] (s ∷ said) run = absurd run
 spent kind tells h ready count now_ready now_count (c ∷ commands) [] run = absurd run
 spent kind tells h ready count now_ready now_count (c ∷ commands) (s ∷ said) run =
     by_both run.2.ready_is (spent kind tells (after h c s) run.0 run.1 now_ready now_count commands said run.3) where
-      by_both : (ready ≤ run.0 + used_up kind.per_cut c s) ⊎ Rose count run.1 → (run.0 ≤ now_ready + used_by_all kind.per_cut commands said) ⊎ Rose run.1 now_count → (ready ≤ now_ready + (used_up kind.per_cut c s + used_by_all kind.per_cut commands said)) ⊎ Rose count now_count
+      by_both : (ready ≤ run.0 + used_up kind.per_cut c s) ⊎ Rose count run.1 → (run.0 ≤ now_ready + used_by_all kind.per_cut commands said) ⊎ Rose run.1 now_count
+          → (ready ≤ now_ready + (used_up kind.per_cut c s + used_by_all kind.per_cut commands said)) ⊎ Rose count now_count
       by_both (inl first) (inl rest) = inl (omega arith)
       by_both (inr first) rest = inr (later_rose count run.1 now_count run.2.later first (run_later kind tells (after h c s) run.0 run.1 now_ready now_count commands said run.3))
       by_both (inl first) (inr rest) = inr (earlier_rose rest) where
         earlier_rose : Rose run.1 now_count → Rose count now_count
         earlier_rose (inl less) = inl (let low = run.2.later in omega arith)
         earlier_rose (inr top) = inr top
+
+-- ## a cut that is refused
+
+run_split : (kind : Kind) (tells : Bool) (h : History) (ready count now_ready now_count : ℕ) (commands later : List Command) (said more : List Said) → length said ≡ length commands
+    → IsRun kind tells h ready count (commands ++ later) (said ++ more) now_ready now_count
+    → (then_ready : ℕ) × (then_count : ℕ) × IsRun kind tells h ready count commands said then_ready then_count × IsRun kind tells
+    (after_all h commands said) then_ready then_count later more now_ready now_count
+run_split kind tells h ready count now_ready now_count [] later [] more long run = (ready, count, (refl, refl), run)
+run_split kind tells h ready count now_ready now_count [] later (s ∷ said) more long run = absurd (omega arith)
+run_split kind tells h ready count now_ready now_count (c ∷ commands) later [] more long run = absurd (omega arith)
+run_split kind tells h ready count now_ready now_count (c ∷ commands) later (s ∷ said) more long run =
+    let rest = run_split kind tells (after h c s) run.0 run.1 now_ready now_count commands later said more (omega arith) run.3 in
+    (rest.0, rest.1, (run.0, run.1, run.2, rest.2), rest.3)
+
+-- the cause stands in the commands before
+pub refused_before : (kind : Kind) (tells : Bool) (h : History) (ready count : ℕ) (commands : List Command) (said : List Said) → IsRefused kind tells h ready count commands said
+    → AreUsedUp kind tells h ready count commands said
+refused_before kind tells h ready count commands said is =
+    let split = run_split kind tells h ready count is.now_ready is.now_count commands (Cut is.set ∷ is.later) said (NoMirror ∷ is.more) is.long is.run in
+    let none : split.0 ≡ 0 = split.3.2.reply in
+    let first : IsRun kind tells h ready count commands said 0 split.1 = subst (λ (k : ℕ). IsRun kind tells h ready count commands said k split.1) none split.2 in (
+      split.1,
+      first,
+      elim (spent kind tells h ready count 0 split.1 commands said first) [
+        | inl few ↦ inl (omega arith)
+        | inr rose ↦ inr rose
+      ],
+    )

@@ -1,6 +1,6 @@
 -- What a volume with images says to commands, against the history that it stands for: the definition's reply, or a fault of a device,
 -- or that no mirror is ready. (This project's own.)
-use Rattle.std.specs.Prelude.{ℕ, ◌≡◌, ◌<◌, ◌≤◌, ◌+◌, ◌⊎◌, ◌==◌, Bool, true, false, List, [], ◌∷◌, length, All, Option, Some, None}
+use Rattle.std.specs.Prelude.{ℕ, ◌≡◌, ◌<◌, ◌≤◌, ◌+◌, ◌⊎◌, ◌==◌, Bool, true, false, List, [], ◌∷◌, ◌++◌, length, All, Option, Some, None}
 use Rattle.std.specs.List.{list_all}
 use Rattle.vss_names.specs.Faults.{Rose}
 use Rattle.block_data.specs.Digest.{sha256}
@@ -177,3 +177,19 @@ abbrev pub used_by_all : ℕ → List Command → List Said → ℕ
 used_by_all per_cut [] said = 0
 used_by_all per_cut (c ∷ commands) [] = 0
 used_by_all per_cut (c ∷ commands) (s ∷ said) = used_up per_cut c s + used_by_all per_cut commands said
+
+-- a volume that was ready for so many cuts is ready for none after these commands: their cuts used them up, or the count of faults rose
+-- in one of these commands
+abbrev pub AreUsedUp : Kind → Bool → History → ℕ → ℕ → List Command → List Said → Type 0
+AreUsedUp kind tells h ready count commands said = (then_count : ℕ) × IsRun kind tells h ready count commands said 0 then_count
+    × ((ready ≤ used_by_all kind.per_cut commands said) ⊎ Rose count then_count)
+
+-- these commands, and then a cut that is refused, and others
+pub record IsRefused (kind : Kind) (tells : Bool) (h : History) (ready count : ℕ) (commands : List Command) (said : List Said) : Type 0 where
+  pub set : ℕ
+  pub later : List Command
+  pub more : List Said
+  pub now_ready : ℕ
+  pub now_count : ℕ
+  pub long : length said ≡ length commands
+  pub run : IsRun kind tells h ready count (commands ++ Cut set ∷ later) (said ++ NoMirror ∷ more) now_ready now_count

@@ -1,15 +1,19 @@
 -- How a mirror is brought into step with the primary again, block after block, the lowest stale block first. (This project's own.)
-use Rattle.std.specs.Prelude.{ℕ, ◌≡◌, ◌<◌, ◌⊎◌, false, List, [], ◌∷◌, Option, Some, None, IfSome, slice_get, slice_set, option_map, Result, Ok, Err}
+use Rattle.std.specs.Prelude.{ℕ, ◌≡◌, ◌<◌, ◌⊎◌, ◌==◌, if◌then◌else◌, false, List, [], ◌∷◌, Option, Some, None, IfSome, slice_get, slice_set, option_map, Result, Ok, Err}
 use Rattle.vss_names.specs.Faults.{Rose}
+use Rattle.vss_names.specs.declared.failed.Failed.{Failed}
 use Rattle.volume_device.specs.Blocks.{AreBlocks}
+use Rattle.cow_volume.specs.declared.cause.Cause.{Cause}
+use Rattle.cow_volume.specs.declared.image_fault.ImageFault.{ImageFault}
 use Rattle.mirror_volume.specs.declared.mirror.Mirror.{Mirror}
+use Rattle.mirror_volume.specs.declared.no_mirror.NoMirror.{NoMirror}
 use Rattle.mirror_volume.specs.declared.synced.Synced.{Synced}
 use Rattle.mirror_volume.specs.declared.synced.Synced.TheVariants.{Copied, InStep}
 use Rattle.mirror_volume.specs.declared.sync_fault.SyncFault.{SyncFault}
 use Rattle.mirror_volume.specs.declared.sync_fault.SyncFault.TheVariants.{HoldsImage, Volume}
 use Rattle.mirror_volume.specs.Stale.{IsLowestStale, stale_count}
 use Rattle.mirror_volume.specs.Mirrors.{MirrorValue}
-use Rattle.mirror_volume.specs.MirrorCalls.{IsQuietDevice}
+use Rattle.mirror_volume.specs.MirrorCalls.{IsQuietDevice, IsRead, IsImageRead, IsCut, IsDropped, IsQuiet, IsMirrorFlush}
 
 -- ## one block
 
@@ -96,7 +100,38 @@ stale_in (Some m) = stale_count m.stale
 abbrev pub stale_at : {D : Type 0} → MirrorValue D → ℕ → ℕ
 stale_at v k = stale_in (slice_get v.mirrors k)
 
--- steps on mirror k one after another, with their answers, lead from one state of a volume to another
-abbrev pub AreSynced : {D : Type 0} → (D → Option (List (List ℕ))) → (D → ℕ) → (D → ℕ) → ℕ → MirrorValue D → List (Result Synced SyncFault) → MirrorValue D → Type 0
-AreSynced told size count k old [] new = new ≡ old
-AreSynced {D = D} told size count k old (answer ∷ answers) new = (next : MirrorValue D) × IsSynced told size count old next k answer × AreSynced told size count k next answers new
+-- ## calls between the steps
+
+-- a call that is no write, with its answer
+pub data Call : Type 0 where
+  -- a step on a mirror
+  Step : ℕ → Result Synced SyncFault → Call
+  -- a read of a block into these bytes
+  Read : ℕ → List ℕ → Result Unit Cause → Call
+  -- a read of a block of the image of a set
+  ImageRead : ℕ → ℕ → List ℕ → Result Unit ImageFault → Call
+  Cut : ℕ → Result Unit NoMirror → Call
+  Drop : ℕ → Result Unit ImageFault → Call
+  -- a flush of the primary
+  Flush : Call
+  -- a flush of a mirror
+  MirrorFlush : ℕ → Result Unit Failed → Call
+
+abbrev pub IsCall : {D : Type 0} → (D → Option (List (List ℕ))) → (D → Option (List (List ℕ))) → (D → ℕ) → (D → ℕ) → MirrorValue D → Call → MirrorValue D → Type 0
+IsCall told lasting size count old (Step k answer) new = IsSynced told size count old new k answer
+IsCall told lasting size count old (Read b bytes result) new = IsRead told size count old new b bytes result
+IsCall told lasting size count old (ImageRead set b bytes result) new = IsImageRead told size count old new set b bytes result
+IsCall told lasting size count old (Cut set result) new = IsCut old new set result
+IsCall told lasting size count old (Drop set result) new = IsDropped old new set result
+IsCall told lasting size count old Flush new = IsQuiet told size count old new
+IsCall told lasting size count old (MirrorFlush k result) new = IsMirrorFlush told lasting size count old new k result
+
+-- calls one after another lead from one state of a volume to another
+abbrev pub AreCalls : {D : Type 0} → (D → Option (List (List ℕ))) → (D → Option (List (List ℕ))) → (D → ℕ) → (D → ℕ) → MirrorValue D → List Call → MirrorValue D → Type 0
+AreCalls told lasting size count old [] new = new ≡ old
+AreCalls {D = D} told lasting size count old (call ∷ calls) new = (next : MirrorValue D) × IsCall told lasting size count old call next × AreCalls told lasting size count next calls new
+
+-- how many blocks of mirror k a call copied
+abbrev pub copied_on : ℕ → Call → ℕ
+copied_on k (Step j answer) = if j == k then copied_by answer else 0
+copied_on k _ = 0

@@ -66,9 +66,21 @@ impl Catalog {
         Ok(Catalog { entries })
     }
 
-    /// The catalog that bytes say.
-    #[tactic(auto, unfolding(crate::specs::Reading::catalog_in))]
+    /// The catalog that bytes say. Its lists are such as `CowGroup::resume` takes.
     pub fn decode(alloc: Global, bytes: &[u8]) -> Result<Catalog, CatalogFault>
+        ensures ok { IfOk result (λ catalog. catalog_in bytes.now ≡ Ok catalog) }
+        ensures refused { IfErr result (λ fault. Tells fault (catalog_in bytes.now)) }
+        ensures memory { IsErrOf result CatalogFault.OutOfMemory → IsTrue (is_sealed bytes.now) }
+        ensures allowed { IfOk result (λ catalog. IsCatalog catalog) }
+    {
+        match Catalog::read(alloc, bytes) {
+            Ok(catalog) => Ok(catalog),
+            Err(fault) => Err(fault),
+        }
+    }
+
+    #[tactic(auto, unfolding(crate::specs::Reading::catalog_in))]
+    fn read(alloc: Global, bytes: &[u8]) -> Result<Catalog, CatalogFault>
         ensures ok { IfOk result (λ catalog. catalog_in bytes.now ≡ Ok catalog) }
         ensures refused { IfErr result (λ fault. Tells fault (catalog_in bytes.now)) }
         ensures memory { IsErrOf result CatalogFault.OutOfMemory → IsTrue (is_sealed bytes.now) }

@@ -21,4 +21,4 @@ mod writing;
 
 pub use catalog::Catalog;
 pub use catalog_fault::CatalogFault;
-pub use limits::{MOST_BLOCKS, MOST_IMAGES, MOST_NAME, MOST_VOLUMES};
+pub use limits::{MOST_IMAGES, MOST_NAME};

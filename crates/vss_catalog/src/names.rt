@@ -1,24 +1,14 @@
 ghost use Rattle.std.specs.Prelude.{◌≡◌, ◌<◌, ◌≤◌, length, slice_get, Some, IsTrue};
 ghost use Rattle.std.specs.List.{list_all};
-ghost use Rattle.vss_catalog.specs.Names.{is_letter, is_name_byte, is_name, are_names, bytes_in};
+ghost use Rattle.vss_catalog.specs.Names.{is_name_byte, is_name, are_names, bytes_in};
 
 use crate::limits::MOST_NAME;
 use vss_names::Text;
 
-fn is_letter(byte: u8) -> bool
-    ensures { result ≡ is_letter byte }
-{
-    (b'A' <= byte && byte <= b'Z') || (b'a' <= byte && byte <= b'z')
-}
-
 fn is_name_byte(byte: u8) -> bool
     ensures { result ≡ is_name_byte byte }
 {
-    is_letter(byte)
-        || (b'0' <= byte && byte <= b'9')
-        || byte == b'_'
-        || byte == b'-'
-        || byte == b'.'
+    byte.is_ascii_alphanumeric() || byte == b'_' || byte == b'-' || byte == b'.'
 }
 
 fn are_name_bytes(name: &[u8]) -> bool
@@ -33,7 +23,7 @@ pub fn is_name(name: &[u8]) -> bool
     ensures value { result ≡ is_name name.now }
     ensures short { IsTrue result → length name.now ≤ MOST_NAME }
 {
-    if name.is_empty() || name.len() > MOST_NAME as usize || !is_letter(name[0]) {
+    if name.is_empty() || name.len() > MOST_NAME as usize || !name[0].is_ascii_alphabetic() {
         return false;
     }
     are_name_bytes(name)

@@ -5,10 +5,11 @@ ghost use Rattle.vss_catalog.specs.Reading.{Tells, number_in, name_of_length, na
 
 use crate::catalog_fault::CatalogFault;
 use crate::entry::Entry;
-use crate::limits::{MOST_BLOCKS, MOST_IMAGES, MOST_NAME, MOST_VOLUMES};
+use crate::limits::{MOST_IMAGES, MOST_NAME};
 use crate::names::is_name;
 use block_data::digest;
 use byteorder::{ByteOrder, LittleEndian};
+use diff_area::{MOST_BLOCKS, MOST_VOLUMES};
 use std::alloc::Global;
 use vss_names::Numbers;
 

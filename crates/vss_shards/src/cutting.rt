@@ -7,7 +7,8 @@ use crate::collect_fault::CollectFault;
 use crate::draft::Draft;
 use crate::image_point::ImagePoint;
 use crate::part::Part;
-use crate::shard::{MOST_IMAGES, Shard};
+use crate::shard::Shard;
+use diff_map::MOST_IMAGES;
 use volume_device::Device;
 
 /// Holds a shard for a cut, and adds its part to the draft: the number of its next image, and the length of its list, which cannot

@@ -8,6 +8,7 @@ use crate::entry::Entry;
 use crate::image_point::ImagePoint;
 use crate::part::Part;
 use cow_volume::CowVolume;
+use diff_map::MOST_IMAGES;
 use std::alloc::Global;
 use std::marker::Model;
 use volume_device::Device;
@@ -15,9 +16,6 @@ use vss_names::OutOfMemory;
 
 /// How many entries a list or the journal may have.
 pub(crate) const MOST_ENTRIES: usize = 1_048_576;
-
-/// How many images a shard may have.
-pub(crate) const MOST_IMAGES: usize = 512;
 
 /// A volume with the list of its entries and the points of its images. While it is held for a cut it is not written. Contracts see its
 /// number, its volume, its entries, its images with their points, the last number of an image, and the part for which it is held.

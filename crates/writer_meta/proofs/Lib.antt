@@ -1,3 +1,4 @@
+pub mod Allowed
 pub mod Inversions
 pub mod Laws
 pub mod Lists

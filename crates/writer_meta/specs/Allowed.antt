@@ -1,5 +1,5 @@
 -- The metadata that the format allows: those that some document says. (This project's own format.)
-use Rattle.std.specs.Prelude.{◌≡◌, ◌<◌, ◌≤◌, ◌^◌, ◌&&◌, Bool, [], length, IsTrue, None}
+use Rattle.std.specs.Prelude.{◌≡◌, ◌<◌, ◌≤◌, ◌^◌, ◌&&◌, Bool, List, [], length, IsTrue, None}
 use Rattle.std.specs.List.{list_all}
 use Rattle.writer_meta.specs.Metadata.{Part, Meta}
 use Rattle.writer_meta.specs.Values.{is_writer_name, is_component_name, is_path, is_freeze_timeout}
@@ -7,6 +7,12 @@ use Rattle.writer_meta.specs.Document.{double_after}
 
 abbrev pub is_allowed_part : Part → Bool
 is_allowed_part part = is_path part.path && is_component_name part.name
+
+-- at most 1,024 components, each of an allowed path and name, no two of one full name
+pub record AreAllowedParts (parts : List Part) : Type 0 where
+  pub few : length parts ≤ 1024
+  pub each : IsTrue (list_all is_allowed_part parts)
+  pub distinct : double_after [] parts ≡ None
 
 -- a class of sixteen bytes, names and paths of the allowed bytes and lengths, a time-out that a writer may state, and
 -- at most 1,024 components, no two of one full name

@@ -6,7 +6,7 @@ ghost use Rattle.writer_meta.specs.Document.{part_in, rows_of_part};
 use crate::field::Field;
 use crate::meta_fault::MetaFault;
 use crate::utf8::str_of;
-use crate::{rows, unknown};
+use crate::{rows, unknown, values};
 use serde_json::{Value, json};
 use std::alloc::Global;
 use vss_names::{ComponentType, OutOfMemory, Text};
@@ -39,6 +39,13 @@ impl Component {
         name.add(b"\\")?;
         name.add(self.name.bytes())?;
         Ok(name)
+    }
+
+    /// Whether the format allows its path and its name.
+    pub(crate) fn is_allowed(&self) -> bool
+        ensures { result ≡ is_allowed_part (part_of self.now) }
+    {
+        values::is_path(self.path.bytes()) && values::is_component_name(self.name.bytes())
     }
 
     /// A component of its own, equal to this one.

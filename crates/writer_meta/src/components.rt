@@ -1,4 +1,4 @@
-ghost use Rattle.std.specs.Prelude.{◌≡◌, List, map, IfOk, IfErr};
+ghost use Rattle.std.specs.Prelude.{◌≡◌, ◌↔◌, List, map, IfOk, IfErr};
 ghost use Rattle.writer_meta.specs.declared.component.Component.{Component};
 
 use crate::component::Component;
@@ -28,7 +28,7 @@ impl Components {
     ghost use Rattle.std.specs.List.{list_all};
     ghost use Rattle.serde_json.specs.Data.{array};
     ghost use Rattle.serde_json.specs.View.{view, items_view};
-    ghost use Rattle.writer_meta.specs.Allowed.{is_allowed_part};
+    ghost use Rattle.writer_meta.specs.Allowed.{is_allowed_part, AreAllowedParts};
     ghost use Rattle.writer_meta.specs.Written.{parts_data};
     ghost use Rattle.writer_meta.specs.Metadata.{part_of};
     ghost use Rattle.writer_meta.specs.Refusal.{Tells};
@@ -55,6 +55,32 @@ impl Components {
         Ok(Components {
             items: Components::copies_of(alloc, &self.items)?,
         })
+    }
+
+    /// Whether the format allows them: their number, each path and name, and that no two have one full name.
+    pub(crate) fn are_allowed(&self, alloc: Global) -> Result<bool, OutOfMemory>
+        ensures { IfOk result (λ allowed. IsTrue allowed ↔ AreAllowedParts (map part_of self.now)) }
+    {
+        if self.items.len() > MOST_COMPONENTS {
+            return Ok(false);
+        }
+        if !Components::each_part_is_allowed(&self.items) {
+            return Ok(false);
+        }
+        let double = first_double(alloc, &self.items)?;
+        Ok(double.is_none())
+    }
+
+    fn each_part_is_allowed(components: &[Component]) -> bool
+        ensures { result ≡ list_all is_allowed_part (map part_of components.now) }
+    {
+        Components::each_is_allowed(components)
+    }
+
+    fn each_is_allowed(components: &[Component]) -> bool
+        ensures { result ≡ list_all (λ (c : Component). is_allowed_part (part_of c)) components.now }
+    {
+        components.iter().all(|component| component.is_allowed())
     }
 
     /// The components that the items of a document's list are.

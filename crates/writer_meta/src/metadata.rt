@@ -1,4 +1,4 @@
-ghost use Rattle.std.specs.Prelude.{◌≡◌, ◌≤◌, length, ok_or, Some, IfOk, IfErr};
+ghost use Rattle.std.specs.Prelude.{◌≡◌, ◌≤◌, ◌↔◌, length, ok_or, Some, IfOk, IfErr, IsTrue};
 ghost use Rattle.serde_json.specs.View.{view};
 ghost use Rattle.writer_meta.specs.Refusal.{Tells, IsNotJson};
 ghost use Rattle.writer_meta.specs.Document.{rows_of_meta, meta_in, value_of_text, metadata_in};
@@ -8,7 +8,7 @@ use crate::components::Components;
 use crate::field::Field;
 use crate::meta_fault::MetaFault;
 use crate::utf8::str_of;
-use crate::{rows, unknown};
+use crate::{rows, unknown, values};
 use serde_json::{Map, Value, put};
 use std::alloc::Global;
 use uuid::Uuid;
@@ -42,6 +42,20 @@ impl Metadata {
     {
         let value = value_of(alloc, text)?;
         Metadata::from_value(alloc, &value)
+    }
+
+    /// Whether the format allows the metadata, as `to_json` asks.
+    pub fn is_allowed(&self, alloc: Global) -> Result<bool, OutOfMemory>
+        ensures { IfOk result (λ allowed. IsTrue allowed ↔ IsAllowed (meta_of self.now)) }
+    {
+        let _class = self.class;
+        if !values::is_writer_name(self.name.bytes()) {
+            return Ok(false);
+        }
+        if !values::is_freeze_timeout(self.freeze_timeout) {
+            return Ok(false);
+        }
+        self.components.are_allowed(alloc)
     }
 
     /// The document of the metadata: compact JSON with all members, in byte order of their names. `from_json` gives the

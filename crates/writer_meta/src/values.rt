@@ -35,13 +35,13 @@ fn has_backslash(name: &[u8]) -> bool
     name.contains(&b'\\')
 }
 
-fn is_writer_name(name: &[u8]) -> bool
+pub(crate) fn is_writer_name(name: &[u8]) -> bool
     ensures { result ≡ is_writer_name name.now }
 {
     1 <= name.len() && name.len() <= MOST_WRITER_NAME && are_printable(name)
 }
 
-fn is_component_name(name: &[u8]) -> bool
+pub(crate) fn is_component_name(name: &[u8]) -> bool
     ensures { result ≡ is_component_name name.now }
 {
     1 <= name.len()
@@ -64,7 +64,7 @@ fn has_double_backslash(path: &[u8]) -> bool
     false
 }
 
-fn is_path(path: &[u8]) -> bool
+pub(crate) fn is_path(path: &[u8]) -> bool
     ensures { result ≡ is_path path.now }
 {
     path.len() <= MOST_PATH
@@ -72,6 +72,12 @@ fn is_path(path: &[u8]) -> bool
         && !path.starts_with(b"\\")
         && !path.ends_with(b"\\")
         && !has_double_backslash(path)
+}
+
+pub(crate) fn is_freeze_timeout(ticks: u32) -> bool
+    ensures { result ≡ is_freeze_timeout ticks }
+{
+    1 <= ticks && ticks <= DEFAULT_FREEZE
 }
 
 pub(crate) fn class_of(value: &Value) -> Option<u128>

@@ -4,11 +4,13 @@ use Rattle.cow_volume.proofs.ending.flush_one.Goals as goal
 
 pub returns-in-Ok-clause-quiet : goal.returns-in-Ok-clause-quiet
 returns-in-Ok-clause-quiet g c = λ copies.
-    quiet_called g.D.Device.told g.D.Device.size g.D.Device.count g.D.Device.lending c.args.v c.args.devices.now.items c.flush_device.new.devices.items false copies c.in-Ok.ensures.call c.in-Ok.ensures.told_is
+    quiet_called g.D.Device.told g.D.Device.size g.D.Device.count g.D.Device.lending c.args.v c.args.devices.now.items c.flush_device.new.devices.items false copies c.in-Ok.ensures.call
+    c.in-Ok.ensures.told_is
 
 pub returns-in-Err-clause-quiet : goal.returns-in-Err-clause-quiet
 returns-in-Err-clause-quiet g c = λ copies.
-    quiet_called g.D.Device.told g.D.Device.size g.D.Device.count g.D.Device.lending c.args.v c.args.devices.now.items c.flush_device.new.devices.items true copies c.in-Err.ensures.call c.in-Err.ensures.told_is
+    quiet_called g.D.Device.told g.D.Device.size g.D.Device.count g.D.Device.lending c.args.v c.args.devices.now.items c.flush_device.new.devices.items true copies c.in-Err.ensures.call
+    c.in-Err.ensures.told_is
 
 pub returns-in-Err-clause-rose : goal.returns-in-Err-clause-rose
 returns-in-Err-clause-rose g c = λ copies.
@@ -16,7 +18,8 @@ returns-in-Err-clause-rose g c = λ copies.
 
 pub returns-in-Ok-clause-same : goal.returns-in-Ok-clause-same
 returns-in-Ok-clause-same g c = λ copies.
-    unfailed_called g.D.Device.told g.D.Device.size g.D.Device.count g.D.Device.lending c.args.v c.args.devices.now.items c.flush_device.new.devices.items false copies copies c.in-Ok.ensures.call refl refl
+    unfailed_called g.D.Device.told g.D.Device.size g.D.Device.count g.D.Device.lending c.args.v c.args.devices.now.items c.flush_device.new.devices.items false copies copies c.in-Ok.ensures.call
+    refl refl
 
 pub returns-in-Ok-clause-lasts : goal.returns-in-Ok-clause-lasts
 returns-in-Ok-clause-lasts g c = λ d is.

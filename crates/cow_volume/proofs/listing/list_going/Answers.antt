@@ -20,6 +20,7 @@ list_set-requires g c =
 pub loop-set-preserved : goal.loop-set-preserved
 loop-set-preserved g c = record {
   within = c.next_set-set.ensures.within;
-  listed = c.list_set.ensures.told ∙ ap (λ (xs : List Evicted). xs ++ evicted_of c.next_set-set.result (holders c.next_set-set.result 0 c.args.copies.now.images)) c.loop-set.invariant.listed ∙ sym (next_is c.args.copies.now.images c.loop-set.set c.args.up_to c.next_set-set.result c.next_set-set.ensures);
+  listed = c.list_set.ensures.told ∙ ap (λ (xs : List Evicted). xs ++ evicted_of c.next_set-set.result (holders c.next_set-set.result 0 c.args.copies.now.images)) c.loop-set.invariant.listed
+      ∙ sym (next_is c.args.copies.now.images c.loop-set.set c.args.up_to c.next_set-set.result c.next_set-set.ensures);
   space = c.list_set.ensures.space ∙ c.loop-set.invariant.space;
 }

@@ -12,7 +12,8 @@ pub clear_record-requires : goal.clear_record-requires
 clear_record-requires g c =
     let zero_entry : Entry = record { block = 0; set = 0; slot = 0 } in
     let i = c.loop-entry.entry-index in
-    slot_within c.args.area.now c.loop-entry.area c.args.v (rule_of c.args.going) c.args.entries.now i (get_or c.args.entries.now i zero_entry) c.requires (entry_at c.args.entries.now i zero_entry c.loop-entry-test.true) c.loop-entry.invariant
+    slot_within c.args.area.now c.loop-entry.area c.args.v (rule_of c.args.going) c.args.entries.now i (get_or c.args.entries.now i zero_entry) c.requires
+    (entry_at c.args.entries.now i zero_entry c.loop-entry-test.true) c.loop-entry.invariant
 
 pub loop-entry-preserved : goal.loop-entry-preserved
 loop-entry-preserved g c =
@@ -21,8 +22,12 @@ loop-entry-preserved g c =
     let e : Entry = get_or c.args.entries.now i zero_entry in
     let at = entry_at c.args.entries.now i zero_entry c.loop-entry-test.true in
     elim c.if-takes.branch [
-      | then-takes w ↦ rw w.area-is (step_set c.args.area.now c.loop-entry.area w.clear_record.new.self c.args.v (rule_of c.args.going) c.args.entries.now i e _ at c.loop-entry.invariant w.clear_record.ensures (ap (record_for c.args.v) (rule_takes c.args.going (copy_of e.set e.block) (sym c.takes.ensures ∙ w.if-takes.true))))
-      | else-takes w ↦ rw w.area-is (step_kept c.args.area.now c.loop-entry.area c.args.v (rule_of c.args.going) c.args.entries.now i e c.requires at c.loop-entry.invariant (rule_leaves c.args.going (copy_of e.set e.block) (sym c.takes.ensures ∙ w.if-takes.false)))
+      | then-takes w ↦ rw w.area-is
+          (step_set c.args.area.now c.loop-entry.area w.clear_record.new.self c.args.v (rule_of c.args.going) c.args.entries.now i e _ at c.loop-entry.invariant w.clear_record.ensures
+          (ap (record_for c.args.v) (rule_takes c.args.going (copy_of e.set e.block) (sym c.takes.ensures ∙ w.if-takes.true))))
+      | else-takes w ↦ rw w.area-is
+          (step_kept c.args.area.now c.loop-entry.area c.args.v (rule_of c.args.going) c.args.entries.now i e c.requires at c.loop-entry.invariant
+          (rule_leaves c.args.going (copy_of e.set e.block) (sym c.takes.ensures ∙ w.if-takes.false)))
     ]
 
 pub returns : goal.returns

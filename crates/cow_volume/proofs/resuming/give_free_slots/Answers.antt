@@ -10,8 +10,11 @@ give-requires g c = is_taken c.args.area.now.records c.loop-slot.slot c.record_a
 
 pub loop-slot-preserved : goal.loop-slot-preserved
 loop-slot-preserved g c = elim c.if-is_free.branch [
-  | then-is_free w ↦ rw w.pool-is (slot_given c.args.area.now.records c.loop-slot.slot c.record_at.result c.loop-slot.pool w.give.new.self c.record_at.ensures (sym c.is_free.ensures ∙ w.if-is_free.true) c.loop-slot.invariant w.give.ensures)
-  | else-is_free w ↦ rw w.pool-is (slot_kept c.args.area.now.records c.loop-slot.slot c.record_at.result c.loop-slot.pool c.record_at.ensures (sym c.is_free.ensures ∙ w.if-is_free.false) c.loop-slot.invariant)
+  | then-is_free w ↦ rw w.pool-is
+      (slot_given c.args.area.now.records c.loop-slot.slot c.record_at.result c.loop-slot.pool w.give.new.self c.record_at.ensures
+      (sym c.is_free.ensures ∙ w.if-is_free.true) c.loop-slot.invariant w.give.ensures)
+  | else-is_free w ↦ rw w.pool-is
+      (slot_kept c.args.area.now.records c.loop-slot.slot c.record_at.result c.loop-slot.pool c.record_at.ensures (sym c.is_free.ensures ∙ w.if-is_free.false) c.loop-slot.invariant)
 ]
 
 pub returns : goal.returns

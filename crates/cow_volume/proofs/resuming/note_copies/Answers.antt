@@ -31,7 +31,8 @@ note_for-requires-clause-image g c =
     let low = its.volume in
     let number = c.loop-slot.invariant.up.number in
     let at = slice_get_read c.loop-slot.maps.items (length c.loop-slot.maps.items) r.volume c.index_mut-map.result.now refl (omega arith) c.index_mut-map.ensures.value in
-    map_has_image c.args.area.now.volumes c.args.area.now.records c.args.images.now c.loop-slot.slot c.index_mut-map.result.now r (c.lacks_image.ensures.has c.if-lacks_image.false) is_used (c.loop-slot.invariant.up.each r.volume c.index_mut-map.result.now at)
+    map_has_image c.args.area.now.volumes c.args.area.now.records c.args.images.now c.loop-slot.slot c.index_mut-map.result.now r (c.lacks_image.ensures.has c.if-lacks_image.false) is_used
+    (c.loop-slot.invariant.up.each r.volume c.index_mut-map.result.now at)
 
 pub note_for-requires-clause-in_range : goal.note_for-requires-clause-in_range
 note_for-requires-clause-in_range g c =
@@ -41,7 +42,8 @@ note_for-requires-clause-in_range g c =
     let low = its.volume in
     let number = c.loop-slot.invariant.up.number in
     let at = slice_get_read c.loop-slot.maps.items (length c.loop-slot.maps.items) r.volume c.index_mut-map.result.now refl (omega arith) c.index_mut-map.ensures.value in
-    map_in_range c.args.area.now.volumes c.args.area.now.records c.args.images.now c.loop-slot.slot c.index_mut-map.result.now r c.slots-slot-end.ensures.valid c.record_at-row.ensures is_used (c.loop-slot.invariant.up.each r.volume c.index_mut-map.result.now at)
+    map_in_range c.args.area.now.volumes c.args.area.now.records c.args.images.now c.loop-slot.slot c.index_mut-map.result.now r c.slots-slot-end.ensures.valid c.record_at-row.ensures is_used
+    (c.loop-slot.invariant.up.each r.volume c.index_mut-map.result.now at)
 
 pub note_for-requires-clause-lacks : goal.note_for-requires-clause-lacks
 note_for-requires-clause-lacks g c =
@@ -51,7 +53,8 @@ note_for-requires-clause-lacks g c =
     let low = its.volume in
     let number = c.loop-slot.invariant.up.number in
     let at = slice_get_read c.loop-slot.maps.items (length c.loop-slot.maps.items) r.volume c.index_mut-map.result.now refl (omega arith) c.index_mut-map.ensures.value in
-    map_lacks c.args.area.now.volumes c.args.area.now.records c.args.images.now c.loop-slot.slot c.index_mut-map.result.now r c.slots-slot-end.ensures.valid c.record_at-row.ensures is_used (c.loop-slot.invariant.up.each r.volume c.index_mut-map.result.now at)
+    map_lacks c.args.area.now.volumes c.args.area.now.records c.args.images.now c.loop-slot.slot c.index_mut-map.result.now r c.slots-slot-end.ensures.valid c.record_at-row.ensures is_used
+    (c.loop-slot.invariant.up.each r.volume c.index_mut-map.result.now at)
 
 pub note_for-requires-clause-unnoted : goal.note_for-requires-clause-unnoted
 note_for-requires-clause-unnoted g c =
@@ -61,7 +64,8 @@ note_for-requires-clause-unnoted g c =
     let low = its.volume in
     let number = c.loop-slot.invariant.up.number in
     let at = slice_get_read c.loop-slot.maps.items (length c.loop-slot.maps.items) r.volume c.index_mut-map.result.now refl (omega arith) c.index_mut-map.ensures.value in
-    map_unnoted c.args.area.now.volumes c.args.area.now.records c.args.images.now c.loop-slot.slot r.volume c.index_mut-map.result.now r c.record_at-row.ensures (c.loop-slot.invariant.up.each r.volume c.index_mut-map.result.now at)
+    map_unnoted c.args.area.now.volumes c.args.area.now.records c.args.images.now c.loop-slot.slot r.volume c.index_mut-map.result.now r c.record_at-row.ensures
+    (c.loop-slot.invariant.up.each r.volume c.index_mut-map.result.now at)
 
 pub loop-slot-preserved : goal.loop-slot-preserved
 loop-slot-preserved g c =
@@ -76,11 +80,14 @@ loop-slot-preserved g c =
           let number = c.loop-slot.invariant.up.number in
           let at = slice_get_read c.loop-slot.maps.items (length c.loop-slot.maps.items) r.volume w.index_mut-map.result.now refl (omega arith) w.index_mut-map.ensures.value in
           rw w.maps-is (record {
-            up = maps_noted c.args.area.now.volumes c.args.area.now.records c.args.images.now c.loop-slot.slot (length c.args.area.now.volumes) c.loop-slot.maps.items _ w.index_mut-map.result.now w.note_for.new.self r are c.record_at-row.ensures is_used c.loop-slot.invariant.up at w.note_for.ensures w.images-facts.ensures.valid refl;
+            up = maps_noted c.args.area.now.volumes c.args.area.now.records c.args.images.now c.loop-slot.slot
+                (length c.args.area.now.volumes) c.loop-slot.maps.items _ w.index_mut-map.result.now w.note_for.new.self r are c.record_at-row.ensures is_used
+                c.loop-slot.invariant.up at w.note_for.ensures w.images-facts.ensures.valid refl;
             has = has;
           }))
       | else-not-is_free w ↦ rw w.maps-is (record {
-        up = maps_same c.args.area.now.volumes c.args.area.now.records c.args.images.now c.loop-slot.slot (length c.args.area.now.volumes) c.loop-slot.maps.items r c.record_at-row.ensures (sym c.is_free.ensures ∙ w.if-not-is_free.false) c.loop-slot.invariant.up;
+        up = maps_same c.args.area.now.volumes c.args.area.now.records c.args.images.now c.loop-slot.slot (length c.args.area.now.volumes) c.loop-slot.maps.items r c.record_at-row.ensures
+            (sym c.is_free.ensures ∙ w.if-not-is_free.false) c.loop-slot.invariant.up;
         has = has;
       })
     ]

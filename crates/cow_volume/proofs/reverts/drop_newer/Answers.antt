@@ -12,7 +12,8 @@ loop-newest-smaller g c = fewer_left c.loop-newest.copies c.merge_image.new.copi
 
 pub loop-newest-preserved : goal.loop-newest-preserved
 loop-newest-preserved g c =
-    merging_more g.D.Device.told c.args.copies.now c.loop-newest.copies c.merge_image.new.copies c.args.v c.args.set c.in-Some.newest c.loop-newest.invariant c.in-Some.ensures.newer c.in-Some.ensures.image c.merge_image.ensures.merged c.merge_image.ensures.stands
+    merging_more g.D.Device.told c.args.copies.now c.loop-newest.copies c.merge_image.new.copies c.args.v c.args.set c.in-Some.newest c.loop-newest.invariant c.in-Some.ensures.newer
+    c.in-Some.ensures.image c.merge_image.ensures.merged c.merge_image.ensures.stands
 
 pub returns : goal.returns
 returns g c = merging_end g.D.Device.told c.args.copies.now c.loop-newest.copies c.args.v c.args.set c.loop-newest.invariant c.requires.volume (c.in_default.ensures.none refl)

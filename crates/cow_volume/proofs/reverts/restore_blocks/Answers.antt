@@ -14,7 +14,8 @@ restore_block-requires-clause-volume g c = subst (λ (ns : List ℕ). c.args.v <
 
 pub restore_block-requires-clause-devices : goal.restore_block-requires-clause-devices
 restore_block-requires-clause-devices g c =
-    sizes_kept g.D.Device.told g.D.Device.size g.D.Device.count g.D.Device.lending (group_of c.args.devices.now.items c.args.copies.now) (group_of c.loop-block.devices.items c.loop-block.copies) c.loop-block.invariant.keeps.kept c.requires.devices
+    sizes_kept g.D.Device.told g.D.Device.size g.D.Device.count g.D.Device.lending (group_of c.args.devices.now.items c.args.copies.now)
+    (group_of c.loop-block.devices.items c.loop-block.copies) c.loop-block.invariant.keeps.kept c.requires.devices
 
 pub restore_block-requires-clause-in_range : goal.restore_block-requires-clause-in_range
 restore_block-requires-clause-in_range g c =
@@ -24,7 +25,8 @@ restore_block-requires-clause-in_range g c =
 
 pub loop-block-init : goal.loop-block-init
 loop-block-init g c = record {
-  done = λ mid m. restoring_start g.D.Device.told g.D.Device.size g.D.Device.count g.D.Device.lending (group_of c.args.devices.now.items (merged_as mid c.args.copies.now)) c.args.v c.args.set c.requires.volume m.gone.most;
+  done = λ mid m. restoring_start g.D.Device.told g.D.Device.size g.D.Device.count g.D.Device.lending
+      (group_of c.args.devices.now.items (merged_as mid c.args.copies.now)) c.args.v c.args.set c.requires.volume m.gone.most;
   keeps = keeps_itself g.D.Device.told g.D.Device.size g.D.Device.count g.D.Device.lending (group_of c.args.devices.now.items c.args.copies.now);
   unfailed = unfailed_itself g.D.Device.count (group_of c.args.devices.now.items c.args.copies.now);
   few = omega arith;
@@ -38,13 +40,19 @@ loop-block-preserved g c =
     let more = c.from-restored.ensures in
     let few = c.loop-block.invariant.few in
     record {
-      done = λ mid m. restoring_one g.D.Device.told g.D.Device.size g.D.Device.count g.D.Device.lending (group_of c.args.devices.now.items (merged_as mid c.args.copies.now)) (group_of c.loop-block.devices.items (merged_as mid c.loop-block.copies)) (group_of c.restore_block.new.devices.items (merged_as mid c.restore_block.new.copies))
-          c.args.v c.args.set c.loop-block.block c.loop-block.restored c.in-Ok.has_copy c.from-restored.result c.requires.volume m.gone.most here c.requires.above_zero c.from-restored.ensures (c.loop-block.invariant.done mid m)
-          (one_merged g.D.Device.told g.D.Device.size g.D.Device.count g.D.Device.lending c.loop-block.devices.items c.restore_block.new.devices.items c.args.copies.now mid c.loop-block.copies c.restore_block.new.copies c.args.v c.args.set c.loop-block.block (Ok c.in-Ok.has_copy) m c.loop-block.invariant.keeps.records c.in-Ok.ensures);
-      keeps = keeps_one g.D.Device.told g.D.Device.size g.D.Device.count g.D.Device.lending (group_of c.args.devices.now.items c.args.copies.now) (group_of c.loop-block.devices.items c.loop-block.copies) (group_of c.restore_block.new.devices.items c.restore_block.new.copies)
+      done = λ mid m. restoring_one g.D.Device.told g.D.Device.size g.D.Device.count g.D.Device.lending (group_of c.args.devices.now.items (merged_as mid c.args.copies.now))
+          (group_of c.loop-block.devices.items (merged_as mid c.loop-block.copies)) (group_of c.restore_block.new.devices.items (merged_as mid c.restore_block.new.copies))
+          c.args.v c.args.set c.loop-block.block c.loop-block.restored c.in-Ok.has_copy c.from-restored.result c.requires.volume m.gone.most here c.requires.above_zero c.from-restored.ensures
+          (c.loop-block.invariant.done mid m)
+          (one_merged g.D.Device.told g.D.Device.size g.D.Device.count g.D.Device.lending c.loop-block.devices.items c.restore_block.new.devices.items c.args.copies.now mid c.loop-block.copies
+          c.restore_block.new.copies c.args.v c.args.set c.loop-block.block (Ok c.in-Ok.has_copy) m c.loop-block.invariant.keeps.records c.in-Ok.ensures);
+      keeps = keeps_one g.D.Device.told g.D.Device.size g.D.Device.count g.D.Device.lending (group_of c.args.devices.now.items c.args.copies.now)
+          (group_of c.loop-block.devices.items c.loop-block.copies) (group_of c.restore_block.new.devices.items c.restore_block.new.copies)
           c.args.v c.args.set c.loop-block.block (Ok c.in-Ok.has_copy) c.loop-block.invariant.keeps c.in-Ok.ensures;
-      unfailed = unfailed_further g.D.Device.count (group_of c.args.devices.now.items c.args.copies.now) (group_of c.loop-block.devices.items c.loop-block.copies) (group_of c.restore_block.new.devices.items c.restore_block.new.copies) c.loop-block.invariant.unfailed
-          (one_unfailed g.D.Device.told g.D.Device.size g.D.Device.count g.D.Device.lending (group_of c.loop-block.devices.items c.loop-block.copies) (group_of c.restore_block.new.devices.items c.restore_block.new.copies) c.args.v c.args.set c.loop-block.block c.in-Ok.has_copy c.in-Ok.ensures);
+      unfailed = unfailed_further g.D.Device.count (group_of c.args.devices.now.items c.args.copies.now) (group_of c.loop-block.devices.items c.loop-block.copies)
+          (group_of c.restore_block.new.devices.items c.restore_block.new.copies) c.loop-block.invariant.unfailed
+          (one_unfailed g.D.Device.told g.D.Device.size g.D.Device.count g.D.Device.lending (group_of c.loop-block.devices.items c.loop-block.copies)
+          (group_of c.restore_block.new.devices.items c.restore_block.new.copies) c.args.v c.args.set c.loop-block.block c.in-Ok.has_copy c.in-Ok.ensures);
       few = omega arith;
     }
 
@@ -52,12 +60,15 @@ pub returns-in-Err-clause-restored : goal.returns-in-Err-clause-restored
 returns-in-Err-clause-restored g c = λ mid m.
     let l = c.loop-block-test.true in
     let here = in_range_of c.args.copies.now.area.volumes c.args.v c.loop-block.block c.blocks-block-end.result c.blocks-block-end.ensures (omega arith) in
-    restoring_stops g.D.Device.told g.D.Device.size g.D.Device.count g.D.Device.lending (group_of c.args.devices.now.items (merged_as mid c.args.copies.now)) (group_of c.loop-block.devices.items (merged_as mid c.loop-block.copies)) (group_of c.restore_block.new.devices.items (merged_as mid c.restore_block.new.copies))
+    restoring_stops g.D.Device.told g.D.Device.size g.D.Device.count g.D.Device.lending (group_of c.args.devices.now.items (merged_as mid c.args.copies.now))
+    (group_of c.loop-block.devices.items (merged_as mid c.loop-block.copies)) (group_of c.restore_block.new.devices.items (merged_as mid c.restore_block.new.copies))
     c.args.v c.args.set c.loop-block.block c.loop-block.restored c.in-Err.cause c.requires.volume m.gone.most here c.requires.above_zero (c.loop-block.invariant.done mid m)
     (record { devices = c.loop-block.invariant.unfailed.devices; area = c.loop-block.invariant.unfailed.area })
-    (one_merged g.D.Device.told g.D.Device.size g.D.Device.count g.D.Device.lending c.loop-block.devices.items c.restore_block.new.devices.items c.args.copies.now mid c.loop-block.copies c.restore_block.new.copies c.args.v c.args.set c.loop-block.block (Err c.in-Err.cause) m c.loop-block.invariant.keeps.records c.in-Err.ensures)
+    (one_merged g.D.Device.told g.D.Device.size g.D.Device.count g.D.Device.lending c.loop-block.devices.items c.restore_block.new.devices.items c.args.copies.now mid c.loop-block.copies
+    c.restore_block.new.copies c.args.v c.args.set c.loop-block.block (Err c.in-Err.cause) m c.loop-block.invariant.keeps.records c.in-Err.ensures)
 
 pub returns-in-Err-clause-keeps : goal.returns-in-Err-clause-keeps
 returns-in-Err-clause-keeps g c =
-    keeps_one g.D.Device.told g.D.Device.size g.D.Device.count g.D.Device.lending (group_of c.args.devices.now.items c.args.copies.now) (group_of c.loop-block.devices.items c.loop-block.copies) (group_of c.restore_block.new.devices.items c.restore_block.new.copies)
+    keeps_one g.D.Device.told g.D.Device.size g.D.Device.count g.D.Device.lending (group_of c.args.devices.now.items c.args.copies.now) (group_of c.loop-block.devices.items c.loop-block.copies)
+    (group_of c.restore_block.new.devices.items c.restore_block.new.copies)
     c.args.v c.args.set c.loop-block.block (Err c.in-Err.cause) c.loop-block.invariant.keeps c.in-Err.ensures

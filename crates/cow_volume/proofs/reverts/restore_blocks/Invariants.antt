@@ -9,7 +9,8 @@ use Rattle.cow_volume.proofs.reverts.restore_blocks.Given as goal
 abbrev pub invariant-loop-block : goal.invariant-loop-block
 invariant-loop-block g l = record {
   done : (mid : CopiesValue g.row.D.Denot) → IsMergedTo g.D.Device.told l.fn.copies mid l.v l.set
-      → AreRestored g.D.Device.told g.D.Device.size g.D.Device.count g.D.Device.lending (group_of l.fn.devices.items (merged_as mid l.fn.copies)) (group_of l.devices.items (merged_as mid l.copies)) l.v l.set l.block l.restored;
+      → AreRestored g.D.Device.told g.D.Device.size g.D.Device.count g.D.Device.lending (group_of l.fn.devices.items (merged_as mid l.fn.copies))
+      (group_of l.devices.items (merged_as mid l.copies)) l.v l.set l.block l.restored;
   keeps : KeepsCopies g.D.Device.told g.D.Device.size g.D.Device.count g.D.Device.lending (group_of l.fn.devices.items l.fn.copies) (group_of l.devices.items l.copies);
   unfailed : IsUnfailed g.D.Device.count (group_of l.fn.devices.items l.fn.copies) (group_of l.devices.items l.copies);
   few : l.restored ≤ l.block;

@@ -12,7 +12,8 @@ clear_from-requires-clause-volume g c = subst (λ (ns : List ℕ). c.args.v < le
 pub clear_from-requires-clause-image : goal.clear_from-requires-clause-image
 clear_from-requires-clause-image g c =
     let image = sym c.has_image.ensures.among ∙ c.if-not-has_image.false in
-    contains_of c.args.set (images_on c.restore_blocks.new.copies c.args.v) (ap (λ (ss : List (List ℕ)). is_among c.args.set (sets_in (slice_get ss c.args.v))) c.restore_blocks.ensures.keeps.images ∙ image)
+    contains_of c.args.set (images_on c.restore_blocks.new.copies c.args.v)
+    (ap (λ (ss : List (List ℕ)). is_among c.args.set (sets_in (slice_get ss c.args.v))) c.restore_blocks.ensures.keeps.images ∙ image)
 
 pub drop_newer-requires-clause-volume : goal.drop_newer-requires-clause-volume
 drop_newer-requires-clause-volume g c = subst (λ (ns : List ℕ). c.args.v < length ns) (sym c.restore_blocks.ensures.keeps.kept.volumes) c.requires.volume
@@ -25,12 +26,15 @@ drop_newer-requires-clause-image g c =
 pub returns-in-Ok : goal.returns-in-Ok
 returns-in-Ok g c =
     let image = sym c.has_image.ensures.among ∙ c.if-not-has_image.false in
-    let mid = mergeable g.D.Device.told c.args.copies.now c.args.v c.args.set c.requires.volume image (c.has_image.ensures.above c.if-not-has_image.false) c.volumes-facts.ensures.of_images c.slots-facts.ensures.valid in
-    restored_then_cleared g.D.Device.told g.D.Device.size g.D.Device.count g.D.Device.lending c.args.devices.now.items c.restore_blocks.new.devices.items c.args.copies.now mid.mid c.restore_blocks.new.copies c.clear_from.new.self c.args.v c.args.set tt
+    let mid = mergeable g.D.Device.told c.args.copies.now c.args.v c.args.set c.requires.volume image
+    (c.has_image.ensures.above c.if-not-has_image.false) c.volumes-facts.ensures.of_images c.slots-facts.ensures.valid in
+    restored_then_cleared g.D.Device.told g.D.Device.size g.D.Device.count g.D.Device.lending c.args.devices.now.items c.restore_blocks.new.devices.items c.args.copies.now mid.mid
+    c.restore_blocks.new.copies c.clear_from.new.self c.args.v c.args.set tt
     c.requires.volume image mid.merged_to (c.in-Ok.ensures.restored mid.mid mid.merged_to) c.in-Ok.ensures.keeps c.clear_from.ensures
 
 pub returns-in-Err : goal.returns-in-Err
 returns-in-Err g c =
     let image = sym c.has_image.ensures.among ∙ c.if-not-has_image.false in
-    stopped_then_merged g.D.Device.told g.D.Device.size g.D.Device.count g.D.Device.lending c.args.devices.now.items c.restore_blocks.new.devices.items c.args.copies.now c.restore_blocks.new.copies c.drop_newer.new.copies c.args.v c.args.set c.in-Err.fault
+    stopped_then_merged g.D.Device.told g.D.Device.size g.D.Device.count g.D.Device.lending c.args.devices.now.items c.restore_blocks.new.devices.items c.args.copies.now c.restore_blocks.new.copies
+    c.drop_newer.new.copies c.args.v c.args.set c.in-Err.fault
     c.requires.volume image c.in-Err.ensures.restored c.in-Err.ensures.keeps c.drop_newer.ensures

@@ -35,7 +35,8 @@ invariant_of-self g c =
     let has : Contains m.images c.args.set = subst (λ (s : List ℕ). Contains s c.args.set) (ap sets_in (images_at c.self.inside.maps.items c.args.v m at)) there in
     let n_is = c.clear_from.ensures.map in
     let rules = clear_rules c.self.inside.area.records c.args.v c.args.set m.images are has in
-    let tied = tied_after c.self.inside.area.volumes c.self.inside.area.records c.self.inside.maps.items c.self.inside.pool c.clear_from.new.pool c.args.v m c.clear_from.new.self (cleared_rule c.args.set) (cleared_row c.args.v c.args.set)
+    let tied = tied_after c.self.inside.area.volumes c.self.inside.area.records c.self.inside.maps.items c.self.inside.pool c.clear_from.new.pool c.args.v m c.clear_from.new.self
+    (cleared_rule c.args.set) (cleared_row c.args.v c.args.set)
     c.self.invariant at (ap (λ x. x.copies) n_is) (ap (λ x. x.blocks) n_is) c.images-facts-2.ensures.valid c.clear_from.ensures.slots rules in
     rw (follows_map c.self.inside.area c.free_records.new.area c.args.v m c.clear_from.new.self (cleared_rule c.args.set) copies (ap (λ x. x.copies) n_is) c.free_records.ensures) tied
 

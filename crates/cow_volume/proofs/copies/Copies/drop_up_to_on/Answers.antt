@@ -31,7 +31,8 @@ invariant_of-self g c =
     let at = map_at _ _ _ _ _ _ c.self.invariant within c.index_mut-map.ensures.value in
     let copies = (c.self.invariant.each c.args.v m at).copies in
     let n_is = c.drop_up_to.ensures.map in
-    let tied = tied_after c.self.inside.area.volumes c.self.inside.area.records c.self.inside.maps.items c.self.inside.pool c.drop_up_to.new.pool c.args.v m c.drop_up_to.new.self (gone_rule c.args.set) (gone_on_row c.args.v c.args.set)
+    let tied = tied_after c.self.inside.area.volumes c.self.inside.area.records c.self.inside.maps.items c.self.inside.pool c.drop_up_to.new.pool c.args.v m c.drop_up_to.new.self
+    (gone_rule c.args.set) (gone_on_row c.args.v c.args.set)
     c.self.invariant at (ap (λ x. x.copies) n_is) (ap (λ x. x.blocks) n_is) c.images-facts-2.ensures.valid c.drop_up_to.ensures.slots (rule-gone c.self.inside.area.records c.args.v c.args.set) in
     rw (follows_map c.self.inside.area c.free_records.new.area c.args.v m c.drop_up_to.new.self (gone_rule c.args.set) copies (ap (λ x. x.copies) n_is) c.free_records.ensures) tied
 

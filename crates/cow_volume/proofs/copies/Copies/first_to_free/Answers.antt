@@ -15,10 +15,12 @@ pub loop-u-preserved : goal.loop-u-preserved
 loop-u-preserved g c =
     let records = c.args.self.now.area.records in
     let sets = images_on c.args.self.now c.args.v in
-    subst (λ (n : ℕ). IsLeastSoFar records sets n (c.loop-u.u + 1)) (sym c.lesser-least.ensures) (first_more records sets c.loop-u.least c.loop-u.u c.oldest_used.result c.loop-u.invariant c.oldest_used.ensures)
+    subst (λ (n : ℕ). IsLeastSoFar records sets n (c.loop-u.u + 1)) (sym c.lesser-least.ensures)
+    (first_more records sets c.loop-u.least c.loop-u.u c.oldest_used.result c.loop-u.invariant c.oldest_used.ensures)
 
 pub returns : goal.returns
 returns g c =
     let test = c.loop-u-test.false in
     let end = c.volumes-u-end.ensures.volumes in
-    first_all c.args.self.now.area.volumes c.args.self.now.area.records (images_on c.args.self.now c.args.v) c.loop-u.least c.loop-u.u c.slots-facts.ensures.valid c.requires.full c.loop-u.invariant (omega arith)
+    first_all c.args.self.now.area.volumes c.args.self.now.area.records (images_on c.args.self.now c.args.v) c.loop-u.least c.loop-u.u c.slots-facts.ensures.valid c.requires.full c.loop-u.invariant
+    (omega arith)

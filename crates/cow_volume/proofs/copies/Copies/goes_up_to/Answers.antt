@@ -22,4 +22,5 @@ first_to_free-requires-clause-full g c =
     and_right (lacks_copy now.area.records c.args.v (images_on now c.args.v) c.args.block) (is_full now.area.records) lacks
 
 pub returns : goal.returns
-returns g c = room_made_by c.args.self.now c.args.v c.args.block c.first_to_free.result c.slots-facts.ensures.valid c.volumes-facts.ensures.images c.volumes-facts.ensures.of_images c.requires (sym c.lacks_slot.ensures ∙ c.if-not-lacks_slot.false) c.first_to_free.ensures
+returns g c = room_made_by c.args.self.now c.args.v c.args.block c.first_to_free.result c.slots-facts.ensures.valid c.volumes-facts.ensures.images c.volumes-facts.ensures.of_images c.requires
+    (sym c.lacks_slot.ensures ∙ c.if-not-lacks_slot.false) c.first_to_free.ensures

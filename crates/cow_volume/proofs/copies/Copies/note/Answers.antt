@@ -37,7 +37,8 @@ note-requires-clause-lacks g c =
     let m = c.index_mut-map.result.now in
     let at = map_at _ _ _ _ _ _ c.self.invariant within c.index_mut-map.ensures.value in
     let lacks = rw (← c.self.view_is) at c.requires.lacks in
-    lacks_row c.self.inside.area.records m.copies c.args.v m.images c.args.block (c.self.invariant.each c.args.v m at).copies (noted_lacks c.self.inside.area.records c.self.inside.maps.items c.args.v c.args.block m at lacks)
+    lacks_row c.self.inside.area.records m.copies c.args.v m.images c.args.block (c.self.invariant.each c.args.v m at).copies
+    (noted_lacks c.self.inside.area.records c.self.inside.maps.items c.args.v c.args.block m at lacks)
 
 pub note-requires-clause-unnoted : goal.note-requires-clause-unnoted
 note-requires-clause-unnoted g c =
@@ -71,7 +72,8 @@ set_record-requires-clause-once g c =
     let at = map_at _ _ _ _ _ _ c.self.invariant within c.index_mut-map.ensures.value in
     let lacks = rw (← c.self.view_is) at c.requires.lacks in
     let set_is : c.newest-set.result ≡ newest m.images = c.newest-set.ensures ∙ ap newest c.images.ensures.images in
-    λ other h. absurd (lacks_record c.self.inside.area.records c.args.v m.images c.args.block other (noted_lacks c.self.inside.area.records c.self.inside.maps.items c.args.v c.args.block m at lacks) (rw set_is at h))
+    λ other h. absurd (lacks_record c.self.inside.area.records c.args.v m.images c.args.block other (noted_lacks c.self.inside.area.records c.self.inside.maps.items c.args.v c.args.block m at lacks)
+    (rw set_is at h))
 
 pub invariant_of-self : goal.invariant_of-self
 invariant_of-self g c =
@@ -84,8 +86,10 @@ invariant_of-self g c =
     let set_is : c.newest-set.result ≡ newest m.images = c.newest-set.ensures ∙ ap newest c.images.ensures.images in
     let pooled = rw (← c.self.invariant.pool_is) at low in
     let taken = taken_lowest c.take-taken.result c.self.inside.pool c.take-taken.new.self c.args.slot pooled c.take-taken.ensures.lowest c.take-taken.ensures.taken c.take-taken.ensures.none in
-    let tied = tied_noted c.self.inside.area.volumes c.self.inside.area.records c.self.inside.maps.items c.self.inside.pool c.take-taken.new.self c.args.v c.args.slot (newest m.images) c.args.block m c.note.new.self
-    c.self.invariant at (free_slot_is c.self.inside.area.records c.args.slot low) (newest_above m.images c.images.ensures.valid.images some) (ap (λ x. x.blocks) c.note.ensures) (ap (λ x. x.copies) c.note.ensures) c.images-facts.ensures.valid taken in
+    let tied = tied_noted c.self.inside.area.volumes c.self.inside.area.records c.self.inside.maps.items c.self.inside.pool c.take-taken.new.self c.args.v c.args.slot
+    (newest m.images) c.args.block m c.note.new.self
+    c.self.invariant at (free_slot_is c.self.inside.area.records c.args.slot low) (newest_above m.images c.images.ensures.valid.images some) (ap (λ x. x.blocks) c.note.ensures)
+    (ap (λ x. x.copies) c.note.ensures) c.images-facts.ensures.valid taken in
     rw (c.set_record.ensures, set_is) tied
 
 pub returns : goal.returns
@@ -94,5 +98,6 @@ returns g c =
     let m = c.index_mut-map.result.now in
     let at = map_at _ _ _ _ _ _ c.self.invariant within c.index_mut-map.ensures.value in
     let set_is : c.newest-set.result ≡ newest m.images = c.newest-set.ensures ∙ ap newest c.images.ensures.images in
-    let is = note_is c.self.inside.area c.set_record.new.self c.self.inside.maps.items c.args.v c.args.block c.args.slot c.newest-set.result m c.note.new.self at (ap (λ x. x.images) c.note.ensures) set_is c.set_record.ensures in
+    let is = note_is c.self.inside.area c.set_record.new.self c.self.inside.maps.items c.args.v c.args.block c.args.slot c.newest-set.result m c.note.new.self at
+    (ap (λ x. x.images) c.note.ensures) set_is c.set_record.ensures in
     rw (← c.self.view_is) is

@@ -7,4 +7,5 @@ returns g c =
     let within = rw (← c.self.view_is) at c.requires in
     let m = c.index.result.now in
     let at = map_at _ _ _ _ _ _ c.self.invariant within c.index.ensures in
-    rw (← c.self.view_is) (oldest_on c.oldest_used.result m.copies c.self.inside.area.records c.args.v (c.self.invariant.each c.args.v m at).copies c.oldest_used.ensures.found c.oldest_used.ensures.none)
+    rw (← c.self.view_is)
+    (oldest_on c.oldest_used.result m.copies c.self.inside.area.records c.args.v (c.self.invariant.each c.args.v m at).copies c.oldest_used.ensures.found c.oldest_used.ensures.none)

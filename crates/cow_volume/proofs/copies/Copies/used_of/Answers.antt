@@ -15,14 +15,16 @@ used_by-requires g c =
     let within = rw (← c.self.view_is) at c.requires.volume in
     let m = c.index-map.result.now in
     let at = map_at _ _ _ _ _ _ c.self.invariant within c.index-map.ensures in
-    subst (λ (sets : List ℕ). Contains sets c.args.set) (ap (λ (x : CopiesValue _). images_on x c.args.v) (sym c.self.view_is) ∙ ap sets_in (images_at c.self.inside.maps.items c.args.v m at)) c.requires.image
+    subst (λ (sets : List ℕ). Contains sets c.args.set)
+    (ap (λ (x : CopiesValue _). images_on x c.args.v) (sym c.self.view_is) ∙ ap sets_in (images_at c.self.inside.maps.items c.args.v m at)) c.requires.image
 
 pub returns : goal.returns
 returns g c =
     let within = rw (← c.self.view_is) at c.requires.volume in
     let m = c.index-map.result.now in
     let at = map_at _ _ _ _ _ _ c.self.invariant within c.index-map.ensures in
-    let image = subst (λ (sets : List ℕ). Contains sets c.args.set) (ap (λ (x : CopiesValue _). images_on x c.args.v) (sym c.self.view_is) ∙ ap sets_in (images_at c.self.inside.maps.items c.args.v m at)) c.requires.image in
+    let image = subst (λ (sets : List ℕ). Contains sets c.args.set)
+    (ap (λ (x : CopiesValue _). images_on x c.args.v) (sym c.self.view_is) ∙ ap sets_in (images_at c.self.inside.maps.items c.args.v m at)) c.requires.image in
     let some = (All-contains (λ image. (0 < image) × (image < 4294967296)) m.images c.args.set c.images-facts.ensures.valid.images.above_zero image).0 in
     let count : c.used_by.result ≡ count_of c.args.v c.args.set c.self.inside.area.records =
     c.used_by.ensures ∙ ap (λ (cs : List (Option Copied)). used_for cs c.args.set) (c.self.invariant.each c.args.v m at).copies ∙ used_of c.args.v c.args.set c.self.inside.area.records some in

@@ -20,7 +20,9 @@ returns-clause-stands g c =
     let within = rw (← c.self.view_is) at c.requires.volume in
     let room = rw (← c.self.view_is) at c.requires.room in
     let newest = rw (← c.self.view_is) at c.requires.newest in
-    let stands : (hs : List History) → StandsFor g.D.Device.told (group_of c.self.inside.devices.items c.self.inside.copies) hs → StandsFor g.D.Device.told (group_of c.self.inside.devices.items c.add_image.new.self) (changed_at c.args.v (cut_at c.args.set) hs) =
-    λ hs stood. group_cut g.D.Device.told (group_of c.self.inside.devices.items c.self.inside.copies) (group_of c.self.inside.devices.items c.add_image.new.self) hs c.args.v c.args.set stood within newest c.requires.above_zero room
+    let stands : (hs : List History) → StandsFor g.D.Device.told (group_of c.self.inside.devices.items c.self.inside.copies) hs
+    → StandsFor g.D.Device.told (group_of c.self.inside.devices.items c.add_image.new.self) (changed_at c.args.v (cut_at c.args.set) hs) =
+    λ hs stood. group_cut g.D.Device.told (group_of c.self.inside.devices.items c.self.inside.copies)
+    (group_of c.self.inside.devices.items c.add_image.new.self) hs c.args.v c.args.set stood within newest c.requires.above_zero room
     refl (ap (λ x. x.images) c.add_image.ensures) (ap (λ x. x.area) c.add_image.ensures) in
     rw (← c.self.view_is) stands

@@ -9,7 +9,8 @@ invariant_of-self g c = c.self.invariant ∙ ap (λ x. x.area.volumes) (sym c.dr
 pub returns-clause-room : goal.returns-clause-room
 returns-clause-room g c =
     let low = rw (← c.self.view_is) at c.requires.in_range in
-    let room = room_is g.D.Device.told c.self.inside.devices.items c.self.inside.copies c.drop_up_to.new.self c.args.v c.args.block c.goes_up_to-up_to.result c.slots-facts.ensures.valid c.volumes-facts.ensures.of_images low c.goes_up_to-up_to.ensures c.drop_up_to.ensures in
+    let room = room_is g.D.Device.told c.self.inside.devices.items c.self.inside.copies c.drop_up_to.new.self c.args.v c.args.block c.goes_up_to-up_to.result c.slots-facts.ensures.valid
+    c.volumes-facts.ensures.of_images low c.goes_up_to-up_to.ensures c.drop_up_to.ensures in
     rw (← c.self.view_is) room
 
 pub returns-clause-few : goal.returns-clause-few

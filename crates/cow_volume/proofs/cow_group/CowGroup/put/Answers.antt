@@ -10,14 +10,17 @@ use Rattle.cow_volume.proofs.cow_group.CowGroup.put.Goals as goal
 
 pub write_first-requires-clause-lacks : goal.write_first-requires-clause-lacks
 write_first-requires-clause-lacks g c =
-    let is : lacks_copy c.self.inside.copies.area.records c.args.v (sets_at (group_of c.self.inside.devices.items c.self.inside.copies) c.args.v) c.args.block ≡ true = sym c.lacks_copy.ensures ∙ c.if-lacks_copy.true in
+    let is : lacks_copy c.self.inside.copies.area.records c.args.v (sets_at (group_of c.self.inside.devices.items c.self.inside.copies) c.args.v) c.args.block ≡ true = sym c.lacks_copy.ensures
+    ∙ c.if-lacks_copy.true in
     rw (← c.self.view_is) is
 
 pub write_first-requires-clause-room : goal.write_first-requires-clause-room
 write_first-requires-clause-room g c =
-    let is : lacks_copy c.self.inside.copies.area.records c.args.v (sets_at (group_of c.self.inside.devices.items c.self.inside.copies) c.args.v) c.args.block ≡ true = sym c.lacks_copy.ensures ∙ c.if-lacks_copy.true in
+    let is : lacks_copy c.self.inside.copies.area.records c.args.v (sets_at (group_of c.self.inside.devices.items c.self.inside.copies) c.args.v) c.args.block ≡ true = sym c.lacks_copy.ensures
+    ∙ c.if-lacks_copy.true in
     let room = rw (← c.self.view_is) at c.requires.room in
-    let rest = and_rest (lacks_copy c.self.inside.copies.area.records c.args.v (sets_at (group_of c.self.inside.devices.items c.self.inside.copies) c.args.v) c.args.block) (is_full c.self.inside.copies.area.records) is room in
+    let rest = and_rest (lacks_copy c.self.inside.copies.area.records c.args.v (sets_at (group_of c.self.inside.devices.items c.self.inside.copies) c.args.v) c.args.block)
+    (is_full c.self.inside.copies.area.records) is room in
     rw (← c.self.view_is) rest
 
 pub returns-then-lacks_copy-clause-put : goal.returns-then-lacks_copy-clause-put
@@ -44,7 +47,8 @@ invariant_of-self g c =
     let copies = c.self.inside.copies in
     let d = c.index_mut-device.result.now in
     let at = device_at g.D.Device.size devices copies.area.volumes c.args.v d c.self.invariant within c.index_mut-device.ensures.value in
-    fits_set g.D.Device.size devices copies.area.volumes c.args.v d c.put_block.new.device c.self.invariant at (put_size g.D.Device.told g.D.Device.size g.D.Device.count g.D.Device.lending d c.put_block.new.device c.args.block (payload_bytes c.args.payload.now) c.put_block.result c.put_block.ensures)
+    fits_set g.D.Device.size devices copies.area.volumes c.args.v d c.put_block.new.device c.self.invariant at
+    (put_size g.D.Device.told g.D.Device.size g.D.Device.count g.D.Device.lending d c.put_block.new.device c.args.block (payload_bytes c.args.payload.now) c.put_block.result c.put_block.ensures)
 
 pub returns-clause-put : goal.returns-clause-put
 returns-clause-put g c =
@@ -55,10 +59,12 @@ returns-clause-put g c =
     let d = c.index_mut-device.result.now in
     let at = device_at g.D.Device.size devices copies.area.volumes c.args.v d c.self.invariant within c.index_mut-device.ensures.value in
     let has : lacks_copy copies.area.records c.args.v (sets_at (group_of devices copies) c.args.v) c.args.block ≡ false = sym c.lacks_copy.ensures ∙ c.if-lacks_copy.false in
-    let is = put_again g.D.Device.told g.D.Device.size g.D.Device.count g.D.Device.lending devices copies c.args.v d (record { block = c.args.block; bytes = payload_bytes c.args.payload.now }) low at c.put_block.new.device c.put_block.result has c.put_block.ensures in
+    let is = put_again g.D.Device.told g.D.Device.size g.D.Device.count g.D.Device.lending devices copies c.args.v d
+    (record { block = c.args.block; bytes = payload_bytes c.args.payload.now }) low at c.put_block.new.device c.put_block.result has c.put_block.ensures in
     rw (← c.self.view_is) is
 
 pub returns-clause-once : goal.returns-clause-once
 returns-clause-once g c =
-    let same : IsCopiedOnce g.D.Device.told (group_of c.self.inside.devices.items c.self.inside.copies) (group_of (slice_set c.self.inside.devices.items c.args.v c.put_block.new.device) c.self.inside.copies) c.args.v c.args.block = inl refl in
+    let same : IsCopiedOnce g.D.Device.told (group_of c.self.inside.devices.items c.self.inside.copies)
+    (group_of (slice_set c.self.inside.devices.items c.args.v c.put_block.new.device) c.self.inside.copies) c.args.v c.args.block = inl refl in
     rw (← c.self.view_is) same

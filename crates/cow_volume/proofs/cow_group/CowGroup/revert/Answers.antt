@@ -4,4 +4,5 @@ use Rattle.cow_volume.proofs.cow_group.CowGroup.revert.Goals as goal
 
 pub invariant_of-self : goal.invariant_of-self
 invariant_of-self g c =
-    sizes_reverted g.D.Device.told g.D.Device.size g.D.Device.count g.D.Device.lending (group_of c.self.inside.devices.items c.self.inside.copies) (group_of c.revert.new.devices.items c.revert.new.copies) c.args.v c.args.set c.revert.result c.revert.ensures c.self.invariant
+    sizes_reverted g.D.Device.told g.D.Device.size g.D.Device.count g.D.Device.lending (group_of c.self.inside.devices.items c.self.inside.copies)
+    (group_of c.revert.new.devices.items c.revert.new.copies) c.args.v c.args.set c.revert.result c.revert.ensures c.self.invariant

@@ -13,7 +13,8 @@ pub returns-then-not-has_image : goal.returns-then-not-has_image
 returns-then-not-has_image g c =
     let within = rw (← c.self.view_is) at c.requires in
     let none : is_among c.args.set (sets_at (group_of c.self.inside.devices.items c.self.inside.copies) c.args.v) ≡ false = sym c.has_image.ensures.among ∙ c.if-not-has_image.true in
-    let is : (hs : List History) → StandsFor g.D.Device.told (group_of c.self.inside.devices.items c.self.inside.copies) hs → None ≡ used_by (blocks_at (group_of c.self.inside.devices.items c.self.inside.copies) c.args.v) (history_at hs c.args.v).writes (history_at hs c.args.v).images c.args.set =
+    let is : (hs : List History) → StandsFor g.D.Device.told (group_of c.self.inside.devices.items c.self.inside.copies) hs
+    → None ≡ used_by (blocks_at (group_of c.self.inside.devices.items c.self.inside.copies) c.args.v) (history_at hs c.args.v).writes (history_at hs c.args.v).images c.args.set =
     λ hs stood. group_not_used_by g.D.Device.told (group_of c.self.inside.devices.items c.self.inside.copies) hs c.args.v c.args.set stood within none in
     rw (← c.self.view_is) is
 
@@ -24,6 +25,8 @@ pub returns : goal.returns
 returns g c =
     let within = rw (← c.self.view_is) at c.requires in
     let image : is_among c.args.set (sets_at (group_of c.self.inside.devices.items c.self.inside.copies) c.args.v) ≡ true = sym c.has_image.ensures.among ∙ c.if-not-has_image.false in
-    let is : (hs : List History) → StandsFor g.D.Device.told (group_of c.self.inside.devices.items c.self.inside.copies) hs → Some c.used_of.result ≡ used_by (blocks_at (group_of c.self.inside.devices.items c.self.inside.copies) c.args.v) (history_at hs c.args.v).writes (history_at hs c.args.v).images c.args.set =
-    λ hs stood. ap (λ (n : ℕ). Some n) c.used_of.ensures ∙ group_used_by g.D.Device.told (group_of c.self.inside.devices.items c.self.inside.copies) hs c.args.v c.args.set stood c.slots-facts.ensures.valid within image in
+    let is : (hs : List History) → StandsFor g.D.Device.told (group_of c.self.inside.devices.items c.self.inside.copies) hs
+    → Some c.used_of.result ≡ used_by (blocks_at (group_of c.self.inside.devices.items c.self.inside.copies) c.args.v) (history_at hs c.args.v).writes (history_at hs c.args.v).images c.args.set =
+    λ hs stood. ap (λ (n : ℕ). Some n) c.used_of.ensures
+    ∙ group_used_by g.D.Device.told (group_of c.self.inside.devices.items c.self.inside.copies) hs c.args.v c.args.set stood c.slots-facts.ensures.valid within image in
     rw (← c.self.view_is) is

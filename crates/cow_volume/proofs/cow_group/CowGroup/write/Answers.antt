@@ -35,19 +35,25 @@ pub returns-in-Ok-clause-write : goal.returns-in-Ok-clause-write
 returns-in-Ok-clause-write g c =
     let low = within_blocks c.self.inside.devices.items c.self.inside.copies c.args.v c.args.block c.blocks-2.result c.blocks-2.ensures c.if-block-blocks.false in
     let now : c.args.block < blocks_at c.args.self.now c.args.v = rw (← c.self.view_is) low in
-    is_written g.D.Device.told g.D.Device.size g.D.Device.count g.D.Device.lending c.args.self.now c.drop_for-evicted_up_to.new.self c.put.new.self c.args.v (record { block = c.args.block; bytes = payload_bytes c.args.payload.now }) c.drop_for-evicted_up_to.result now c.drop_for-evicted_up_to.ensures.left c.drop_for-evicted_up_to.ensures.evicted c.drop_for-evicted_up_to.ensures.stands c.in-Ok.ensures.put
+    is_written g.D.Device.told g.D.Device.size g.D.Device.count g.D.Device.lending c.args.self.now c.drop_for-evicted_up_to.new.self c.put.new.self c.args.v
+    (record { block = c.args.block; bytes = payload_bytes c.args.payload.now }) c.drop_for-evicted_up_to.result now c.drop_for-evicted_up_to.ensures.left c.drop_for-evicted_up_to.ensures.evicted
+    c.drop_for-evicted_up_to.ensures.stands c.in-Ok.ensures.put
 
 pub returns-in-Err-clause-write : goal.returns-in-Err-clause-write
 returns-in-Err-clause-write g c =
     let low = within_blocks c.self.inside.devices.items c.self.inside.copies c.args.v c.args.block c.blocks-2.result c.blocks-2.ensures c.if-block-blocks.false in
     let now : c.args.block < blocks_at c.args.self.now c.args.v = rw (← c.self.view_is) low in
-    is_unwritten g.D.Device.told g.D.Device.size g.D.Device.count g.D.Device.lending c.args.self.now c.drop_for-evicted_up_to.new.self c.put.new.self c.args.v (record { block = c.args.block; bytes = payload_bytes c.args.payload.now }) c.drop_for-evicted_up_to.result now c.drop_for-evicted_up_to.ensures.left c.drop_for-evicted_up_to.ensures.evicted c.drop_for-evicted_up_to.ensures.stands c.in-Err.cause c.in-Err.ensures.put
+    is_unwritten g.D.Device.told g.D.Device.size g.D.Device.count g.D.Device.lending c.args.self.now c.drop_for-evicted_up_to.new.self c.put.new.self c.args.v
+    (record { block = c.args.block; bytes = payload_bytes c.args.payload.now }) c.drop_for-evicted_up_to.result now c.drop_for-evicted_up_to.ensures.left c.drop_for-evicted_up_to.ensures.evicted
+    c.drop_for-evicted_up_to.ensures.stands c.in-Err.cause c.in-Err.ensures.put
 
 pub returns-then-block-blocks-clause-once : goal.returns-then-block-blocks-clause-once
 returns-then-block-blocks-clause-once g c = inl refl
 
 pub returns-in-Ok-clause-once : goal.returns-in-Ok-clause-once
-returns-in-Ok-clause-once g c = once_with_room g.D.Device.told c.args.self.now c.drop_for-evicted_up_to.new.self c.put.new.self c.args.v c.args.block c.drop_for-evicted_up_to.result c.drop_for-evicted_up_to.ensures.left c.drop_for-evicted_up_to.ensures.lacked c.put.ensures.once
+returns-in-Ok-clause-once g c = once_with_room g.D.Device.told c.args.self.now c.drop_for-evicted_up_to.new.self c.put.new.self c.args.v c.args.block c.drop_for-evicted_up_to.result
+    c.drop_for-evicted_up_to.ensures.left c.drop_for-evicted_up_to.ensures.lacked c.put.ensures.once
 
 pub returns-in-Err-clause-once : goal.returns-in-Err-clause-once
-returns-in-Err-clause-once g c = once_with_room g.D.Device.told c.args.self.now c.drop_for-evicted_up_to.new.self c.put.new.self c.args.v c.args.block c.drop_for-evicted_up_to.result c.drop_for-evicted_up_to.ensures.left c.drop_for-evicted_up_to.ensures.lacked c.put.ensures.once
+returns-in-Err-clause-once g c = once_with_room g.D.Device.told c.args.self.now c.drop_for-evicted_up_to.new.self c.put.new.self c.args.v c.args.block c.drop_for-evicted_up_to.result
+    c.drop_for-evicted_up_to.ensures.left c.drop_for-evicted_up_to.ensures.lacked c.put.ensures.once

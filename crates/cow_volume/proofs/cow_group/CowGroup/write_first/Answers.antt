@@ -41,7 +41,8 @@ invariant_of-self g c =
     let copies = c.self.inside.copies in
     let d = c.index_mut-device.result.now in
     let at = device_at g.D.Device.size devices copies.area.volumes c.args.v d c.self.invariant within c.index_mut-device.ensures.value in
-    fits_set g.D.Device.size devices copies.area.volumes c.args.v d c.copy_block.new.device c.self.invariant at c.in_err-copy_block.ensures.device_on.size_is ∙ sym c.in_err-copy_block.ensures.area_on.volumes
+    fits_set g.D.Device.size devices copies.area.volumes c.args.v d c.copy_block.new.device c.self.invariant at c.in_err-copy_block.ensures.device_on.size_is
+    ∙ sym c.in_err-copy_block.ensures.area_on.volumes
 
 pub returns-in_err-copy_block-clause-put : goal.returns-in_err-copy_block-clause-put
 returns-in_err-copy_block-clause-put g c =
@@ -52,7 +53,8 @@ returns-in_err-copy_block-clause-put g c =
     let d = c.index_mut-device.result.now in
     let at = device_at g.D.Device.size devices copies.area.volumes c.args.v d c.self.invariant within c.index_mut-device.ensures.value in
     let p = err_from_is_err_and c.from_residual.result c.from_residual.ensures.1 in
-    let is = not_copied g.D.Device.told g.D.Device.size g.D.Device.count g.D.Device.lending devices copies c.args.v d (record { block = c.args.block; bytes = payload_bytes c.args.payload.now }) low at c.copy_block.new.device c.copy_block.new.copies _ c.in_err-copy_block.ensures in
+    let is = not_copied g.D.Device.told g.D.Device.size g.D.Device.count g.D.Device.lending devices copies c.args.v d
+    (record { block = c.args.block; bytes = payload_bytes c.args.payload.now }) low at c.copy_block.new.device c.copy_block.new.copies _ c.in_err-copy_block.ensures in
     rw (p.1, p.2, ← c.self.view_is) is
 
 pub put_block-requires : goal.put_block-requires
@@ -76,7 +78,8 @@ invariant_of-self-in_err-put_block g c =
     let d = c.index_mut-device.result.now in
     let at = device_at g.D.Device.size devices copies.area.volumes c.args.v d c.self.invariant within c.index_mut-device.ensures.value in
     let copied = c.in_ok-copy_block.ensures in
-    fits_set g.D.Device.size devices copies.area.volumes c.args.v d c.put_block.new.device c.self.invariant at (c.in_err-put_block.ensures.0.size_is ∙ copied.device_on.size_is) ∙ sym copied.area_on.volumes
+    fits_set g.D.Device.size devices copies.area.volumes c.args.v d c.put_block.new.device c.self.invariant at (c.in_err-put_block.ensures.0.size_is ∙ copied.device_on.size_is)
+    ∙ sym copied.area_on.volumes
 
 pub returns-in_err-put_block-clause-put : goal.returns-in_err-put_block-clause-put
 returns-in_err-put_block-clause-put g c =
@@ -88,7 +91,9 @@ returns-in_err-put_block-clause-put g c =
     let at = device_at g.D.Device.size devices copies.area.volumes c.args.v d c.self.invariant within c.index_mut-device.ensures.value in
     let p = err_from_is_err_and c.from_residual-in_err-put_block.result c.from_residual-in_err-put_block.ensures.1 in
     let failed = c.in_err-put_block.ensures in
-    let is = not_overwritten g.D.Device.told g.D.Device.size g.D.Device.count g.D.Device.lending devices copies c.args.v d (record { block = c.args.block; bytes = payload_bytes c.args.payload.now }) low at c.in-Some.slot c.in-Some.ensures.lowest c.slots-facts.ensures.fits c.slots-facts.ensures.whole c.copy_block.new.device c.put_block.new.device c.copy_block.new.copies c.in_ok-copy_block.ensures _ failed.0 failed.1 failed.2 in
+    let is = not_overwritten g.D.Device.told g.D.Device.size g.D.Device.count g.D.Device.lending devices copies c.args.v d
+    (record { block = c.args.block; bytes = payload_bytes c.args.payload.now }) low at c.in-Some.slot c.in-Some.ensures.lowest c.slots-facts.ensures.fits c.slots-facts.ensures.whole
+    c.copy_block.new.device c.put_block.new.device c.copy_block.new.copies c.in_ok-copy_block.ensures _ failed.0 failed.1 failed.2 in
     rw (p.1, p.2, ← c.self.view_is) is
 
 pub note-requires-clause-lacks : goal.note-requires-clause-lacks
@@ -117,7 +122,8 @@ invariant_of-self-2 g c =
     let d = c.index_mut-device.result.now in
     let at = device_at g.D.Device.size devices copies.area.volumes c.args.v d c.self.invariant within c.index_mut-device.ensures.value in
     let copied = c.in_ok-copy_block.ensures in
-    fits_set g.D.Device.size devices copies.area.volumes c.args.v d c.put_block.new.device c.self.invariant at (c.in_ok-put_block.ensures.0.size_is ∙ copied.device_on.size_is) ∙ sym (ap (λ x. x.area.volumes) c.note.ensures ∙ copied.area_on.volumes)
+    fits_set g.D.Device.size devices copies.area.volumes c.args.v d c.put_block.new.device c.self.invariant at (c.in_ok-put_block.ensures.0.size_is ∙ copied.device_on.size_is)
+    ∙ sym (ap (λ x. x.area.volumes) c.note.ensures ∙ copied.area_on.volumes)
 
 pub returns-clause-put : goal.returns-clause-put
 returns-clause-put g c =
@@ -128,24 +134,35 @@ returns-clause-put g c =
     let d = c.index_mut-device.result.now in
     let at = device_at g.D.Device.size devices copies.area.volumes c.args.v d c.self.invariant within c.index_mut-device.ensures.value in
     let lacks = rw (← c.self.view_is) at c.requires.lacks in
-    let is = put_first g.D.Device.told g.D.Device.size g.D.Device.count g.D.Device.lending devices copies c.args.v d (record { block = c.args.block; bytes = payload_bytes c.args.payload.now }) low at c.in-Some.slot c.in-Some.ensures.lowest c.slots-facts.ensures.fits c.slots-facts.ensures.whole c.copy_block.new.device c.put_block.new.device c.copy_block.new.copies c.in_ok-copy_block.ensures c.note.new.self lacks c.in_ok-put_block.ensures.0 c.in_ok-put_block.ensures.1 c.note.ensures in
+    let is = put_first g.D.Device.told g.D.Device.size g.D.Device.count g.D.Device.lending devices copies c.args.v d
+    (record { block = c.args.block; bytes = payload_bytes c.args.payload.now }) low at c.in-Some.slot c.in-Some.ensures.lowest c.slots-facts.ensures.fits c.slots-facts.ensures.whole
+    c.copy_block.new.device c.put_block.new.device c.copy_block.new.copies c.in_ok-copy_block.ensures c.note.new.self lacks c.in_ok-put_block.ensures.0 c.in_ok-put_block.ensures.1 c.note.ensures in
     rw (← c.self.view_is) is
 
 pub returns-in_err-copy_block-clause-once : goal.returns-in_err-copy_block-clause-once
 returns-in_err-copy_block-clause-once g c =
-    let same : IsCopiedOnce g.D.Device.told (group_of c.self.inside.devices.items c.self.inside.copies) (group_of (slice_set c.self.inside.devices.items c.args.v c.copy_block.new.device) c.copy_block.new.copies) c.args.v c.args.block = inl c.in_err-copy_block.ensures.area_on.device.tells in
+    let same : IsCopiedOnce g.D.Device.told (group_of c.self.inside.devices.items c.self.inside.copies)
+    (group_of (slice_set c.self.inside.devices.items c.args.v c.copy_block.new.device) c.copy_block.new.copies) c.args.v c.args.block = inl c.in_err-copy_block.ensures.area_on.device.tells in
     rw (← c.self.view_is) same
 
 pub returns-in_err-put_block-clause-once : goal.returns-in_err-put_block-clause-once
 returns-in_err-put_block-clause-once g c =
     let lacks = rw (← c.self.view_is) at c.requires.lacks in
-    let one : IsCopiedOnce g.D.Device.told (group_of c.self.inside.devices.items c.self.inside.copies) (group_of (slice_set c.self.inside.devices.items c.args.v c.put_block.new.device) c.copy_block.new.copies) c.args.v c.args.block =
+    let one : IsCopiedOnce g.D.Device.told (group_of c.self.inside.devices.items c.self.inside.copies)
+    (group_of (slice_set c.self.inside.devices.items c.args.v c.put_block.new.device) c.copy_block.new.copies) c.args.v c.args.block =
     inr (record { lacks = lacks; slot = c.in-Some.slot; copy = c.in_ok-copy_block.ensures.copy; copied = c.in_ok-copy_block.ensures.area_on.device.tells }) in
     rw (← c.self.view_is) one
 
 pub returns-clause-once : goal.returns-clause-once
 returns-clause-once g c =
     let lacks = rw (← c.self.view_is) at c.requires.lacks in
-    let one : IsCopiedOnce g.D.Device.told (group_of c.self.inside.devices.items c.self.inside.copies) (group_of (slice_set c.self.inside.devices.items c.args.v c.put_block.new.device) c.note.new.self) c.args.v c.args.block =
-    inr (record { lacks = lacks; slot = c.in-Some.slot; copy = c.in_ok-copy_block.ensures.copy; copied = ap (λ x. g.D.Device.told x.area.device) c.note.ensures ∙ c.in_ok-copy_block.ensures.area_on.device.tells }) in
+    let one : IsCopiedOnce g.D.Device.told (group_of c.self.inside.devices.items c.self.inside.copies)
+    (group_of (slice_set c.self.inside.devices.items c.args.v c.put_block.new.device) c.note.new.self) c.args.v c.args.block =
+    inr (record {
+      lacks = lacks;
+      slot = c.in-Some.slot;
+      copy = c.in_ok-copy_block.ensures.copy;
+      copied = ap (λ x. g.D.Device.told x.area.device) c.note.ensures
+          ∙ c.in_ok-copy_block.ensures.area_on.device.tells;
+    }) in
     rw (← c.self.view_is) one

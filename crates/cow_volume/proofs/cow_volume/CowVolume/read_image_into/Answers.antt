@@ -4,7 +4,8 @@ use Rattle.cow_volume.proofs.cow_volume.CowVolume.read_image_into.Goals as goal
 
 pub returns-clause-shown : goal.returns-clause-shown
 returns-clause-shown g c =
-    let is = one_shown_if g.D.Device.told c.self.inside.group c.args.set c.args.block c.read_image_into.new.out c.read_image_into.result (c.volumes-valid.ensures.devices ∙ c.self.invariant) c.read_image_into.ensures.shown in
+    let is = one_shown_if g.D.Device.told c.self.inside.group c.args.set c.args.block c.read_image_into.new.out c.read_image_into.result
+    (c.volumes-valid.ensures.devices ∙ c.self.invariant) c.read_image_into.ensures.shown in
     rw (← c.self.view_is) is
 
 pub returns-clause-stands : goal.returns-clause-stands

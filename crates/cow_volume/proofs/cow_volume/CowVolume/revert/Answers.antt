@@ -3,7 +3,8 @@ use Rattle.cow_volume.proofs.OneVolume.{one_revert, revert_volumes}
 use Rattle.cow_volume.proofs.cow_volume.CowVolume.revert.Goals as goal
 
 pub invariant_of-self : goal.invariant_of-self
-invariant_of-self g c = ap length (revert_volumes g.D.Device.told g.D.Device.size g.D.Device.count g.D.Device.lending c.self.inside.group c.revert.new.self c.args.set c.revert.result c.revert.ensures) ∙ c.self.invariant
+invariant_of-self g c = ap length
+    (revert_volumes g.D.Device.told g.D.Device.size g.D.Device.count g.D.Device.lending c.self.inside.group c.revert.new.self c.args.set c.revert.result c.revert.ensures) ∙ c.self.invariant
 
 pub returns : goal.returns
 returns g c =

@@ -3,7 +3,8 @@ use Rattle.cow_volume.proofs.OneVolume.{one_sync, sync_volumes}
 use Rattle.cow_volume.proofs.cow_volume.CowVolume.sync.Goals as goal
 
 pub invariant_of-self : goal.invariant_of-self
-invariant_of-self g c = ap length (sync_volumes g.D.Device.told g.D.Device.size g.D.Device.count g.D.Device.lending c.self.inside.group c.sync.new.self c.sync.result c.sync.ensures.sync) ∙ c.self.invariant
+invariant_of-self g c = ap length (sync_volumes g.D.Device.told g.D.Device.size g.D.Device.count g.D.Device.lending c.self.inside.group c.sync.new.self c.sync.result c.sync.ensures.sync)
+    ∙ c.self.invariant
 
 pub returns-clause-sync : goal.returns-clause-sync
 returns-clause-sync g c =
