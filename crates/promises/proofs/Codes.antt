@@ -104,10 +104,12 @@ module _ (now : ℕ) (c : Course) (a : Agenda) (o : Open) (l : RunningLimit) whe
       both : (x : Option RunningLimit) → x ≡ Some l → x ≡ Some m → m ≡ l
       both x e f = cc
 
-  not_held : (held_too_long now o.place.group a ≡ true → (holds_volumes o.place.group ≡ true) × (held_since_first now a ≡ true)) → spent_of now H ≡ None → held_too_long now o.place.group a ≡ false
+  not_held : (held_too_long now o.place.group a ≡ true → (holds_volumes o.place.group ≡ true) × (held_since_first now a ≡ true)) → spent_of now H ≡ None
+      → held_too_long now o.place.group a ≡ false
   not_held first e = false_of (held_too_long now o.place.group a) (λ i. let parts = first i in none_found now H HoldLimit e (held_finds now o.place.group a parts.0 parts.1))
 
-  by_limits : (h f : Option RunningLimit) → spent_of now H ≡ h → spent_of now F ≡ f → (held_too_long now o.place.group a ≡ true → (holds_volumes o.place.group ≡ true) × (held_since_first now a ≡ true)) → spent_of now (H ++ F ++ A) ≡ Some l
+  by_limits : (h f : Option RunningLimit) → spent_of now H ≡ h → spent_of now F ≡ f
+      → (held_too_long now o.place.group a ≡ true → (holds_volumes o.place.group ≡ true) × (held_since_first now a ≡ true)) → spent_of now (H ++ F ++ A) ≡ Some l
       → code_of_limit l.limit ≡ code (held_too_long now o.place.group a) (frozen_too_long now o.place.group c a)
   by_limits (Some m) f e g first is =
       ap code_of_limit (sym (same_limit m is (first_found now (H ++ F) A m (first_found now H F m e))) ∙ hold_found now o.place.group (first_hold a.log) m e)
@@ -121,13 +123,15 @@ module _ (now : ℕ) (c : Course) (a : Agenda) (o : Open) (l : RunningLimit) whe
       ∙ ap (λ b. code false b) (sym (false_of (frozen_too_long now o.place.group c a) (λ i. none_found now F FreezeLimit g (frozen_finds now o.place.group c a i))))
       ∙ ap (λ b. code b (frozen_too_long now o.place.group c a)) (sym (not_held first e))
 
-code_left : (now : ℕ) (c : Course) (a : Agenda) (os : List Open) (l : RunningLimit) → groups_left a ≡ os → spent_of now (running_at (freeze_limit c) a os) ≡ Some l → (a.kind ≡ kind.Snapshot → Rising (times a.log))
+code_left : (now : ℕ) (c : Course) (a : Agenda) (os : List Open) (l : RunningLimit) → groups_left a ≡ os → spent_of now (running_at (freeze_limit c) a os) ≡ Some l
+    → (a.kind ≡ kind.Snapshot → Rising (times a.log))
     → code_of_limit l.limit ≡ late_code_at now c a os
 code_left now c a [] l same e rising = absurd cc
 code_left now c a (o ∷ os) l same e rising =
     by_limits now c a o l (spent_of now (hold_running o.place.group (first_hold a.log))) (spent_of now (runs_if (freeze_runs o.place.group) FreezeLimit (freeze_opened_at a) (freeze_limit c))) refl refl (held_is_first now a o os same rising) e
 
-limit_code : (now : ℕ) (c : Course) (x : Option Agenda) (l : RunningLimit) → spent_of now (running_limits (freeze_limit c) x) ≡ Some l → Running (λ (a : Agenda). a.kind ≡ kind.Snapshot → Rising (times a.log)) x → code_of_limit l.limit ≡ late_code_in now c x
+limit_code : (now : ℕ) (c : Course) (x : Option Agenda) (l : RunningLimit) → spent_of now (running_limits (freeze_limit c) x) ≡ Some l
+    → Running (λ (a : Agenda). a.kind ≡ kind.Snapshot → Rising (times a.log)) x → code_of_limit l.limit ≡ late_code_in now c x
 limit_code now c None l e rising = absurd cc
 limit_code now c (Some a) l e rising = code_left now c a (groups_left a) l refl e rising
 
@@ -168,7 +172,8 @@ module _ (why : VssResult) (c : Course) (run : has_failed c.outcome ≡ false) w
       by_limit AnswerLimit e = by_order (fails_set (order_now (left c.agenda))) e
 
   -- time fails nothing where no limit is spent
-  late_reason : (now : ℕ) → Running (λ (x : Agenda). x.kind ≡ kind.Snapshot → Rising (times x.log)) c.agenda → (treated (spent_of now (limits_now c)) now c).outcome ≡ FailedSet why → why ≡ late_code_in now c c.agenda
+  late_reason : (now : ℕ) → Running (λ (x : Agenda). x.kind ≡ kind.Snapshot → Rising (times x.log)) c.agenda
+      → (treated (spent_of now (limits_now c)) now c).outcome ≡ FailedSet why → why ≡ late_code_in now c c.agenda
   late_reason now rising e = by_spent (spent_of now (limits_now c)) refl e
     where
       by_spent : (l : Option RunningLimit) → spent_of now (limits_now c) ≡ l → (treated l now c).outcome ≡ FailedSet why → why ≡ late_code_in now c c.agenda
@@ -211,7 +216,8 @@ module _ (s : Plan) (so_far : List Act) (why : VssResult) where
   same_sets : (event : Event) (x : State) → ((n : ℕ) → failure_at x.sets n ≡ failure_at st.sets n) → set_failure (in_progress st) x ≡ Some why → IsCode st event why
   same_sets event x f e = not_none (set_failure (in_progress st) x) (no_failure s so_far x f) e
 
-  abort_reason : (o : Option SetRow) (code : VssResult) → in_progress st ≡ o → has_failed st.course.outcome ≡ false → (failed_in o code st).course.outcome ≡ FailedSet why → why ≡ code
+  abort_reason : (o : Option SetRow) (code : VssResult) → in_progress st ≡ o → has_failed st.course.outcome ≡ false → (failed_in o code st).course.outcome ≡ FailedSet why
+      → why ≡ code
   unfolding course_failed
   abort_reason None code e f g = calm_reason st.course.outcome why f g
   abort_reason (Some r) code e f g = same_reason why code (sym g)
@@ -241,7 +247,8 @@ module _ (s : Plan) (so_far : List Act) (why : VssResult) where
   write_code lane (op.WriteStamp v b n) t e f = f
   write_code lane o t e f = absurd cc
 
-  begun_code : (event : Event) (c : Course) → (has_failed st.course.outcome ≡ false → has_failed c.outcome ≡ false) → set_failure (in_progress st) (followed true c st) ≡ Some why → IsCode st event why
+  begun_code : (event : Event) (c : Course) → (has_failed st.course.outcome ≡ false → has_failed c.outcome ≡ false) → set_failure (in_progress st) (followed true c st) ≡ Some why
+      → IsCode st event why
   begun_code event c calm e =
       calm_reason c.outcome why (calm (was_running (followed true c st) e)) (ap (λ (d : Course). d.outcome) (sym (course_followed true c st)) ∙ of_turn (followed true c st) true (begun_turn s so_far c calm) e)
 

@@ -98,18 +98,21 @@ new_said : (p q : Place) (said : Said) (now : ℕ) (ws : List ℕ) (w : ℕ) →
 new_said p q said now [] w e = absurd cc
 new_said p q said now (x ∷ ws) w e = by_head (same_place p q) (x == w) e (new_said p q said now ws w)
   where
-    by_head : (b c : Bool) → ((b && c) || has_said (map (at_place p said now) ws) q w) ≡ true → (has_said (map (at_place p said now) ws) q w ≡ true → is_among w ws ≡ true) → (c || is_among w ws) ≡ true
+    by_head : (b c : Bool) → ((b && c) || has_said (map (at_place p said now) ws) q w) ≡ true → (has_said (map (at_place p said now) ws) q w ≡ true → is_among w ws ≡ true)
+        → (c || is_among w ws) ≡ true
     by_head b true e ih = refl
     by_head true false e ih = ih e
     by_head false false e ih = ih e
 
 -- and what is said is told
-new_told : (g : Group) (p : Place) (said : Said) (now : ℕ) (ws : List ℕ) (w : ℕ) (test : Deed → Bool) → ((u : ℕ) → (u == w) ≡ true → test (deed_at p.group u said now) ≡ true) → is_among w ws ≡ true
+new_told : (g : Group) (p : Place) (said : Said) (now : ℕ) (ws : List ℕ) (w : ℕ) (test : Deed → Bool) → ((u : ℕ) → (u == w) ≡ true → test (deed_at p.group u said now) ≡ true)
+    → is_among w ws ≡ true
     → list_any test (map deed_in (map (at_place p said now) ws)) ≡ true
 new_told g p said now [] w test f e = absurd cc
 new_told g p said now (x ∷ ws) w test f e = by_head (x == w) refl e (new_told g p said now ws w test f)
   where
-    by_head : (b : Bool) → (x == w) ≡ b → (b || is_among w ws) ≡ true → (is_among w ws ≡ true → list_any test (map deed_in (map (at_place p said now) ws)) ≡ true) → (test (deed_at p.group x said now) || list_any test (map deed_in (map (at_place p said now) ws))) ≡ true
+    by_head : (b : Bool) → (x == w) ≡ b → (b || is_among w ws) ≡ true → (is_among w ws ≡ true → list_any test (map deed_in (map (at_place p said now) ws)) ≡ true)
+        → (test (deed_at p.group x said now) || list_any test (map deed_in (map (at_place p said now) ws))) ≡ true
     by_head true i e ih = left_part (test (deed_at p.group x said now)) _ (f x i)
     by_head false i e ih = right_part (test (deed_at p.group x said now)) _ (ih e)
 
@@ -124,7 +127,8 @@ ok_is g said e f = by_ok (is_ok said) (ap (λ x. fails_set (order_of x) && not (
     by_ok false e = absurd cc
 
 -- who has not consented is waited for still
-still_waits : (w : ℕ) (said : Said) (now : ℕ) (ws : List ℕ) (a : Agenda) (d : Bool) → a.kind ≡ Prepare → (fails_set (order_of (open_place (groups_left a)).group) && not (is_ok said)) ≡ false
+still_waits : (w : ℕ) (said : Said) (now : ℕ) (ws : List ℕ) (a : Agenda) (d : Bool) → a.kind ≡ Prepare
+    → (fails_set (order_of (open_place (groups_left a)).group) && not (is_ok said)) ≡ false
     → (agreed PrepareBackup w (map deed_in (said_at (groups_left a) said now ws)) ≡ true → d ≡ true) → d ≡ false → is_among w (waited_for a p0) ≡ true → is_among w (waited_for (all_say said now ws a) p0) ≡ true
 still_waits w said now ws a d k mild told e waits =
     kept_among (λ x. not (has_said (a.log ++ new) p0 x)) w (writers_at a.members None) (ap not unsaid_now) (among_filter (λ x. not (has_said a.log p0 x)) w (writers_at a.members None) waits)
@@ -183,7 +187,8 @@ module _ (w : ℕ) (ms : List Member) where
         true_of true f = refl
         true_of false f = absurd (f refl)
 
-    settled_waits : (done : Bool) (a : Agenda) (o : SetOutcome) (b : Option Agenda) (p : SetOutcome) → (done ≡ true → is_done (groups_left a) ≡ true) → Settles done a o b p → Waits d a
+    settled_waits : (done : Bool) (a : Agenda) (o : SetOutcome) (b : Option Agenda) (p : SetOutcome) → (done ≡ true → is_done (groups_left a) ≡ true) → Settles done a o b p
+        → Waits d a
         → Running (Waits d) b × (b ≡ None → a.kind ≡ Prepare → is_member ms w ≡ true → d ≡ true)
     settled_waits true a o b p done e h = (subst (Running (Waits d)) (sym e.0) tt, λ f k m. ended a h k (done refl) m)
     settled_waits false a o b p done e h = (subst (Running (Waits d)) (sym e.0) h, λ f. absurd (differ (sym e.0 ∙ f)))
@@ -191,7 +196,8 @@ module _ (w : ℕ) (ms : List Member) where
         differ : Some a ≡ None → ⊥
         differ e = cc
 
-    grows_waits : (a : Option Agenda) (o : SetOutcome) (b : Option Agenda) (p : SetOutcome) (news : List Deed) → Grows a o b p news → (agreed PrepareBackup w news ≡ true → d ≡ true) → Running (Waits c) a → Running (Waits d) b × Ends a o b p
+    grows_waits : (a : Option Agenda) (o : SetOutcome) (b : Option Agenda) (p : SetOutcome) (news : List Deed) → Grows a o b p news
+        → (agreed PrepareBackup w news ≡ true → d ≡ true) → Running (Waits c) a → Running (Waits d) b × Ends a o b p
     grows_waits None o b p news h told r = (subst (Running (Waits d)) (sym h.0) tt, tt)
     grows_waits (Some a) o b p news (inl h) told r = (subst (Running (Waits d)) (sym h.agenda) tt, λ f g. both (has_failed p) h.failed (ap has_failed g))
     grows_waits (Some a) o b p news (inr (inl h)) told r =
@@ -207,12 +213,14 @@ member_waits : (w : ℕ) (ms : List Member) → is_member ms w ≡ true → is_a
 member_waits w [] e = absurd cc
 member_waits w (m ∷ ms) e = by_head (m.writer == w) e (member_waits w ms)
   where
-    by_head : (b : Bool) → (b || is_member ms w) ≡ true → (is_member ms w ≡ true → is_among w (filter (λ who. true) (map (λ (x : Member). x.writer) (filter (λ (x : Member). true) ms))) ≡ true)
+    by_head : (b : Bool) → (b || is_member ms w) ≡ true
+        → (is_member ms w ≡ true → is_among w (filter (λ who. true) (map (λ (x : Member). x.writer) (filter (λ (x : Member). true) ms))) ≡ true)
         → (b || is_among w (filter (λ who. true) (map (λ (x : Member). x.writer) (filter (λ (x : Member). true) ms)))) ≡ true
     by_head true e ih = refl
     by_head false e ih = ih e
 
-begun_other : (w : ℕ) (mm : List Member) (c : Bool) (k : Kind) (ms : List Member) (vs : List ℕ) (now : ℕ) (x : Course) → (k ≡ Prepare → ⊥) → Running (Waits w mm c) (begun k ms vs now x).agenda
+begun_other : (w : ℕ) (mm : List Member) (c : Bool) (k : Kind) (ms : List Member) (vs : List ℕ) (now : ℕ) (x : Course) → (k ≡ Prepare → ⊥)
+    → Running (Waits w mm c) (begun k ms vs now x).agenda
 unfolding begun posted settled
 begun_other w mm c k ms vs now x other = by_done (is_done (groups_left (unspoken k ms vs now)))
   where
@@ -220,14 +228,16 @@ begun_other w mm c k ms vs now x other = by_done (is_done (groups_left (unspoken
     by_done true = tt
     by_done false = λ e. absurd (other e)
 
-begun_prepare : (w : ℕ) (ms : List Member) (now : ℕ) (x : Course) → Running (Waits w ms false) (begun Prepare ms [] now x).agenda × ((begun Prepare ms [] now x).agenda ≡ None → is_member ms w ≡ false)
+begun_prepare : (w : ℕ) (ms : List Member) (now : ℕ) (x : Course)
+    → Running (Waits w ms false) (begun Prepare ms [] now x).agenda × ((begun Prepare ms [] now x).agenda ≡ None → is_member ms w ≡ false)
 unfolding begun posted settled
 begun_prepare w ms now x = by_done (is_done (groups_left a)) refl
   where
     a : Agenda
     a = unspoken Prepare ms [] now
 
-    by_done : (b : Bool) → is_done (groups_left a) ≡ b → Running (Waits w ms false) (settled_if b Prepare (record x { agenda = Some a })).agenda × ((settled_if b Prepare (record x { agenda = Some a })).agenda ≡ None → is_member ms w ≡ false)
+    by_done : (b : Bool) → is_done (groups_left a) ≡ b
+        → Running (Waits w ms false) (settled_if b Prepare (record x { agenda = Some a })).agenda × ((settled_if b Prepare (record x { agenda = Some a })).agenda ≡ None → is_member ms w ≡ false)
     by_done true e = (tt, λ f. false_of (is_member ms w) (λ m. both (is_among w (waited_for a p0)) (member_waits w ms m) (none_waits w a refl e)))
     by_done false e = (λ k. (refl, λ m f. member_waits w ms m), λ f. absurd (differ f))
       where
@@ -316,13 +326,15 @@ module _ (s : Plan) (so_far : List Act) (w : ℕ) where
     or_nothing false = refl
 
     -- a line that tells nothing
-    line_flag : (lane now : ℕ) (o : Op) (told : Reply) → line_ticks o ≡ None → (is_prepare (Line lane o) && is_pending told) ≡ false → c ≡ consent_after w st (Line lane o) told now c
+    line_flag : (lane now : ℕ) (o : Op) (told : Reply) → line_ticks o ≡ None → (is_prepare (Line lane o) && is_pending told) ≡ false
+        → c ≡ consent_after w st (Line lane o) told now c
     line_flag lane now o told e f =
         sym (or_nothing c)
         ∙ ap (λ b. (not b && c) || false) (sym f)
         ∙ ap (λ x. (not (is_prepare (Line lane o) && is_pending told) && c) || agreed PrepareBackup w (deeds_lost now (lost_order_if (lost_after x st) (order_now (left_now st))) (lost_after x st))) (sym e)
 
-    tells_none : (lane : ℕ) (o : Op) (mark : Mark) (told : Reply) (x : State) → line_ticks o ≡ None → (is_prepare (Line lane o) && is_pending told) ≡ false → Stands w x c → Next (Line lane o) mark (told, x)
+    tells_none : (lane : ℕ) (o : Op) (mark : Mark) (told : Reply) (x : State) → line_ticks o ≡ None → (is_prepare (Line lane o) && is_pending told) ≡ false → Stands w x c
+        → Next (Line lane o) mark (told, x)
     tells_none lane o mark told x e f i = subst (Stands w x) (line_flag lane x.clock o told e f) i
 
     beside : (x : State) → x.course ≡ st.course → ((q : Session) → x.session ≡ Some q → q.stage ≡ Prepared → st.session ≡ Some q) → Stands w x c
@@ -377,7 +389,8 @@ module _ (s : Plan) (so_far : List Act) (w : ℕ) where
       own_member : is_member x.course.members w ≡ true → is_member st.course.members w ≡ true
       own_member m = ap (λ ms. is_member ms w) (sym (ap (λ (y : Course). y.members) is ∙ members)) ∙ m
 
-      over_by : (q : Session) (a : Option Agenda) (p : Option Session) → st.course.agenda ≡ a → st.session ≡ p → is_some a ≡ true → option_map agenda_ended p ≡ Some q → q.stage ≡ Prepared → IsAgendaOf a p
+      over_by : (q : Session) (a : Option Agenda) (p : Option Session) → st.course.agenda ≡ a → st.session ≡ p → is_some a ≡ true → option_map agenda_ended p ≡ Some q
+          → q.stage ≡ Prepared → IsAgendaOf a p
           → Ends w st.course.members c d keeps a st.course.outcome k.agenda k.outcome → x.session ≡ Some q → runs x ≡ false → is_member st.course.members w ≡ true → d ≡ true
       over_by q None p e f ran ended stage waits ends own quiet m = absurd cc
       over_by q (Some a) None e f ran ended stage waits ends own quiet m = absurd cc
@@ -407,7 +420,8 @@ module _ (s : Plan) (so_far : List Act) (w : ℕ) where
         (grows_timed (st.clock + n) st.course) (on_course_timed (st.clock + n) st.course).members (tick_turn s so_far n) (kept_by_changes.ticks n st (orderly s so_far)) keeps
         (λ e. both (agreed PrepareBackup w (lost_told (st.clock + n) (spent_of (st.clock + n) (limits_now st.course)) (left st.course.agenda))) e (no_lost_told w (st.clock + n) (spent_of (st.clock + n) (limits_now st.course)) (left st.course.agenda)))
 
-    on_answers : (o : Option Order) (u : ℕ) (answer : Answer) (mark : Mark) → order_of_writer st u ≡ o → is_some o ≡ true → Next (AnswerEvent u answer) mark (answer_reply o answer, answered u (said_of answer) st)
+    on_answers : (o : Option Order) (u : ℕ) (answer : Answer) (mark : Mark) → order_of_writer st u ≡ o → is_some o ≡ true
+        → Next (AnswerEvent u answer) mark (answer_reply o answer, answered u (said_of answer) st)
     unfolding answered
     on_answers None u answer mark e f = absurd cc
     on_answers (Some o) u answer mark e f =
@@ -430,7 +444,8 @@ module _ (s : Plan) (so_far : List Act) (w : ℕ) where
         (λ i. left_part c _ i) (λ i. both (agreed PrepareBackup w (made_now (left st.course.agenda) st.clock (open_group (left st.course.agenda)))) i (no_step w st.clock (left st.course.agenda) (open_group (left st.course.agenda))))
 
     -- an agenda begins
-    begins_other : (lane : ℕ) (o : Op) (mark : Mark) (k : Kind) (ms : List Member) (vs : List ℕ) (y : Course) → line_ticks o ≡ None → is_prepare (Line lane o) ≡ false → (k ≡ Prepare → ⊥) → y.members ≡ st.course.members
+    begins_other : (lane : ℕ) (o : Op) (mark : Mark) (k : Kind) (ms : List Member) (vs : List ℕ) (y : Course) → line_ticks o ≡ None → is_prepare (Line lane o) ≡ false
+        → (k ≡ Prepare → ⊥) → y.members ≡ st.course.members
         → Turn st (followed true (begun k ms vs st.clock y) st) true → ((q : Session) → st.session ≡ Some q → stage_after q.context q.stage ≡ Prepared → ⊥) → Next (Line lane o) mark (Coded AsyncPending, followed true (begun k ms vs st.clock y) st)
     begins_other lane o mark k ms vs y e f other members turn never =
         tells_none lane o mark (Coded AsyncPending) x e (ap (λ b. b && true) f) (record {
@@ -456,7 +471,8 @@ module _ (s : Plan) (so_far : List Act) (w : ℕ) where
         done_by q g i m (inr (inl t)) = over_by q st.session refl (sym t.session ∙ g) i
         done_by q g i m (inr (inr t)) = h.done q (sym t.session ∙ g) i m
 
-    begins_prepare : (lane : ℕ) (mark : Mark) (ms : List Member) (q : Session) → st.session ≡ Some q → q.stage ≡ Started → Turn st (followed true (begun Prepare ms [] st.clock (record st.course { members = ms })) st) true
+    begins_prepare : (lane : ℕ) (mark : Mark) (ms : List Member) (q : Session) → st.session ≡ Some q → q.stage ≡ Started
+        → Turn st (followed true (begun Prepare ms [] st.clock (record st.course { members = ms })) st) true
         → Next (Line lane op.Prepare) mark (Coded AsyncPending, followed true (begun Prepare ms [] st.clock (record st.course { members = ms })) st)
     begins_prepare lane mark ms q e stage turn = record {
       running = subst (λ (z : Course). Running (Waits w z.members false) z.agenda) (sym is) (subst (λ xs. Running (Waits w xs false) y.agenda) (sym members) own.0);
@@ -496,7 +512,8 @@ module _ (s : Plan) (so_far : List Act) (w : ℕ) where
     either event mark true x y i j = i
     either event mark false x y i j = j
 
-    stage_not : (q : Session) (t : Stage) → st.session ≡ Some q → stage_after q.context q.stage ≡ t → (t ≡ Prepared → ⊥) → (p : Session) → st.session ≡ Some p → stage_after p.context p.stage ≡ Prepared → ⊥
+    stage_not : (q : Session) (t : Stage) → st.session ≡ Some q → stage_after q.context q.stage ≡ t → (t ≡ Prepared → ⊥) → (p : Session) → st.session ≡ Some p
+        → stage_after p.context p.stage ≡ Prepared → ⊥
     stage_not q t e f never p g i = never (sym f ∙ ap (λ (z : Session). stage_after z.context z.stage) (some_same q p (sym e ∙ g)) ∙ i)
       where
         some_same : (a b : Session) → Some a ≡ Some b → a ≡ b

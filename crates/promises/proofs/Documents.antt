@@ -66,7 +66,8 @@ first_is : (name : List ℕ) (i j : ℕ) (ps : List Part) (f : _) → found_from
 first_is name i j [] f e = absurd cc
 first_is name i j (p ∷ ps) f e = by_name (bytes_eq (full_name p) name) e (first_is name i (j + 1) ps f)
   where
-    by_name : (b : Bool) → (if b then Some (record { component = j; selectable = p.selectable }) else found_from name (j + 1) ps) ≡ Some f → (found_from name (j + 1) ps ≡ Some f → is_first name i (j + 1) ps ≡ (f.component == i))
+    by_name : (b : Bool) → (if b then Some (record { component = j; selectable = p.selectable }) else found_from name (j + 1) ps) ≡ Some f
+        → (found_from name (j + 1) ps ≡ Some f → is_first name i (j + 1) ps ≡ (f.component == i))
         → (if b then j == i else is_first name i (j + 1) ps) ≡ (f.component == i)
     by_name true g ih = let e : f ≡ record { component = j; selectable = p.selectable } = cc in rw e refl
     by_name false g ih = ih g
@@ -77,14 +78,16 @@ module _ (w i : ℕ) where
   pair_if q ps new true true e = absurd cc
   pair_if q ps new true false e = let same : with_pair q ps ≡ new = cc in ap (λ x. has_pair x w i) (sym same) ∙ pair_added (is_pair w i) q ps
 
-  pair_found : (u : ℕ) (name : List ℕ) (parts : List Part) (ps new : List Pair) → naming_found u (found_in name parts) ps ≡ Names new → has_pair new w i ≡ (has_pair ps w i || ((u == w) && is_first name i 0 parts))
+  pair_found : (u : ℕ) (name : List ℕ) (parts : List Part) (ps new : List Pair) → naming_found u (found_in name parts) ps ≡ Names new
+      → has_pair new w i ≡ (has_pair ps w i || ((u == w) && is_first name i 0 parts))
   pair_found u name parts ps new e =
       (elim (found_in name parts) as (λ x. found_in name parts ≡ x → naming_found u x ps ≡ Names new → has_pair new w i ≡ (has_pair ps w i || ((u == w) && is_first name i 0 parts))) [
         | None ↦ λ f g. absurd cc
         | Some x ↦ λ f g. pair_if (record { writer = u; component = x.component }) ps new x.selectable (has_pair ps u x.component) g ∙ ap (λ b. has_pair ps w i || ((u == w) && b)) (sym (first_is name i 0 parts x f))
       ]) refl e
 
-  pair_of : (u : ℕ) (name : List ℕ) (o : Option (Option Meta)) (plan : Option WriterPlan) (ps new : List Pair) → ((m : Meta) → o ≡ Some (Some m) → IsOfPlan plan m) → naming_of u name o ps ≡ Names new
+  pair_of : (u : ℕ) (name : List ℕ) (o : Option (Option Meta)) (plan : Option WriterPlan) (ps new : List Pair) → ((m : Meta) → o ≡ Some (Some m) → IsOfPlan plan m)
+      → naming_of u name o ps ≡ Names new
       → has_pair new w i ≡ (has_pair ps w i || ((u == w) && is_part plan name i))
   pair_of u name None plan ps new own e = absurd cc
   pair_of u name (Some None) plan ps new own e = absurd cc
@@ -126,7 +129,8 @@ module _ (s : Plan) (w i : ℕ) (st : State) (c : Bool) (h : NamesSo w i st c) w
   same : (x : State) → SameChoice st x → NamesSo w i x c
   same x e = beside x e.explicit e.mode
 
-  begun_if : (b : Bool) (lane : ℕ) (o : Op) (mark : Mark) (x : Replied) → line_names s w i o (refused BadState st).0 c ≡ c → line_names s w i o x.0 c ≡ c → NamesSo w i x.1 c → Next (Line lane o) mark (if b then refused BadState st else x)
+  begun_if : (b : Bool) (lane : ℕ) (o : Op) (mark : Mark) (x : Replied) → line_names s w i o (refused BadState st).0 c ≡ c → line_names s w i o x.0 c ≡ c → NamesSo w i x.1 c
+      → Next (Line lane o) mark (if b then refused BadState st else x)
   begun_if true lane o mark x e f g = subst (NamesSo w i st) (sym e) h
   begun_if false lane o mark x e f g = subst (NamesSo w i x.1) (sym f) g
 

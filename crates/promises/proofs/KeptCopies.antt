@@ -48,7 +48,8 @@ overwritten_by n b images i (w ∷ ws) f =
     plain false = refl
 
 -- one is cut at q writes
-overwritten_up_to : (n b q : ℕ) (images : List Image) (i : ℕ) (ws : List Write) → ((j : ℕ) → is_cut_by n j images ≡ nat_le q j) → names (take (q - i) ws) b ≡ is_overwritten n b images i ws
+overwritten_up_to : (n b q : ℕ) (images : List Image) (i : ℕ) (ws : List Write) → ((j : ℕ) → is_cut_by n j images ≡ nat_le q j)
+    → names (take (q - i) ws) b ≡ is_overwritten n b images i ws
 overwritten_up_to n b q images i [] f = ap (λ xs. names xs b) (take_none (q - i))
   where
     take_none : (k : ℕ) → take {A = Write} k [] ≡ []
@@ -73,7 +74,8 @@ overwritten_up_to n b q images i (w ∷ ws) f = by_time (nat_le q i) refl (overw
     plain true d = refl
     plain false d = refl
 
-    by_time : (c : Bool) → nat_le q i ≡ c → names (take (q - (i + 1)) ws) b ≡ is_overwritten n b images (i + 1) ws → names (take (q - i) (w ∷ ws)) b ≡ (((w.block == b) && not (is_cut_by n i images)) || is_overwritten n b images (i + 1) ws)
+    by_time : (c : Bool) → nat_le q i ≡ c → names (take (q - (i + 1)) ws) b ≡ is_overwritten n b images (i + 1) ws
+        → names (take (q - i) (w ∷ ws)) b ≡ (((w.block == b) && not (is_cut_by n i images)) || is_overwritten n b images (i + 1) ws)
     by_time true e ih =
         ap (λ k. names (take k (w ∷ ws)) b) (none_left q i e)
         ∙ off (w.block == b)
@@ -86,7 +88,8 @@ overwritten_up_to n b q images i (w ∷ ws) f = by_time (nat_le q i) refl (overw
         ∙ ap (λ c. ((w.block == b) && not c) || is_overwritten n b images (i + 1) ws) (sym (f i ∙ e))
 
 -- the same of the images behind one that is no later
-overwritten_along : (n b : ℕ) (x : Image) (images : List Image) (i : ℕ) (ws : List Write) → nat_lt n x.set ≡ false → is_overwritten n b images i ws ≡ is_overwritten n b (x ∷ images) i ws
+overwritten_along : (n b : ℕ) (x : Image) (images : List Image) (i : ℕ) (ws : List Write) → nat_lt n x.set ≡ false
+    → is_overwritten n b images i ws ≡ is_overwritten n b (x ∷ images) i ws
 overwritten_along n b x images i [] e = refl
 overwritten_along n b x images i (w ∷ ws) e =
     ap (λ c. ((w.block == b) && not ((c && nat_le x.point i) || is_cut_by n i images)) || is_overwritten n b images (i + 1) ws) (sym e)
@@ -126,7 +129,8 @@ no_image k u n b m ws (i ∷ newer) e = by_set (i.set == n) refl e (no_image k u
     off true = refl
     off false = refl
 
-    by_set : (c : Bool) → (i.set == n) ≡ c → (if c then Some i.point else point_in n newer) ≡ None → (point_in n newer ≡ None → list_any (is_copy u n b) (copies_of k m ws newer) ≡ false) → list_any (is_copy u n b) (copies_of k m ws (i ∷ newer)) ≡ false
+    by_set : (c : Bool) → (i.set == n) ≡ c → (if c then Some i.point else point_in n newer) ≡ None
+        → (point_in n newer ≡ None → list_any (is_copy u n b) (copies_of k m ws newer) ≡ false) → list_any (is_copy u n b) (copies_of k m ws (i ∷ newer)) ≡ false
     by_set true f e ih = absurd cc
     by_set false f e ih =
         list_any-append (is_copy u n b) (map (copy_of k ws i) (named m ws i newer)) (copies_of k m ws newer)
@@ -168,11 +172,13 @@ earlier n p i (j ∷ images) h e = by_head (j.set == n) refl e (earlier n p i im
     below : (a c n : ℕ) → a < c → (c == n) ≡ true → nat_lt n a ≡ false
     below a c n l e = grind arith
 
-    by_head : (c : Bool) → (j.set == n) ≡ c → (if c then Some j.point else point_in n images) ≡ Some p → (point_in n images ≡ Some p → nat_lt n i.set ≡ false) → nat_lt n i.set ≡ false
+    by_head : (c : Bool) → (j.set == n) ≡ c → (if c then Some j.point else point_in n images) ≡ Some p → (point_in n images ≡ Some p → nat_lt n i.set ≡ false)
+        → nat_lt n i.set ≡ false
     by_head true f e ih = below i.set j.set n h.0 f
     by_head false f e ih = ih e
 
-since_cut : (n b : ℕ) (ws : List Write) (i : Image) (newer : List Image) → AreLater i newer → AreInTime (length ws) newer → (i.set == n) ≡ true → names (writes_since ws i.point newer) b ≡ is_overwritten n b (i ∷ newer) i.point (drop i.point ws)
+since_cut : (n b : ℕ) (ws : List Write) (i : Image) (newer : List Image) → AreLater i newer → AreInTime (length ws) newer → (i.set == n) ≡ true
+    → names (writes_since ws i.point newer) b ≡ is_overwritten n b (i ∷ newer) i.point (drop i.point ws)
 since_cut n b ws i [] h t e = overwritten_by n b (i ∷ []) i.point (drop i.point ws) (λ j. ap (λ c. (c && nat_le i.point j) || false) (not_later n i e))
 since_cut n b ws i (x ∷ newer) h t e =
     overwritten_up_to n b x.point (i ∷ x ∷ newer) i.point (drop i.point ws)
@@ -187,7 +193,8 @@ among_named m b ws l = range_passes (names ws) 0 m b (omega arith) ∙ ap (λ c.
     inside : (b m : ℕ) → b < m → nat_lt b (0 + m) ≡ true
     inside b m l = grind arith
 
-exactly_of : (k n b m p : ℕ) (ws : List Write) (images : List Image) → AreInTime (length ws) images → point_in n images ≡ Some p → b < m → list_any (is_copy k n b) (copies_of k m ws images) ≡ is_overwritten n b images p (drop p ws)
+exactly_of : (k n b m p : ℕ) (ws : List Write) (images : List Image) → AreInTime (length ws) images → point_in n images ≡ Some p → b < m
+    → list_any (is_copy k n b) (copies_of k m ws images) ≡ is_overwritten n b images p (drop p ws)
 exactly_of k n b m p ws [] t e l = absurd cc
 exactly_of k n b m p ws (i ∷ newer) t e l = by_set (i.set == n) refl e (λ f. exactly_of k n b m p ws newer t.2 f l)
   where
@@ -199,7 +206,8 @@ exactly_of k n b m p ws (i ∷ newer) t e l = by_set (i.set == n) refl e (λ f. 
     off true = refl
     off false = refl
 
-    by_set : (c : Bool) → (i.set == n) ≡ c → (if c then Some i.point else point_in n newer) ≡ Some p → (point_in n newer ≡ Some p → list_any (is_copy k n b) (copies_of k m ws newer) ≡ is_overwritten n b newer p (drop p ws))
+    by_set : (c : Bool) → (i.set == n) ≡ c → (if c then Some i.point else point_in n newer) ≡ Some p
+        → (point_in n newer ≡ Some p → list_any (is_copy k n b) (copies_of k m ws newer) ≡ is_overwritten n b newer p (drop p ws))
         → list_any (is_copy k n b) (copies_of k m ws (i ∷ newer)) ≡ is_overwritten n b (i ∷ newer) p (drop p ws)
     by_set true f e ih =
         list_any-append (is_copy k n b) (map (copy_of k ws i) (named m ws i newer)) (copies_of k m ws newer)
@@ -244,14 +252,16 @@ none_below j k n b (p ∷ ps) (h ∷ hs) l = by_group p.within (λ i g. none_bel
     later : (j k : ℕ) → k < j → k < j + 1
     later j k l = omega arith
 
-    by_group : (c : Bool) → ((i : ℕ) → k < i → list_any (is_copy k n b) (copies_from i ps hs) ≡ false) → list_any (is_copy k n b) (if c then copies_of j p.blocks h.writes h.images ++ copies_from (j + 1) ps hs else copies_from j ps hs) ≡ false
+    by_group : (c : Bool) → ((i : ℕ) → k < i → list_any (is_copy k n b) (copies_from i ps hs) ≡ false)
+        → list_any (is_copy k n b) (if c then copies_of j p.blocks h.writes h.images ++ copies_from (j + 1) ps hs else copies_from j ps hs) ≡ false
     by_group true ih =
         list_any-append (is_copy k n b) (copies_of j p.blocks h.writes h.images) (copies_from (j + 1) ps hs)
         ∙ ap (λ c. c || list_any (is_copy k n b) (copies_from (j + 1) ps hs)) (other_volume j k n b p.blocks h.writes h.images (apart j k l))
         ∙ ih (j + 1) (later j k l)
     by_group false ih = ih j l
 
-exactly_in : (k : ℕ) (ps : List Placed) (hs : List History) (u n b p : ℕ) → InTimeAll hs → within (slice_get ps u) ≡ true → b < blocks_at (slice_get ps u) → point_in n (at hs u).images ≡ Some p
+exactly_in : (k : ℕ) (ps : List Placed) (hs : List History) (u n b p : ℕ) → InTimeAll hs → within (slice_get ps u) ≡ true → b < blocks_at (slice_get ps u)
+    → point_in n (at hs u).images ≡ Some p
     → list_any (is_copy (place_from k ps u) n b) (copies_from k ps hs) ≡ is_overwritten n b (at hs u).images p (drop p (at hs u).writes)
 exactly_in k [] hs u n b p t e l f = absurd cc
 exactly_in k (x ∷ ps) [] u n b p t e l f = absurd cc
@@ -264,7 +274,8 @@ exactly_in k (x ∷ ps) (h ∷ hs) zero n b p t e l f = by_group x.within e
     next : (k : ℕ) → k < k + 1
     next k = omega arith
 
-    by_group : (c : Bool) → c ≡ true → list_any (is_copy k n b) (if c then copies_of k x.blocks h.writes h.images ++ copies_from (k + 1) ps hs else copies_from k ps hs) ≡ is_overwritten n b h.images p (drop p h.writes)
+    by_group : (c : Bool) → c ≡ true
+        → list_any (is_copy k n b) (if c then copies_of k x.blocks h.writes h.images ++ copies_from (k + 1) ps hs else copies_from k ps hs) ≡ is_overwritten n b h.images p (drop p h.writes)
     by_group true g =
         list_any-append (is_copy k n b) (copies_of k x.blocks h.writes h.images) (copies_from (k + 1) ps hs)
         ∙ ap (λ c. list_any (is_copy k n b) (copies_of k x.blocks h.writes h.images) || c) (none_below (k + 1) k n b ps hs (next k))
@@ -309,7 +320,8 @@ once_range k ws i test a (suc n) = by_test (test a) (once_range k ws i test (a +
     next : (a : ℕ) → a < a + 1
     next a = omega arith
 
-    by_test : (c : Bool) → are_once (map (copy_of k ws i) (filter test (range_with_len (a + 1) n))) ≡ true → are_once (map (copy_of k ws i) (if c then a ∷ filter test (range_with_len (a + 1) n) else filter test (range_with_len (a + 1) n))) ≡ true
+    by_test : (c : Bool) → are_once (map (copy_of k ws i) (filter test (range_with_len (a + 1) n))) ≡ true
+        → are_once (map (copy_of k ws i) (if c then a ∷ filter test (range_with_len (a + 1) n) else filter test (range_with_len (a + 1) n))) ≡ true
     by_test true ih =
         both_are (not (list_any (is_copy k i.set a) (map (copy_of k ws i) (filter test (range_with_len (a + 1) n))))) (are_once (map (copy_of k ws i) (filter test (range_with_len (a + 1) n))))
         (ap not (any_own k k i.set a ws i (filter test (range_with_len (a + 1) n)) (own_number k) (own_number i.set) ∙ none_passes test (a + 1) n a (next a)))
@@ -341,7 +353,8 @@ once_in k [] hs t = refl
 once_in k (p ∷ ps) [] t = refl
 once_in k (p ∷ ps) (h ∷ hs) t = by_group p.within (λ j. once_in j ps hs (λ v. t (suc v)))
   where
-    by_group : (c : Bool) → ((j : ℕ) → are_once (copies_from j ps hs) ≡ true) → are_once (if c then copies_of k p.blocks h.writes h.images ++ copies_from (k + 1) ps hs else copies_from k ps hs) ≡ true
+    by_group : (c : Bool) → ((j : ℕ) → are_once (copies_from j ps hs) ≡ true)
+        → are_once (if c then copies_of k p.blocks h.writes h.images ++ copies_from (k + 1) ps hs else copies_from k ps hs) ≡ true
     by_group true ih = once_both (copies_of k p.blocks h.writes h.images) (copies_from (k + 1) ps hs) (once_of k p.blocks (length h.writes) h.writes h.images (t 0)) (ih (k + 1)) (not_below k p.blocks h.writes h.images ps hs)
     by_group false ih = ih k
 

@@ -47,13 +47,15 @@ module _ (s : Plan) (st : State) where
       one true true e = refl
       one true false e = absurd cc
 
-      by_name : (b : Bool) → (is_accepted (named_as (naming_found w (found_from name (i + 1) ps) named) st).0 ≡ false → (named_as (naming_found w (found_from name (i + 1) ps) named) st).0 ≡ name_refusal_in name ps)
+      by_name : (b : Bool)
+          → (is_accepted (named_as (naming_found w (found_from name (i + 1) ps) named) st).0 ≡ false → (named_as (naming_found w (found_from name (i + 1) ps) named) st).0 ≡ name_refusal_in name ps)
           → is_accepted (named_as (naming_found w (if b then Some (record { component = i; selectable = p.selectable }) else found_from name (i + 1) ps) named) st).0 ≡ false
           → (named_as (naming_found w (if b then Some (record { component = i; selectable = p.selectable }) else found_from name (i + 1) ps) named) st).0 ≡ (if b then (if p.selectable then Coded ObjectAlreadyExists else NotSelectable) else name_refusal_in name ps)
       by_name true ih e = one p.selectable (has_pair named w i) e
       by_name false ih e = ih e
 
-  name_of : (w : ℕ) (name : List ℕ) (m : Option (Option Meta)) → is_accepted (named_as (naming_of w name m st.explicit) st).0 ≡ false → (named_as (naming_of w name m st.explicit) st).0 ≡ name_refusal name m
+  name_of : (w : ℕ) (name : List ℕ) (m : Option (Option Meta)) → is_accepted (named_as (naming_of w name m st.explicit) st).0 ≡ false
+      → (named_as (naming_of w name m st.explicit) st).0 ≡ name_refusal name m
   name_of w name None e = refl
   name_of w name (Some None) e = refl
   name_of w name (Some (Some m)) e = name_in w st.explicit name 0 m.parts e
@@ -62,7 +64,8 @@ module _ (s : Plan) (st : State) where
       → (component_in mode s w name st).0 ≡ (if all then Coded BadState else name_refusal name (slice_get (known_metas s st) w))
   component_refused w name mode all e = subst (λ m. is_accepted (component_in m s w name st).0 ≡ false → (component_in m s w name st).0 ≡ (if all then Coded BadState else name_refusal name (slice_get (known_metas s st) w))) (sym e) (by_all all)
     where
-      by_all : (b : Bool) → is_accepted (component_in (mode_of b) s w name st).0 ≡ false → (component_in (mode_of b) s w name st).0 ≡ (if b then Coded BadState else name_refusal name (slice_get (known_metas s st) w))
+      by_all : (b : Bool) → is_accepted (component_in (mode_of b) s w name st).0 ≡ false
+          → (component_in (mode_of b) s w name st).0 ≡ (if b then Coded BadState else name_refusal name (slice_get (known_metas s st) w))
       by_all true f = refl
       by_all false f = name_of w name (slice_get (known_metas s st) w) f
 
@@ -73,7 +76,8 @@ module _ (s : Plan) (st : State) where
       not_full : (n : ℕ) → nat_le most_volumes n ≡ not (nat_lt n 64)
       not_full n = grind arith
 
-      by_tests : (a b d c : Bool) → b ≡ not d → is_accepted (add_to v r (if a then Some ObjectAlreadyExists else if b then Some MaximumNumberOfVolumesReached else if c then Some MaximumNumberOfSnapshotsReached else None) st).0 ≡ false
+      by_tests : (a b d c : Bool) → b ≡ not d
+          → is_accepted (add_to v r (if a then Some ObjectAlreadyExists else if b then Some MaximumNumberOfVolumesReached else if c then Some MaximumNumberOfSnapshotsReached else None) st).0 ≡ false
           → (add_to v r (if a then Some ObjectAlreadyExists else if b then Some MaximumNumberOfVolumesReached else if c then Some MaximumNumberOfSnapshotsReached else None) st).0
           ≡ (if a then Coded ObjectAlreadyExists else if d then Coded MaximumNumberOfSnapshotsReached else Coded MaximumNumberOfVolumesReached)
       by_tests true b d c f e = refl
@@ -104,14 +108,16 @@ module _ (s : Plan) (so_far : List Act) (lane : ℕ) where
   abbrev checked : Bool → Bool → Bool → Bool → Reply → Reply
   checked own start busy may answer = if own then (if start then Coded SnapshotSetInProgress else if busy then Coded BadState else if may then answer else Coded BadState) else Coded BadState
 
-  by_checks : (o : Op) (own start busy may : Bool) → (judged (owner_only own (verdict_of start (busy && true) may false)) s lane o st).0 ≡ checked own start busy may (line_in s lane o st.session st).0
+  by_checks : (o : Op) (own start busy may : Bool)
+      → (judged (owner_only own (verdict_of start (busy && true) may false)) s lane o st).0 ≡ checked own start busy may (line_in s lane o st.session st).0
   by_checks o false start busy may = refl
   by_checks o true true busy may = refl
   by_checks o true false true may = refl
   by_checks o true false false true = refl
   by_checks o true false false false = refl
 
-  called_is : (c : SessionCall) (o : Op) (q : Session) → st.session ≡ Some q → check st.session (runs st) lane c ≡ check_other st.session (runs st) lane c → goes_beside_agenda c ≡ false → is_await c ≡ false
+  called_is : (c : SessionCall) (o : Op) (q : Session) → st.session ≡ Some q → check st.session (runs st) lane c ≡ check_other st.session (runs st) lane c
+      → goes_beside_agenda c ≡ false → is_await c ≡ false
       → (called c s lane o st).0 ≡ checked (q.owner == lane) (is_start c && makes_set q.stage) (runs st) (allows q.stage (has_writers q.context) c) (session_line s lane o q st).0
   unfolding called
   called_is c o q e same beside waits =
@@ -123,11 +129,13 @@ module _ (s : Plan) (so_far : List Act) (lane : ℕ) where
       ∙ by_checks o (q.owner == lane) start (runs st) may
       ∙ ap (λ x. checked (q.owner == lane) start (runs st) may (line_in s lane o x st).0) e
 
-  none_called : (c : SessionCall) (o : Op) → st.session ≡ None → check st.session (runs st) lane c ≡ check_other st.session (runs st) lane c → (called c s lane o st).0 ≡ Coded BadState
+  none_called : (c : SessionCall) (o : Op) → st.session ≡ None → check st.session (runs st) lane c ≡ check_other st.session (runs st) lane c
+      → (called c s lane o st).0 ≡ Coded BadState
   unfolding called
   none_called c o e same = ap (λ v. (judged v s lane o st).0) (same ∙ ap (λ x. check_other x (runs st) lane c) e)
 
-  parts : (own start busy may comes : Bool) (answer want order : Reply) → (busy ≡ false → (not start && may) ≡ comes) → (start ≡ true → order ≡ Coded SnapshotSetInProgress) → (start ≡ false → order ≡ Coded BadState)
+  parts : (own start busy may comes : Bool) (answer want order : Reply) → (busy ≡ false → (not start && may) ≡ comes) → (start ≡ true → order ≡ Coded SnapshotSetInProgress)
+      → (start ≡ false → order ≡ Coded BadState)
       → (is_accepted answer ≡ false → answer ≡ want) → is_accepted (checked own start busy may answer) ≡ false
       → checked own start busy may answer ≡ (if not own then Coded BadState else if not busy && comes then want else order)
   parts false start busy may comes answer want order f g h k e = refl
@@ -176,7 +184,8 @@ module _ (s : Plan) (so_far : List Act) (lane : ℕ) where
           ∙ ap (λ x. Told x o) (sym f)
 
   -- a call that is no `start`
-  other_call : (c : SessionCall) (o : Op) → check st.session (runs st) lane c ≡ check_other st.session (runs st) lane c → goes_beside_agenda c ≡ false → is_await c ≡ false → is_start c ≡ false
+  other_call : (c : SessionCall) (o : Op) → check st.session (runs st) lane c ≡ check_other st.session (runs st) lane c → goes_beside_agenda c ≡ false → is_await c ≡ false
+      → is_start c ≡ false
       → allowed_in (asks_writers p) (stage_of p.step) c ≡ comes_now p o → order_refusal o (in_progress st) ≡ Coded BadState
       → ((q : Session) → q.mode ≡ mode_of p.all → is_accepted (session_line s lane o q st).0 ≡ false → (session_line s lane o q st).0 ≡ want_refusal s st p o)
       → is_accepted (called c s lane o st).0 ≡ false → (called c s lane o st).0 ≡ Told st.session o
@@ -223,7 +232,8 @@ module _ (s : Plan) (so_far : List Act) (lane : ℕ) where
 
   -- ## the other calls
 
-  begin_refused : (n : ℕ) (all : Bool) → is_fine (called (call.Begin n all) s lane (op.Begin n all) st).0 ≡ false → (called (call.Begin n all) s lane (op.Begin n all) st).0 ≡ Coded (if is_none st.session then UnsupportedContext else BadState)
+  begin_refused : (n : ℕ) (all : Bool) → is_fine (called (call.Begin n all) s lane (op.Begin n all) st).0 ≡ false
+      → (called (call.Begin n all) s lane (op.Begin n all) st).0 ≡ Coded (if is_none st.session then UnsupportedContext else BadState)
   unfolding called
   begin_refused n all e = by_session st.session refl e
     where
@@ -235,14 +245,16 @@ module _ (s : Plan) (so_far : List Act) (lane : ℕ) where
       by_owner true = refl
       by_owner false = refl
 
-      by_session : (x : Option Session) → st.session ≡ x → is_fine (judged (check_begin st.session lane) s lane (op.Begin n all) st).0 ≡ false → (judged (check_begin st.session lane) s lane (op.Begin n all) st).0 ≡ Coded (if is_none st.session then UnsupportedContext else BadState)
+      by_session : (x : Option Session) → st.session ≡ x → is_fine (judged (check_begin st.session lane) s lane (op.Begin n all) st).0 ≡ false
+          → (judged (check_begin st.session lane) s lane (op.Begin n all) st).0 ≡ Coded (if is_none st.session then UnsupportedContext else BadState)
       by_session None f g =
           let is = ap (λ x. (judged (check_begin x lane) s lane (op.Begin n all) st).0) f ∙ ap (λ x. (line_in s lane (op.Begin n all) x st).0) f in
           is ∙ opens (context_of n all) (ap is_fine (sym is) ∙ g) ∙ ap (λ x. Coded (if is_none x then UnsupportedContext else BadState)) (sym f)
       by_session (Some q) f g = ap (λ x. (judged (check_begin x lane) s lane (op.Begin n all) st).0) f ∙ by_owner (q.owner == lane) ∙ ap (λ x. Coded (if is_none x then UnsupportedContext else BadState)) (sym f)
 
   -- a call that goes beside an agenda
-  beside_refused : (c : SessionCall) (o : Op) → check st.session (runs st) lane c ≡ check_other st.session (runs st) lane c → is_start c ≡ false → goes_beside_agenda c ≡ true → is_await c ≡ false
+  beside_refused : (c : SessionCall) (o : Op) → check st.session (runs st) lane c ≡ check_other st.session (runs st) lane c → is_start c ≡ false → goes_beside_agenda c ≡ true
+      → is_await c ≡ false
       → ((q : Session) → is_fine (session_line s lane o q st).0 ≡ true) → is_fine (called c s lane o st).0 ≡ false → (called c s lane o st).0 ≡ Coded BadState
   unfolding called
   beside_refused c o same start on waits fine e = by_session st.session refl
@@ -250,7 +262,8 @@ module _ (s : Plan) (so_far : List Act) (lane : ℕ) where
       both : (b : Bool) → b ≡ true → b ≡ false → ⊥
       both b e f = cc
 
-      by_parts : (own busy may : Bool) → is_fine (line_in s lane o st.session st).0 ≡ true → is_fine (judged (owner_only own (verdict_of false (busy && false) may false)) s lane o st).0 ≡ false
+      by_parts : (own busy may : Bool) → is_fine (line_in s lane o st.session st).0 ≡ true
+          → is_fine (judged (owner_only own (verdict_of false (busy && false) may false)) s lane o st).0 ≡ false
           → (judged (owner_only own (verdict_of false (busy && false) may false)) s lane o st).0 ≡ Coded BadState
       by_parts false busy may f g = refl
       by_parts true true true f g = absurd (both (is_fine (line_in s lane o st.session st).0) f g)

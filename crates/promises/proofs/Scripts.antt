@@ -70,7 +70,8 @@ pub kept_among : (f : ℕ → Bool) (x : ℕ) (xs : List ℕ) → f x ≡ true �
 kept_among f x [] e g = absurd cc
 kept_among f x (y ∷ xs) e g = by_head (y == x) refl g (kept_among f x xs e)
   where
-    by_head : (c : Bool) → (y == x) ≡ c → (c || is_among x xs) ≡ true → (is_among x xs ≡ true → is_among x (filter f xs) ≡ true) → is_among x (if f y then y ∷ filter f xs else filter f xs) ≡ true
+    by_head : (c : Bool) → (y == x) ≡ c → (c || is_among x xs) ≡ true → (is_among x xs ≡ true → is_among x (filter f xs) ≡ true)
+        → is_among x (if f y then y ∷ filter f xs else filter f xs) ≡ true
     by_head true h g ih = here (f y) (subst (λ z. f z ≡ true) (sym (equal y x h)) e)
       where
         here : (b : Bool) → b ≡ true → is_among x (if b then y ∷ filter f xs else filter f xs) ≡ true
@@ -126,7 +127,8 @@ kinds_apart kind.Complete = refl
 abbrev Shrinks : ℕ → List Open → List Open → Type 0
 Shrinks w os ps = same_place (open_place os) (open_place ps) ≡ true → is_among w (waits_now ps) ≡ true → is_among w (waits_now os) ≡ true
 
-open_among : (b : Agenda) (w : ℕ) (p : Place) (qs : List Place) → is_among w (waits_now (left_from b qs)) ≡ true → same_place p (open_place (left_from b qs)) ≡ true → list_any (same_place p) qs ≡ true
+open_among : (b : Agenda) (w : ℕ) (p : Place) (qs : List Place) → is_among w (waits_now (left_from b qs)) ≡ true → same_place p (open_place (left_from b qs)) ≡ true
+    → list_any (same_place p) qs ≡ true
 open_among b w p [] e f = absurd cc
 open_among b w p (q ∷ qs) e f = at_group (waited_for b q) (open_among b w p qs) e f
   where
@@ -138,11 +140,14 @@ open_among b w p (q ∷ qs) e f = at_group (waited_for b q) (open_among b w p qs
     or_left true d e = refl
     or_left false d e = absurd cc
 
-    at_group : (ws : List ℕ) → (is_among w (waits_now (left_from b qs)) ≡ true → same_place p (open_place (left_from b qs)) ≡ true → list_any (same_place p) qs ≡ true) → is_among w (waits_now (with_group q ws (left_from b qs))) ≡ true → same_place p (open_place (with_group q ws (left_from b qs))) ≡ true → (same_place p q || list_any (same_place p) qs) ≡ true
+    at_group : (ws : List ℕ) → (is_among w (waits_now (left_from b qs)) ≡ true → same_place p (open_place (left_from b qs)) ≡ true → list_any (same_place p) qs ≡ true)
+        → is_among w (waits_now (with_group q ws (left_from b qs))) ≡ true → same_place p (open_place (with_group q ws (left_from b qs))) ≡ true
+        → (same_place p q || list_any (same_place p) qs) ≡ true
     at_group [] ih e f = or_right (same_place p q) (list_any (same_place p) qs) (ih e f)
     at_group (x ∷ ws) ih e f = or_left (same_place p q) (list_any (same_place p) qs) f
 
-left_shrinks : (a b : Agenda) (w : ℕ) → ((p : Place) → waited_for a p ≡ [] → waited_for b p ≡ []) → ((p : Place) → is_among w (waited_for b p) ≡ true → is_among w (waited_for a p) ≡ true) → (ps : List Place) → are_apart ps ≡ true
+left_shrinks : (a b : Agenda) (w : ℕ) → ((p : Place) → waited_for a p ≡ [] → waited_for b p ≡ [])
+    → ((p : Place) → is_among w (waited_for b p) ≡ true → is_among w (waited_for a p) ≡ true) → (ps : List Place) → are_apart ps ≡ true
     → Shrinks w (left_from a ps) (left_from b ps)
 left_shrinks a b w closed fewer [] e = λ same i. i
 left_shrinks a b w closed fewer (p ∷ ps) e = by_waits (waited_for a p) (waited_for b p) (closed p) (fewer p) (left_shrinks a b w closed fewer ps (both_parts (not (list_any (same_place p) ps)) (are_apart ps) e).1)
@@ -154,7 +159,8 @@ left_shrinks a b w closed fewer (p ∷ ps) e = by_waits (waited_for a p) (waited
         both true e f = cc
         both false e f = cc
 
-    by_waits : (xs ys : List ℕ) → (xs ≡ [] → ys ≡ []) → (is_among w ys ≡ true → is_among w xs ≡ true) → Shrinks w (left_from a ps) (left_from b ps) → Shrinks w (with_group p xs (left_from a ps)) (with_group p ys (left_from b ps))
+    by_waits : (xs ys : List ℕ) → (xs ≡ [] → ys ≡ []) → (is_among w ys ≡ true → is_among w xs ≡ true) → Shrinks w (left_from a ps) (left_from b ps)
+        → Shrinks w (with_group p xs (left_from a ps)) (with_group p ys (left_from b ps))
     by_waits [] [] f g ih = ih
     by_waits [] (y ∷ ys) f g ih = absurd (none (f refl))
       where
@@ -183,11 +189,13 @@ module _ (w : ℕ) (o : Order) where
       append_none [] = refl
       append_none (x ∷ xs) = ap (λ ys. x ∷ ys) (append_none xs)
 
-  one_group : (gs : List OrderGroup) (x : Order) (ws : List ℕ) (b : Bool) → (same_order x o && is_among w ws) ≡ b → nth (gs ++ record { order = x; members = ws } ∷ []) ≡ more_if b (nth gs)
+  one_group : (gs : List OrderGroup) (x : Order) (ws : List ℕ) (b : Bool) → (same_order x o && is_among w ws) ≡ b
+      → nth (gs ++ record { order = x; members = ws } ∷ []) ≡ more_if b (nth gs)
   one_group gs x ws true e = sum_by-append (λ (g : OrderGroup). cond (same_order g.order o && is_among w g.members) 1 0) gs (record { order = x; members = ws } ∷ []) ∙ ap (λ c. nth gs + (0 + cond c 1 0)) e
   one_group gs x ws false e = sum_by-append (λ (g : OrderGroup). cond (same_order g.order o && is_among w g.members) 1 0) gs (record { order = x; members = ws } ∷ []) ∙ ap (λ c. nth gs + (0 + cond c 1 0)) e ∙ omega arith
 
-  new_group : (gs : List OrderGroup) (g : Group) (ws : List ℕ) → nth (gs ++ group_of_orders (order_of g) ws) ≡ more_if (is_owed o (order_if (is_orders g && is_among w ws) (order_of g)) && true) (nth gs)
+  new_group : (gs : List OrderGroup) (g : Group) (ws : List ℕ)
+      → nth (gs ++ group_of_orders (order_of g) ws) ≡ more_if (is_owed o (order_if (is_orders g && is_among w ws) (order_of g)) && true) (nth gs)
   new_group gs (Orders x) ws = one_group gs x ws (is_owed o (order_if (is_among w ws) (Some x)) && true) (by_among (is_among w ws) (same_order x o))
     where
       by_among : (b c : Bool) → (same_order x o && b) ≡ (is_owed o (order_if b (Some x)) && true)
@@ -206,12 +214,14 @@ module _ (w : ℕ) (o : Order) where
   new_group gs PostCommit ws = no_group gs
 
   -- at the same place nobody is asked anew
-  same_owed : (x p : Open) (xs ps : List Open) → same_place x.place p.place ≡ true → Shrinks w (x ∷ xs) (p ∷ ps) → is_owed o (open_order (p ∷ ps) w) ≡ true → is_owed o (open_order (x ∷ xs) w) ≡ true
+  same_owed : (x p : Open) (xs ps : List Open) → same_place x.place p.place ≡ true → Shrinks w (x ∷ xs) (p ∷ ps) → is_owed o (open_order (p ∷ ps) w) ≡ true
+      → is_owed o (open_order (x ∷ xs) w) ≡ true
   same_owed x p xs ps e h f =
       let group = same_group x.place.group p.place.group (both_parts (group_code x.place.group == group_code p.place.group) _ e).0 in
       by_among p.place.group (is_among w p.waits) refl f group
     where
-      by_among : (g : Group) (b : Bool) → is_among w p.waits ≡ b → is_owed o (order_if (is_orders g && b) (order_of g)) ≡ true → x.place.group ≡ g → is_owed o (order_if (is_orders x.place.group && is_among w x.waits) (order_of x.place.group)) ≡ true
+      by_among : (g : Group) (b : Bool) → is_among w p.waits ≡ b → is_owed o (order_if (is_orders g && b) (order_of g)) ≡ true → x.place.group ≡ g
+          → is_owed o (order_if (is_orders x.place.group && is_among w x.waits) (order_of x.place.group)) ≡ true
       by_among g true i f group =
           ap (λ c. is_owed o (order_if (is_orders x.place.group && c) (order_of x.place.group))) (h e i)
           ∙ ap (λ y. is_owed o (order_if (is_orders y && true) (order_of y))) group ∙ f
@@ -278,7 +288,8 @@ module _ (w : ℕ) (o : Order) where
   asks_none : (c d : Course) → d.agenda ≡ None → d.opened ≡ c.opened → Asks c d
   asks_none c d e f = ap nth f ∙ ap (λ b. more_if b (nth c.opened)) (sym (ap (λ x. anew (left c.agenda) (left x)) e))
 
-  shrinks_settled : (done : Bool) (a x : Agenda) (r : SetOutcome) (b : Option Agenda) (p : SetOutcome) → Settles done x r b p → Shrinks w (groups_left a) (groups_left x) → Shrinks w (groups_left a) (left b)
+  shrinks_settled : (done : Bool) (a x : Agenda) (r : SetOutcome) (b : Option Agenda) (p : SetOutcome) → Settles done x r b p → Shrinks w (groups_left a) (groups_left x)
+      → Shrinks w (groups_left a) (left b)
   shrinks_settled true a x r b p e h = subst (λ y. Shrinks w (groups_left a) (left y)) (sym e.0) (λ same i. absurd cc)
   shrinks_settled false a x r b p e h = subst (λ y. Shrinks w (groups_left a) (left y)) (sym e.0) h
 
@@ -457,7 +468,8 @@ module _ (s : Plan) (w : ℕ) (o : Order) (st : State) where
       by_test true g = on_followed (runs st) (course_stepped false st.clock st.course) st (asks_stepped w o false st.clock st.course e)
       by_test false g = on_followed (runs st) (course_stepped true st.clock st.course) (step_made g st) (asks_stepped w o true st.clock st.course e)
 
-  begins : (k : Kind) (ms : List Member) (vs : List ℕ) (c : Course) → runs st ≡ false → c.agenda ≡ st.course.agenda → c.opened ≡ st.course.opened → To (followed true (begun k ms vs st.clock c) st).course
+  begins : (k : Kind) (ms : List Member) (vs : List ℕ) (c : Course) → runs st ≡ false → c.agenda ≡ st.course.agenda → c.opened ≡ st.course.opened
+      → To (followed true (begun k ms vs st.clock c) st).course
   begins k ms vs c e f g = on_followed true (begun k ms vs st.clock c) st (asks_begun w o k ms vs st.clock st.course c (not_running st.course.agenda e) (f ∙ not_running st.course.agenda e) g)
 
   either : (b : Bool) (x y : Replied) → To x.1.course → To y.1.course → To (if b then x else y).1.course
@@ -507,7 +519,8 @@ written_is : (rows : List Scripted) (o : Order) (n : ℕ) → scripted_answer ro
 written_is [] o n = refl
 written_is (r ∷ rows) o n = by_test (same_order r.order o && (r.nth == n)) (written_is rows o n)
   where
-    by_test : (b : Bool) → scripted_answer rows o n ≡ written_in rows o n → answer_in (if b then Some r else find (is_row_for o n) rows) ≡ (if b then r.answer else written_in rows o n)
+    by_test : (b : Bool) → scripted_answer rows o n ≡ written_in rows o n
+        → answer_in (if b then Some r else find (is_row_for o n) rows) ≡ (if b then r.answer else written_in rows o n)
     by_test true ih = refl
     by_test false ih = ih
 
@@ -520,7 +533,8 @@ module _ (s : Plan) (before : List Move) (m : Move) (w : ℕ) (e : m.actor ≡ W
       acts-append s before m ∙ ap (λ x. acts s before ++ acts_if (event_of s (run s before) x) m.mark) e
       ∙ ap (λ (x : State). acts s before ++ acts_if (script_event s x w (order_of_writer x w)) m.mark) (state-run s before)
 
-  own_script : (o : Order) → order_of_writer st w ≡ Some o → acts s (before ++ m ∷ []) ≡ acts s before ++ acts_if (answer_event w (written_in (script_of s w) o (times_asked s w o (acts s before)))) m.mark
+  own_script : (o : Order) → order_of_writer st w ≡ Some o
+      → acts s (before ++ m ∷ []) ≡ acts s before ++ acts_if (answer_event w (written_in (script_of s w) o (times_asked s w o (acts s before)))) m.mark
   own_script o f =
       own_event
       ∙ ap (λ x. acts s before ++ acts_if (script_event s st w x) m.mark) f

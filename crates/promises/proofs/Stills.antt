@@ -45,7 +45,8 @@ waits_for_done Snapshot AppRollback t h = ap (λ x. is_stage (stage_after AppRol
 waits_for_done Snapshot NasRollback t h = ap (λ x. is_stage (stage_after NasRollback x) Done) (sym h)
 waits_for_done Complete c t h = ap (λ x. is_stage (stage_after c x) Done) (sym h)
 
-kind_told : (s : Plan) (so_far : List Act) (a : Agenda) (o : Option Session) → (state s so_far).course.agenda ≡ Some a → (state s so_far).session ≡ o → IsAgendaOf (Some a) o → is_snapshot a.kind ≡ is_step (progress s so_far).step BySnapshot
+kind_told : (s : Plan) (so_far : List Act) (a : Agenda) (o : Option Session) → (state s so_far).course.agenda ≡ Some a → (state s so_far).session ≡ o → IsAgendaOf (Some a) o
+    → is_snapshot a.kind ≡ is_step (progress s so_far).step BySnapshot
 kind_told s so_far a None e f h = absurd h
 kind_told s so_far a (Some q) e f h =
     let at : StandsAt q true (progress s so_far) = subst (λ b. StandsAt q b (progress s so_far)) (ap is_some e) (stands_all s so_far q f) in
@@ -99,7 +100,8 @@ same_test true b f g = sym (f refl)
 same_test false true f g = g refl
 same_test false false f g = refl
 
-step_told : (s : Plan) (a : Agenda) (g : Group) (v : ℕ) → ((said : Said) (now u : ℕ) → (u == v) ≡ true → is_made g (Some v) (deed_at g u said now) ≡ true) → Good s a → has_said a.log (plain g) v ≡ made g (Some v) (map deed_in a.log)
+step_told : (s : Plan) (a : Agenda) (g : Group) (v : ℕ) → ((said : Said) (now u : ℕ) → (u == v) ≡ true → is_made g (Some v) (deed_at g u said now) ≡ true) → Good s a
+    → has_said a.log (plain g) v ≡ made g (Some v) (map deed_in a.log)
 step_told s a g v own h = same_test (has_said a.log (plain g) v) (made g (Some v) (map deed_in a.log)) (said_deed a.log (plain g) v (is_made g (Some v)) own) (λ e. h.logged g (Some v) e)
 
 -- ## every state
@@ -109,7 +111,8 @@ kind_is Snapshot e = refl
 kind_is k e = absurd cc
 
 -- of a running snapshot agenda, by its log; nothing of another one
-held_in : (s : Plan) (ds : List Deed) (v : ℕ) (a : Agenda) (b : Bool) → is_snapshot a.kind ≡ b → (a.kind ≡ Snapshot → (map deed_in a.log ≡ ds) × Good s a) → holds (Some a) v ≡ (b && (made Hold (Some v) ds && not (made Release (Some v) ds)))
+held_in : (s : Plan) (ds : List Deed) (v : ℕ) (a : Agenda) (b : Bool) → is_snapshot a.kind ≡ b → (a.kind ≡ Snapshot → (map deed_in a.log ≡ ds) × Good s a)
+    → holds (Some a) v ≡ (b && (made Hold (Some v) ds && not (made Release (Some v) ds)))
 held_in s ds v a false e h = ap (λ b. b && has_said a.log (plain Hold) v && not (has_said a.log (plain Release) v)) e
 held_in s ds v a true e h =
     let own = h (kind_is a.kind e) in
@@ -118,7 +121,8 @@ held_in s ds v a true e h =
     ∙ ap (λ b. made Hold (Some v) (map deed_in a.log) && not b) (step_told s a Release v (λ said now u f. f) own.1)
     ∙ ap (λ xs. made Hold (Some v) xs && not (made Release (Some v) xs)) own.0
 
-frozen_in : (s : Plan) (ds : List Deed) (w : ℕ) (a : Agenda) (b : Bool) → is_snapshot a.kind ≡ b → (a.kind ≡ Snapshot → (map deed_in a.log ≡ ds) × Good s a) → freezes (Some a) w ≡ (b && (agreed Freeze w ds && not (heard Thaw w ds)))
+frozen_in : (s : Plan) (ds : List Deed) (w : ℕ) (a : Agenda) (b : Bool) → is_snapshot a.kind ≡ b → (a.kind ≡ Snapshot → (map deed_in a.log ≡ ds) × Good s a)
+    → freezes (Some a) w ≡ (b && (agreed Freeze w ds && not (heard Thaw w ds)))
 frozen_in s ds w a false e h = ap (λ b. b && has_frozen a.log w && not (has_thawed a.log w)) e
 frozen_in s ds w a true e h =
     ap (λ b. b && has_frozen a.log w && not (has_thawed a.log w)) e
@@ -143,7 +147,8 @@ stands_still s so_far = record {
         → test (state s so_far).course.agenda ≡ (takes_snapshot s so_far && c)
     by_agenda test c none some = at (state s so_far).course.agenda refl (along (Good s) (good_along s) s so_far) (orderly s so_far).agenda
       where
-        at : (x : Option Agenda) → (state s so_far).course.agenda ≡ x → Running (λ (a : Agenda). a.kind ≡ Snapshot → (map deed_in a.log ≡ ds) × Good s a) x → IsAgendaOf (state s so_far).course.agenda (state s so_far).session
+        at : (x : Option Agenda) → (state s so_far).course.agenda ≡ x → Running (λ (a : Agenda). a.kind ≡ Snapshot → (map deed_in a.log ≡ ds) × Good s a) x
+            → IsAgendaOf (state s so_far).course.agenda (state s so_far).session
             → test (state s so_far).course.agenda ≡ (takes_snapshot s so_far && c)
         at None e h own = ap test e ∙ none ∙ ap (λ (y : Option Agenda). (is_some y && step) && c) (sym e)
         at (Some a) e h own =
