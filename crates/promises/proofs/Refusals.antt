@@ -250,7 +250,10 @@ module _ (s : Plan) (so_far : List Act) (lane : ℕ) where
       by_session None f g =
           let is = ap (λ x. (judged (check_begin x lane) s lane (op.Begin n all) st).0) f ∙ ap (λ x. (line_in s lane (op.Begin n all) x st).0) f in
           is ∙ opens (context_of n all) (ap is_fine (sym is) ∙ g) ∙ ap (λ x. Coded (if is_none x then UnsupportedContext else BadState)) (sym f)
-      by_session (Some q) f g = ap (λ x. (judged (check_begin x lane) s lane (op.Begin n all) st).0) f ∙ by_owner (q.owner == lane) ∙ ap (λ x. Coded (if is_none x then UnsupportedContext else BadState)) (sym f)
+      by_session (Some q) f g =
+          ap (λ x. (judged (check_begin x lane) s lane (op.Begin n all) st).0) f
+          ∙ by_owner (q.owner == lane)
+          ∙ ap (λ x. Coded (if is_none x then UnsupportedContext else BadState)) (sym f)
 
   -- a call that goes beside an agenda
   beside_refused : (c : SessionCall) (o : Op) → check st.session (runs st) lane c ≡ check_other st.session (runs st) lane c → is_start c ≡ false → goes_beside_agenda c ≡ true
@@ -287,7 +290,13 @@ refuses_for_cause s so_far act =
     let st = state s so_far in
     record {
       ordered = λ lane o e f g. line_reply s st act (Line lane o) e ∙ refused_line s so_far lane o act.mark f (ap is_accepted (sym (line_reply s st act (Line lane o) e)) ∙ g);
-      begins = λ lane n all e g. line_reply s st act (Line lane (op.Begin n all)) e ∙ begin_refused s so_far lane n all (ap is_fine (sym (line_reply s st act (Line lane (op.Begin n all)) e)) ∙ g);
-      aborts = λ lane e g. line_reply s st act (Line lane op.Abort) e ∙ beside_refused s so_far lane call.Abort op.Abort refl refl refl refl (λ q. refl) (ap is_fine (sym (line_reply s st act (Line lane op.Abort) e)) ∙ g);
-      ends = λ lane e g. line_reply s st act (Line lane op.End) e ∙ beside_refused s so_far lane call.End op.End refl refl refl refl (λ q. refl) (ap is_fine (sym (line_reply s st act (Line lane op.End) e)) ∙ g);
+      begins =
+          λ lane n all e g. line_reply s st act (Line lane (op.Begin n all)) e
+          ∙ begin_refused s so_far lane n all (ap is_fine (sym (line_reply s st act (Line lane (op.Begin n all)) e)) ∙ g);
+      aborts =
+          λ lane e g. line_reply s st act (Line lane op.Abort) e
+          ∙ beside_refused s so_far lane call.Abort op.Abort refl refl refl refl (λ q. refl) (ap is_fine (sym (line_reply s st act (Line lane op.Abort) e)) ∙ g);
+      ends =
+          λ lane e g. line_reply s st act (Line lane op.End) e
+          ∙ beside_refused s so_far lane call.End op.End refl refl refl refl (λ q. refl) (ap is_fine (sym (line_reply s st act (Line lane op.End) e)) ∙ g);
     }
