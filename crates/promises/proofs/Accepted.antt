@@ -83,7 +83,7 @@ module _ (s : Plan) (st : State) (lane : ℕ) where
   owned_tells o true v h e = h e
   owned_tells o false v h e = absurd cc
 
-  tells : (c : SessionCall) (o : Op) (q : Session) → st.session ≡ Some q → check st.session (runs st) lane c ≡ check_other st.session (runs st) lane c → is_accepted (called c s lane o st).0 ≡ true → (called c s lane o st).0 ≡ (session_line s lane o q st).0
+  pub tells : (c : SessionCall) (o : Op) (q : Session) → st.session ≡ Some q → check st.session (runs st) lane c ≡ check_other st.session (runs st) lane c → is_accepted (called c s lane o st).0 ≡ true → (called c s lane o st).0 ≡ (session_line s lane o q st).0
   unfolding called
   tells c o q e f g =
       let same = f ∙ ap (λ x. check_other x (runs st) lane c) e in
@@ -102,10 +102,10 @@ code_of BySnapshot = refl
 code_of ByComplete = refl
 code_of ByFailure = refl
 
-same_stage : (a b : Step) → is_stage (stage_of a) (stage_of b) ≡ is_step a b
+pub same_stage : (a b : Step) → is_stage (stage_of a) (stage_of b) ≡ is_step a b
 same_stage a b = ap (λ n. n == stage_code (stage_of b)) (code_of a) ∙ ap (λ n. step_code a == n) (code_of b)
 
-start_stage : (a : Step) (w : Bool) → (not (makes_set (stage_of a)) && (if w then is_stage (stage_of a) Gathered else is_stage (stage_of a) Opened)) ≡ (if w then is_step a ByGather else is_step a ByBegin)
+pub start_stage : (a : Step) (w : Bool) → (not (makes_set (stage_of a)) && (if w then is_stage (stage_of a) Gathered else is_stage (stage_of a) Opened)) ≡ (if w then is_step a ByGather else is_step a ByBegin)
 start_stage ByBegin true = refl
 start_stage ByBegin false = refl
 start_stage ByGather true = refl
@@ -121,17 +121,17 @@ start_stage ByComplete false = refl
 start_stage ByFailure true = refl
 start_stage ByFailure false = refl
 
-either_stage : (a : Step) (w : Bool) → (if w then is_stage (stage_of a) Prepared else is_stage (stage_of a) Started) ≡ (if w then is_step a ByPrepare else is_step a ByStart)
+pub either_stage : (a : Step) (w : Bool) → (if w then is_stage (stage_of a) Prepared else is_stage (stage_of a) Started) ≡ (if w then is_step a ByPrepare else is_step a ByStart)
 either_stage a true = same_stage a ByPrepare
 either_stage a false = same_stage a ByStart
 
-writers_asked : (c : Context) (n : ℕ) → number_of c ≡ n → has_writers c ≡ ((n == 0) || (n == 9))
+pub writers_asked : (c : Context) (n : ℕ) → number_of c ≡ n → has_writers c ≡ ((n == 0) || (n == 9))
 writers_asked Backup n e = ap (λ k. (k == 0) || (k == 9)) e
 writers_asked AppRollback n e = ap (λ k. (k == 0) || (k == 9)) e
 writers_asked NasRollback n e = ap (λ k. (k == 0) || (k == 9)) e
 
 -- the table of stages, for a call of an order
-abbrev allowed_in : Bool → Stage → SessionCall → Bool
+abbrev pub allowed_in : Bool → Stage → SessionCall → Bool
 allowed_in w stage c = not (is_start c && makes_set stage) && allows stage w c
 
 -- ## what a call wants
@@ -346,7 +346,7 @@ module _ (s : Plan) (so_far : List Act) (lane : ℕ) where
       by_session (Some q) e = ap (λ x. is_fine (judged (check_begin x lane) s lane (op.Begin n all) st).0) e ∙ by_owner (q.owner == lane) ∙ ap (λ x. is_none x && is_context n all) (sym e)
 
   -- the set in progress is the session's
-  makes_its_set : (q : Session) → st.session ≡ Some q → makes_set q.stage ≡ is_some (in_progress st)
+  pub makes_its_set : (q : Session) → st.session ≡ Some q → makes_set q.stage ≡ is_some (in_progress st)
   makes_its_set q e = by_set (in_progress st) (subst (λ x. IsOfSession x st.course.outcome (in_progress st)) e (orderly s so_far).session)
     where
       by_set : (o : Option SetRow) → IsOfSession (Some q) st.course.outcome o → makes_set q.stage ≡ is_some o
@@ -399,7 +399,7 @@ module _ (s : Plan) (so_far : List Act) (lane : ℕ) where
           ∙ ap (λ x. (line_in s lane op.Status x st).0) f
 
 -- the reply of a line
-line_reply : (s : Plan) (st : State) (act : Act) (event : Event) → act.event ≡ event → reply s st act ≡ (happens s event act.mark st).0
+pub line_reply : (s : Plan) (st : State) (act : Act) (event : Event) → act.event ≡ event → reply s st act ≡ (happens s event act.mark st).0
 line_reply s st act event e = ap (λ x. (happens s x act.mark st).0) e
 
 pub accepts_in_order : (s : Plan) (so_far : List Act) (act : Act) → AcceptsInOrder s so_far act

@@ -1,6 +1,6 @@
 -- A set that fails has the code of its cause.
-use Rattle.std.proofs.Common.{◌≡◌, ◌∙◌, ℕ, ◌+◌, List, [], ◌∷◌, Option, Some, None, refl, Bool, true, false, ap, sym, inl, inr}
-use Rattle.std.specs.Prelude.{◌&&◌, ◌⊎◌, not, if◌then◌else◌}
+use Rattle.std.proofs.Common.{◌≡◌, ◌∙◌, ℕ, ◌+◌, List, [], ◌∷◌, ◌++◌, Option, Some, None, refl, Bool, true, false, ap, sym, subst, inl, inr}
+use Rattle.std.specs.Prelude.{◌&&◌, not, if◌then◌else◌}
 use Rattle.vss_names.specs.declared.order.Order.{Order}
 use Rattle.vss_names.specs.declared.set_outcome.SetOutcome.{SetOutcome}
 use Rattle.vss_names.specs.declared.set_outcome.SetOutcome.TheVariants.{Failed as FailedSet}
@@ -20,9 +20,10 @@ use Rattle.set_agenda.specs.declared.group.Group.{Group}
 use Rattle.set_agenda.specs.declared.kind.Kind.TheVariants as kind
 use Rattle.set_agenda.specs.declared.limit.Limit.{Limit}
 use Rattle.set_agenda.specs.declared.limit.Limit.TheVariants.{Hold as HoldLimit, Freeze as FreezeLimit, Answer as AnswerLimit}
-use Rattle.set_agenda.specs.Agenda.{open_group, open_order, order_now, is_working, left}
-use Rattle.set_agenda.specs.Limits.{Running as RunningLimit, spent_of}
-use Rattle.set_agenda.specs.Course.{Course, posted, failed as course_failed, settled, told, is_decisive, decided, answered_to, answered as course_answered, stepped as course_stepped, limits_now, lost, lost_to, fails_set, lost_decided, treated_as, treated, timed as course_timed}
+use Rattle.tick_limits.specs.Time.{answer_limit}
+use Rattle.set_agenda.specs.Agenda.{Agenda, Open, groups_left, open_group, open_order, order_now, is_working, left}
+use Rattle.set_agenda.specs.Limits.{Running as RunningLimit, opened_at, freeze_opened_at, first_hold, freeze_runs, answer_runs, runs_if, hold_running, running_at, running_limits, spent_of}
+use Rattle.set_agenda.specs.Course.{Course, posted, failed as course_failed, settled, told, is_decisive, decided, answered_to, answered as course_answered, stepped as course_stepped, freeze_limit, limits_now, lost, lost_to, fails_set, lost_decided, treated_as, treated, timed as course_timed}
 use Rattle.requestor.specs.Session.{Session}
 use Rattle.scenario.specs.declared.op.Op.{Op}
 use Rattle.scenario.specs.declared.op.Op.TheVariants as op
@@ -37,18 +38,23 @@ use Rattle.vss_model.specs.Sessions.{has_no_volume, start_set, closed}
 use Rattle.vss_model.specs.Steps.{answered, step_made, is_flush, is_failed_step, stepped_as, stepped, ticked, later}
 use Rattle.vss_model.specs.Facts.{has_failed}
 use Rattle.vss_model.specs.Acts.{Act, idle_now, state}
+use Rattle.vss_model.specs.Causes.{holds_volumes, held_too_long, frozen_too_long}
 use Rattle.vss_model.proofs.FlushFails.{outcome_is_running}
+use Rattle.vss_model.proofs.Late.{hold_late, freeze_late}
+use Rattle.vss_model.proofs.LogRule.{Running}
 use Rattle.promises.specs.Awaited.{set_failure}
-use Rattle.promises.specs.Codes.{IsLimitCode, IsAnswerCode, IsLineCode, IsCode, FailsByCode}
+use Rattle.promises.specs.Way.{Rising}
+use Rattle.promises.specs.Codes.{late_code_at, late_code_in, late_code, IsAnswerCode, IsLineCode, IsCode, FailsByCode}
 use Rattle.promises.proofs.BusyAgendas.{course_followed}
 use Rattle.promises.proofs.ByEvent.{Covers, covered, after_enabled}
 use Rattle.promises.proofs.CalmCourses.{calm_begun}
 use Rattle.promises.proofs.CourseRows.{calm_settled}
 use Rattle.promises.proofs.GoneImages.{none_stepped}
+use Rattle.promises.proofs.Limits.{held_since_first, none_found, first_found, later_found, limit_found, hold_found, held_finds, frozen_finds}
 use Rattle.promises.proofs.SetFailures.{failure_at}
+use Rattle.promises.proofs.Stages.{false_of}
+use Rattle.promises.proofs.Times.{times, held_is_first, logs_rise}
 use Rattle.promises.proofs.Turns.{Turn, no_failure, write_turn, revert_turn, begun_turn, answer_turn, tick_turn, step_turn, abort_turn, add_turn, none_started}
-
--- ## what a call of the course fails with
 
 same_reason : (x y : VssResult) → FailedSet x ≡ FailedSet y → x ≡ y
 same_reason x y e = cc
@@ -72,6 +78,65 @@ told_outcome : (o : Order) (x : Said) (now : ℕ) (ws : List ℕ) (c : Course) �
 unfolding told
 told_outcome o x now ws c = refl
 
+-- ## which limit is spent
+
+abbrev code_of_limit : Limit → VssResult
+code_of_limit HoldLimit = HoldWritesTimeout
+code_of_limit FreezeLimit = WriterFault Timeout
+code_of_limit AnswerLimit = WriterNotResponding
+
+module _ (now : ℕ) (c : Course) (a : Agenda) (o : Open) (l : RunningLimit) where
+  abbrev H : List RunningLimit
+  H = hold_running o.place.group (first_hold a.log)
+
+  abbrev F : List RunningLimit
+  F = runs_if (freeze_runs o.place.group) FreezeLimit (freeze_opened_at a) (freeze_limit c)
+
+  abbrev A : List RunningLimit
+  A = runs_if (answer_runs o.place.group) AnswerLimit (opened_at a o) answer_limit
+
+  abbrev code : Bool → Bool → VssResult
+  code held frozen = if held then HoldWritesTimeout else if frozen then WriterFault Timeout else WriterNotResponding
+
+  same_limit : (m : RunningLimit) → spent_of now (H ++ F ++ A) ≡ Some l → spent_of now (H ++ F ++ A) ≡ Some m → m.limit ≡ l.limit
+  same_limit m e f = ap (λ (x : RunningLimit). x.limit) (both (spent_of now (H ++ F ++ A)) e f)
+    where
+      both : (x : Option RunningLimit) → x ≡ Some l → x ≡ Some m → m ≡ l
+      both x e f = cc
+
+  not_held : (held_too_long now o.place.group a ≡ true → (holds_volumes o.place.group ≡ true) × (held_since_first now a ≡ true)) → spent_of now H ≡ None
+      → held_too_long now o.place.group a ≡ false
+  not_held first e = false_of (held_too_long now o.place.group a) (λ i. let parts = first i in none_found now H HoldLimit e (held_finds now o.place.group a parts.0 parts.1))
+
+  by_limits : (h f : Option RunningLimit) → spent_of now H ≡ h → spent_of now F ≡ f
+      → (held_too_long now o.place.group a ≡ true → (holds_volumes o.place.group ≡ true) × (held_since_first now a ≡ true)) → spent_of now (H ++ F ++ A) ≡ Some l
+      → code_of_limit l.limit ≡ code (held_too_long now o.place.group a) (frozen_too_long now o.place.group c a)
+  by_limits (Some m) f e g first is =
+      ap code_of_limit (sym (same_limit m is (first_found now (H ++ F) A m (first_found now H F m e))) ∙ hold_found now o.place.group (first_hold a.log) m e)
+      ∙ ap (λ b. code b (frozen_too_long now o.place.group c a)) (sym (hold_late now o.place.group a (first_hold a.log) m refl e))
+  by_limits None (Some m) e g first is =
+      ap code_of_limit (sym (same_limit m is (first_found now (H ++ F) A m (later_found now H F e ∙ g))) ∙ limit_found now (freeze_runs o.place.group) FreezeLimit (freeze_opened_at a) (freeze_limit c) m g)
+      ∙ ap (λ b. code false b) (sym (freeze_late now o.place.group c a m g))
+      ∙ ap (λ b. code b (frozen_too_long now o.place.group c a)) (sym (not_held first e))
+  by_limits None None e g first is =
+      ap code_of_limit (limit_found now (answer_runs o.place.group) AnswerLimit (opened_at a o) answer_limit l (sym (later_found now (H ++ F) A (later_found now H F e ∙ g)) ∙ is))
+      ∙ ap (λ b. code false b) (sym (false_of (frozen_too_long now o.place.group c a) (λ i. none_found now F FreezeLimit g (frozen_finds now o.place.group c a i))))
+      ∙ ap (λ b. code b (frozen_too_long now o.place.group c a)) (sym (not_held first e))
+
+code_left : (now : ℕ) (c : Course) (a : Agenda) (os : List Open) (l : RunningLimit) → groups_left a ≡ os → spent_of now (running_at (freeze_limit c) a os) ≡ Some l
+    → (a.kind ≡ kind.Snapshot → Rising (times a.log))
+    → code_of_limit l.limit ≡ late_code_at now c a os
+code_left now c a [] l same e rising = absurd cc
+code_left now c a (o ∷ os) l same e rising =
+    by_limits now c a o l (spent_of now (hold_running o.place.group (first_hold a.log))) (spent_of now (runs_if (freeze_runs o.place.group) FreezeLimit (freeze_opened_at a) (freeze_limit c))) refl refl (held_is_first now a o os same rising) e
+
+limit_code : (now : ℕ) (c : Course) (x : Option Agenda) (l : RunningLimit) → spent_of now (running_limits (freeze_limit c) x) ≡ Some l
+    → Running (λ (a : Agenda). a.kind ≡ kind.Snapshot → Rising (times a.log)) x → code_of_limit l.limit ≡ late_code_in now c x
+limit_code now c None l e rising = absurd cc
+limit_code now c (Some a) l e rising = code_left now c a (groups_left a) l refl e rising
+
+-- ## what a call of the course fails with
+
 module _ (why : VssResult) (c : Course) (run : has_failed c.outcome ≡ false) where
   settled_reason : {X : Type 0} (d : Course) → d.outcome ≡ c.outcome → (settled d).outcome ≡ FailedSet why → X
   settled_reason d e f = calm_reason (settled d).outcome why (calm_settled d (ap has_failed e ∙ run)) f
@@ -90,18 +155,30 @@ module _ (why : VssResult) (c : Course) (run : has_failed c.outcome ≡ false) w
   lost_outcome None now = refl
   lost_outcome (Some o) now = told_outcome o said.Lost now _ c
 
-  time_reason : (l : Option RunningLimit) (now : ℕ) → (treated l now c).outcome ≡ FailedSet why → IsLimitCode why
-  time_reason None now e = calm_reason c.outcome why run e
-  time_reason (Some l) now e = by_limit l.limit e
+  time_reason : (l : Option RunningLimit) (now : ℕ) → (treated l now c).outcome ≡ FailedSet why → (m : RunningLimit) → l ≡ Some m → why ≡ code_of_limit m.limit
+  time_reason None now e m f = absurd cc
+  time_reason (Some l) now e m f = subst (λ (x : RunningLimit). why ≡ code_of_limit x.limit) (some_limit l m f) (by_limit l.limit e)
     where
-      by_order : (b : Bool) → (lost_decided b (lost now c)).outcome ≡ FailedSet why → IsLimitCode why
-      by_order true e = inr (inr (same_reason why WriterNotResponding (sym e ∙ failed_outcome WriterNotResponding (lost now c))))
+      some_limit : (x y : RunningLimit) → Some x ≡ Some y → x ≡ y
+      some_limit x y e = cc
+
+      by_order : (b : Bool) → (lost_decided b (lost now c)).outcome ≡ FailedSet why → why ≡ WriterNotResponding
+      by_order true e = same_reason why WriterNotResponding (sym e ∙ failed_outcome WriterNotResponding (lost now c))
       by_order false e = settled_reason (lost now c) (lost_outcome (order_now (left c.agenda)) now) e
 
-      by_limit : (x : Limit) → (treated_as x now c).outcome ≡ FailedSet why → IsLimitCode why
-      by_limit HoldLimit e = inl (same_reason why HoldWritesTimeout (sym e ∙ failed_outcome HoldWritesTimeout c))
-      by_limit FreezeLimit e = inr (inl (same_reason why (WriterFault Timeout) (sym e ∙ failed_outcome (WriterFault Timeout) (lost now c))))
+      by_limit : (x : Limit) → (treated_as x now c).outcome ≡ FailedSet why → why ≡ code_of_limit x
+      by_limit HoldLimit e = same_reason why HoldWritesTimeout (sym e ∙ failed_outcome HoldWritesTimeout c)
+      by_limit FreezeLimit e = same_reason why (WriterFault Timeout) (sym e ∙ failed_outcome (WriterFault Timeout) (lost now c))
       by_limit AnswerLimit e = by_order (fails_set (order_now (left c.agenda))) e
+
+  -- time fails nothing where no limit is spent
+  late_reason : (now : ℕ) → Running (λ (x : Agenda). x.kind ≡ kind.Snapshot → Rising (times x.log)) c.agenda
+      → (treated (spent_of now (limits_now c)) now c).outcome ≡ FailedSet why → why ≡ late_code_in now c c.agenda
+  late_reason now rising e = by_spent (spent_of now (limits_now c)) refl e
+    where
+      by_spent : (l : Option RunningLimit) → spent_of now (limits_now c) ≡ l → (treated l now c).outcome ≡ FailedSet why → why ≡ late_code_in now c c.agenda
+      by_spent None f e = calm_reason c.outcome why run e
+      by_spent (Some l) f e = time_reason (Some l) now e l refl ∙ limit_code now c c.agenda l f rising
 
 -- ## every act
 
@@ -133,13 +210,14 @@ module _ (s : Plan) (so_far : List Act) (why : VssResult) where
       by_set (Some r) f g = ap has_failed (outcome_is_running s so_far r f)
 
   abbrev Next : Event → Mark → Replied → Type 0
-  Next event mark x = set_failure (in_progress st) x.1 ≡ Some why → IsCode event why
+  Next event mark x = set_failure (in_progress st) x.1 ≡ Some why → IsCode st event why
 
   -- the sets are as they were
-  same_sets : (event : Event) (x : State) → ((n : ℕ) → failure_at x.sets n ≡ failure_at st.sets n) → set_failure (in_progress st) x ≡ Some why → IsCode event why
+  same_sets : (event : Event) (x : State) → ((n : ℕ) → failure_at x.sets n ≡ failure_at st.sets n) → set_failure (in_progress st) x ≡ Some why → IsCode st event why
   same_sets event x f e = not_none (set_failure (in_progress st) x) (no_failure s so_far x f) e
 
-  abort_reason : (o : Option SetRow) (code : VssResult) → in_progress st ≡ o → has_failed st.course.outcome ≡ false → (failed_in o code st).course.outcome ≡ FailedSet why → why ≡ code
+  abort_reason : (o : Option SetRow) (code : VssResult) → in_progress st ≡ o → has_failed st.course.outcome ≡ false → (failed_in o code st).course.outcome ≡ FailedSet why
+      → why ≡ code
   unfolding course_failed
   abort_reason None code e f g = calm_reason st.course.outcome why f g
   abort_reason (Some r) code e f g = same_reason why code (sym g)
@@ -164,12 +242,13 @@ module _ (s : Plan) (so_far : List Act) (why : VssResult) where
       room_reason (set_loses_image (in_progress st) st.volumes (cleared s v w.block st).volumes) v w.block (was_running _ e)
       (ap (λ (c : Course). c.outcome) (sym (course_put v w mark _)) ∙ of_turn _ (runs st) (write_turn s so_far v w mark) e)
 
-  write_code : (lane : ℕ) (o : Op) (t : _) → target_of o ≡ Some t → why ≡ InsufficientStorage → IsLineCode o why
+  write_code : (lane : ℕ) (o : Op) (t : _) → target_of o ≡ Some t → why ≡ InsufficientStorage → IsLineCode st o why
   write_code lane (op.WriteFill v b x) t e f = f
   write_code lane (op.WriteStamp v b n) t e f = f
   write_code lane o t e f = absurd cc
 
-  begun_code : (event : Event) (c : Course) → (has_failed st.course.outcome ≡ false → has_failed c.outcome ≡ false) → set_failure (in_progress st) (followed true c st) ≡ Some why → IsCode event why
+  begun_code : (event : Event) (c : Course) → (has_failed st.course.outcome ≡ false → has_failed c.outcome ≡ false) → set_failure (in_progress st) (followed true c st) ≡ Some why
+      → IsCode st event why
   begun_code event c calm e =
       calm_reason c.outcome why (calm (was_running (followed true c st) e)) (ap (λ (d : Course). d.outcome) (sym (course_followed true c st)) ∙ of_turn (followed true c st) true (begun_turn s so_far c calm) e)
 
@@ -180,11 +259,11 @@ module _ (s : Plan) (so_far : List Act) (why : VssResult) where
       answer_reason why st.course (was_running (followed (runs st) c st) e) (open_order (left st.course.agenda) w) w answer st.clock
       (sym (posted_outcome st.course _) ∙ ap (λ (d : Course). d.outcome) (sym (course_followed (runs st) c st)) ∙ of_turn (followed (runs st) c st) (runs st) (answer_turn s so_far w (said_of answer)) e)
 
-  tick_code : (n : ℕ) → set_failure (in_progress st) (ticked n st) ≡ Some why → IsLimitCode why
+  tick_code : (n : ℕ) → set_failure (in_progress st) (ticked n st) ≡ Some why → why ≡ late_code st n
   unfolding ticked
   tick_code n e =
       let c = course_timed (st.clock + n) st.course in
-      time_reason why st.course (was_running (followed (runs st) c (later n st)) e) (spent_of (st.clock + n) (limits_now st.course)) (st.clock + n)
+      late_reason why st.course (was_running (followed (runs st) c (later n st)) e) (st.clock + n) (logs_rise s so_far)
       (sym (posted_outcome st.course _) ∙ ap (λ (d : Course). d.outcome) (sym (course_followed (runs st) c (later n st))) ∙ of_turn (followed (runs st) c (later n st)) (runs st) (tick_turn s so_far n) e)
 
   step_reason : (b : Bool) (g : Option Group) → has_failed st.course.outcome ≡ false → (stepped_as b g st).course.outcome ≡ FailedSet why → why ≡ UnexpectedProviderError
@@ -213,7 +292,7 @@ module _ (s : Plan) (so_far : List Act) (why : VssResult) where
   either event mark true x y h i = h
   either event mark false x y h i = i
 
-  unchanged : (event : Event) → set_failure (in_progress st) st ≡ Some why → IsCode event why
+  unchanged : (event : Event) → set_failure (in_progress st) st ≡ Some why → IsCode st event why
   unchanged event e = same_sets event st (λ n. refl) e
 
   revert_course : (v : ℕ) (k : _) (mark : Mark) → (reverted_as s v k mark st).1.course.outcome ≡ st.course.outcome

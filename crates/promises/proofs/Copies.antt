@@ -1,5 +1,5 @@
 -- Each copy holds its block as it was at the cut of its set.
-use Rattle.std.proofs.Common.{◌≡◌, ◌∙◌, ℕ, ◌+◌, ◌==◌, ◌<◌, suc, List, [], ◌∷◌, ◌++◌, Option, Some, None, refl, Bool, true, false, ap, map, length, arith}
+use Rattle.std.proofs.Common.{◌≡◌, ◌∙◌, ℕ, ◌+◌, ◌==◌, ◌<◌, suc, List, [], ◌∷◌, ◌++◌, Option, Some, None, refl, Bool, true, false, ap, sym, subst, map, length, arith}
 use Rattle.std.specs.Prelude.{if◌then◌else◌, is_some, slice_get, All}
 use Rattle.std.proofs.lemmas.List.Elements.{All-nil, All-cons, All-append}
 use Rattle.write_history.specs.History.{Write, Image, History, content, point_in, AreLater, AreInTime}
@@ -10,18 +10,19 @@ use Rattle.vss_model.specs.Acts.{Act, state}
 use Rattle.vss_model.specs.Cut.{cut, IsShownAt}
 use Rattle.vss_model.proofs.OneCut.{image_shown, image_reads, images_in_time}
 use Rattle.vss_model.proofs.Volumes.{at}
-use Rattle.promises.specs.Copies.{HoldsTheCut, CopiesHold}
+use Rattle.promises.specs.Copies.{place_from, HoldsTheCut, CopiesHold}
 use Rattle.promises.specs.Gone.{within}
 
 -- ## the copies of a volume
 
 -- the copy is of one of these images, and holds its block as it was at the image's point
-record IsOfImage (ws : List Write) (images : List Image) (c : Copy) : Type 0 where
+record IsOfImage (u : ℕ) (ws : List Write) (images : List Image) (c : Copy) : Type 0 where
+  volume : u ≡ c.volume
   point : ℕ
   is : point_in c.set images ≡ Some point
   holds : c.bytes ≡ content ws point c.block
 
-own_number : (a : ℕ) → (a == a) ≡ true
+pub own_number : (a : ℕ) → (a == a) ≡ true
 own_number a = grind arith
 
 first_point : (b : Bool) (p : ℕ) (o : Option ℕ) → b ≡ true → (if b then Some p else o) ≡ Some p
@@ -33,7 +34,7 @@ later_point true p o e = absurd cc
 later_point false p o e = refl
 
 -- a later image is of a later set
-later_set : (i : Image) (m p : ℕ) (images : List Image) → AreLater i images → point_in m images ≡ Some p → (i.set == m) ≡ false
+pub later_set : (i : Image) (m p : ℕ) (images : List Image) → AreLater i images → point_in m images ≡ Some p → (i.set == m) ≡ false
 later_set i m p [] h e = absurd cc
 later_set i m p (j ∷ images) h e = by_head (j.set == m) refl e (later_set i m p images h.2)
   where
@@ -44,48 +45,50 @@ later_set i m p (j ∷ images) h e = by_head (j.set == m) refl e (later_set i m 
     by_head true f e ih = differs i.set j.set m h.0 f
     by_head false f e ih = ih e
 
-own_copies : (u : ℕ) (ws : List Write) (i : Image) (newer : List Image) (bs : List ℕ) → All (IsOfImage ws (i ∷ newer)) (map (copy_of u ws i) bs)
-own_copies u ws i newer [] = All-nil (IsOfImage ws (i ∷ newer))
+own_copies : (u : ℕ) (ws : List Write) (i : Image) (newer : List Image) (bs : List ℕ) → All (IsOfImage u ws (i ∷ newer)) (map (copy_of u ws i) bs)
+own_copies u ws i newer [] = All-nil (IsOfImage u ws (i ∷ newer))
 own_copies u ws i newer (b ∷ bs) =
-    All-cons (IsOfImage ws (i ∷ newer)) (copy_of u ws i b) (map (copy_of u ws i) bs)
-    (record { point = i.point; is = first_point (i.set == i.set) i.point (point_in i.set newer) (own_number i.set); holds = refl })
+    All-cons (IsOfImage u ws (i ∷ newer)) (copy_of u ws i b) (map (copy_of u ws i) bs)
+    (record { volume = refl; point = i.point; is = first_point (i.set == i.set) i.point (point_in i.set newer) (own_number i.set); holds = refl })
     (own_copies u ws i newer bs)
 
 all_along : (P Q : Copy → Type 0) (cs : List Copy) → ((c : Copy) → P c → Q c) → All P cs → All Q cs
 all_along P Q cs f h k d l = f _ (h k d l)
 
-copies_in : (u n most : ℕ) (ws : List Write) (images : List Image) → AreInTime most images → All (IsOfImage ws images) (copies_of u n ws images)
-copies_in u n most ws [] t = All-nil (IsOfImage ws [])
+copies_in : (u n most : ℕ) (ws : List Write) (images : List Image) → AreInTime most images → All (IsOfImage u ws images) (copies_of u n ws images)
+copies_in u n most ws [] t = All-nil (IsOfImage u ws [])
 copies_in u n most ws (i ∷ newer) t =
-    All-append (IsOfImage ws (i ∷ newer)) (map (copy_of u ws i) (named n ws i newer)) (copies_of u n ws newer) (own_copies u ws i newer (named n ws i newer))
-    (all_along (IsOfImage ws newer) (IsOfImage ws (i ∷ newer)) (copies_of u n ws newer)
-    (λ c h. record { point = h.point; is = later_point (i.set == c.set) i.point (point_in c.set newer) (later_set i c.set h.point newer t.1 h.is) ∙ h.is; holds = h.holds }) (copies_in u n most ws newer t.2))
+    All-append (IsOfImage u ws (i ∷ newer)) (map (copy_of u ws i) (named n ws i newer)) (copies_of u n ws newer) (own_copies u ws i newer (named n ws i newer))
+    (all_along (IsOfImage u ws newer) (IsOfImage u ws (i ∷ newer)) (copies_of u n ws newer)
+    (λ c h. record { volume = h.volume; point = h.point; is = later_point (i.set == c.set) i.point (point_in c.set newer) (later_set i c.set h.point newer t.1 h.is) ∙ h.is; holds = h.holds }) (copies_in u n most ws newer t.2))
 
 -- ## the copies of a group
 
-record IsInGroup (ps : List Placed) (hs : List History) (c : Copy) : Type 0 where
+record IsInGroup (u : ℕ) (ps : List Placed) (hs : List History) (c : Copy) : Type 0 where
   volume : ℕ
+  place : place_from u ps volume ≡ c.volume
   of_group : within (slice_get ps volume) ≡ true
-  image : IsOfImage (at hs volume).writes (at hs volume).images c
+  own : ℕ
+  image : IsOfImage own (at hs volume).writes (at hs volume).images c
 
-abbrev InTimeAll : List History → Type 0
+abbrev pub InTimeAll : List History → Type 0
 InTimeAll hs = (v : ℕ) → AreInTime (length (at hs v).writes) (at hs v).images
 
-one_later : (p : Placed) (ps : List Placed) (h : History) (hs : List History) (c : Copy) → IsInGroup ps hs c → IsInGroup (p ∷ ps) (h ∷ hs) c
-one_later p ps h hs c i = record { volume = suc i.volume; of_group = i.of_group; image = i.image }
+one_later : (u : ℕ) (p : Placed) (ps : List Placed) (h : History) (hs : List History) (c : Copy) → IsInGroup (if p.within then u + 1 else u) ps hs c → IsInGroup u (p ∷ ps) (h ∷ hs) c
+one_later u p ps h hs c i = record { volume = suc i.volume; place = i.place; of_group = i.of_group; own = i.own; image = i.image }
 
-in_group : (u : ℕ) (ps : List Placed) (hs : List History) → InTimeAll hs → All (IsInGroup ps hs) (copies_from u ps hs)
-in_group u [] hs t = All-nil (IsInGroup [] hs)
-in_group u (p ∷ ps) [] t = All-nil (IsInGroup (p ∷ ps) [])
-in_group u (p ∷ ps) (h ∷ hs) t = by_group p.within refl (in_group (u + 1) ps hs (λ v. t (suc v))) (in_group u ps hs (λ v. t (suc v)))
+in_group : (u : ℕ) (ps : List Placed) (hs : List History) → InTimeAll hs → All (IsInGroup u ps hs) (copies_from u ps hs)
+in_group u [] hs t = All-nil (IsInGroup u [] hs)
+in_group u (p ∷ ps) [] t = All-nil (IsInGroup u (p ∷ ps) [])
+in_group u (p ∷ ps) (h ∷ hs) t = by_group p.within refl (λ k. in_group k ps hs (λ v. t (suc v)))
   where
-    by_group : (b : Bool) → p.within ≡ b → All (IsInGroup ps hs) (copies_from (u + 1) ps hs) → All (IsInGroup ps hs) (copies_from u ps hs)
-        → All (IsInGroup (p ∷ ps) (h ∷ hs)) (if b then copies_of u p.blocks h.writes h.images ++ copies_from (u + 1) ps hs else copies_from u ps hs)
-    by_group true e next same =
-        All-append (IsInGroup (p ∷ ps) (h ∷ hs)) (copies_of u p.blocks h.writes h.images) (copies_from (u + 1) ps hs)
-        (all_along (IsOfImage h.writes h.images) (IsInGroup (p ∷ ps) (h ∷ hs)) (copies_of u p.blocks h.writes h.images) (λ c i. record { volume = 0; of_group = e; image = i }) (copies_in u p.blocks (length h.writes) h.writes h.images (t 0)))
-        (all_along (IsInGroup ps hs) (IsInGroup (p ∷ ps) (h ∷ hs)) (copies_from (u + 1) ps hs) (one_later p ps h hs) next)
-    by_group false e next same = all_along (IsInGroup ps hs) (IsInGroup (p ∷ ps) (h ∷ hs)) (copies_from u ps hs) (one_later p ps h hs) same
+    by_group : (b : Bool) → p.within ≡ b → ((k : ℕ) → All (IsInGroup k ps hs) (copies_from k ps hs))
+        → All (IsInGroup u (p ∷ ps) (h ∷ hs)) (if b then copies_of u p.blocks h.writes h.images ++ copies_from (u + 1) ps hs else copies_from u ps hs)
+    by_group true e rest =
+        All-append (IsInGroup u (p ∷ ps) (h ∷ hs)) (copies_of u p.blocks h.writes h.images) (copies_from (u + 1) ps hs)
+        (all_along (IsOfImage u h.writes h.images) (IsInGroup u (p ∷ ps) (h ∷ hs)) (copies_of u p.blocks h.writes h.images) (λ c i. record { volume = 0; place = i.volume; of_group = e; own = u; image = i }) (copies_in u p.blocks (length h.writes) h.writes h.images (t 0)))
+        (all_along (IsInGroup (u + 1) ps hs) (IsInGroup u (p ∷ ps) (h ∷ hs)) (copies_from (u + 1) ps hs) (λ c i. one_later u p ps h hs c (subst (λ b. IsInGroup (if b then u + 1 else u) ps hs c) (sym e) i)) (rest (u + 1)))
+    by_group false e rest = all_along (IsInGroup u ps hs) (IsInGroup u (p ∷ ps) (h ∷ hs)) (copies_from u ps hs) (λ c i. one_later u p ps h hs c (subst (λ b. IsInGroup (if b then u + 1 else u) ps hs c) (sym e) i)) (rest u)
 
 -- ## the cut
 
@@ -97,13 +100,14 @@ was_cut : (s : Plan) (so_far : List Act) (n v p : ℕ) (ws : List Write) (o : Op
 was_cut s so_far n v p ws None e h = absurd h
 was_cut s so_far n v p ws (Some before) e h = record { before = before; is = e }
 
-shows_cut : (s : Plan) (so_far : List Act) (ps : List Placed) (c : Copy) → IsInGroup ps (state s so_far).volumes c → HoldsTheCut s so_far ps c
+shows_cut : (s : Plan) (so_far : List Act) (ps : List Placed) (c : Copy) → IsInGroup 0 ps (state s so_far).volumes c → HoldsTheCut s so_far ps c
 shows_cut s so_far ps c i =
     let ws = (history_of (state s so_far) i.volume).writes in
     let has = was_cut s so_far c.set i.volume i.image.point ws (cut s c.set so_far) refl (image_shown s so_far c.set i.volume i.image.point i.image.is) in
     record {
       volume = i.volume;
       of_group = i.of_group;
+      place = i.place;
       stands_there = ap is_some i.image.is;
       before = has.before;
       is_cut = has.is;
@@ -112,5 +116,5 @@ shows_cut s so_far ps c i =
 
 pub copies_hold : (s : Plan) (so_far : List Act) → CopiesHold s so_far
 copies_hold s so_far v =
-    all_along (IsInGroup (group_of s v) (state s so_far).volumes) (HoldsTheCut s so_far (group_of s v)) (copies (group_of s v) (state s so_far).volumes) (shows_cut s so_far (group_of s v))
+    all_along (IsInGroup 0 (group_of s v) (state s so_far).volumes) (HoldsTheCut s so_far (group_of s v)) (copies (group_of s v) (state s so_far).volumes) (shows_cut s so_far (group_of s v))
     (in_group 0 (group_of s v) (state s so_far).volumes (images_in_time s so_far))

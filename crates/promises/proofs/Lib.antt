@@ -63,5 +63,11 @@ pub mod Progress
 pub mod Accepted
 pub mod Awaited
 pub mod Codes
+pub mod Stills
+pub mod Refusals
+pub mod Scripts
+pub mod KeptCopies
+pub mod Documents
+pub mod Consents
 pub mod Promises
 pub mod Headline

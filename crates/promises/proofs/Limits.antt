@@ -180,10 +180,10 @@ both_parts false b e = absurd cc
 -- ## which limit is spent
 
 -- a limit that runs and is spent is found
-record Finds (now : ℕ) (ls : List Running) (x : Limit) : Type 0 where
-  one : Running
-  is : spent_of now ls ≡ Some one
-  limit : one.limit ≡ x
+pub record Finds (now : ℕ) (ls : List Running) (x : Limit) : Type 0 where
+  pub one : Running
+  pub is : spent_of now ls ≡ Some one
+  pub limit : one.limit ≡ x
 
 finds_one : (now : ℕ) (b : Bool) (x : Limit) (since ticks : ℕ) → b ≡ true → is_spent now since ticks ≡ true → Finds now (runs_if b x since ticks) x
 finds_one now false x since ticks e f = absurd cc
@@ -238,7 +238,7 @@ first_is (x ∷ log) = by_test (is_hold x.place.group) (is_hold_step x.place.gro
     by_test false true e ih = absurd cc
     by_test false false e ih = ih
 
-held_finds : (now : ℕ) (g : Group) (a : Agenda) → holds_volumes g ≡ true → held_since_first now a ≡ true → Finds now (hold_running g (first_hold a.log)) HoldLimit
+pub held_finds : (now : ℕ) (g : Group) (a : Agenda) → holds_volumes g ≡ true → held_since_first now a ≡ true → Finds now (hold_running g (first_hold a.log)) HoldLimit
 held_finds now g a e f = subst (λ o. Finds now (hold_running g o) HoldLimit) (sym (first_is a.log)) (by_first (find (λ (x : Entry). is_hold_step x.place.group) a.log) f)
   where
     by_first : (o : Option Entry) → passed_since now o ≡ true → Finds now (hold_running g (option_map (λ (x : Entry). x.time) o)) HoldLimit
@@ -268,7 +268,7 @@ least_spent now since least rows (m ∷ ms) e =
         least_of : (a b t x : ℕ) → (nat_lt (t + a) x || (nat_lt (t + b) x || false)) ≡ true → (nat_lt (t + min a b) x || false) ≡ true
         least_of a b t x e = grind arith
 
-frozen_finds : (now : ℕ) (g : Group) (c : Course) (a : Agenda) → frozen_too_long now g c a ≡ true → Finds now (runs_if (freeze_runs g) FreezeLimit (freeze_opened_at a) (freeze_limit c)) FreezeLimit
+pub frozen_finds : (now : ℕ) (g : Group) (c : Course) (a : Agenda) → frozen_too_long now g c a ≡ true → Finds now (runs_if (freeze_runs g) FreezeLimit (freeze_opened_at a) (freeze_limit c)) FreezeLimit
 frozen_finds now g c a e =
     let parts = both_parts (freezes_writers g) _ e in
     finds_one now (freeze_runs g) FreezeLimit (freeze_opened_at a) (freeze_limit c) (sym (same_freeze g) ∙ parts.0)
@@ -295,7 +295,7 @@ spends_hold now ls o l e f = record { one = l; is = e; fails = subst (λ x. Deci
 spends_freeze : (now : ℕ) (ls : List Running) (o : Option Order) (l : Running) → spent_of now ls ≡ Some l → l.limit ≡ FreezeLimit → Spends now ls o
 spends_freeze now ls o l e f = record { one = l; is = e; fails = subst (λ x. Decides x o) (sym f) tt }
 
-none_found : (now : ℕ) (ls : List Running) (x : Limit) → spent_of now ls ≡ None → Finds now ls x → ⊥
+pub none_found : (now : ℕ) (ls : List Running) (x : Limit) → spent_of now ls ≡ None → Finds now ls x → ⊥
 none_found now ls x e f = none_and_some (spent_of now ls) f.one e f.is
 
 module _ (now : ℕ) (c : Course) (a : Agenda) (o : Open) where

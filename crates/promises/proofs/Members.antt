@@ -106,11 +106,11 @@ head_passes test a w xs = by_test (test a)
     by_test true = refl
     by_test false = refl
 
-none_passes : (test : ℕ → Bool) (a n w : ℕ) → w < a → is_among w (filter test (range_with_len a n)) ≡ false
+pub none_passes : (test : ℕ → Bool) (a n w : ℕ) → w < a → is_among w (filter test (range_with_len a n)) ≡ false
 none_passes test a zero w l = refl
 none_passes test a (suc n) w l = head_passes test a w (range_with_len (a + 1) n) ∙ skips (test a) (a == w) (is_among w (filter test (range_with_len (a + 1) n))) (beyond a w l) ∙ none_passes test (a + 1) n w (still_less a w l)
 
-range_passes : (test : ℕ → Bool) (a n w : ℕ) → a ≤ w → is_among w (filter test (range_with_len a n)) ≡ (nat_lt w (a + n) && test w)
+pub range_passes : (test : ℕ → Bool) (a n w : ℕ) → a ≤ w → is_among w (filter test (range_with_len a n)) ≡ (nat_lt w (a + n) && test w)
 range_passes test a zero w l = sym (outside_is (nat_lt w (a + 0)) (test w) (none_from a w l))
 range_passes test a (suc n) w l =
     head_passes test a w (range_with_len (a + 1) n)
@@ -155,7 +155,7 @@ module _ (s : Plan) (st : State) where
       zero_plus : (a : ℕ) → 0 + a ≡ a
       zero_plus a = omega arith
 
-  taker_is : (mode : Mode) (w : ℕ) → (is_writer s w && is_taker (selected_in mode s st) w) ≡ (is_writer s w && is_selected mode w)
+  pub taker_is : (mode : Mode) (w : ℕ) → (is_writer s w && is_taker (selected_in mode s st) w) ≡ (is_writer s w && is_selected mode w)
   taker_is Components w = refl
   taker_is All w = ap (λ b. is_writer s w && b) (known_are 0 w s.writers (omega arith) ∙ ap (λ b. b && is_known s st w) (from_zero (length s.writers) w)) ∙ twice (is_writer s w) (is_known s st w)
 

@@ -147,19 +147,18 @@ or_nothing : (b : Bool) → (b || false) ≡ b
 or_nothing true = refl
 or_nothing false = refl
 
-pair_added : (w : ℕ) (q : Pair) (ps : List Pair) → list_any (λ (p : Pair). p.writer == w) (with_pair q ps) ≡ (list_any (λ (p : Pair). p.writer == w) ps || (q.writer == w))
-pair_added w q [] = or_nothing (q.writer == w)
-pair_added w q (p ∷ ps) = by_place (comes_before q p) (pair_added w q ps)
+pub pair_added : (test : Pair → Bool) (q : Pair) (ps : List Pair) → list_any test (with_pair q ps) ≡ (list_any test ps || test q)
+pair_added test q [] = or_nothing (test q)
+pair_added test q (p ∷ ps) = by_place (comes_before q p) (pair_added test q ps)
   where
-    by_place : (b : Bool) → list_any (λ (x : Pair). x.writer == w) (with_pair q ps) ≡ (list_any (λ (x : Pair). x.writer == w) ps || (q.writer == w))
-        → list_any (λ (x : Pair). x.writer == w) (if b then q ∷ p ∷ ps else p ∷ with_pair q ps) ≡ (((p.writer == w) || list_any (λ (x : Pair). x.writer == w) ps) || (q.writer == w))
-    by_place true ih = behind (q.writer == w) (p.writer == w) (list_any (λ (x : Pair). x.writer == w) ps)
-    by_place false ih = within (p.writer == w) (list_any (λ (x : Pair). x.writer == w) ps) (list_any (λ (x : Pair). x.writer == w) (with_pair q ps)) (q.writer == w) ih
+    by_place : (b : Bool) → list_any test (with_pair q ps) ≡ (list_any test ps || test q) → list_any test (if b then q ∷ p ∷ ps else p ∷ with_pair q ps) ≡ ((test p || list_any test ps) || test q)
+    by_place true ih = behind (test q) (test p) (list_any test ps)
+    by_place false ih = within (test p) (list_any test ps) (list_any test (with_pair q ps)) (test q) ih
 
 named_if : (w : ℕ) (q : Pair) (ps new : List Pair) (a b : Bool) → naming_if a b q ps ≡ Names new → list_any (λ (p : Pair). p.writer == w) new ≡ (list_any (λ (p : Pair). p.writer == w) ps || (q.writer == w))
 named_if w q ps new false b e = absurd cc
 named_if w q ps new true true e = absurd cc
-named_if w q ps new true false e = let same : with_pair q ps ≡ new = cc in ap (list_any (λ (p : Pair). p.writer == w)) (sym same) ∙ pair_added w q ps
+named_if w q ps new true false e = let same : with_pair q ps ≡ new = cc in ap (list_any (λ (p : Pair). p.writer == w)) (sym same) ∙ pair_added (λ (p : Pair). p.writer == w) q ps
 
 named_of : (w u : ℕ) (name : List ℕ) (o : Option (Option Meta)) (ps new : List Pair) → naming_of u name o ps ≡ Names new → list_any (λ (p : Pair). p.writer == w) new ≡ (list_any (λ (p : Pair). p.writer == w) ps || (u == w))
 named_of w u name None ps new e = absurd cc
@@ -237,7 +236,7 @@ module _ (s : Plan) (w : ℕ) (st : State) (c : Choosing) (h : Follows s w st c)
       }
 
   -- whom the session chooses
-  chosen_by : (m : Mode) (all : Bool) → m ≡ mode_of all → list_any (λ (p : Pair). p.writer == w) st.explicit ≡ c.named → is_disabled s st w ≡ c.disabled
+  pub chosen_by : (m : Mode) (all : Bool) → m ≡ mode_of all → list_any (λ (p : Pair). p.writer == w) st.explicit ≡ c.named → is_disabled s st w ≡ c.disabled
       → is_selected s st m w ≡ (if all then not c.disabled && not (is_unfit st w) else c.named)
   chosen_by All true e named off = ap (λ b. not b && not (is_unfit st w)) off
   chosen_by All false e named off = absurd cc

@@ -128,14 +128,15 @@ named_known ms (p ∷ ps) w e f = by_head (p.writer == w) refl f (named_known ms
     by_head true g h ih = subst (λ x. is_some (meta_at (slice_get ms x)) ≡ true) (equal p.writer w g) (selectable_known p.component (meta_at (slice_get ms p.writer)) (and_left (names_selectable ms p) (list_all (names_selectable ms) ps) e))
     by_head false g h ih = ih h
 
-named_enabled : (s : Plan) (st : State) (w : ℕ) → AreOver (known_metas s st) st.explicit → list_any (λ (p : Pair). p.writer == w) st.explicit ≡ true → is_disabled s st w ≡ false
-named_enabled s st w over e =
-    not_on (is_disabled s st w)
-    (and_left (not (is_disabled s st w)) (not (has_failed_identify (slice_get st.course.rows w)))
-    (subst (λ x. is_known s st x ≡ true) (zero_plus w) (known_at s st 0 s.writers w (named_known (known_metas s st) st.explicit w (and_left (list_all (names_selectable (known_metas s st)) st.explicit) (is_ascending st.explicit) over) e))))
+pub named_is_known : (s : Plan) (st : State) (w : ℕ) → AreOver (known_metas s st) st.explicit → list_any (λ (p : Pair). p.writer == w) st.explicit ≡ true → is_known s st w ≡ true
+named_is_known s st w over e =
+    subst (λ x. is_known s st x ≡ true) (zero_plus w) (known_at s st 0 s.writers w (named_known (known_metas s st) st.explicit w (and_left (list_all (names_selectable (known_metas s st)) st.explicit) (is_ascending st.explicit) over) e))
   where
     zero_plus : (a : ℕ) → 0 + a ≡ a
     zero_plus a = omega arith
+
+named_enabled : (s : Plan) (st : State) (w : ℕ) → AreOver (known_metas s st) st.explicit → list_any (λ (p : Pair). p.writer == w) st.explicit ≡ true → is_disabled s st w ≡ false
+named_enabled s st w over e = not_on (is_disabled s st w) (and_left (not (is_disabled s st w)) (not (has_failed_identify (slice_get st.course.rows w))) (named_is_known s st w over e))
 
 -- ## `prepare`
 

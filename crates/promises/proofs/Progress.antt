@@ -114,24 +114,24 @@ write_brings (op.WriteFill v b x) t told p e = refl
 write_brings (op.WriteStamp v b n) t told p e = refl
 write_brings o t told p e = absurd cc
 
-both_true : (a b : Bool) → (a && b) ≡ true → (a ≡ true) × (b ≡ true)
+pub both_true : (a b : Bool) → (a && b) ≡ true → (a ≡ true) × (b ≡ true)
 both_true true true e = (refl, refl)
 both_true true false e = absurd cc
 both_true false b e = absurd cc
 
-is_opened : (t : Stage) → is_stage t Opened ≡ true → t ≡ Opened
+pub is_opened : (t : Stage) → is_stage t Opened ≡ true → t ≡ Opened
 is_opened Opened e = refl
 is_opened t e = absurd cc
 
-is_started : (t : Stage) → is_stage t Started ≡ true → t ≡ Started
+pub is_started : (t : Stage) → is_stage t Started ≡ true → t ≡ Started
 is_started Started e = refl
 is_started t e = absurd cc
 
-is_prepared : (t : Stage) → is_stage t Prepared ≡ true → t ≡ Prepared
+pub is_prepared : (t : Stage) → is_stage t Prepared ≡ true → t ≡ Prepared
 is_prepared Prepared e = refl
 is_prepared t e = absurd cc
 
-is_done : (t : Stage) → is_stage t Done ≡ true → t ≡ Done
+pub is_done : (t : Stage) → is_stage t Done ≡ true → t ≡ Done
 is_done Done e = refl
 is_done t e = absurd cc
 
@@ -140,7 +140,7 @@ prepares Backup e = refl
 prepares AppRollback e = refl
 prepares NasRollback e = absurd cc
 
-snapshots : (c : Context) (t : Stage) → (if has_writers c then is_stage t Prepared else is_stage t Started) ≡ true → stage_after c t ≡ Done
+pub snapshots : (c : Context) (t : Stage) → (if has_writers c then is_stage t Prepared else is_stage t Started) ≡ true → stage_after c t ≡ Done
 snapshots Backup t e = ap (stage_after Backup) (is_prepared t e)
 snapshots AppRollback t e = ap (stage_after AppRollback) (is_prepared t e)
 snapshots NasRollback t e = ap (stage_after NasRollback) (is_started t e)

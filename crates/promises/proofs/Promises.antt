@@ -20,6 +20,7 @@ use Rattle.promises.proofs.Failing.{fails_for_cause}
 use Rattle.promises.proofs.Idle.{idles_shortest}
 use Rattle.promises.proofs.Images.{images_go_for_cause}
 use Rattle.promises.proofs.Kept.{finds_the_kept}
+use Rattle.promises.proofs.KeptCopies.{keeps_copies}
 use Rattle.promises.proofs.Levels.{has_its_numbers}
 use Rattle.promises.proofs.Lost.{loses_the_late}
 use Rattle.promises.proofs.OwnSlots.{writes_fail_for_slots}
@@ -27,15 +28,20 @@ use Rattle.promises.proofs.Participants.{chosen_take_part}
 use Rattle.promises.proofs.Prepares.{takes_part}
 use Rattle.promises.proofs.Progress.{has_its_context}
 use Rattle.promises.proofs.Properties.{properties_tell}
+use Rattle.promises.proofs.Refusals.{refuses_for_cause}
 use Rattle.promises.proofs.Refused.{refusals_change_nothing}
 use Rattle.promises.proofs.Replies.{replies_tell}
 use Rattle.promises.proofs.RowChanges.{rows_change}
+use Rattle.promises.proofs.Scripts.{answers_by_script}
 use Rattle.promises.proofs.SetRows.{keeps_rows}
 use Rattle.promises.proofs.Sets.{volumes_are_distinct}
 use Rattle.promises.proofs.Slots.{slots_suffice}
+use Rattle.promises.proofs.Stills.{stands_still}
 use Rattle.promises.proofs.Unanswered.{orders_end}
 use Rattle.promises.proofs.Whole.{complete_by_the_way}
 use Rattle.promises.proofs.Within.{stands_within_limits}
+use Rattle.promises.proofs.Documents.{tells_document}
+use Rattle.promises.proofs.Consents.{consents}
 
 pub as_promised : (s : Plan) (trail : List Move) → IsAsPromised s trail
 as_promised s trail = record {
@@ -61,6 +67,29 @@ as_promised s trail = record {
     awaits = await_tells s so_far act;
     rows = rows_change s so_far act;
     loses = loses_the_late s so_far act;
+    consents = consents s so_far act;
+    document = tells_document s so_far act;
+    refused = refuses_for_cause s so_far act;
   };
-  each_state = λ so_far rest e. record { waits = waits_are_few s so_far; due = waits_are_due s so_far; quiet = stands_quiet s so_far; frozen = frozen_do_not_write s so_far; context = has_its_context s so_far; chosen = chosen_take_part s so_far; asks = asks_its_own s so_far; volumes = volumes_are_distinct s so_far; idles = idles_shortest s so_far; limits = stands_within_limits s so_far; numbers = has_its_numbers s so_far; orders = orders_end s so_far; completing = completes_unfailed s so_far; backups = backups_end s so_far; slots = slots_suffice s so_far; copies = copies_hold s so_far };
+  each_state = λ so_far rest e. record {
+    waits = waits_are_few s so_far;
+    due = waits_are_due s so_far;
+    quiet = stands_quiet s so_far;
+    frozen = frozen_do_not_write s so_far;
+    context = has_its_context s so_far;
+    chosen = chosen_take_part s so_far;
+    asks = asks_its_own s so_far;
+    volumes = volumes_are_distinct s so_far;
+    idles = idles_shortest s so_far;
+    limits = stands_within_limits s so_far;
+    numbers = has_its_numbers s so_far;
+    orders = orders_end s so_far;
+    completing = completes_unfailed s so_far;
+    backups = backups_end s so_far;
+    slots = slots_suffice s so_far;
+    copies = copies_hold s so_far;
+    still = stands_still s so_far;
+    keeps = keeps_copies s so_far;
+  };
+  scripts = answers_by_script s trail;
 }

@@ -19,13 +19,13 @@ use Rattle.vss_model.specs.Reply.{Reply, Answered, Stepped}
 use Rattle.vss_model.specs.State.{State, start}
 use Rattle.vss_model.specs.Acts.{Act, enabled, reply, after, state}
 use Rattle.vss_model.specs.Effects.{lost, lost_order}
-use Rattle.vss_model.specs.Causes.{has_passed, holds_volumes, is_hold_step, frozen_too_long, unanswered_too_long, is_late_at, is_late_in}
+use Rattle.vss_model.specs.Causes.{has_passed, holds_volumes, is_hold_step, held_too_long, frozen_too_long, unanswered_too_long, is_late_at, is_late_in}
 use Rattle.vss_model.proofs.LogRule.{Running}
 use Rattle.promises.specs.Clock.{ticks_if}
 use Rattle.promises.specs.Way.{Deed, Spoke, Made, steps_told, deeds_told, deeds_lost, deeds_if, deeds, begins_snapshot, Rising, way_after, way_from, way}
 use Rattle.promises.proofs.Along.{along}
 use Rattle.promises.proofs.Clock.{clock_after}
-use Rattle.promises.proofs.Limits.{held_since_first, passed_since, is_due_at, is_due_in}
+use Rattle.promises.proofs.Limits.{held_since_first, passed_since, is_due_at, is_due_in, both_parts}
 use Rattle.promises.proofs.Speaks.{deed_at, deed_in}
 use Rattle.promises.proofs.Stages.{Below, below_more}
 use Rattle.promises.proofs.Heard.{Good}
@@ -142,7 +142,7 @@ times_are : (log : List Entry) → map time_of (map deed_in log) ≡ map (λ (e 
 times_are [] = refl
 times_are (e ∷ log) = ap (λ n. n ∷ map time_of (map deed_in log)) (entry_time e.place.group e) ∙ ap (λ ns. e.time ∷ ns) (times_are log)
 
-abbrev times : List Entry → List ℕ
+abbrev pub times : List Entry → List ℕ
 times log = map (λ (e : Entry). e.time) log
 
 -- what has gone by since a later entry has since the first
@@ -194,17 +194,29 @@ holds_in_snapshot Complete a o os e h = absurd (no_hold (plain (Orders BackupCom
 
 -- ## late is due
 
+-- more than the limit has gone by since some Hold step, and so since the first
+pub held_is_first : (now : ℕ) (a : Agenda) (o : Open) (os : List Open) → groups_left a ≡ o ∷ os → (a.kind ≡ Snapshot → Rising (times a.log)) → held_too_long now o.place.group a ≡ true
+    → (holds_volumes o.place.group ≡ true) × (held_since_first now a ≡ true)
+held_is_first now a o os e r h =
+    let parts = both_parts (holds_volumes o.place.group) _ h in (parts.0, first_passed now a.log (r (holds_in_snapshot a.kind a o os e parts.0)) parts.1)
+
 due_at : (now : ℕ) (c : Course) (a : Agenda) (os : List Open) → groups_left a ≡ os → (a.kind ≡ Snapshot → Rising (times a.log)) → is_late_at now c a os ≡ true → is_due_at now c a os ≡ true
 due_at now c a [] e r h = absurd cc
 due_at now c a (o ∷ os) e r h =
-    by_parts (holds_volumes o.place.group) (list_any (λ (x : Entry). is_hold_step x.place.group && has_passed hold_limit x.time now) a.log) (held_since_first now a) (frozen_too_long now o.place.group c a) (unanswered_too_long now o.place a) refl
-    (λ f g. first_passed now a.log (r (holds_in_snapshot a.kind a o os e f)) g) h
+    by_parts (held_too_long now o.place.group a) (holds_volumes o.place.group && held_since_first now a) (frozen_too_long now o.place.group c a) (unanswered_too_long now o.place a) (λ g. let parts = held_is_first now a o os e r g in both_on (holds_volumes o.place.group) (held_since_first now a) parts.0 parts.1) h
   where
-    by_parts : (b l p f u : Bool) → holds_volumes o.place.group ≡ b → (holds_volumes o.place.group ≡ true → l ≡ true → p ≡ true) → ((b && l) || f || u) ≡ true → ((b && p) || f || u) ≡ true
-    by_parts true true p f u i g h = rw (g i refl) refl
-    by_parts true false true f u i g h = refl
-    by_parts true false false f u i g h = h
-    by_parts false l p f u i g h = h
+    both_on : (b p : Bool) → b ≡ true → p ≡ true → (b && p) ≡ true
+    both_on true p e f = f
+    both_on false p e f = absurd cc
+
+    by_parts : (x y f u : Bool) → (x ≡ true → y ≡ true) → (x || f || u) ≡ true → (y || f || u) ≡ true
+    by_parts true true f u g i = refl
+    by_parts true false f u g i = absurd (differ (g refl))
+      where
+        differ : false ≡ true → ⊥
+        differ e = cc
+    by_parts false true f u g i = refl
+    by_parts false false f u g i = i
 
 due_in_agenda : (now : ℕ) (c : Course) (a : Option Agenda) → Running (λ (x : Agenda). x.kind ≡ Snapshot → Rising (times x.log)) a → is_late_in now c a ≡ true → is_due_in now c a ≡ true
 due_in_agenda now c None r h = absurd cc
@@ -215,7 +227,9 @@ log_in_time s ds None r h = tt
 log_in_time s ds (Some a) r h = λ k. subst Rising (ap (map time_of) (sym (h k).0) ∙ times_are a.log) r
 
 -- in every state
+pub logs_rise : (s : Plan) (acts : List Act) → Running (λ (x : Agenda). x.kind ≡ Snapshot → Rising (times x.log)) (state s acts).course.agenda
+logs_rise s acts = log_in_time s (way s acts) (state s acts).course.agenda (way_in_time s acts).rising (along (Good s) (good_along s) s acts)
+
 pub late_is_due : (s : Plan) (acts : List Act) (now : ℕ) → is_late_in now (state s acts).course (state s acts).course.agenda ≡ true → is_due_in now (state s acts).course (state s acts).course.agenda ≡ true
 late_is_due s acts now h =
-    due_in_agenda now (state s acts).course (state s acts).course.agenda
-    (log_in_time s (way s acts) (state s acts).course.agenda (way_in_time s acts).rising (along (Good s) (good_along s) s acts)) h
+    due_in_agenda now (state s acts).course (state s acts).course.agenda (logs_rise s acts) h

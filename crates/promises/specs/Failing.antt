@@ -1,9 +1,9 @@
 -- Why a set fails, both ways: an act that gives a cause fails the set in progress in that act, and no other act does. The causes
--- are said in words of their own beside the definitions, the last one in `WritesFailForSlots`: a veto to PrepareBackup, PrepareSnapshot or Freeze, or an answer to one
--- of the first two that is missing for more than 300,000 ticks; more than 10,000 ticks since the first volume was held, while one
--- may be; more than some participant's time-out, or 60,000, since PrepareSnapshot was answered, until PostCommit; a flush that a
--- device failed; `abort` or `end` of the lane that owns the session; a write for which the set's own image goes. (Which causes
--- there are is this project's own.)
+-- are said in words of their own beside the definitions, the last one in `WritesFailForSlots`: a veto to PrepareBackup, PrepareSnapshot
+-- or Freeze, or an answer to one of the first two that is missing for more than 300,000 ticks; more than 10,000 ticks since the first
+-- volume was held, while one may be; more than some participant's time-out, or 60,000, since PrepareSnapshot was answered, until
+-- PostCommit; a flush that a device failed; `abort` or `end` of the lane that owns the session; a write for which the set's own image
+-- goes. (Which causes there are is this project's own.)
 use Rattle.std.specs.Prelude.{ℕ, ◌≡◌, ◌<◌, true, List, Some, slice_get}
 use Rattle.write_history.specs.Slots.{lacks_slot, gone_up_to}
 use Rattle.scenario.specs.declared.op.Op.{Op}

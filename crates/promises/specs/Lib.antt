@@ -29,5 +29,10 @@ pub mod Evicted
 pub mod Properties
 pub mod Awaited
 pub mod Codes
+pub mod Still
+pub mod Refusing
+pub mod Scripted
+pub mod Documented
+pub mod Consenting
 pub mod Promises
 pub mod Headline

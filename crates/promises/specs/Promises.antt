@@ -14,7 +14,7 @@ use Rattle.promises.specs.Codes.{FailsByCode}
 use Rattle.promises.specs.Completing.{CompletesUnfailed}
 use Rattle.promises.specs.Contents.{ContentsChange}
 use Rattle.promises.specs.ContextZero.{BackupsEnd}
-use Rattle.promises.specs.Copies.{CopiesHold}
+use Rattle.promises.specs.Copies.{CopiesHold, KeepsCopies}
 use Rattle.promises.specs.Done.{IsDone}
 use Rattle.promises.specs.Ends.{KeepsRows}
 use Rattle.promises.specs.Evicted.{TellsEvicted}
@@ -28,13 +28,18 @@ use Rattle.promises.specs.Numbers.{HasItsNumbers}
 use Rattle.promises.specs.Participants.{ChosenTakePart, TakesPart}
 use Rattle.promises.specs.Properties.{PropertiesTell}
 use Rattle.promises.specs.Refused.{RefusalsChangeNothing}
+use Rattle.promises.specs.Refusing.{RefusesForCause}
 use Rattle.promises.specs.Replies.{RepliesTell}
 use Rattle.promises.specs.Rows.{RowsChange}
+use Rattle.promises.specs.Scripted.{AnswersByScript}
 use Rattle.promises.specs.Sets.{VolumesAreDistinct}
 use Rattle.promises.specs.Slots.{SlotsSuffice}
+use Rattle.promises.specs.Still.{StandsStill}
 use Rattle.promises.specs.Unanswered.{OrdersEnd}
 use Rattle.promises.specs.Way.{CompletesByTheWay}
 use Rattle.promises.specs.Within.{StandsWithinLimits}
+use Rattle.promises.specs.Documented.{TellsDocument}
+use Rattle.promises.specs.Consenting.{Consents}
 
 -- of an act that comes after these
 pub record IsActAsPromised (s : Plan) (so_far : List Act) (act : Act) : Type 0 where
@@ -59,6 +64,9 @@ pub record IsActAsPromised (s : Plan) (so_far : List Act) (act : Act) : Type 0 w
   pub awaits : AwaitTells s so_far act
   pub rows : RowsChange s so_far act
   pub loses : LosesTheLate s so_far act
+  pub refused : RefusesForCause s so_far act
+  pub document : TellsDocument s so_far act
+  pub consents : Consents s so_far act
 
 -- of the state after these acts
 pub record IsStateAsPromised (s : Plan) (so_far : List Act) : Type 0 where
@@ -78,8 +86,12 @@ pub record IsStateAsPromised (s : Plan) (so_far : List Act) : Type 0 where
   pub backups : BackupsEnd s so_far
   pub slots : SlotsSuffice s so_far
   pub copies : CopiesHold s so_far
+  pub still : StandsStill s so_far
+  pub keeps : KeepsCopies s so_far
 
 -- of each act of a trail, and of each state on its way
 pub record IsAsPromised (s : Plan) (trail : List Move) : Type 0 where
   pub each_act : (so_far rest : List Act) (act : Act) → acts s trail ≡ so_far ++ act ∷ rest → IsActAsPromised s so_far act
   pub each_state : (so_far rest : List Act) → acts s trail ≡ so_far ++ rest → IsStateAsPromised s so_far
+  -- and of the moves of writers
+  pub scripts : AnswersByScript s trail

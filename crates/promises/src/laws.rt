@@ -16,7 +16,7 @@ ghost use Rattle.promises.specs.Codes.{FailsByCode};
 ghost use Rattle.promises.specs.Completing.{CompletesUnfailed};
 ghost use Rattle.promises.specs.Contents.{ContentsChange};
 ghost use Rattle.promises.specs.ContextZero.{BackupsEnd};
-ghost use Rattle.promises.specs.Copies.{CopiesHold};
+ghost use Rattle.promises.specs.Copies.{CopiesHold, KeepsCopies};
 ghost use Rattle.promises.specs.Done.{IsDone};
 ghost use Rattle.promises.specs.Ends.{KeepsRows, EndsEachSet, CompletesWhereCalm};
 ghost use Rattle.promises.specs.Evicted.{TellsEvicted};
@@ -32,13 +32,18 @@ ghost use Rattle.promises.specs.Participants.{ChosenTakePart, TakesPart};
 ghost use Rattle.promises.specs.Promises.{IsAsPromised};
 ghost use Rattle.promises.specs.Properties.{PropertiesTell};
 ghost use Rattle.promises.specs.Refused.{RefusalsChangeNothing};
+ghost use Rattle.promises.specs.Refusing.{RefusesForCause};
 ghost use Rattle.promises.specs.Replies.{RepliesTell};
 ghost use Rattle.promises.specs.Rows.{RowsChange};
+ghost use Rattle.promises.specs.Scripted.{AnswersByScript};
 ghost use Rattle.promises.specs.Sets.{VolumesAreDistinct};
 ghost use Rattle.promises.specs.Slots.{SlotsSuffice};
+ghost use Rattle.promises.specs.Still.{StandsStill};
 ghost use Rattle.promises.specs.Unanswered.{OrdersEnd};
 ghost use Rattle.promises.specs.Way.{CompletesByTheWay};
 ghost use Rattle.promises.specs.Within.{StandsWithinLimits};
+ghost use Rattle.promises.specs.Documented.{TellsDocument};
+ghost use Rattle.promises.specs.Consenting.{Consents};
 
 /// A set that completes has come the whole way since its `snapshot` line: PrepareSnapshot, Freeze, PreCommit, Flush, Hold, Cut,
 /// Commit, Release, PostCommit, Thaw, PostSnapshot, in this order and nothing twice.
@@ -225,6 +230,37 @@ pub fn no_order_stays_open()
 /// An image of context 0 stands only while the session stands that has made its set.
 pub fn backups_end_with_their_session()
     ensures { (s : Plan) (so_far : List Act) → BackupsEnd s so_far }
+{}
+
+/// While the agenda of `snapshot` runs, a volume is held from its Hold step to its Release step, and a writer stands frozen from its ok to
+/// Freeze until it is heard at Thaw; at no other time is one held or frozen.
+pub fn all_stand_still_as_told()
+    ensures { (s : Plan) (so_far : List Act) → StandsStill s so_far }
+{}
+
+/// A session call that is not accepted is answered by the code of its cause: who calls, the order, the set in progress, or what it wants.
+pub fn calls_are_refused_for_cause()
+    ensures { (s : Plan) (so_far : List Act) (act : Act) → RefusesForCause s so_far act }
+{}
+
+/// A writer answers by its script: its nth answer to an order is that of the first row for that order and n.
+pub fn writers_answer_by_their_scripts()
+    ensures { (s : Plan) (trail : List Move) → AnswersByScript s trail }
+{}
+
+/// An area keeps a copy of exactly those blocks of its images that were overwritten since their cut, and none twice.
+pub fn areas_keep_what_is_overwritten()
+    ensures { (s : Plan) (so_far : List Act) → KeepsCopies s so_far }
+{}
+
+/// The component document lists, of the chosen writers, the components that the session has named and those that come with them.
+pub fn the_document_lists_what_is_chosen()
+    ensures { (s : Plan) (so_far : List Act) (act : Act) → TellsDocument s so_far act }
+{}
+
+/// An accepted `snapshot`, in a context with writers, comes only after each participant has said ok to PrepareBackup since `prepare`.
+pub fn participants_consent_before_the_snapshot()
+    ensures { (s : Plan) (so_far : List Act) (act : Act) → Consents s so_far act }
 {}
 
 /// Every run is as promised: each act of a trail, and each state on its way.

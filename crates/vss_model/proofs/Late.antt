@@ -180,7 +180,7 @@ both_are : (a b : Bool) → a ≡ true → b ≡ true → (a && b) ≡ true
 both_are true b e f = f
 both_are false b e f = absurd cc
 
-hold_late : (now : ℕ) (g : Group) (a : Agenda) (o : Option ℕ) (l : Running) → first_hold a.log ≡ o → spent_of now (hold_running g o) ≡ Some l → held_too_long now g a ≡ true
+pub hold_late : (now : ℕ) (g : Group) (a : Agenda) (o : Option ℕ) (l : Running) → first_hold a.log ≡ o → spent_of now (hold_running g o) ≡ Some l → held_too_long now g a ≡ true
 hold_late now g a None l e f = absurd cc
 hold_late now g a (Some since) l e f =
     let one = spent_one (hold_runs g) HoldLimit since hold_limit now l f in
@@ -210,7 +210,7 @@ least_passed now since least rows (m ∷ ms) e =
         least_of : (a b t x : ℕ) → (nat_lt (t + min a b) x || false) ≡ true → (nat_lt (t + a) x || (nat_lt (t + b) x || false)) ≡ true
         least_of a b t x e = grind arith
 
-freeze_late : (now : ℕ) (g : Group) (c : Course) (a : Agenda) (l : Running) → spent_of now (runs_if (freeze_runs g) FreezeLimit (freeze_opened_at a) (freeze_limit c)) ≡ Some l → frozen_too_long now g c a ≡ true
+pub freeze_late : (now : ℕ) (g : Group) (c : Course) (a : Agenda) (l : Running) → spent_of now (runs_if (freeze_runs g) FreezeLimit (freeze_opened_at a) (freeze_limit c)) ≡ Some l → frozen_too_long now g c a ≡ true
 freeze_late now g c a l e =
     let one = spent_one (freeze_runs g) FreezeLimit (freeze_opened_at a) (freeze_limit c) now l e in
     both_are (freezes_writers g) _ (sym (same_freeze g) ∙ one.runs)

@@ -1,0 +1,296 @@
+-- The component document lists what the session has named, and what comes with it.
+use Rattle.std.proofs.Common.{◌≡◌, ◌∙◌, ℕ, ◌+◌, ◌==◌, zero, suc, List, [], ◌∷◌, ◌++◌, Option, Some, None, refl, Bool, true, false, ap, sym, subst, map, length, fold, arith}
+use Rattle.std.specs.Prelude.{◌&&◌, ◌||◌, not, nat_lt, if◌then◌else◌, slice_get}
+use Rattle.std.specs.List.{list_any}
+use Rattle.std.specs.Str.{bytes_eq}
+use Rattle.std.proofs.lemmas.List.{length-map}
+use Rattle.serde_json.specs.Written.{compact_text}
+use Rattle.vss_names.specs.declared.vss_result.VssResult.TheVariants.{AsyncCancelled, BadState}
+use Rattle.write_history.specs.declared.mark.Mark.{Mark}
+use Rattle.writer_calls.specs.Script.{said_of}
+use Rattle.writer_meta.specs.Metadata.{Part, Meta, full_name, is_ancestor}
+use Rattle.writer_state.specs.WriterRow.{row_gathered}
+use Rattle.set_agenda.specs.declared.kind.Kind.TheVariants as kind
+use Rattle.set_agenda.specs.Agenda.{is_among}
+use Rattle.set_agenda.specs.Course.{Course, begun, members_from, prepared as course_prepared}
+use Rattle.component_doc.specs.Selection.{Pair, Named, AllOf, is_pair, has_pair, with_pair, found_from, found_in, Names, naming_if, naming_found, naming_of, is_taker, takers, has_named_ancestor, choice_if, choices_from, choices_of, chosen_from, known_from as numbers_known}
+use Rattle.component_doc.specs.Held.{is_named}
+use Rattle.component_doc.specs.Document.{choices_data, document_of, document_text}
+use Rattle.requestor.specs.declared.mode.Mode.{Mode}
+use Rattle.requestor.specs.declared.mode.Mode.TheVariants.{Components, All}
+use Rattle.requestor.specs.declared.session_call.SessionCall.TheVariants as call
+use Rattle.requestor.specs.Session.{Session, mode_of}
+use Rattle.scenario.specs.declared.op.Op.{Op}
+use Rattle.scenario.specs.declared.op.Op.TheVariants as op
+use Rattle.scenario.specs.Calls.{Target, target_of}
+use Rattle.scenario.specs.Plan.{Plan, WriterPlan, token}
+use Rattle.vss_model.specs.declared.event.Event.{Event}
+use Rattle.vss_model.specs.declared.event.Event.TheVariants.{Line}
+use Rattle.vss_model.specs.Reply.{Reply, DocumentOf}
+use Rattle.vss_model.specs.State.{State, start, in_progress}
+use Rattle.vss_model.specs.Images.{Replied, refused, write}
+use Rattle.vss_model.specs.Sessions.{is_known, meta_if, known_from, known_metas, selected_in, selected, start_set, has_no_volume, volumes_of, closed}
+use Rattle.vss_model.specs.Ending.{followed, failed}
+use Rattle.vss_model.specs.Acts.{Act, enabled, idle_now, after, state}
+use Rattle.vss_model.proofs.Gathered.{named_known_components}
+use Rattle.promises.specs.Accepted.{is_accepted}
+use Rattle.promises.specs.Documented.{is_first, is_part, line_names, event_names, names_if, names_from, has_named, is_below, parts_listed, writer_listed, writers_listed, TellsDocument}
+use Rattle.promises.specs.InOrder.{progress}
+use Rattle.promises.specs.Participants.{is_chosen, is_unfit, choosing, is_writer}
+use Rattle.promises.proofs.Accepted.{tells, line_reply}
+use Rattle.promises.proofs.ByEvent.{ChangesNothing, Covers, covered, after_enabled, after_not_enabled}
+use Rattle.promises.proofs.Members.{is_selected, taker_is}
+use Rattle.promises.proofs.Participants.{chosen_by, follows_all, standing, pair_added}
+use Rattle.promises.proofs.Prepares.{named_is_known}
+use Rattle.promises.proofs.Progress.{stands_all}
+use Rattle.promises.proofs.SameChoice.{SameChoice, mode_in, same_choice, same_course, on_begun, on_followed, on_write, on_revert, on_ticked, on_agenda_begun, on_failed_in, on_answered, on_stepped}
+
+-- ## what a line names
+
+-- the metadata of a writer that is known are those of the plan
+record IsOfPlan (o : Option WriterPlan) (m : Meta) : Type 0 where
+  plan : WriterPlan
+  is : o ≡ Some plan
+  meta : plan.meta ≡ m
+
+of_plan : (s : Plan) (st : State) (k : ℕ) (ps : List WriterPlan) (u : ℕ) (m : Meta) → slice_get (known_from s st k ps) u ≡ Some (Some m) → IsOfPlan (slice_get ps u) m
+of_plan s st k [] u m e = absurd cc
+of_plan s st k (p ∷ ps) zero m e = by_known (is_known s st k) e
+  where
+    by_known : (b : Bool) → Some (meta_if b p.meta) ≡ Some (Some m) → IsOfPlan (Some p) m
+    by_known true f = record { plan = p; is = refl; meta = cc }
+    by_known false f = absurd cc
+of_plan s st k (p ∷ ps) (suc u) m e = of_plan s st (k + 1) ps u m e
+
+first_is : (name : List ℕ) (i j : ℕ) (ps : List Part) (f : _) → found_from name j ps ≡ Some f → is_first name i j ps ≡ (f.component == i)
+first_is name i j [] f e = absurd cc
+first_is name i j (p ∷ ps) f e = by_name (bytes_eq (full_name p) name) e (first_is name i (j + 1) ps f)
+  where
+    by_name : (b : Bool) → (if b then Some (record { component = j; selectable = p.selectable }) else found_from name (j + 1) ps) ≡ Some f
+        → (found_from name (j + 1) ps ≡ Some f → is_first name i (j + 1) ps ≡ (f.component == i))
+        → (if b then j == i else is_first name i (j + 1) ps) ≡ (f.component == i)
+    by_name true g ih = let e : f ≡ record { component = j; selectable = p.selectable } = cc in rw e refl
+    by_name false g ih = ih g
+
+module _ (w i : ℕ) where
+  pair_if : (q : Pair) (ps new : List Pair) (a b : Bool) → naming_if a b q ps ≡ Names new → has_pair new w i ≡ (has_pair ps w i || is_pair w i q)
+  pair_if q ps new false b e = absurd cc
+  pair_if q ps new true true e = absurd cc
+  pair_if q ps new true false e = let same : with_pair q ps ≡ new = cc in ap (λ x. has_pair x w i) (sym same) ∙ pair_added (is_pair w i) q ps
+
+  pair_found : (u : ℕ) (name : List ℕ) (parts : List Part) (ps new : List Pair) → naming_found u (found_in name parts) ps ≡ Names new
+      → has_pair new w i ≡ (has_pair ps w i || ((u == w) && is_first name i 0 parts))
+  pair_found u name parts ps new e =
+      (elim (found_in name parts) as (λ x. found_in name parts ≡ x → naming_found u x ps ≡ Names new → has_pair new w i ≡ (has_pair ps w i || ((u == w) && is_first name i 0 parts))) [
+        | None ↦ λ f g. absurd cc
+        | Some x ↦ λ f g. pair_if (record { writer = u; component = x.component }) ps new x.selectable (has_pair ps u x.component) g ∙ ap (λ b. has_pair ps w i || ((u == w) && b)) (sym (first_is name i 0 parts x f))
+      ]) refl e
+
+  pair_of : (u : ℕ) (name : List ℕ) (o : Option (Option Meta)) (plan : Option WriterPlan) (ps new : List Pair) → ((m : Meta) → o ≡ Some (Some m) → IsOfPlan plan m)
+      → naming_of u name o ps ≡ Names new
+      → has_pair new w i ≡ (has_pair ps w i || ((u == w) && is_part plan name i))
+  pair_of u name None plan ps new own e = absurd cc
+  pair_of u name (Some None) plan ps new own e = absurd cc
+  pair_of u name (Some (Some m)) plan ps new own e =
+      let x = own m refl in
+      pair_found u name m.parts ps new e
+      ∙ ap (λ (y : Meta). has_pair ps w i || ((u == w) && is_first name i 0 y.parts)) (sym x.meta)
+      ∙ ap (λ p. has_pair ps w i || ((u == w) && is_part p name i)) (sym x.is)
+
+-- ## along the acts of a session
+
+abbrev NamesSo : ℕ → ℕ → State → Bool → Type 0
+NamesSo w i st c = (q : Session) → st.session ≡ Some q → has_pair st.explicit w i ≡ c
+
+names_nothing : (s : Plan) (w i : ℕ) (c : Bool) (o : Op) (said : Reply) → ChangesNothing o said → line_names s w i o said c ≡ c
+names_nothing s w i c (op.Begin n all) said g = ap (λ b. if b then false else c) (g.session refl)
+names_nothing s w i c (op.Component u full) said g = ap (λ b. if b then c || ((u == w) && is_part (slice_get s.writers u) (token s full) i) else c) (g.session refl)
+names_nothing s w i c o said g = refl
+
+write_names : (s : Plan) (w i : ℕ) (c : Bool) (o : Op) (t : Target) (said : Reply) → target_of o ≡ Some t → line_names s w i o said c ≡ c
+write_names s w i c (op.WriteFill v b x) t said e = refl
+write_names s w i c (op.WriteStamp v b x) t said e = refl
+write_names s w i c o t said e = absurd cc
+
+module _ (s : Plan) (w i : ℕ) (st : State) (c : Bool) (h : NamesSo w i st c) where
+  abbrev Next : Event → Mark → Replied → Type 0
+  Next event mark x = NamesSo w i x.1 (event_names s w i event x.0 c)
+
+  beside : (x : State) → x.explicit ≡ st.explicit → mode_in x.session ≡ mode_in st.session → NamesSo w i x c
+  beside x e m q f = by_session st.session refl m
+    where
+      none : Some q.mode ≡ None → ⊥
+      none e = cc
+
+      by_session : (o : Option Session) → st.session ≡ o → mode_in x.session ≡ mode_in o → has_pair x.explicit w i ≡ c
+      by_session None g m = absurd (none (ap mode_in (sym f) ∙ m))
+      by_session (Some r) g m = ap (λ ps. has_pair ps w i) e ∙ h r g
+
+  same : (x : State) → SameChoice st x → NamesSo w i x c
+  same x e = beside x e.explicit e.mode
+
+  begun_if : (b : Bool) (lane : ℕ) (o : Op) (mark : Mark) (x : Replied) → line_names s w i o (refused BadState st).0 c ≡ c → line_names s w i o x.0 c ≡ c → NamesSo w i x.1 c
+      → Next (Line lane o) mark (if b then refused BadState st else x)
+  begun_if true lane o mark x e f g = subst (NamesSo w i st) (sym e) h
+  begun_if false lane o mark x e f g = subst (NamesSo w i x.1) (sym f) g
+
+  on_prepare : (q : Session) → NamesSo w i (followed true (course_prepared (takers (length s.writers) (selected s q st)) st.clock st.course) st) c
+  on_prepare q =
+      let ms = members_from (λ x. is_among x (takers (length s.writers) (selected s q st))) 0 st.course.rows in
+      let fixed : Course = record st.course { members = ms } in
+      let d = begun kind.Prepare ms [] st.clock fixed in
+      let e = on_followed true d (record st { course = fixed }) st refl refl (on_begun kind.Prepare ms [] st.clock fixed) in
+      beside (followed true d st) e.explicit e.mode
+
+  on_close : (q : Session) (x : State) → NamesSo w i (closed q x) c
+  unfolding closed
+  on_close q x own e = absurd cc
+
+  follows : Covers Next s st
+  follows = record {
+    stays = λ lane o mark said e f. subst (NamesSo w i st) (sym (names_nothing s w i c o said f)) h;
+    writes = λ lane o v u mark e f. subst (NamesSo w i (write s v u mark st).1) (sym (write_names s w i c o _ (write s v u mark st).0 e)) (same (write s v u mark st).1 (on_write s v u mark st));
+    reverts = λ lane n v k mark e f. same _ (on_revert s v k mark st);
+    deletes_set = λ lane n x mark e. h;
+    deletes_image = λ lane n v k mark e. h;
+    ticks = λ lane n mark. same _ (on_ticked n st);
+    begins = λ lane n all x mark e ctx q f. refl;
+    disables = λ lane u q mark g. h;
+    gathers = λ lane q mark g. same _ (on_agenda_begun kind.Gather _ [] st st (record st.course { rows = map row_gathered st.course.rows }) (same_choice st) (record { disabled = refl; members = refl; rows = length-map st.course.rows row_gathered }));
+    names = λ lane u full q explicit mark g named own e.
+        pair_of w i u (token s full) (slice_get (known_metas s st) u) (slice_get s.writers u) st.explicit explicit (of_plan s st 0 s.writers u) named
+        ∙ ap (λ b. b || ((u == w) && is_part (slice_get s.writers u) (token s full) i)) (h q g.stands);
+    starts = λ lane q mark g e. beside (start_set q st).1 refl (sym (ap mode_in g.stands));
+    adds = λ lane v r q mark g e f. h;
+    prepares = λ lane q mark g. begun_if (has_no_volume (in_progress st)) lane op.Prepare mark _ refl refl (on_prepare q);
+    snapshots = λ lane q mark g. begun_if (has_no_volume (in_progress st)) lane op.Snapshot mark _ refl refl (same _ (on_agenda_begun kind.Snapshot st.course.members (volumes_of (in_progress st)) st st st.course (same_choice st) (same_course st.course)));
+    completes = λ lane q mark g. same _ (on_agenda_begun kind.Complete _ [] st st st.course (same_choice st) (same_course st.course));
+    aborts = λ lane q mark e. same _ (on_failed_in (in_progress st) AsyncCancelled st st (same_choice st));
+    ends = λ lane q mark e. on_close q (failed AsyncCancelled st);
+    answers = λ u answer mark e. same _ (on_answered u (said_of answer) st);
+    steps = λ mark e. same _ (on_stepped mark st);
+    idles = λ mark e. same _ (on_ticked (idle_now st) st);
+  }
+
+  names_after : (b : Bool) (act : Act) → enabled s st act.event ≡ b → NamesSo w i (after s st act) (names_if b s w i st c act)
+  names_after true act e = subst (λ (x : State). NamesSo w i x (names_if true s w i st c act)) (sym (after_enabled s st act e)) (covered Next s st follows act.event act.mark e)
+  names_after false act e = subst (λ (x : State). NamesSo w i x c) (sym (after_not_enabled s st act e)) h
+
+names_along : (s : Plan) (w i : ℕ) (st : State) (c : Bool) (acts : List Act) → NamesSo w i st c → NamesSo w i (fold (after s) st acts) (names_from s w i st c acts)
+names_along s w i st c [] h = h
+names_along s w i st c (act ∷ acts) h = names_along s w i (after s st act) (names_if (enabled s st act.event) s w i st c act) acts (names_after s w i st c h (enabled s st act.event) act refl)
+
+names_all : (s : Plan) (w i : ℕ) (acts : List Act) → NamesSo w i (state s acts) (has_named s w i acts)
+names_all s w i acts = names_along s w i (start s) false acts (λ q e. absurd cc)
+
+-- ## the components of a writer
+
+all_listed : (ws : List ℕ) (named : ℕ → Bool) (parts : List Part) (w i : ℕ) (cs : List Part) → choices_from (AllOf ws) parts w i cs ≡ parts_listed true named parts w i cs
+all_listed ws named parts w i [] = refl
+all_listed ws named parts w i (c ∷ cs) = ap (λ xs. choice_if true w i false ++ xs) (all_listed ws named parts w (i + 1) cs)
+
+module _ (ps : List Pair) (named : ℕ → Bool) (w : ℕ) (same_pair : (i : ℕ) → has_pair ps w i ≡ named i) where
+  above : (c : Part) (j : ℕ) (parts : List Part) → has_named_ancestor ps w c j parts ≡ is_below named c j parts
+  above c j [] = refl
+  above c j (a ∷ parts) = ap (λ b. (b && is_ancestor a c) || has_named_ancestor ps w c (j + 1) parts) (same_pair j) ∙ ap (λ b. (named j && is_ancestor a c) || b) (above c (j + 1) parts)
+
+  named_listed : (parts : List Part) (i : ℕ) (cs : List Part) → choices_from (Named ps) parts w i cs ≡ parts_listed false named parts w i cs
+  named_listed parts i [] = refl
+  named_listed parts i (c ∷ cs) =
+      let along = not c.selectable && not (list_any (λ (a : Part). a.selectable && is_ancestor a c) parts) in
+      ap (λ b. choice_if (b || has_named_ancestor ps w c 0 parts || along) w i b ++ choices_from (Named ps) parts w (i + 1) cs) (same_pair i)
+      ∙ ap (λ b. choice_if (named i || b || along) w i (named i) ++ choices_from (Named ps) parts w (i + 1) cs) (above c 0 parts)
+      ∙ ap (λ xs. choice_if (named i || is_below named c 0 parts || along) w i (named i) ++ xs) (named_listed parts (i + 1) cs)
+
+-- ## all writers
+
+module _ (s : Plan) (so_far : List Act) (q : Session) (e : (state s so_far).session ≡ Some q) where
+  abbrev st : State
+  st = state s so_far
+
+  abbrev all : Bool
+  all = (progress s so_far).all
+
+  mode_is : q.mode ≡ mode_of all
+  mode_is = (stands_all s so_far q e).mode
+
+  parts_are : (w : ℕ) (parts : List Part) → choices_from (selected s q st) parts w 0 parts ≡ parts_listed all (λ i. has_named s w i so_far) parts w 0 parts
+  parts_are w parts = ap (λ m. choices_from (selected_in m s st) parts w 0 parts) mode_is ∙ by_all all
+    where
+      by_all : (b : Bool) → choices_from (selected_in (mode_of b) s st) parts w 0 parts ≡ parts_listed b (λ i. has_named s w i so_far) parts w 0 parts
+      by_all true = all_listed (numbers_known 0 (known_metas s st)) (λ i. has_named s w i so_far) parts w 0 parts
+      by_all false = named_listed st.explicit (λ i. has_named s w i so_far) w (λ i. names_all s w i so_far q e) parts 0 parts
+
+  abbrev picks : ℕ → Bool
+  picks w = is_chosen (is_unfit st w) (choosing s w so_far)
+
+  selected_is : (w : ℕ) → is_selected s st q.mode w ≡ picks w
+  selected_is w =
+      let c = choosing s w so_far in
+      let f = follows_all s w so_far in
+      let k = standing s w st c f q e in
+      chosen_by s w st c f q.mode c.all k.mode k.named k.disabled
+
+  taker_picked : (w : ℕ) → is_writer s w ≡ true → is_taker (selected s q st) w ≡ picks w
+  taker_picked w f = with_writer (is_writer s w) (is_taker (selected s q st) w) (picks w) f (taker_is s st q.mode w ∙ ap (λ b. is_writer s w && b) (selected_is w))
+    where
+      with_writer : (a b c : Bool) → a ≡ true → (a && b) ≡ (a && c) → b ≡ c
+      with_writer true b c e f = f
+      with_writer false b c e f = absurd cc
+
+  not_picked : (w : ℕ) → is_known s st w ≡ false → picks w ≡ false
+  not_picked w f = sym (selected_is w) ∙ by_mode q.mode
+    where
+      both : (b : Bool) → b ≡ true → b ≡ false → ⊥
+      both b e f = cc
+
+      by_mode : (m : Mode) → is_selected s st m w ≡ false
+      by_mode All = f
+      by_mode Components = false_if (list_any (λ (p : Pair). p.writer == w) st.explicit) (λ g. both (is_known s st w) (named_is_known s st w (named_known_components s so_far) g) f)
+        where
+          false_if : (b : Bool) → (b ≡ true → ⊥) → b ≡ false
+          false_if true g = absurd (g refl)
+          false_if false g = refl
+
+  writer_are : (w : ℕ) (p : WriterPlan) → is_writer s w ≡ true → choices_of (selected s q st) w (meta_if (is_known s st w) p.meta) ≡ writer_listed s so_far w p
+  writer_are w p f = by_known (is_known s st w) refl
+    where
+      by_known : (b : Bool) → is_known s st w ≡ b → choices_of (selected s q st) w (meta_if b p.meta) ≡ writer_listed s so_far w p
+      by_known true g =
+          ap (λ b. if b then choices_from (selected s q st) p.meta.parts w 0 p.meta.parts else []) (taker_picked w f)
+          ∙ ap (λ xs. if picks w then xs else []) (parts_are w p.meta.parts)
+      by_known false g = sym (ap (λ b. if b then parts_listed all (λ i. has_named s w i so_far) p.meta.parts w 0 p.meta.parts else []) (not_picked w g))
+
+  writers_are : (w : ℕ) (ps : List WriterPlan) → w + length ps ≡ length s.writers → chosen_from (selected s q st) w (known_from s st w ps) ≡ writers_listed s so_far w ps
+  writers_are w [] f = refl
+  writers_are w (p ∷ ps) f =
+      ap (λ xs. xs ++ chosen_from (selected s q st) (w + 1) (known_from s st (w + 1) ps)) (writer_are w p (inside w (length ps) (length s.writers) f))
+      ∙ ap (λ xs. writer_listed s so_far w p ++ xs) (writers_are (w + 1) ps (next w (length ps) (length s.writers) f))
+    where
+      inside : (w n m : ℕ) → w + suc n ≡ m → nat_lt w m ≡ true
+      inside w n m e = grind arith
+
+      next : (w n m : ℕ) → w + suc n ≡ m → (w + 1) + n ≡ m
+      next w n m e = omega arith
+
+  named_mode : is_named (selected s q st) ≡ not all
+  named_mode = ap (λ m. is_named (selected_in m s st)) mode_is ∙ by_all all
+    where
+      by_all : (b : Bool) → is_named (selected_in (mode_of b) s st) ≡ not b
+      by_all true = refl
+      by_all false = refl
+
+  text_is : document_text (known_metas s st) (selected s q st) q.context ≡ compact_text (document_of (choices_data (known_metas s st) (writers_listed s so_far 0 s.writers)) q.context (not all))
+  unfolding document_text
+  text_is =
+      ap (λ xs. compact_text (document_of (choices_data (known_metas s st) xs) q.context (is_named (selected s q st)))) (writers_are 0 s.writers (zero_plus (length s.writers)))
+      ∙ ap (λ b. compact_text (document_of (choices_data (known_metas s st) (writers_listed s so_far 0 s.writers)) q.context b)) named_mode
+    where
+      zero_plus : (n : ℕ) → 0 + n ≡ n
+      zero_plus n = omega arith
+
+pub tells_document : (s : Plan) (so_far : List Act) (act : Act) → TellsDocument s so_far act
+tells_document s so_far act lane q e f g =
+    let st = state s so_far in
+    let is = line_reply s st act (Line lane op.Document) e in
+    is ∙ tells s st lane call.Document op.Document q f refl (ap is_accepted (sym is) ∙ g) ∙ ap DocumentOf (text_is s so_far q f)

@@ -1,0 +1,376 @@
+-- An area keeps exactly the copies of what was overwritten, and none twice.
+use Rattle.std.proofs.Common.{◌≡◌, ◌∙◌, ℕ, ◌+◌, ◌-◌, ◌==◌, ◌<◌, ◌≤◌, zero, suc, List, [], ◌∷◌, ◌++◌, Option, Some, None, refl, Bool, true, false, ap, sym, subst, map, filter, take, drop, length, arith}
+use Rattle.std.specs.Prelude.{◌&&◌, ◌||◌, not, nat_lt, nat_le, if◌then◌else◌, slice_get}
+use Rattle.std.specs.List.{list_any, range_with_len}
+use Rattle.std.proofs.lemmas.List.Folds.{list_any-append}
+use Rattle.write_history.specs.History.{Write, Image, History, point_in, AreLater, AreInTime, names, blocks_named}
+use Rattle.write_history.specs.Slots.{Placed, Copy, copy_of, named, writes_since, copies_of, copies_from}
+use Rattle.scenario.specs.declared.volume_row.VolumeRow.{VolumeRow}
+use Rattle.scenario.specs.Plan.{Plan, blocks_in, blocks_of, placed, placed_in, group_of}
+use Rattle.set_agenda.specs.Agenda.{is_among}
+use Rattle.vss_model.specs.Acts.{Act, state}
+use Rattle.vss_model.proofs.OneCut.{images_in_time}
+use Rattle.vss_model.proofs.Volumes.{at}
+use Rattle.promises.specs.Copies.{place_from, is_cut_by, is_overwritten, is_copy, are_once, KeepsCopies}
+use Rattle.promises.specs.Gone.{within}
+use Rattle.promises.proofs.Copies.{own_number, later_set, InTimeAll}
+use Rattle.promises.proofs.Members.{none_passes, range_passes}
+use Rattle.promises.proofs.Stages.{both_parts, both_are}
+
+-- ## the copies of one image
+
+any_other : (k u n b : ℕ) (ws : List Write) (i : Image) (bs : List ℕ) → ((k == u) && (i.set == n)) ≡ false → list_any (is_copy u n b) (map (copy_of k ws i) bs) ≡ false
+any_other k u n b ws i [] e = refl
+any_other k u n b ws i (x ∷ bs) e = ap (λ c. c || list_any (is_copy u n b) (map (copy_of k ws i) bs)) (by_parts (k == u) (i.set == n) e) ∙ any_other k u n b ws i bs e
+  where
+    by_parts : (a c : Bool) → (a && c) ≡ false → (a && c && (x == b)) ≡ false
+    by_parts true true e = absurd cc
+    by_parts true false e = refl
+    by_parts false c e = refl
+
+any_own : (k u n b : ℕ) (ws : List Write) (i : Image) (bs : List ℕ) → (k == u) ≡ true → (i.set == n) ≡ true → list_any (is_copy u n b) (map (copy_of k ws i) bs) ≡ is_among b bs
+any_own k u n b ws i [] e f = refl
+any_own k u n b ws i (x ∷ bs) e f =
+    ap (λ c. (c && (i.set == n) && (x == b)) || list_any (is_copy u n b) (map (copy_of k ws i) bs)) e
+    ∙ ap (λ c. (c && (x == b)) || list_any (is_copy u n b) (map (copy_of k ws i) bs)) f
+    ∙ ap (λ c. (x == b) || c) (any_own k u n b ws i bs e f)
+
+-- ## which blocks are overwritten
+
+-- no image of a later set comes
+overwritten_by : (n b : ℕ) (images : List Image) (i : ℕ) (ws : List Write) → ((j : ℕ) → is_cut_by n j images ≡ false) → names ws b ≡ is_overwritten n b images i ws
+overwritten_by n b images i [] f = refl
+overwritten_by n b images i (w ∷ ws) f =
+    ap (λ c. c || names ws b) (plain (w.block == b) ∙ ap (λ c. (w.block == b) && not c) (sym (f i))) ∙ ap (λ c. ((w.block == b) && not (is_cut_by n i images)) || c) (overwritten_by n b images (i + 1) ws f)
+  where
+    plain : (c : Bool) → c ≡ (c && true)
+    plain true = refl
+    plain false = refl
+
+-- one is cut at q writes
+overwritten_up_to : (n b q : ℕ) (images : List Image) (i : ℕ) (ws : List Write) → ((j : ℕ) → is_cut_by n j images ≡ nat_le q j)
+    → names (take (q - i) ws) b ≡ is_overwritten n b images i ws
+overwritten_up_to n b q images i [] f = ap (λ xs. names xs b) (take_none (q - i))
+  where
+    take_none : (k : ℕ) → take {A = Write} k [] ≡ []
+    take_none zero = refl
+    take_none (suc k) = refl
+overwritten_up_to n b q images i (w ∷ ws) f = by_time (nat_le q i) refl (overwritten_up_to n b q images (i + 1) ws f)
+  where
+    none_left : (q i : ℕ) → nat_le q i ≡ true → q - i ≡ 0
+    none_left q i e = grind arith
+
+    none_more : (q i : ℕ) → nat_le q i ≡ true → q - (i + 1) ≡ 0
+    none_more q i e = grind arith
+
+    one_left : (q i : ℕ) → nat_le q i ≡ false → q - i ≡ suc (q - (i + 1))
+    one_left q i e = grind arith
+
+    off : (c : Bool) → false ≡ ((c && false) || false)
+    off true = refl
+    off false = refl
+
+    plain : (c d : Bool) → (c || d) ≡ ((c && true) || d)
+    plain true d = refl
+    plain false d = refl
+
+    by_time : (c : Bool) → nat_le q i ≡ c → names (take (q - (i + 1)) ws) b ≡ is_overwritten n b images (i + 1) ws
+        → names (take (q - i) (w ∷ ws)) b ≡ (((w.block == b) && not (is_cut_by n i images)) || is_overwritten n b images (i + 1) ws)
+    by_time true e ih =
+        ap (λ k. names (take k (w ∷ ws)) b) (none_left q i e)
+        ∙ off (w.block == b)
+        ∙ ap (λ c. ((w.block == b) && false) || c) (sym (ap (λ k. names (take k ws) b) (none_more q i e)) ∙ ih)
+        ∙ ap (λ c. ((w.block == b) && not c) || is_overwritten n b images (i + 1) ws) (sym (f i ∙ e))
+    by_time false e ih =
+        ap (λ k. names (take k (w ∷ ws)) b) (one_left q i e)
+        ∙ plain (w.block == b) (names (take (q - (i + 1)) ws) b)
+        ∙ ap (λ c. ((w.block == b) && true) || c) ih
+        ∙ ap (λ c. ((w.block == b) && not c) || is_overwritten n b images (i + 1) ws) (sym (f i ∙ e))
+
+-- the same of the images behind one that is no later
+overwritten_along : (n b : ℕ) (x : Image) (images : List Image) (i : ℕ) (ws : List Write) → nat_lt n x.set ≡ false
+    → is_overwritten n b images i ws ≡ is_overwritten n b (x ∷ images) i ws
+overwritten_along n b x images i [] e = refl
+overwritten_along n b x images i (w ∷ ws) e =
+    ap (λ c. ((w.block == b) && not ((c && nat_le x.point i) || is_cut_by n i images)) || is_overwritten n b images (i + 1) ws) (sym e)
+    ∙ ap (λ c. ((w.block == b) && not (is_cut_by n i (x ∷ images))) || c) (overwritten_along n b x images (i + 1) ws e)
+
+-- later images come at no fewer writes
+later_cuts : (n j : ℕ) (x : Image) (images : List Image) → AreLater x images → is_cut_by n j images ≡ true → nat_le x.point j ≡ true
+later_cuts n j x [] h e = absurd cc
+later_cuts n j x (y ∷ images) h e = by_head (nat_lt n y.set) (nat_le y.point j) refl e (later_cuts n j x images h.2)
+  where
+    before : (a c j : ℕ) → a ≤ c → nat_le c j ≡ true → nat_le a j ≡ true
+    before a c j l e = grind arith
+
+    by_head : (a c : Bool) → nat_le y.point j ≡ c → ((a && c) || is_cut_by n j images) ≡ true → (is_cut_by n j images ≡ true → nat_le x.point j ≡ true) → nat_le x.point j ≡ true
+    by_head true true f e ih = before x.point y.point j h.1 f
+    by_head true false f e ih = ih e
+    by_head false c f e ih = ih e
+
+next_cut : (n j : ℕ) (x : Image) (images : List Image) → AreLater x images → nat_lt n x.set ≡ true → is_cut_by n j (x ∷ images) ≡ nat_le x.point j
+next_cut n j x images h e = ap (λ c. (c && nat_le x.point j) || is_cut_by n j images) e ∙ by_rest (nat_le x.point j) (is_cut_by n j images) refl (later_cuts n j x images h)
+  where
+    by_rest : (a c : Bool) → nat_le x.point j ≡ a → (c ≡ true → nat_le x.point j ≡ true) → (a || c) ≡ a
+    by_rest true c f g = refl
+    by_rest false true f g = absurd (differ (sym f ∙ g refl))
+      where
+        differ : false ≡ true → ⊥
+        differ e = cc
+    by_rest false false f g = refl
+
+-- ## the copies of a volume
+
+no_image : (k u n b m : ℕ) (ws : List Write) (images : List Image) → point_in n images ≡ None → list_any (is_copy u n b) (copies_of k m ws images) ≡ false
+no_image k u n b m ws [] e = refl
+no_image k u n b m ws (i ∷ newer) e = by_set (i.set == n) refl e (no_image k u n b m ws newer)
+  where
+    off : (c : Bool) → (c && false) ≡ false
+    off true = refl
+    off false = refl
+
+    by_set : (c : Bool) → (i.set == n) ≡ c → (if c then Some i.point else point_in n newer) ≡ None
+        → (point_in n newer ≡ None → list_any (is_copy u n b) (copies_of k m ws newer) ≡ false) → list_any (is_copy u n b) (copies_of k m ws (i ∷ newer)) ≡ false
+    by_set true f e ih = absurd cc
+    by_set false f e ih =
+        list_any-append (is_copy u n b) (map (copy_of k ws i) (named m ws i newer)) (copies_of k m ws newer)
+        ∙ ap (λ c. c || list_any (is_copy u n b) (copies_of k m ws newer)) (any_other k u n b ws i (named m ws i newer) (ap (λ c. (k == u) && c) f ∙ off (k == u)))
+        ∙ ih e
+
+other_volume : (k u n b m : ℕ) (ws : List Write) (images : List Image) → (k == u) ≡ false → list_any (is_copy u n b) (copies_of k m ws images) ≡ false
+other_volume k u n b m ws [] e = refl
+other_volume k u n b m ws (i ∷ newer) e =
+    list_any-append (is_copy u n b) (map (copy_of k ws i) (named m ws i newer)) (copies_of k m ws newer)
+    ∙ ap (λ c. c || list_any (is_copy u n b) (copies_of k m ws newer)) (any_other k u n b ws i (named m ws i newer) (ap (λ c. c && (i.set == n)) e))
+    ∙ other_volume k u n b m ws newer e
+
+-- no later image is of the same set
+none_of_set : (i : Image) (images : List Image) (n : ℕ) → AreLater i images → (i.set == n) ≡ true → point_in n images ≡ None
+none_of_set i images n h e = by_point (point_in n images) refl
+  where
+    both : (c : Bool) → c ≡ true → c ≡ false → ⊥
+    both c e f = cc
+
+    by_point : (o : Option ℕ) → point_in n images ≡ o → point_in n images ≡ None
+    by_point None f = f
+    by_point (Some p) f = absurd (both (i.set == n) e (later_set i n p images h f))
+
+some_same : (a c : ℕ) → Some a ≡ Some c → a ≡ c
+some_same a c e = cc
+
+not_later : (n : ℕ) (i : Image) → (i.set == n) ≡ true → nat_lt n i.set ≡ false
+not_later n i e = over n i.set e
+  where
+    over : (n m : ℕ) → (m == n) ≡ true → nat_lt n m ≡ false
+    over n m e = grind arith
+
+-- of an image that comes before the one of set n
+earlier : (n p : ℕ) (i : Image) (images : List Image) → AreLater i images → point_in n images ≡ Some p → nat_lt n i.set ≡ false
+earlier n p i [] h e = absurd cc
+earlier n p i (j ∷ images) h e = by_head (j.set == n) refl e (earlier n p i images h.2)
+  where
+    below : (a c n : ℕ) → a < c → (c == n) ≡ true → nat_lt n a ≡ false
+    below a c n l e = grind arith
+
+    by_head : (c : Bool) → (j.set == n) ≡ c → (if c then Some j.point else point_in n images) ≡ Some p → (point_in n images ≡ Some p → nat_lt n i.set ≡ false)
+        → nat_lt n i.set ≡ false
+    by_head true f e ih = below i.set j.set n h.0 f
+    by_head false f e ih = ih e
+
+since_cut : (n b : ℕ) (ws : List Write) (i : Image) (newer : List Image) → AreLater i newer → AreInTime (length ws) newer → (i.set == n) ≡ true
+    → names (writes_since ws i.point newer) b ≡ is_overwritten n b (i ∷ newer) i.point (drop i.point ws)
+since_cut n b ws i [] h t e = overwritten_by n b (i ∷ []) i.point (drop i.point ws) (λ j. ap (λ c. (c && nat_le i.point j) || false) (not_later n i e))
+since_cut n b ws i (x ∷ newer) h t e =
+    overwritten_up_to n b x.point (i ∷ x ∷ newer) i.point (drop i.point ws)
+    (λ j. ap (λ c. (c && nat_le i.point j) || is_cut_by n j (x ∷ newer)) (not_later n i e) ∙ next_cut n j x newer t.1 (above i.set x.set n h.0 e))
+  where
+    above : (a c n : ℕ) → a < c → (a == n) ≡ true → nat_lt n c ≡ true
+    above a c n l e = grind arith
+
+among_named : (m b : ℕ) (ws : List Write) → b < m → is_among b (blocks_named m ws) ≡ names ws b
+among_named m b ws l = range_passes (names ws) 0 m b (omega arith) ∙ ap (λ c. c && names ws b) (inside b m l)
+  where
+    inside : (b m : ℕ) → b < m → nat_lt b (0 + m) ≡ true
+    inside b m l = grind arith
+
+exactly_of : (k n b m p : ℕ) (ws : List Write) (images : List Image) → AreInTime (length ws) images → point_in n images ≡ Some p → b < m
+    → list_any (is_copy k n b) (copies_of k m ws images) ≡ is_overwritten n b images p (drop p ws)
+exactly_of k n b m p ws [] t e l = absurd cc
+exactly_of k n b m p ws (i ∷ newer) t e l = by_set (i.set == n) refl e (λ f. exactly_of k n b m p ws newer t.2 f l)
+  where
+    or_none : (c : Bool) → (c || false) ≡ c
+    or_none true = refl
+    or_none false = refl
+
+    off : (c : Bool) → (c && false) ≡ false
+    off true = refl
+    off false = refl
+
+    by_set : (c : Bool) → (i.set == n) ≡ c → (if c then Some i.point else point_in n newer) ≡ Some p
+        → (point_in n newer ≡ Some p → list_any (is_copy k n b) (copies_of k m ws newer) ≡ is_overwritten n b newer p (drop p ws))
+        → list_any (is_copy k n b) (copies_of k m ws (i ∷ newer)) ≡ is_overwritten n b (i ∷ newer) p (drop p ws)
+    by_set true f e ih =
+        list_any-append (is_copy k n b) (map (copy_of k ws i) (named m ws i newer)) (copies_of k m ws newer)
+        ∙ ap (λ c. list_any (is_copy k n b) (map (copy_of k ws i) (named m ws i newer)) || c) (no_image k k n b m ws newer (none_of_set i newer n t.1 f))
+        ∙ or_none (list_any (is_copy k n b) (map (copy_of k ws i) (named m ws i newer)))
+        ∙ any_own k k n b ws i (named m ws i newer) (own_number k) f
+        ∙ among_named m b (writes_since ws i.point newer) l
+        ∙ since_cut n b ws i newer t.1 t.2 f
+        ∙ ap (λ q. is_overwritten n b (i ∷ newer) q (drop q ws)) (some_same i.point p e)
+    by_set false f e ih =
+        list_any-append (is_copy k n b) (map (copy_of k ws i) (named m ws i newer)) (copies_of k m ws newer)
+        ∙ ap (λ c. c || list_any (is_copy k n b) (copies_of k m ws newer)) (any_other k k n b ws i (named m ws i newer) (ap (λ c. (k == k) && c) f ∙ off (k == k)))
+        ∙ ih e
+        ∙ overwritten_along n b i newer p (drop p ws) (earlier n p i newer t.1 e)
+
+-- ## the copies of a group
+
+abbrev blocks_at : Option Placed → ℕ
+blocks_at None = 0
+blocks_at (Some p) = p.blocks
+
+place_least : (k : ℕ) (ps : List Placed) (u : ℕ) → k ≤ place_from k ps u
+place_least k [] u = omega arith
+place_least k (p ∷ ps) zero = omega arith
+place_least k (p ∷ ps) (suc u) = by_group p.within (λ j. place_least j ps u)
+  where
+    next : (k n : ℕ) → k + 1 ≤ n → k ≤ n
+    next k n l = omega arith
+
+    by_group : (c : Bool) → ((j : ℕ) → j ≤ place_from j ps u) → k ≤ place_from (if c then k + 1 else k) ps u
+    by_group true ih = next k (place_from (k + 1) ps u) (ih (k + 1))
+    by_group false ih = ih k
+
+apart : (j k : ℕ) → k < j → (j == k) ≡ false
+apart j k l = grind arith
+
+none_below : (j k n b : ℕ) (ps : List Placed) (hs : List History) → k < j → list_any (is_copy k n b) (copies_from j ps hs) ≡ false
+none_below j k n b [] hs l = refl
+none_below j k n b (p ∷ ps) [] l = refl
+none_below j k n b (p ∷ ps) (h ∷ hs) l = by_group p.within (λ i g. none_below i k n b ps hs g)
+  where
+    later : (j k : ℕ) → k < j → k < j + 1
+    later j k l = omega arith
+
+    by_group : (c : Bool) → ((i : ℕ) → k < i → list_any (is_copy k n b) (copies_from i ps hs) ≡ false)
+        → list_any (is_copy k n b) (if c then copies_of j p.blocks h.writes h.images ++ copies_from (j + 1) ps hs else copies_from j ps hs) ≡ false
+    by_group true ih =
+        list_any-append (is_copy k n b) (copies_of j p.blocks h.writes h.images) (copies_from (j + 1) ps hs)
+        ∙ ap (λ c. c || list_any (is_copy k n b) (copies_from (j + 1) ps hs)) (other_volume j k n b p.blocks h.writes h.images (apart j k l))
+        ∙ ih (j + 1) (later j k l)
+    by_group false ih = ih j l
+
+exactly_in : (k : ℕ) (ps : List Placed) (hs : List History) (u n b p : ℕ) → InTimeAll hs → within (slice_get ps u) ≡ true → b < blocks_at (slice_get ps u)
+    → point_in n (at hs u).images ≡ Some p
+    → list_any (is_copy (place_from k ps u) n b) (copies_from k ps hs) ≡ is_overwritten n b (at hs u).images p (drop p (at hs u).writes)
+exactly_in k [] hs u n b p t e l f = absurd cc
+exactly_in k (x ∷ ps) [] u n b p t e l f = absurd cc
+exactly_in k (x ∷ ps) (h ∷ hs) zero n b p t e l f = by_group x.within e
+  where
+    or_none : (c : Bool) → (c || false) ≡ c
+    or_none true = refl
+    or_none false = refl
+
+    next : (k : ℕ) → k < k + 1
+    next k = omega arith
+
+    by_group : (c : Bool) → c ≡ true
+        → list_any (is_copy k n b) (if c then copies_of k x.blocks h.writes h.images ++ copies_from (k + 1) ps hs else copies_from k ps hs) ≡ is_overwritten n b h.images p (drop p h.writes)
+    by_group true g =
+        list_any-append (is_copy k n b) (copies_of k x.blocks h.writes h.images) (copies_from (k + 1) ps hs)
+        ∙ ap (λ c. list_any (is_copy k n b) (copies_of k x.blocks h.writes h.images) || c) (none_below (k + 1) k n b ps hs (next k))
+        ∙ or_none (list_any (is_copy k n b) (copies_of k x.blocks h.writes h.images))
+        ∙ exactly_of k n b x.blocks p h.writes h.images (t 0) f l
+    by_group false g = absurd cc
+exactly_in k (x ∷ ps) (h ∷ hs) (suc u) n b p t e l f = by_group x.within (λ j. exactly_in j ps hs u n b p (λ v. t (suc v)) e l f)
+  where
+    before : (k n : ℕ) → k + 1 ≤ n → (k == n) ≡ false
+    before k n l = grind arith
+
+    by_group : (c : Bool) → ((j : ℕ) → list_any (is_copy (place_from j ps u) n b) (copies_from j ps hs) ≡ is_overwritten n b (at hs u).images p (drop p (at hs u).writes))
+        → list_any (is_copy (place_from (if c then k + 1 else k) ps u) n b) (if c then copies_of k x.blocks h.writes h.images ++ copies_from (k + 1) ps hs else copies_from k ps hs) ≡ is_overwritten n b (at hs u).images p (drop p (at hs u).writes)
+    by_group true ih =
+        list_any-append (is_copy (place_from (k + 1) ps u) n b) (copies_of k x.blocks h.writes h.images) (copies_from (k + 1) ps hs)
+        ∙ ap (λ c. c || list_any (is_copy (place_from (k + 1) ps u) n b) (copies_from (k + 1) ps hs)) (other_volume k (place_from (k + 1) ps u) n b x.blocks h.writes h.images (before k (place_from (k + 1) ps u) (place_least (k + 1) ps u)))
+        ∙ ih (k + 1)
+    by_group false ih = ih k
+
+-- ## none twice
+
+abbrev NotAmong : List Copy → List Copy → Type 0
+NotAmong ys [] = Unit {0}
+NotAmong ys (c ∷ cs) = (list_any (is_copy c.volume c.set c.block) ys ≡ false) × NotAmong ys cs
+
+once_both : (xs ys : List Copy) → are_once xs ≡ true → are_once ys ≡ true → NotAmong ys xs → are_once (xs ++ ys) ≡ true
+once_both [] ys e f h = f
+once_both (c ∷ xs) ys e f h =
+    let parts = both_parts (not (list_any (is_copy c.volume c.set c.block) xs)) (are_once xs) e in
+    both_are (not (list_any (is_copy c.volume c.set c.block) (xs ++ ys))) (are_once (xs ++ ys))
+    (ap not (list_any-append (is_copy c.volume c.set c.block) xs ys) ∙ ap (λ b. not (list_any (is_copy c.volume c.set c.block) xs || b)) h.0 ∙ or_none (list_any (is_copy c.volume c.set c.block) xs) parts.0)
+    (once_both xs ys parts.1 f h.1)
+  where
+    or_none : (b : Bool) → not b ≡ true → not (b || false) ≡ true
+    or_none true g = g
+    or_none false g = g
+
+once_range : (k : ℕ) (ws : List Write) (i : Image) (test : ℕ → Bool) (a n : ℕ) → are_once (map (copy_of k ws i) (filter test (range_with_len a n))) ≡ true
+once_range k ws i test a zero = refl
+once_range k ws i test a (suc n) = by_test (test a) (once_range k ws i test (a + 1) n)
+  where
+    next : (a : ℕ) → a < a + 1
+    next a = omega arith
+
+    by_test : (c : Bool) → are_once (map (copy_of k ws i) (filter test (range_with_len (a + 1) n))) ≡ true
+        → are_once (map (copy_of k ws i) (if c then a ∷ filter test (range_with_len (a + 1) n) else filter test (range_with_len (a + 1) n))) ≡ true
+    by_test true ih =
+        both_are (not (list_any (is_copy k i.set a) (map (copy_of k ws i) (filter test (range_with_len (a + 1) n))))) (are_once (map (copy_of k ws i) (filter test (range_with_len (a + 1) n))))
+        (ap not (any_own k k i.set a ws i (filter test (range_with_len (a + 1) n)) (own_number k) (own_number i.set) ∙ none_passes test (a + 1) n a (next a)))
+        ih
+    by_test false ih = ih
+
+not_newer : (k m : ℕ) (ws : List Write) (i : Image) (newer : List Image) (bs : List ℕ) → AreLater i newer → NotAmong (copies_of k m ws newer) (map (copy_of k ws i) bs)
+not_newer k m ws i newer [] h = tt
+not_newer k m ws i newer (b ∷ bs) h = (no_image k k i.set b m ws newer (none_of_set i newer i.set h (own_number i.set)), not_newer k m ws i newer bs h)
+
+once_of : (k m most : ℕ) (ws : List Write) (images : List Image) → AreInTime most images → are_once (copies_of k m ws images) ≡ true
+once_of k m most ws [] t = refl
+once_of k m most ws (i ∷ newer) t =
+    once_both (map (copy_of k ws i) (named m ws i newer)) (copies_of k m ws newer) (once_range k ws i (names (writes_since ws i.point newer)) 0 m) (once_of k m most ws newer t.2) (not_newer k m ws i newer (named m ws i newer) t.1)
+
+not_below : (k m : ℕ) (ws : List Write) (images : List Image) (ps : List Placed) (hs : List History) → NotAmong (copies_from (k + 1) ps hs) (copies_of k m ws images)
+not_below k m ws [] ps hs = tt
+not_below k m ws (i ∷ newer) ps hs = over (not_below k m ws newer ps hs) (named m ws i newer)
+  where
+    next : (k : ℕ) → k < k + 1
+    next k = omega arith
+
+    over : NotAmong (copies_from (k + 1) ps hs) (copies_of k m ws newer) → (bs : List ℕ) → NotAmong (copies_from (k + 1) ps hs) (map (copy_of k ws i) bs ++ copies_of k m ws newer)
+    over ih [] = ih
+    over ih (b ∷ bs) = (none_below (k + 1) k i.set b ps hs (next k), over ih bs)
+
+once_in : (k : ℕ) (ps : List Placed) (hs : List History) → InTimeAll hs → are_once (copies_from k ps hs) ≡ true
+once_in k [] hs t = refl
+once_in k (p ∷ ps) [] t = refl
+once_in k (p ∷ ps) (h ∷ hs) t = by_group p.within (λ j. once_in j ps hs (λ v. t (suc v)))
+  where
+    by_group : (c : Bool) → ((j : ℕ) → are_once (copies_from j ps hs) ≡ true)
+        → are_once (if c then copies_of k p.blocks h.writes h.images ++ copies_from (k + 1) ps hs else copies_from k ps hs) ≡ true
+    by_group true ih = once_both (copies_of k p.blocks h.writes h.images) (copies_from (k + 1) ps hs) (once_of k p.blocks (length h.writes) h.writes h.images (t 0)) (ih (k + 1)) (not_below k p.blocks h.writes h.images ps hs)
+    by_group false ih = ih k
+
+-- ## the volumes of a plan
+
+blocks_placed : (g : ℕ) (rows : List VolumeRow) (u : ℕ) → blocks_at (slice_get (map (placed g) rows) u) ≡ blocks_in (slice_get rows u)
+blocks_placed g [] u = refl
+blocks_placed g (r ∷ rows) zero = refl
+blocks_placed g (r ∷ rows) (suc u) = blocks_placed g rows u
+
+blocks_same : (s : Plan) (u : ℕ) (o : Option VolumeRow) → within (slice_get (placed_in s.volumes o) u) ≡ true → blocks_at (slice_get (placed_in s.volumes o) u) ≡ blocks_of s u
+blocks_same s u None e = absurd cc
+blocks_same s u (Some r) e = blocks_placed r.group s.volumes u
+
+pub keeps_copies : (s : Plan) (so_far : List Act) → KeepsCopies s so_far
+keeps_copies s so_far = record {
+  exactly = λ v u n b p e l f. exactly_in 0 (group_of s v) (state s so_far).volumes u n b p (images_in_time s so_far) e (subst (λ m. b < m) (sym (blocks_same s u (slice_get s.volumes v) e)) l) f;
+  once = λ v. once_in 0 (group_of s v) (state s so_far).volumes (images_in_time s so_far);
+}

@@ -1,0 +1,302 @@
+-- What a session call is answered that is not accepted.
+use Rattle.std.proofs.Common.{◌≡◌, ◌∙◌, ℕ, ◌+◌, ◌==◌, List, [], ◌∷◌, Option, Some, None, refl, Bool, true, false, ap, sym, subst, length, arith}
+use Rattle.std.specs.Prelude.{◌&&◌, ◌||◌, not, nat_le, nat_lt, is_some, is_none, slice_get, if◌then◌else◌}
+use Rattle.std.specs.Str.{bytes_eq}
+use Rattle.vss_names.specs.declared.context.Context.{Context}
+use Rattle.vss_names.specs.declared.vss_result.VssResult.TheVariants.{BadState, UnsupportedContext, SnapshotSetInProgress, ObjectAlreadyExists, MaximumNumberOfVolumesReached, MaximumNumberOfSnapshotsReached}
+use Rattle.write_history.specs.declared.mark.Mark.{Mark}
+use Rattle.writer_meta.specs.Metadata.{Part, Meta, full_name}
+use Rattle.set_agenda.specs.Agenda.{is_among}
+use Rattle.component_doc.specs.Selection.{Pair, has_pair, found_from, naming_if, naming_found, naming_of}
+use Rattle.requestor.specs.declared.mode.Mode.{Mode}
+use Rattle.requestor.specs.declared.session_call.SessionCall.{SessionCall}
+use Rattle.requestor.specs.declared.session_call.SessionCall.TheVariants as call
+use Rattle.requestor.specs.declared.stage.Stage.TheVariants.{Started}
+use Rattle.requestor.specs.Session.{Session, has_writers, makes_set, mode_of, context_of}
+use Rattle.requestor.specs.Check.{check, check_begin, begin_verdict, check_other, owner_only, verdict_of, allows, is_stage, goes_beside_agenda, is_start, is_await}
+use Rattle.scenario.specs.declared.op.Op.{Op}
+use Rattle.scenario.specs.declared.op.Op.TheVariants as op
+use Rattle.scenario.specs.Plan.{Plan, token}
+use Rattle.vss_model.specs.declared.event.Event.TheVariants.{Line}
+use Rattle.vss_model.specs.Reply.{Reply, Coded, NotSelectable}
+use Rattle.vss_model.specs.State.{State, SetRow, in_progress, history_of}
+use Rattle.vss_model.specs.Ending.{runs}
+use Rattle.vss_model.specs.Images.{Replied}
+use Rattle.vss_model.specs.Sessions.{begin_in, known_metas, named_as, component_in, most_volumes, most_images, add_to, add, has_no_volume, judged, line_in, session_line}
+use Rattle.vss_model.specs.Lines.{called}
+use Rattle.vss_model.specs.Acts.{Act, happens, state}
+use Rattle.vss_model.specs.Causes.{owns}
+use Rattle.promises.specs.Accepted.{is_ordered, is_accepted}
+use Rattle.promises.specs.InOrder.{ByBegin, ByGather, ByStart, BySnapshot, Progress, progress, is_step, asks_writers, comes_now}
+use Rattle.promises.specs.Participants.{is_fine}
+use Rattle.promises.specs.Refusing.{name_refusal_in, name_refusal, place_refusal, want_refusal, order_refusal, RefusesForCause}
+use Rattle.promises.proofs.Accepted.{allowed_in, same_stage, start_stage, either_stage, writers_asked, makes_its_set, line_reply}
+use Rattle.promises.proofs.Progress.{stage_of, StandsAt, stands_all}
+
+-- ## what a call wants
+
+module _ (s : Plan) (st : State) where
+  name_in : (w : ℕ) (named : List Pair) (name : List ℕ) (i : ℕ) (ps : List Part) → is_accepted (named_as (naming_found w (found_from name i ps) named) st).0 ≡ false
+      → (named_as (naming_found w (found_from name i ps) named) st).0 ≡ name_refusal_in name ps
+  name_in w named name i [] e = refl
+  name_in w named name i (p ∷ ps) e = by_name (bytes_eq (full_name p) name) (name_in w named name (i + 1) ps) e
+    where
+      one : (a b : Bool) → is_accepted (named_as (naming_if a b (record { writer = w; component = i }) named) st).0 ≡ false
+          → (named_as (naming_if a b (record { writer = w; component = i }) named) st).0 ≡ (if a then Coded ObjectAlreadyExists else NotSelectable)
+      one false b e = refl
+      one true true e = refl
+      one true false e = absurd cc
+
+      by_name : (b : Bool)
+          → (is_accepted (named_as (naming_found w (found_from name (i + 1) ps) named) st).0 ≡ false → (named_as (naming_found w (found_from name (i + 1) ps) named) st).0 ≡ name_refusal_in name ps)
+          → is_accepted (named_as (naming_found w (if b then Some (record { component = i; selectable = p.selectable }) else found_from name (i + 1) ps) named) st).0 ≡ false
+          → (named_as (naming_found w (if b then Some (record { component = i; selectable = p.selectable }) else found_from name (i + 1) ps) named) st).0 ≡ (if b then (if p.selectable then Coded ObjectAlreadyExists else NotSelectable) else name_refusal_in name ps)
+      by_name true ih e = one p.selectable (has_pair named w i) e
+      by_name false ih e = ih e
+
+  name_of : (w : ℕ) (name : List ℕ) (m : Option (Option Meta)) → is_accepted (named_as (naming_of w name m st.explicit) st).0 ≡ false
+      → (named_as (naming_of w name m st.explicit) st).0 ≡ name_refusal name m
+  name_of w name None e = refl
+  name_of w name (Some None) e = refl
+  name_of w name (Some (Some m)) e = name_in w st.explicit name 0 m.parts e
+
+  component_refused : (w : ℕ) (name : List ℕ) (mode : Mode) (all : Bool) → mode ≡ mode_of all → is_accepted (component_in mode s w name st).0 ≡ false
+      → (component_in mode s w name st).0 ≡ (if all then Coded BadState else name_refusal name (slice_get (known_metas s st) w))
+  component_refused w name mode all e = subst (λ m. is_accepted (component_in m s w name st).0 ≡ false → (component_in m s w name st).0 ≡ (if all then Coded BadState else name_refusal name (slice_get (known_metas s st) w))) (sym e) (by_all all)
+    where
+      by_all : (b : Bool) → is_accepted (component_in (mode_of b) s w name st).0 ≡ false
+          → (component_in (mode_of b) s w name st).0 ≡ (if b then Coded BadState else name_refusal name (slice_get (known_metas s st) w))
+      by_all true f = refl
+      by_all false f = name_of w name (slice_get (known_metas s st) w) f
+
+  add_refused : (v : ℕ) (o : Option SetRow) → is_accepted (add v o st).0 ≡ false → (add v o st).0 ≡ place_refusal v o
+  add_refused v None e = refl
+  add_refused v (Some r) e = by_tests (is_among v r.volumes) (nat_le most_volumes (length r.volumes)) (nat_lt (length r.volumes) 64) (nat_le most_images (length (history_of st v).images)) (not_full (length r.volumes)) e
+    where
+      not_full : (n : ℕ) → nat_le most_volumes n ≡ not (nat_lt n 64)
+      not_full n = grind arith
+
+      by_tests : (a b d c : Bool) → b ≡ not d
+          → is_accepted (add_to v r (if a then Some ObjectAlreadyExists else if b then Some MaximumNumberOfVolumesReached else if c then Some MaximumNumberOfSnapshotsReached else None) st).0 ≡ false
+          → (add_to v r (if a then Some ObjectAlreadyExists else if b then Some MaximumNumberOfVolumesReached else if c then Some MaximumNumberOfSnapshotsReached else None) st).0
+          ≡ (if a then Coded ObjectAlreadyExists else if d then Coded MaximumNumberOfSnapshotsReached else Coded MaximumNumberOfVolumesReached)
+      by_tests true b d c f e = refl
+      by_tests false true false c f e = refl
+      by_tests false true true c f e = absurd cc
+      by_tests false false true true f e = refl
+      by_tests false false true false f e = absurd cc
+      by_tests false false false c f e = absurd cc
+
+  -- a call that waits for nothing but a set with a volume
+  volume_refused : (b : Bool) (x y : Replied) → x.0 ≡ Coded BadState → is_accepted y.0 ≡ true → is_accepted (if b then x else y).0 ≡ false → (if b then x else y).0 ≡ Coded BadState
+  volume_refused true x y e f g = e
+  volume_refused false x y e f g = absurd (both (is_accepted y.0) f g)
+    where
+      both : (b : Bool) → b ≡ true → b ≡ false → ⊥
+      both b e f = cc
+
+-- ## ordered calls
+
+module _ (s : Plan) (so_far : List Act) (lane : ℕ) where
+  abbrev st : State
+  st = state s so_far
+
+  abbrev p : Progress
+  p = progress s so_far
+
+  -- what the checks let through, and what they answer else
+  abbrev checked : Bool → Bool → Bool → Bool → Reply → Reply
+  checked own start busy may answer = if own then (if start then Coded SnapshotSetInProgress else if busy then Coded BadState else if may then answer else Coded BadState) else Coded BadState
+
+  by_checks : (o : Op) (own start busy may : Bool)
+      → (judged (owner_only own (verdict_of start (busy && true) may false)) s lane o st).0 ≡ checked own start busy may (line_in s lane o st.session st).0
+  by_checks o false start busy may = refl
+  by_checks o true true busy may = refl
+  by_checks o true false true may = refl
+  by_checks o true false false true = refl
+  by_checks o true false false false = refl
+
+  called_is : (c : SessionCall) (o : Op) (q : Session) → st.session ≡ Some q → check st.session (runs st) lane c ≡ check_other st.session (runs st) lane c
+      → goes_beside_agenda c ≡ false → is_await c ≡ false
+      → (called c s lane o st).0 ≡ checked (q.owner == lane) (is_start c && makes_set q.stage) (runs st) (allows q.stage (has_writers q.context) c) (session_line s lane o q st).0
+  unfolding called
+  called_is c o q e same beside waits =
+      let start = is_start c && makes_set q.stage in
+      let may = allows q.stage (has_writers q.context) c in
+      ap (λ v. (judged v s lane o st).0) (same ∙ ap (λ x. check_other x (runs st) lane c) e)
+      ∙ ap (λ b. (judged (owner_only (q.owner == lane) (verdict_of start (runs st && not b) may (is_await c && runs st))) s lane o st).0) beside
+      ∙ ap (λ b. (judged (owner_only (q.owner == lane) (verdict_of start (runs st && true) may (b && runs st))) s lane o st).0) waits
+      ∙ by_checks o (q.owner == lane) start (runs st) may
+      ∙ ap (λ x. checked (q.owner == lane) start (runs st) may (line_in s lane o x st).0) e
+
+  none_called : (c : SessionCall) (o : Op) → st.session ≡ None → check st.session (runs st) lane c ≡ check_other st.session (runs st) lane c
+      → (called c s lane o st).0 ≡ Coded BadState
+  unfolding called
+  none_called c o e same = ap (λ v. (judged v s lane o st).0) (same ∙ ap (λ x. check_other x (runs st) lane c) e)
+
+  parts : (own start busy may comes : Bool) (answer want order : Reply) → (busy ≡ false → (not start && may) ≡ comes) → (start ≡ true → order ≡ Coded SnapshotSetInProgress)
+      → (start ≡ false → order ≡ Coded BadState)
+      → (is_accepted answer ≡ false → answer ≡ want) → is_accepted (checked own start busy may answer) ≡ false
+      → checked own start busy may answer ≡ (if not own then Coded BadState else if not busy && comes then want else order)
+  parts false start busy may comes answer want order f g h k e = refl
+  parts true true true may comes answer want order f g h k e = sym (g refl)
+  parts true true false may true answer want order f g h k e = absurd (not_both (f refl))
+    where
+      not_both : false ≡ true → ⊥
+      not_both e = cc
+  parts true true false may false answer want order f g h k e = sym (g refl)
+  parts true false true may comes answer want order f g h k e = sym (h refl)
+  parts true false false true true answer want order f g h k e = k e
+  parts true false false true false answer want order f g h k e = absurd (not_both (f refl))
+    where
+      not_both : true ≡ false → ⊥
+      not_both e = cc
+  parts true false false false true answer want order f g h k e = absurd (not_both (f refl))
+    where
+      not_both : false ≡ true → ⊥
+      not_both e = cc
+  parts true false false false false answer want order f g h k e = sym (h refl)
+
+  abbrev Told : Option Session → Op → Reply
+  Told x o = if not (owns x lane) then Coded BadState else if not (runs st) && comes_now p o then want_refusal s st p o else order_refusal o (in_progress st)
+
+  refused_call : (c : SessionCall) (o : Op) → check st.session (runs st) lane c ≡ check_other st.session (runs st) lane c → goes_beside_agenda c ≡ false → is_await c ≡ false
+      → allowed_in (asks_writers p) (stage_of p.step) c ≡ comes_now p o
+      → ((q : Session) → st.session ≡ Some q → (is_start c && makes_set q.stage) ≡ true → order_refusal o (in_progress st) ≡ Coded SnapshotSetInProgress)
+      → ((q : Session) → st.session ≡ Some q → (is_start c && makes_set q.stage) ≡ false → order_refusal o (in_progress st) ≡ Coded BadState)
+      → ((q : Session) → q.mode ≡ mode_of p.all → is_accepted (session_line s lane o q st).0 ≡ false → (session_line s lane o q st).0 ≡ want_refusal s st p o)
+      → is_accepted (called c s lane o st).0 ≡ false → (called c s lane o st).0 ≡ Told st.session o
+  refused_call c o same beside waits order start idle wants e = by_session st.session refl
+    where
+      in_order : (q : Session) → st.session ≡ Some q → runs st ≡ false → allowed_in (has_writers q.context) q.stage c ≡ comes_now p o
+      in_order q e f =
+          let at : StandsAt q (runs st) p = stands_all s so_far q e in
+          let quiet : StandsAt q false p = subst (λ b. StandsAt q b p) f at in
+          ap (λ w. allowed_in w q.stage c) (writers_asked q.context p.context at.context) ∙ ap (λ x. allowed_in (asks_writers p) x c) quiet.stage ∙ order
+
+      by_session : (x : Option Session) → st.session ≡ x → (called c s lane o st).0 ≡ Told st.session o
+      by_session None f = none_called c o f same ∙ ap (λ x. Told x o) (sym f)
+      by_session (Some q) f =
+          let is = called_is c o q f same beside waits in
+          is
+          ∙ parts (q.owner == lane) (is_start c && makes_set q.stage) (runs st) (allows q.stage (has_writers q.context) c) (comes_now p o) (session_line s lane o q st).0 (want_refusal s st p o) (order_refusal o (in_progress st))
+          (in_order q f) (start q f) (idle q f) (wants q (stands_all s so_far q f).mode) (ap is_accepted (sym is) ∙ e)
+          ∙ ap (λ x. Told x o) (sym f)
+
+  -- a call that is no `start`
+  other_call : (c : SessionCall) (o : Op) → check st.session (runs st) lane c ≡ check_other st.session (runs st) lane c → goes_beside_agenda c ≡ false → is_await c ≡ false
+      → is_start c ≡ false
+      → allowed_in (asks_writers p) (stage_of p.step) c ≡ comes_now p o → order_refusal o (in_progress st) ≡ Coded BadState
+      → ((q : Session) → q.mode ≡ mode_of p.all → is_accepted (session_line s lane o q st).0 ≡ false → (session_line s lane o q st).0 ≡ want_refusal s st p o)
+      → is_accepted (called c s lane o st).0 ≡ false → (called c s lane o st).0 ≡ Told st.session o
+  other_call c o same beside waits other order bad wants e =
+      refused_call c o same beside waits order (λ q f g. absurd (both (makes_set q.stage) (is_start c) other g)) (λ q f g. bad) wants e
+    where
+      both : (m b : Bool) → b ≡ false → (b && m) ≡ true → ⊥
+      both m true e f = cc
+      both m false e f = cc
+
+  start_now : (q : Session) → st.session ≡ Some q → makes_set q.stage ≡ true → order_refusal op.Start (in_progress st) ≡ Coded SnapshotSetInProgress
+  start_now q e f = by_set (in_progress st) (sym (makes_its_set s so_far lane q e) ∙ f)
+    where
+      by_set : (o : Option SetRow) → is_some o ≡ true → order_refusal op.Start o ≡ Coded SnapshotSetInProgress
+      by_set None e = absurd cc
+      by_set (Some r) e = refl
+
+  start_idle : (q : Session) → st.session ≡ Some q → makes_set q.stage ≡ false → order_refusal op.Start (in_progress st) ≡ Coded BadState
+  start_idle q e f = by_set (in_progress st) (sym (makes_its_set s so_far lane q e) ∙ f)
+    where
+      by_set : (o : Option SetRow) → is_some o ≡ false → order_refusal op.Start o ≡ Coded BadState
+      by_set None e = refl
+      by_set (Some r) e = absurd cc
+
+  abbrev w : Bool
+  w = asks_writers p
+
+  never : {X : Type 0} → true ≡ false → X
+  never e = absurd cc
+
+  refused_line : (o : Op) (mark : Mark) → is_ordered o ≡ true → is_accepted (happens s (Line lane o) mark st).0 ≡ false → (happens s (Line lane o) mark st).0 ≡ Told st.session o
+  refused_line (op.Disable x) mark e = other_call call.Disable (op.Disable x) refl refl refl refl (ap (λ b. b && w) (same_stage p.step ByBegin)) refl (λ q f g. never g)
+  refused_line op.Gather mark e = other_call call.Gather op.Gather refl refl refl refl (ap (λ b. b && w) (same_stage p.step ByBegin)) refl (λ q f g. never g)
+  refused_line (op.Component x full) mark e =
+      other_call call.Component (op.Component x full) refl refl refl refl (ap (λ b. (b || is_stage (stage_of p.step) Started) && w) (same_stage p.step ByGather) ∙ ap (λ b. (is_step p.step ByGather || b) && w) (same_stage p.step ByStart)) refl
+      (λ q f g. component_refused s st x (token s full) q.mode p.all f g)
+  refused_line op.Document mark e = other_call call.Document op.Document refl refl refl refl (ap (λ b. not b && w) (same_stage p.step ByBegin)) refl (λ q f g. never g)
+  refused_line op.Start mark e = refused_call call.Start op.Start refl refl refl (start_stage p.step w) start_now start_idle (λ q f g. never g)
+  refused_line (op.Add v) mark e = other_call call.Add (op.Add v) refl refl refl refl (same_stage p.step ByStart) refl (λ q f g. add_refused s st v (in_progress st) g)
+  refused_line op.Prepare mark e = other_call call.Prepare op.Prepare refl refl refl refl (ap (λ b. b && w) (same_stage p.step ByStart)) refl (λ q f g. volume_refused s st (has_no_volume (in_progress st)) _ _ refl refl g)
+  refused_line op.Snapshot mark e = other_call call.Snapshot op.Snapshot refl refl refl refl (either_stage p.step w) refl (λ q f g. volume_refused s st (has_no_volume (in_progress st)) _ _ refl refl g)
+  refused_line op.Complete mark e = other_call call.Complete op.Complete refl refl refl refl (ap (λ b. b && w) (same_stage p.step BySnapshot)) refl (λ q f g. never g)
+  refused_line o mark e = absurd cc
+
+  -- ## the other calls
+
+  begin_refused : (n : ℕ) (all : Bool) → is_fine (called (call.Begin n all) s lane (op.Begin n all) st).0 ≡ false
+      → (called (call.Begin n all) s lane (op.Begin n all) st).0 ≡ Coded (if is_none st.session then UnsupportedContext else BadState)
+  unfolding called
+  begin_refused n all e = by_session st.session refl e
+    where
+      opens : (o : Option Context) → is_fine (begin_in lane all o st).0 ≡ false → (begin_in lane all o st).0 ≡ Coded UnsupportedContext
+      opens None e = refl
+      opens (Some c) e = absurd cc
+
+      by_owner : (b : Bool) → (judged (begin_verdict b) s lane (op.Begin n all) st).0 ≡ Coded BadState
+      by_owner true = refl
+      by_owner false = refl
+
+      by_session : (x : Option Session) → st.session ≡ x → is_fine (judged (check_begin st.session lane) s lane (op.Begin n all) st).0 ≡ false
+          → (judged (check_begin st.session lane) s lane (op.Begin n all) st).0 ≡ Coded (if is_none st.session then UnsupportedContext else BadState)
+      by_session None f g =
+          let is = ap (λ x. (judged (check_begin x lane) s lane (op.Begin n all) st).0) f ∙ ap (λ x. (line_in s lane (op.Begin n all) x st).0) f in
+          is ∙ opens (context_of n all) (ap is_fine (sym is) ∙ g) ∙ ap (λ x. Coded (if is_none x then UnsupportedContext else BadState)) (sym f)
+      by_session (Some q) f g =
+          ap (λ x. (judged (check_begin x lane) s lane (op.Begin n all) st).0) f
+          ∙ by_owner (q.owner == lane)
+          ∙ ap (λ x. Coded (if is_none x then UnsupportedContext else BadState)) (sym f)
+
+  -- a call that goes beside an agenda
+  beside_refused : (c : SessionCall) (o : Op) → check st.session (runs st) lane c ≡ check_other st.session (runs st) lane c → is_start c ≡ false → goes_beside_agenda c ≡ true
+      → is_await c ≡ false
+      → ((q : Session) → is_fine (session_line s lane o q st).0 ≡ true) → is_fine (called c s lane o st).0 ≡ false → (called c s lane o st).0 ≡ Coded BadState
+  unfolding called
+  beside_refused c o same start on waits fine e = by_session st.session refl
+    where
+      both : (b : Bool) → b ≡ true → b ≡ false → ⊥
+      both b e f = cc
+
+      by_parts : (own busy may : Bool) → is_fine (line_in s lane o st.session st).0 ≡ true
+          → is_fine (judged (owner_only own (verdict_of false (busy && false) may false)) s lane o st).0 ≡ false
+          → (judged (owner_only own (verdict_of false (busy && false) may false)) s lane o st).0 ≡ Coded BadState
+      by_parts false busy may f g = refl
+      by_parts true true true f g = absurd (both (is_fine (line_in s lane o st.session st).0) f g)
+      by_parts true false true f g = absurd (both (is_fine (line_in s lane o st.session st).0) f g)
+      by_parts true true false f g = refl
+      by_parts true false false f g = refl
+
+      by_session : (x : Option Session) → st.session ≡ x → (judged (check st.session (runs st) lane c) s lane o st).0 ≡ Coded BadState
+      by_session None f = ap (λ v. (judged v s lane o st).0) (same ∙ ap (λ x. check_other x (runs st) lane c) f)
+      by_session (Some q) f =
+          let may = allows q.stage (has_writers q.context) c in
+          let is =
+          ap (λ v. (judged v s lane o st).0) (same ∙ ap (λ x. check_other x (runs st) lane c) f)
+          ∙ ap (λ b. (judged (owner_only (q.owner == lane) (verdict_of (b && makes_set q.stage) (runs st && not (goes_beside_agenda c)) may (is_await c && runs st))) s lane o st).0) start
+          ∙ ap (λ b. (judged (owner_only (q.owner == lane) (verdict_of false (runs st && not b) may (is_await c && runs st))) s lane o st).0) on
+          ∙ ap (λ b. (judged (owner_only (q.owner == lane) (verdict_of false (runs st && false) may (b && runs st))) s lane o st).0) waits in
+          is ∙ by_parts (q.owner == lane) (runs st) may (ap (λ x. is_fine (line_in s lane o x st).0) f ∙ fine q) (ap is_fine (sym is) ∙ e)
+
+pub refuses_for_cause : (s : Plan) (so_far : List Act) (act : Act) → RefusesForCause s so_far act
+refuses_for_cause s so_far act =
+    let st = state s so_far in
+    record {
+      ordered = λ lane o e f g. line_reply s st act (Line lane o) e ∙ refused_line s so_far lane o act.mark f (ap is_accepted (sym (line_reply s st act (Line lane o) e)) ∙ g);
+      begins =
+          λ lane n all e g. line_reply s st act (Line lane (op.Begin n all)) e
+          ∙ begin_refused s so_far lane n all (ap is_fine (sym (line_reply s st act (Line lane (op.Begin n all)) e)) ∙ g);
+      aborts =
+          λ lane e g. line_reply s st act (Line lane op.Abort) e
+          ∙ beside_refused s so_far lane call.Abort op.Abort refl refl refl refl (λ q. refl) (ap is_fine (sym (line_reply s st act (Line lane op.Abort) e)) ∙ g);
+      ends =
+          λ lane e g. line_reply s st act (Line lane op.End) e
+          ∙ beside_refused s so_far lane call.End op.End refl refl refl refl (λ q. refl) (ap is_fine (sym (line_reply s st act (Line lane op.End) e)) ∙ g);
+    }

@@ -1,0 +1,551 @@
+-- A writer answers by its script: how often it was asked, as the acts tell it, is how many groups of that order have opened for it.
+use Rattle.std.proofs.Common.{◌≡◌, ◌∙◌, ℕ, ◌+◌, ◌==◌, List, [], ◌∷◌, ◌++◌, Option, Some, None, refl, Bool, true, false, cond, ap, sym, subst, inl, inr, map, filter, find, fold, arith}
+use Rattle.std.specs.Prelude.{◌&&◌, ◌||◌, not, is_some, count_by, if◌then◌else◌}
+use Rattle.std.specs.List.{list_any}
+use Rattle.std.proofs.lemmas.List.Sums.{sum_by-append}
+use Rattle.vss_names.specs.declared.level.Level.{Level}
+use Rattle.vss_names.specs.declared.order.Order.{Order}
+use Rattle.vss_names.specs.declared.vss_result.VssResult.{VssResult}
+use Rattle.vss_names.specs.declared.vss_result.VssResult.TheVariants.{InsufficientStorage, AsyncCancelled, BadState}
+use Rattle.vss_names.specs.declared.set_outcome.SetOutcome.{SetOutcome}
+use Rattle.writer_state.specs.declared.said.Said.{Said}
+use Rattle.writer_state.specs.WriterState.{is_ok}
+use Rattle.writer_state.specs.WriterRow.{row_gathered}
+use Rattle.write_history.specs.declared.mark.Mark.{Mark}
+use Rattle.write_history.specs.declared.mark.Mark.TheVariants.{Clean, Fault, FaultAfter}
+use Rattle.write_history.specs.declared.actor.Actor.TheVariants.{Writer}
+use Rattle.write_history.specs.declared.move_item.Move.{Move}
+use Rattle.write_history.specs.History.{Write}
+use Rattle.writer_calls.specs.declared.scripted.Scripted.{Scripted}
+use Rattle.writer_calls.specs.Script.{said_of, answer_in, is_row_for, scripted_answer}
+use Rattle.set_agenda.specs.declared.group.Group.{Group}
+use Rattle.set_agenda.specs.declared.group.Group.TheVariants.{Orders, PreCommit, Flush, Hold, Cut, Commit, Release, PostCommit}
+use Rattle.vss_names.specs.declared.order.Order.TheVariants.{Freeze, PostSnapshot}
+use Rattle.set_agenda.specs.declared.kind.Kind.{Kind}
+use Rattle.set_agenda.specs.declared.kind.Kind.TheVariants as kind
+use Rattle.set_agenda.specs.declared.limit.Limit.{Limit}
+use Rattle.set_agenda.specs.declared.limit.Limit.TheVariants.{Hold as HoldLimit, Freeze as FreezeLimit, Answer as AnswerLimit}
+use Rattle.set_agenda.specs.declared.member.Member.{Member}
+use Rattle.set_agenda.specs.declared.place.Place.{Place}
+use Rattle.set_agenda.specs.Agenda.{Agenda, Entry, Open, places, group_code, level_code, same_order, same_place, order_of, is_orders, has_failed, has_said, writers_at, members_of, waited_for, with_group, left_from, groups_left, left, open_group, open_place, waits_now, order_now, is_among, order_if, open_order, is_working, is_done, all_say}
+use Rattle.set_agenda.specs.Limits.{Running as RunningLimit, spent_of}
+use Rattle.set_agenda.specs.Course.{OrderGroup, Course, group_of_orders, opens, posted, sent, failed as course_failed, settled_if, settled_in, settled, begun, told, is_decisive, decided, answered_to, answered as course_answered, worked, stepped_as as course_stepped_as, stepped as course_stepped, limits_now, lost, lost_to, fails_set, lost_decided, treated_as, treated, timed as course_timed, released}
+use Rattle.requestor.specs.Session.{Session}
+use Rattle.scenario.specs.Plan.{Plan, script_of}
+use Rattle.vss_model.specs.declared.event.Event.{Event}
+use Rattle.vss_model.specs.State.{State, SetRow, start, in_progress, left_now}
+use Rattle.vss_model.specs.Ending.{followed, runs, failed_in, failed}
+use Rattle.vss_model.specs.Images.{Replied, refused, cleared, set_loses_image, with_room_if, put, write, reverted_as}
+use Rattle.vss_model.specs.Sessions.{has_no_volume, closed}
+use Rattle.vss_model.specs.Steps.{answered, step_made, is_flush, is_failed_step, stepped_as, stepped, ticked, later}
+use Rattle.vss_model.specs.Acts.{Act, enabled, order_of_writer, idle_now, after, state}
+use Rattle.vss_model.specs.Trail.{run, acts, acts_if, answer_event, script_event, event_of}
+use Rattle.vss_model.proofs.Appending.{state-run, acts-append}
+use Rattle.vss_model.proofs.CourseCalls.{Settles}
+use Rattle.vss_model.proofs.CutLog.{said_stays}
+use Rattle.vss_model.proofs.Spoken.{among_filter}
+use Rattle.promises.specs.Scripted.{is_owed, is_asked_anew, asked_from, times_asked, written_in, AnswersByScript}
+use Rattle.promises.specs.Way.{Deed}
+use Rattle.promises.proofs.BusyAgendas.{course_followed}
+use Rattle.promises.proofs.ByEvent.{Covers, covered, after_enabled, after_not_enabled}
+use Rattle.promises.proofs.Heard.{same_group}
+use Rattle.promises.proofs.Speaks.{Grows, grows_answered, grows_stepped, grows_timed}
+use Rattle.promises.proofs.Stages.{both_parts, both_are, equal, same_number, failed_stays, closed_stays, grown, new_log}
+
+-- ## who waits at a place does not begin to wait there
+
+pub kept_test : (f : ℕ → Bool) (x : ℕ) (xs : List ℕ) → is_among x (filter f xs) ≡ true → f x ≡ true
+kept_test f x [] e = absurd cc
+kept_test f x (y ∷ xs) e = by_test (f y) refl e (kept_test f x xs)
+  where
+    by_test : (b : Bool) → f y ≡ b → is_among x (if b then y ∷ filter f xs else filter f xs) ≡ true → (is_among x (filter f xs) ≡ true → f x ≡ true) → f x ≡ true
+    by_test true g e ih = head (y == x) refl e
+      where
+        head : (c : Bool) → (y == x) ≡ c → (c || is_among x (filter f xs)) ≡ true → f x ≡ true
+        head true h e = subst (λ z. f z ≡ true) (equal y x h) g
+        head false h e = ih e
+    by_test false g e ih = ih e
+
+pub kept_among : (f : ℕ → Bool) (x : ℕ) (xs : List ℕ) → f x ≡ true → is_among x xs ≡ true → is_among x (filter f xs) ≡ true
+kept_among f x [] e g = absurd cc
+kept_among f x (y ∷ xs) e g = by_head (y == x) refl g (kept_among f x xs e)
+  where
+    by_head : (c : Bool) → (y == x) ≡ c → (c || is_among x xs) ≡ true → (is_among x xs ≡ true → is_among x (filter f xs) ≡ true)
+        → is_among x (if f y then y ∷ filter f xs else filter f xs) ≡ true
+    by_head true h g ih = here (f y) (subst (λ z. f z ≡ true) (sym (equal y x h)) e)
+      where
+        here : (b : Bool) → b ≡ true → is_among x (if b then y ∷ filter f xs else filter f xs) ≡ true
+        here true i = ap (λ c. c || is_among x (filter f xs)) h
+        here false i = absurd cc
+    by_head false h g ih = there (f y) (ih g)
+      where
+        there : (b : Bool) → is_among x (filter f xs) ≡ true → is_among x (if b then y ∷ filter f xs else filter f xs) ≡ true
+        there true i = ap (λ c. c || is_among x (filter f xs)) h ∙ i
+        there false i = i
+
+-- a test that fails no longer did not before
+was_not : (b c : Bool) → (b ≡ true → c ≡ true) → not c ≡ true → not b ≡ true
+was_not true c f e = absurd (both c (f refl) e)
+  where
+    both : (c : Bool) → c ≡ true → not c ≡ true → ⊥
+    both true e f = cc
+    both false e f = cc
+was_not false c f e = refl
+
+module _ (said : Said) (now : ℕ) (ws : List ℕ) (a : Agenda) (w : ℕ) where
+  abbrev more : Agenda
+  more = grown said now ws a
+
+  abbrev new : List Entry
+  new = new_log said now ws a
+
+  fewer_members : (g : Group) (l : Option Level) → is_among w (members_of more g l) ≡ true → is_among w (members_of a g l) ≡ true
+  fewer_members (Orders PostSnapshot) l e =
+      kept_among (λ x. not (has_failed a.log x)) w (writers_at a.members l)
+      (was_not (has_failed a.log w) (has_failed (a.log ++ new) w) (failed_stays a.log new w) (kept_test (λ x. not (has_failed (a.log ++ new) x)) w (writers_at a.members l) e))
+      (among_filter (λ x. not (has_failed (a.log ++ new) x)) w (writers_at a.members l) e)
+  fewer_members g l e = e
+
+  fewer_waits : (p : Place) → is_among w (waited_for more p) ≡ true → is_among w (waited_for a p) ≡ true
+  fewer_waits p e =
+      kept_among (λ x. not (has_said a.log p x)) w (members_of a p.group p.level)
+      (was_not (has_said a.log p w) (has_said (a.log ++ new) p w) (said_stays a.log new p w) (kept_test (λ x. not (has_said (a.log ++ new) p x)) w (members_of more p.group p.level) e))
+      (fewer_members p.group p.level (among_filter (λ x. not (has_said (a.log ++ new) p x)) w (members_of more p.group p.level) e))
+
+-- no place comes twice
+abbrev are_apart : List Place → Bool
+are_apart [] = true
+are_apart (p ∷ ps) = not (list_any (same_place p) ps) && are_apart ps
+
+kinds_apart : (k : Kind) → are_apart (places k) ≡ true
+kinds_apart kind.Gather = refl
+kinds_apart kind.Prepare = refl
+kinds_apart kind.Snapshot = refl
+kinds_apart kind.Complete = refl
+
+-- whoever is waited for at the same place was waited for there
+abbrev Shrinks : ℕ → List Open → List Open → Type 0
+Shrinks w os ps = same_place (open_place os) (open_place ps) ≡ true → is_among w (waits_now ps) ≡ true → is_among w (waits_now os) ≡ true
+
+open_among : (b : Agenda) (w : ℕ) (p : Place) (qs : List Place) → is_among w (waits_now (left_from b qs)) ≡ true → same_place p (open_place (left_from b qs)) ≡ true
+    → list_any (same_place p) qs ≡ true
+open_among b w p [] e f = absurd cc
+open_among b w p (q ∷ qs) e f = at_group (waited_for b q) (open_among b w p qs) e f
+  where
+    or_right : (c d : Bool) → d ≡ true → (c || d) ≡ true
+    or_right true d e = refl
+    or_right false d e = e
+
+    or_left : (c d : Bool) → c ≡ true → (c || d) ≡ true
+    or_left true d e = refl
+    or_left false d e = absurd cc
+
+    at_group : (ws : List ℕ) → (is_among w (waits_now (left_from b qs)) ≡ true → same_place p (open_place (left_from b qs)) ≡ true → list_any (same_place p) qs ≡ true)
+        → is_among w (waits_now (with_group q ws (left_from b qs))) ≡ true → same_place p (open_place (with_group q ws (left_from b qs))) ≡ true
+        → (same_place p q || list_any (same_place p) qs) ≡ true
+    at_group [] ih e f = or_right (same_place p q) (list_any (same_place p) qs) (ih e f)
+    at_group (x ∷ ws) ih e f = or_left (same_place p q) (list_any (same_place p) qs) f
+
+left_shrinks : (a b : Agenda) (w : ℕ) → ((p : Place) → waited_for a p ≡ [] → waited_for b p ≡ [])
+    → ((p : Place) → is_among w (waited_for b p) ≡ true → is_among w (waited_for a p) ≡ true) → (ps : List Place) → are_apart ps ≡ true
+    → Shrinks w (left_from a ps) (left_from b ps)
+left_shrinks a b w closed fewer [] e = λ same i. i
+left_shrinks a b w closed fewer (p ∷ ps) e = by_waits (waited_for a p) (waited_for b p) (closed p) (fewer p) (left_shrinks a b w closed fewer ps (both_parts (not (list_any (same_place p) ps)) (are_apart ps) e).1)
+  where
+    elsewhere : same_place p (open_place (left_from b ps)) ≡ true → is_among w (waits_now (left_from b ps)) ≡ true → ⊥
+    elsewhere f g = both (list_any (same_place p) ps) (open_among b w p ps g f) (both_parts (not (list_any (same_place p) ps)) (are_apart ps) e).0
+      where
+        both : (c : Bool) → c ≡ true → not c ≡ true → ⊥
+        both true e f = cc
+        both false e f = cc
+
+    by_waits : (xs ys : List ℕ) → (xs ≡ [] → ys ≡ []) → (is_among w ys ≡ true → is_among w xs ≡ true) → Shrinks w (left_from a ps) (left_from b ps)
+        → Shrinks w (with_group p xs (left_from a ps)) (with_group p ys (left_from b ps))
+    by_waits [] [] f g ih = ih
+    by_waits [] (y ∷ ys) f g ih = absurd (none (f refl))
+      where
+        none : y ∷ ys ≡ [] → ⊥
+        none e = cc
+    by_waits (x ∷ xs) (y ∷ ys) f g ih = λ same i. g i
+    by_waits (x ∷ xs) [] f g ih = λ same i. absurd (elsewhere same i)
+
+-- ## the groups that open
+
+module _ (w : ℕ) (o : Order) where
+  abbrev nth : List OrderGroup → ℕ
+  nth gs = count_by (λ (g : OrderGroup). same_order g.order o && is_among w g.members) gs
+
+  abbrev anew : List Open → List Open → Bool
+  anew os ps = is_owed o (open_order ps w) && not (is_owed o (open_order os w) && same_place (open_place os) (open_place ps))
+
+  -- one more, if the writer is asked anew
+  abbrev more_if : Bool → ℕ → ℕ
+  more_if b n = if b then n + 1 else n
+
+  no_group : (gs : List OrderGroup) → nth (gs ++ []) ≡ nth gs
+  no_group gs = ap nth (append_none gs)
+    where
+      append_none : (xs : List OrderGroup) → xs ++ [] ≡ xs
+      append_none [] = refl
+      append_none (x ∷ xs) = ap (λ ys. x ∷ ys) (append_none xs)
+
+  one_group : (gs : List OrderGroup) (x : Order) (ws : List ℕ) (b : Bool) → (same_order x o && is_among w ws) ≡ b
+      → nth (gs ++ record { order = x; members = ws } ∷ []) ≡ more_if b (nth gs)
+  one_group gs x ws true e = sum_by-append (λ (g : OrderGroup). cond (same_order g.order o && is_among w g.members) 1 0) gs (record { order = x; members = ws } ∷ []) ∙ ap (λ c. nth gs + (0 + cond c 1 0)) e
+  one_group gs x ws false e = sum_by-append (λ (g : OrderGroup). cond (same_order g.order o && is_among w g.members) 1 0) gs (record { order = x; members = ws } ∷ []) ∙ ap (λ c. nth gs + (0 + cond c 1 0)) e ∙ omega arith
+
+  new_group : (gs : List OrderGroup) (g : Group) (ws : List ℕ)
+      → nth (gs ++ group_of_orders (order_of g) ws) ≡ more_if (is_owed o (order_if (is_orders g && is_among w ws) (order_of g)) && true) (nth gs)
+  new_group gs (Orders x) ws = one_group gs x ws (is_owed o (order_if (is_among w ws) (Some x)) && true) (by_among (is_among w ws) (same_order x o))
+    where
+      by_among : (b c : Bool) → (same_order x o && b) ≡ (is_owed o (order_if b (Some x)) && true)
+      by_among true c = refl
+      by_among false c = off (same_order x o)
+        where
+          off : (d : Bool) → (d && false) ≡ false
+          off true = refl
+          off false = refl
+  new_group gs PreCommit ws = no_group gs
+  new_group gs Flush ws = no_group gs
+  new_group gs Hold ws = no_group gs
+  new_group gs Cut ws = no_group gs
+  new_group gs Commit ws = no_group gs
+  new_group gs Release ws = no_group gs
+  new_group gs PostCommit ws = no_group gs
+
+  -- at the same place nobody is asked anew
+  same_owed : (x p : Open) (xs ps : List Open) → same_place x.place p.place ≡ true → Shrinks w (x ∷ xs) (p ∷ ps) → is_owed o (open_order (p ∷ ps) w) ≡ true
+      → is_owed o (open_order (x ∷ xs) w) ≡ true
+  same_owed x p xs ps e h f =
+      let group = same_group x.place.group p.place.group (both_parts (group_code x.place.group == group_code p.place.group) _ e).0 in
+      by_among p.place.group (is_among w p.waits) refl f group
+    where
+      by_among : (g : Group) (b : Bool) → is_among w p.waits ≡ b → is_owed o (order_if (is_orders g && b) (order_of g)) ≡ true → x.place.group ≡ g
+          → is_owed o (order_if (is_orders x.place.group && is_among w x.waits) (order_of x.place.group)) ≡ true
+      by_among g true i f group =
+          ap (λ c. is_owed o (order_if (is_orders x.place.group && c) (order_of x.place.group))) (h e i)
+          ∙ ap (λ y. is_owed o (order_if (is_orders y && true) (order_of y))) group ∙ f
+      by_among (Orders y) false i f group = absurd cc
+      by_among PreCommit false i f group = absurd cc
+      by_among Flush false i f group = absurd cc
+      by_among Hold false i f group = absurd cc
+      by_among Cut false i f group = absurd cc
+      by_among Commit false i f group = absurd cc
+      by_among Release false i f group = absurd cc
+      by_among PostCommit false i f group = absurd cc
+
+  count_opens : (os ps : List Open) (gs : List OrderGroup) → Shrinks w os ps → nth (gs ++ opens os ps) ≡ more_if (anew os ps) (nth gs)
+  count_opens os [] gs h = no_group gs
+  count_opens [] (p ∷ ps) gs h = new_group gs p.place.group p.waits
+  count_opens (x ∷ xs) (p ∷ ps) gs h = by_same (same_place x.place p.place) refl
+    where
+      at_same : same_place x.place p.place ≡ true → opens (x ∷ xs) (p ∷ ps) ≡ []
+      at_same e = rw e refl
+
+      at_other : same_place x.place p.place ≡ false → opens (x ∷ xs) (p ∷ ps) ≡ group_of_orders (order_of p.place.group) p.waits
+      at_other e = rw e refl
+
+      not_anew : (a b : Bool) → (a ≡ true → b ≡ true) → (a && not (b && true)) ≡ false
+      not_anew true b f = ap (λ c. not (c && true)) (f refl)
+      not_anew false b f = refl
+
+      all_anew : (a b : Bool) → (a && true) ≡ (a && not (b && false))
+      all_anew true true = refl
+      all_anew true false = refl
+      all_anew false b = refl
+
+      by_same : (c : Bool) → same_place x.place p.place ≡ c → nth (gs ++ opens (x ∷ xs) (p ∷ ps)) ≡ more_if (anew (x ∷ xs) (p ∷ ps)) (nth gs)
+      by_same true e =
+          ap (λ ys. nth (gs ++ ys)) (at_same e) ∙ no_group gs
+          ∙ ap (λ c. more_if c (nth gs)) (sym (ap (λ c. is_owed o (open_order (p ∷ ps) w) && not (is_owed o (open_order (x ∷ xs) w) && c)) e ∙ not_anew (is_owed o (open_order (p ∷ ps) w)) (is_owed o (open_order (x ∷ xs) w)) (same_owed x p xs ps e h)))
+      by_same false e =
+          ap (λ ys. nth (gs ++ ys)) (at_other e) ∙ new_group gs p.place.group p.waits
+          ∙ ap (λ c. more_if c (nth gs)) (all_anew (is_owed o (open_order (p ∷ ps) w)) (is_owed o (open_order (x ∷ xs) w)) ∙ ap (λ c. is_owed o (open_order (p ∷ ps) w) && not (is_owed o (open_order (x ∷ xs) w) && c)) (sym e))
+
+  -- ## courses
+
+  abbrev Asks : Course → Course → Type 0
+  Asks c d = nth d.opened ≡ more_if (anew (left c.agenda) (left d.agenda)) (nth c.opened)
+
+  asks_posted : (c x : Course) → x.opened ≡ c.opened → Shrinks w (left c.agenda) (left x.agenda) → Asks c (posted c x)
+  unfolding posted
+  asks_posted c x e h = ap (λ gs. nth (gs ++ opens (left c.agenda) (left x.agenda))) e ∙ count_opens (left c.agenda) (left x.agenda) c.opened h
+
+  -- an agenda that stands as it did
+  asks_still : (c d : Course) → d.agenda ≡ c.agenda → d.opened ≡ c.opened → Asks c d
+  asks_still c d e f =
+      ap nth f
+      ∙ ap (λ b. more_if b (nth c.opened)) (sym (ap (λ x. anew (left c.agenda) (left x)) e ∙ ap (λ b. is_owed o (open_order (left c.agenda) w) && not (is_owed o (open_order (left c.agenda) w) && b)) (own (open_place (left c.agenda))) ∙ off (is_owed o (open_order (left c.agenda) w))))
+    where
+      own : (p : Place) → same_place p p ≡ true
+      own p = both_are (group_code p.group == group_code p.group) (level_code p.level == level_code p.level) (same_number (group_code p.group)) (same_number (level_code p.level))
+
+      off : (b : Bool) → (b && not (b && true)) ≡ false
+      off true = refl
+      off false = refl
+
+  -- no agenda runs
+  asks_none : (c d : Course) → d.agenda ≡ None → d.opened ≡ c.opened → Asks c d
+  asks_none c d e f = ap nth f ∙ ap (λ b. more_if b (nth c.opened)) (sym (ap (λ x. anew (left c.agenda) (left x)) e))
+
+  shrinks_settled : (done : Bool) (a x : Agenda) (r : SetOutcome) (b : Option Agenda) (p : SetOutcome) → Settles done x r b p → Shrinks w (groups_left a) (groups_left x)
+      → Shrinks w (groups_left a) (left b)
+  shrinks_settled true a x r b p e h = subst (λ y. Shrinks w (groups_left a) (left y)) (sym e.0) (λ same i. absurd cc)
+  shrinks_settled false a x r b p e h = subst (λ y. Shrinks w (groups_left a) (left y)) (sym e.0) h
+
+  shrinks_grows : (a : Option Agenda) (r : SetOutcome) (b : Option Agenda) (p : SetOutcome) (news : List Deed) → Grows a r b p news → Shrinks w (left a) (left b)
+  shrinks_grows None r b p news h = subst (λ y. Shrinks w [] (left y)) (sym h.0) (λ same i. i)
+  shrinks_grows (Some a) r b p news (inl h) = subst (λ y. Shrinks w (groups_left a) (left y)) (sym h.agenda) (λ same i. absurd cc)
+  shrinks_grows (Some a) r b p news (inr (inl h)) = shrinks_settled h.done a a r b p h.settles (λ same i. i)
+  shrinks_grows (Some a) r b p news (inr (inr h)) =
+      shrinks_settled (is_done (groups_left (all_say h.said h.now h.ws a))) a (all_say h.said h.now h.ws a) r b p h.settles
+      (left_shrinks a (all_say h.said h.now h.ws a) w (closed_stays h.said h.now h.ws a) (fewer_waits h.said h.now h.ws a w) (places a.kind) (kinds_apart a.kind))
+
+  -- what calls leave of the groups that have opened
+  opened_settled : (c : Course) → (settled c).opened ≡ c.opened
+  unfolding settled
+  opened_settled c = in_agenda c.agenda
+    where
+      if_done : (b : Bool) (k : Kind) → (settled_if b k c).opened ≡ c.opened
+      if_done true k = refl
+      if_done false k = refl
+
+      in_agenda : (x : Option Agenda) → (settled_in x c).opened ≡ c.opened
+      in_agenda None = refl
+      in_agenda (Some a) = if_done (is_done (groups_left a)) a.kind
+
+  opened_failed : (why : VssResult) (c : Course) → (course_failed why c).opened ≡ c.opened
+  unfolding course_failed
+  opened_failed why c = refl
+
+  opened_told : (x : Order) (said : Said) (now : ℕ) (ws : List ℕ) (c : Course) → (told x said now ws c).opened ≡ c.opened
+  unfolding told
+  opened_told x said now ws c = refl
+
+  opened_worked : (now : ℕ) (c : Course) → (worked now c).opened ≡ c.opened
+  unfolding worked
+  opened_worked now c = refl
+
+  opened_answered : (x : Option Order) (u : ℕ) (said : Said) (now : ℕ) (c : Course) → (answered_to x u said now c).opened ≡ c.opened
+  opened_answered None u said now c = refl
+  opened_answered (Some x) u said now c = by_test (is_decisive x && not (is_ok said))
+    where
+      by_test : (b : Bool) → (decided b said (told x said now (u ∷ []) c)).opened ≡ c.opened
+      by_test true = opened_failed _ (told x said now (u ∷ []) c) ∙ opened_told x said now (u ∷ []) c
+      by_test false = opened_settled (told x said now (u ∷ []) c) ∙ opened_told x said now (u ∷ []) c
+
+  opened_stepped : (ok : Bool) (now : ℕ) (c : Course) → (course_stepped_as ok now c).opened ≡ c.opened
+  opened_stepped true now c = opened_settled (worked now c) ∙ opened_worked now c
+  opened_stepped false now c = opened_failed _ c
+
+  opened_lost : (x : Option Order) (now : ℕ) (c : Course) → (lost_to x now c).opened ≡ c.opened
+  opened_lost None now c = refl
+  opened_lost (Some x) now c = opened_told x _ now _ c
+
+  opened_treated : (l : Option RunningLimit) (now : ℕ) (c : Course) → (treated l now c).opened ≡ c.opened
+  opened_treated None now c = refl
+  opened_treated (Some l) now c = by_limit l.limit
+    where
+      by_order : (b : Bool) → (lost_decided b (lost now c)).opened ≡ c.opened
+      by_order true = opened_failed _ (lost now c) ∙ opened_lost (order_now (left c.agenda)) now c
+      by_order false = opened_settled (lost now c) ∙ opened_lost (order_now (left c.agenda)) now c
+
+      by_limit : (x : Limit) → (treated_as x now c).opened ≡ c.opened
+      by_limit HoldLimit = opened_failed _ c
+      by_limit FreezeLimit = opened_failed _ (lost now c) ∙ opened_lost (order_now (left c.agenda)) now c
+      by_limit AnswerLimit = by_order (fails_set (order_now (left c.agenda)))
+
+  posted_agenda : (c x : Course) → (posted c x).agenda ≡ x.agenda
+  unfolding posted
+  posted_agenda c x = refl
+
+  asks_grown : (c x : Course) (news : List Deed) → x.opened ≡ c.opened → Grows c.agenda c.outcome (posted c x).agenda (posted c x).outcome news → Asks c (posted c x)
+  asks_grown c x news e h = asks_posted c x e (subst (λ y. Shrinks w (left c.agenda) (left y)) (posted_agenda c x) (shrinks_grows c.agenda c.outcome (posted c x).agenda (posted c x).outcome news h))
+
+  asks_answered : (u : ℕ) (said : Said) (now : ℕ) (c : Course) → is_some (open_order (left c.agenda) u) ≡ true → Asks c (course_answered u said now c)
+  asks_answered u said now c e = by_order (open_order (left c.agenda) u) refl e
+    where
+      by_order : (x : Option Order) → open_order (left c.agenda) u ≡ x → is_some x ≡ true → Asks c (course_answered u said now c)
+      by_order None f e = absurd cc
+      by_order (Some x) f e = asks_grown c (answered_to (open_order (left c.agenda) u) u said now c) _ (opened_answered (open_order (left c.agenda) u) u said now c) (grows_answered u x said now c f)
+
+  asks_stepped : (ok : Bool) (now : ℕ) (c : Course) → is_working (left c.agenda) ≡ true → Asks c (course_stepped ok now c)
+  asks_stepped ok now c e = asks_grown c (course_stepped_as ok now c) _ (opened_stepped ok now c) (grows_stepped ok now c e)
+
+  asks_timed : (now : ℕ) (c : Course) → Asks c (course_timed now c)
+  asks_timed now c = asks_grown c (treated (spent_of now (limits_now c)) now c) _ (opened_treated (spent_of now (limits_now c)) now c) (grows_timed now c)
+
+  -- where no agenda runs, one begins
+  count_first : (ps : List Open) (gs : List OrderGroup) → nth (gs ++ opens [] ps) ≡ more_if (anew [] ps) (nth gs)
+  count_first [] gs = no_group gs
+  count_first (p ∷ ps) gs = new_group gs p.place.group p.waits
+
+  asks_begun : (k : Kind) (ms : List Member) (vs : List ℕ) (now : ℕ) (b c : Course) → b.agenda ≡ None → c.agenda ≡ None → c.opened ≡ b.opened → Asks b (begun k ms vs now c)
+  unfolding begun posted
+  asks_begun k ms vs now b c e f g =
+      let a : Agenda = record { kind = k; members = ms; volumes = vs; begun = now; log = [] } in
+      let x = settled (record c { agenda = Some a }) in
+      ap (λ gs. nth (gs ++ opens (left c.agenda) (left x.agenda))) (opened_settled (record c { agenda = Some a }) ∙ g)
+      ∙ ap (λ y. nth (b.opened ++ opens (left y) (left x.agenda))) f
+      ∙ count_first (left x.agenda) b.opened
+      ∙ ap (λ y. more_if (anew (left y) (left x.agenda)) (nth b.opened)) (sym e)
+
+-- ## every act
+
+not_running : (x : Option Agenda) → is_some x ≡ false → x ≡ None
+not_running None e = refl
+not_running (Some a) e = absurd cc
+
+failed_agenda : (why : VssResult) (c : Course) → (course_failed why c).agenda ≡ None
+unfolding course_failed
+failed_agenda why c = refl
+
+released_agenda : (c : Course) → ((released c).agenda ≡ None) × ((released c).opened ≡ c.opened)
+unfolding released
+released_agenda c = (refl, refl)
+
+closed_course : (q : Session) (x : State) → (closed q x).course ≡ released x.course
+unfolding closed
+closed_course q x = refl
+
+failed_opened : (r : Option SetRow) (why : VssResult) (x : State) → (failed_in r why x).course.opened ≡ x.course.opened
+failed_opened None why x = refl
+failed_opened (Some r) why x = opened_failed 0 Freeze why x.course
+
+module _ (s : Plan) (w : ℕ) (o : Order) (st : State) where
+  abbrev To : Course → Type 0
+  To d = Asks w o st.course d
+
+  abbrev Next : Event → Mark → Replied → Type 0
+  Next event mark x = To x.1.course
+
+  as_it_was : To st.course
+  as_it_was = asks_still w o st.course st.course refl refl
+
+  on_followed : (ran : Bool) (c : Course) (x : State) → To c → To (followed ran c x).course
+  on_followed ran c x h = subst To (sym (course_followed ran c x)) h
+
+  on_failed : (r : Option SetRow) (why : VssResult) (x : State) → x.course ≡ st.course → To (failed_in r why x).course
+  on_failed None why x e = subst To (sym e) as_it_was
+  on_failed (Some r) why x e = asks_none w o st.course (course_failed why x.course) (failed_agenda why x.course) (opened_failed w o why x.course ∙ ap (λ (c : Course). c.opened) e)
+
+  on_room : (b : Bool) (x : State) → x.course ≡ st.course → To (with_room_if b x).course
+  on_room true x e = on_failed (in_progress x) InsufficientStorage x e
+  on_room false x e = subst To (sym e) as_it_was
+
+  on_put : (v : ℕ) (b : Write) (mark : Mark) (x : State) → To x.course → To (put v b mark x).course
+  on_put v b Clean x h = h
+  on_put v b Fault x h = h
+  on_put v b (FaultAfter n) x h = h
+
+  on_write : (v : ℕ) (b : Write) (mark : Mark) → To (write s v b mark st).1.course
+  unfolding write
+  on_write v b mark = on_put v b mark _ (on_room (set_loses_image (in_progress st) st.volumes (cleared s v b.block st).volumes) (cleared s v b.block st) refl)
+
+  on_reverts : (v : ℕ) (k : _) (mark : Mark) → To (reverted_as s v k mark st).1.course
+  on_reverts v k Clean = as_it_was
+  on_reverts v k Fault = as_it_was
+  on_reverts v k (FaultAfter n) = as_it_was
+
+  on_end : (q : Session) → To (closed q (failed AsyncCancelled st)).course
+  on_end q =
+      let x = failed AsyncCancelled st in
+      subst To (sym (closed_course q x)) (asks_none w o st.course (released x.course) (released_agenda x.course).0 ((released_agenda x.course).1 ∙ failed_opened (in_progress st) AsyncCancelled st))
+
+  on_ticks : (n : ℕ) → To (ticked n st).course
+  unfolding ticked
+  on_ticks n = on_followed (runs st) (course_timed (st.clock + n) st.course) (later n st) (asks_timed w o (st.clock + n) st.course)
+
+  on_answers : (u : ℕ) (said : Said) → is_some (order_of_writer st u) ≡ true → To (answered u said st).course
+  unfolding answered
+  on_answers u said e = on_followed (runs st) (course_answered u said st.clock st.course) st (asks_answered w o u said st.clock st.course e)
+
+  on_steps : (mark : Mark) → is_working (left_now st) ≡ true → To (stepped mark st).course
+  unfolding stepped
+  on_steps mark e = by_test (is_failed_step (is_flush (open_group (left_now st))) mark) (open_group (left_now st))
+    where
+      by_test : (b : Bool) (g : Option Group) → To (stepped_as b g st).course
+      by_test true g = on_followed (runs st) (course_stepped false st.clock st.course) st (asks_stepped w o false st.clock st.course e)
+      by_test false g = on_followed (runs st) (course_stepped true st.clock st.course) (step_made g st) (asks_stepped w o true st.clock st.course e)
+
+  begins : (k : Kind) (ms : List Member) (vs : List ℕ) (c : Course) → runs st ≡ false → c.agenda ≡ st.course.agenda → c.opened ≡ st.course.opened
+      → To (followed true (begun k ms vs st.clock c) st).course
+  begins k ms vs c e f g = on_followed true (begun k ms vs st.clock c) st (asks_begun w o k ms vs st.clock st.course c (not_running st.course.agenda e) (f ∙ not_running st.course.agenda e) g)
+
+  either : (b : Bool) (x y : Replied) → To x.1.course → To y.1.course → To (if b then x else y).1.course
+  either true x y h i = h
+  either false x y h i = i
+
+  every_act : Covers Next s st
+  every_act = record {
+    stays = λ lane p mark said e f. as_it_was;
+    writes = λ lane p v b mark e f. on_write v b mark;
+    reverts = λ lane n v k mark e f. on_reverts v k mark;
+    deletes_set = λ lane n c mark e. as_it_was;
+    deletes_image = λ lane n v k mark e. as_it_was;
+    ticks = λ lane n mark. on_ticks n;
+    begins = λ lane n all c mark e f. as_it_was;
+    disables = λ lane u q mark g. asks_still w o st.course (record st.course { disabled = st.course.disabled ++ u ∷ [] }) refl refl;
+    gathers = λ lane q mark g. begins kind.Gather _ [] (record st.course { rows = map row_gathered st.course.rows }) g.quiet refl refl;
+    names = λ lane u full q explicit mark g named. as_it_was;
+    starts = λ lane q mark g e. as_it_was;
+    adds = λ lane v r q mark g e f. as_it_was;
+    prepares = λ lane q mark g. either (has_no_volume (in_progress st)) (refused BadState st) _ as_it_was (begins kind.Prepare _ [] (record st.course { members = _ }) g.quiet refl refl);
+    snapshots = λ lane q mark g. either (has_no_volume (in_progress st)) (refused BadState st) _ as_it_was (begins kind.Snapshot st.course.members _ st.course g.quiet refl refl);
+    completes = λ lane q mark g. begins kind.Complete _ [] st.course g.quiet refl refl;
+    aborts = λ lane q mark e. on_failed (in_progress st) AsyncCancelled st refl;
+    ends = λ lane q mark e. on_end q;
+    answers = λ u answer mark e. on_answers u (said_of answer) e;
+    steps = λ mark e. on_steps mark e;
+    idles = λ mark e. on_ticks (idle_now st);
+  }
+
+  on_act : (act : Act) → To (after s st act).course
+  on_act act = by_test (enabled s st act.event) refl
+    where
+      by_test : (b : Bool) → enabled s st act.event ≡ b → To (after s st act).course
+      by_test true e = subst (λ (x : State). To x.course) (sym (after_enabled s st act e)) (covered Next s st every_act act.event act.mark e)
+      by_test false e = subst (λ (x : State). To x.course) (sym (after_not_enabled s st act e)) as_it_was
+
+asked_is : (s : Plan) (w : ℕ) (o : Order) (st : State) (n : ℕ) (acts : List Act) → n ≡ sent st.course w o → asked_from s st w o n acts ≡ sent (fold (after s) st acts).course w o
+asked_is s w o st n [] e = e
+asked_is s w o st n (act ∷ acts) e =
+    let b = is_asked_anew st (after s st act) w o in
+    asked_is s w o (after s st act) (if b then n + 1 else n) acts (ap (λ k. if b then k + 1 else k) e ∙ sym (on_act s w o st act))
+
+-- ## the script
+
+written_is : (rows : List Scripted) (o : Order) (n : ℕ) → scripted_answer rows o n ≡ written_in rows o n
+written_is [] o n = refl
+written_is (r ∷ rows) o n = by_test (same_order r.order o && (r.nth == n)) (written_is rows o n)
+  where
+    by_test : (b : Bool) → scripted_answer rows o n ≡ written_in rows o n
+        → answer_in (if b then Some r else find (is_row_for o n) rows) ≡ (if b then r.answer else written_in rows o n)
+    by_test true ih = refl
+    by_test false ih = ih
+
+module _ (s : Plan) (before : List Move) (m : Move) (w : ℕ) (e : m.actor ≡ Writer w) where
+  abbrev st : State
+  st = state s (acts s before)
+
+  own_event : acts s (before ++ m ∷ []) ≡ acts s before ++ acts_if (script_event s st w (order_of_writer st w)) m.mark
+  own_event =
+      acts-append s before m ∙ ap (λ x. acts s before ++ acts_if (event_of s (run s before) x) m.mark) e
+      ∙ ap (λ (x : State). acts s before ++ acts_if (script_event s x w (order_of_writer x w)) m.mark) (state-run s before)
+
+  own_script : (o : Order) → order_of_writer st w ≡ Some o
+      → acts s (before ++ m ∷ []) ≡ acts s before ++ acts_if (answer_event w (written_in (script_of s w) o (times_asked s w o (acts s before)))) m.mark
+  own_script o f =
+      own_event
+      ∙ ap (λ x. acts s before ++ acts_if (script_event s st w x) m.mark) f
+      ∙ ap (λ a. acts s before ++ acts_if (answer_event w a) m.mark) (ap (scripted_answer (script_of s w) o) (sym (asked_is s w o (start s) 0 (acts s before) refl)) ∙ written_is (script_of s w) o (times_asked s w o (acts s before)))
+
+  own_silence : order_of_writer st w ≡ None → acts s (before ++ m ∷ []) ≡ acts s before
+  own_silence f = own_event ∙ ap (λ x. acts s before ++ acts_if (script_event s st w x) m.mark) f ∙ append_none (acts s before)
+    where
+      append_none : (xs : List Act) → xs ++ [] ≡ xs
+      append_none [] = refl
+      append_none (x ∷ xs) = ap (λ ys. x ∷ ys) (append_none xs)
+
+pub answers_by_script : (s : Plan) (trail : List Move) → AnswersByScript s trail
+answers_by_script s trail = record { says = λ before rest m w o e f g. own_script s before m w f o g; silent = λ before rest m w e f g. own_silence s before m w f g }
