@@ -97,6 +97,22 @@ fn finish(alloc: Global, text: &[u8], draft: &mut Draft) -> Result<Scenario, Out
     Ok(Scenario::of(source, draft.take_parts(alloc), places))
 }
 
+/// What `parse` answers, by a draft that nothing was read into.
+fn parse_into(alloc: Global, text: &[u8], draft: &mut Draft) -> Result<Scenario, Refused>
+    requires short { length text.now < 4294967295 }
+    requires empty { draft.old ≡ empty_draft }
+    ensures read { IfOk result (λ scenario. reading_of text.now ≡ IsScenario scenario) }
+    ensures refused { IfErr result (IsRefusal text.now) }
+{
+    match read(alloc, text, draft) {
+        Err(stopped) => Err(Refused::at(stopped.line, stopped.unread)),
+        Ok(()) => match finish(alloc, text, draft) {
+            Ok(scenario) => Ok(scenario),
+            Err(_) => Err(Refused::OutOfMemory),
+        },
+    }
+}
+
 /// Reads a scenario from its text, forward and once. A text is refused at its first bad line, with the first check that
 /// this does not pass. Memory is taken for a copy of the text, for all that it declares, the names among it, for each metadata document that is read,
 /// for the lines of the lanes, and for the places of the volumes.
@@ -106,13 +122,7 @@ pub fn parse(alloc: Global, text: &[u8]) -> Result<Scenario, Refused>
     ensures refused { IfErr result (IsRefusal text.now) }
 {
     let mut draft = Draft::new(alloc);
-    match read(alloc, text, &mut draft) {
-        Err(stopped) => Err(Refused::at(stopped.line, stopped.unread)),
-        Ok(()) => match finish(alloc, text, &mut draft) {
-            Ok(scenario) => Ok(scenario),
-            Err(_) => Err(Refused::OutOfMemory),
-        },
-    }
+    parse_into(alloc, text, &mut draft)
 }
 
 /// Why the line is refused at which the reading stopped, in full. `draft` has what the lines before it say.
@@ -135,6 +145,18 @@ fn refusal_at(
     }))
 }
 
+/// What `refusal_of` answers, by a draft that nothing was read into.
+fn refusal_in(alloc: Global, text: &[u8], draft: &mut Draft) -> Result<Option<Refusal>, OutOfMemory>
+    requires short { length text.now < 4294967295 }
+    requires empty { draft.old ≡ empty_draft }
+    ensures { IfOk result (λ refusal. option_map told_bad refusal ≡ first_bad (reading_of text.now)) }
+{
+    match read(alloc, text, draft) {
+        Ok(()) => Ok(None),
+        Err(stopped) => refusal_at(alloc, draft, stopped),
+    }
+}
+
 /// Why `parse` refuses a text, in full; none exactly where the text is a scenario. Line and reason are those of `parse`. Memory is taken
 /// as by `parse`, and for the list of the names.
 pub fn refusal_of(alloc: Global, text: &[u8]) -> Result<Option<Refusal>, OutOfMemory>
@@ -142,8 +164,5 @@ pub fn refusal_of(alloc: Global, text: &[u8]) -> Result<Option<Refusal>, OutOfMe
     ensures { IfOk result (λ refusal. option_map told_bad refusal ≡ first_bad (reading_of text.now)) }
 {
     let mut draft = Draft::new(alloc);
-    match read(alloc, text, &mut draft) {
-        Ok(()) => Ok(None),
-        Err(stopped) => refusal_at(alloc, &draft, stopped),
-    }
+    refusal_in(alloc, text, &mut draft)
 }
