@@ -122,7 +122,9 @@ pub fn parse(alloc: Global, text: &[u8]) -> Result<Scenario, Refused>
     ensures refused { IfErr result (IsRefusal text.now) }
 {
     let mut draft = Draft::new(alloc);
-    parse_into(alloc, text, &mut draft)
+    let answer = parse_into(alloc, text, &mut draft);
+    drop(draft);
+    answer
 }
 
 /// Why the line is refused at which the reading stopped, in full. `draft` has what the lines before it say.
@@ -164,5 +166,7 @@ pub fn refusal_of(alloc: Global, text: &[u8]) -> Result<Option<Refusal>, OutOfMe
     ensures { IfOk result (λ refusal. option_map told_bad refusal ≡ first_bad (reading_of text.now)) }
 {
     let mut draft = Draft::new(alloc);
-    refusal_in(alloc, text, &mut draft)
+    let answer = refusal_in(alloc, text, &mut draft);
+    drop(draft);
+    answer
 }
