@@ -1,8 +1,6 @@
 -- Where an act gives no cause, no set fails in it.
 use Rattle.std.proofs.Common.{◌≡◌, ℕ, ◌+◌, ◌==◌, List, [], ◌∷◌, ◌++◌, Option, Some, None, refl, Bool, true, false, ap, sym, ◌∙◌, subst}
 use Rattle.std.specs.Prelude.{◌&&◌, not, if◌then◌else◌}
-use Rattle.block_data.specs.declared.payload.Payload.TheVariants.{Fill, Stamp}
-use Rattle.block_data.specs.PayloadBytes.{payload_bytes}
 use Rattle.vss_names.specs.declared.context.Context.{Context}
 use Rattle.vss_names.specs.declared.order.Order.{Order}
 use Rattle.vss_names.specs.declared.order.Order.TheVariants.{Identify, PrepareBackup, PrepareSnapshot, Freeze, Thaw, PostSnapshot, BackupComplete}
