@@ -18,27 +18,24 @@ refused() {
   grep -oE '(crates/[a-z_]+/)?src/[a-z_]+\.rt' "$room/said" | sort -u
 }
 
-# asks CHANGE FILE ENUM..: one variant more of each enum, in its file, is the change of this name in the page
+# asks CHANGE FILE ENUM: one variant more of this enum of this file is the change of this name in the page
 asks() {
-  local change="$1" row asked it changed=()
+  local row asked it
   row="$(awk -v is="**$1**" 'index($0, is) == 1 { on = 1 } on && /^$/ { exit } on' "$page")"
-  shift
-  while [ "$#" -gt 0 ]; do
-    sed -i "s/^pub enum $2 {\$/&\n    Marker,/" "$room/$1"
-    cmp -s "$1" "$room/$1" && wrong "$1 has no enum $2"
-    variants=$((variants + 1)) changed+=("$1")
-    shift 2
-  done
+  sed -i "s/^pub enum $3 {\$/&\n    Marker,/" "$room/$2"
+  cmp -s "$2" "$room/$2" && wrong "$2 has no enum $3"
   asked="$(refused)"
-  [ -n "$asked" ] || wrong "$change the compiler asks for nothing: $(tail -n 1 "$room/said")"
+  [ -n "$asked" ] || wrong "$1 the compiler asks for nothing: $(tail -n 1 "$room/said")"
   for it in $asked; do
     files=$((files + 1))
-    case "$row" in *"${it##*/}"*) ;; *) wrong "$change $page does not name $it, which the compiler asks for" ;; esac
+    case "$row" in *"${it##*/}"*) ;; *) wrong "$1 $page does not name $it, which the compiler asks for" ;; esac
   done
-  for it in "${changed[@]}"; do cp "$it" "$room/$it"; done
+  cp "$2" "$room/$2"
+  variants=$((variants + 1))
 }
 
-asks "Another line of a scenario." crates/scenario/src/word.rt Word crates/scenario/src/op.rt Op
+asks "Another line of a scenario." crates/scenario/src/word.rt Word
+asks "Another line of a scenario." crates/scenario/src/op.rt Op
 asks "Another payload of a write." crates/block_data/src/payload.rt Payload
 
 ends "for $variants variants more the compiler asks for $files files, all of which $page names"
