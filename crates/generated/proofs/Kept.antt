@@ -2,8 +2,6 @@
 use Rattle.std.proofs.Common.{◌≡◌, ℕ, zero, suc, ◌+◌, ◌<◌, ◌≤◌, List, [], ◌∷◌, ◌++◌, Option, Some, None, refl, Bool, true, false, ap, sym, ◌∙◌, ◌==◌, subst, length, drop, arith, map}
 use Rattle.std.specs.Prelude.{is_some, cond, filter, slice_get, nat_le, ◌&&◌, ◌||◌, not, if◌then◌else◌}
 use Rattle.std.specs.List.{list_all, list_any}
-use Rattle.block_data.specs.declared.payload.Payload.TheVariants.{Fill, Stamp}
-use Rattle.block_data.specs.PayloadBytes.{payload_bytes}
 use Rattle.vss_names.specs.declared.order.Order.{Order}
 use Rattle.write_history.specs.declared.actor.Actor.{Actor}
 use Rattle.write_history.specs.declared.actor.Actor.TheVariants.{Lane, Writer, Advance, Idle}
@@ -17,13 +15,15 @@ use Rattle.writer_calls.specs.Script.{scripted_answer}
 use Rattle.set_agenda.specs.Agenda.{is_asking}
 use Rattle.set_agenda.specs.Course.{sent}
 use Rattle.scenario.specs.declared.op.Op.{Op}
-use Rattle.scenario.specs.declared.op.Op.TheVariants.{WriteFill, WriteStamp, Read, ImageDigest, ImageBlock, Query, Properties, Revert, DeleteSet, DeleteImage, Tick, Begin, Disable, Gather, Component, Document, Start, Add, Prepare, Snapshot, Await, Status, Complete, Abort, End}
+use Rattle.scenario.specs.declared.line.Line.{Line as Does}
+use Rattle.scenario.specs.declared.line.Line.TheVariants.{Writes}
 use Rattle.scenario.specs.Plan.{Plan, LaneLine, lines_of}
-use Rattle.scenario.specs.Bounds.{IsOp}
+use Rattle.scenario.specs.Bounds.{IsOp, IsRangedBy}
+use Rattle.scenario.specs.Calls.{line_of}
 use Rattle.vss_model.specs.declared.event.Event.{Event}
 use Rattle.vss_model.specs.declared.event.Event.TheVariants.{Line, Answer as AnswerEvent, Provider}
 use Rattle.vss_model.specs.State.{State, SetRow, is_complete, kept, history_in, history_of, left_now}
-use Rattle.vss_model.specs.Lines.{line}
+use Rattle.vss_model.specs.Lines.{does, line}
 use Rattle.vss_model.specs.Acts.{order_of_writer, line_enabled, enabled, happens, after, state}
 use Rattle.vss_model.specs.Trail.{Run, begin, cursor, next_line, line_event, answer_event, script_event, event_of, act_of, acts, after_event, moved, run_from, run, event_enabled, none_can_act, may_move, allows, is_legal_move, is_legal_from, is_legal, is_complete as is_complete_trail, faults}
 use Rattle.vss_model.specs.Facts.{NumberedFrom, AreLive, is_live, has_failed}
@@ -32,7 +32,7 @@ use Rattle.vss_model.proofs.OneCut.{images_in_time}
 use Rattle.vss_model.proofs.OrderlyActs.{orderly}
 use Rattle.generated.specs.Asked.{Asked, AreAsked}
 use Rattle.generated.specs.Spots.{Spot, spot_after, completes_sets, is_full}
-use Rattle.generated.specs.Smooth.{IsSmooth, is_write}
+use Rattle.generated.specs.Smooth.{IsSmooth, writes, is_write}
 use Rattle.generated.proofs.Standing.{IsAt, IsOnWay}
 use Rattle.generated.proofs.CutRows.{is_cut, cuts_made, is_cut_or_open, HasCuts}
 use Rattle.generated.proofs.Courses.{and_first, and_second, length_map}
@@ -46,32 +46,10 @@ use Rattle.generated.proofs.Volumes.{IsGrownIf, move_grown, cleared_same}
 
 -- ## every move keeps it
 
-write_cuts : (s : Plan) (n lane : ℕ) (op : Op) (mark : Mark) (k : ℕ) (st : State) → IsSmooth n s → IsReached s st → mark ≡ Clean → is_write op ≡ true → IsOp s op → k ≤ n → length st.sets ≡ k → HasCuts s st → HasCuts s (line s lane op mark st).1
-write_cuts s n lane (WriteFill v b x) mark k st smooth reached f e o most sets h = cuts_write s v (record { block = b; bytes = payload_bytes (Fill x) }) mark st f (cleared_same s n v b k st smooth reached o.1 most sets) h
-write_cuts s n lane (WriteStamp v b x) mark k st smooth reached f e o most sets h = cuts_write s v (record { block = b; bytes = payload_bytes (Stamp x) }) mark st f (cleared_same s n v b k st smooth reached o.1 most sets) h
-write_cuts s n lane (Read v b) mark k st smooth reached f e o most sets h = absurd cc
-write_cuts s n lane (ImageDigest m v) mark k st smooth reached f e o most sets h = absurd cc
-write_cuts s n lane (ImageBlock m v b) mark k st smooth reached f e o most sets h = absurd cc
-write_cuts s n lane (Query v) mark k st smooth reached f e o most sets h = absurd cc
-write_cuts s n lane (Properties m v) mark k st smooth reached f e o most sets h = absurd cc
-write_cuts s n lane (Revert m v) mark k st smooth reached f e o most sets h = absurd cc
-write_cuts s n lane (DeleteSet m) mark k st smooth reached f e o most sets h = absurd cc
-write_cuts s n lane (DeleteImage m v) mark k st smooth reached f e o most sets h = absurd cc
-write_cuts s n lane (Tick t) mark k st smooth reached f e o most sets h = absurd cc
-write_cuts s n lane (Begin c all) mark k st smooth reached f e o most sets h = absurd cc
-write_cuts s n lane (Disable w) mark k st smooth reached f e o most sets h = absurd cc
-write_cuts s n lane Gather mark k st smooth reached f e o most sets h = absurd cc
-write_cuts s n lane (Component w full) mark k st smooth reached f e o most sets h = absurd cc
-write_cuts s n lane Document mark k st smooth reached f e o most sets h = absurd cc
-write_cuts s n lane Start mark k st smooth reached f e o most sets h = absurd cc
-write_cuts s n lane (Add v) mark k st smooth reached f e o most sets h = absurd cc
-write_cuts s n lane Prepare mark k st smooth reached f e o most sets h = absurd cc
-write_cuts s n lane Snapshot mark k st smooth reached f e o most sets h = absurd cc
-write_cuts s n lane Await mark k st smooth reached f e o most sets h = absurd cc
-write_cuts s n lane Status mark k st smooth reached f e o most sets h = absurd cc
-write_cuts s n lane Complete mark k st smooth reached f e o most sets h = absurd cc
-write_cuts s n lane Abort mark k st smooth reached f e o most sets h = absurd cc
-write_cuts s n lane End mark k st smooth reached f e o most sets h = absurd cc
+write_cuts : (s : Plan) (n lane : ℕ) (op : Op) (l : Does) (mark : Mark) (k : ℕ) (st : State) → IsSmooth n s → IsReached s st → mark ≡ Clean → writes l ≡ true
+    → IsRangedBy (length s.source) s.volumes (length s.writers) op l → k ≤ n → length st.sets ≡ k → HasCuts s st → HasCuts s (does s lane op l mark st).1
+write_cuts s n lane op (Writes v b payload) mark k st smooth reached f e o most sets h = cuts_write s v _ mark st f (cleared_same s n v b k st smooth reached o.1 most sets) h
+write_cuts s n lane op _ mark k st smooth reached f e o most sets h = absurd cc
 
 own_cuts : (s : Plan) (n : ℕ) (r : Run) (m : Move) (l : LaneLine) (asked : List Asked) → IsBefore s n r → AreAsked s asked (l ∷ drop (suc (cursor r.moves 0)) (lines_of s 0)) → (spot : Spot) → completes_sets (length s.volumes) n asked (Some spot) ≡ true
     → IsAt s spot.place spot.sets spot.volumes r.state → line_enabled s r.state 0 l.op ≡ true → HasCuts s r.state → HasCuts s (line s 0 l.op m.mark r.state).1
@@ -102,7 +80,7 @@ lane_cuts s n r m zero (Some l) before e f on h =
 lane_cuts s n r m (suc i) (Some l) before e f on h =
     let known = all_at (λ (x : LaneLine). (is_write x.op ≡ true) × IsOp s x.op) (lines_of s (suc i)) (cursor r.moves (suc i)) l (before.smooth.writes i) f in
     by_after s r m (Line (suc i) l.op) on
-    (write_cuts s n (suc i) l.op m.mark before.way.spot.sets r.state before.smooth before.reached e known.0 known.1 (spot_few (length s.volumes) n before.way.asked before.way.spot before.way.leads) before.way.at.sets h)
+    (write_cuts s n (suc i) l.op (line_of l.op) m.mark before.way.spot.sets r.state before.smooth before.reached e known.0 known.1 (spot_few (length s.volumes) n before.way.asked before.way.spot before.way.leads) before.way.at.sets h)
 
 writer_cuts : (s : Plan) (n : ℕ) (r : Run) (m : Move) (w : ℕ) (x : Option Order) → IsBefore s n r → order_of_writer r.state w ≡ x → event_enabled s r (script_event s r.state w x) ≡ true → HasCuts s r.state → HasCutsIf s r m (script_event s r.state w x)
 writer_cuts s n r m w None before f on h = absurd cc

@@ -3,8 +3,6 @@ use Rattle.std.proofs.Common.{◌≡◌, ℕ, zero, suc, ◌+◌, ◌<◌, ◌�
 use Rattle.std.specs.Prelude.{is_some, nat_lt, nat_le, slice_get, ◌⊎◌, ◌&&◌, not, All}
 use Rattle.std.specs.List.{list_all, range_with_len}
 use Rattle.std.proofs.lemmas.Bool.Decides.{nat_tests}
-use Rattle.block_data.specs.declared.payload.Payload.TheVariants.{Fill, Stamp}
-use Rattle.block_data.specs.PayloadBytes.{payload_bytes}
 use Rattle.vss_names.specs.declared.order.Order.{Order}
 use Rattle.write_history.specs.declared.actor.Actor.{Actor}
 use Rattle.write_history.specs.declared.actor.Actor.TheVariants.{Lane, Writer, Advance, Idle}
@@ -17,15 +15,17 @@ use Rattle.writer_calls.specs.Script.{scripted_answer}
 use Rattle.set_agenda.specs.Agenda.{left, next_member, is_asking, is_working}
 use Rattle.set_agenda.specs.Course.{sent}
 use Rattle.scenario.specs.declared.op.Op.{Op}
-use Rattle.scenario.specs.declared.op.Op.TheVariants.{WriteFill, WriteStamp, Read, ImageDigest, ImageBlock, Query, Properties, Revert, DeleteSet, DeleteImage, Tick, Begin, Disable, Gather, Component, Document, Start, Add, Prepare, Snapshot, Await, Status, Complete, Abort, End}
+use Rattle.scenario.specs.declared.line.Line.{Line as Does}
+use Rattle.scenario.specs.declared.line.Line.TheVariants.{Writes}
 use Rattle.scenario.specs.Plan.{Plan, LaneLine, lines_of, script_of}
-use Rattle.scenario.specs.Bounds.{IsOp}
+use Rattle.scenario.specs.Bounds.{IsOp, IsRangedBy}
+use Rattle.scenario.specs.Calls.{line_of}
 use Rattle.vss_model.specs.declared.event.Event.{Event}
 use Rattle.vss_model.specs.declared.event.Event.TheVariants.{Line, Answer as AnswerEvent, Provider}
 use Rattle.vss_model.specs.State.{State, history_of, left_now}
 use Rattle.vss_model.specs.Ending.{runs}
 use Rattle.vss_model.specs.Images.{cleared}
-use Rattle.vss_model.specs.Lines.{line}
+use Rattle.vss_model.specs.Lines.{does, line}
 use Rattle.vss_model.specs.Acts.{Act, line_enabled, order_of_writer, enabled, happens, after_if, after, state}
 use Rattle.vss_model.specs.Trail.{Run, is_lane, cursor, next_line, line_event, answer_event, script_event, event_of, act_of, event_enabled, can_act, none_can_act, may_move}
 use Rattle.vss_model.specs.Facts.{IsOrderly}
@@ -35,7 +35,7 @@ use Rattle.vss_model.proofs.OrderlyActs.{orderly}
 use Rattle.vss_model.proofs.Waiting.{agenda_goes_on}
 use Rattle.generated.specs.Asked.{Asked, AreAsked}
 use Rattle.generated.specs.Spots.{Spot, Place, Free, Stands, Waits, is_free, spot_after, completes_sets, is_full}
-use Rattle.generated.specs.Smooth.{IsSmooth, is_write}
+use Rattle.generated.specs.Smooth.{IsSmooth, writes, is_write}
 use Rattle.generated.proofs.Sound.{IsSound}
 use Rattle.generated.proofs.Standing.{IsAt, IsOnWay}
 use Rattle.generated.proofs.Courses.{and_first, and_second, asked_is_below}
@@ -104,42 +104,15 @@ orderly_next s st event mark h e =
 
 -- ## what an event leaves
 
-pub writes_op : (s : Plan) (n : ℕ) (lane : ℕ) (op : Op) (mark : Mark) (p : Place) (k : ℕ) (vs : List ℕ) (st : State) → IsSmooth n s → IsReached s st → is_write op ≡ true → IsOp s op → k ≤ n → IsAt s p k vs st → IsAt s p k vs (line s lane op mark st).1
-writes_op s n lane (WriteFill v b x) mark p k vs st smooth reached e o most h = write_at s p k vs v (record { block = b; bytes = payload_bytes (Fill x) }) mark st (room s n v b k st smooth reached o.1 most h.sets) h
+pub writes_op : (s : Plan) (n : ℕ) (lane : ℕ) (op : Op) (l : Does) (mark : Mark) (p : Place) (k : ℕ) (vs : List ℕ) (st : State) → IsSmooth n s → IsReached s st → writes l ≡ true
+    → IsRangedBy (length s.source) s.volumes (length s.writers) op l → k ≤ n → IsAt s p k vs st → IsAt s p k vs (does s lane op l mark st).1
+writes_op s n lane op (Writes v b payload) mark p k vs st smooth reached e o most h = write_at s p k vs v _ mark st (room s n v b k st smooth reached o.1 most h.sets) h
   where
     room : (s : Plan) (n v b k : ℕ) (st : State) → IsSmooth n s → IsReached s st → b < Rattle.scenario.specs.Plan.blocks_of s v → k ≤ n → length st.sets ≡ k → (cleared s v b st).volumes ≡ st.volumes
     room s n v b k st smooth reached l most sets =
         subst (λ x. (cleared s v b x).volumes ≡ x.volumes) (sym reached.is)
         (none_cleared s reached.so_far v b n smooth.alone smooth.room l (let e = ap (λ (x : State). length x.sets) (sym reached.is) in omega (arith, e, most, sets)))
-writes_op s n lane (WriteStamp v b x) mark p k vs st smooth reached e o most h = write_at s p k vs v (record { block = b; bytes = payload_bytes (Stamp x) }) mark st (room s n v b k st smooth reached o.1 most h.sets) h
-  where
-    room : (s : Plan) (n v b k : ℕ) (st : State) → IsSmooth n s → IsReached s st → b < Rattle.scenario.specs.Plan.blocks_of s v → k ≤ n → length st.sets ≡ k → (cleared s v b st).volumes ≡ st.volumes
-    room s n v b k st smooth reached l most sets =
-        subst (λ x. (cleared s v b x).volumes ≡ x.volumes) (sym reached.is)
-        (none_cleared s reached.so_far v b n smooth.alone smooth.room l (let e = ap (λ (x : State). length x.sets) (sym reached.is) in omega (arith, e, most, sets)))
-writes_op s n lane (Read v b) mark p k vs st smooth reached e o most h = absurd cc
-writes_op s n lane (ImageDigest m v) mark p k vs st smooth reached e o most h = absurd cc
-writes_op s n lane (ImageBlock m v b) mark p k vs st smooth reached e o most h = absurd cc
-writes_op s n lane (Query v) mark p k vs st smooth reached e o most h = absurd cc
-writes_op s n lane (Properties m v) mark p k vs st smooth reached e o most h = absurd cc
-writes_op s n lane (Revert m v) mark p k vs st smooth reached e o most h = absurd cc
-writes_op s n lane (DeleteSet m) mark p k vs st smooth reached e o most h = absurd cc
-writes_op s n lane (DeleteImage m v) mark p k vs st smooth reached e o most h = absurd cc
-writes_op s n lane (Tick t) mark p k vs st smooth reached e o most h = absurd cc
-writes_op s n lane (Begin c all) mark p k vs st smooth reached e o most h = absurd cc
-writes_op s n lane (Disable w) mark p k vs st smooth reached e o most h = absurd cc
-writes_op s n lane Gather mark p k vs st smooth reached e o most h = absurd cc
-writes_op s n lane (Component w full) mark p k vs st smooth reached e o most h = absurd cc
-writes_op s n lane Document mark p k vs st smooth reached e o most h = absurd cc
-writes_op s n lane Start mark p k vs st smooth reached e o most h = absurd cc
-writes_op s n lane (Add v) mark p k vs st smooth reached e o most h = absurd cc
-writes_op s n lane Prepare mark p k vs st smooth reached e o most h = absurd cc
-writes_op s n lane Snapshot mark p k vs st smooth reached e o most h = absurd cc
-writes_op s n lane Await mark p k vs st smooth reached e o most h = absurd cc
-writes_op s n lane Status mark p k vs st smooth reached e o most h = absurd cc
-writes_op s n lane Complete mark p k vs st smooth reached e o most h = absurd cc
-writes_op s n lane Abort mark p k vs st smooth reached e o most h = absurd cc
-writes_op s n lane End mark p k vs st smooth reached e o most h = absurd cc
+writes_op s n lane op _ mark p k vs st smooth reached e o most h = absurd cc
 
 -- ## nobody idles
 
@@ -264,7 +237,7 @@ on_lane s n r m (suc i) (Some l) before e f on =
     let spot = before.way.spot in
     by_after s n r m (Line (suc i) l.op) on
     (others_left s n r m _ before.way (ap (is_lane 0) e ∙ other_lane i)
-    (writes_op s n (suc i) l.op m.mark spot.place spot.sets spot.volumes r.state before.smooth before.reached known.0 known.1 (spot_few (length s.volumes) n before.way.asked spot before.way.leads) before.way.at))
+    (writes_op s n (suc i) l.op (line_of l.op) m.mark spot.place spot.sets spot.volumes r.state before.smooth before.reached known.0 known.1 (spot_few (length s.volumes) n before.way.asked spot before.way.leads) before.way.at))
 
 pub on_writer : (s : Plan) (n : ℕ) (r : Run) (m : Move) (w : ℕ) (x : Option Order) → IsBefore s n r → m.actor ≡ Writer w → order_of_writer r.state w ≡ x → event_enabled s r (script_event s r.state w x) ≡ true → IsNextIf s n r m (script_event s r.state w x)
 on_writer s n r m w None before e f on = absurd cc

@@ -22,7 +22,7 @@ use Rattle.set_agenda.specs.declared.group.Group.TheVariants.{Orders, PreCommit,
 use Rattle.set_agenda.specs.Agenda.{is_asking, is_working, is_among, open_group}
 use Rattle.set_agenda.specs.Course.{sent, change_at, answered as course_answered, stepped as course_stepped}
 use Rattle.scenario.specs.declared.op.Op.{Op}
-use Rattle.scenario.specs.declared.op.Op.TheVariants.{WriteFill, WriteStamp, Read, ImageDigest, ImageBlock, Query, Properties, Revert, DeleteSet, DeleteImage, Tick, Begin, Disable, Gather, Component, Document, Start, Add, Prepare, Snapshot, Await, Status, Complete, Abort, End}
+use Rattle.scenario.specs.declared.op.Op.TheVariants.{WriteFill, WriteStamp}
 use Rattle.scenario.specs.Plan.{Plan, LaneLine, lines_of, blocks_of}
 use Rattle.scenario.specs.Bounds.{IsOp}
 use Rattle.scenario.specs.Calls.{target_of}
@@ -157,29 +157,7 @@ write_grown s n lane (WriteFill v b x) mark k st smooth reached f e o most sets 
 write_grown s n lane (WriteStamp v b x) mark k st smooth reached f e o most sets =
     let same = cleared_same s n v b k st smooth reached o.1 most sets in
     grown_by s st _ lane v (WriteStamp v b x) (record { block = b; bytes = payload_bytes (Stamp x) }) (write_volumes s v (record { block = b; bytes = payload_bytes (Stamp x) }) mark st f same) (λ u. refl) (none_for s st v b same)
-write_grown s n lane (Read v b) mark k st smooth reached f e o most sets = absurd cc
-write_grown s n lane (ImageDigest m v) mark k st smooth reached f e o most sets = absurd cc
-write_grown s n lane (ImageBlock m v b) mark k st smooth reached f e o most sets = absurd cc
-write_grown s n lane (Query v) mark k st smooth reached f e o most sets = absurd cc
-write_grown s n lane (Properties m v) mark k st smooth reached f e o most sets = absurd cc
-write_grown s n lane (Revert m v) mark k st smooth reached f e o most sets = absurd cc
-write_grown s n lane (DeleteSet m) mark k st smooth reached f e o most sets = absurd cc
-write_grown s n lane (DeleteImage m v) mark k st smooth reached f e o most sets = absurd cc
-write_grown s n lane (Tick t) mark k st smooth reached f e o most sets = absurd cc
-write_grown s n lane (Begin c all) mark k st smooth reached f e o most sets = absurd cc
-write_grown s n lane (Disable w) mark k st smooth reached f e o most sets = absurd cc
-write_grown s n lane Gather mark k st smooth reached f e o most sets = absurd cc
-write_grown s n lane (Component w full) mark k st smooth reached f e o most sets = absurd cc
-write_grown s n lane Document mark k st smooth reached f e o most sets = absurd cc
-write_grown s n lane Start mark k st smooth reached f e o most sets = absurd cc
-write_grown s n lane (Add v) mark k st smooth reached f e o most sets = absurd cc
-write_grown s n lane Prepare mark k st smooth reached f e o most sets = absurd cc
-write_grown s n lane Snapshot mark k st smooth reached f e o most sets = absurd cc
-write_grown s n lane Await mark k st smooth reached f e o most sets = absurd cc
-write_grown s n lane Status mark k st smooth reached f e o most sets = absurd cc
-write_grown s n lane Complete mark k st smooth reached f e o most sets = absurd cc
-write_grown s n lane Abort mark k st smooth reached f e o most sets = absurd cc
-write_grown s n lane End mark k st smooth reached f e o most sets = absurd cc
+write_grown s n lane _ mark k st smooth reached f e o most sets = absurd cc
 
 -- ## the lane that makes the sets
 

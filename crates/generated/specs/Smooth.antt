@@ -2,17 +2,21 @@
 -- writer answers ok; and each volume has slots of its own for all its blocks in each set.
 use Rattle.std.specs.Prelude.{ℕ, suc, ◌≡◌, ◌<◌, ◌≤◌, ◌*◌, Bool, true, false, List, [], ◌∷◌, length, All, Some}
 use Rattle.scenario.specs.declared.op.Op.{Op}
-use Rattle.scenario.specs.declared.op.Op.TheVariants.{WriteFill, WriteStamp}
+use Rattle.scenario.specs.declared.line.Line.{Line}
+use Rattle.scenario.specs.declared.line.Line.TheVariants.{Writes}
+use Rattle.scenario.specs.Calls.{line_of}
 use Rattle.scenario.specs.declared.volume_row.VolumeRow.{VolumeRow}
 use Rattle.scenario.specs.Plan.{Plan, LaneLine, lines_of, script_of}
 use Rattle.scenario.specs.Bounds.{IsOp}
 use Rattle.generated.specs.Asked.{Asked, AreAsked}
 use Rattle.generated.specs.Spots.{Free, completes_sets}
 
+abbrev pub writes : Line → Bool
+writes (Writes v b payload) = true
+writes _ = false
+
 abbrev pub is_write : Op → Bool
-is_write (WriteFill v b x) = true
-is_write (WriteStamp v b n) = true
-is_write _ = false
+is_write op = writes (line_of op)
 
 -- the groups of these volumes are numbered g, g + 1 and so on: no two volumes share an area
 abbrev pub AreAlone : ℕ → List VolumeRow → Type 0

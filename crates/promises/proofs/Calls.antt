@@ -10,7 +10,7 @@ use Rattle.requestor.specs.declared.verdict.Verdict.TheVariants.{Refused}
 use Rattle.requestor.specs.Session.{Session, has_writers, makes_set}
 use Rattle.requestor.specs.Check.{check, check_begin, begin_verdict, check_other, check_owner, owner_only, verdict_of, goes_beside_agenda, is_start, allows, is_await as awaits}
 use Rattle.scenario.specs.declared.op.Op.{Op}
-use Rattle.scenario.specs.declared.op.Op.TheVariants.{WriteFill, WriteStamp, Read, ImageDigest, ImageBlock, Query, Properties, Revert, DeleteSet, DeleteImage, Tick, Begin, Disable, Gather, Component, Document, Start, Add, Prepare, Snapshot, Await, Status, Complete, Abort, End}
+use Rattle.scenario.specs.declared.op.Op.TheVariants.{WriteFill, WriteStamp, Begin, Disable, Gather, Component, Document, Start, Add, Prepare, Snapshot, Await, Status, Complete, Abort, End}
 use Rattle.scenario.specs.Calls.{Target, target_of}
 use Rattle.scenario.specs.Plan.{Plan, acts_as}
 use Rattle.vss_model.specs.declared.event.Event.TheVariants.{Line}
@@ -99,15 +99,6 @@ other_waits (Some q) running lane c e =
 waits_for : (s : Plan) (st : State) (lane : ℕ) (op : Op) → enabled s st (Line lane op) ≡ false → may_wait op ≡ true
 waits_for s st lane (WriteFill v b x) e = refl
 waits_for s st lane (WriteStamp v b n) e = refl
-waits_for s st lane (Read v b) e = absurd cc
-waits_for s st lane (ImageDigest n v) e = absurd cc
-waits_for s st lane (ImageBlock n v b) e = absurd cc
-waits_for s st lane (Query v) e = absurd cc
-waits_for s st lane (Properties n v) e = absurd cc
-waits_for s st lane (Revert n v) e = absurd cc
-waits_for s st lane (DeleteSet n) e = absurd cc
-waits_for s st lane (DeleteImage n v) e = absurd cc
-waits_for s st lane (Tick n) e = absurd cc
 waits_for s st lane (Begin c all) e = refl
 waits_for s st lane (Disable w) e = other_waits st.session (runs st) lane call.Disable (goes _ e)
 waits_for s st lane Gather e = other_waits st.session (runs st) lane call.Gather (goes _ e)
@@ -122,6 +113,7 @@ waits_for s st lane Status e = other_waits st.session (runs st) lane call.Status
 waits_for s st lane Complete e = other_waits st.session (runs st) lane call.Complete (goes _ e)
 waits_for s st lane Abort e = other_waits st.session (runs st) lane call.Abort (goes _ e)
 waits_for s st lane End e = other_waits st.session (runs st) lane call.End (goes _ e)
+waits_for s st lane _ e = absurd cc
 
 pub waits_are_few : (s : Plan) (so_far : List Act) → WaitsAreFew s so_far
 waits_are_few s so_far lane op e = waits_for s (state s so_far) lane op e

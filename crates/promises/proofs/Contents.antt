@@ -2,7 +2,6 @@
 use Rattle.std.proofs.Common.{◌≡◌, ◌∙◌, ℕ, ◌+◌, ◌==◌, zero, suc, List, [], ◌∷◌, ◌++◌, Option, Some, None, refl, Bool, true, false, ◌<◌, ap, sym, subst, map, length, take, arith}
 use Rattle.std.specs.Prelude.{◌&&◌, if◌then◌else◌}
 use Rattle.std.proofs.Math.Seq.{take-length}
-use Rattle.block_data.specs.declared.payload.Payload.TheVariants.{Fill, Stamp}
 use Rattle.block_data.specs.PayloadBytes.{payload_bytes}
 use Rattle.block_data.specs.Runs.{zeros}
 use Rattle.vss_names.specs.declared.context.Context.{Context}
@@ -22,7 +21,10 @@ use Rattle.set_agenda.specs.Course.{Course, answered as course_answered, stepped
 use Rattle.requestor.specs.Session.{Session}
 use Rattle.scenario.specs.declared.op.Op.{Op}
 use Rattle.scenario.specs.declared.op.Op.TheVariants as op
-use Rattle.scenario.specs.Calls.{Target, target_of}
+use Rattle.scenario.specs.declared.line.Line.{Line as Does}
+use Rattle.scenario.specs.declared.line.Line.TheVariants.{Writes}
+use Rattle.scenario.specs.Calls.{Target, line_of, target_in, target_of}
+use Rattle.vss_model.specs.Lines.{does}
 use Rattle.scenario.specs.Plan.{Plan, blocks_of, group_of}
 use Rattle.vss_model.specs.declared.event.Event.{Event}
 use Rattle.vss_model.specs.declared.event.Event.TheVariants.{Line}
@@ -34,7 +36,7 @@ use Rattle.vss_model.specs.Steps.{answered, cut_if, cut_each, cut_set, step_made
 use Rattle.vss_model.specs.Acts.{Act, enabled, happens, idle_now, after, state}
 use Rattle.vss_model.proofs.FewerImages.{as_many_volumes}
 use Rattle.vss_model.proofs.Volumes.{at, change_other, as_many_map, as_many_gone}
-use Rattle.promises.specs.Contents.{block_now, is_clean, may_change, ContentsChange}
+use Rattle.promises.specs.Contents.{block_now, is_clean, may_change, ContentsChange, changes_by}
 use Rattle.promises.proofs.ByEvent.{Covers, covered, after_enabled, after_not_enabled}
 use Rattle.promises.proofs.Restored.{some_restored}
 
@@ -203,14 +205,13 @@ module _ (s : Plan) (st : State) (v b : ℕ) where
   some_target : (x y : Target) → Some x ≡ Some y → x ≡ y
   some_target x y e = cc
 
+  writes_by : (l : Does) (u : ℕ) (w : Write) (mark : Mark) → target_in l ≡ Some (record { volume = u; block = w.block }) → changes_by v b l mark ≡ false → Stays (write s u w mark st).1.volumes
+  writes_by (Writes x y payload) u w mark e g =
+      stay_write u w mark (ap (λ (z : Target). is_clean mark && (z.volume == v) && (z.block == b)) (sym (some_target _ _ e)) ∙ g)
+  writes_by _ u w mark e g = absurd cc
+
   on_write : (lane : ℕ) (o : Op) (u : ℕ) (w : Write) (mark : Mark) → target_of o ≡ Some (record { volume = u; block = w.block }) → Keeps (Line lane o) mark (write s u w mark st)
-  on_write lane (op.WriteFill x y f) u w mark e g =
-      let t : record { volume = x; block = y } ≡ record { volume = u; block = w.block } = some_target _ _ e in
-      stay_write u w mark (ap (λ (z : Target). is_clean mark && (z.volume == v) && (z.block == b)) (sym t) ∙ g)
-  on_write lane (op.WriteStamp x y f) u w mark e g =
-      let t : record { volume = x; block = y } ≡ record { volume = u; block = w.block } = some_target _ _ e in
-      stay_write u w mark (ap (λ (z : Target). is_clean mark && (z.volume == v) && (z.block == b)) (sym t) ∙ g)
-  on_write lane o u w mark e g = absurd cc
+  on_write lane o u w mark e g = writes_by (line_of o) u w mark e g
 
   either : (event : Event) (mark : Mark) (c : Bool) (x y : Replied) → Keeps event mark x → Keeps event mark y → Keeps event mark (if c then x else y)
   either event mark true x y e f = e
@@ -323,10 +324,9 @@ contents_change s so_far act =
     let many : (v : ℕ) → v < length s.volumes → v < length st.volumes = λ v l. subst (λ n. v < n) (sym (as_many_volumes s so_far)) l in
     record {
       stay = λ v b g. contents_kept s st v b act g;
-      filled = λ lane v b x e m on l.
-          ap (λ (y : State). block_now y v b) (after_line s st act (Line lane (op.WriteFill v b x)) e on) ∙ write_brings s st v (record { block = b; bytes = payload_bytes (Fill x) }) act.mark m (many v l);
-      stamped = λ lane v b x e m on l.
-          ap (λ (y : State). block_now y v b) (after_line s st act (Line lane (op.WriteStamp v b x)) e on) ∙ write_brings s st v (record { block = b; bytes = payload_bytes (Stamp x) }) act.mark m (many v l);
+      wrote = λ lane v b o payload e is m on l.
+          ap (λ (y : State). block_now y v b) (after_line s st act (Line lane o) e on ∙ ap (λ d. (does s lane o d act.mark st).1) is)
+          ∙ write_brings s st v (record { block = b; bytes = payload_bytes payload }) act.mark m (many v l);
       reverted = λ lane n v b k e m h i l.
           ap (λ (y : State). block_now y v b) (after_line s st act (Line lane (op.Revert n v)) e (ap (enabled s st) e) ∙ ap (λ (y : Replied). y.1) (revert_is s st n v k act.mark h i)) ∙ revert_brings s st v b k act.mark m (many v l);
       stopped = λ lane n v b j k e m h i l.

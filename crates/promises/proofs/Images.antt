@@ -17,7 +17,9 @@ use Rattle.set_agenda.specs.Course.{Course, answered as course_answered, stepped
 use Rattle.requestor.specs.Session.{Session}
 use Rattle.scenario.specs.declared.op.Op.{Op}
 use Rattle.scenario.specs.declared.op.Op.TheVariants as op
-use Rattle.scenario.specs.Calls.{Target, target_of}
+use Rattle.scenario.specs.declared.line.Line.{Line as Does}
+use Rattle.scenario.specs.declared.line.Line.TheVariants.{Writes}
+use Rattle.scenario.specs.Calls.{Target, line_of, target_in, target_of}
 use Rattle.scenario.specs.Plan.{Plan, blocks_of, slots_of, group_of}
 use Rattle.vss_model.specs.declared.event.Event.{Event}
 use Rattle.vss_model.specs.declared.event.Event.TheVariants.{Line, Answer as AnswerEvent, Provider, Idle}
@@ -33,7 +35,7 @@ use Rattle.vss_model.proofs.Orderly.{true_not_false}
 use Rattle.vss_model.proofs.OrderlyActs.{orderly}
 use Rattle.vss_model.proofs.Volumes.{at, FewerIn, fewer_written, fewer_in_same, fewer_in_change, fewer_in_over}
 use Rattle.vss_model.proofs.FewerImages.{fewer_images_dropped}
-use Rattle.promises.specs.Gone.{stands, Fails, IsWanted, IsOfSession, Takes, ImagesGoForCause}
+use Rattle.promises.specs.Gone.{stands, Fails, IsWanted, IsOfSession, Takes, TakesBy, ImagesGoForCause}
 use Rattle.promises.proofs.ByEvent.{Covers, covered, after_enabled, after_not_enabled}
 use Rattle.promises.proofs.GoneImages.{gone_dropped, gone_reverted, gone_map, gone_change, gone_group, left_in_group, least_sets, fails_as, gone_followed, gone_failed_in, none_stepped, course-made, made_keeps}
 
@@ -133,14 +135,12 @@ module _ (s : Plan) (st : State) (num : NumberedFrom 1 st.sets) (n v : ℕ) wher
   some_target : (a b : Target) → Some a ≡ Some b → a ≡ b
   some_target a b e = cc
 
+  takes_by : (l : Does) (u : ℕ) (w : Write) (x : State) → target_in l ≡ Some (record { volume = u; block = w.block }) → IsWanted s st x u w.block n v → TakesBy s st x n v l
+  takes_by (Writes a b payload) u w x e i = subst (λ (y : Target). IsWanted s st x y.volume y.block n v) (sym (some_target _ _ e)) i
+  takes_by _ u w x e i = absurd cc
+
   takes_write : (lane : ℕ) (o : Op) (u : ℕ) (w : Write) (x : State) → target_of o ≡ Some (record { volume = u; block = w.block }) → IsWanted s st x u w.block n v → Takes s st x n v (Line lane o)
-  takes_write lane (op.WriteFill a b f) u w x e i =
-      let t : record { volume = a; block = b } ≡ record { volume = u; block = w.block } = some_target _ _ e in
-      subst (λ (y : Target). IsWanted s st x y.volume y.block n v) (sym t) i
-  takes_write lane (op.WriteStamp a b f) u w x e i =
-      let t : record { volume = a; block = b } ≡ record { volume = u; block = w.block } = some_target _ _ e in
-      subst (λ (y : Target). IsWanted s st x y.volume y.block n v) (sym t) i
-  takes_write lane o u w x e i = absurd cc
+  takes_write lane o u w x e i = takes_by (line_of o) u w x e i
 
   on_write : (lane : ℕ) (o : Op) (u : ℕ) (w : Write) (mark : Mark) → target_of o ≡ Some (record { volume = u; block = w.block }) → Goes (Line lane o) mark (write s u w mark st)
   unfolding write

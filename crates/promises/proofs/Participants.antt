@@ -19,7 +19,7 @@ use Rattle.requestor.specs.declared.mode.Mode.{Mode}
 use Rattle.requestor.specs.declared.mode.Mode.TheVariants.{Components, All}
 use Rattle.requestor.specs.Session.{Session, mode_of, opened}
 use Rattle.scenario.specs.declared.op.Op.{Op}
-use Rattle.scenario.specs.declared.op.Op.TheVariants.{WriteFill, WriteStamp, Read, ImageDigest, ImageBlock, Query, Properties, Revert, DeleteSet, DeleteImage, Tick, Begin, Disable, Gather, Component, Document, Start, Add, Prepare, Snapshot, Await, Status, Complete, Abort, End}
+use Rattle.scenario.specs.declared.op.Op.TheVariants.{Begin, Disable, Component, Prepare, Snapshot}
 use Rattle.scenario.specs.Calls.{Target, target_of}
 use Rattle.scenario.specs.Plan.{Plan, class_of, token}
 use Rattle.vss_model.specs.declared.event.Event.{Event}
@@ -75,59 +75,19 @@ skip_if true x y e = absurd cc
 skip_if false x y e = refl
 
 says_nothing : (s : Plan) (w : ℕ) (f : Bool) (c : Choosing) (o : Op) (told : Reply) → ChangesNothing o told → line_says s w f o told c ≡ c
-says_nothing s w f c (WriteFill v b x) told g = refl
-says_nothing s w f c (WriteStamp v b n) told g = refl
-says_nothing s w f c (Read v b) told g = refl
-says_nothing s w f c (ImageDigest n v) told g = refl
-says_nothing s w f c (ImageBlock n v b) told g = refl
-says_nothing s w f c (Query v) told g = refl
-says_nothing s w f c (Properties n v) told g = refl
-says_nothing s w f c (Revert n v) told g = refl
-says_nothing s w f c (DeleteSet n) told g = refl
-says_nothing s w f c (DeleteImage n v) told g = refl
-says_nothing s w f c (Tick n) told g = refl
 says_nothing s w f c (Begin n all) told g = skip_if (is_fine told) _ c (g.session refl)
 says_nothing s w f c (Disable u) told g = skip_if (is_fine told) _ c (g.session refl)
-says_nothing s w f c Gather told g = refl
 says_nothing s w f c (Component u full) told g = skip_if (is_fine told) _ c (g.session refl)
-says_nothing s w f c Document told g = refl
-says_nothing s w f c Start told g = refl
-says_nothing s w f c (Add v) told g = refl
 says_nothing s w f c Prepare told g = skip_if (is_pending told) _ c (g.agenda refl)
-says_nothing s w f c Snapshot told g = refl
-says_nothing s w f c Await told g = refl
-says_nothing s w f c Status told g = refl
-says_nothing s w f c Complete told g = refl
-says_nothing s w f c Abort told g = refl
-says_nothing s w f c End told g = refl
+says_nothing s w f c _ told g = refl
 
 -- a write
 says_no_write : (s : Plan) (w : ℕ) (f : Bool) (c : Choosing) (o : Op) (t : Target) (told : Reply) → target_of o ≡ Some t → line_says s w f o told c ≡ c
-says_no_write s w f c (WriteFill v b x) t told e = refl
-says_no_write s w f c (WriteStamp v b n) t told e = refl
-says_no_write s w f c (Read v b) t told e = refl
-says_no_write s w f c (ImageDigest n v) t told e = refl
-says_no_write s w f c (ImageBlock n v b) t told e = refl
-says_no_write s w f c (Query v) t told e = refl
-says_no_write s w f c (Properties n v) t told e = refl
-says_no_write s w f c (Revert n v) t told e = refl
-says_no_write s w f c (DeleteSet n) t told e = refl
-says_no_write s w f c (DeleteImage n v) t told e = refl
-says_no_write s w f c (Tick n) t told e = refl
 says_no_write s w f c (Begin n all) t told e = absurd cc
 says_no_write s w f c (Disable u) t told e = absurd cc
-says_no_write s w f c Gather t told e = refl
 says_no_write s w f c (Component u full) t told e = absurd cc
-says_no_write s w f c Document t told e = refl
-says_no_write s w f c Start t told e = refl
-says_no_write s w f c (Add v) t told e = refl
 says_no_write s w f c Prepare t told e = absurd cc
-says_no_write s w f c Snapshot t told e = refl
-says_no_write s w f c Await t told e = refl
-says_no_write s w f c Status t told e = refl
-says_no_write s w f c Complete t told e = refl
-says_no_write s w f c Abort t told e = refl
-says_no_write s w f c End t told e = refl
+says_no_write s w f c _ t told e = refl
 
 -- ## what a line names
 

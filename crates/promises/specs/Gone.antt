@@ -3,9 +3,12 @@
 -- (Which image goes where slots are wanting, the oldest first, is the SDK's; by whole sets of a group is this project's own.)
 use Rattle.std.specs.Prelude.{ℕ, ◌≡◌, ◌<◌, ◌≤◌, ◌⊎◌, Bool, true, false, List, Option, Some, None, slice_get}
 use Rattle.write_history.specs.Slots.{Placed, lacks_slot, gone_up_to}
+use Rattle.requestor.specs.declared.session_call.SessionCall.TheVariants.{End}
 use Rattle.requestor.specs.Session.{Session}
 use Rattle.scenario.specs.declared.op.Op.{Op}
-use Rattle.scenario.specs.declared.op.Op.TheVariants.{WriteFill, WriteStamp, Revert, DeleteSet, DeleteImage, End}
+use Rattle.scenario.specs.declared.line.Line.{Line as Does}
+use Rattle.scenario.specs.declared.line.Line.TheVariants.{Writes, Reverts, DeletesSet, DeletesImage, Calls}
+use Rattle.scenario.specs.Calls.{line_of}
 use Rattle.scenario.specs.Plan.{Plan, slots_of, group_of}
 use Rattle.vss_model.specs.declared.event.Event.{Event}
 use Rattle.vss_model.specs.declared.event.Event.TheVariants.{Line, Answer as AnswerEvent, Provider, Idle}
@@ -44,14 +47,16 @@ pub record IsOfSession (st : State) (n : ℕ) : Type 0 where
   pub set : session.set ≡ Some n
 
 -- what a line takes the image of set n on volume v for
+abbrev pub TakesBy : Plan → State → State → ℕ → ℕ → Does → Type 0
+TakesBy s st next n v (Writes u b payload) = IsWanted s st next u b n v
+TakesBy s st next n v (Reverts m u) = (u ≡ v) × (m < n)
+TakesBy s st next n v (DeletesSet m) = m ≡ n
+TakesBy s st next n v (DeletesImage m u) = (m ≡ n) × (u ≡ v)
+TakesBy s st next n v (Calls End) = IsOfSession st n
+TakesBy s st next n v _ = ⊥
+
 abbrev pub LineTakes : Plan → State → State → ℕ → ℕ → Op → Type 0
-LineTakes s st next n v (WriteFill u b x) = IsWanted s st next u b n v
-LineTakes s st next n v (WriteStamp u b x) = IsWanted s st next u b n v
-LineTakes s st next n v (Revert m u) = (u ≡ v) × (m < n)
-LineTakes s st next n v (DeleteSet m) = m ≡ n
-LineTakes s st next n v (DeleteImage m u) = (m ≡ n) × (u ≡ v)
-LineTakes s st next n v End = IsOfSession st n
-LineTakes s st next n v _ = ⊥
+LineTakes s st next n v op = TakesBy s st next n v (line_of op)
 
 abbrev pub Takes : Plan → State → State → ℕ → ℕ → Event → Type 0
 Takes s st next n v (Line lane op) = LineTakes s st next n v op

@@ -4,57 +4,62 @@
 use Rattle.std.specs.Prelude.{ℕ, ◌≡◌, ◌<◌, ◌≤◌, ◌+◌, Bool, true, false, List, [], ◌∷◌, length, map, sum, count_by, All, IfSome, Option, Some, None, slice_get, nat_lt, ◌==◌, ◌&&◌, ◌||◌, not, if◌then◌else◌}
 use Rattle.std.specs.List.{list_any}
 use Rattle.scenario.specs.declared.op.Op.{Op}
-use Rattle.scenario.specs.declared.op.Op.TheVariants.{WriteFill, WriteStamp, Read, ImageDigest, ImageBlock, Query, Properties, Revert, DeleteSet, DeleteImage, Tick, Begin, Disable, Gather, Component, Document, Start, Add, Prepare, Snapshot, Await, Status, Complete, Abort, End}
+use Rattle.scenario.specs.declared.op.Op.TheVariants.{Begin, Disable, Gather, Component, Add, Prepare, Snapshot, Complete, End}
+use Rattle.scenario.specs.declared.line.Line.{Line}
+use Rattle.scenario.specs.declared.line.Line.TheVariants.{Writes, Reads, ShowsImage, ShowsBlock, ShowsSets, ShowsProperties, Reverts, DeletesSet, DeletesImage, Ticks, Calls}
+use Rattle.scenario.specs.Calls.{line_of}
 use Rattle.scenario.specs.declared.span.Span.{Span}
 use Rattle.scenario.specs.declared.volume_row.VolumeRow.{VolumeRow}
 use Rattle.writer_meta.specs.Allowed.{IsAllowed}
 use Rattle.writer_calls.specs.declared.scripted.Scripted.{Scripted}
-use Rattle.scenario.specs.Plan.{Plan, GroupPlan, WriterPlan, LaneLine, LanePlan, blocks_of}
+use Rattle.scenario.specs.Fields.{IsPart}
+use Rattle.scenario.specs.Plan.{Plan, GroupPlan, WriterPlan, LaneLine, LanePlan, blocks_in}
 
 -- ## names
 
 -- the text of a span is a part of the scenario's text
-pub record IsSpan (s : Plan) (span : Span) : Type 0 where
-  pub ordered : span.start ≤ span.end
-  pub within : span.end ≤ length s.source
+abbrev pub IsSpan : Plan → Span → Type 0
+IsSpan s = IsPart (length s.source)
 
--- a name has at most 32 characters
-pub record IsName (s : Plan) (span : Span) : Type 0 where
-  pub is_span : IsSpan s span
-  pub short : span.end ≤ span.start + 32
+-- a name of a text of n bytes has at most 32 characters
+pub record IsShortPart (n : ℕ) (name : Span) : Type 0 where
+  pub part : IsPart n name
+  pub short : name.end ≤ name.start + 32
 
 -- ## lines
 
--- the numbers of a line are in the scenario's range
+abbrev pub IsBlockOf : List VolumeRow → ℕ → ℕ → Type 0
+IsBlockOf rows v b = (v < length rows) × (b < blocks_in (slice_get rows v))
+
 abbrev pub IsBlock : Plan → ℕ → ℕ → Type 0
-IsBlock s v b = (v < length s.volumes) × (b < blocks_of s v)
+IsBlock s = IsBlockOf s.volumes
+
+-- what a session call names, in a text of n bytes with these volumes and so many writers
+abbrev pub IsCallRanged : ℕ → List VolumeRow → ℕ → Op → Type 0
+IsCallRanged n rows writers (Disable w) = w < writers
+IsCallRanged n rows writers (Component w full) = (w < writers) × IsPart n full
+IsCallRanged n rows writers (Add v) = v < length rows
+IsCallRanged n rows writers _ = Unit {0}
+
+-- the numbers of a line that does this are in range
+abbrev pub IsRangedBy : ℕ → List VolumeRow → ℕ → Op → Line → Type 0
+IsRangedBy n rows writers op (Writes v b payload) = IsBlockOf rows v b
+IsRangedBy n rows writers op (Reads v b) = IsBlockOf rows v b
+IsRangedBy n rows writers op (ShowsImage set v) = v < length rows
+IsRangedBy n rows writers op (ShowsBlock set v b) = IsBlockOf rows v b
+IsRangedBy n rows writers op (ShowsSets v) = v < length rows
+IsRangedBy n rows writers op (ShowsProperties set v) = v < length rows
+IsRangedBy n rows writers op (Reverts set v) = v < length rows
+IsRangedBy n rows writers op (DeletesSet set) = Unit {0}
+IsRangedBy n rows writers op (DeletesImage set v) = v < length rows
+IsRangedBy n rows writers op (Ticks ticks) = ticks ≤ 1000000000
+IsRangedBy n rows writers op (Calls c) = IsCallRanged n rows writers op
+
+abbrev pub IsRanged : ℕ → List VolumeRow → ℕ → Op → Type 0
+IsRanged n rows writers op = IsRangedBy n rows writers op (line_of op)
 
 abbrev pub IsOp : Plan → Op → Type 0
-IsOp s (WriteFill v b x) = IsBlock s v b
-IsOp s (WriteStamp v b n) = IsBlock s v b
-IsOp s (Read v b) = IsBlock s v b
-IsOp s (ImageDigest n v) = v < length s.volumes
-IsOp s (ImageBlock n v b) = IsBlock s v b
-IsOp s (Query v) = v < length s.volumes
-IsOp s (Properties n v) = v < length s.volumes
-IsOp s (Revert n v) = v < length s.volumes
-IsOp s (DeleteSet n) = Unit {0}
-IsOp s (DeleteImage n v) = v < length s.volumes
-IsOp s (Tick n) = n ≤ 1000000000
-IsOp s (Begin c all) = Unit {0}
-IsOp s (Disable w) = w < length s.writers
-IsOp s Gather = Unit {0}
-IsOp s (Component w full) = (w < length s.writers) × IsSpan s full
-IsOp s Document = Unit {0}
-IsOp s Start = Unit {0}
-IsOp s (Add v) = v < length s.volumes
-IsOp s Prepare = Unit {0}
-IsOp s Snapshot = Unit {0}
-IsOp s Await = Unit {0}
-IsOp s Status = Unit {0}
-IsOp s Complete = Unit {0}
-IsOp s Abort = Unit {0}
-IsOp s End = Unit {0}
+IsOp s = IsRanged (length s.source) s.volumes (length s.writers)
 
 -- ## sessions end
 
@@ -89,26 +94,38 @@ agenda_lines lines = count_by (λ l. begins_agenda l.op) lines
 
 -- ## all of it
 
--- of a declared volume
-pub record IsVolume (s : Plan) (r : VolumeRow) : Type 0 where
-  pub name : IsName s r.name
-  pub some : 0 < r.blocks
-  pub most : r.blocks ≤ 65536
-  pub few_slots : r.slots ≤ 65536
+-- a declared volume, in a text of n bytes
+pub record IsRow (n : ℕ) (row : VolumeRow) : Type 0 where
+  pub name : IsShortPart n row.name
+  pub some : 0 < row.blocks
+  pub most : row.blocks ≤ 65536
+  pub few_slots : row.slots ≤ 65536
 
--- of an area that volumes use
-pub record IsGroup (s : Plan) (g : GroupPlan) : Type 0 where
-  pub name : IsName s g.name
+-- an area that volumes use
+pub record IsGroupRow (n : ℕ) (g : GroupPlan) : Type 0 where
+  pub name : IsShortPart n g.name
   pub few_slots : g.slots ≤ 65536
 
-pub record IsWriter (s : Plan) (w : WriterPlan) : Type 0 where
-  pub name : IsName s w.name
+-- counted from 1
+abbrev pub IsNth : Scripted → Type 0
+IsNth row = (0 < row.nth) × (row.nth ≤ 2000)
+
+pub record IsWriterRow (n : ℕ) (w : WriterPlan) : Type 0 where
+  pub name : IsShortPart n w.name
   pub allowed : IsAllowed w.meta
-  -- counted from 1
-  pub nths : All (λ (r : Scripted). (0 < r.nth) × (r.nth ≤ 2000)) w.script
+  pub nths : All IsNth w.script
+
+abbrev pub IsVolume : Plan → VolumeRow → Type 0
+IsVolume s = IsRow (length s.source)
+
+abbrev pub IsGroup : Plan → GroupPlan → Type 0
+IsGroup s = IsGroupRow (length s.source)
+
+abbrev pub IsWriter : Plan → WriterPlan → Type 0
+IsWriter s = IsWriterRow (length s.source)
 
 pub record IsLane (s : Plan) (l : LanePlan) : Type 0 where
-  pub name : IsName s l.name
+  pub name : IsShortPart (length s.source) l.name
   pub whom : IfSome l.acts_as (λ w. w < length s.writers)
   pub ops : All (λ (x : LaneLine). IsOp s x.op) l.lines
   pub ends : ends_sessions l.lines ≡ true

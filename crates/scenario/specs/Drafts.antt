@@ -6,7 +6,6 @@ use Rattle.writer_meta.specs.Allowed.{IsAllowed}
 use Rattle.writer_calls.specs.declared.scripted.Scripted.{Scripted}
 use Rattle.writer_calls.specs.Script.{is_row_for}
 use Rattle.scenario.specs.declared.op.Op.{Op}
-use Rattle.scenario.specs.declared.op.Op.TheVariants.{WriteFill, WriteStamp, Read, ImageDigest, ImageBlock, Query, Properties, Revert, DeleteSet, DeleteImage, Tick, Begin, Disable, Gather, Component, Document, Start, Add, Prepare, Snapshot, Await, Status, Complete, Abort, End}
 use Rattle.scenario.specs.declared.reason.Reason.{Reason}
 use Rattle.scenario.specs.declared.cause.Cause.{Cause}
 use Rattle.scenario.specs.declared.unread.Unread.{Unread}
@@ -18,7 +17,7 @@ use Rattle.scenario.specs.declared.counts.Counts.{Counts}
 use Rattle.scenario.specs.declared.entry.Entry.{Entry}
 use Rattle.scenario.specs.declared.entry.Entry.TheVariants as entry
 use Rattle.scenario.specs.Plan.{GroupPlan, WriterPlan, LaneLine, LanePlan, blocks_in, script_in}
-use Rattle.scenario.specs.Bounds.{is_begin, begins_agenda, IsInGroup, groups_from}
+use Rattle.scenario.specs.Bounds.{IsShortPart, IsRow, IsGroupRow, IsNth, IsWriterRow, IsRanged, begins_agenda, IsInGroup, groups_from}
 use Rattle.scenario.specs.SoFar.{SoFar, Saying, nothing, after, group_for, area_group, line_count, agenda_count, answer_count}
 use Rattle.scenario.specs.SoFar as saying
 use Rattle.scenario.specs.Fields.{bytes_of, IsPart}
@@ -92,63 +91,10 @@ with_entry text d e = record {
 
 -- ## what holds of the parts, in a text of n bytes
 
-pub record IsShortPart (n : ℕ) (name : Span) : Type 0 where
-  pub part : IsPart n name
-  pub short : name.end ≤ name.start + 32
-
-pub record IsGroupRow (n : ℕ) (g : GroupPlan) : Type 0 where
-  pub name : IsShortPart n g.name
-  pub few_slots : g.slots ≤ 65536
-
-pub record IsRow (n : ℕ) (row : VolumeRow) : Type 0 where
-  pub name : IsShortPart n row.name
-  pub some : 0 < row.blocks
-  pub most : row.blocks ≤ 65536
-  pub few_slots : row.slots ≤ 65536
-
 -- a declared area is among the groups once it has one
 pub record IsAreaRow (n : ℕ) (groups : List GroupPlan) (area : AreaRow) : Type 0 where
   pub declared : IsGroupRow n (area_group area)
   pub group : IfSome area.group (λ g. slice_get groups g ≡ Some (area_group area))
-
-abbrev pub IsNth : Scripted → Type 0
-IsNth row = (0 < row.nth) × (row.nth ≤ 2000)
-
-pub record IsWriterRow (n : ℕ) (w : WriterPlan) : Type 0 where
-  pub name : IsShortPart n w.name
-  pub allowed : IsAllowed w.meta
-  pub nths : All IsNth w.script
-
-abbrev pub IsBlockOf : List VolumeRow → ℕ → ℕ → Type 0
-IsBlockOf rows v b = (v < length rows) × (b < blocks_in (slice_get rows v))
-
--- the numbers of a line are in range, where there are these volumes and so many writers
-abbrev pub IsRanged : ℕ → List VolumeRow → ℕ → Op → Type 0
-IsRanged n rows writers (WriteFill v b x) = IsBlockOf rows v b
-IsRanged n rows writers (WriteStamp v b number) = IsBlockOf rows v b
-IsRanged n rows writers (Read v b) = IsBlockOf rows v b
-IsRanged n rows writers (ImageDigest s v) = v < length rows
-IsRanged n rows writers (ImageBlock s v b) = IsBlockOf rows v b
-IsRanged n rows writers (Query v) = v < length rows
-IsRanged n rows writers (Properties s v) = v < length rows
-IsRanged n rows writers (Revert s v) = v < length rows
-IsRanged n rows writers (DeleteSet s) = Unit {0}
-IsRanged n rows writers (DeleteImage s v) = v < length rows
-IsRanged n rows writers (Tick ticks) = ticks ≤ 1000000000
-IsRanged n rows writers (Begin c all) = Unit {0}
-IsRanged n rows writers (Disable w) = w < writers
-IsRanged n rows writers Gather = Unit {0}
-IsRanged n rows writers (Component w full) = (w < writers) × IsPart n full
-IsRanged n rows writers Document = Unit {0}
-IsRanged n rows writers Start = Unit {0}
-IsRanged n rows writers (Add v) = v < length rows
-IsRanged n rows writers Prepare = Unit {0}
-IsRanged n rows writers Snapshot = Unit {0}
-IsRanged n rows writers Await = Unit {0}
-IsRanged n rows writers Status = Unit {0}
-IsRanged n rows writers Complete = Unit {0}
-IsRanged n rows writers Abort = Unit {0}
-IsRanged n rows writers End = Unit {0}
 
 pub record IsLaneRow (n : ℕ) (rows : List VolumeRow) (writers : ℕ) (lane : LanePlan) : Type 0 where
   pub name : IsShortPart n lane.name

@@ -4,7 +4,8 @@ ghost use Rattle.scenario.specs.declared.entry.Entry.TheVariants as entry;
 ghost use Rattle.scenario.specs.Fields.{bytes_of, IsPart, AreParts};
 ghost use Rattle.scenario.specs.Names.{place_of, area_named};
 ghost use Rattle.scenario.specs.SoFar.{group_for};
-ghost use Rattle.scenario.specs.Drafts.{DraftValue, by_reason, IsDraft, IsEntry, IsShortPart, told};
+ghost use Rattle.scenario.specs.Bounds.{IsShortPart};
+ghost use Rattle.scenario.specs.Drafts.{DraftValue, by_reason, IsDraft, IsEntry, told};
 ghost use Rattle.scenario.specs.Declarations.{name_field, opening_of, has_space, has_volume_room, area_of, area_field, new_volume, own_volume_of, shared_volume_of, volume_of, new_lane, lane_if, free_lane_of, acting_lane_of, lane_of};
 
 use crate::area_row::AreaRow;

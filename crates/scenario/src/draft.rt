@@ -1,4 +1,4 @@
-ghost use Rattle.std.specs.Prelude.{◌≡◌, ◌<◌, true, length, map, IfOk, IfSome, OnOk};
+ghost use Rattle.std.specs.Prelude.{◌≡◌, ◌<◌, true, length, map, IfSome, OnOk};
 ghost use Rattle.scenario.specs.Bounds.{begins_agenda};
 ghost use Rattle.scenario.specs.Declarations.{is_answered};
 ghost use Rattle.scenario.specs.Rows.{writer_plan, lane_plan};
@@ -21,6 +21,7 @@ use crate::volume_row::VolumeRow;
 use crate::writer::Writer;
 use std::alloc::Global;
 use std::marker::Model;
+use std::mem;
 use vss_names::{Order, OutOfMemory};
 use writer_calls::Scripted;
 use writer_meta::Metadata;
@@ -374,26 +375,29 @@ impl Draft {
         Ok(names)
     }
 
-    /// What a scenario is made of: the lanes with the `end` lines that they have not written.
-    pub(crate) fn into_parts(self, alloc: Global) -> Result<Parts, OutOfMemory>
-        ensures volumes { IfOk result (λ parts. parts.volumes.items ≡ self.said.volumes) }
-        ensures groups { IfOk result (λ parts. parts.groups.items ≡ self.said.groups) }
-        ensures writers { IfOk result (λ parts. map writer_plan parts.writers.items ≡ self.said.writers) }
-        ensures lanes { IfOk result (λ parts. map lane_plan parts.lanes.items ≡ map closed_lane self.said.lanes) }
+    /// Gives each lane the `end` line that it has not written. If memory runs out, the lanes are gone.
+    pub(crate) fn close_lanes(&mut self, alloc: Global) -> Result<(), OutOfMemory>
+        ensures { OnOk result (self.new ≡ record self.old {
+          said = record self.old.said { lanes = map closed_lane self.old.said.lanes };
+        }) }
     {
-        let Draft {
-            volumes,
-            groups,
-            writers,
-            lanes,
-            ..
-        } = self;
-        let lanes = closed_lanes(alloc, lanes)?;
-        Ok(Parts {
-            volumes,
-            groups,
-            writers,
-            lanes,
-        })
+        let lanes = mem::replace(&mut self.lanes, Vec::new(alloc));
+        self.lanes = closed_lanes(alloc, lanes)?;
+        Ok(())
+    }
+
+    /// What a scenario is made of. The draft is over.
+    pub(crate) fn take_parts(&mut self, alloc: Global) -> Parts
+        ensures volumes { result.volumes.items ≡ self.old.said.volumes }
+        ensures groups { result.groups.items ≡ self.old.said.groups }
+        ensures writers { map writer_plan result.writers.items ≡ self.old.said.writers }
+        ensures lanes { map lane_plan result.lanes.items ≡ self.old.said.lanes }
+    {
+        Parts {
+            volumes: mem::replace(&mut self.volumes, Vec::new(alloc)),
+            groups: mem::replace(&mut self.groups, Vec::new(alloc)),
+            writers: mem::replace(&mut self.writers, Vec::new(alloc)),
+            lanes: mem::replace(&mut self.lanes, Vec::new(alloc)),
+        }
     }
 }

@@ -1,11 +1,13 @@
 ghost use Rattle.std.specs.Prelude.{◌≡◌};
-ghost use Rattle.scenario.specs.Calls.{call_of};
+ghost use Rattle.scenario.specs.Calls.{call_of, line_of};
 
+use crate::line::Line;
 use crate::span::Span;
+use block_data::Payload;
 use requestor::SessionCall;
 
 /// A line of a lane. Volumes and writers are named by their numbers, in order of declaration.
-#[derive(Clone, Copy, Debug, PartialEq, Eq)]
+#[derive(Clone, Copy)]
 pub enum Op {
     /// Writes a block full of one byte.
     WriteFill {
@@ -85,36 +87,62 @@ pub enum Op {
 }
 
 impl Op {
+    /// What the line does. It is the only place that goes through all lines.
+    pub fn line(self) -> Line
+        ensures { result ≡ line_of self }
+    {
+        match self {
+            Op::WriteFill {
+                volume,
+                block,
+                byte,
+            } => Line::Writes {
+                volume,
+                block,
+                payload: Payload::Fill(byte),
+            },
+            Op::WriteStamp {
+                volume,
+                block,
+                number,
+            } => Line::Writes {
+                volume,
+                block,
+                payload: Payload::Stamp(number),
+            },
+            Op::Read { volume, block } => Line::Reads { volume, block },
+            Op::ImageDigest { set, volume } => Line::ShowsImage { set, volume },
+            Op::ImageBlock { set, volume, block } => Line::ShowsBlock { set, volume, block },
+            Op::Query { volume } => Line::ShowsSets { volume },
+            Op::Properties { set, volume } => Line::ShowsProperties { set, volume },
+            Op::Revert { set, volume } => Line::Reverts { set, volume },
+            Op::DeleteSet { set } => Line::DeletesSet { set },
+            Op::DeleteImage { set, volume } => Line::DeletesImage { set, volume },
+            Op::Tick { ticks } => Line::Ticks { ticks },
+            Op::Begin { context, all } => Line::Calls(SessionCall::Begin { context, all }),
+            Op::Disable { .. } => Line::Calls(SessionCall::Disable),
+            Op::Gather => Line::Calls(SessionCall::Gather),
+            Op::Component { .. } => Line::Calls(SessionCall::Component),
+            Op::Document => Line::Calls(SessionCall::Document),
+            Op::Start => Line::Calls(SessionCall::Start),
+            Op::Add { .. } => Line::Calls(SessionCall::Add),
+            Op::Prepare => Line::Calls(SessionCall::Prepare),
+            Op::Snapshot => Line::Calls(SessionCall::Snapshot),
+            Op::Await => Line::Calls(SessionCall::Await),
+            Op::Status => Line::Calls(SessionCall::Status),
+            Op::Complete => Line::Calls(SessionCall::Complete),
+            Op::Abort => Line::Calls(SessionCall::Abort),
+            Op::End => Line::Calls(SessionCall::End),
+        }
+    }
+
     /// The session call that the line makes, if it makes one.
     pub fn session_call(self) -> Option<SessionCall>
         ensures { result ≡ call_of self }
     {
-        match self {
-            Op::Begin { context, all } => Some(SessionCall::Begin { context, all }),
-            Op::Disable { .. } => Some(SessionCall::Disable),
-            Op::Gather => Some(SessionCall::Gather),
-            Op::Component { .. } => Some(SessionCall::Component),
-            Op::Document => Some(SessionCall::Document),
-            Op::Start => Some(SessionCall::Start),
-            Op::Add { .. } => Some(SessionCall::Add),
-            Op::Prepare => Some(SessionCall::Prepare),
-            Op::Snapshot => Some(SessionCall::Snapshot),
-            Op::Await => Some(SessionCall::Await),
-            Op::Status => Some(SessionCall::Status),
-            Op::Complete => Some(SessionCall::Complete),
-            Op::Abort => Some(SessionCall::Abort),
-            Op::End => Some(SessionCall::End),
-            Op::WriteFill { .. }
-            | Op::WriteStamp { .. }
-            | Op::Read { .. }
-            | Op::ImageDigest { .. }
-            | Op::ImageBlock { .. }
-            | Op::Query { .. }
-            | Op::Properties { .. }
-            | Op::Revert { .. }
-            | Op::DeleteSet { .. }
-            | Op::DeleteImage { .. }
-            | Op::Tick { .. } => None,
+        match self.line() {
+            Line::Calls(call) => Some(call),
+            _ => None,
         }
     }
 }

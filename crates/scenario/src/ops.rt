@@ -2,7 +2,8 @@
 ghost use Rattle.std.specs.Prelude.{◌≡◌, List, ℕ, length, IfOk};
 ghost use Rattle.scenario.specs.declared.volume_row.VolumeRow.{VolumeRow as Row};
 ghost use Rattle.scenario.specs.Fields.{AreParts};
-ghost use Rattle.scenario.specs.Drafts.{IsDraft, IsRanged, by_reason};
+ghost use Rattle.scenario.specs.Bounds.{IsRanged};
+ghost use Rattle.scenario.specs.Drafts.{IsDraft, by_reason};
 ghost use Rattle.scenario.specs.Ops.{write_of, read_of, image_of, query_of, add_of, properties_of, revert_of, disable_of, delete_of, tick_of, begin_of, component_of, alone, op_of};
 
 use crate::cause::Cause;

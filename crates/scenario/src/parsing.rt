@@ -2,7 +2,7 @@ ghost use Rattle.std.specs.Prelude.{◌≡◌, ◌<◌, ◌+◌, ◌∷◌, List
 ghost use Rattle.scenario.specs.declared.text_line.TextLine.{TextLine as Line};
 ghost use Rattle.scenario.specs.Fields.{IsPart};
 ghost use Rattle.scenario.specs.SoFar.{plan_in};
-ghost use Rattle.scenario.specs.Drafts.{IsDraft};
+ghost use Rattle.scenario.specs.Drafts.{IsDraft, empty_draft};
 ghost use Rattle.scenario.specs.Named.{HasNames};
 ghost use Rattle.scenario.specs.Grammar.{Reading, reading_of, read_from, first_bad, told_bad, IsScenario, IsRefusal, IsUnreadAt};
 
@@ -49,26 +49,25 @@ fn take_in(
     }
 }
 
-/// What all lines say.
+/// Takes in what all lines say.
 #[tactic(auto, unfolding(crate::specs::Grammar::reading_of))]
-fn read(alloc: Global, text: &[u8]) -> Result<Draft, Stopped>
-    requires { length text.now < 4294967295 }
-    ensures read { IfOk result (λ draft. reading_of text.now ≡ IsScenario (plan_in text.now draft.said)) }
-    ensures kept { IfOk result (IsDraft text.now) }
+fn read(alloc: Global, text: &[u8], draft: &mut Draft) -> Result<(), Stopped>
+    requires short { length text.now < 4294967295 }
+    requires empty { draft.old ≡ empty_draft }
+    ensures read { OnOk result (reading_of text.now ≡ IsScenario (plan_in text.now draft.new.said)) }
+    ensures kept { OnOk result (IsDraft text.now draft.new) }
     ensures refused { IfErr result (λ stopped. IsUnreadAt stopped.line (reading_of text.now) stopped.unread) }
 {
-    let mut draft = Draft::new(alloc);
     let mut at = 0usize;
     let mut number = 1u32;
     'lines: while at < text.len() {
         let line = line_at(text, at);
-        match take_in(alloc, text, &mut draft, number, line) {
+        match take_in(alloc, text, draft, number, line) {
             Ok(()) => {}
             Err(unread) => {
                 return Err(Stopped {
                     line: number,
                     unread,
-                    draft,
                 });
             }
         }
@@ -80,23 +79,38 @@ fn read(alloc: Global, text: &[u8]) -> Result<Draft, Stopped>
         return Err(Stopped {
             line: number,
             unread: Unread::Bad(cause),
-            draft,
         });
     }
-    Ok(draft)
+    Ok(())
 }
 
-/// The scenario of a text and of what its lines say.
-fn finish(alloc: Global, text: &[u8], draft: Draft) -> Result<Scenario, OutOfMemory>
+/// The scenario of a text and of what its lines say; the draft is over.
+fn finish(alloc: Global, text: &[u8], draft: &mut Draft) -> Result<Scenario, OutOfMemory>
     requires short { length text.now < 4294967295 }
-    requires draft { IsDraft text.now draft }
-    requires names { HasNames (plan_in text.now draft.said) }
-    ensures { IfOk result (λ scenario. scenario ≡ plan_in text.now draft.said) }
+    requires draft { IsDraft text.now draft.old }
+    requires names { HasNames (plan_in text.now draft.old.said) }
+    ensures { IfOk result (λ scenario. scenario ≡ plan_in text.now draft.old.said) }
 {
+    draft.close_lanes(alloc)?;
+    let places = places_of(alloc, draft.volumes())?;
     let source = Text::copy(alloc, text)?;
-    let parts = draft.into_parts(alloc)?;
-    let places = places_of(alloc, &parts.volumes)?;
-    Ok(Scenario::of(source, parts, places))
+    Ok(Scenario::of(source, draft.take_parts(alloc), places))
+}
+
+/// What `parse` answers, by a draft that nothing was read into.
+fn parse_into(alloc: Global, text: &[u8], draft: &mut Draft) -> Result<Scenario, Refused>
+    requires short { length text.now < 4294967295 }
+    requires empty { draft.old ≡ empty_draft }
+    ensures read { IfOk result (λ scenario. reading_of text.now ≡ IsScenario scenario) }
+    ensures refused { IfErr result (IsRefusal text.now) }
+{
+    match read(alloc, text, draft) {
+        Err(stopped) => Err(Refused::at(stopped.line, stopped.unread)),
+        Ok(()) => match finish(alloc, text, draft) {
+            Ok(scenario) => Ok(scenario),
+            Err(_) => Err(Refused::OutOfMemory),
+        },
+    }
 }
 
 /// Reads a scenario from its text, forward and once. A text is refused at its first bad line, with the first check that
@@ -107,30 +121,42 @@ pub fn parse(alloc: Global, text: &[u8]) -> Result<Scenario, Refused>
     ensures read { IfOk result (λ scenario. reading_of text.now ≡ IsScenario scenario) }
     ensures refused { IfErr result (IsRefusal text.now) }
 {
-    let draft = match read(alloc, text) {
-        Ok(draft) => draft,
-        Err(stopped) => return Err(Refused::at(stopped.line, stopped.unread)),
-    };
-    match finish(alloc, text, draft) {
-        Ok(scenario) => Ok(scenario),
-        Err(_) => Err(Refused::OutOfMemory),
-    }
+    let mut draft = Draft::new(alloc);
+    let answer = parse_into(alloc, text, &mut draft);
+    drop(draft);
+    answer
 }
 
-/// Why the line is refused at which the reading stopped, in full.
-fn refusal_at(alloc: Global, stopped: Stopped) -> Result<Option<Refusal>, OutOfMemory>
+/// Why the line is refused at which the reading stopped, in full. `draft` has what the lines before it say.
+fn refusal_at(
+    alloc: Global,
+    draft: &Draft,
+    stopped: Stopped,
+) -> Result<Option<Refusal>, OutOfMemory>
     ensures { IfOk result (λ refusal. (reading : Reading) →
         IsUnreadAt stopped.line reading stopped.unread → option_map told_bad refusal ≡ first_bad reading) }
 {
     let Unread::Bad(cause) = stopped.unread else {
         return Err(OutOfMemory);
     };
-    let declared = stopped.draft.declared(alloc, cause.expected.kind())?;
+    let declared = draft.declared(alloc, cause.expected.kind())?;
     Ok(Some(Refusal {
         line: stopped.line,
         cause,
         declared,
     }))
+}
+
+/// What `refusal_of` answers, by a draft that nothing was read into.
+fn refusal_in(alloc: Global, text: &[u8], draft: &mut Draft) -> Result<Option<Refusal>, OutOfMemory>
+    requires short { length text.now < 4294967295 }
+    requires empty { draft.old ≡ empty_draft }
+    ensures { IfOk result (λ refusal. option_map told_bad refusal ≡ first_bad (reading_of text.now)) }
+{
+    match read(alloc, text, draft) {
+        Ok(()) => Ok(None),
+        Err(stopped) => refusal_at(alloc, draft, stopped),
+    }
 }
 
 /// Why `parse` refuses a text, in full; none exactly where the text is a scenario. Line and reason are those of `parse`. Memory is taken
@@ -139,8 +165,8 @@ pub fn refusal_of(alloc: Global, text: &[u8]) -> Result<Option<Refusal>, OutOfMe
     requires { length text.now < 4294967295 }
     ensures { IfOk result (λ refusal. option_map told_bad refusal ≡ first_bad (reading_of text.now)) }
 {
-    match read(alloc, text) {
-        Ok(_) => Ok(None),
-        Err(stopped) => refusal_at(alloc, stopped),
-    }
+    let mut draft = Draft::new(alloc);
+    let answer = refusal_in(alloc, text, &mut draft);
+    drop(draft);
+    answer
 }

@@ -4,7 +4,8 @@ ghost use Rattle.scenario.specs.declared.entry.Entry.TheVariants as entry;
 ghost use Rattle.scenario.specs.Fields.{bytes_of, IsPart, AreParts};
 ghost use Rattle.scenario.specs.Names.{place_of};
 ghost use Rattle.scenario.specs.SoFar.{answer_count};
-ghost use Rattle.scenario.specs.Drafts.{AreCounts, by_reason, IsDraft, IsEntry, IsShortPart, saying_in, told, IsUnread};
+ghost use Rattle.scenario.specs.Bounds.{IsShortPart};
+ghost use Rattle.scenario.specs.Drafts.{AreCounts, by_reason, IsDraft, IsEntry, saying_in, told, IsUnread};
 ghost use Rattle.scenario.specs.Declarations.{order_field, code_field, is_answered, nth_field, asked_of, row_for, answer_if, lost_if, veto_if, answer_of, new_writer, writer_of};
 
 use crate::asked::Asked;

@@ -16,8 +16,9 @@ use Rattle.coordinator.specs.Coordinator.{CoordinatorState, Stands, runs as runs
 use Rattle.coordinator.specs.KeptCourse.{FitsRun}
 use Rattle.coordinator.proofs.Following.{left-is}
 use Rattle.scenario.specs.declared.op.Op.{Op}
-use Rattle.scenario.specs.declared.op.Op.TheVariants.{WriteFill, WriteStamp, Read, ImageDigest, ImageBlock, Query, Properties, Revert, DeleteSet, DeleteImage, Tick, Begin, Disable, Gather, Component, Document, Start, Add, Prepare, Snapshot, Await, Status, Complete, Abort, End}
-use Rattle.scenario.specs.Calls.{call_of, target_of}
+use Rattle.scenario.specs.declared.line.Line.{Line as Does}
+use Rattle.scenario.specs.declared.line.Line.TheVariants.{Calls}
+use Rattle.scenario.specs.Calls.{call_in, call_of, line_of, target_in, target_of}
 use Rattle.scenario.specs.Plan.{Plan}
 use Rattle.vss_model.specs.declared.event.Event.{Event}
 use Rattle.vss_model.specs.declared.event.Event.TheVariants.{Line}
@@ -28,9 +29,9 @@ use Rattle.vss_model.specs.State.{State, in_progress, left_now}
 use Rattle.vss_model.specs.Ending.{runs}
 use Rattle.vss_model.specs.Images.{Replied}
 use Rattle.vss_model.specs.Sessions.{judged}
-use Rattle.vss_model.specs.Lines.{called, line}
-use Rattle.vss_model.specs.Acts.{Act, enabled, event_allows, happens, after, after_if, line_enabled, line_allows, may_call, is_blocked}
-use Rattle.vss_model.specs.Effects.{evicted, evicted_at, line_ticks, lost, lost_after, lost_order, lost_order_if, ended_of}
+use Rattle.vss_model.specs.Lines.{called, does, line}
+use Rattle.vss_model.specs.Acts.{Act, enabled, event_allows, happens, after, after_if, line_enabled, line_allows, may_call, may_do, is_blocked}
+use Rattle.vss_model.specs.Effects.{evicted, evicted_at, line_ticks, ticks_by, lost, lost_after, lost_order, lost_order_if, ended_of}
 use Rattle.vss_model.specs.Told.{Fits, mark_of}
 use Rattle.vss_model.specs.Outcome.{HasLists, EndsAs, told_act}
 use Rattle.sessions.specs.declared.session_move.SessionMove.{SessionMove}
@@ -112,35 +113,20 @@ record IsCallLine (op : Op) (c : SessionCall) : Type 0 where
   target : target_of op ≡ None
   ticks : line_ticks op ≡ None
 
-same_call : (op : Op) (c d : SessionCall) → Some c ≡ Some d → IsCallLine op c → IsCallLine op d
-same_call op c d e h = let f : c ≡ d = cc in subst (IsCallLine op) f h
+call_line_by : (op : Op) (l : Does) (c : SessionCall) → line_of op ≡ l → call_in l ≡ Some c → IsCallLine op c
+call_line_by op (Calls d) c is e =
+    let same : d ≡ c = cc in
+    subst (IsCallLine op) same
+    (record {
+      goes = λ s st lane. ap (may_do s st lane) is;
+      does = λ s st lane mark. ap (λ l. does s lane op l mark st) is;
+      target = ap target_in is;
+      ticks = ap ticks_by is;
+    })
+call_line_by op _ c is e = absurd cc
 
 call_line : (op : Op) (c : SessionCall) → call_of op ≡ Some c → IsCallLine op c
-call_line (WriteFill v b x) c e = absurd cc
-call_line (WriteStamp v b n) c e = absurd cc
-call_line (Read v b) c e = absurd cc
-call_line (ImageDigest n v) c e = absurd cc
-call_line (ImageBlock n v b) c e = absurd cc
-call_line (Query v) c e = absurd cc
-call_line (Properties n v) c e = absurd cc
-call_line (Revert n v) c e = absurd cc
-call_line (DeleteSet n) c e = absurd cc
-call_line (DeleteImage n v) c e = absurd cc
-call_line (Tick n) c e = absurd cc
-call_line (Begin x all) c e = same_call _ _ c e (record { goes = λ s st lane. refl; does = λ s st lane mark. refl; target = refl; ticks = refl })
-call_line (Disable w) c e = same_call _ _ c e (record { goes = λ s st lane. refl; does = λ s st lane mark. refl; target = refl; ticks = refl })
-call_line Gather c e = same_call _ _ c e (record { goes = λ s st lane. refl; does = λ s st lane mark. refl; target = refl; ticks = refl })
-call_line (Component w full) c e = same_call _ _ c e (record { goes = λ s st lane. refl; does = λ s st lane mark. refl; target = refl; ticks = refl })
-call_line Document c e = same_call _ _ c e (record { goes = λ s st lane. refl; does = λ s st lane mark. refl; target = refl; ticks = refl })
-call_line Start c e = same_call _ _ c e (record { goes = λ s st lane. refl; does = λ s st lane mark. refl; target = refl; ticks = refl })
-call_line (Add v) c e = same_call _ _ c e (record { goes = λ s st lane. refl; does = λ s st lane mark. refl; target = refl; ticks = refl })
-call_line Prepare c e = same_call _ _ c e (record { goes = λ s st lane. refl; does = λ s st lane mark. refl; target = refl; ticks = refl })
-call_line Snapshot c e = same_call _ _ c e (record { goes = λ s st lane. refl; does = λ s st lane mark. refl; target = refl; ticks = refl })
-call_line Await c e = same_call _ _ c e (record { goes = λ s st lane. refl; does = λ s st lane mark. refl; target = refl; ticks = refl })
-call_line Status c e = same_call _ _ c e (record { goes = λ s st lane. refl; does = λ s st lane mark. refl; target = refl; ticks = refl })
-call_line Complete c e = same_call _ _ c e (record { goes = λ s st lane. refl; does = λ s st lane mark. refl; target = refl; ticks = refl })
-call_line Abort c e = same_call _ _ c e (record { goes = λ s st lane. refl; does = λ s st lane mark. refl; target = refl; ticks = refl })
-call_line End c e = same_call _ _ c e (record { goes = λ s st lane. refl; does = λ s st lane mark. refl; target = refl; ticks = refl })
+call_line op c e = call_line_by op (line_of op) c refl e
 
 called_as : (c : SessionCall) (s : Plan) (lane : ℕ) (op : Op) (st : State) (v : Verdict) → check st.session (runs st) lane c ≡ v → called c s lane op st ≡ judged v s lane op st
 unfolding called

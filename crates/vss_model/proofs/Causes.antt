@@ -1,8 +1,6 @@
 -- Where an act gives no cause, no set fails in it.
 use Rattle.std.proofs.Common.{◌≡◌, ℕ, ◌+◌, ◌==◌, List, [], ◌∷◌, ◌++◌, Option, Some, None, refl, Bool, true, false, ap, sym, ◌∙◌, subst}
 use Rattle.std.specs.Prelude.{◌&&◌, not, if◌then◌else◌}
-use Rattle.block_data.specs.declared.payload.Payload.TheVariants.{Fill, Stamp}
-use Rattle.block_data.specs.PayloadBytes.{payload_bytes}
 use Rattle.vss_names.specs.declared.context.Context.{Context}
 use Rattle.vss_names.specs.declared.order.Order.{Order}
 use Rattle.vss_names.specs.declared.order.Order.TheVariants.{Identify, PrepareBackup, PrepareSnapshot, Freeze, Thaw, PostSnapshot, BackupComplete}
@@ -37,7 +35,7 @@ use Rattle.requestor.specs.declared.verdict.Verdict.TheVariants.{Go, Blocked, Re
 use Rattle.requestor.specs.Session.{Session, context_of}
 use Rattle.requestor.specs.Check.{check, check_other, check_owner, owner_only}
 use Rattle.scenario.specs.declared.op.Op.{Op}
-use Rattle.scenario.specs.declared.op.Op.TheVariants.{WriteFill, WriteStamp, Read, ImageDigest, ImageBlock, Query, Properties, Revert, DeleteSet, DeleteImage, Tick, Begin, Disable, Gather as GatherLine, Component, Document, Start, Add, Prepare as PrepareLine, Snapshot as SnapshotLine, Await, Status, Complete as CompleteLine, Abort, End}
+use Rattle.scenario.specs.declared.op.Op.TheVariants.{WriteFill, WriteStamp, Read, ImageDigest, ImageBlock, Query, Properties, Revert, DeleteSet, DeleteImage, Tick, Begin, Gather as GatherLine, Component, Start, Add, Prepare as PrepareLine, Snapshot as SnapshotLine, Await, Complete as CompleteLine, Abort, End}
 use Rattle.scenario.specs.Plan.{Plan, token}
 use Rattle.vss_model.specs.declared.event.Event.{Event}
 use Rattle.vss_model.specs.declared.event.Event.TheVariants.{Line, Answer as AnswerEvent, Provider, Idle}
@@ -184,11 +182,11 @@ same_flush (Some PostCommit) (FaultAfter k) = refl
 
 -- ## states
 
--- the calls that stop the set in progress
-abbrev stops_set : Op → Bool
-stops_set Abort = true
-stops_set End = true
-stops_set op = false
+-- the lines that stop the set in progress
+abbrev stops : Op → Bool
+stops Abort = true
+stops End = true
+stops _ = false
 
 -- set n has not failed
 abbrev IsLive : ℕ → State → Type 0
@@ -351,73 +349,36 @@ module _ (n : ℕ) where
   unfolding called
   live_end s lane st e h = live_refused st.session s lane call.End End st e h
 
-  live_session_line : (s : Plan) (lane : ℕ) (op : Op) (q : Session) (st : State) → stops_set op ≡ false → Fails st.course ≡ false → IsLive n st → IsLive n (session_line s lane op q st).1
-  live_session_line s lane (Begin c all) q st e f h = h
-  live_session_line s lane (Disable w) q st e f h = h
+  live_session_line : (s : Plan) (lane : ℕ) (op : Op) (q : Session) (st : State) → stops op ≡ false → Fails st.course ≡ false → IsLive n st → IsLive n (session_line s lane op q st).1
   live_session_line s lane GatherLine q st e f h = live_followed true _ st (none_begun Gather _ [] st.clock _ f) h
   live_session_line s lane (Component w full) q st e f h = live_component q.mode s w (token s full) st h
-  live_session_line s lane Document q st e f h = h
   live_session_line s lane Start q st e f h = live_append st.sets (new_set (new_number st) q.context) n h
   live_session_line s lane (Add v) q st e f h = live_add v (in_progress st) st h
   live_session_line s lane PrepareLine q st e f h = either (has_no_volume (in_progress st)) _ _ h (live_followed true _ st (none_begun Prepare _ [] st.clock _ f) h)
   live_session_line s lane SnapshotLine q st e f h = either (has_no_volume (in_progress st)) _ _ h (live_followed true _ st (none_begun Snapshot st.course.members _ st.clock st.course f) h)
   live_session_line s lane Await q st e f h = live_await q.last st h
-  live_session_line s lane Status q st e f h = h
   live_session_line s lane CompleteLine q st e f h = live_followed true _ st (none_begun Complete _ [] st.clock _ f) h
   live_session_line s lane Abort q st e f h = absurd cc
   live_session_line s lane End q st e f h = absurd cc
-  live_session_line s lane (WriteFill v b x) q st e f h = h
-  live_session_line s lane (WriteStamp v b k) q st e f h = h
-  live_session_line s lane (Read v b) q st e f h = h
-  live_session_line s lane (ImageDigest m v) q st e f h = h
-  live_session_line s lane (ImageBlock m v b) q st e f h = h
-  live_session_line s lane (Query v) q st e f h = h
-  live_session_line s lane (Properties m v) q st e f h = h
-  live_session_line s lane (Revert m v) q st e f h = h
-  live_session_line s lane (DeleteSet m) q st e f h = h
-  live_session_line s lane (DeleteImage m v) q st e f h = h
-  live_session_line s lane (Tick k) q st e f h = h
+  live_session_line s lane _ q st e f h = h
 
-  live_line_in : (s : Plan) (lane : ℕ) (op : Op) (q : Option Session) (st : State) → stops_set op ≡ false → Fails st.course ≡ false → IsLive n st → IsLive n (line_in s lane op q st).1
+  live_line_in : (s : Plan) (lane : ℕ) (op : Op) (q : Option Session) (st : State) → stops op ≡ false → Fails st.course ≡ false → IsLive n st → IsLive n (line_in s lane op q st).1
   live_line_in s lane (Begin c all) None st e f h = live_begin lane all (context_of c all) st h
-  live_line_in s lane (Disable w) None st e f h = h
-  live_line_in s lane GatherLine None st e f h = h
-  live_line_in s lane (Component w full) None st e f h = h
-  live_line_in s lane Document None st e f h = h
-  live_line_in s lane Start None st e f h = h
-  live_line_in s lane (Add v) None st e f h = h
-  live_line_in s lane PrepareLine None st e f h = h
-  live_line_in s lane SnapshotLine None st e f h = h
-  live_line_in s lane Await None st e f h = h
-  live_line_in s lane Status None st e f h = h
-  live_line_in s lane CompleteLine None st e f h = h
-  live_line_in s lane Abort None st e f h = h
-  live_line_in s lane End None st e f h = h
-  live_line_in s lane (WriteFill v b x) None st e f h = h
-  live_line_in s lane (WriteStamp v b k) None st e f h = h
-  live_line_in s lane (Read v b) None st e f h = h
-  live_line_in s lane (ImageDigest m v) None st e f h = h
-  live_line_in s lane (ImageBlock m v b) None st e f h = h
-  live_line_in s lane (Query v) None st e f h = h
-  live_line_in s lane (Properties m v) None st e f h = h
-  live_line_in s lane (Revert m v) None st e f h = h
-  live_line_in s lane (DeleteSet m) None st e f h = h
-  live_line_in s lane (DeleteImage m v) None st e f h = h
-  live_line_in s lane (Tick k) None st e f h = h
   live_line_in s lane op (Some q) st e f h = live_session_line s lane op q st e f h
+  live_line_in s lane _ None st e f h = h
 
-  live_judged : (v : Verdict) (s : Plan) (lane : ℕ) (op : Op) (st : State) → stops_set op ≡ false → Fails st.course ≡ false → IsLive n st → IsLive n (judged v s lane op st).1
+  live_judged : (v : Verdict) (s : Plan) (lane : ℕ) (op : Op) (st : State) → stops op ≡ false → Fails st.course ≡ false → IsLive n st → IsLive n (judged v s lane op st).1
   live_judged Go s lane op st e f h = live_line_in s lane op st.session st e f h
   live_judged Blocked s lane op st e f h = h
   live_judged (Refused why) s lane op st e f h = h
 
-  live_called : (c : SessionCall) (s : Plan) (lane : ℕ) (op : Op) (st : State) → stops_set op ≡ false → Fails st.course ≡ false → IsLive n st → IsLive n (called c s lane op st).1
+  live_called : (c : SessionCall) (s : Plan) (lane : ℕ) (op : Op) (st : State) → stops op ≡ false → Fails st.course ≡ false → IsLive n st → IsLive n (called c s lane op st).1
   unfolding called
   live_called c s lane op st e f h = live_judged (check st.session (runs st) lane c) s lane op st e f h
 
   live_line : (s : Plan) (lane : ℕ) (op : Op) (mark : Mark) (st : State) → line_gives_cause s st lane op ≡ false → Fails st.course ≡ false → IsLive n st → IsLive n (line s lane op mark st).1
-  live_line s lane (WriteFill v b x) mark st e f h = live_write s v (record { block = b; bytes = payload_bytes (Fill x) }) mark st e h
-  live_line s lane (WriteStamp v b k) mark st e f h = live_write s v (record { block = b; bytes = payload_bytes (Stamp k) }) mark st e h
+  live_line s lane (WriteFill v b x) mark st e f h = live_write s v _ mark st e h
+  live_line s lane (WriteStamp v b k) mark st e f h = live_write s v _ mark st e h
   live_line s lane (Read v b) mark st e f h = h
   live_line s lane (ImageDigest m v) mark st e f h = live_image_blocks s v (kept_image st m v) mark st h
   live_line s lane (ImageBlock m v b) mark st e f h = live_image_block v b (kept_image st m v) mark st h
@@ -427,20 +388,9 @@ module _ (n : ℕ) where
   live_line s lane (DeleteSet m) mark st e f h = live_delete_set m st h
   live_line s lane (DeleteImage m v) mark st e f h = live_delete_image m v st h
   live_line s lane (Tick k) mark st e f h = live_ticks k st e f h
-  live_line s lane (Begin c all) mark st e f h = live_called (call.Begin c all) s lane (Begin c all) st refl f h
-  live_line s lane (Disable w) mark st e f h = live_called call.Disable s lane (Disable w) st refl f h
-  live_line s lane GatherLine mark st e f h = live_called call.Gather s lane GatherLine st refl f h
-  live_line s lane (Component w full) mark st e f h = live_called call.Component s lane (Component w full) st refl f h
-  live_line s lane Document mark st e f h = live_called call.Document s lane Document st refl f h
-  live_line s lane Start mark st e f h = live_called call.Start s lane Start st refl f h
-  live_line s lane (Add v) mark st e f h = live_called call.Add s lane (Add v) st refl f h
-  live_line s lane PrepareLine mark st e f h = live_called call.Prepare s lane PrepareLine st refl f h
-  live_line s lane SnapshotLine mark st e f h = live_called call.Snapshot s lane SnapshotLine st refl f h
-  live_line s lane Await mark st e f h = live_called call.Await s lane Await st refl f h
-  live_line s lane Status mark st e f h = live_called call.Status s lane Status st refl f h
-  live_line s lane CompleteLine mark st e f h = live_called call.Complete s lane CompleteLine st refl f h
   live_line s lane Abort mark st e f h = live_abort s lane st e h
   live_line s lane End mark st e f h = live_end s lane st e h
+  live_line s lane op mark st e f h = live_called _ s lane op st refl f h
 
   -- ## every act
 

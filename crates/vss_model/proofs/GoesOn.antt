@@ -23,7 +23,10 @@ use Rattle.requestor.specs.declared.session_call.SessionCall.TheVariants as call
 use Rattle.requestor.specs.Session.{Session, has_writers, makes_set}
 use Rattle.requestor.specs.Check.{check, check_begin, begin_verdict, check_other, check_owner, owner_only, verdict_of, is_start, is_await, goes_beside_agenda, allows}
 use Rattle.scenario.specs.declared.op.Op.{Op}
-use Rattle.scenario.specs.declared.op.Op.TheVariants.{WriteFill, WriteStamp, Read, ImageDigest, ImageBlock, Query, Properties, Revert, DeleteSet, DeleteImage, Tick, Begin, Disable, Gather, Component, Document, Start, Add, Prepare, Snapshot, Await, Status, Complete, Abort, End}
+use Rattle.scenario.specs.declared.line.Line.{Line as Does}
+use Rattle.scenario.specs.declared.line.Line.TheVariants.{Writes, Calls}
+use Rattle.scenario.specs.declared.op.Op.TheVariants.{Begin, End}
+use Rattle.scenario.specs.Calls.{call_in, call_of, line_of}
 use Rattle.scenario.specs.Plan.{Plan, LaneLine, lines_of, acts_as}
 use Rattle.vss_model.specs.declared.event.Event.{Event}
 use Rattle.vss_model.specs.declared.event.Event.TheVariants.{Line, Answer as AnswerEvent, Provider, Idle}
@@ -33,7 +36,7 @@ use Rattle.vss_model.specs.Images.{Replied, put, reverted_as}
 use Rattle.vss_model.specs.Sessions.{begin_in, has_no_volume, closed, line_in, judged}
 use Rattle.vss_model.specs.Lines.{called, line}
 use Rattle.vss_model.specs.Steps.{answered, cut_set, step_made, stepped_as, stepped, ticked, later}
-use Rattle.vss_model.specs.Acts.{Act, after, after_if, happens, enabled, line_enabled, is_free, is_blocked, order_of_writer}
+use Rattle.vss_model.specs.Acts.{Act, after, after_if, happens, enabled, line_enabled, may_do, is_free, is_blocked, order_of_writer}
 use Rattle.vss_model.specs.Laws.{IsKeptByWrites}
 use Rattle.vss_model.specs.Trail.{Run, begin, is_lane, cursor, next_line, line_event, answer_event, script_event, event_of, act_of, after_event, moved, run_from, run, acts, event_enabled, can_act, none_can_act, may_move, allows as allows_mark, is_legal_move, is_legal_from, is_legal, is_used_up, is_complete}
 use Rattle.scenario.specs.Bounds.{is_begin, is_end, has_end, ends_sessions}
@@ -328,30 +331,7 @@ from_own true s moves m st q l b e f g on h =
   where
     end_op : (op : Op) → is_end op ≡ true → op ≡ End
     end_op End e = refl
-    end_op (WriteFill v b x) e = absurd cc
-    end_op (WriteStamp v b n) e = absurd cc
-    end_op (Read v b) e = absurd cc
-    end_op (ImageDigest n v) e = absurd cc
-    end_op (ImageBlock n v b) e = absurd cc
-    end_op (Query v) e = absurd cc
-    end_op (Properties n v) e = absurd cc
-    end_op (Revert n v) e = absurd cc
-    end_op (DeleteSet n) e = absurd cc
-    end_op (DeleteImage n v) e = absurd cc
-    end_op (Tick n) e = absurd cc
-    end_op (Begin c all) e = absurd cc
-    end_op (Disable w) e = absurd cc
-    end_op Gather e = absurd cc
-    end_op (Component w full) e = absurd cc
-    end_op Document e = absurd cc
-    end_op Start e = absurd cc
-    end_op (Add v) e = absurd cc
-    end_op Prepare e = absurd cc
-    end_op Snapshot e = absurd cc
-    end_op Await e = absurd cc
-    end_op Status e = absurd cc
-    end_op Complete e = absurd cc
-    end_op Abort e = absurd cc
+    end_op _ e = absurd cc
 from_own false s moves m st q l b e f g on h = by_session (after s st act).session owned
   where
     act : Act
@@ -481,32 +461,22 @@ quiet_call : (q : Option Session) (running : Bool) (lane : ℕ) (c : SessionCall
 quiet_call None running lane c e = refl
 quiet_call (Some q) running lane c e = owner_free (q.owner == lane) q running c e
 
-quiet_line : (s : Plan) (st : State) (lane : ℕ) (op : Op) → st.course.agenda ≡ None → is_begin op ≡ false → line_enabled s st lane op ≡ true
-quiet_line s st lane (WriteFill v b x) e f = quiet_write s st lane v e
-quiet_line s st lane (WriteStamp v b n) e f = quiet_write s st lane v e
-quiet_line s st lane (Read v b) e f = refl
-quiet_line s st lane (ImageDigest n v) e f = refl
-quiet_line s st lane (ImageBlock n v b) e f = refl
-quiet_line s st lane (Query v) e f = refl
-quiet_line s st lane (Properties n v) e f = refl
-quiet_line s st lane (Revert n v) e f = refl
-quiet_line s st lane (DeleteSet n) e f = refl
-quiet_line s st lane (DeleteImage n v) e f = refl
-quiet_line s st lane (Tick n) e f = refl
-quiet_line s st lane (Begin c all) e f = absurd cc
-quiet_line s st lane (Disable w) e f = quiet_call st.session (runs st) lane call.Disable (ap is_some e)
-quiet_line s st lane Gather e f = quiet_call st.session (runs st) lane call.Gather (ap is_some e)
-quiet_line s st lane (Component w full) e f = quiet_call st.session (runs st) lane call.Component (ap is_some e)
-quiet_line s st lane Document e f = quiet_call st.session (runs st) lane call.Document (ap is_some e)
-quiet_line s st lane Start e f = quiet_call st.session (runs st) lane call.Start (ap is_some e)
-quiet_line s st lane (Add v) e f = quiet_call st.session (runs st) lane call.Add (ap is_some e)
-quiet_line s st lane Prepare e f = quiet_call st.session (runs st) lane call.Prepare (ap is_some e)
-quiet_line s st lane Snapshot e f = quiet_call st.session (runs st) lane call.Snapshot (ap is_some e)
-quiet_line s st lane Await e f = quiet_call st.session (runs st) lane call.Await (ap is_some e)
-quiet_line s st lane Status e f = quiet_call st.session (runs st) lane call.Status (ap is_some e)
-quiet_line s st lane Complete e f = quiet_call st.session (runs st) lane call.Complete (ap is_some e)
-quiet_line s st lane Abort e f = quiet_call st.session (runs st) lane call.Abort (ap is_some e)
-quiet_line s st lane End e f = quiet_call st.session (runs st) lane call.End (ap is_some e)
+abbrev opens : Option SessionCall → Bool
+opens (Some (call.Begin c all)) = true
+opens _ = false
+
+opens_begin : (op : Op) → opens (call_of op) ≡ is_begin op
+opens_begin (Begin c all) = refl
+opens_begin _ = refl
+
+quiet_check : (q : Option Session) (running : Bool) (lane : ℕ) (c : SessionCall) → running ≡ false → opens (Some c) ≡ false → not (is_blocked (check q running lane c)) ≡ true
+quiet_check q running lane (call.Begin c all) e f = absurd cc
+quiet_check q running lane _ e f = quiet_call q running lane _ e
+
+quiet_line : (s : Plan) (st : State) (lane : ℕ) (l : Does) → st.course.agenda ≡ None → opens (call_in l) ≡ false → may_do s st lane l ≡ true
+quiet_line s st lane (Writes v b payload) e f = quiet_write s st lane v e
+quiet_line s st lane (Calls c) e f = quiet_check st.session (runs st) lane c (ap is_some e) f
+quiet_line s st lane _ e f = refl
 
 -- a `begin` waits only for another lane's session
 begin_free : (q : Option Session) (lane : ℕ) → ((x : Session) → q ≡ Some x → (x.owner == lane) ≡ true) → not (is_blocked (check_begin q lane)) ≡ true
@@ -515,34 +485,11 @@ begin_free (Some q) lane own = ap (λ b. not (is_blocked (begin_verdict b))) (ow
 
 begin_line : (s : Plan) (st : State) (lane : ℕ) (op : Op) → is_begin op ≡ true → ((x : Session) → st.session ≡ Some x → (x.owner == lane) ≡ true) → line_enabled s st lane op ≡ true
 begin_line s st lane (Begin c all) e own = begin_free st.session lane own
-begin_line s st lane (WriteFill v b x) e own = absurd cc
-begin_line s st lane (WriteStamp v b n) e own = absurd cc
-begin_line s st lane (Read v b) e own = absurd cc
-begin_line s st lane (ImageDigest n v) e own = absurd cc
-begin_line s st lane (ImageBlock n v b) e own = absurd cc
-begin_line s st lane (Query v) e own = absurd cc
-begin_line s st lane (Properties n v) e own = absurd cc
-begin_line s st lane (Revert n v) e own = absurd cc
-begin_line s st lane (DeleteSet n) e own = absurd cc
-begin_line s st lane (DeleteImage n v) e own = absurd cc
-begin_line s st lane (Tick n) e own = absurd cc
-begin_line s st lane (Disable w) e own = absurd cc
-begin_line s st lane Gather e own = absurd cc
-begin_line s st lane (Component w full) e own = absurd cc
-begin_line s st lane Document e own = absurd cc
-begin_line s st lane Start e own = absurd cc
-begin_line s st lane (Add v) e own = absurd cc
-begin_line s st lane Prepare e own = absurd cc
-begin_line s st lane Snapshot e own = absurd cc
-begin_line s st lane Await e own = absurd cc
-begin_line s st lane Status e own = absurd cc
-begin_line s st lane Complete e own = absurd cc
-begin_line s st lane Abort e own = absurd cc
-begin_line s st lane End e own = absurd cc
+begin_line s st lane _ e own = absurd cc
 
 line_or_begin : (b : Bool) (s : Plan) (st : State) (lane : ℕ) (op : Op) → is_begin op ≡ b → st.course.agenda ≡ None → ((x : Session) → st.session ≡ Some x → (x.owner == lane) ≡ true) → line_enabled s st lane op ≡ true
 line_or_begin true s st lane op e f own = begin_line s st lane op e own
-line_or_begin false s st lane op e f own = quiet_line s st lane op f e
+line_or_begin false s st lane op e f own = quiet_line s st lane (line_of op) f (opens_begin op ∙ e)
 
 record Next (x : Option LaneLine) : Type 0 where
   line : LaneLine

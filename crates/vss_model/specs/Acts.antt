@@ -14,9 +14,10 @@ use Rattle.requestor.specs.declared.verdict.Verdict.{Verdict}
 use Rattle.requestor.specs.declared.verdict.Verdict.TheVariants.{Go, Blocked, Refused}
 use Rattle.requestor.specs.declared.session_call.SessionCall.{SessionCall}
 use Rattle.requestor.specs.Check.{check}
+use Rattle.scenario.specs.declared.line.Line.{Line as Does}
+use Rattle.scenario.specs.declared.line.Line.TheVariants.{Writes, Reads, ShowsImage, ShowsBlock, Reverts, Calls}
 use Rattle.scenario.specs.declared.op.Op.{Op}
-use Rattle.scenario.specs.declared.op.Op.TheVariants.{WriteFill, WriteStamp, Read, ImageDigest, ImageBlock, Query, Properties, Revert, DeleteSet, DeleteImage, Tick, Begin, Disable, Gather, Component, Document, Start, Add, Prepare, Snapshot, Await, Status, Complete, Abort, End}
-use Rattle.scenario.specs.Calls.{call_of}
+use Rattle.scenario.specs.Calls.{line_of}
 use Rattle.scenario.specs.Plan.{Plan, acts_as, blocks_of}
 use Rattle.vss_model.specs.declared.event.Event.{Event}
 use Rattle.vss_model.specs.declared.event.Event.TheVariants.{Line, Answer as AnswerEvent, Provider, Idle}
@@ -51,32 +52,13 @@ abbrev pub may_call : State → ℕ → Option SessionCall → Bool
 may_call st lane None = true
 may_call st lane (Some call) = not (is_blocked (check st.session (runs st) lane call))
 
+abbrev pub may_do : Plan → State → ℕ → Does → Bool
+may_do s st lane (Writes v b payload) = may_write s st lane v
+may_do s st lane (Calls c) = may_call st lane (Some c)
+may_do s st lane _ = true
+
 abbrev pub line_enabled : Plan → State → ℕ → Op → Bool
-line_enabled s st lane (WriteFill v b x) = may_write s st lane v
-line_enabled s st lane (WriteStamp v b n) = may_write s st lane v
-line_enabled s st lane (Read v b) = true
-line_enabled s st lane (ImageDigest n v) = true
-line_enabled s st lane (ImageBlock n v b) = true
-line_enabled s st lane (Query v) = true
-line_enabled s st lane (Properties n v) = true
-line_enabled s st lane (Revert n v) = true
-line_enabled s st lane (DeleteSet n) = true
-line_enabled s st lane (DeleteImage n v) = true
-line_enabled s st lane (Tick n) = true
-line_enabled s st lane (Begin c all) = may_call st lane (call_of (Begin c all))
-line_enabled s st lane (Disable w) = may_call st lane (call_of (Disable w))
-line_enabled s st lane Gather = may_call st lane (call_of Gather)
-line_enabled s st lane (Component w full) = may_call st lane (call_of (Component w full))
-line_enabled s st lane Document = may_call st lane (call_of Document)
-line_enabled s st lane Start = may_call st lane (call_of Start)
-line_enabled s st lane (Add v) = may_call st lane (call_of (Add v))
-line_enabled s st lane Prepare = may_call st lane (call_of Prepare)
-line_enabled s st lane Snapshot = may_call st lane (call_of Snapshot)
-line_enabled s st lane Await = may_call st lane (call_of Await)
-line_enabled s st lane Status = may_call st lane (call_of Status)
-line_enabled s st lane Complete = may_call st lane (call_of Complete)
-line_enabled s st lane Abort = may_call st lane (call_of Abort)
-line_enabled s st lane End = may_call st lane (call_of End)
+line_enabled s st lane op = may_do s st lane (line_of op)
 
 -- the order that a writer has to answer
 abbrev pub order_of_writer : State → ℕ → Option Order
@@ -135,16 +117,18 @@ abbrev pub may_stop_after : Plan → State → ℕ → Option Kept → ℕ → B
 may_stop_after s st v kept k = is_none (revert_refusal v kept st) && nat_lt k (restorable s st v kept)
 
 -- of an enabled event
+abbrev pub allows_by : Plan → State → Does → Mark → Bool
+allows_by s st l Clean = true
+allows_by s st (Writes v b payload) Fault = true
+allows_by s st (Reads v b) Fault = true
+allows_by s st (ShowsImage n v) Fault = is_some (kept_image st n v)
+allows_by s st (ShowsBlock n v b) Fault = is_some (kept_image st n v)
+allows_by s st l Fault = false
+allows_by s st (Reverts n v) (FaultAfter k) = may_stop_after s st v (kept_image st n v) k
+allows_by s st l (FaultAfter k) = false
+
 abbrev pub line_allows : Plan → State → Op → Mark → Bool
-line_allows s st op Clean = true
-line_allows s st (WriteFill v b x) Fault = true
-line_allows s st (WriteStamp v b n) Fault = true
-line_allows s st (Read v b) Fault = true
-line_allows s st (ImageDigest n v) Fault = is_some (kept_image st n v)
-line_allows s st (ImageBlock n v b) Fault = is_some (kept_image st n v)
-line_allows s st op Fault = false
-line_allows s st (Revert n v) (FaultAfter k) = may_stop_after s st v (kept_image st n v) k
-line_allows s st op (FaultAfter k) = false
+line_allows s st op mark = allows_by s st (line_of op) mark
 
 abbrev pub flush_allows : Bool → Mark → Bool
 flush_allows flushes Clean = true

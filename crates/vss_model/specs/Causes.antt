@@ -19,8 +19,12 @@ use Rattle.set_agenda.specs.declared.place.Place.{Place}
 use Rattle.set_agenda.specs.Agenda.{Agenda, Entry, Open, open_group, groups_left, same_place}
 use Rattle.set_agenda.specs.Course.{Course, limit_of}
 use Rattle.requestor.specs.Session.{Session}
+use Rattle.requestor.specs.declared.session_call.SessionCall.{SessionCall}
+use Rattle.requestor.specs.declared.session_call.SessionCall.TheVariants as call
+use Rattle.scenario.specs.declared.line.Line.{Line as Does}
+use Rattle.scenario.specs.declared.line.Line.TheVariants.{Writes, Ticks, Calls}
 use Rattle.scenario.specs.declared.op.Op.{Op}
-use Rattle.scenario.specs.declared.op.Op.TheVariants.{WriteFill, WriteStamp, Read, ImageDigest, ImageBlock, Query, Properties, Revert, DeleteSet, DeleteImage, Tick, Begin, Disable, Gather, Component, Document, Start, Add, Prepare, Snapshot, Await, Status, Complete, Abort, End}
+use Rattle.scenario.specs.Calls.{line_of}
 use Rattle.scenario.specs.Plan.{Plan}
 use Rattle.vss_model.specs.declared.event.Event.{Event}
 use Rattle.vss_model.specs.declared.event.Event.TheVariants.{Line, Answer as AnswerEvent, Provider, Idle}
@@ -191,32 +195,19 @@ abbrev pub owns : Option Session → ℕ → Bool
 owns None lane = false
 owns (Some q) lane = q.owner == lane
 
+abbrev pub stops_set : SessionCall → Bool
+stops_set call.Abort = true
+stops_set call.End = true
+stops_set _ = false
+
+abbrev pub gives_cause_by : Plan → State → ℕ → Does → Bool
+gives_cause_by s st lane (Writes v b payload) = loses_own_image s st v b
+gives_cause_by s st lane (Ticks n) = is_late st n
+gives_cause_by s st lane (Calls c) = stops_set c && owns st.session lane
+gives_cause_by s st lane _ = false
+
 abbrev pub line_gives_cause : Plan → State → ℕ → Op → Bool
-line_gives_cause s st lane (WriteFill v b x) = loses_own_image s st v b
-line_gives_cause s st lane (WriteStamp v b n) = loses_own_image s st v b
-line_gives_cause s st lane (Read v b) = false
-line_gives_cause s st lane (ImageDigest n v) = false
-line_gives_cause s st lane (ImageBlock n v b) = false
-line_gives_cause s st lane (Query v) = false
-line_gives_cause s st lane (Properties n v) = false
-line_gives_cause s st lane (Revert n v) = false
-line_gives_cause s st lane (DeleteSet n) = false
-line_gives_cause s st lane (DeleteImage n v) = false
-line_gives_cause s st lane (Tick n) = is_late st n
-line_gives_cause s st lane (Begin c all) = false
-line_gives_cause s st lane (Disable w) = false
-line_gives_cause s st lane Gather = false
-line_gives_cause s st lane (Component w full) = false
-line_gives_cause s st lane Document = false
-line_gives_cause s st lane Start = false
-line_gives_cause s st lane (Add v) = false
-line_gives_cause s st lane Prepare = false
-line_gives_cause s st lane Snapshot = false
-line_gives_cause s st lane Await = false
-line_gives_cause s st lane Status = false
-line_gives_cause s st lane Complete = false
-line_gives_cause s st lane Abort = owns st.session lane
-line_gives_cause s st lane End = owns st.session lane
+line_gives_cause s st lane op = gives_cause_by s st lane (line_of op)
 
 -- ## every act
 

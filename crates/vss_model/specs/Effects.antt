@@ -8,9 +8,10 @@ use Rattle.write_history.specs.History.{History}
 use Rattle.write_history.specs.Slots.{evicted_of}
 use Rattle.set_agenda.specs.Agenda.{order_now}
 use Rattle.set_agenda.specs.Course.{lost_writers}
+use Rattle.scenario.specs.declared.line.Line.{Line as Does}
+use Rattle.scenario.specs.declared.line.Line.TheVariants.{Ticks}
 use Rattle.scenario.specs.declared.op.Op.{Op}
-use Rattle.scenario.specs.declared.op.Op.TheVariants.{Tick}
-use Rattle.scenario.specs.Calls.{Target, target_of}
+use Rattle.scenario.specs.Calls.{Target, line_of, target_of}
 use Rattle.scenario.specs.Plan.{Plan}
 use Rattle.vss_model.specs.declared.event.Event.{Event}
 use Rattle.vss_model.specs.declared.event.Event.TheVariants.{Line, Answer as AnswerEvent, Provider, Idle}
@@ -46,9 +47,12 @@ evicted s st Idle = []
 -- ## lost writers
 
 -- how far an event moves the clock, if it moves it
+abbrev pub ticks_by : Does → Option ℕ
+ticks_by (Ticks n) = Some n
+ticks_by _ = None
+
 abbrev pub line_ticks : Op → Option ℕ
-line_ticks (Tick n) = Some n
-line_ticks _ = None
+line_ticks op = ticks_by (line_of op)
 
 abbrev pub ticks_of : State → Event → Option ℕ
 ticks_of st (Line lane op) = line_ticks op

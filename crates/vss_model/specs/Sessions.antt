@@ -21,7 +21,7 @@ use Rattle.requestor.specs.declared.verdict.Verdict.{Verdict}
 use Rattle.requestor.specs.declared.verdict.Verdict.TheVariants.{Go, Blocked, Refused}
 use Rattle.requestor.specs.Session.{Session, context_of, opened as session_opened, started as session_started}
 use Rattle.scenario.specs.declared.op.Op.{Op}
-use Rattle.scenario.specs.declared.op.Op.TheVariants.{WriteFill, WriteStamp, Read, ImageDigest, ImageBlock, Query, Properties, Revert, DeleteSet, DeleteImage, Tick, Begin, Disable, Gather, Component, Document, Start, Add, Prepare, Snapshot, Await, Status, Complete, Abort, End}
+use Rattle.scenario.specs.declared.op.Op.TheVariants.{Begin, Disable, Gather, Component, Document, Start, Add, Prepare, Snapshot, Await, Status, Complete, Abort, End}
 use Rattle.scenario.specs.Plan.{Plan, WriterPlan, token, class_of}
 use Rattle.vss_model.specs.Reply.{Fine, Coded, Numbered, NotSelectable, DocumentOf, StatusOf}
 use Rattle.vss_model.specs.State.{State, SetRow, in_progress, row_changed, history_of}
@@ -193,7 +193,6 @@ end_session q st = (Fine, closed q (failed AsyncCancelled st))
 -- ## every session call that goes
 
 abbrev pub session_line : Plan → ℕ → Op → Session → State → Replied
-session_line s lane (Begin c all) q st = refused BadState st
 session_line s lane (Disable w) q st = disable w st
 session_line s lane Gather q st = gather s st
 session_line s lane (Component w full) q st = component_in q.mode s w (token s full) st
@@ -207,17 +206,7 @@ session_line s lane Status q st = (StatusOf st.course.rows, st)
 session_line s lane Complete q st = complete st
 session_line s lane Abort q st = (Fine, failed AsyncCancelled st)
 session_line s lane End q st = end_session q st
-session_line s lane (WriteFill v b x) q st = refused BadState st
-session_line s lane (WriteStamp v b n) q st = refused BadState st
-session_line s lane (Read v b) q st = refused BadState st
-session_line s lane (ImageDigest n v) q st = refused BadState st
-session_line s lane (ImageBlock n v b) q st = refused BadState st
-session_line s lane (Query v) q st = refused BadState st
-session_line s lane (Properties n v) q st = refused BadState st
-session_line s lane (Revert n v) q st = refused BadState st
-session_line s lane (DeleteSet n) q st = refused BadState st
-session_line s lane (DeleteImage n v) q st = refused BadState st
-session_line s lane (Tick n) q st = refused BadState st
+session_line s lane _ q st = refused BadState st
 
 -- without a session the checks let `begin` alone go
 abbrev pub line_without_session : ℕ → Op → State → Replied

@@ -18,18 +18,20 @@ use Rattle.requestor.specs.declared.verdict.Verdict.TheVariants.{Go, Blocked, Re
 use Rattle.requestor.specs.Session.{Session, context_of}
 use Rattle.requestor.specs.Check.{check}
 use Rattle.scenario.specs.declared.op.Op.{Op}
-use Rattle.scenario.specs.declared.op.Op.TheVariants.{WriteFill, WriteStamp, Read, ImageDigest, ImageBlock, Query, Properties, Revert, DeleteSet, DeleteImage, Tick, Begin, Disable, Gather, Component, Document, Start, Add, Prepare, Snapshot, Await, Status, Complete, Abort, End}
+use Rattle.scenario.specs.declared.line.Line.{Line as Does}
+use Rattle.scenario.specs.declared.line.Line.TheVariants.{Writes, Reads, ShowsImage, ShowsBlock, ShowsSets, ShowsProperties, Reverts, DeletesSet, DeletesImage, Ticks, Calls}
+use Rattle.scenario.specs.declared.op.Op.TheVariants.{Begin, Component, Add, Prepare, Snapshot, Await, Status}
 use Rattle.scenario.specs.declared.volume_row.VolumeRow.{VolumeRow}
 use Rattle.scenario.specs.Bounds.{IsPlan, IsVolume}
 use Rattle.scenario.specs.Plan.{Plan, blocks_in, blocks_of, token}
-use Rattle.scenario.specs.Calls.{call_of}
+use Rattle.scenario.specs.Calls.{line_of}
 use Rattle.vss_model.specs.Reply.{Reply, Fine, Faulted, FaultedAfter, Numbered, Coded, NotSelectable, BlockOf, BlocksOf, KeptSets, PropertiesOf, Deleted, DocumentOf, StatusOf, Answered, Stepped, Idled}
 use Rattle.vss_model.specs.State.{State, SetRow, Kept, history_of, kept_image, in_progress, is_kept_set}
 use Rattle.vss_model.specs.Ending.{runs}
 use Rattle.vss_model.specs.Images.{Replied, write, image_block, image_blocks, properties, delete_set, count_images, delete_kept, delete_image, revert_refusal, revert_to, revert}
 use Rattle.vss_model.specs.Sessions.{begin_in, component_in, named_as, known_metas, add, add_refusal, add_to, has_no_volume, await_last, session_line, line_without_session, line_in, judged}
-use Rattle.vss_model.specs.Lines.{called, called_if, line}
-use Rattle.vss_model.specs.Acts.{restorable, may_stop_after, line_allows}
+use Rattle.vss_model.specs.Lines.{called, does, line}
+use Rattle.vss_model.specs.Acts.{restorable, may_stop_after, allows_by, line_allows}
 
 -- what a lane's move with this mark may be answered, whatever the numbers in it are
 abbrev pub IsOfMark : State → Mark → Reply → Type 0
@@ -83,31 +85,13 @@ on_begun lane all None st = refl
 on_begun lane all (Some c) st = refl
 
 on_session : (s : Plan) (lane : ℕ) (op : Op) (q : Session) (st : State) → IsOfMark st Clean (session_line s lane op q st).0
-on_session s lane (Begin c all) q st = refl
-on_session s lane (Disable w) q st = refl
-on_session s lane Gather q st = refl
 on_session s lane (Component w full) q st = on_component q.mode s w (token s full) st
-on_session s lane Document q st = refl
-on_session s lane Start q st = refl
 on_session s lane (Add v) q st = on_add v (in_progress st) st
 on_session s lane Prepare q st = either st (has_no_volume (in_progress st)) _ _ refl refl
 on_session s lane Snapshot q st = either st (has_no_volume (in_progress st)) _ _ refl refl
 on_session s lane Await q st = on_last q.last st
 on_session s lane Status q st = (refl, refl)
-on_session s lane Complete q st = refl
-on_session s lane Abort q st = refl
-on_session s lane End q st = refl
-on_session s lane (WriteFill v b x) q st = refl
-on_session s lane (WriteStamp v b n) q st = refl
-on_session s lane (Read v b) q st = refl
-on_session s lane (ImageDigest n v) q st = refl
-on_session s lane (ImageBlock n v b) q st = refl
-on_session s lane (Query v) q st = refl
-on_session s lane (Properties n v) q st = refl
-on_session s lane (Revert n v) q st = refl
-on_session s lane (DeleteSet n) q st = refl
-on_session s lane (DeleteImage n v) q st = refl
-on_session s lane (Tick n) q st = refl
+on_session s lane _ q st = refl
 
 on_none : (lane : ℕ) (op : Op) (st : State) → IsOfMark st Clean (line_without_session lane op st).0
 on_none lane (Begin c all) st = on_begun lane all (context_of c all) st
@@ -125,10 +109,6 @@ on_judged (Refused why) s lane op st = refl
 on_called : (c : SessionCall) (s : Plan) (lane : ℕ) (op : Op) (st : State) → IsOfMark st Clean (called c s lane op st).0
 unfolding called
 on_called c s lane op st = on_judged (check st.session (runs st) lane c) s lane op st
-
-on_call : (o : Option SessionCall) (s : Plan) (lane : ℕ) (op : Op) (st : State) → IsOfMark st Clean (called_if o s lane op st).0
-on_call None s lane op st = refl
-on_call (Some c) s lane op st = on_called c s lane op st
 
 -- ## images
 
@@ -229,36 +209,24 @@ on_revert_stop s n v k st plan e = revert_stops s v k (revert_refusal v (kept_im
 
 -- ## any line
 
+does_reply : (s : Plan) (lane : ℕ) (op : Op) (l : Does) (mark : Mark) (st : State) → IsPlan s → allows_by s st l mark ≡ true → IsOfMark st mark (does s lane op l mark st).0
+does_reply s lane op (Writes v b payload) Clean st plan e = wrote_clean s v _ st
+does_reply s lane op (Writes v b payload) Fault st plan e = wrote_fault s v _ st
+does_reply s lane op (Reads v b) Clean st plan e = refl
+does_reply s lane op (Reads v b) Fault st plan e = refl
+does_reply s lane op (ShowsImage n v) Clean st plan e = digest_clean s v (kept_image st n v) st
+does_reply s lane op (ShowsImage n v) Fault st plan e = digest_fault s v (kept_image st n v) st e
+does_reply s lane op (ShowsBlock n v b) Clean st plan e = block_clean v b (kept_image st n v) st
+does_reply s lane op (ShowsBlock n v b) Fault st plan e = block_fault v b (kept_image st n v) st e
+does_reply s lane op (ShowsSets v) Clean st plan e = refl
+does_reply s lane op (ShowsProperties n v) Clean st plan e = on_properties s v (kept_image st n v) st
+does_reply s lane op (Reverts n v) Clean st plan e = on_revert s n v st
+does_reply s lane op (Reverts n v) (FaultAfter k) st plan e = on_revert_stop s n v k st plan e
+does_reply s lane op (DeletesSet n) Clean st plan e = on_delete_set n st
+does_reply s lane op (DeletesImage n v) Clean st plan e = on_delete_image n v st
+does_reply s lane op (Ticks n) Clean st plan e = refl
+does_reply s lane op (Calls c) Clean st plan e = on_called c s lane op st
+does_reply s lane _ _ _ st plan e = absurd cc
+
 pub line_reply : (s : Plan) (lane : ℕ) (op : Op) (mark : Mark) (st : State) → IsPlan s → line_allows s st op mark ≡ true → IsOfMark st mark (line s lane op mark st).0
-line_reply s lane (WriteFill v b x) Clean st plan e = wrote_clean s v _ st
-line_reply s lane (WriteFill v b x) Fault st plan e = wrote_fault s v _ st
-line_reply s lane (WriteStamp v b n) Clean st plan e = wrote_clean s v _ st
-line_reply s lane (WriteStamp v b n) Fault st plan e = wrote_fault s v _ st
-line_reply s lane (Read v b) Clean st plan e = refl
-line_reply s lane (Read v b) Fault st plan e = refl
-line_reply s lane (ImageDigest n v) Clean st plan e = digest_clean s v (kept_image st n v) st
-line_reply s lane (ImageDigest n v) Fault st plan e = digest_fault s v (kept_image st n v) st e
-line_reply s lane (ImageBlock n v b) Clean st plan e = block_clean v b (kept_image st n v) st
-line_reply s lane (ImageBlock n v b) Fault st plan e = block_fault v b (kept_image st n v) st e
-line_reply s lane (Query v) Clean st plan e = refl
-line_reply s lane (Properties n v) Clean st plan e = on_properties s v (kept_image st n v) st
-line_reply s lane (Revert n v) Clean st plan e = on_revert s n v st
-line_reply s lane (Revert n v) (FaultAfter k) st plan e = on_revert_stop s n v k st plan e
-line_reply s lane (DeleteSet n) Clean st plan e = on_delete_set n st
-line_reply s lane (DeleteImage n v) Clean st plan e = on_delete_image n v st
-line_reply s lane (Tick n) Clean st plan e = refl
-line_reply s lane (Begin c all) Clean st plan e = on_call (call_of (Begin c all)) s lane (Begin c all) st
-line_reply s lane (Disable w) Clean st plan e = on_call (call_of (Disable w)) s lane (Disable w) st
-line_reply s lane Gather Clean st plan e = on_call (call_of Gather) s lane Gather st
-line_reply s lane (Component w full) Clean st plan e = on_call (call_of (Component w full)) s lane (Component w full) st
-line_reply s lane Document Clean st plan e = on_call (call_of Document) s lane Document st
-line_reply s lane Start Clean st plan e = on_call (call_of Start) s lane Start st
-line_reply s lane (Add v) Clean st plan e = on_call (call_of (Add v)) s lane (Add v) st
-line_reply s lane Prepare Clean st plan e = on_call (call_of Prepare) s lane Prepare st
-line_reply s lane Snapshot Clean st plan e = on_call (call_of Snapshot) s lane Snapshot st
-line_reply s lane Await Clean st plan e = on_call (call_of Await) s lane Await st
-line_reply s lane Status Clean st plan e = on_call (call_of Status) s lane Status st
-line_reply s lane Complete Clean st plan e = on_call (call_of Complete) s lane Complete st
-line_reply s lane Abort Clean st plan e = on_call (call_of Abort) s lane Abort st
-line_reply s lane End Clean st plan e = on_call (call_of End) s lane End st
-line_reply s lane _ _ st plan e = absurd cc
+line_reply s lane op mark st plan e = does_reply s lane op (line_of op) mark st plan e

@@ -2,6 +2,7 @@
 use Rattle.std.proofs.Common.{◌≡◌, ℕ, zero, suc, ◌<◌, ◌≤◌, ◌==◌, List, [], ◌∷◌, length, refl, ap, sym, ◌∙◌, subst, arith, Bool, true, false, Option, Some, None, map, filter, slice_get}
 use Rattle.std.specs.Prelude.{option_map, is_some, find, not, ◌&&◌, ◌||◌, if◌then◌else◌, Result, Ok, Err}
 use Rattle.std.proofs.lemmas.Bool.Decides.{nat_tests}
+use Rattle.block_data.specs.declared.payload.Payload.{Payload}
 use Rattle.volume_device.specs.declared.device.Device.{Ghosts}
 use Rattle.vss_names.specs.declared.set_outcome.SetOutcome.{SetOutcome}
 use Rattle.vss_names.specs.declared.set_outcome.SetOutcome.TheVariants.{Running, Failed}
@@ -15,7 +16,9 @@ use Rattle.set_agenda.specs.Agenda.{Agenda, order_now}
 use Rattle.set_agenda.proofs.WriterSets.{new-is}
 use Rattle.set_agenda.specs.Course.{change_at}
 use Rattle.scenario.specs.declared.op.Op.{Op}
-use Rattle.scenario.specs.declared.op.Op.TheVariants.{WriteFill, WriteStamp}
+use Rattle.scenario.specs.declared.line.Line.{Line as Does}
+use Rattle.scenario.specs.declared.line.Line.TheVariants.{Writes}
+use Rattle.scenario.specs.Calls.{line_of, target_in}
 use Rattle.scenario.specs.Bounds.{IsBlock}
 use Rattle.scenario.specs.Plan.{Plan, placed, placed_in, slots_of, group_of, acts_as}
 use Rattle.vss_model.specs.declared.event.Event.TheVariants.{Line}
@@ -24,9 +27,9 @@ use Rattle.vss_model.specs.Reply.{Reply}
 use Rattle.vss_model.specs.State.{State, SetRow, in_progress, is_running, is_kept_set, has_image, history_in, history_of, left_now, is_held}
 use Rattle.vss_model.specs.Ending.{failed_in, images_dropped}
 use Rattle.vss_model.specs.Images.{Replied, cleared, going_up_to, put, with_room, with_room_if, set_loses_image, write, has_lost_image, reply_of_mark}
-use Rattle.vss_model.specs.Lines.{line}
-use Rattle.vss_model.specs.Effects.{evicted, evicted_for, lost, lost_order_if, ended_of}
-use Rattle.vss_model.specs.Acts.{Act, state, after, may_write, is_free, line_enabled, line_allows}
+use Rattle.vss_model.specs.Lines.{does, line}
+use Rattle.vss_model.specs.Effects.{evicted, evicted_at, evicted_for, lost, lost_after, ticks_by, lost_order_if, ended_of}
+use Rattle.vss_model.specs.Acts.{Act, state, after, may_write, is_free, may_do, line_enabled, allows_by, line_allows}
 use Rattle.vss_model.specs.Told.{Fits, mark_of}
 use Rattle.vss_model.specs.Trail.{act_of}
 use Rattle.vss_model.specs.Outcome.{HasLists, EndsAs}
@@ -48,8 +51,8 @@ use Rattle.sessions.proofs.Concluding.{current_kept}
 use Rattle.vss_world.specs.Devices.{tells_of, RoseFor}
 use Rattle.vss_world.specs.Provided.{provided_of, provided}
 use Rattle.vss_world.specs.Stands.{WorldValue, IsOf, IsInPlan, IsPrepared, number_prepared, Stands, IfStands}
-use Rattle.vss_world.specs.Moves.{IsMoved, IsBlocked, simple_outcome, volume_of_line}
-use Rattle.vss_world.specs.Puts.{IsWriteLine, MakesRoom, told_if}
+use Rattle.vss_world.specs.Moves.{IsMoved, IsBlocked, simple_outcome, volume_by, volume_of_line}
+use Rattle.vss_world.specs.Puts.{IsWriteBy, IsWriteLine, MakesRoom, told_if}
 use Rattle.vss_world.proofs.Moved.{world_of, Parts, OfDevices, Comes, goes_on, leaves_of, in_order, moved, clean_devices, failed_devices}
 use Rattle.vss_world.proofs.Simple.{LineComes, line_moves, after_line}
 use Rattle.vss_world.proofs.Rising.{rose_for}
@@ -107,24 +110,26 @@ pub record IsWriting (s : Plan) (lane : ℕ) (op : Op) (v : ℕ) (w : Write) : T
   pub nobody : (st : State) → lost st (Line lane op) ≡ []
   pub of_volume : volume_of_line op ≡ Some v
 
-fill_allowed : (s : Plan) (v b x : ℕ) (done : Result Unit Cause) (st : State) → line_allows s st (WriteFill v b x) (mark_of (told_if done)) ≡ true
-fill_allowed s v b x (Ok done) st = refl
-fill_allowed s v b x (Err cause) st = refl
+allowed_by : (s : Plan) (v b : ℕ) (payload : Payload) (done : Result Unit Cause) (st : State) → allows_by s st (Writes v b payload) (mark_of (told_if done)) ≡ true
+allowed_by s v b payload (Ok done) st = refl
+allowed_by s v b payload (Err cause) st = refl
 
-stamp_allowed : (s : Plan) (v b n : ℕ) (done : Result Unit Cause) (st : State) → line_allows s st (WriteStamp v b n) (mark_of (told_if done)) ≡ true
-stamp_allowed s v b n (Ok done) st = refl
-stamp_allowed s v b n (Err cause) st = refl
+writing_by : (s : Plan) (lane : ℕ) (op : Op) (l : Does) (v : ℕ) (w : Write) → line_of op ≡ l → IsWriteBy l v w → IsWriting s lane op v w
+writing_by s lane op (Writes u b payload) v w is h =
+    subst (λ (z : ℕ). IsWriting s lane op z w) h.0
+    (subst (λ (z : Write). IsWriting s lane op u z) (sym h.1)
+    (record {
+      is_write = λ mark st. ap (λ l. does s lane op l mark st) is;
+      on = λ st. ap (may_do s st lane) is;
+      allowed = λ done st. ap (λ l. allows_by s st l (mark_of (told_if done))) is ∙ allowed_by s u b payload done st;
+      target = λ st. ap (λ l. evicted_at s st (target_in l)) is;
+      nobody = λ st. ap (λ l. lost_after (ticks_by l) st) is;
+      of_volume = ap volume_by is;
+    }))
+writing_by s lane op _ v w is h = absurd h
 
 pub writing : (s : Plan) (lane : ℕ) (op : Op) (v : ℕ) (w : Write) → IsWriteLine op v w → IsWriting s lane op v w
-writing s lane (WriteFill u b x) v w h =
-    subst (λ (z : ℕ). IsWriting s lane (WriteFill u b x) z w) h.0
-    (subst (λ (z : Write). IsWriting s lane (WriteFill u b x) u z) (sym h.1)
-    (record { is_write = λ mark st. refl; on = λ st. refl; allowed = λ done st. fill_allowed s u b x done st; target = λ st. refl; nobody = λ st. refl; of_volume = refl }))
-writing s lane (WriteStamp u b n) v w h =
-    subst (λ (z : ℕ). IsWriting s lane (WriteStamp u b n) z w) h.0
-    (subst (λ (z : Write). IsWriting s lane (WriteStamp u b n) u z) (sym h.1)
-    (record { is_write = λ mark st. refl; on = λ st. refl; allowed = λ done st. stamp_allowed s u b n done st; target = λ st. refl; nobody = λ st. refl; of_volume = refl }))
-writing s lane _ v w h = absurd h
+writing s lane op v w h = writing_by s lane op (line_of op) v w refl h
 
 said_fits : (tells : List Bool) (done : Result Unit Cause) → Fits tells (reply_of_mark (mark_of (told_if done))) (told_if done)
 said_fits tells (Ok done) = refl

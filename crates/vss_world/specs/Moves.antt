@@ -5,7 +5,9 @@ use Rattle.vss_names.specs.declared.set_outcome.SetOutcome.TheVariants.{Running}
 use Rattle.writer_state.specs.declared.writer_row.WriterRow.{WriterRow}
 use Rattle.set_agenda.specs.declared.group.Group.TheVariants.{Flush}
 use Rattle.scenario.specs.declared.op.Op.{Op}
-use Rattle.scenario.specs.declared.op.Op.TheVariants.{WriteFill, WriteStamp, Read, ImageDigest, ImageBlock, Revert, Component, Document, Start, Gather, Prepare, Snapshot, Complete}
+use Rattle.scenario.specs.declared.line.Line.{Line as Does}
+use Rattle.scenario.specs.declared.line.Line.TheVariants.{Writes, Reads, ShowsImage, ShowsBlock, Reverts}
+use Rattle.scenario.specs.Calls.{line_of}
 use Rattle.scenario.specs.Plan.{Plan}
 use Rattle.scenario.specs.Bounds.{IsOp}
 use Rattle.vss_model.specs.declared.event.Event.{Event}
@@ -17,6 +19,7 @@ use Rattle.vss_model.specs.Acts.{Act, state, after, enabled, event_allows}
 use Rattle.vss_model.specs.Told.{mark_of}
 use Rattle.vss_model.specs.Trail.{is_fault}
 use Rattle.vss_model.specs.Outcome.{IsOutcome, told_act}
+use Rattle.sessions.specs.Moves.{takes_memory as takes_for}
 use Rattle.provider.specs.Devices.{AreLater, volume_place}
 use Rattle.vss_world.specs.declared.reply.Reply.{Reply}
 use Rattle.vss_world.specs.declared.reply.Reply.TheVariants.{Blocked, Moved}
@@ -32,17 +35,7 @@ IsEvent s (AnswerEvent w answer) = w < length s.writers
 IsEvent s Provider = Unit {0}
 IsEvent s Idle = Unit {0}
 
--- the lines for which memory is taken
-abbrev pub takes_for : Op → Bool
-takes_for (Component w full) = true
-takes_for Document = true
-takes_for Start = true
-takes_for Gather = true
-takes_for Prepare = true
-takes_for Snapshot = true
-takes_for Complete = true
-takes_for _ = false
-
+-- the events for which memory is taken
 abbrev pub takes_memory : Event → Bool
 takes_memory (Line lane op) = takes_for op
 takes_memory (AnswerEvent w answer) = false
@@ -50,20 +43,16 @@ takes_memory Provider = false
 takes_memory Idle = false
 
 -- the volume of a line, and that of a step
-abbrev pub volume_of_line : Op → Option ℕ
-volume_of_line (WriteFill v b x) = Some v
-volume_of_line (WriteStamp v b n) = Some v
-volume_of_line (Read v b) = Some v
-volume_of_line (ImageDigest n v) = Some v
-volume_of_line (ImageBlock n v b) = Some v
-volume_of_line (Revert n v) = Some v
-volume_of_line _ = None
+abbrev pub volume_by : Does → Option ℕ
+volume_by (Writes v b payload) = Some v
+volume_by (Reads v b) = Some v
+volume_by (ShowsImage n v) = Some v
+volume_by (ShowsBlock n v b) = Some v
+volume_by (Reverts n v) = Some v
+volume_by _ = None
 
--- the volume of which a line writes a block
-abbrev pub written_by : Op → Option ℕ
-written_by (WriteFill v b x) = Some v
-written_by (WriteStamp v b n) = Some v
-written_by _ = None
+abbrev pub volume_of_line : Op → Option ℕ
+volume_of_line op = volume_by (line_of op)
 
 abbrev pub volume_of_step : Told → Option ℕ
 volume_of_step (told.Step g v fault) = v

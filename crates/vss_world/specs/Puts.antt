@@ -1,14 +1,15 @@
 -- Lines that write a block, and the kept images that go for one. (This project's own.)
 use Rattle.std.specs.Prelude.{ℕ, ◌≡◌, List, filter, Result, Ok, Err}
 use Rattle.volume_device.specs.declared.device.Device.{Ghosts}
-use Rattle.block_data.specs.declared.payload.Payload.TheVariants.{Fill, Stamp}
 use Rattle.block_data.specs.PayloadBytes.{payload_bytes}
 use Rattle.write_history.specs.declared.evicted.Evicted.{Evicted}
 use Rattle.write_history.specs.History.{Write, History}
 use Rattle.write_history.specs.Slots.{gone_up_to}
 use Rattle.cow_volume.specs.declared.cause.Cause.{Cause}
 use Rattle.scenario.specs.declared.op.Op.{Op}
-use Rattle.scenario.specs.declared.op.Op.TheVariants.{WriteFill, WriteStamp}
+use Rattle.scenario.specs.declared.line.Line.{Line}
+use Rattle.scenario.specs.declared.line.Line.TheVariants.{Writes}
+use Rattle.scenario.specs.Calls.{line_of}
 use Rattle.scenario.specs.Plan.{Plan, group_of}
 use Rattle.vss_model.specs.declared.told.Told.{Told}
 use Rattle.vss_model.specs.declared.told.Told.TheVariants as told
@@ -19,11 +20,13 @@ use Rattle.provider.specs.Calls.{GoUpTo, HasRoom, images_going}
 use Rattle.provider.specs.Preparing.{ProviderValue}
 use Rattle.sessions.specs.Keeps.{SessionsValue, Keeps}
 
+abbrev pub IsWriteBy : Line → ℕ → Write → Type 0
+IsWriteBy (Writes u b payload) v w = (u ≡ v) × (w ≡ record { block = b; bytes = payload_bytes payload })
+IsWriteBy _ v w = ⊥
+
 -- the line makes this write to volume v
 abbrev pub IsWriteLine : Op → ℕ → Write → Type 0
-IsWriteLine (WriteFill u b x) v w = (u ≡ v) × (w ≡ record { block = b; bytes = payload_bytes (Fill x) })
-IsWriteLine (WriteStamp u b n) v w = (u ≡ v) × (w ≡ record { block = b; bytes = payload_bytes (Stamp n) })
-IsWriteLine _ v w = ⊥
+IsWriteLine op = IsWriteBy (line_of op)
 
 -- what a write is answered
 abbrev pub told_if : Result Unit Cause → Told

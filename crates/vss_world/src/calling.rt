@@ -5,9 +5,9 @@ ghost use Rattle.scenario.specs.Bounds.{IsOp};
 ghost use Rattle.scenario.specs.Calls.{call_of};
 ghost use Rattle.scenario.specs.declared.op.Op.TheVariants.{Add};
 ghost use Rattle.vss_model.specs.declared.event.Event.TheVariants.{Line};
-ghost use Rattle.sessions.specs.Moves.{is_add};
+ghost use Rattle.sessions.specs.Moves.{is_add, takes_memory};
 ghost use Rattle.vss_world.specs.Stands.{IsOf, IsStanding};
-ghost use Rattle.vss_world.specs.Moves.{IsStepped, takes_for};
+ghost use Rattle.vss_world.specs.Moves.{IsStepped};
 ghost use Rattle.vss_world.specs.Settling.{begins_snapshot, IsEndPrepared};
 
 use crate::outcomes::{coded, told};
@@ -38,7 +38,7 @@ impl<D: Device> World<D> {
         requires is_call { is_some (call_of op) ≡ true }
         requires no_add { is_add op ≡ false }
         ensures memory { OnErr result (self.new ≡ self.old) }
-        ensures takes { IsErr result → takes_for op ≡ true }
+        ensures takes { IsErr result → takes_memory op ≡ true }
         ensures stepped { IfOk result (IsStepped D.told D.count self.old self.new scenario.now (Line lane op)) }
     {
         let set = self.sessions.current();

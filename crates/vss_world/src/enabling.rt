@@ -4,10 +4,9 @@ ghost use Rattle.std.specs.Prelude.{◌≡◌, ◌<◌, length};
 ghost use Rattle.scenario.specs.Bounds.{IsOp};
 ghost use Rattle.vss_model.specs.Acts.{line_enabled, may_write};
 ghost use Rattle.vss_world.specs.Stands.{IsOf, IsStanding, IfStands};
-ghost use Rattle.vss_world.specs.Moves.{written_by};
 
 use crate::world::World;
-use scenario::{Op, Scenario};
+use scenario::{Line, Op, Scenario};
 use volume_device::Device;
 
 impl<D: Device> World<D> {
@@ -19,12 +18,10 @@ impl<D: Device> World<D> {
         requires in_range { IsOp scenario.now op }
         ensures { IfStands D.told self.now scenario.now (λ st. result ≡ line_enabled scenario.now st lane op) }
     {
-        if let Some(volume) = written_by(op) {
-            return self.may_write(scenario, lane, volume);
-        }
-        match op.session_call() {
-            None => true,
-            Some(call) => self.sessions.may_call(lane, call),
+        match op.line() {
+            Line::Writes { volume, .. } => self.may_write(scenario, lane, volume),
+            Line::Calls(call) => self.sessions.may_call(lane, call),
+            _ => true,
         }
     }
 
@@ -45,15 +42,5 @@ impl<D: Device> World<D> {
             return true;
         };
         !self.sessions.is_frozen(writer)
-    }
-}
-
-/// The volume of which a line writes a block.
-fn written_by(op: Op) -> Option<u32>
-    ensures { result ≡ written_by op }
-{
-    match op {
-        Op::WriteFill { volume, .. } | Op::WriteStamp { volume, .. } => Some(volume),
-        _ => None,
     }
 }

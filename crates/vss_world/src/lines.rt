@@ -2,14 +2,14 @@
 
 ghost use Rattle.std.specs.Prelude.{◌≡◌, ◌<◌, true, length, IfOk, IsErr, OnErr};
 ghost use Rattle.scenario.specs.Bounds.{IsOp};
-ghost use Rattle.vss_model.specs.declared.event.Event.TheVariants.{Line};
+ghost use Rattle.vss_model.specs.declared.event.Event.TheVariants.{Line as LineEvent};
+ghost use Rattle.sessions.specs.Moves.{takes_memory};
 ghost use Rattle.vss_world.specs.Stands.{IsOf, IsStanding};
-ghost use Rattle.vss_world.specs.Moves.{IsStepped, takes_for};
+ghost use Rattle.vss_world.specs.Moves.{IsStepped};
 
 use crate::reply::Reply;
 use crate::world::World;
-use block_data::Payload;
-use scenario::{Op, Scenario};
+use scenario::{Line, Op, Scenario};
 use std::alloc::Global;
 use volume_device::Device;
 use vss_names::OutOfMemory;
@@ -28,26 +28,18 @@ impl<D: Device> World<D> {
         requires lane { lane < length scenario.now.lanes }
         requires in_range { IsOp scenario.now op }
         ensures memory { OnErr result (self.new ≡ self.old) }
-        ensures takes { IsErr result → takes_for op ≡ true }
-        ensures stepped { IfOk result (IsStepped D.told D.count self.old self.new scenario.now (Line lane op)) }
+        ensures takes { IsErr result → takes_memory op ≡ true }
+        ensures stepped { IfOk result (IsStepped D.told D.count self.old self.new scenario.now (LineEvent lane op)) }
     {
+        if let Line::Writes {
+            volume,
+            block,
+            payload,
+        } = op.line()
+        {
+            return Ok(self.write(scenario, lane, volume, block, &payload));
+        }
         match op {
-            Op::WriteFill {
-                volume,
-                block,
-                byte,
-            } => {
-                let payload = Payload::Fill(byte);
-                Ok(self.write(scenario, lane, volume, block, &payload))
-            }
-            Op::WriteStamp {
-                volume,
-                block,
-                number,
-            } => {
-                let payload = Payload::Stamp(number);
-                Ok(self.write(scenario, lane, volume, block, &payload))
-            }
             Op::Read { volume, block } => Ok(self.read(scenario, lane, volume, block)),
             Op::ImageDigest { set, volume } => Ok(self.show_image(scenario, lane, set, volume)),
             Op::ImageBlock { set, volume, block } => {

@@ -3,10 +3,10 @@ use Rattle.scenario.proofs.parsing.finish.Goals as goal
 
 pub of-requires-clause-plan : goal.of-requires-clause-plan
 of-requires-clause-plan c =
-    rw (c.in_ok-source.ensures, c.in_ok-parts.ensures.volumes, c.in_ok-parts.ensures.groups, c.in_ok-parts.ensures.writers, c.in_ok-parts.ensures.lanes)
-    (plan_is c.args.text.now c.args.draft.said c.requires.short c.requires.draft.within)
+    rw (c.in_ok-source.ensures, c.take_parts.ensures.volumes, c.take_parts.ensures.groups, c.take_parts.ensures.writers, c.take_parts.ensures.lanes, c.in_ok-close_lanes.ensures)
+    (plan_is c.args.text.now c.args.draft.now.said c.requires.short c.requires.draft.within)
 
 pub of-requires-clause-names : goal.of-requires-clause-names
 of-requires-clause-names c =
-    rw (c.in_ok-source.ensures, c.in_ok-parts.ensures.volumes, c.in_ok-parts.ensures.groups, c.in_ok-parts.ensures.writers, c.in_ok-parts.ensures.lanes)
+    rw (c.in_ok-source.ensures, c.take_parts.ensures.volumes, c.take_parts.ensures.groups, c.take_parts.ensures.writers, c.take_parts.ensures.lanes, c.in_ok-close_lanes.ensures)
     c.requires.names
