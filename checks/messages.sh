@@ -379,7 +379,7 @@ if [ -w /dev/full ]; then
 fi
 
 # on a terminal: where the scenario comes from, how far a long run is, and Ctrl-C
-trials=$((trials + 3))
+trials=$((trials + 4))
 python3 checks/messages/on_terminal.py "$top/vss" "$room" || failed=1
 
 # how long an explanation takes, in milliseconds of a processor: of a short text, and of one of 16 MiB
