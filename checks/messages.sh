@@ -25,8 +25,9 @@ tells() {
   shift 2
   printf '%b' "$text" > "$room/input"
   "$vss" run < "$room/input" > "$room/out" 2> "$room/err"
-  [ "$?" = 3 ] && [ "$(cat "$room/err")" = "vss: line $line" ] || wrong "\"$text\" is refused by \"$(cat "$room/err")\", and not by $line"
-  has "\"$text\"" "$("$explainer" scenario < "$room/input")" "$@"
+  [ "$?" = 3 ] && [ "$(cat "$room/err")" = "vss: line $line" ] || wrong "\"${text:0:200}\" is refused by \"$(cat "$room/err")\", and not by $line"
+  "$explainer" scenario < "$room/input" > "$room/said"
+  has "\"${text:0:200}\"" "$(cat "$room/said")" "$@"
 }
 
 start='scenario 1\nvolume C 4 4\nvolume D 2 0\n'
@@ -94,19 +95,30 @@ tells "5: OutOfRange" "${lane}write C 3 fill 256\n" "BYTE is 0 to 255 here, and 
 tells "5: OutOfRange" "${lane}write C 3 stamp 18446744073709551616\n" "NUMBER is 0 to 18446744073709551615 here"
 tells "2: OutOfRange" 'scenario 1\nvolume C 4 65537\n' "SLOTS is 0 to 65536 here, and not 65537"
 tells "2: OutOfRange" 'scenario 1\nvolume C 0 4\n' "BLOCKS is 1 to 65536 here, and not 0"
+tells "2: OutOfRange" 'scenario 1\nvolume C 65537 4\n' "BLOCKS is 1 to 65536 here, and not 65537"
+tells "2: OutOfRange" 'scenario 1\narea G 65537\n' "SLOTS is 0 to 65536 here, and not 65537"
 tells "5: OutOfRange" "${lane}tick 0\n" "TICKS is 1 to 1000000000 here, and not 0"
 tells "5: OutOfRange" "${lane}begin 4294967296\n" "CONTEXT is 0 to 4294967295 here"
+tells "5: OutOfRange" "${lane}tick 1000000001\n" "TICKS is 1 to 1000000000 here, and not 1000000001"
+tells "5: OutOfRange" "${lane}delete 4294967296\n" "SET is 1 to 4294967295 here, and not 4294967296"
 tells "5: OutOfRange" "${lane}image 0 C\n" "SET is 1 to 4294967295 here, and not 0"
 tells "4: OutOfRange" "${writer}answer db freeze 2001 lost\n" "NTH is 1 to 2000 here, and not 2001"
+tells "4: OutOfRange" "${writer}answer db freeze 0 lost\n" "NTH is 1 to 2000 here, and not 0"
 tells "1: OutOfRange" 'scenario 2\n' "the number after \`scenario\` is 1, and not 2"
 tells "2: BadNumber" 'scenario 1\nvolume C 04 4\n' "       |          ^" "BLOCKS (field 2) is \`04\`: a number has no zeros before it"
 tells "2: BadNumber" 'scenario 1\nvolume C 4 -1\n' "SLOTS (field 3) is \`-1\`: a number has no sign"
+tells "2: BadNumber" 'scenario 1\nvolume C +4 1\n' "BLOCKS (field 2) is \`+4\`: a number has no sign"
+tells "5: BadNumber" "${lane}begin nine\n" "CONTEXT (field 1) is \`nine\`" "the forms are \`begin CONTEXT\` or \`begin CONTEXT all\`"
 tells "2: BadNumber" 'scenario 1\nvolume C 0x10 4\n' "BLOCKS (field 2) is \`0x10\`: a number is decimal"
 tells "5: BadNumber" "${lane}tick 1s\n" "TICKS (field 1) is \`1s\`: a number is decimal digits alone"
 tells "5: BadNumber" "${lane}delete C 1\n" "SET (field 1) is \`C\`" "the forms are \`delete SET\` or \`delete SET VOLUME\`"
 
 # names
 tells "2: BadName" 'scenario 1\nvolume 1C 4 4\n' "       |        ^" "the name of the volume (field 1) is \`1C\`" "a name has 1 to 32 letters" "begins with a letter"
+tells "2: BadName" 'scenario 1\nvolume C! 4 4\n' "the name of the volume (field 1) is \`C!\`" "a name has 1 to 32 letters"
+tells "2: BadName" "scenario 1\nvolume $(printf 'x%.0s' {1..33}) 4 4\n" "the name of the volume (field 1) is \`xxx" "a name has 1 to 32 letters"
+tells "4: BadName" "${start}lane 9\n" "the name of the lane (field 1) is \`9\`" "begins with a letter"
+tells "3: BadName" 'scenario 1\nvolume C 4 4\nwriter a/b {}\n' "the name of the writer (field 1) is \`a/b\`"
 tells "3: DoubleName" 'scenario 1\narea G 4\narea G 1\n' "there is an area G already, from line 2"
 tells "4: DoubleName" "${start}volume C 1 1\n" "       |        ^" "there is a volume C already, from line 2"
 tells "5: DoubleName" "${lane}lane a\n" "there is a lane a already, from line 4"
@@ -159,6 +171,10 @@ tells "66: TooMany" "scenario 1\n$(many 65 "writer w# $document")" "a scenario h
 tells "3: TooMany" 'scenario 1\narea G 65536\nvolume C 65536 65536\n' "at most 131072 blocks of all volumes and slots of all areas together"
 tells "2005: TooMany" "${lane}$(many 2001 gather)$(many 5 end)" "at most 2000 \`gather\`, \`prepare\`, \`snapshot\` and \`complete\` lines"
 tells "100005: TooMany" "${lane}$(printf 'end\\n%.0s' {1..100001})" "at most 100000 lines of all lanes together"
+
+# a line of five million bytes is shown cut
+tells "2: OutOfRange" "scenario 1\nvolume C $(head -c 5000000 /dev/zero | tr '\0' 4) 4\n" "     2 | volume C 444" "BLOCKS is 1 to 65536 here"
+[ "$(wc -c < "$room/said")" -lt 1000 ] || wrong "of a line of five million bytes $(wc -c < "$room/said") are said"
 
 # the forms that are told are read by the program
 forms=0
@@ -235,6 +251,18 @@ ran 4 run < "$room"
 said "vss: read fault" "could not be read to its end"
 ran 4 run <&-
 said "vss: read fault"
+ran 4 inspect <&-
+said "vss: read fault" "could not be read to its end"
+ran 4 inspect < "$room"
+said "vss: read fault"
+ran 6 gen 7 "$room/none" < /dev/null
+said "vss: device fault" "mkdir $room/none" "     $room/none/v0.vol could not be created: No such file or directory"
+exec 7> >(:)
+wait "$!"
+"$top/vss" run < "$top/examples/first.scenario" >&7 2> "$room/err"
+[ "$?" = 5 ] || wrong "a pipe that nobody reads: $(cat "$room/err")"
+exec 7>&-
+said "vss: write fault" "or a pipe closed?"
 timeout 60 "$top/vss" run < "$top/examples/first.scenario" >&- 2> "$room/err"
 [ "$?" = 5 ] || wrong "a closed output: $(cat "$room/err")"
 said "vss: write fault"
@@ -248,6 +276,11 @@ ran 8 run < "$room/long"
 said "vss: input too long" "16,777,216 bytes at most"
 ran 8 run < <(cat "$room/long")
 said "vss: input too long"
+if ! { [ -f "$vss.sources" ] && is_slow "$vss"; }; then
+  printf 'scenario 1\nvolume C 65536 1\nlane a\nread C 0\n' > "$room/large.scenario"
+  (ulimit -v 400000 && ran 7 run < "$room/large.scenario"; exit "$failed") || failed=1
+  said "vss: out of memory" "a run takes up to 2 GiB for its volumes and areas"
+fi
 ran 2 runs < /dev/null
 said "vss: usage" "\`runs\` is no command" "./vss gen N"
 ran 2 inspect "$room/bad.scenario" < /dev/null
@@ -277,6 +310,34 @@ ran 9 inspect < <(cat "$room/longer.area")
 said "it has $((size + 1)) bytes" "an area has $size"
 ran 9 inspect < "$top/examples/first.scenario"
 said "it is a scenario: ./vss run < FILE"
+ran 9 inspect < /dev/null
+said "vss: area header Magic 0" "the input is no diff area"
+
+# areas of which a few bytes are others: where they begin, the bytes, the program's line, and what is said below it
+while IFS='|' read -r at bytes line hint; do
+  cp "$area" "$room/other.area"
+  # shellcheck disable=SC2059
+  printf "$bytes" | dd of="$room/other.area" bs=1 seek="$at" conv=notrunc status=none
+  ran 9 inspect < "$room/other.area"
+  said "vss: area $line" "in $room/other.area:" "$hint" "docs/FORMATS.md says what"
+done << 'END'
+0|X|header Magic 1095979864|an area begins with the letters VSSAREA1
+8|\003|header Layout 3|the layout, in the bytes 8 to 11, is 1 or 2
+12|\005|header Slots 5|for the 5 slots of its header an area has 114688
+14|\002|header Slots 131076|its header has 131076 slots, and an area has 65536 at most
+16|\007|header Used 7|the bytes 16 to 19 have another number than there are records
+20|\000|header Volumes 0|the number of volumes, in the bytes 20 to 23, is 1 to 128
+24|\000|header Blocks 0|a volume has 1 to 65536 blocks
+28|\001|header Rest 1|the header has zeros behind the blocks of the last volume
+16384|\000|record 0|record 0, at byte 16384, has set 0, block 1, volume 0, and 0 in its last four bytes
+16388|\004|record 0|volumes of so many blocks, from volume 0 on: 4
+16392|\001|record 0|has set 1, block 1, volume 1, and 0 in its last four bytes
+16396|\001|record 0|and 1 in its last four bytes
+16400|\001\000\000\000\001|record 1|record 1, at byte 16400, has set 1, block 1, volume 0
+16448|\001|record 4|the header has 4 slots
+END
+ran 9 inspect < <(cat "$room/other.area")
+said "vss: area record 4" "record 4, at byte 16448, has set 1, block 0, volume 0" "a slot that there are"
 
 # a device that fails: the file, the call and the system's reason are told, and of what the run made nothing is left; then what it says follows,
 # and what stands in the folder at the end, and the folder
@@ -288,6 +349,7 @@ fails() {
   [ ! -d "$folder" ] || [ "$(ls "$folder" | tr '\n' ' ')" = "$left" ] || wrong "behind \"$told\" stand $(ls "$folder")"
 }
 fails "C.vol could not be created: File exists (os error 17)" "C.area C.vol " "$room/disks"
+said "$room/disks has volumes or areas already, and no run goes on from them" "docs/LIBRARY.md"
 mkdir "$room/mine" "$room/small" "$room/end"
 echo mine > "$room/mine/C.area"
 fails "C.area could not be created: File exists (os error 17)" "C.area " "$room/mine"
@@ -317,7 +379,7 @@ if [ -w /dev/full ]; then
 fi
 
 # on a terminal: where the scenario comes from, how far a long run is, and Ctrl-C
-trials=$((trials + 3))
+trials=$((trials + 4))
 python3 checks/messages/on_terminal.py "$top/vss" "$room" || failed=1
 
 # how long an explanation takes, in milliseconds of a processor: of a short text, and of one of 16 MiB

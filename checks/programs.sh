@@ -4,7 +4,7 @@
 . "$(dirname "${BASH_SOURCE[0]}")/prelude.sh" || exit 70
 small="$room/a small one"
 mkdir -p "$small/tools" "$small/crates/low/src" "$small/crates/vss/src" "$small/crates/vss/out"
-cp "$top/vss" "$small/"
+cp "$top/vss" "$top/timeline" "$small/"
 cp "$top/tools/program.sh" "$small/tools/"
 printf 'low: # below\nother: low\nvss may_wait=1: low\n' > "$small/crates.txt"
 echo one > "$small/crates/low/src/lib.rt"
@@ -72,12 +72,12 @@ is_not "a program that was changed" proved
 cp "$room/cat" "$program"
 is "a program that is as it was" proved
 
-# How ./vss ends without some tools: its status, and what its one line says.
+# How ./vss, or another script, ends without some tools: its status, and what its one line says.
 tells() {
   local wanted="$1" text="$2" status
   shift 2
   commands_without "$@"
-  PATH="$room/bin" "$room/bin/bash" "$small/vss" run < /dev/null > "$room/out" 2> "$room/err"
+  PATH="$room/bin" "$room/bin/bash" "$small/${script:-vss}" run < /dev/null > "$room/out" 2> "$room/err"
   status=$?
   [ "$status" = "$wanted" ] && [ "$(wc -l < "$room/err")" = 1 ] && grep -qF -- "$text" "$room/err" ||
     wrong "without $*: status $status, \"$(cat "$room/err")\""
@@ -88,6 +88,7 @@ for tool in awk find sort xargs sha256sum; do
   tells 127 "no command $tool here" "$tool"
 done
 for tool in readlink dirname; do tells 127 "no command $tool here" "$tool"; done
+for tool in readlink dirname sha256sum; do script=timeline tells 127 "timeline: there is no command $tool here" "$tool"; done
 rm "$program"
 for tool in rt python3 flock; do tells 127 "no command $tool here" "$tool"; done
 

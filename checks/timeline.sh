@@ -1,7 +1,7 @@
 #!/usr/bin/env bash
 # `vss_timeline` draws each example: as a drawing with one element for each line of the report but the first, in bands of at most 40, and as
-# lines of at most 100 bytes. Those in docs/pictures are drawn again byte for byte. A long report is drawn in 20 seconds of a processor
-# and 1 GB of addresses. What is no report, what is another scenario's, and words that ask for nothing, have their status, and a line that names
+# lines of at most 100 bytes. Those in docs/pictures are drawn again byte for byte. A long report is drawn in 5 seconds of a processor
+# and 500 MB of addresses. What is no report, what is another scenario's, and words that ask for nothing, have their status, and a line that names
 # file and line. It is drawn by the program as LLVM and, where that is there, as Rattle's own compiler builds it.
 . "$(dirname "${BASH_SOURCE[0]}")/prelude.sh" || exit 70
 builds="$(programs vss_timeline)" || exit 1
@@ -132,6 +132,6 @@ awk 'BEGIN {
 for words in "" --text; do
   # no word is no word
   # shellcheck disable=SC2086
-  (ulimit -t 20 -v 1000000 && exec "${builds[0]}" $words) < "$room/long.report" > "$room/long" || wrong "a report of 200,000 moves is not drawn in 20 seconds and 1 GB"
+  (ulimit -t 5 -v 500000 && exec "${builds[0]}" $words) < "$room/long.report" > "$room/long" || wrong "a report of 200,000 moves is not drawn in 5 seconds and 500 MB"
 done
 ends "${#scenarios[@]} examples are drawn, by ${#builds[@]} builds"

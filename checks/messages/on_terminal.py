@@ -96,6 +96,16 @@ def shows_how_far_it_is():
     holds(status == -signal.SIGINT and time.monotonic() - began < 2, f"Ctrl-C ends it with {status} after {time.monotonic() - began} s")
 
 
+def counts_blocks_in_memory():
+    """What devices in memory give to be digested is counted too."""
+    run = OnTerminal("run", source=scenario(32768), report=os.devnull)
+    while not any(int(line[1]) for line in LINE.findall(run.said)) and run.read():
+        pass
+    holds(any(int(line[1]) for line in LINE.findall(run.said)), f"of a run in memory it is told {run.said!r}")
+    run.types(b"\x03")
+    run.status()
+
+
 def clears_the_line():
     """A run that comes to its end leaves no line, and says nothing more."""
     run = OnTerminal("run", folder("short_run"), source=scenario(4096), report=os.devnull)
@@ -109,5 +119,6 @@ def clears_the_line():
 
 is_told_where_it_reads()
 shows_how_far_it_is()
+counts_blocks_in_memory()
 clears_the_line()
 sys.exit(1 if wrongs else 0)

@@ -9,10 +9,8 @@ ghost use Rattle.cow_volume.specs.OneVolume.{StandsForOne, blocks_of};
 
 use crate::plan::{Kind, Plan};
 use crate::trial_error::TrialError;
-use block_data::BLOCK;
 use cow_volume::{CowGroup, CowVolume};
 use diff_area::{Area, MOST_BLOCKS, MOST_SLOTS, pages_for};
-use std::fs::File;
 use volume_device::{Device, FileDevice, HostDevice, MemDevice};
 
 /// The most volumes of a group.
@@ -29,9 +27,11 @@ pub fn device(
     ensures zeros { IfOk result (λ d. IfSome (host_told d) (λ told. told ≡ replicate blocks zeros)) }
 {
     if plan.in_files {
-        let file = File::create_new(rt, name)?;
-        file.set_len(u64::from(blocks) * BLOCK as u64)?;
-        return Ok(HostDevice::File(FileDevice::new(file, blocks)));
+        let path = String::from_str(rt.alloc(), name)?;
+        return match FileDevice::create(rt, path, blocks) {
+            Ok(device) => Ok(HostDevice::File(device)),
+            Err(fault) => Err(fault.error.into()),
+        };
     }
     let reads = plan.numbers(rt.alloc(), name, Kind::Read)?;
     let writes = plan.numbers(rt.alloc(), name, Kind::Write)?;

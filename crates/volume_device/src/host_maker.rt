@@ -5,21 +5,24 @@ ghost use Rattle.volume_device.specs.Stores.{is_memory};
 
 use crate::device::Device;
 use crate::file_device::FileDevice;
+use crate::file_fault::FileFault;
 use crate::host_device::HostDevice;
+use crate::made_file::MadeFile;
 use crate::make_fault::MakeFault;
 use crate::maker::Maker;
 use crate::mem_device::MemDevice;
 use crate::store::Store;
-use block_data::BLOCK;
 use std::alloc::{AllocError, Global};
-use std::fs::File;
-use std::{fs, io, str};
+use std::{io, str};
 use vss_names::Text;
 
-/// Makes the devices of the host: in memory, or as files in a folder. It keeps none of those that it gets back.
+/// Makes the devices of the host: in memory, or as new files in a folder. It keeps none of those that it gets back, but of those in files the
+/// last failed call.
 #[derive(Drop)]
 pub struct HostMaker {
     rt: HostRuntime,
+    files: Vec<MadeFile>,
+    failed: Vec<FileFault>,
     out: u64,
     count: u64,
 }
@@ -38,14 +41,22 @@ fn path_in(alloc: Global, folder: &Text, name: &Text) -> Result<Option<String>, 
     Ok(Some(path))
 }
 
-/// A new file of so many zero blocks. One that is there already is refused.
-fn new_file(rt: &HostRuntime, path: &str, blocks: u32) -> io::Result<File> {
-    let file = File::create_new(rt, path)?;
-    if let Err(error) = file.set_len(u64::from(blocks) * BLOCK as u64) {
-        let _ = fs::remove_file(rt, path);
-        return Err(error);
+/// Keeps which file a device is over, and a place for its last failed call.
+fn keep(
+    device: &FileDevice,
+    files: &mut Vec<MadeFile>,
+    failed: &mut Vec<FileFault>,
+) -> io::Result<()> {
+    files.push(device.made()?)?;
+    failed.reserve(files.len())?;
+    Ok(())
+}
+
+/// Keeps a failed call, if there was one.
+fn note(failed: &mut Vec<FileFault>, fault: Option<FileFault>) {
+    if let Some(fault) = fault {
+        let _ = failed.push(fault);
     }
-    Ok(file)
 }
 
 impl HostMaker {
@@ -55,9 +66,23 @@ impl HostMaker {
         ensures places { devices_out result ≡ 0 }
     {
         HostMaker {
+            files: Vec::new(rt.alloc()),
+            failed: Vec::new(rt.alloc()),
             rt,
             out: 0,
             count: 0,
+        }
+    }
+
+    /// Of each file that could not be made, or whose device was given back after a failed call: the last failed call.
+    pub fn failed_calls(&self) -> &[FileFault] {
+        &self.failed
+    }
+
+    /// Removes the files that it made, each unless another file has its name by now.
+    pub fn remove_files(&self) {
+        for file in self.files.iter() {
+            file.remove(&self.rt);
         }
     }
 
@@ -80,13 +105,24 @@ impl HostMaker {
         let Ok(path) = path_in(alloc, folder, name) else {
             return Err(MakeFault::OutOfMemory);
         };
-        if let Some(path) = path {
-            if let Ok(file) = new_file(&self.rt, path.as_str(), blocks) {
-                return Ok(FileDevice::new(file, blocks));
+        let Some(path) = path else {
+            self.count = self.count.saturating_add(1);
+            return Err(MakeFault::Failed);
+        };
+        match FileDevice::create(&self.rt, path, blocks) {
+            Ok(device) => {
+                if keep(&device, &mut self.files, &mut self.failed).is_err() {
+                    device.remove(&self.rt);
+                    return Err(MakeFault::OutOfMemory);
+                }
+                Ok(device)
+            }
+            Err(fault) => {
+                note(&mut self.failed, Some(fault));
+                self.count = self.count.saturating_add(1);
+                Err(MakeFault::Failed)
             }
         }
-        self.count = self.count.saturating_add(1);
-        Err(MakeFault::Failed)
     }
 }
 
@@ -124,6 +160,10 @@ impl Maker for HostMaker {
     fn take_back(&mut self, device: HostDevice) {
         self.count = self.count.saturating_add(device.faults());
         self.out = self.out.saturating_sub(1);
+        match device {
+            HostDevice::Memory(memory) => drop(memory),
+            HostDevice::File(file) => note(&mut self.failed, file.into_fault()),
+        }
     }
 
     fn faults(&self) -> u64 {

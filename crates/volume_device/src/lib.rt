@@ -4,14 +4,17 @@
 //! blocks and those of them that last, where it tells them, its size, its count of faults and whether it lends; and a
 //! maker as the names of the devices that it made, the devices that it got back, its free places and its count. A call
 //! that fails raised the count and left what is told as it was; one that is answered Ok left the count as it was.
-//! Devices in memory fail exactly where they were planned to. Devices in files tell nothing.
+//! Devices in memory fail exactly where they were planned to. Devices in files tell nothing, and keep their last failed call.
 #![tactic(auto)]
 
 mod device;
 mod failing_calls;
+mod file_call;
 mod file_device;
+mod file_fault;
 mod host_device;
 mod host_maker;
+mod made_file;
 mod make_fault;
 mod maker;
 mod mem_device;
@@ -21,7 +24,9 @@ mod planned;
 mod store;
 
 pub use device::Device;
+pub use file_call::FileCall;
 pub use file_device::FileDevice;
+pub use file_fault::FileFault;
 pub use host_device::HostDevice;
 pub use host_maker::HostMaker;
 pub use make_fault::MakeFault;

@@ -3,23 +3,19 @@
 //! `run` and `gen N` a folder may stand, in which the devices are files.
 //!
 //! It makes the real things and calls `vss_main::run` over them, whose contract says what each status means. For a status other
-//! than 0 it prints one line to the standard error, and it ends with the status. At status 6 a second line names the file, the call that
-//! failed, and the system's reason. At 6 and 7 the files that the run made are removed. On a terminal a line shows how far a run is.
+//! than 0 it prints one line to the standard error, and it ends with the status. At status 6 a further line of each file on which a call failed
+//! names the file, the last failed call, and the system's reason. At 6 and 7 the files that the run made are removed. On a terminal a line
+//! shows how far a run is.
 #![tactic(auto)]
 
-mod file_call;
-mod file_fault;
-mod made_file;
-mod new_files;
-mod noted_file;
+mod counted_device;
+mod counting_maker;
 mod progress;
-mod run_device;
-mod run_maker;
 mod showing;
 
+use counting_maker::CountingMaker;
 use io_edge::{InSource, OutSink};
 use progress::Progress;
-use run_maker::RunMaker;
 use showing::begin_to_show;
 use std::alloc::Global;
 use std::io::{Eprint, IsTerminal};
@@ -28,18 +24,22 @@ use std::sync::{Arc, Wait};
 use std::thread::Threads;
 use std::time::Clock;
 use std::{env, io};
+use volume_device::HostMaker;
 use vss_main::{Status, run};
 
 /// The words after the program's name, the counts of how far a run is, and the maker of its devices.
-fn given(rt: &HostRuntime) -> io::Result<(Vec<String>, Arc<Progress, Global>, RunMaker)> {
+fn given(rt: &HostRuntime) -> io::Result<(Vec<String>, Arc<Progress, Global>, CountingMaker)> {
     let mut words = Vec::new(rt.alloc());
     for word in env::args(rt)?.skip(1) {
         words.push(word)?;
     }
     let progress = Arc::new(rt.alloc(), Progress::new())?;
     let own = Arc::try_clone(&progress)?;
-    let host = rt.clone()?;
-    Ok((words, progress, RunMaker::new(host, own)))
+    let maker = CountingMaker {
+        maker: HostMaker::new(rt.clone()?),
+        progress: own,
+    };
+    Ok((words, progress, maker))
 }
 
 /// The status where the words, or the maker, could not be had. A word that is no text is no command.
@@ -56,7 +56,7 @@ fn done<R: Threads + Wait + Clock + Eprint + Copy + Send + Sync + 'static>(
     alloc: Global,
     words: &[String],
     streams: (&mut InSource, &mut OutSink),
-    maker: &mut RunMaker,
+    maker: &mut CountingMaker,
     progress: &Arc<Progress, Global>,
     shown: bool,
 ) -> Status {
@@ -72,6 +72,18 @@ fn done<R: Threads + Wait + Clock + Eprint + Copy + Send + Sync + 'static>(
         thread.join(&rt);
     }
     status
+}
+
+/// Says of a device fault which calls failed. Where no run came to its end, removes the files that it made.
+fn close(rt: &HostRuntime, maker: &HostMaker, status: Status) {
+    if status == Status::DeviceFault {
+        for fault in maker.failed_calls().iter() {
+            let _ = eprintln!(rt; "     {fault}");
+        }
+    }
+    if let Status::DeviceFault | Status::OutOfMemory = status {
+        maker.remove_files();
+    }
 }
 
 fn main(rt: HostRuntime) -> ExitCode {
@@ -97,8 +109,8 @@ fn main(rt: HostRuntime) -> ExitCode {
     if status != Status::Done {
         let _ = eprintln!(rt; "vss: {status}");
     }
-    if let Some(maker) = maker {
-        maker.files.close(&rt, status);
+    if let Some(counting) = maker {
+        close(&rt, &counting.maker, status);
     }
     ExitCode::from(status.code())
 }

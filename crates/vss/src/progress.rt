@@ -10,10 +10,8 @@ use write_history::Actor;
 pub struct Progress {
     /// Moves that the threads of the actors made. The caller makes those that are left, without telling the gate.
     moves: AtomicU64,
-    /// Blocks that were read from files, to be digested or copied.
+    /// Blocks that were read from devices or lent by them, to be digested or copied.
     blocks: AtomicU64,
-    /// Failed calls on files.
-    faults: AtomicU64,
     over: AtomicBool,
     /// Where the thread that shows it waits.
     pub watcher: Parker,
@@ -24,7 +22,6 @@ impl Progress {
         Progress {
             moves: AtomicU64::new(0),
             blocks: AtomicU64::new(0),
-            faults: AtomicU64::new(0),
             over: AtomicBool::new(false),
             watcher: Parker::new(),
         }
@@ -32,11 +29,6 @@ impl Progress {
 
     pub fn count_block(&self) {
         let _ = self.blocks.fetch_add(1, SeqCst);
-    }
-
-    /// The number of a call that failed just now.
-    pub fn count_fault(&self) -> u64 {
-        self.faults.fetch_add(1, SeqCst)
     }
 
     /// Whether a move was made: before that the scenario is read, which may be typed on the same terminal.

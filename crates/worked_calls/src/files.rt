@@ -19,21 +19,31 @@ fn new_folder(rt: &HostRuntime) -> Result<String, Stopped> {
     Ok(path.into_string())
 }
 
-/// A device in a file gives back what was written; a file that is there is refused.
+/// A device in a file gives back what was written; a file that is there is refused, and the files that were made go when they are to.
 fn show_written(rt: &HostRuntime, page: &mut Page, folder: &str) -> Result<(), Stopped> {
     let store = Store::Folder(Text::copy(rt.alloc(), folder.as_bytes())?);
     let calls = "lends lend blocks read zeros mark write flush first mark read first";
     let mut maker = HostMaker::new(*rt);
     show_made(rt.alloc(), page, &mut maker, &store, "C.vol", calls)?;
-    show_made(rt.alloc(), page, &mut maker, &store, "C.vol", calls)
+    show_made(rt.alloc(), page, &mut maker, &store, "C.vol", calls)?;
+    for fault in maker.failed_calls().iter() {
+        page.print("failed", &fault.call);
+    }
+    maker.remove_files();
+    let path = format!(in rt.alloc(); "{folder}/C.vol")?;
+    page.show("left", &fs::metadata(rt, path.as_str()).is_ok());
+    Ok(())
 }
 
 /// The blocks of a file lie one after another, and a file that ends early fails a read.
 fn show_places(rt: &HostRuntime, page: &mut Page, folder: &str) -> Result<(), Stopped> {
     let path = format!(in rt.alloc(); "{folder}/D.vol")?;
     let mut block = marked(rt.alloc(), 1)?;
-    let mut device = FileDevice::new(File::create_new(rt, path.as_str())?, 2);
+    let mut device = FileDevice::new(File::create_new(rt, path.as_str())?, path.clone()?, 2);
     show_calls(page, &mut device, &mut block, "read faults write");
+    if let Some(fault) = device.into_fault() {
+        page.print("failed", &fault.call);
+    }
     let bytes = fs::read(rt, path.as_str())?;
     page.show("second", &bytes.iter().skip(BLOCK).eq(block.bytes()));
     Ok(())
@@ -42,7 +52,9 @@ fn show_places(rt: &HostRuntime, page: &mut Page, folder: &str) -> Result<(), St
 /// An area in a file has the bytes of the same area in memory.
 fn show_area(rt: &HostRuntime, page: &mut Page, folder: &str) -> Result<(), Stopped> {
     let path = format!(in rt.alloc(); "{folder}/C.area")?;
-    let device = FileDevice::new(File::create_new(rt, path.as_str())?, 4);
+    let Ok(device) = FileDevice::create(rt, path.clone()?, 4) else {
+        return Err(Stopped);
+    };
     let mut area = open(rt.alloc(), device)?;
     show_calls_of(rt.alloc(), page, &mut area)?;
     let bytes = fs::read(rt, path.as_str())?;

@@ -1,14 +1,12 @@
 use crate::file_call::FileCall;
 use std::{fmt, io};
 
-/// A call on the file of a device that failed: which file, which call, and the system's reason.
+/// The last failed call on the file of a device: which file, which call, and the system's reason.
 #[derive(Debug, Drop)]
 pub struct FileFault {
     pub path: String,
     pub call: FileCall,
     pub error: io::Error,
-    /// Its number among the failed calls of the run.
-    pub number: u64,
 }
 
 impl fmt::Display for FileFault {

@@ -2,7 +2,7 @@ use std::fs;
 use std::fs::Metadata;
 use std::os::unix::fs::MetadataExt;
 
-/// A file that the run made: its path, and which file it is.
+/// A file that a maker made: its path, and which file it is.
 #[derive(Drop)]
 pub struct MadeFile {
     path: String,
