@@ -1,6 +1,6 @@
 -- What is kept of the lines that were read so far: what they say, the names by kind, and how many there are of what is
 -- limited; and what holds of it after every line. (This project's own.)
-use Rattle.std.specs.Prelude.{ℕ, ◌≡◌, ◌<◌, ◌≤◌, ◌+◌, ◌++◌, ◌||◌, true, false, List, [], ◌∷◌, length, All, find, Some, None, IfSome, slice_get, if◌then◌else◌, Result, Ok, Err}
+use Rattle.std.specs.Prelude.{ℕ, ◌≡◌, ◌<◌, ◌≤◌, ◌+◌, ◌++◌, true, List, [], ◌∷◌, length, All, find, Some, None, IfSome, slice_get, if◌then◌else◌, Result, Ok, Err}
 use Rattle.writer_meta.specs.Metadata.{meta_of}
 use Rattle.writer_meta.specs.Allowed.{IsAllowed}
 use Rattle.writer_calls.specs.declared.scripted.Scripted.{Scripted}
@@ -18,7 +18,7 @@ use Rattle.scenario.specs.declared.counts.Counts.{Counts}
 use Rattle.scenario.specs.declared.entry.Entry.{Entry}
 use Rattle.scenario.specs.declared.entry.Entry.TheVariants as entry
 use Rattle.scenario.specs.Plan.{GroupPlan, WriterPlan, LaneLine, LanePlan, blocks_in, script_in}
-use Rattle.scenario.specs.Bounds.{is_begin, begins_agenda, IsInGroup, groups_from}
+use Rattle.scenario.specs.Bounds.{begins_agenda, IsInGroup, groups_from}
 use Rattle.scenario.specs.SoFar.{SoFar, Saying, nothing, after, group_for, area_group, line_count, agenda_count, answer_count}
 use Rattle.scenario.specs.SoFar as saying
 use Rattle.scenario.specs.Fields.{bytes_of, IsPart}

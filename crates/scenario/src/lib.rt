@@ -11,6 +11,7 @@
 //! writer's script.
 #![tactic(auto)]
 
+mod additions;
 mod area_row;
 mod asked;
 mod cause;
@@ -23,6 +24,7 @@ mod entry;
 mod expected;
 mod field_values;
 mod fields;
+mod given;
 mod group_row;
 mod kept_rows;
 mod lane;
@@ -42,11 +44,13 @@ mod reason;
 mod refusal;
 mod refused;
 mod scenario;
+mod scenario_builder;
 mod script;
 mod span;
 mod stopped;
 mod text_line;
 mod unread;
+mod value;
 mod volume_row;
 mod word;
 mod writer;
@@ -65,6 +69,7 @@ pub use reason::Reason;
 pub use refusal::Refusal;
 pub use refused::Refused;
 pub use scenario::Scenario;
+pub use scenario_builder::ScenarioBuilder;
 pub use span::Span;
 pub use volume_row::VolumeRow;
 pub use word::Word;

@@ -87,7 +87,7 @@ fn read(alloc: Global, text: &[u8]) -> Result<Draft, Stopped>
 }
 
 /// The scenario of a text and of what its lines say.
-fn finish(alloc: Global, text: &[u8], draft: Draft) -> Result<Scenario, OutOfMemory>
+pub(crate) fn finish(alloc: Global, text: &[u8], draft: Draft) -> Result<Scenario, OutOfMemory>
     requires short { length text.now < 4294967295 }
     requires draft { IsDraft text.now draft }
     requires names { HasNames (plan_in text.now draft.said) }
