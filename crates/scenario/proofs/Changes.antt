@@ -1,5 +1,5 @@
 -- What one line more changes: the lines of the last lane, a writer's script, and the counts of both.
-use Rattle.std.proofs.Common.{◌≡◌, ℕ, zero, suc, ◌+◌, ◌<◌, Bool, true, false, cond, ◌||◌, List, [], ◌∷◌, ◌++◌, length, map, set, get_or, All, refl, ap, sym, ◌∙◌, arith, length-append}
+use Rattle.std.proofs.Common.{◌≡◌, ℕ, zero, suc, ◌+◌, ◌<◌, Bool, true, false, cond, List, [], ◌∷◌, ◌++◌, length, map, set, get_or, All, refl, ap, sym, ◌∙◌, arith, length-append}
 use Rattle.std.specs.Prelude.{if◌then◌else◌}
 use Rattle.std.proofs.lemmas.List.{length-map, map-set, get_or-map}
 use Rattle.std.proofs.lemmas.List.Sums.{sum-map, sum_by-cons, sum_by_push}
@@ -10,7 +10,7 @@ use Rattle.scenario.specs.declared.lane.Lane.{Lane}
 use Rattle.scenario.specs.declared.writer.Writer.{Writer}
 use Rattle.scenario.specs.Rows.{writer_plan, lane_plan}
 use Rattle.scenario.specs.Plan.{WriterPlan, LaneLine, LanePlan}
-use Rattle.scenario.specs.Bounds.{is_begin, begins_agenda, agenda_lines}
+use Rattle.scenario.specs.Bounds.{begins_agenda, agenda_lines}
 use Rattle.scenario.specs.Fields.{bytes_of}
 use Rattle.scenario.specs.Names.{writer_names, lane_names}
 use Rattle.scenario.specs.SoFar.{with_answer, with_line, line_count, agenda_count, answer_count}

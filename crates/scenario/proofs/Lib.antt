@@ -10,3 +10,4 @@ pub mod Whole
 pub mod Stored
 pub mod Named
 pub mod Places
+pub mod Growing

@@ -1,7 +1,7 @@
 -- Each scenario that is read has names by the grammar, those of volumes, of writers and of lanes apart, and its lines are numbered by
 -- the lines of its text.
-use Rattle.std.proofs.Common.{◌≡◌, ◌∙◌, ℕ, zero, suc, ◌+◌, ◌-◌, ◌^◌, ◌<◌, ◌≤◌, Bool, true, false, List, [], ◌∷◌, ◌++◌, length, map, Option, Some, None, Result, Ok, Err, refl, ap, sym, subst, arith, cond}
-use Rattle.std.specs.Prelude.{◌==◌, ◌&&◌, not, nat_lt, nat_le, is_some, if◌then◌else◌, slice_get, codes}
+use Rattle.std.proofs.Common.{◌≡◌, ◌∙◌, ℕ, zero, suc, ◌+◌, ◌<◌, ◌≤◌, Bool, true, false, List, [], ◌∷◌, ◌++◌, length, map, Option, Some, None, Result, Ok, Err, refl, ap, sym, subst, arith, cond}
+use Rattle.std.specs.Prelude.{◌==◌, ◌&&◌, nat_lt, is_some, if◌then◌else◌, codes}
 use Rattle.std.specs.List.{list_all, position_from}
 use Rattle.std.specs.Str.{bytes_eq}
 use Rattle.std.proofs.lemmas.Iterator.Adapters.{position_from-zero}
@@ -16,10 +16,10 @@ use Rattle.scenario.specs.declared.span.Span.{Span}
 use Rattle.scenario.specs.declared.text_line.TextLine.{TextLine}
 use Rattle.scenario.specs.declared.volume_row.VolumeRow.{VolumeRow}
 use Rattle.scenario.specs.declared.fields.Fields.{Fields}
-use Rattle.scenario.specs.declared.fields.Fields.TheVariants.{Zero, One, Two, Three, Four, Five, Many}
+use Rattle.scenario.specs.declared.fields.Fields.TheVariants.{One, Two, Three, Four, Five}
 use Rattle.scenario.specs.declared.word.Word.{Word}
 use Rattle.scenario.specs.declared.word.Word.TheVariants as word
-use Rattle.scenario.specs.Plan.{Plan, GroupPlan, WriterPlan, LanePlan, LaneLine}
+use Rattle.scenario.specs.Plan.{Plan, WriterPlan, LanePlan, LaneLine}
 use Rattle.scenario.specs.Bounds.{ends_sessions}
 use Rattle.scenario.specs.Names.{is_name, volume_names, writer_names, lane_names, volume_named, writer_named, lane_named}
 use Rattle.scenario.specs.Lines.{span_from, lines_from, lines_in}
@@ -27,14 +27,14 @@ use Rattle.scenario.specs.Fields.{bytes_of, words_at, fields_for}
 use Rattle.scenario.specs.Words.{word_of}
 use Rattle.scenario.specs.Ops.{◌>>=◌, op_of, number_field, writer_field, is_word}
 use Rattle.scenario.specs.SoFar.{SoFar, Saying, Skipped, Opening, Area, OwnVolume, SharedVolume, Writer, Answer, Lane, Line, nothing, after, with_answer, with_line, implied_end, closed, closed_lane, plan_in, line_count, agenda_count, answer_count}
-use Rattle.scenario.specs.Declarations.{name_field, opening_of, area_of, has_space, has_volume_room, new_volume, blocks_field, own_row, own_volume_of, area_field, shared_row, shared_volume_of, volume_of, document_field, new_writer, writer_of, code_field, asked_of, answer_if, row_for, answer_of, new_lane, lane_if, free_lane_of, acting_lane_of, lane_of}
+use Rattle.scenario.specs.Declarations.{name_field, opening_of, area_of, has_space, has_volume_room, new_volume, blocks_field, own_row, own_volume_of, area_field, shared_row, shared_volume_of, volume_of, document_field, new_writer, writer_of, code_field, asked_of, answer_if, row_for, answer_of, new_lane, free_lane_of, acting_lane_of, lane_of}
 use Rattle.scenario.specs.Entries.{is_printable, is_skipped, has_lane, may_stand, has_line_room, line_of, row_of, placed_row_of, said_of, saying_of}
-use Rattle.scenario.specs.Grammar.{Reading, IsScenario, IsBad, whole, goes_on, read_from, reading_of}
-use Rattle.scenario.specs.Named.{AllNamed, Differ, Distinct, volume_spans, writer_spans, lane_spans, Numbered, AllNumbered, HasNames}
+use Rattle.scenario.specs.Grammar.{IsScenario, IsBad, goes_on, read_from, reading_of}
+use Rattle.scenario.specs.Named.{AllNamed, Differ, Distinct, volume_spans, writer_spans, lane_spans, Numbered, AllNumbered, IsNamed, HasNames}
 
 -- ## what one line says
 
-abbrev IsSaid : List ℕ → SoFar → ℕ → Saying → Type 0
+abbrev pub IsSaid : List ℕ → SoFar → ℕ → Saying → Type 0
 IsSaid text d number Skipped = Unit {0}
 IsSaid text d number Opening = Unit {0}
 IsSaid text d number (Area area) = Unit {0}
@@ -45,24 +45,24 @@ IsSaid text d number (Answer w row) = Unit {0}
 IsSaid text d number (Lane name whom) = (is_name (bytes_of text name) ≡ true) × (is_some (lane_named text d.lanes (bytes_of text name)) ≡ false)
 IsSaid text d number (Line l) = l.number ≡ number
 
-abbrev IsGood : (Saying → Type 0) → Result Saying Reason → Type 0
+abbrev pub IsGood : (Saying → Type 0) → Result Saying Reason → Type 0
 IsGood P (Ok saying) = P saying
 IsGood P (Err why) = Unit {0}
 
-on_bind : {A : Type 0} (P : Saying → Type 0) (r : Result A Reason) (f : A → Result Saying Reason) → ((x : A) → r ≡ Ok x → IsGood P (f x)) → IsGood P (r >>= f)
+pub on_bind : {A : Type 0} (P : Saying → Type 0) (r : Result A Reason) (f : A → Result Saying Reason) → ((x : A) → r ≡ Ok x → IsGood P (f x)) → IsGood P (r >>= f)
 on_bind P (Ok x) f h = h x refl
 on_bind P (Err why) f h = tt
 
-on_either : (P : Saying → Type 0) (b : Bool) (x y : Result Saying Reason) → IsGood P x → IsGood P y → IsGood P (if b then x else y)
+pub on_either : (P : Saying → Type 0) (b : Bool) (x y : Result Saying Reason) → IsGood P x → IsGood P y → IsGood P (if b then x else y)
 on_either P true x y h k = h
 on_either P false x y h k = k
 
-record IsNewName (text : List ℕ) (taken : Bool) (span x : Span) : Type 0 where
+pub record IsNewName (text : List ℕ) (taken : Bool) (span x : Span) : Type 0 where
   pub name : is_name (bytes_of text x) ≡ true
   pub same : x ≡ span
   pub free : taken ≡ false
 
-new_name : (text : List ℕ) (taken : Bool) (span x : Span) → name_field text taken span ≡ Ok x → IsNewName text taken span x
+pub new_name : (text : List ℕ) (taken : Bool) (span x : Span) → name_field text taken span ≡ Ok x → IsNewName text taken span x
 unfolding name_field
 new_name text taken span x e = by_tests (is_name (bytes_of text span)) taken refl e
   where
@@ -84,7 +84,7 @@ area_said text d number (Two name slots) =
     on_bind (IsSaid text d number) (name_field text _ name) _ (λ n e. on_bind (IsSaid text d number) (number_field text 0 65536 slots) _ (λ s f. on_either (IsSaid text d number) (nat_lt (length d.areas) 128 && has_space d s) (Ok (Area (record { name = n; slots = s }))) (Err TooMany) tt tt))
 area_said text d number _ = tt
 
-volume_new : (text : List ℕ) (d : SoFar) (name n : Span) → IsNewName text (is_some (volume_named text d.volumes (bytes_of text name))) name n
+pub volume_new : (text : List ℕ) (d : SoFar) (name n : Span) → IsNewName text (is_some (volume_named text d.volumes (bytes_of text name))) name n
     → (is_name (bytes_of text n) ≡ true) × (is_some (volume_named text d.volumes (bytes_of text n)) ≡ false)
 volume_new text d name n h = (h.name, subst (λ x. is_some (volume_named text d.volumes (bytes_of text x)) ≡ false) (sym h.same) h.free)
 
@@ -105,15 +105,15 @@ volume_said text d number (Three name blocks slots) = own_said text d number nam
 volume_said text d number (Four name blocks kind area) = shared_said text d number name blocks kind area
 volume_said text d number _ = tt
 
-writer_new : (text : List ℕ) (d : SoFar) (name n : Span) → IsNewName text (is_some (writer_named text d.writers (bytes_of text name))) name n
+pub writer_new : (text : List ℕ) (d : SoFar) (name n : Span) → IsNewName text (is_some (writer_named text d.writers (bytes_of text name))) name n
     → (is_name (bytes_of text n) ≡ true) × (is_some (writer_named text d.writers (bytes_of text n)) ≡ false)
 writer_new text d name n h = (h.name, subst (λ x. is_some (writer_named text d.writers (bytes_of text x)) ≡ false) (sym h.same) h.free)
 
-lane_new : (text : List ℕ) (d : SoFar) (name n : Span) → IsNewName text (is_some (lane_named text d.lanes (bytes_of text name))) name n
+pub lane_new : (text : List ℕ) (d : SoFar) (name n : Span) → IsNewName text (is_some (lane_named text d.lanes (bytes_of text name))) name n
     → (is_name (bytes_of text n) ≡ true) × (is_some (lane_named text d.lanes (bytes_of text n)) ≡ false)
 lane_new text d name n h = (h.name, subst (λ x. is_some (lane_named text d.lanes (bytes_of text x)) ≡ false) (sym h.same) h.free)
 
-writer_said : (text : List ℕ) (d : SoFar) (number : ℕ) (fields : Fields) → IsGood (IsSaid text d number) (writer_of text d fields)
+pub writer_said : (text : List ℕ) (d : SoFar) (number : ℕ) (fields : Fields) → IsGood (IsSaid text d number) (writer_of text d fields)
 unfolding writer_of
 writer_said text d number (Two name document) =
     on_bind (IsSaid text d number) (new_writer text d name) _ (λ n e. on_bind (IsSaid text d number) (document_field text document) _
@@ -273,16 +273,7 @@ spans_closed : (lanes : List LanePlan) → lane_spans (map closed_lane lanes) �
 spans_closed [] = refl
 spans_closed (l ∷ lanes) = ap (λ s. l.name ∷ s) (spans_closed lanes)
 
-record IsNamed (text : List ℕ) (k : ℕ) (d : SoFar) : Type 0 where
-  pub volumes : AllNamed text (volume_spans d.volumes)
-  pub writers : AllNamed text (writer_spans d.writers)
-  pub lanes : AllNamed text (lane_spans d.lanes)
-  pub volumes_apart : Distinct text (volume_spans d.volumes)
-  pub writers_apart : Distinct text (writer_spans d.writers)
-  pub lanes_apart : Distinct text (lane_spans d.lanes)
-  pub lines : AllNumbered k d.lanes
-
-named_after : (text : List ℕ) (k : ℕ) (d : SoFar) (saying : Saying) → IsSaid text d k saying → IsNamed text k d → IsNamed text (k + 1) (after d saying)
+pub named_after : (text : List ℕ) (k : ℕ) (d : SoFar) (saying : Saying) → IsSaid text d k saying → IsNamed text k d → IsNamed text (k + 1) (after d saying)
 named_after text k d Skipped said h = record { volumes = h.volumes; writers = h.writers; lanes = h.lanes; volumes_apart = h.volumes_apart; writers_apart = h.writers_apart; lanes_apart = h.lanes_apart; lines = all_numbered_on k d.lanes h.lines }
 named_after text k d Opening said h = record { volumes = h.volumes; writers = h.writers; lanes = h.lanes; volumes_apart = h.volumes_apart; writers_apart = h.writers_apart; lanes_apart = h.lanes_apart; lines = all_numbered_on k d.lanes h.lines }
 named_after text k d (Area area) said h = record { volumes = h.volumes; writers = h.writers; lanes = h.lanes; volumes_apart = h.volumes_apart; writers_apart = h.writers_apart; lanes_apart = h.lanes_apart; lines = all_numbered_on k d.lanes h.lines }
@@ -412,7 +403,7 @@ all_numbered_up : (k m : ℕ) (lanes : List LanePlan) → k ≤ m → AllNumbere
 all_numbered_up k m [] l h = tt
 all_numbered_up k m (x ∷ lanes) l h = (numbered_up k m x.lines l h.0, all_numbered_up k m lanes l h.1)
 
-plan_named : (text : List ℕ) (k : ℕ) (d : SoFar) → IsNamed text k d → 0 < k → k ≤ length text + 2 → HasNames (plan_in text d)
+pub plan_named : (text : List ℕ) (k : ℕ) (d : SoFar) → IsNamed text k d → 0 < k → k ≤ length text + 2 → HasNames (plan_in text d)
 plan_named text k d h some few =
     let same = spans_closed d.lanes in
     record {

@@ -1,6 +1,6 @@
 -- What is kept of the lines that were read so far: what they say, the names by kind, and how many there are of what is
 -- limited; and what holds of it after every line. (This project's own.)
-use Rattle.std.specs.Prelude.{ℕ, ◌≡◌, ◌<◌, ◌≤◌, ◌+◌, ◌++◌, ◌||◌, true, false, List, [], ◌∷◌, length, All, find, Some, None, IfSome, slice_get, if◌then◌else◌, Result, Ok, Err}
+use Rattle.std.specs.Prelude.{ℕ, ◌≡◌, ◌<◌, ◌≤◌, ◌+◌, ◌++◌, true, List, [], ◌∷◌, length, All, find, Some, None, IfSome, slice_get, if◌then◌else◌, Result, Ok, Err}
 use Rattle.writer_meta.specs.Metadata.{meta_of}
 use Rattle.writer_meta.specs.Allowed.{IsAllowed}
 use Rattle.writer_calls.specs.declared.scripted.Scripted.{Scripted}

@@ -18,3 +18,4 @@ pub mod Declarations
 pub mod Entries
 pub mod Named
 pub mod Messages
+pub mod Built

@@ -7,6 +7,7 @@ use Rattle.scenario.specs.declared.volume_row.VolumeRow.{VolumeRow}
 use Rattle.scenario.specs.Plan.{Plan, WriterPlan, LanePlan, LaneLine}
 use Rattle.scenario.specs.Fields.{bytes_of}
 use Rattle.scenario.specs.Names.{is_name}
+use Rattle.scenario.specs.SoFar.{SoFar}
 
 -- each of these parts of the text is a name
 abbrev pub AllNamed : List ℕ → List Span → Type 0
@@ -39,6 +40,16 @@ Numbered k (l ∷ lines) = (l.number < k) × Numbered k lines
 abbrev pub AllNumbered : ℕ → List LanePlan → Type 0
 AllNumbered k [] = Unit {0}
 AllNumbered k (l ∷ lanes) = Numbered k l.lines × AllNumbered k lanes
+
+-- the names of what was read so far, before line k
+pub record IsNamed (text : List ℕ) (k : ℕ) (d : SoFar) : Type 0 where
+  pub volumes : AllNamed text (volume_spans d.volumes)
+  pub writers : AllNamed text (writer_spans d.writers)
+  pub lanes : AllNamed text (lane_spans d.lanes)
+  pub volumes_apart : Distinct text (volume_spans d.volumes)
+  pub writers_apart : Distinct text (writer_spans d.writers)
+  pub lanes_apart : Distinct text (lane_spans d.lanes)
+  pub lines : AllNumbered k d.lanes
 
 pub record HasNames (s : Plan) : Type 0 where
   pub volumes : AllNamed s.source (volume_spans s.volumes)

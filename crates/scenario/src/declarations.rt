@@ -23,13 +23,13 @@ use crate::reason::Reason;
 use crate::span::Span;
 use crate::volume_row::VolumeRow;
 
-const MOST_AREAS: usize = 128;
+pub(crate) const MOST_AREAS: usize = 128;
 
 const MOST_VOLUMES: usize = 128;
 /// Of a volume.
-const MOST_BLOCKS: u32 = 65_536;
+pub(crate) const MOST_BLOCKS: u32 = 65_536;
 /// Of an area.
-const MOST_SLOTS: u32 = 65_536;
+pub(crate) const MOST_SLOTS: u32 = 65_536;
 /// Of the blocks of all volumes and the slots of all areas together.
 const MOST_SIZE: u64 = 131_072;
 
@@ -74,7 +74,7 @@ pub(crate) fn opening_of(text: &[u8], fields: Fields) -> Result<Entry, Cause>
 }
 
 /// Whether so many blocks and slots more have their place.
-fn has_space(draft: &Draft, size: u32) -> bool
+pub(crate) fn has_space(draft: &Draft, size: u32) -> bool
     requires { draft.now.said.size ≤ 131072 }
     ensures { result ≡ has_space draft.now.said size }
 {
@@ -82,7 +82,7 @@ fn has_space(draft: &Draft, size: u32) -> bool
 }
 
 /// More blocks and slots than there may be.
-fn no_space() -> Cause
+pub(crate) fn no_space() -> Cause
     ensures { result.reason ≡ Reason.TooMany }
 {
     Cause::too_many(
@@ -93,7 +93,7 @@ fn no_space() -> Cause
 
 /// The name of an area that is new.
 #[tactic(auto, unfolding(crate::specs::Names::area_named))]
-fn new_area(text: &[u8], draft: &Draft, name: Span) -> Result<Span, Cause>
+pub(crate) fn new_area(text: &[u8], draft: &Draft, name: Span) -> Result<Span, Cause>
     requires part { IsPart (length text.now) name }
     requires draft { IsDraft text.now draft.now }
     ensures value { by_reason result ≡ name_field text.now (is_some (area_named text.now draft.now.said.areas (bytes_of text.now name))) name }
@@ -128,7 +128,7 @@ pub(crate) fn area_of(text: &[u8], draft: &Draft, fields: Fields) -> Result<Entr
 
 /// The name of a volume that is new.
 #[tactic(auto, unfolding(crate::specs::Names::volume_named))]
-fn new_volume(text: &[u8], draft: &Draft, name: Span) -> Result<Span, Cause>
+pub(crate) fn new_volume(text: &[u8], draft: &Draft, name: Span) -> Result<Span, Cause>
     requires part { IsPart (length text.now) name }
     requires draft { IsDraft text.now draft.now }
     ensures value { by_reason result ≡ new_volume text.now draft.now.said name }
@@ -140,7 +140,7 @@ fn new_volume(text: &[u8], draft: &Draft, name: Span) -> Result<Span, Cause>
 }
 
 /// Goes on where one more volume, of so many blocks and slots, has its place.
-fn volume_room(draft: &Draft, size: u32) -> Result<(), Cause>
+pub(crate) fn volume_room(draft: &Draft, size: u32) -> Result<(), Cause>
     requires { draft.now.said.size ≤ 131072 }
     ensures ok { IfOk result (λ it. has_volume_room draft.now.said size ≡ true) }
     ensures full { IfErr result (λ cause. has_volume_room draft.now.said size ≡ false) }
@@ -200,7 +200,7 @@ fn area_field(text: &[u8], draft: &Draft, span: Span) -> Result<(u32, AreaRow), 
 }
 
 /// The number of a declared area's group: the one that it has, or the next number.
-fn group_for(draft: &Draft, area: AreaRow) -> u32
+pub(crate) fn group_for(draft: &Draft, area: AreaRow) -> u32
     requires { length draft.now.said.groups ≤ 128 }
     ensures { result ≡ group_for draft.now.said.groups area }
 {
@@ -264,7 +264,7 @@ pub(crate) fn volume_of(text: &[u8], draft: &Draft, fields: Fields) -> Result<En
 
 /// The name of a lane that is new.
 #[tactic(auto, unfolding(crate::specs::Names::lane_named))]
-fn new_lane(text: &[u8], draft: &Draft, name: Span) -> Result<Span, Cause>
+pub(crate) fn new_lane(text: &[u8], draft: &Draft, name: Span) -> Result<Span, Cause>
     requires part { IsPart (length text.now) name }
     requires draft { IsDraft text.now draft.now }
     ensures value { by_reason result ≡ new_lane text.now draft.now.said name }
@@ -276,7 +276,7 @@ fn new_lane(text: &[u8], draft: &Draft, name: Span) -> Result<Span, Cause>
 }
 
 /// One lane more.
-fn lane_if(draft: &Draft, name: Span, whom: Option<u32>) -> Result<Entry, Cause>
+pub(crate) fn lane_if(draft: &Draft, name: Span, whom: Option<u32>) -> Result<Entry, Cause>
     ensures value { told result ≡ lane_if draft.now.said name whom }
     ensures same { IfOk result (λ e. e ≡ entry.Lane name whom) }
     ensures few { IfOk result (λ e. length draft.now.said.lanes < 64) }

@@ -29,7 +29,7 @@ const MOST_LINES: usize = 100_000;
 const MOST_AGENDA_LINES: usize = 2_000;
 
 /// Whether all are bytes that may stand in a line.
-fn are_printable(bytes: &[u8]) -> bool
+pub(crate) fn are_printable(bytes: &[u8]) -> bool
     ensures { result ≡ list_all is_printable bytes.now }
 {
     bytes.iter().all(|byte| 32 <= *byte && *byte <= 126)
@@ -43,7 +43,7 @@ fn is_skipped(bytes: &[u8]) -> bool
 }
 
 /// Whether a lane has begun.
-fn has_lane(draft: &Draft) -> bool
+pub(crate) fn has_lane(draft: &Draft) -> bool
     ensures { result ≡ has_lane draft.now.said.lanes }
 {
     0 < draft.lanes()
@@ -64,14 +64,14 @@ fn may_stand(draft: &Draft, word: Word) -> bool
 }
 
 /// Whether there may be one more such line.
-fn has_line_room(counts: Counts, op: Op) -> bool
+pub(crate) fn has_line_room(counts: Counts, op: Op) -> bool
     ensures { result ≡ has_line_room counts.lines counts.agenda_lines op }
 {
     counts.lines < MOST_LINES && (!begins_agenda(op) || counts.agenda_lines < MOST_AGENDA_LINES)
 }
 
 /// More lines than there may be, of all or of those that may begin an agenda.
-fn no_line_room(counts: Counts) -> Cause
+pub(crate) fn no_line_room(counts: Counts) -> Cause
     ensures { result.reason ≡ Reason.TooMany }
 {
     if counts.lines >= MOST_LINES {

@@ -11,6 +11,7 @@
 //! writer's script.
 #![tactic(auto)]
 
+mod additions;
 mod area_row;
 mod asked;
 mod cause;
@@ -23,6 +24,7 @@ mod entry;
 mod expected;
 mod field_values;
 mod fields;
+mod given;
 mod group_row;
 mod kept_rows;
 mod lane;
@@ -43,11 +45,13 @@ mod reason;
 mod refusal;
 mod refused;
 mod scenario;
+mod scenario_builder;
 mod script;
 mod span;
 mod stopped;
 mod text_line;
 mod unread;
+mod value;
 mod volume_row;
 mod word;
 mod writer;
@@ -67,6 +71,7 @@ pub use reason::Reason;
 pub use refusal::Refusal;
 pub use refused::Refused;
 pub use scenario::Scenario;
+pub use scenario_builder::ScenarioBuilder;
 pub use span::Span;
 pub use volume_row::VolumeRow;
 pub use word::Word;

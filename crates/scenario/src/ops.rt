@@ -19,7 +19,7 @@ use crate::quantity::Quantity;
 use crate::reason::Reason;
 use crate::word::Word;
 
-const MOST_TICKS: u32 = 1_000_000_000;
+pub(crate) const MOST_TICKS: u32 = 1_000_000_000;
 
 /// `write volume block fill x`, `write volume block stamp n`.
 #[tactic(auto, unfolding(crate::specs::Ops::write_of, crate::specs::Ops::number_field))]

@@ -85,7 +85,7 @@ fn read(alloc: Global, text: &[u8], draft: &mut Draft) -> Result<(), Stopped>
 }
 
 /// The scenario of a text and of what its lines say; the draft is over.
-fn finish(alloc: Global, text: &[u8], draft: &mut Draft) -> Result<Scenario, OutOfMemory>
+pub(crate) fn finish(alloc: Global, text: &[u8], draft: &mut Draft) -> Result<Scenario, OutOfMemory>
     requires short { length text.now < 4294967295 }
     requires draft { IsDraft text.now draft.old }
     requires names { HasNames (plan_in text.now draft.old.said) }

@@ -26,15 +26,15 @@ use vss_names::{Order, WriterError};
 use writer_calls::{Answer, Scripted};
 use writer_meta::{MetaFault, Metadata};
 
-const MOST_WRITERS: usize = 64;
+pub(crate) const MOST_WRITERS: usize = 64;
 /// Of the orders of a kind that a script speaks of.
-const MOST_NTH: u32 = 2_000;
+pub(crate) const MOST_NTH: u32 = 2_000;
 /// Of the `answer` lines.
 const MOST_ANSWERS: usize = 10_000;
 
 /// The name of a writer that is new.
 #[tactic(auto, unfolding(crate::specs::Names::writer_named))]
-fn new_writer(text: &[u8], draft: &Draft, name: Span) -> Result<Span, Cause>
+pub(crate) fn new_writer(text: &[u8], draft: &Draft, name: Span) -> Result<Span, Cause>
     requires part { IsPart (length text.now) name }
     requires draft { IsDraft text.now draft.now }
     ensures value { by_reason result ≡ new_writer text.now draft.now.said name }
@@ -154,7 +154,7 @@ fn asked_of(
 }
 
 /// One row more.
-fn answer_if(draft: &Draft, asked: Asked, answer: Option<Answer>) -> Result<Entry, Cause>
+pub(crate) fn answer_if(draft: &Draft, asked: Asked, answer: Option<Answer>) -> Result<Entry, Cause>
     requires { AreCounts draft.now.said draft.now.counts }
     ensures value { told result ≡ answer_if draft.now.said asked answer }
     ensures same { IfOk result (λ e. e ≡ entry.Answer asked.writer (row_for asked answer)) }

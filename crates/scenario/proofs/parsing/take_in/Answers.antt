@@ -1,4 +1,3 @@
-use Rattle.std.proofs.Common.{length, sym, ◌∙◌}
 use Rattle.scenario.proofs.Kept.{kept}
 use Rattle.scenario.proofs.parsing.take_in.Goals as goal
 

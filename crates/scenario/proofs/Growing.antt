@@ -1,0 +1,295 @@
+-- A builder goes on: what holds of its draft holds with whatever is appended to its source, also after one more call.
+use Rattle.std.proofs.Common.{◌≡◌, ◌∙◌, ℕ, ◌+◌, ◌-◌, ◌<◌, ◌≤◌, true, false, List, [], ◌∷◌, ◌++◌, length, Option, None, refl, ap, sym, subst, arith, length-append, take, drop}
+use Rattle.std.specs.Prelude.{◌&&◌, is_some, slice_get, nat_lt, IfOk, Result, Ok, Err}
+use Rattle.std.proofs.lemmas.List.{take-append-le, drop-append-le, length-drop, append_assoc, append-nil}
+use Rattle.std.proofs.lemmas.List.Elements.{All-nil}
+use Rattle.scenario.specs.declared.span.Span.{Span}
+use Rattle.scenario.specs.declared.op.Op.{Op}
+use Rattle.scenario.specs.declared.op.Op.TheVariants.{WriteFill, WriteStamp, Read, ImageDigest, ImageBlock, Query, Properties, Revert, DeleteSet, DeleteImage, Tick, Begin, Disable, Gather, Component, Document, Start, Add, Prepare, Snapshot, Await, Status, Complete, Abort, End}
+use Rattle.scenario.specs.declared.volume_row.VolumeRow.{VolumeRow}
+use Rattle.scenario.specs.declared.entry.Entry.{Entry}
+use Rattle.scenario.specs.declared.entry.Entry.TheVariants as entry
+use Rattle.writer_meta.specs.Metadata.{Meta, meta_of}
+use Rattle.scenario.specs.declared.op.Op.TheVariants as op
+use Rattle.scenario.specs.declared.value.Value.{Value}
+use Rattle.scenario.specs.declared.value.Value.TheVariants as value
+use Rattle.scenario.specs.declared.cause.Cause.{Cause}
+use Rattle.scenario.specs.declared.reason.Reason.{Reason}
+use Rattle.scenario.specs.declared.reason.Reason.TheVariants.{Misplaced, TooMany}
+use Rattle.writer_calls.specs.declared.scripted.Scripted.{Scripted}
+use Rattle.scenario.specs.Fields.{bytes_of, IsPart}
+use Rattle.scenario.specs.Names.{is_name, place_of, volume_named, writer_named, lane_named}
+use Rattle.scenario.specs.Named.{IsNamed, HasNames}
+use Rattle.scenario.specs.SoFar.{SoFar, Saying, plan_in, after, line_count, agenda_count, answer_count}
+use Rattle.scenario.specs.SoFar as saying
+use Rattle.scenario.specs.Declarations.{name_field, has_space, has_volume_room, new_volume, own_row, shared_row, area_at, new_writer, new_nth, new_lane}
+use Rattle.scenario.specs.Entries.{has_lane, has_line_room}
+use Rattle.scenario.specs.Bounds.{IsShortPart, IsRanged}
+use Rattle.scenario.specs.Drafts.{DraftValue, empty_draft, IsDraft, IsEntry, IsNewVolume, IsNewName, AreNames, with_entry, saying_in, names_after, told}
+use Rattle.scenario.specs.Built.{IsGrowing, IsNewlyNamed, before_lanes, number_if, number_below, whom_in, op_in, area_said, own_said, shared_said, writer_said, answer_said, lane_said, line_said, value_said}
+use Rattle.scenario.proofs.Kept.{kept}
+use Rattle.scenario.proofs.Named.{IsSaid, IsGood, named_after, plan_named, on_bind, on_either, new_name, volume_new, writer_new, lane_new}
+
+-- ## parts of a source
+
+pub bytes_more : (text more : List ℕ) (span : Span) → IsPart (length text) span → bytes_of (text ++ more) span ≡ bytes_of text span
+bytes_more text more span h =
+    let start : span.start ≤ length text = omega (arith, h.ordered, h.within) in
+    let inside : span.end - span.start ≤ length (drop span.start text) = omega (arith, h.ordered, h.within, length-drop span.start text) in
+    ap (λ (xs : List ℕ). take (span.end - span.start) xs) (drop-append-le span.start text more start) ∙ take-append-le (span.end - span.start) (drop span.start text) more inside
+
+part_more : (text more : List ℕ) (span : Span) → IsPart (length text) span → IsPart (length (text ++ more)) span
+part_more text more span h = record { ordered = h.ordered; within = omega (arith, h.within, length-append text more) }
+
+short_more : (text more : List ℕ) (span : Span) → IsShortPart (length text) span → IsShortPart (length (text ++ more)) span
+short_more text more span h = record { part = part_more text more span h.part; short = h.short }
+
+place_more : (text more : List ℕ) (span : Span) (names : List (List ℕ)) → IsPart (length text) span → place_of (bytes_of text span) names ≡ None → place_of (bytes_of (text ++ more) span) names ≡ None
+place_more text more span names h e = ap (λ name. place_of name names) (bytes_more text more span h) ∙ e
+
+volume_more : (text more : List ℕ) (d : DraftValue) (row : VolumeRow) (size : ℕ) → IsNewVolume text d row size → IsNewVolume (text ++ more) d row size
+volume_more text more d row size h =
+    record {
+      limits = record { name = short_more text more row.name h.limits.name; some = h.limits.some; most = h.limits.most; few_slots = h.limits.few_slots };
+      few = h.few;
+      small = h.small;
+      new = place_more text more row.name d.names.volumes h.limits.name.part h.new;
+      before_lanes = h.before_lanes;
+    }
+
+name_more : (text more : List ℕ) (names : List (List ℕ)) (name : Span) → IsNewName text names name → IsNewName (text ++ more) names name
+name_more text more names name h = record { short = short_more text more name h.short; new = place_more text more name names h.short.part h.new }
+
+ranged_more : (text more : List ℕ) (rows : List VolumeRow) (writers : ℕ) (op : Op) → IsRanged (length text) rows writers op → IsRanged (length (text ++ more)) rows writers op
+ranged_more text more rows writers (Component w full) h = (h.0, part_more text more full h.1)
+ranged_more text more rows writers (WriteFill v b x) h = h
+ranged_more text more rows writers (WriteStamp v b n) h = h
+ranged_more text more rows writers (Read v b) h = h
+ranged_more text more rows writers (ImageDigest s v) h = h
+ranged_more text more rows writers (ImageBlock s v b) h = h
+ranged_more text more rows writers (Query v) h = h
+ranged_more text more rows writers (Properties s v) h = h
+ranged_more text more rows writers (Revert s v) h = h
+ranged_more text more rows writers (DeleteSet s) h = h
+ranged_more text more rows writers (DeleteImage s v) h = h
+ranged_more text more rows writers (Tick n) h = h
+ranged_more text more rows writers (Begin c all) h = h
+ranged_more text more rows writers (Disable w) h = h
+ranged_more text more rows writers Gather h = h
+ranged_more text more rows writers Document h = h
+ranged_more text more rows writers Start h = h
+ranged_more text more rows writers (Add v) h = h
+ranged_more text more rows writers Prepare h = h
+ranged_more text more rows writers Snapshot h = h
+ranged_more text more rows writers Await h = h
+ranged_more text more rows writers Status h = h
+ranged_more text more rows writers Complete h = h
+ranged_more text more rows writers Abort h = h
+ranged_more text more rows writers End h = h
+
+entry_more : (text more : List ℕ) (d : DraftValue) (e : Entry) → IsEntry text d e → IsEntry (text ++ more) d e
+entry_more text more d entry.Skipped h = tt
+entry_more text more d entry.Opening h = tt
+entry_more text more d (entry.Area area) h =
+    record {
+      limits = record { name = short_more text more area.name h.limits.name; few_slots = h.limits.few_slots };
+      few = h.few;
+      small = h.small;
+      new = place_more text more area.name d.names.areas h.limits.name.part h.new;
+    }
+entry_more text more d (entry.OwnVolume row) h = (volume_more text more d row (row.blocks + row.slots) h.0, h.1)
+entry_more text more d (entry.SharedVolume row a area) h = (volume_more text more d row row.blocks h.0, h.1)
+entry_more text more d (entry.Writer name metadata) h = (name_more text more d.names.writers name h.0, h.1, h.2, h.3)
+entry_more text more d (entry.Answer w row) h = h
+entry_more text more d (entry.Lane name whom) h = (name_more text more d.names.lanes name h.0, h.1, h.2)
+entry_more text more d (entry.Line line) h =
+    record { ranged = ranged_more text more d.said.volumes (length d.said.writers) line.op h.ranged; few = h.few; few_agendas = h.few_agendas; in_lane = h.in_lane }
+
+-- the names are the same
+names_more : (text more : List ℕ) (d : DraftValue) (e : Entry) → IsEntry text d e → names_after (text ++ more) d.names (saying_in e) ≡ names_after text d.names (saying_in e)
+names_more text more d entry.Skipped h = refl
+names_more text more d entry.Opening h = refl
+names_more text more d (entry.Area area) h = ap (λ (name : List ℕ). record d.names { areas = d.names.areas ++ name ∷ [] }) (bytes_more text more area.name h.limits.name.part)
+names_more text more d (entry.OwnVolume row) h = ap (λ (name : List ℕ). record d.names { volumes = d.names.volumes ++ name ∷ [] }) (bytes_more text more row.name h.0.limits.name.part)
+names_more text more d (entry.SharedVolume row a area) h = ap (λ (name : List ℕ). record d.names { volumes = d.names.volumes ++ name ∷ [] }) (bytes_more text more row.name h.0.limits.name.part)
+names_more text more d (entry.Writer name metadata) h = ap (λ (n : List ℕ). record d.names { writers = d.names.writers ++ n ∷ [] }) (bytes_more text more name h.0.short.part)
+names_more text more d (entry.Answer w row) h = refl
+names_more text more d (entry.Lane name whom) h = ap (λ (n : List ℕ). record d.names { lanes = d.names.lanes ++ n ∷ [] }) (bytes_more text more name h.0.short.part)
+names_more text more d (entry.Line line) h = refl
+
+same_entry : (text more : List ℕ) (d : DraftValue) (e : Entry) → IsEntry text d e → with_entry (text ++ more) d e ≡ with_entry text d e
+same_entry text more d e h = ap (λ n. record (with_entry text d e) { names = n }) (names_more text more d e h)
+
+-- ## one call more
+
+named_name : (text more : List ℕ) (span : Span) → IsPart (length text) span → is_name (bytes_of text span) ≡ true → is_name (bytes_of (text ++ more) span) ≡ true
+named_name text more span h e = ap is_name (bytes_more text more span h) ∙ e
+
+none_is : (o : Option ℕ) → o ≡ None → is_some o ≡ false
+none_is o e = ap is_some e
+
+said_more : (text more : List ℕ) (k : ℕ) (d : DraftValue) (e : Entry) → AreNames (text ++ more) d.said d.names → IsEntry text d e → IsNewlyNamed text k e → IsSaid (text ++ more) d.said k (saying_in e)
+unfolding volume_named writer_named lane_named
+said_more text more k d entry.Skipped names h g = tt
+said_more text more k d entry.Opening names h g = tt
+said_more text more k d (entry.Area area) names h g = tt
+said_more text more k d (entry.OwnVolume row) names h g =
+    let new = (volume_more text more d row (row.blocks + row.slots) h.0).new in
+    (named_name text more row.name h.0.limits.name.part g, none_is _ (ap (place_of (bytes_of (text ++ more) row.name)) (sym names.volumes) ∙ new))
+said_more text more k d (entry.SharedVolume row a area) names h g =
+    let new = (volume_more text more d row row.blocks h.0).new in
+    (named_name text more row.name h.0.limits.name.part g, none_is _ (ap (place_of (bytes_of (text ++ more) row.name)) (sym names.volumes) ∙ new))
+said_more text more k d (entry.Writer name metadata) names h g =
+    let new = (name_more text more d.names.writers name h.0).new in
+    (named_name text more name h.0.short.part g, none_is _ (ap (place_of (bytes_of (text ++ more) name)) (sym names.writers) ∙ new))
+said_more text more k d (entry.Answer w row) names h g = tt
+said_more text more k d (entry.Lane name whom) names h g =
+    let new = (name_more text more d.names.lanes name h.0).new in
+    (named_name text more name h.0.short.part g, none_is _ (ap (place_of (bytes_of (text ++ more) name)) (sym names.lanes) ∙ new))
+said_more text more k d (entry.Line line) names h g = g
+
+pub grown : (source : List ℕ) (k : ℕ) (d : DraftValue) (e : Entry) → IsGrowing source k d → IsEntry source d e → IsNewlyNamed source k e → k < length source + 2
+    → IsGrowing source (k + 1) (with_entry source d e)
+grown source k d e h new named few =
+    record {
+      drafts = λ more. subst (IsDraft (source ++ more)) (same_entry source more d e new) (kept (source ++ more) d e (h.drafts more) (entry_more source more d e new));
+      named = λ more. named_after (source ++ more) k d.said (saying_in e) (said_more source more k d e (h.drafts more).names new named) (h.named more);
+      some = omega arith;
+      few = omega (arith, few);
+      short = h.short;
+    }
+
+pub as_is : (source : List ℕ) (k : ℕ) (d : DraftValue) → IsGrowing source k d → IsDraft source d
+as_is source k d h = subst (λ text. IsDraft text d) (append-nil source) (h.drafts [])
+
+pub plan_has_names : (source : List ℕ) (k : ℕ) (d : DraftValue) → IsGrowing source k d → HasNames (plan_in source d.said)
+plan_has_names source k d h = plan_named source k d.said (subst (λ text. IsNamed text k d.said) (append-nil source) (h.named [])) h.some h.few
+
+pub begun : IsGrowing [] 2 empty_draft
+begun =
+    record {
+      drafts = λ more. record {
+        within = record {
+          areas = All-nil _;
+          few_areas = omega arith;
+          volumes = All-nil _;
+          few_volumes = omega arith;
+          groups = All-nil _;
+          few_groups = omega arith;
+          in_groups = All-nil _;
+          numbered = refl;
+          small = omega arith;
+          writers = All-nil _;
+          few_writers = omega arith;
+          few_answers = omega arith;
+          lanes = All-nil _;
+          few_lanes = omega arith;
+          few_lines = omega arith;
+          few_agendas = omega arith;
+        };
+        names = record { areas = refl; volumes = refl; writers = refl; lanes = refl };
+        counts = record { lines = refl; agenda_lines = refl; answers = refl };
+      };
+      named = λ more. record { volumes = tt; writers = tt; lanes = tt; volumes_apart = tt; writers_apart = tt; lanes_apart = tt; lines = tt };
+      some = omega arith;
+      few = omega arith;
+      short = omega arith;
+    }
+
+pub appended : (source bytes : List ℕ) (k : ℕ) (d : DraftValue) → IsGrowing source k d → length source + length bytes + 1 ≤ 4000000000 → IsGrowing (source ++ bytes ++ 10 ∷ []) k d
+appended source bytes k d h room =
+    let many : length (source ++ bytes ++ 10 ∷ []) ≡ length source + length bytes + 1 = omega (arith, length-append (source ++ bytes) (10 ∷ []), length-append source bytes) in
+    let same : (more : List ℕ) → source ++ (bytes ++ (10 ∷ more)) ≡ (source ++ bytes ++ 10 ∷ []) ++ more =
+    λ more. sym (append_assoc source bytes (10 ∷ more)) ∙ sym (append_assoc (source ++ bytes) (10 ∷ []) more) in
+    record {
+      drafts = λ more. subst (λ text. IsDraft text d) (same more) (h.drafts (bytes ++ (10 ∷ more)));
+      named = λ more. subst (λ text. IsNamed text k d.said) (same more) (h.named (bytes ++ (10 ∷ more)));
+      some = h.some;
+      few = omega (arith, h.few, many);
+      short = omega (arith, many, room);
+    }
+
+-- ## what a call says has new names
+
+newly : (text : List ℕ) (k : ℕ) (d : SoFar) (e : Entry) → IsSaid text d k (saying_in e) → IsNewlyNamed text k e
+newly text k d entry.Skipped h = tt
+newly text k d entry.Opening h = tt
+newly text k d (entry.Area area) h = tt
+newly text k d (entry.OwnVolume row) h = h.0
+newly text k d (entry.SharedVolume row a area) h = h.0
+newly text k d (entry.Writer name metadata) h = h.0
+newly text k d (entry.Answer w row) h = tt
+newly text k d (entry.Lane name whom) h = h.0
+newly text k d (entry.Line line) h = h
+
+good_is : (P : Saying → Type 0) (r : Result Saying Reason) (s : Saying) → r ≡ Ok s → IsGood P r → P s
+good_is P r s e h = subst (IsGood P) e h
+
+named_if : (text : List ℕ) (k : ℕ) (d : SoFar) (said : Result Entry Cause) (r : Result Saying Reason) → told said ≡ r → IsGood (IsSaid text d k) r → IfOk said (IsNewlyNamed text k)
+named_if text k d (Ok e) r same h = newly text k d e (good_is (IsSaid text d k) r (saying_in e) (sym same) h)
+named_if text k d (Err cause) r same h = tt
+
+before : (P : Saying → Type 0) (d : SoFar) (r : Result Saying Reason) → IsGood P r → IsGood P (before_lanes d r)
+before P d r h = on_either P (has_lane d.lanes) (Err Misplaced) r tt h
+
+area_good : (text : List ℕ) (d : SoFar) (k : ℕ) (name : Span) (slots : ℕ) → IsGood (IsSaid text d k) (area_said text d name slots)
+unfolding area_said
+area_good text d k name slots =
+    let P = IsSaid text d k in
+    before P d _ (on_bind P (name_field text _ name) _ (λ n e. on_bind P (number_if 0 65536 slots) _
+    (λ s f. on_either P (nat_lt (length d.areas) 128 && has_space d s) (Ok (saying.Area (record { name = n; slots = s }))) (Err TooMany) tt tt)))
+
+own_good : (text : List ℕ) (d : SoFar) (k : ℕ) (name : Span) (blocks slots : ℕ) → IsGood (IsSaid text d k) (own_said text d name blocks slots)
+unfolding own_said
+own_good text d k name blocks slots =
+    let P = IsSaid text d k in
+    before P d _ (on_bind P (new_volume text d name) _ (λ n e. on_bind P (number_if 1 65536 blocks) _ (λ b f. on_bind P (number_if 0 65536 slots) _
+    (λ s g. on_either P (has_volume_room d (b + s)) (Ok (saying.OwnVolume (own_row d n b s))) (Err TooMany) (volume_new text d name n (new_name text _ name n e)) tt))))
+
+shared_good : (text : List ℕ) (d : SoFar) (k : ℕ) (name : Span) (blocks a : ℕ) → IsGood (IsSaid text d k) (shared_said text d name blocks a)
+unfolding shared_said
+shared_good text d k name blocks a =
+    let P = IsSaid text d k in
+    before P d _ (on_bind P (new_volume text d name) _ (λ n e. on_bind P (number_if 1 65536 blocks) _ (λ b f. on_bind P (area_at a (slice_get d.areas a)) _
+    (λ p g. on_either P (has_volume_room d b) (Ok (saying.SharedVolume (shared_row d n b p.1) p.0 p.1)) (Err TooMany) (volume_new text d name n (new_name text _ name n e)) tt))))
+
+writer_good : (text : List ℕ) (d : SoFar) (k : ℕ) (name : Span) (meta : Meta) → IsGood (IsSaid text d k) (writer_said text d name meta)
+unfolding writer_said
+writer_good text d k name meta =
+    let P = IsSaid text d k in
+    before P d _ (on_bind P (new_writer text d name) _
+    (λ n e. on_either P (nat_lt (length d.writers) 64) (Ok (saying.Writer (record { name = n; meta = meta; script = [] }))) (Err TooMany) (writer_new text d name n (new_name text _ name n e)) tt))
+
+answer_good : (text : List ℕ) (d : SoFar) (k w : ℕ) (row : Scripted) → IsGood (IsSaid text d k) (answer_said d w row)
+unfolding answer_said
+answer_good text d k w row =
+    let P = IsSaid text d k in
+    before P d _ (on_bind P (number_below (length d.writers) w) _ (λ i e. on_bind P (number_if 1 2000 row.nth) _ (λ n f. on_bind P (new_nth d.writers i row.order n) _
+    (λ m g. on_either P (nat_lt (answer_count d.writers) 10000) _ (Err TooMany) tt tt))))
+
+lane_good : (text : List ℕ) (d : SoFar) (k : ℕ) (name : Span) (whom : Option ℕ) → IsGood (IsSaid text d k) (lane_said text d name whom)
+unfolding lane_said
+lane_good text d k name whom =
+    let P = IsSaid text d k in
+    on_bind P (new_lane text d name) _ (λ n e. on_bind P (whom_in (length d.writers) whom) _
+    (λ w f. on_either P (nat_lt (length d.lanes) 64) (Ok (saying.Lane n w)) (Err TooMany) (lane_new text d name n (new_name text _ name n e)) tt))
+
+line_good : (text : List ℕ) (d : SoFar) (k : ℕ) (what : Op) → IsGood (IsSaid text d k) (line_said text d k what)
+unfolding line_said
+line_good text d k what =
+    let P = IsSaid text d k in
+    on_either P (has_lane d.lanes) _ (Err Misplaced) (on_bind P (op_in text d.volumes (length d.writers) what) _
+    (λ o e. on_either P (has_line_room (line_count d.lanes) (agenda_count d.lanes) o) (Ok (saying.Line (record { number = k; op = o }))) (Err TooMany) refl tt)) tt
+
+value_good : (text : List ℕ) (d : SoFar) (k : ℕ) (name : Span) (v : Value) → IsGood (IsSaid text d k) (value_said text d k name v)
+value_good text d k name (value.Area slots) = area_good text d k name slots
+value_good text d k name (value.OwnVolume blocks slots) = own_good text d k name blocks slots
+value_good text d k name (value.SharedVolume blocks area) = shared_good text d k name blocks area
+value_good text d k name (value.Writer metadata) = writer_good text d k name (meta_of metadata)
+value_good text d k name (value.Answer writer row) = answer_good text d k writer row
+value_good text d k name (value.Lane whom) = lane_good text d k name whom
+value_good text d k name (value.Line what) = line_good text d k what
+value_good text d k name (value.Component writer) = line_good text d k (op.Component writer name)
+
+pub named_value : (text : List ℕ) (d : SoFar) (k : ℕ) (name : Span) (v : Value) (said : Result Entry Cause) → told said ≡ value_said text d k name v → IfOk said (IsNewlyNamed text k)
+named_value text d k name v said same = named_if text k d said (value_said text d k name v) same (value_good text d k name v)
