@@ -41,18 +41,18 @@ done < <(LC_ALL=C awk -F ' *[|] *' '
     for (i = 1; i <= count; i++) {
       parts = split(cited[i], part, " ")
       if (parts == 1 && part[1] ~ /^[0-9]+$/) number = part[1]
-      else if (parts == 2 && part[2] ~ /^[0-9]+$/ && part[1] ~ /^[a-z_]+$/) { name = part[1]; number = part[2] }
-      else if (parts == 1 && part[1] ~ /^[a-z_]+$/) { name = part[1]; number = alone }
+      else if (parts == 2 && part[2] ~ /^[0-9]+$/ && part[1] ~ /^(orders\/)?[a-z_]+$/) { name = part[1]; number = part[2] }
+      else if (parts == 1 && part[1] ~ /^(orders\/)?[a-z_]+$/) { name = part[1]; number = alone }
       else continue
       print $2 "|" words "|" name "|" number
     }
   }' docs/ANSWERS.md)
 [ "$many" -gt 40 ] || wrong "docs/ANSWERS.md names $many lines of examples only"
 
-for scenario in examples/*.scenario; do
+for scenario in examples/*.scenario examples/orders/*.scenario; do
   grep -qF "(${scenario#examples/})" examples/README.md || wrong "examples/README.md does not name $scenario"
 done
 while read -r linked; do
   [ -f "examples/$linked" ] || wrong "examples/README.md names $linked, which is not there"
-done < <(grep -oE '\([a-z_]+\.scenario\)' examples/README.md | tr -d '()')
+done < <(grep -oE '\([a-z_/]+\.(scenario|order)\)' examples/README.md | tr -d '()')
 ends "$many, each as an example has it"

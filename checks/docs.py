@@ -11,7 +11,7 @@ import sys
 
 PAGES = ["README.md"] + sorted(glob.glob("docs/*.md")) + ["examples/README.md"] + sorted(glob.glob("crates/*/README.md"))
 SOURCES = """crates/*/src/*.rt crates/*/specs/*.antt crates/*/proofs/*.antt crates.txt checks/* checks/*/* tools/* tools/*/* examples/*.scenario
-    examples/*.report HANDLES tests prove vss timeline .ci/run""".split()
+    examples/*.report HANDLES tests prove vss timeline orders .ci/run""".split()
 # Words of the kit, the host and the languages here, which no file of the repository need have.
 FOREIGN = set("""rt ci rattle-kit-13f rattle-kit-13b malloc realloc std serde_json json uuid sha2 clap hex itoa byteorder indexmap arrayvec
     atomic_table crossbeam_utils libc Send Sync Drop Copy Model sha256sum taskset rsync open ftruncate pread pwrite fdatasync close

@@ -104,7 +104,8 @@ fails sink room 20
 
 # ## first parts of a text
 
-text=freeze_levels.scenario
+text="$room/text"
+grep -v '^#' "$top/examples/orders/freeze_levels.scenario" > "$text"
 size="$(stat -c %s "$text")"
 for ((n = 0; n < size; n++)); do
   head -c "$n" "$text" > "$room/part"

@@ -1,0 +1,128 @@
+#!/usr/bin/env bash
+# `vss_orders` plays each example of examples/orders in its order, byte for byte, over devices of which calls fail if NAME.with says so, makes the
+# report of each example again from that report as its order, and replays it. A number draws the same bytes at each run, and several numbers draw
+# several orders; the outcomes of many are counted. What is no order and no report, and words that ask for nothing, are reported by the file, the
+# line and what was expected, with nothing on standard output. It runs the program as LLVM and, where that is there, as Rattle's own compiler builds it.
+. "$(dirname "${BASH_SOURCE[0]}")/prelude.sh" || exit 70
+builds="$(programs vss_orders)" || exit 1
+mapfile -t builds <<< "$builds"
+
+# the words before the task for an example
+with_of() { cat "${1%.*}.with" 2> /dev/null; }
+
+# plays a scenario in an order, and compares the report; the report of the scenario is then replayed
+plays() {
+  # the words are parted
+  # shellcheck disable=SC2046
+  "$program" $(with_of "$1") order "$1" "$2" > "$room/report" 2> "$room/err" || wrong "$1 by $2: status $?, $(cat "$room/err")"
+  cmp -s "$room/report" "$3" || wrong "$1 by $2: another report than $3"
+  # shellcheck disable=SC2046
+  "$program" $(with_of "$1") again "$1" "$3" > "$room/out" 2>&1 || wrong "$3, replayed: status $?, $(cat "$room/out")"
+  [ ! -s "$room/out" ] || wrong "$3, replayed: $(cat "$room/out")"
+}
+
+# answers words over a text, NAME, that is made of these bytes, with a status and with this line
+answers() {
+  local wanted="$1" line="$2" task="$3" said status
+  printf '%b' "$4" > "$room/text"
+  said="$("$program" "$task" examples/orders/held_write.scenario "$room/text" 2>&1 > "$room/out")"
+  status=$?
+  if [ "$status" != "$wanted" ] || [ "$said" != "orders: $room/text: $line" ] || [ -s "$room/out" ]; then
+    wrong "$task \"$4\": status $status, $said"
+  fi
+}
+
+# answers words with a status, and with this line
+refuses() {
+  local wanted="$1" line="$2" said status
+  shift 2
+  said="$("$program" "$@" 2>&1 > "$room/out")"
+  status=$?
+  if [ "$status" != "$wanted" ] || [ "$said" != "orders: $line" ] || [ -s "$room/out" ]; then
+    wrong "\`vss_orders $*\`: status $status, $said"
+  fi
+}
+
+# an actor that has to wait behind the first lines of an example's order
+waits() {
+  head -n "$2" "$1.order" > "$room/text"
+  echo "$3" >> "$room/text"
+  refuses 3 "$room/text: line $(($2 + 1)): this move may not come here: its actor has to wait" order "$1.scenario" "$room/text"
+}
+
+form="expected \`lane NAME\`, \`writer NAME\`, \`provider\` or \`idle\`, and before it \`N times\` or nothing"
+names="expected one name behind \`lane\` or \`writer\`, and nothing behind \`provider\` or \`idle\`"
+usage="usage: orders [with DEVICE read|write|flush N|N..M].. order SCENARIO ORDER | again SCENARIO REPORT | seed N SCENARIO | many COUNT SCENARIO"
+first=examples/first
+held=examples/orders/held_write
+for program in "${builds[@]}"; do
+  for order in examples/orders/*.order; do
+    plays "${order%.order}.scenario" "$order" "${order%.order}.report"
+    plays "${order%.order}.scenario" "${order%.order}.report" "${order%.order}.report"
+  done
+  for scenario in examples/*.scenario; do
+    plays "$scenario" "${scenario%.scenario}.report" "${scenario%.scenario}.report"
+  done
+  for number in 0 1 2 3 4 5 6 7; do
+    "$program" seed "$number" checks/trials/one_cut.scenario > "$room/$number.first" || wrong "seed $number has no report"
+    "$program" seed "$number" checks/trials/one_cut.scenario | cmp -s - "$room/$number.first" || wrong "seed $number has two reports"
+  done
+  [ "$(sha256sum "$room"/*.first | cut -d ' ' -f 1 | sort -u | wc -l)" -gt 3 ] || wrong "eight numbers draw few orders"
+  "$program" many 300 examples/orders/hold_limit.scenario > "$room/many" || wrong "many: status $?"
+  cmp -s "$room/many" examples/orders/hold_limit.outcomes || wrong "many: other outcomes than examples/orders/hold_limit.outcomes"
+  "$program" with C.vol flush 1 many 20 examples/orders/failed_flush.scenario | head -n 2 | cmp -s - <(printf 'outcome 20 times, first seed 0\nset 1 failed VSS_E_UNEXPECTED_PROVIDER_ERROR\n') ||
+    wrong "many with a failed flush"
+
+  answers 3 "line 1: $form" order "lanes app\n"
+  answers 3 "line 2: $form" order "\nBackup\n"
+  answers 3 "line 1: $form" order "2 tims provider\n"
+  answers 3 "line 1: $form" order " provider\n"
+  answers 3 "line 1: $names" order "lane\n"
+  answers 3 "line 1: $names" order "lane app backup\n"
+  answers 3 "line 1: $names" order "provider \n"
+  answers 3 "line 1: $names" order "2\n"
+  answers 3 "line 3: expected the name of a lane or of a writer of the scenario" order "# a comment\nlane backup\nlane none\n"
+  answers 3 "line 1: expected the name of a lane or of a writer of the scenario" order "writer app\n"
+  answers 3 "line 1: expected a number before \`times\`" order "02 times provider\n"
+  answers 3 "line 1: expected a number from 1 to 2097152 before \`times\`" order "0 times provider\n"
+  answers 3 "line 1: expected a number from 1 to 2097152 before \`times\`" order "2097153 times provider\n"
+  answers 3 "line 2: expected at most 2097152 moves in all" order "2097152 times provider\nprovider\n"
+  answers 3 "line 2: expected a newline at the end" order "lane backup\nlane app"
+  answers 3 "line 2: this move may not come here: its actor has to wait" order "4 times lane backup\nlane backup\n"
+  answers 3 "line 3: this move may not come here: its actor has to wait" order "4 times lane backup\n3 times provider\nlane app\n"
+  answers 3 "line 1: this move may not come here: its actor has no move left" order "3 times lane app\n"
+  waits examples/orders/frozen_writer "$(grep -n '^# the veto' examples/orders/frozen_writer.order | cut -d : -f 1)" "lane x"
+  answers 3 "line 2: expected a line of a report of $held.scenario" order "report 1\n1 lane nobody 7 ok\n"
+  answers 3 "move 1: this move may not come here: its actor has to wait" order "report 1\n1 provider precommit\nend moves 1 clock 0\n"
+
+  answers 3 "line 1: expected \`report 1\`" again ""
+  answers 3 "line 1: expected \`report 1\`" again "report 2\n"
+  answers 3 "line 1: expected \`report 1\`" again "report 1"
+  answers 3 "line 2: expected \`1 lane backup 6 ok\`" again "report 1\n1 lane nobody 6 ok\n"
+  answers 3 "line 2: expected \`1 lane app 14 ok\`" again "report 1\n1 lane app 14 fault\n2 lane nobody 15 ok\n"
+  answers 3 "line 2: expected \`1 lane backup 6 ok\`" again "report 1\n1 provider precommit\n"
+  answers 3 "line 3: expected \`2 lane backup 7 set 1\`" again "report 1\n1 lane backup 6 ok\n"
+  answers 3 "line 22: expected no more lines" again "$(sed 's/$/\\n/' $held.report | tr -d '\n')more\n"
+  answers 3 "line 21: expected \`$(tail -n 1 $held.report)\`" again "$(sed 's/$/\\n/' $held.report | tr -d '\n' | sed 's/\\n$//')"
+  refuses 3 "examples/revert.report: line 16: expected \`$(sed -n 16p $first.report)\`" again $first.scenario examples/revert.report
+  refuses 3 "examples/orders/failed_flush.report: line 7: expected \`6 provider flush C\`" again examples/orders/failed_flush.scenario examples/orders/failed_flush.report
+
+  refuses 2 "$usage"
+  refuses 2 "$usage" order $first.scenario
+  refuses 2 "$usage" seed 01 $first.scenario
+  refuses 2 "$usage" seed 4294967296 $first.scenario
+  refuses 2 "$usage" many 0 $first.scenario
+  refuses 2 "$usage" play $first.scenario $first.report
+  refuses 2 "$usage" with C.vol make 1 seed 1 $first.scenario
+  refuses 2 "$usage" with C.vol flush 1.. seed 1 $first.scenario
+  refuses 2 "$usage" with C.vol flush 1
+  for device in D.vol C.shared C vol ""; do
+    refuses 3 "$first.scenario: expected a device of it, as \`NAME.vol\`, \`NAME.area\` or \`NAME.shared\`, and not \`$device\`" with "$device" flush 1 seed 1 $first.scenario
+  done
+  refuses 4 "$room/none: cannot be read" order "$room/none" $first.report
+  refuses 4 "$room/none: cannot be read" order $first.scenario "$room/none"
+  refuses 4 "$room/none: cannot be read" again $first.scenario "$room/none"
+  refuses 3 "$first.report: line 1: UnknownWord" order $first.report $first.report
+  refuses 3 "$first.report: line 1: UnknownWord" many 3 $first.report
+done
+ends "$(ls examples/orders/*.order | wc -l) orders, $(ls examples/*.scenario examples/orders/*.scenario | wc -l) reports made again and replayed, by ${#builds[@]} builds"

@@ -1,0 +1,209 @@
+-- A run whose moves are drawn.
+use Rattle.std.proofs.Common.{drop-cons, ◌≡◌, ℕ, zero, suc, ◌+◌, ◌<◌, ◌≤◌, ◌%◌, List, [], ◌∷◌, ◌++◌, append_assoc, length, take, drop, get_or, refl, ap, sym, ◌∙◌, arith, Bool, true, false, Option}
+use Rattle.std.proofs.Common.{Some, None, subst, inl, inr}
+use Rattle.std.specs.Prelude.{find, map, not, ◌&&◌, ◌||◌, ◌⊎◌, nat_le, if◌then◌else◌, Result, Ok, Err}
+use Rattle.std.specs.Option.{option_or}
+use Rattle.std.specs.List.{range_with_len}
+use Rattle.std.proofs.lemmas.List.{append-nil, take_more, take-append-drop}
+use Rattle.std.proofs.lemmas.List.Folds.{find-append}
+use Rattle.vss_names.specs.declared.out_of_memory.OutOfMemory.{OutOfMemory}
+use Rattle.write_history.specs.declared.actor.Actor.{Actor}
+use Rattle.write_history.specs.declared.actor.Actor.TheVariants.{Lane, Writer, Advance, Idle}
+use Rattle.write_history.specs.declared.move_item.Move.{Move}
+use Rattle.scenario.specs.Plan.{Plan}
+use Rattle.vss_model.specs.Trail.{run, event_of, may_move, allows, is_legal_move, is_complete}
+use Rattle.vss_play.specs.Played.{Played, run_of, is_finished, Stays, IsKept, IsTurnOf, IsMovedOn, IsOnward}
+use Rattle.vss_play.specs.Acting.{actors_in_threads}
+use Rattle.vss_play.proofs.ClosingLines.{longer_same}
+use Rattle.vss_play.proofs.FaultMarks.{later-refl}
+use Rattle.vss_play.proofs.InTurn.{stuck_complete}
+use Rattle.orders.specs.Drawn.{goes, from_place, asked_from, drawn_actor, AreDrawn, generator_after, place_of, IsFirstToGo, IsDrawing, IsPlayedAsDrawn}
+use Rattle.orders.proofs.Led.{onward_more}
+
+-- ## who goes
+
+both_true : (a b : Bool) → a ≡ true → b ≡ false → (a && not b) ≡ true
+both_true true true e f = cc
+both_true true false e f = refl
+both_true false b e f = cc
+
+first_of : (a b : Bool) → (a && b) ≡ true → a ≡ true
+first_of true b e = refl
+first_of false b e = absurd cc
+
+one_false : (a b : Bool) → (a ≡ false) ⊎ (b ≡ true) → (a && not b) ≡ false
+one_false a b (inl e) = ap (λ (x : Bool). x && not b) e
+one_false true b (inr e) = ap not e
+one_false false b (inr e) = refl
+
+-- an actor that moved goes, and one that stays does not
+pub mover_goes : {D : Type 0} (told : D → Option (List (List ℕ))) (count : D → ℕ) (p q : Played D) (actor : Actor) → IsMovedOn told count p q actor → goes p.plan p.trail actor ≡ true
+mover_goes told count p q actor h =
+    both_true (may_move p.plan (run_of p) actor) (is_finished p.plan p.trail actor)
+    (first_of (may_move p.plan (run_of p) actor) (allows p.plan (run_of p) (event_of p.plan (run_of p) actor) h.mark) h.legal) h.going
+
+pub stays_put : {D : Type 0} (p : Played D) (actor : Actor) → Stays p actor → goes p.plan p.trail actor ≡ false
+stays_put p actor h = one_false (may_move p.plan (run_of p) actor) (is_finished p.plan p.trail actor) h
+
+stays_by : (a b : Bool) → (a && not b) ≡ false → (a ≡ false) ⊎ (b ≡ true)
+stays_by true true e = inr refl
+stays_by true false e = absurd cc
+stays_by false b e = inl refl
+
+-- ## the first that goes
+
+or_none : {X : Type 0} (a b : Option X) → a ≡ None → option_or a b ≡ b
+or_none None b e = refl
+or_none (Some x) b e = absurd cc
+
+or_some : {X : Type 0} (a b : Option X) (x : X) → a ≡ Some x → option_or a b ≡ Some x
+or_some None b x e = absurd cc
+or_some (Some y) b x e = e
+
+pub find_past : {X : Type 0} (p : X → Bool) (xs ys : List X) → find p xs ≡ None → find p (xs ++ ys) ≡ find p ys
+find_past p xs ys e = find-append p xs ys ∙ or_none (find p xs) (find p ys) e
+
+pub find_within : {X : Type 0} (p : X → Bool) (xs ys : List X) (x : X) → find p xs ≡ Some x → find p (xs ++ ys) ≡ Some x
+find_within p xs ys x e = find-append p xs ys ∙ or_some (find p xs) (find p ys) x e
+
+find_here : {X : Type 0} (p : X → Bool) (x : X) (xs : List X) → p x ≡ true → find p (x ∷ xs) ≡ Some x
+find_here p x xs e = ap (λ (b : Bool). if b then Some x else find p xs) e
+
+find_none : {X : Type 0} (p : X → Bool) (x : X) → p x ≡ false → find p (x ∷ []) ≡ None
+find_none p x e = ap (λ (b : Bool). if b then Some x else None) e
+
+-- the actors before this place stay
+pub record AreStaying {D : Type 0} (first now : Played D) (actors : List Actor) : Type 0 where
+  pub same : now ≡ first
+  pub none : find (goes first.plan first.trail) actors ≡ None
+
+pub one_stays : {D : Type 0} (first now next : Played D) (actors : List Actor) (actor : Actor) → AreStaying first now actors → (next ≡ now) × Stays now actor
+    → AreStaying first next (actors ++ actor ∷ [])
+one_stays {D} first now next actors actor h here =
+    let put : goes first.plan first.trail actor ≡ false = subst (λ (q : Played D). goes q.plan q.trail actor ≡ false) h.same (stays_put now actor here.1) in
+    record { same = here.0 ∙ h.same; none = find_past (goes first.plan first.trail) actors (actor ∷ []) h.none ∙ find_none (goes first.plan first.trail) actor put }
+
+pub one_goes : {D : Type 0} (told : D → Option (List (List ℕ))) (count : D → ℕ) (first now next : Played D) (before rest : List Actor) (actor : Actor) → AreStaying first now before
+    → IsMovedOn told count now next actor
+    → IsFirstToGo told count first next (before ++ actor ∷ rest) (Ok true)
+one_goes {D} told count first now next before rest actor h moved =
+    let one = subst (λ (q : Played D). IsMovedOn told count q next actor) h.same moved in (
+      actor,
+      one,
+      find_past (goes first.plan first.trail) before (actor ∷ rest) h.none ∙ find_here (goes first.plan first.trail) actor rest (mover_goes told count first next actor one),
+    )
+
+-- the next of a list of actors
+pub staying_next : {D : Type 0} (first now next : Played D) (actors : List Actor) (i : ℕ) (d : Actor) → i < length actors → AreStaying first now (take i actors)
+    → (next ≡ now) × Stays now (get_or actors i d) → AreStaying first next (take (i + 1) actors)
+staying_next {D} first now next actors i d l h here =
+    subst (λ (xs : List Actor). AreStaying first next xs) (sym (take_more actors i d l)) (one_stays first now next (take i actors) (get_or actors i d) h here)
+
+pub next_goes : {D : Type 0} (told : D → Option (List (List ℕ))) (count : D → ℕ) (first now next : Played D) (actors : List Actor) (i : ℕ) (d : Actor) → i < length actors
+    → AreStaying first now (take i actors)
+    → IsMovedOn told count now next (get_or actors i d) → IsFirstToGo told count first next actors (Ok true)
+next_goes {D} told count first now next actors i d l h moved =
+    let parts : actors ≡ take i actors ++ get_or actors i d ∷ drop (suc i) actors = sym (take-append-drop i actors) ∙ ap (λ (xs : List Actor). take i actors ++ xs) (drop-cons actors i d l) in
+    subst (λ (xs : List Actor). IsFirstToGo told count first next xs (Ok true)) (sym parts) (one_goes told count first now next (take i actors) (drop (suc i) actors) (get_or actors i d) h moved)
+
+-- one more list of actors is asked
+pub then_true : {D : Type 0} (told : D → Option (List (List ℕ))) (count : D → ℕ) (old new : Played D) (xs ys : List Actor) → IsFirstToGo told count old new xs (Ok true)
+    → IsFirstToGo told count old new (xs ++ ys) (Ok true)
+then_true told count old new xs ys h = (h.0, h.1, find_within (goes old.plan old.trail) xs ys h.0 h.2)
+
+pub then_asked : {D : Type 0} (told : D → Option (List (List ℕ))) (count : D → ℕ) (old now new : Played D) (xs ys : List Actor) (r : Result Bool OutOfMemory)
+    → IsFirstToGo told count old now xs (Ok false) → IsFirstToGo told count now new ys r → IsFirstToGo told count old new (xs ++ ys) r
+then_asked {D} told count old now new xs ys (Ok true) first h =
+    let one : IsFirstToGo told count old new ys (Ok true) = subst (λ (q : Played D). IsFirstToGo told count q new ys (Ok true)) first.0 h in
+    (one.0, one.1, find_past (goes old.plan old.trail) xs ys first.1 ∙ one.2)
+then_asked {D} told count old now new xs ys (Ok false) first h =
+    let one : IsFirstToGo told count old new ys (Ok false) = subst (λ (q : Played D). IsFirstToGo told count q new ys (Ok false)) first.0 h in
+    (one.0, find_past (goes old.plan old.trail) xs ys first.1 ∙ one.1)
+then_asked told count old now new xs ys (Err e) first h = tt
+
+-- ## where none goes the run is complete
+
+or_parts : {X : Type 0} (a b : Option X) → option_or a b ≡ None → (a ≡ None) × (b ≡ None)
+or_parts None b e = (refl, e)
+or_parts (Some x) b e = absurd cc
+
+find_parts : {X : Type 0} (p : X → Bool) (xs ys : List X) → find p (xs ++ ys) ≡ None → (find p xs ≡ None) × (find p ys ≡ None)
+find_parts p xs ys e = or_parts (find p xs) (find p ys) (sym (find-append p xs ys) ∙ e)
+
+if_none : {X : Type 0} (b : Bool) (x : X) (o : Option X) → (if b then Some x else o) ≡ None → (b ≡ false) × (o ≡ None)
+if_none true x o e = absurd cc
+if_none false x o e = (refl, e)
+
+-- a list from a place on has the same members
+none_in_all : {X : Type 0} (p : X → Bool) (k : ℕ) (xs : List X) → find p (from_place k xs) ≡ None → find p xs ≡ None
+none_in_all p k xs e =
+    let parts = find_parts p (drop k xs) (take k xs) e in
+    ap (find p) (sym (take-append-drop k xs)) ∙ find_past p (take k xs) (drop k xs) parts.1 ∙ parts.0
+
+none_of : (p : Actor → Bool) (who : ℕ → Actor) (a n j : ℕ) → find p (map who (range_with_len a n)) ≡ None → j < n → p (who (a + j)) ≡ false
+none_of p who a zero j e l = absurd (omega arith)
+none_of p who a (suc n) zero e l =
+    let at : a + 0 ≡ a = omega arith in
+    subst (λ x. p (who x) ≡ false) (sym at) (if_none (p (who a)) (who a) (find p (map who (range_with_len (a + 1) n))) e).0
+none_of p who a (suc n) (suc j) e l =
+    let at : a + suc j ≡ a + 1 + j = omega arith in
+    subst (λ x. p (who x) ≡ false) (sym at) (none_of p who (a + 1) n j (if_none (p (who a)) (who a) (find p (map who (range_with_len (a + 1) n))) e).1 (omega arith))
+
+none_from : (p : Actor → Bool) (who : ℕ → Actor) (n j : ℕ) → find p (map who (range_with_len 0 n)) ≡ None → j < n → p (who j) ≡ false
+none_from p who n j e l = let at : 0 + j ≡ j = omega arith in subst (λ x. p (who x) ≡ false) at (none_of p who 0 n j e l)
+
+none_alone : (p : Actor → Bool) (x : Actor) → find p (x ∷ []) ≡ None → p x ≡ false
+none_alone p x e = (if_none (p x) x None e).0
+
+stays : {D : Type 0} (p : Played D) (actor : Actor) → goes p.plan p.trail actor ≡ false → Stays p actor
+stays p actor e = stays_by (may_move p.plan (run_of p) actor) (is_finished p.plan p.trail actor) e
+
+pub none_goes : {D : Type 0} (told : D → Option (List (List ℕ))) (count : D → ℕ) (p : Played D) (k : ℕ) → IsKept told count p
+    → find (goes p.plan p.trail) (asked_from k (actors_in_threads p.plan)) ≡ None → is_complete p.plan p.trail ≡ true
+none_goes told count p k kept e =
+    let test = goes p.plan p.trail in
+    let lanes = map (λ i. Lane i) (range_with_len 0 (length p.plan.lanes)) in
+    let writers = map (λ w. Writer w) (range_with_len 0 (length p.plan.writers)) in
+    let ends = find_parts test (from_place k (actors_in_threads p.plan)) (Idle ∷ []) e in
+    let all : find test (lanes ++ writers ++ Advance ∷ []) ≡ None = none_in_all test k (actors_in_threads p.plan) ends.0 in
+    let most = find_parts test (lanes ++ writers) (Advance ∷ []) all in
+    let parts = find_parts test lanes writers most.0 in
+    stuck_complete told count p kept
+    (λ i l. stays p (Lane i) (none_from test (λ j. Lane j) (length p.plan.lanes) i parts.0 l))
+    (λ w l. stays p (Writer w) (none_from test (λ j. Writer j) (length p.plan.writers) w parts.1 l))
+    (stays p Advance (none_alone test Advance most.1)) (stays p Idle (none_alone test Idle ends.1))
+
+-- ## from draw to draw
+
+pub drawing_none : {D : Type 0} (told : D → Option (List (List ℕ))) (count : D → ℕ) (generator : ℕ) (p : Played D) → IsDrawing told count generator generator p p
+drawing_none told count generator p = record {
+  onward = record { plan = refl; rest = []; trail = sym (append-nil p.trail); longer = longer_same p.lines; tells = refl; later = later-refl (map count p.devices); clean = λ e. refl };
+  drawn = λ rest h. h;
+}
+
+drawn_as : {D : Type 0} (p q : Played D) (generator : ℕ) (actor : Actor) → q.plan ≡ p.plan
+    → find (goes q.plan q.trail) (asked_from (place_of generator (length (actors_in_threads q.plan))) (actors_in_threads q.plan)) ≡ Some actor
+    → drawn_actor p.plan generator q.trail ≡ Some actor
+drawn_as {D} p q generator actor same e = subst (λ (x : Plan). drawn_actor x generator q.trail ≡ Some actor) same e
+
+pub drawing_more : {D : Type 0} (told : D → Option (List (List ℕ))) (count : D → ℕ) (first generator : ℕ) (p q r : Played D) → IsDrawing told count first generator p q
+    → IsFirstToGo told count q r (asked_from (place_of generator (length (actors_in_threads q.plan))) (actors_in_threads q.plan)) (Ok true) → IsDrawing told count first (generator_after generator) p r
+unfolding onward_more
+drawing_more {D} told count first generator p q r so_far h =
+    let moved = h.1 in
+    let m : Move = record { actor = h.0; mark = moved.mark } in
+    record {
+      onward = onward_more told count p q r h.0 so_far.onward moved;
+      drawn = λ rest are.
+          subst (λ (ms : List Move). AreDrawn p.plan first p.trail ms) (sym (append_assoc so_far.onward.rest (m ∷ []) rest))
+          (so_far.drawn (m ∷ rest) (drawn_as p q generator h.0 so_far.onward.plan h.2, subst (λ (ms : List Move). AreDrawn p.plan (generator_after generator) ms rest) moved.trail are));
+    }
+
+pub drawing_ends : {D : Type 0} (told : D → Option (List (List ℕ))) (count : D → ℕ) (first generator : ℕ) (p q r : Played D) → IsKept told count r → IsDrawing told count first generator p q
+    → IsFirstToGo told count q r (asked_from (place_of generator (length (actors_in_threads q.plan))) (actors_in_threads q.plan)) (Ok false) → IsPlayedAsDrawn told count first p r
+drawing_ends {D} told count first generator p q r kept so_far h =
+    subst (λ (x : Played D). IsPlayedAsDrawn told count first p x) (sym h.0) (record {
+      onward = so_far.onward;
+      complete = none_goes told count q (place_of generator (length (actors_in_threads q.plan))) (subst (λ (x : Played D). IsKept told count x) h.0 kept) h.1;
+      drawn = subst (λ (ms : List Move). AreDrawn p.plan first p.trail ms) (append-nil so_far.onward.rest) (so_far.drawn [] tt);
+    })

@@ -1,0 +1,65 @@
+-- A run that makes the moves of an order one by one.
+use Rattle.std.proofs.Common.{append_assoc, ◌≤◌, ◌≡◌, ℕ, ◌+◌, ◌<◌, List, [], ◌∷◌, ◌++◌, take, drop, get_or, length, refl, ap, sym, ◌∙◌, Option, subst, arith}
+use Rattle.std.specs.Prelude.{map, slice_get}
+use Rattle.std.proofs.lemmas.Option.{slice_get-get_or}
+use Rattle.std.proofs.lemmas.List.{map-append, append-nil, take_more, take_all}
+use Rattle.write_history.specs.declared.actor.Actor.{Actor}
+use Rattle.write_history.specs.declared.move_item.Move.{Move}
+use Rattle.vss_play.specs.Played.{Played, IsOnward, IsMovedOn}
+use Rattle.vss_play.specs.Acting.{IsLedBy}
+use Rattle.vss_play.proofs.ClosingLines.{longer_same, longer_trans, longer_by}
+use Rattle.vss_play.proofs.FaultMarks.{later-refl, later-trans, clean_after}
+use Rattle.orders.specs.declared.entry.Entry.{Entry}
+use Rattle.orders.specs.declared.why.Why.{Why}
+use Rattle.orders.specs.Followed.{actors_of, MayNotCome, IsHaltedAt}
+
+-- a run goes on by one more move
+unfoldable pub onward_more : {D : Type 0} (told : D → Option (List (List ℕ))) (count : D → ℕ) (p q r : Played D) (actor : Actor) → IsOnward told count p q → IsMovedOn told count q r actor
+    → IsOnward told count p r
+onward_more told count p q r actor so_far one =
+    let m : Move = record { actor = actor; mark = one.mark } in
+    record {
+      plan = one.plan ∙ so_far.plan;
+      rest = so_far.rest ++ m ∷ [];
+      trail = one.trail ∙ ap (λ (ms : List Move). ms ++ m ∷ []) so_far.trail ∙ append_assoc p.trail so_far.rest (m ∷ []);
+      longer = longer_trans p.lines q.lines r.lines so_far.longer (longer_by q.lines r.lines one.own one.lines);
+      tells = one.tells ∙ so_far.tells;
+      later = later-trans (map count p.devices) (map count q.devices) (map count r.devices) so_far.later one.later;
+      clean = clean_after so_far.rest m (map count p.devices) (map count q.devices) (map count r.devices) so_far.clean one.clean;
+    }
+
+-- before the first move
+pub led_none : {D : Type 0} (told : D → Option (List (List ℕ))) (count : D → ℕ) (p : Played D) → IsLedBy told count p [] p
+led_none told count p = record {
+  onward = record { plan = refl; rest = []; trail = sym (append-nil p.trail); longer = longer_same p.lines; tells = refl; later = later-refl (map count p.devices); clean = λ e. refl };
+  by = refl;
+}
+
+-- one more move
+led_more : {D : Type 0} (told : D → Option (List (List ℕ))) (count : D → ℕ) (p q r : Played D) (actors : List Actor) (actor : Actor) → IsLedBy told count p actors q → IsMovedOn told count q r actor
+    → IsLedBy told count p (actors ++ actor ∷ []) r
+unfolding onward_more
+led_more told count p q r actors actor led one = record {
+  onward = onward_more told count p q r actor led.onward one;
+  by = map-append (λ (m : Move). m.actor) led.onward.rest (record { actor = actor; mark = one.mark } ∷ []) ∙ ap (λ (xs : List Actor). xs ++ actor ∷ []) led.by;
+}
+
+-- the move of the next entry
+pub led_next : {D : Type 0} (told : D → Option (List (List ℕ))) (count : D → ℕ) (p q r : Played D) (entries : List Entry) (i : ℕ) (d : Entry) → i < length entries
+    → IsLedBy told count p (actors_of (take i entries)) q
+    → IsMovedOn told count q r (get_or entries i d).actor → IsLedBy told count p (actors_of (take (i + 1) entries)) r
+led_next told count p q r entries i d l led one =
+    let more : actors_of (take (i + 1) entries) ≡ actors_of (take i entries) ++ (get_or entries i d).actor ∷ [] =
+    ap actors_of (take_more entries i d l) ∙ map-append (λ (e : Entry). e.actor) (take i entries) (get_or entries i d ∷ []) in
+    subst (λ (xs : List Actor). IsLedBy told count p xs r) (sym more) (led_more told count p q r (actors_of (take i entries)) (get_or entries i d).actor led one)
+
+pub led_all : {D : Type 0} (told : D → Option (List (List ℕ))) (count : D → ℕ) (p q : Played D) (entries : List Entry) (i : ℕ) → length entries ≤ i
+    → IsLedBy told count p (actors_of (take i entries)) q → IsLedBy told count p (actors_of entries) q
+led_all told count p q entries i l led = subst (λ (es : List Entry). IsLedBy told count p (actors_of es) q) (take_all i entries l) led
+
+-- the move of an entry may not come
+pub halted_at : {D : Type 0} (told : D → Option (List (List ℕ))) (count : D → ℕ) (p q r : Played D) (entries : List Entry) (i : ℕ) (d : Entry) (why : Why) → i < length entries
+    → IsLedBy told count p (actors_of (take i entries)) q → r ≡ q
+    → MayNotCome q.plan q.trail (get_or entries i d).actor why → IsHaltedAt told count p r entries (get_or entries i d) why
+halted_at {D} told count p q r entries i d why l led same may_not =
+    subst (λ (x : Played D). IsHaltedAt told count p x entries (get_or entries i d) why) (sym same) (record { place = i; is_entry = slice_get-get_or entries i d l; led = led; may_not = may_not })

@@ -1,0 +1,135 @@
+-- A run that was played to its end has the report of its trail.
+use Rattle.std.proofs.Common.{◌≡◌, ℕ, zero, ◌+◌, ◌≤◌, List, [], ◌∷◌, ◌++◌, length, take, refl, ap, sym, ◌∙◌, arith, Bool, true, Option, Some, subst}
+use Rattle.std.specs.Prelude.{map, sum, slice_get, IsTrue, Result, Ok, Err, IfOk, IfErr, IsErrOf}
+use Rattle.std.proofs.lemmas.List.Sums.{sum_by-cons}
+use Rattle.vss_names.specs.Faults.{Rose}
+use Rattle.vss_names.specs.TextValue.{TextValue}
+use Rattle.write_history.specs.declared.actor.Actor.{Actor}
+use Rattle.write_history.specs.declared.move_item.Move.{Move}
+use Rattle.scenario.specs.Plan.{Plan}
+use Rattle.vss_model.specs.Trail.{is_legal, is_complete, faults}
+use Rattle.vss_report.specs.Report.{IsReport}
+use Rattle.vss_report.specs.ToldReport.{all_tell, told_report}
+use Rattle.vss_report.proofs.Telling.{only_told_report}
+use Rattle.vss_world.specs.Devices.{tells_of}
+use Rattle.vss_play.specs.declared.play_fault.PlayFault.{PlayFault}
+use Rattle.vss_play.specs.declared.play_fault.PlayFault.TheVariants.{Failed, OutOfMemory}
+use Rattle.vss_play.specs.Played.{Played, IsFresh, IsKept, IsOnward, IsPlayedInTurn, IsEnded, AreInTurn, tells_in}
+use Rattle.vss_play.specs.Acting.{IsLedBy}
+use Rattle.vss_main.proofs.Ran.{complete_moved, fault-of}
+use Rattle.orders.specs.declared.entry.Entry.{Entry}
+use Rattle.orders.specs.declared.unplayed.Unplayed.{Unplayed}
+use Rattle.orders.specs.declared.why.Why.{Why}
+use Rattle.orders.specs.Drawn.{AreDrawn, IsPlayedAsDrawn}
+use Rattle.orders.specs.Followed.{actors_of, IsHaltedAt}
+use Rattle.orders.specs.Runs.{NeverFails, IsReported, IsOrdered, IsOfSeed, IsHalted}
+
+none_counted : {D : Type 0} (count : D → ℕ) → NeverFails count → (ds : List D) → sum (map count ds) ≡ 0
+none_counted count never [] = refl
+none_counted count never (d ∷ ds) =
+    let all = sum_by-cons (λ (n : ℕ). n) (count d) (map count ds) in
+    let here = never d in
+    let rest = none_counted count never ds in
+    omega arith
+
+-- where no device ever fails, the trail of a run has no fault mark
+pub none_marked : {D : Type 0} (told : D → Option (List (List ℕ))) (count : D → ℕ) (p : Played D) → IsKept told count p → NeverFails count → faults p.trail ≡ 0
+none_marked told count p kept never = let none = none_counted count never p.devices in let most = kept.faults in omega arith
+
+-- a run as it stands before its end: its plan, its trail, and which volumes tell
+pub record StandsAt {D : Type 0} (told : D → Option (List (List ℕ))) (tells : Bool) (s : Plan) (trail : List Move) (q : Played D) : Type 0 where
+  pub plan : q.plan ≡ s
+  pub trail_is : q.trail ≡ trail
+  pub tell : IsTrue tells → tells_in told q ≡ all_tell s
+
+unfoldable pub onward_stands : {D : Type 0} (told : D → Option (List (List ℕ))) (count : D → ℕ) (tells : Bool) (s : Plan) (p q : Played D) → IsFresh told count tells s p
+    → (h : IsOnward told count p q) → StandsAt told tells s h.rest q
+onward_stands told count tells s p q fresh h = record {
+  plan = h.plan ∙ fresh.plan;
+  trail_is = h.trail ∙ ap (λ (ms : List Move). ms ++ h.rest) fresh.trail;
+  tell = λ t. h.tells ∙ fresh.tell t;
+}
+
+pub stands_on : {D : Type 0} (told : D → Option (List (List ℕ))) (count : D → ℕ) (tells : Bool) (s : Plan) (trail : List Move) (q r : Played D) → StandsAt told tells s trail q
+    → (h : IsOnward told count q r) → StandsAt told tells s (trail ++ h.rest) r
+stands_on told count tells s trail q r at h = record {
+  plan = h.plan ∙ at.plan;
+  trail_is = h.trail ∙ ap (λ (ms : List Move). ms ++ h.rest) at.trail_is;
+  tell = λ t. h.tells ∙ at.tell t;
+}
+
+pub reported : {D : Type 0} (told : D → Option (List (List ℕ))) (count : D → ℕ) (tells : Bool) (s : Plan) (trail : List Move) (q : Played D) (places : ℕ) (kept_first kept_last : Option (List D))
+    (first last : ℕ) (text : TextValue)
+    → StandsAt told tells s trail q → is_complete q.plan q.trail ≡ true → IsEnded told count q places kept_first kept_last first last (Ok text) → IsReported count tells s trail text.bytes
+reported {D} told count tells s trail q places kept_first kept_last first last text at complete ended =
+    let r : Played D = ended.new in
+    let quiet = ended.quiet in
+    let kept = ended.keeps in
+    let plan_is : r.plan ≡ s = quiet.plan ∙ at.plan in
+    let trail_is : r.trail ≡ trail = quiet.trail ∙ at.trail_is in
+    let tell : IsTrue tells → tells_of told r.plan r.devices ≡ all_tell r.plan = λ t. quiet.tells ∙ at.tell t ∙ ap (λ (x : Plan). all_tell x) (sym plan_is) in
+    subst (λ (x : Plan). IsReported count tells x trail text.bytes) plan_is (subst (λ (ms : List Move). IsReported count tells r.plan ms text.bytes) trail_is (record {
+      legal = kept.legal;
+      complete = complete_moved told count q r quiet complete;
+      only = λ t. only_told_report r.plan r.trail text.bytes (subst (λ (bs : List Bool). IsReport r.plan bs r.trail text.bytes) (tell t) ended.ends.0);
+      unmarked = none_marked told count r kept;
+    }))
+
+-- ## by an order
+
+pub in_turn_as : {D : Type 0} (told : D → Option (List (List ℕ))) (tells : Bool) (s : Plan) (trail : List Move) (q : Played D) (rest : List Move) → StandsAt told tells s trail q
+    → AreInTurn q.plan q.trail rest → AreInTurn s trail rest
+in_turn_as told tells s trail q rest at h = subst (λ (ms : List Move). AreInTurn s ms rest) at.trail_is (subst (λ (x : Plan). AreInTurn x q.trail rest) at.plan h)
+
+pub ordered : {D : Type 0} (told : D → Option (List (List ℕ))) (count : D → ℕ) (tells : Bool) (s : Plan) (entries : List Entry) (p q r : Played D) (places : ℕ)
+    (kept_first kept_last : Option (List D)) (first last : ℕ) (text : TextValue)
+    → IsFresh told count tells s p → IsLedBy told count p (actors_of entries) q → IsPlayedInTurn told count q r → IsEnded told count r places kept_first kept_last first last (Ok text)
+    → IsOrdered count tells s entries text.bytes
+unfolding onward_stands
+ordered told count tells s entries p q r places kept_first kept_last first last text fresh led turned ended =
+    let begun = onward_stands told count tells s p q fresh led.onward in
+    let whole = stands_on told count tells s led.onward.rest q r begun turned.played.onward in
+    record {
+      first = led.onward.rest;
+      rest = turned.played.onward.rest;
+      begins = led.by;
+      in_turn = in_turn_as told tells s led.onward.rest q turned.played.onward.rest begun turned.in_turn;
+      reported = reported told count tells s _ r places kept_first kept_last first last text whole turned.played.complete ended;
+    }
+
+-- the moves before an entry that may not come
+pub halted : {D : Type 0} (told : D → Option (List (List ℕ))) (count : D → ℕ) (tells : Bool) (s : Plan) (entries : List Entry) (p q : Played D) (entry : Entry) (why : Why)
+    → IsFresh told count tells s p → IsHaltedAt told count p q entries entry why → IsKept told count q → IsHalted count s entries entry why
+halted {D} told count tells s entries p q entry why fresh h kept =
+    let plan_is : q.plan ≡ s = h.led.onward.plan ∙ fresh.plan in
+    let begins = onward_stands told count tells s p q fresh h.led.onward in
+    subst (λ (x : Plan). IsHalted count x entries entry why) plan_is (record {
+      place = h.place;
+      is_entry = h.is_entry;
+      trail = q.trail;
+      legal = kept.legal;
+      begins = ap (λ (ms : List Move). map (λ (m : Move). m.actor) ms) begins.trail_is ∙ h.led.by;
+      may_not = h.may_not;
+      unmarked = none_marked told count q kept;
+    })
+
+-- ## by draws
+
+pub of_seed : {D : Type 0} (told : D → Option (List (List ℕ))) (count : D → ℕ) (tells : Bool) (s : Plan) (number : ℕ) (p r : Played D) (places : ℕ) (kept_first kept_last : Option (List D))
+    (first last : ℕ) (text : TextValue)
+    → IsFresh told count tells s p → IsPlayedAsDrawn told count number p r → IsEnded told count r places kept_first kept_last first last (Ok text) → IsOfSeed count tells s number text.bytes
+of_seed told count tells s number p r places kept_first kept_last first last text fresh drawn ended =
+    let whole = onward_stands told count tells s p r fresh drawn.onward in
+    record {
+      trail = drawn.onward.rest;
+      drawn = subst (λ (ms : List Move). AreDrawn s number ms drawn.onward.rest) fresh.trail (subst (λ (x : Plan). AreDrawn x number p.trail drawn.onward.rest) fresh.plan drawn.drawn);
+      reported = reported told count tells s _ r places kept_first kept_last first last text whole drawn.complete ended;
+    }
+
+pub of_seed_if : {D : Type 0} (told : D → Option (List (List ℕ))) (count : D → ℕ) (tells : Bool) (s : Plan) (number : ℕ) (p r : Played D) (places : ℕ) (kept_first kept_last : Option (List D))
+    (first last : ℕ) (result : Result TextValue PlayFault)
+    → IsFresh told count tells s p → IsPlayedAsDrawn told count number p r → IsEnded told count r places kept_first kept_last first last result
+    → IfOk result (λ text. IsOfSeed count tells s number text.bytes)
+of_seed_if told count tells s number p r places kept_first kept_last first last
+    (Ok text) fresh drawn ended = of_seed told count tells s number p r places kept_first kept_last first last text fresh drawn ended
+of_seed_if told count tells s number p r places kept_first kept_last first last (Err e) fresh drawn ended = tt

@@ -1,0 +1,34 @@
+-- A run whose moves are made in an order, as far as they may come. (This project's own.)
+use Rattle.std.specs.Prelude.{ℕ, ◌≡◌, true, false, List, length, map, take, Some, slice_get, Option, Result, Ok, Err}
+use Rattle.write_history.specs.declared.actor.Actor.{Actor}
+use Rattle.write_history.specs.declared.move_item.Move.{Move}
+use Rattle.scenario.specs.Plan.{Plan}
+use Rattle.vss_model.specs.Trail.{run, may_move}
+use Rattle.vss_play.specs.Played.{Played, is_finished}
+use Rattle.vss_play.specs.Acting.{IsLedBy}
+use Rattle.orders.specs.declared.entry.Entry.{Entry}
+use Rattle.orders.specs.declared.halted.Halted.{Halted}
+use Rattle.orders.specs.declared.halted.Halted.TheVariants.{At, OutOfMemory}
+use Rattle.orders.specs.declared.why.Why.{Why}
+use Rattle.orders.specs.declared.why.Why.TheVariants.{Blocked, Finished}
+
+abbrev pub actors_of : List Entry → List Actor
+actors_of entries = map (λ (e : Entry). e.actor) entries
+
+-- the move of an actor may not come after these moves
+abbrev pub MayNotCome : Plan → List Move → Actor → Why → Type 0
+MayNotCome s trail actor Blocked = (may_move s (run s trail) actor ≡ false) × (is_finished s trail actor ≡ false)
+MayNotCome s trail actor Finished = is_finished s trail actor ≡ true
+
+-- the run made the moves of the entries before this one, whose move may not come
+pub record IsHaltedAt {D : Type 0} (told : D → Option (List (List ℕ))) (count : D → ℕ) (old new : Played D) (entries : List Entry) (entry : Entry) (why : Why) : Type 0 where
+  pub place : ℕ
+  pub is_entry : slice_get entries place ≡ Some entry
+  pub led : IsLedBy told count old (actors_of (take place entries)) new
+  pub may_not : MayNotCome new.plan new.trail entry.actor why
+
+-- the moves of all entries were made, or why not
+abbrev pub IsFollowed : {D : Type 0} → (D → Option (List (List ℕ))) → (D → ℕ) → Played D → Played D → List Entry → Result Unit Halted → Type 0
+IsFollowed told count old new entries (Ok u) = IsLedBy told count old (actors_of entries) new
+IsFollowed told count old new entries (Err (At entry why)) = IsHaltedAt told count old new entries entry why
+IsFollowed told count old new entries (Err OutOfMemory) = Unit {0}

@@ -1,0 +1,61 @@
+//! The moves of an order, made one after another.
+
+ghost use Rattle.std.specs.Prelude.{OnOk};
+ghost use Rattle.orders.specs.Again.{IsFollowedFar};
+ghost use Rattle.orders.specs.Followed.{IsFollowed};
+
+use crate::entry::Entry;
+use crate::halted::Halted;
+use crate::why::Why;
+use std::alloc::Global;
+use volume_device::Device;
+use vss_names::OutOfMemory;
+use vss_play::{Moved, Play};
+
+/// Makes the moves that are asked for, in order, up to the first that may not come. Want of memory leaves the moves that were made.
+pub fn follow<D: Device>(alloc: Global, play: &mut Play<D>, entries: &[Entry]) -> Result<(), Halted>
+    ensures { IsFollowed D.told D.count play.old play.new entries.now result }
+{
+    for entry in entries {
+        match play.step(alloc, entry.actor) {
+            Ok(Moved::Moved) => {}
+            Ok(Moved::Blocked) => {
+                return Err(Halted::At {
+                    entry: *entry,
+                    why: Why::Blocked,
+                });
+            }
+            Ok(Moved::Finished) => {
+                return Err(Halted::At {
+                    entry: *entry,
+                    why: Why::Finished,
+                });
+            }
+            Err(_) => return Err(Halted::OutOfMemory),
+        }
+    }
+    Ok(())
+}
+
+/// Makes the moves that are asked for, in order, as far as they may come.
+pub fn follow_far<D: Device>(
+    alloc: Global,
+    play: &mut Play<D>,
+    entries: &[Entry],
+) -> Result<(), OutOfMemory>
+    ensures { OnOk result (IsFollowedFar D.told D.count play.old play.new entries.now) }
+{
+    match follow(alloc, play, entries) {
+        Ok(()) => Ok(()),
+        Err(
+            Halted::At {
+                entry: _entry,
+                why: _why,
+            },
+        ) => {
+            let _facts = play.lanes();
+            Ok(())
+        }
+        Err(Halted::OutOfMemory) => Err(OutOfMemory),
+    }
+}

@@ -1,0 +1,57 @@
+//! A text in pieces: in lines, a line in words.
+
+ghost use Rattle.std.specs.Prelude.{◌≡◌, ◌+◌, ◌≤◌, ◌<◌, ◌∷◌, [], length, drop, IfSome, IfNone};
+ghost use Rattle.std.specs.Str.{bytes_eq};
+ghost use Rattle.vss_report.specs.Pieces.{pieces_at, is_over};
+
+/// A word of a line, and the place of the next.
+#[derive(Clone, Copy)]
+pub struct Word<'a> {
+    pub text: &'a [u8],
+    pub next: usize,
+}
+
+/// Whether a word is this one.
+pub fn is(word: &[u8], text: &str) -> bool
+    ensures { result ≡ bytes_eq word.now text.now }
+{
+    word == text.as_bytes()
+}
+
+/// The piece that begins at a place, up to the next byte `mark` or the text's end.
+pub fn piece_at(text: &[u8], mark: u8, at: usize) -> &[u8]
+    requires { at ≤ length text.now }
+    ensures next { pieces_at mark text.now at ≡ result.now ∷ pieces_at mark text.now (at + length result.now + 1) }
+    ensures inside { at + length result.now ≤ length text.now }
+{
+    for end in at..text.len() {
+        if text[end] == mark {
+            return &text[at..end];
+        }
+    }
+    &text[at..text.len()]
+}
+
+/// Whether no piece begins at a place or after it.
+#[tactic(auto, using(crate::proofs::Parted::some_piece))]
+pub fn is_over(text: &[u8], mark: u8, at: usize) -> bool
+    ensures { result ≡ is_over (pieces_at mark text.now at) }
+{
+    at > text.len()
+}
+
+/// The word that begins at a place, where one does.
+#[tactic(auto, using(crate::proofs::Parted::no_piece))]
+pub fn word_at(line: &[u8], at: usize) -> Option<Word<'_>>
+    ensures some { IfSome result (λ word. pieces_at 32 line.now at ≡ word.text.now ∷ pieces_at 32 line.now word.next) }
+    ensures none { IfNone result (pieces_at 32 line.now at ≡ []) }
+{
+    if at > line.len() {
+        return None;
+    }
+    let text = piece_at(line, b' ', at);
+    Some(Word {
+        text,
+        next: at + text.len() + 1,
+    })
+}
