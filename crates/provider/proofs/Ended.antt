@@ -20,12 +20,12 @@ use Rattle.provider.proofs.Flat.{rose_area, counts_same}
 
 -- ## copies of a group
 
-copies_if : (b : Bool) (v n : ℕ) (h : History) (ns : List ℕ) (hs : List History) (cs : ℕ → List Copy) → ((w : ℕ) → cs w ≡ copies_from w (all_placed ns) hs)
+pub copies_if : (b : Bool) (v n : ℕ) (h : History) (ns : List ℕ) (hs : List History) (cs : ℕ → List Copy) → ((w : ℕ) → cs w ≡ copies_from w (all_placed ns) hs)
     → (if b then copies_of v n h.writes h.images ++ cs (v + 1) else cs v) ≡ copies_from v (all_placed (of_group_if b n ns)) (of_group_if b h hs)
 copies_if true v n h ns hs cs e = ap (λ (xs : List Copy). copies_of v n h.writes h.images ++ xs) (e (v + 1))
 copies_if false v n h ns hs cs e = e v
 
-copies_in_group : (g v : ℕ) (rows : List VolumeRow) (hs : List History) → copies_from v (map (placed g) rows) hs ≡ copies_from v (all_placed (blocks_in_group g rows)) (of_group g rows hs)
+pub copies_in_group : (g v : ℕ) (rows : List VolumeRow) (hs : List History) → copies_from v (map (placed g) rows) hs ≡ copies_from v (all_placed (blocks_in_group g rows)) (of_group g rows hs)
 copies_in_group g v [] hs = refl
 copies_in_group g v (r ∷ rows) [] = empty (of_group_if (r.group == g) r.blocks (blocks_in_group g rows))
   where

@@ -149,7 +149,7 @@ find_if false false x o p e f = f
 find_if true false x o p e f = cc
 find_if false true x o p e f = cc
 
-find_same : (p q : ℕ → Bool) (xs : List ℕ) → ((x : ℕ) → p x ≡ q x) → find p xs ≡ find q xs
+pub find_same : (p q : ℕ → Bool) (xs : List ℕ) → ((x : ℕ) → p x ≡ q x) → find p xs ≡ find q xs
 find_same p q [] same = refl
 find_same p q (x ∷ xs) same = find_if (p x) (q x) x (find p xs) (find q xs) (same x) (find_same p q xs same)
 

@@ -406,7 +406,7 @@ impl<D: Device> Provider<D> {
     }
 
     /// Brings all accepted writes of a volume to where they last. A fault is the volume's device's.
-    fn flush(&mut self, scenario: &Scenario, volume: u32) -> Result<(), Cause>
+    pub fn flush(&mut self, scenario: &Scenario, volume: u32) -> Result<(), Cause>
         requires volume { volume < length scenario.now.volumes }
         requires has { HasGroups scenario.now self.old.groups }
         ensures quiet { IsQuiet D.Device scenario.now self.old.groups self.new.groups volume }

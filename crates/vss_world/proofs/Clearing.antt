@@ -15,6 +15,7 @@ use Rattle.vss_world.specs.Provided.{is_to_come, dropped_if, without, provided_o
 use Rattle.vss_world.proofs.ToCome.{AllUnnamed, gone_provided, group_used_provided, held_to_come}
 use Rattle.vss_world.proofs.Unnamed.{IsUnnamed, without_none, later_last}
 use Rattle.vss_world.proofs.WithoutImages.{without_at, none_at}
+use Rattle.provider.proofs.InGroup.{find_same}
 
 -- ## images after a set
 
@@ -113,10 +114,6 @@ gone_at m (p ∷ ps) [] ks v e = sym (gone_none m (p ∷ ps) ks v (sym e))
 gone_at m (p ∷ ps) (h ∷ hs) [] v e = gone_none m (p ∷ ps) (h ∷ hs) v e
 gone_at m (p ∷ ps) (h ∷ hs) (k ∷ ks) zero e = let same : h ≡ k = cc in ap (λ (x : History). Some (if p.within then record { writes = x.writes; images = after_set m x.images } else x)) same
 gone_at m (p ∷ ps) (h ∷ hs) (k ∷ ks) (suc v) e = gone_at m ps hs ks v e
-
-find_same : (f g : ℕ → Bool) (xs : List ℕ) → ((n : ℕ) → f n ≡ g n) → find f xs ≡ find g xs
-find_same f g [] e = refl
-find_same f g (x ∷ xs) e = ap (λ (t : Bool). if t then Some x else find f xs) (e x) ∙ ap (λ (o : Option ℕ). if g x then Some x else o) (find_same f g xs e)
 
 pub as_far : (sets slots : ℕ) (ps : List Placed) (v b : ℕ) (o : Option SetRow) (a : Option Agenda) (hs : List History) → AllUnnamed o a hs → slice_get (provided_of o a hs) v ≡ slice_get hs v
     → evicted_up_to sets slots ps v b (provided_of o a hs) ≡ evicted_up_to sets slots ps v b hs

@@ -32,6 +32,7 @@ use Rattle.vss_world.proofs.Kept.{some_is}
 use Rattle.vss_world.proofs.OnProvided.{writes_at, kept_at, number_is}
 use Rattle.vss_world.proofs.Simple.{same_parts}
 use Rattle.vss_world.proofs.Seen.{digest_slot}
+use Rattle.cow_volume.proofs.Merging.{point_before as kept_point}
 
 -- ## nothing but counts changes
 
@@ -65,31 +66,6 @@ module _ {D : Type 0} (device : Ghosts D) {s : Plan} {p q : ProviderValue D} {x 
 
 never : {X : Type 0} → true ≡ false → X
 never e = cc
-
-none_kept : (keep : ℕ → Bool) (n : ℕ) (images : List Image) → keep n ≡ false → point_in n (filter (λ (i : Image). keep i.set) images) ≡ None
-none_kept keep n [] e = refl
-none_kept keep n (i ∷ images) e = by_test (keep i.set) (i.set == n) refl refl (none_kept keep n images e)
-  where
-    by_test : (k t : Bool) → keep i.set ≡ k → (i.set == n) ≡ t → point_in n (filter (λ (j : Image). keep j.set) images) ≡ None
-        → point_in n (if k then i ∷ filter (λ (j : Image). keep j.set) images else filter (λ (j : Image). keep j.set) images) ≡ None
-    by_test false t f h rest = rest
-    by_test true true f h rest = never (sym f ∙ ap keep (number_is i.set n h) ∙ e)
-    by_test true false f h rest = ap (λ (b : Bool). if b then Some i.point else point_in n (filter (λ (j : Image). keep j.set) images)) h ∙ rest
-
--- the point of an image that is kept is that of the image
-kept_point : (keep : ℕ → Bool) (n point : ℕ) (images : List Image) → point_in n (filter (λ (i : Image). keep i.set) images) ≡ Some point → point_in n images ≡ Some point
-kept_point keep n point [] e = e
-kept_point keep n point (i ∷ images) e = by_test (keep i.set) (i.set == n) refl refl e (kept_point keep n point images)
-  where
-    by_test : (k t : Bool) → keep i.set ≡ k → (i.set == n) ≡ t → point_in n (if k then i ∷ filter (λ (j : Image). keep j.set) images else filter (λ (j : Image). keep j.set) images) ≡ Some point
-        → (point_in n (filter (λ (j : Image). keep j.set) images) ≡ Some point → point_in n images ≡ Some point) → point_in n (i ∷ images) ≡ Some point
-    by_test true true f h is rest = ap (λ (b : Bool). if b then Some i.point else point_in n images) h
-        ∙ sym (ap (λ (b : Bool). if b then Some i.point else point_in n (filter (λ (j : Image). keep j.set) images)) h) ∙ is
-    by_test true false f h is rest =
-        ap (λ (b : Bool). if b then Some i.point else point_in n images) h
-        ∙ rest (sym (ap (λ (b : Bool). if b then Some i.point else point_in n (filter (λ (j : Image). keep j.set) images)) h) ∙ is)
-    by_test false true f h is rest = let none : None ≡ Some point = sym (none_kept keep n images (ap keep (sym (number_is i.set n h)) ∙ f)) ∙ is in cc
-    by_test false false f h is rest = ap (λ (b : Bool). if b then Some i.point else point_in n images) h ∙ rest is
 
 -- the provider has an image that is kept
 point_stands : (s : Plan) (acts : List Act) (n v point : ℕ) → point_in n (kept (state s acts) (history_of (state s acts) v)) ≡ Some point

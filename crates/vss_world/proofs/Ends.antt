@@ -5,16 +5,14 @@ use Rattle.std.proofs.lemmas.Bool.Decides.{nat_tests}
 use Rattle.vss_model.specs.State.{SetRow, is_running}
 use Rattle.vss_model.specs.Effects.{ended_of}
 use Rattle.vss_model.specs.Facts.{NumberedFrom}
+use Rattle.vss_model.proofs.Rows.{found_above}
+use Rattle.vss_world.proofs.Failing.{skip}
 
 apart : (a b : ℕ) → a < b → (b == a) ≡ false
 apart a b l = grind (arith, nat_tests)
 
 apart_back : (a b : ℕ) → a < b → (a == b) ≡ false
 apart_back a b l = grind (arith, nat_tests)
-
-skip : (t u : Bool) (q : SetRow) (o : Option SetRow) → t ≡ false → (if t && u then Some q else o) ≡ o
-skip false u q o e = refl
-skip true u q o e = cc
 
 skip_second : (t u : Bool) (q : SetRow) (o : Option SetRow) → u ≡ false → (if t && u then Some q else o) ≡ o
 skip_second false u q o e = refl
@@ -28,14 +26,6 @@ none_later m n (q ∷ rows) numbered l =
     let here : n < q.number = (let e = numbered.0 in omega (arith, e, l)) in
     skip (q.number == n) (not (is_running q.result)) q (find (λ q. (q.number == n) && not (is_running q.result)) rows) (apart n q.number here)
     ∙ none_later (m + 1) n rows numbered.1 (omega (arith, l))
-
-found_above : (m : ℕ) (rows : List SetRow) (r : SetRow) → NumberedFrom m rows → find (λ q. is_running q.result) rows ≡ Some r → m ≤ r.number
-found_above m [] r numbered e = cc
-found_above m (q ∷ rows) r numbered e = at_head (is_running q.result) e (λ f. found_above (m + 1) rows r numbered.1 f)
-  where
-    at_head : (t : Bool) → (if t then Some q else find (λ q. is_running q.result) rows) ≡ Some r → (find (λ q. is_running q.result) rows ≡ Some r → m + 1 ≤ r.number) → m ≤ r.number
-    at_head true f rest = let same : q ≡ r = cc in let n = numbered.0 in subst (λ (z : SetRow). m ≤ z.number) same (omega (arith, n))
-    at_head false f rest = let l = rest f in omega (arith, l)
 
 pub none_found : (m : ℕ) (rows : List SetRow) (r : SetRow) → NumberedFrom m rows → find (λ q. is_running q.result) rows ≡ Some r
     → find (λ q. (q.number == r.number) && not (is_running q.result)) rows ≡ None

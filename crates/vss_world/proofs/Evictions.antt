@@ -18,6 +18,8 @@ use Rattle.provider.specs.Calls.{holders, images_going}
 use Rattle.vss_world.specs.Provided.{is_to_come, dropped_if, without, provided_of, provided}
 use Rattle.vss_world.proofs.Losing.{stays, and_not}
 use Rattle.vss_world.proofs.OnProvided.{progress_not_kept, point_without, apart_of, none_later}
+use Rattle.set_agenda.proofs.WriterSets.{and-true as and_true}
+use Rattle.vss_world.proofs.SetGoesOn.{skip}
 
 -- ## the volumes that lose an image
 
@@ -37,10 +39,6 @@ gone_image n m (i ∷ images) e = by_test (nat_lt m i.set) refl (gone_image n m 
 
 same_test : (a b : Bool) (v : ℕ) (xs ys : List ℕ) → a ≡ b → xs ≡ ys → (if a then v ∷ xs else xs) ≡ (if b then v ∷ ys else ys)
 same_test a b v xs ys e f = ap (λ (t : Bool). if t then v ∷ xs else xs) e ∙ ap (λ (zs : List ℕ). if b then v ∷ zs else zs) f
-
-and_true : (b : Bool) → (b && true) ≡ b
-and_true true = refl
-and_true false = refl
 
 none_lost : (n v : ℕ) (hs : List History) → volumes_losing n v hs hs ≡ []
 none_lost n v [] = refl
@@ -133,10 +131,6 @@ past_rows f k [] numbered none = refl
 past_rows f k (r ∷ rows) numbered none =
     row_first f r rows (is_complete r.result) refl ∙ none_if (is_complete r.result) (f r.number) (of_rows f rows) (none r.number (itself k r.number numbered.0))
     ∙ past_rows f (k + 1) rows numbered.1 (λ n l. none n (next_least k n l))
-
-skip : (t c b : Bool) → t ≡ false → ((t && c) || b) ≡ b
-skip false c b e = refl
-skip true c b e = cc
 
 first_row : (m : ℕ) (r : SetRow) (rows : List SetRow) → NumberedFrom m (r ∷ rows) → has_complete (r ∷ rows) r.number ≡ is_complete r.result
 first_row m r rows numbered =

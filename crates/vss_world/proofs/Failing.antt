@@ -10,6 +10,7 @@ use Rattle.vss_model.specs.State.{State, SetRow, in_progress, is_running}
 use Rattle.vss_model.specs.Ending.{failed_in, row_settled}
 use Rattle.vss_model.specs.Effects.{ended_of}
 use Rattle.vss_model.specs.Facts.{NumberedFrom}
+use Rattle.vss_model.proofs.Rows.{found_above}
 
 pub failed_course : (why : VssResult) (c : Course) → ((course_failed why c).agenda ≡ None) × ((course_failed why c).outcome ≡ Failed why)
 unfolding course_failed
@@ -23,20 +24,12 @@ apart_back a b l = grind (arith, nat_tests)
 own_number : (a : ℕ) → (a == a) ≡ true
 own_number a = grind (arith, nat_tests)
 
-found_above : (m : ℕ) (rows : List SetRow) (r : SetRow) → NumberedFrom m rows → find (λ q. is_running q.result) rows ≡ Some r → m ≤ r.number
-found_above m [] r numbered e = cc
-found_above m (q ∷ rows) r numbered e = at_head (is_running q.result) e (λ f. found_above (m + 1) rows r numbered.1 f)
-  where
-    at_head : (t : Bool) → (if t then Some q else find (λ q. is_running q.result) rows) ≡ Some r → (find (λ q. is_running q.result) rows ≡ Some r → m + 1 ≤ r.number) → m ≤ r.number
-    at_head true f rest = let same : q ≡ r = cc in let n = numbered.0 in subst (λ (z : SetRow). m ≤ z.number) same (omega (arith, n))
-    at_head false f rest = let l = rest f in omega (arith, l)
-
 take : (t u : Bool) (q : SetRow) (o : Option SetRow) → t ≡ true → u ≡ true → (if t && u then Some q else o) ≡ Some q
 take true true q o e f = refl
 take true false q o e f = cc
 take false u q o e f = cc
 
-skip : (t u : Bool) (q : SetRow) (o : Option SetRow) → t ≡ false → (if t && u then Some q else o) ≡ o
+pub skip : (t u : Bool) (q : SetRow) (o : Option SetRow) → t ≡ false → (if t && u then Some q else o) ≡ o
 skip false u q o e = refl
 skip true u q o e = cc
 

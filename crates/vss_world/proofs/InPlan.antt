@@ -200,15 +200,15 @@ abbrev pub IsBelowIf : ℕ → Option ℕ → Type 0
 IsBelowIf n None = Unit {0}
 IsBelowIf n (Some v) = v < n
 
-below_if : (b : Bool) (n v : ℕ) (vs : List ℕ) → v < n → AreBelow n vs → AreBelow n (if b then v ∷ vs else vs)
+pub below_if : (b : Bool) (n v : ℕ) (vs : List ℕ) → v < n → AreBelow n vs → AreBelow n (if b then v ∷ vs else vs)
 below_if true n v vs h k = (h, k)
 below_if false n v vs h k = k
 
-below_filter : (test : ℕ → Bool) (n : ℕ) (vs : List ℕ) → AreBelow n vs → AreBelow n (filter test vs)
+pub below_filter : (test : ℕ → Bool) (n : ℕ) (vs : List ℕ) → AreBelow n vs → AreBelow n (filter test vs)
 below_filter test n [] h = tt
 below_filter test n (v ∷ vs) h = below_if (test v) n v (filter test vs) h.0 (below_filter test n vs h.1)
 
-members_below : (n : ℕ) (a : Agenda) (g : Group) (l : Option Level) → AreBelow n a.volumes → is_over_volumes g ≡ true → AreBelow n (members_of a g l)
+pub members_below : (n : ℕ) (a : Agenda) (g : Group) (l : Option Level) → AreBelow n a.volumes → is_over_volumes g ≡ true → AreBelow n (members_of a g l)
 members_below n a (Orders o) l h e = absurd cc
 members_below n a PreCommit l h e = absurd cc
 members_below n a Flush l h e = h
@@ -218,16 +218,16 @@ members_below n a Commit l h e = h
 members_below n a Release l h e = h
 members_below n a PostCommit l h e = absurd cc
 
-volume_below : (b : Bool) (n v : ℕ) → (b ≡ true → v < n) → IsBelowIf n (volume_if b v)
+pub volume_below : (b : Bool) (n v : ℕ) → (b ≡ true → v < n) → IsBelowIf n (volume_if b v)
 volume_below true n v h = h refl
 volume_below false n v h = tt
 
-next_below_with : (n : ℕ) (p : Place) (ws : List ℕ) (later : List Open) → (is_over_volumes p.group ≡ true → AreBelow n ws) → IsBelowIf n (next_volume later)
+pub next_below_with : (n : ℕ) (p : Place) (ws : List ℕ) (later : List Open) → (is_over_volumes p.group ≡ true → AreBelow n ws) → IsBelowIf n (next_volume later)
     → IsBelowIf n (next_volume (with_group p ws later))
 next_below_with n p [] later over h = h
 next_below_with n p (w ∷ ws) later over h = volume_below (is_over_volumes p.group) n w (λ e. (over e).0)
 
-next_below_from : (n : ℕ) (a : Agenda) (ps : List Place) → AreBelow n a.volumes → IsBelowIf n (next_volume (left_from a ps))
+pub next_below_from : (n : ℕ) (a : Agenda) (ps : List Place) → AreBelow n a.volumes → IsBelowIf n (next_volume (left_from a ps))
 next_below_from n a [] h = tt
 next_below_from n a (p ∷ ps) h =
     next_below_with n p (waited_for a p) (left_from a ps)
@@ -248,7 +248,7 @@ members_below_from test n w (r ∷ rows) l = by_test (test w) (members_below_fro
     by_test true h = (omega (arith, l), h)
     by_test false h = h
 
-members_filter : (test : Member → Bool) (n : ℕ) (ms : List Member) → MembersBelow n ms → MembersBelow n (filter test ms)
+pub members_filter : (test : Member → Bool) (n : ℕ) (ms : List Member) → MembersBelow n ms → MembersBelow n (filter test ms)
 members_filter test n [] h = tt
 members_filter test n (m ∷ ms) h = by_test (test m) (members_filter test n ms h.1)
   where

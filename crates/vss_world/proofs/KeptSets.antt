@@ -16,10 +16,8 @@ use Rattle.vss_model.proofs.Orderly.{live-filter}
 use Rattle.provider.specs.Groups.{history_at}
 use Rattle.vss_world.specs.Provided.{provided}
 use Rattle.vss_world.proofs.OnProvided.{on_provided, kept_at, apart, number_is, not_both}
-
-skip : (t c b : Bool) → t ≡ false → ((t && c) || b) ≡ b
-skip false c b e = refl
-skip true c b e = cc
+use Rattle.vss_world.proofs.SetGoesOn.{skip}
+use Rattle.vss_world.proofs.Losing.{keep}
 
 no_live : (m n : ℕ) (rows : List SetRow) → NumberedFrom m rows → n < m → is_live rows n ≡ false
 no_live m n [] numbered l = refl
@@ -55,10 +53,6 @@ older_complete m n (r ∷ q ∷ rows) numbered over live l = by_test (r.number =
         let none = no_live (m + 1) n (q ∷ rows) numbered.1 (omega (arith, here, same)) in
         absurd (not_both (is_live (q ∷ rows) n) h none)
     by_test false c e f h rest = ap (λ (t : Bool). (t && is_complete r.result) || list_any (λ r. (r.number == n) && is_complete r.result) (q ∷ rows)) e ∙ rest h
-
-keep : (t : Bool) (i : Image) (xs : List Image) → t ≡ true → (if t then i ∷ xs else xs) ≡ i ∷ xs
-keep true i xs e = refl
-keep false i xs e = cc
 
 last_if : (t b : Bool) (i : Image) → t ≡ b → (if t then i ∷ [] else []) ≡ (if b then i ∷ [] else [])
 last_if t b i e = ap (λ (u : Bool). if u then i ∷ [] else []) e
@@ -106,7 +100,7 @@ later_filter test i (j ∷ images) h = by_test (test j) (later_filter test i ima
     by_test true rest = (h.0, h.1, rest)
     by_test false rest = rest
 
-in_time_filter : (test : Image → Bool) (writes : ℕ) (images : List Image) → AreInTime writes images → AreInTime writes (filter test images)
+pub in_time_filter : (test : Image → Bool) (writes : ℕ) (images : List Image) → AreInTime writes images → AreInTime writes (filter test images)
 in_time_filter test writes [] h = tt
 in_time_filter test writes (i ∷ images) h = by_test (test i) (in_time_filter test writes images h.2)
   where

@@ -8,6 +8,7 @@ use Rattle.write_history.specs.Slots.{Placed, gone_up_to, needs_slot_in, lacks_s
 use Rattle.vss_model.specs.State.{has_image}
 use Rattle.vss_model.specs.Images.{has_lost_image}
 use Rattle.vss_model.proofs.NewestImage.{UpTo}
+use Rattle.set_agenda.proofs.Closings.{neither as or_parts}
 
 -- no image of these volumes is of a set after n
 abbrev pub AllUpTo : ℕ → List History → Type 0
@@ -29,7 +30,7 @@ skip : (b : Bool) (i : Image) (xs : List Image) → b ≡ false → (if b then i
 skip true i xs e = cc
 skip false i xs e = refl
 
-keep : (b : Bool) (i : Image) (xs : List Image) → b ≡ true → (if b then i ∷ xs else xs) ≡ i ∷ xs
+pub keep : (b : Bool) (i : Image) (xs : List Image) → b ≡ true → (if b then i ∷ xs else xs) ≡ i ∷ xs
 keep true i xs e = refl
 keep false i xs e = cc
 
@@ -83,10 +84,6 @@ and_not false = refl
 or_false : (a b : Bool) → a ≡ false → b ≡ false → (a || b) ≡ false
 or_false true b e f = cc
 or_false false b e f = f
-
-or_parts : (a b : Bool) → (a || b) ≡ false → (a ≡ false) × (b ≡ false)
-or_parts true b e = absurd cc
-or_parts false b e = (refl, e)
 
 lost_itself : (n : ℕ) (hs : List History) → has_lost_image n hs hs ≡ false
 lost_itself n [] = refl

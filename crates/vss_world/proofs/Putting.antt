@@ -42,7 +42,7 @@ use Rattle.provider.specs.Devices.{devices_of, counts_of, AreKept, HasCause, fau
 use Rattle.provider.specs.Calls.{IsLastSet, IsPut, put_if, AreWithout, images_going}
 use Rattle.provider.specs.Preparing.{ProviderValue}
 use Rattle.cow_volume.specs.declared.cause.Cause.{Cause}
-use Rattle.cow_volume.proofs.Group.{slice_get_inside, slice_get_map}
+use Rattle.cow_volume.proofs.Group.{slice_get_inside, slice_get_map, number_is as own_number}
 use Rattle.provider.proofs.Kept.{kept_same, kept_trans}
 use Rattle.sessions.specs.Sets.{current_of}
 use Rattle.sessions.specs.Keeps.{SessionsValue, Keeps, IsInOrder, Leaves, IsOf as IsSessionsOf}
@@ -67,6 +67,7 @@ use Rattle.vss_world.proofs.SetGoesOn.{runs_snapshot}
 use Rattle.vss_world.proofs.ToCome.{all_unnamed, gone_provided, change_provided, dropped_provided}
 use Rattle.vss_world.proofs.WithoutImages.{written_apart}
 use Rattle.vss_world.proofs.Prepared.{prepared_same, prepared_none, runs_number}
+use Rattle.sessions.proofs.Failing.{no_row as none_current}
 
 -- ## facts of every list of acts
 
@@ -79,9 +80,6 @@ all_up s acts = let o = orderly s acts in all_of _ _ (λ v. images_up_to (state 
 
 eq_is : (a b : ℕ) → (a == b) ≡ true → a ≡ b
 eq_is a b e = grind (arith, nat_tests)
-
-own_number : (a : ℕ) → (a == a) ≡ true
-own_number a = grind (arith, nat_tests)
 
 in_if : (b : Bool) (n m p : ℕ) (s : ℕ) (o : Option ℕ) → (s == n) ≡ b → s ≤ m → is_some (if b then Some p else o) ≡ true → (is_some o ≡ true → n ≤ m) → n ≤ m
 in_if true n m p s o e l h f = let same = eq_is s n e in omega (arith, same, l)
@@ -219,10 +217,6 @@ map_put (Ok done) v w n hs = changed v hs
     changed (suc v) (h ∷ hs) = ap (λ (xs : List History). dropped n h ∷ xs) (changed v hs)
 
 -- ## which set is in progress
-
-none_current : (o : Option SetRow) → None ≡ option_map (λ (r : SetRow). r.number) o → o ≡ None
-none_current None e = refl
-none_current (Some r) e = cc
 
 pub some_current : (o : Option SetRow) (n : ℕ) → Some n ≡ option_map (λ (r : SetRow). r.number) o → (r : SetRow) × (o ≡ Some r) × (r.number ≡ n)
 some_current None n e = cc

@@ -40,6 +40,7 @@ use Rattle.vss_world.proofs.WithoutImages.{LeavesApart, filter_twice, dropped_ap
 use Rattle.vss_world.proofs.ToCome.{map_provided, change_provided}
 use Rattle.vss_world.proofs.Seen.{IsPlain, clean_moves, failed_moves, refused_moves}
 use Rattle.vss_world.proofs.Looking.{IsKeptIf, IsOnImage, some_kept, of_image, provided_point}
+use Rattle.provider.proofs.DroppedAll.{count_within as few_images}
 
 -- ## what the provider has
 
@@ -99,15 +100,6 @@ set_deleted n st e some =
     ap (λ (t : Bool). if t && nat_lt 0 (count_images n st.volumes) then (Deleted (count_images n st.volumes), record st { volumes = map (dropped n) st.volumes }) else refused ObjectNotFound st) e
     ∙ ap (λ (t : Bool). if t then (Deleted (count_images n st.volumes), record st { volumes = map (dropped n) st.volumes }) else refused ObjectNotFound st)
     (some_above (count_images n st.volumes) some)
-
--- no more images of a set stand than there are volumes
-one_more : (b : Bool) (n k : ℕ) → n ≤ k → (if b then 1 else 0) + n ≤ suc k
-one_more true n k l = omega (arith, l)
-one_more false n k l = omega (arith, l)
-
-few_images : (n : ℕ) (hs : List History) → count_images n hs ≤ length hs
-few_images n [] = omega arith
-few_images n (h ∷ hs) = one_more (has_image n h) (count_images n hs) (length hs) (few_images n hs)
 
 pub few_gone : {D : Type 0} (device : Ghosts D) (s : Plan) (old new : List (GroupValue D)) (set stood : ℕ) (hs : List History) → IsPlan s → HasGroups s old → AreGroups device.told s old hs
     → AreWithout device old new set stood → stood < 4294967296

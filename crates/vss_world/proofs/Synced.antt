@@ -31,6 +31,7 @@ use Rattle.vss_world.specs.Quiet.{IsSynced, IsAreaHeld}
 use Rattle.vss_world.proofs.Moved.{world_of, of_kept, tells_kept}
 use Rattle.vss_world.proofs.Digesting.{stands_still, devices_alone}
 use Rattle.vss_world.proofs.ToCome.{all_unnamed, copies_provided}
+use Rattle.provider.proofs.Ended.{copies_if, copies_in_group}
 
 -- ## places
 
@@ -115,21 +116,6 @@ synced_is device {s = s} {group = group} {p = p} {q = q} {x = x} {l = l} {e = e}
 }
 
 -- ## what the area's device holds
-
-copies_if : (b : Bool) (v n : ℕ) (h : History) (ns : List ℕ) (hs : List History) (cs : ℕ → List Copy) → ((w : ℕ) → cs w ≡ copies_from w (all_placed ns) hs)
-    → (if b then copies_of v n h.writes h.images ++ cs (v + 1) else cs v) ≡ copies_from v (all_placed (of_group_if b n ns)) (of_group_if b h hs)
-copies_if true v n h ns hs cs e = ap (λ (xs : List Copy). copies_of v n h.writes h.images ++ xs) (e (v + 1))
-copies_if false v n h ns hs cs e = e v
-
-copies_in_group : (g v : ℕ) (rows : List VolumeRow) (hs : List History) → copies_from v (map (placed g) rows) hs ≡ copies_from v (all_placed (blocks_in_group g rows)) (of_group g rows hs)
-copies_in_group g v [] hs = refl
-copies_in_group g v (r ∷ rows) [] = empty (of_group_if (r.group == g) r.blocks (blocks_in_group g rows))
-  where
-    empty : (ns : List ℕ) → [] ≡ copies_from v (all_placed ns) []
-    empty [] = refl
-    empty (n ∷ ns) = refl
-copies_in_group g v (r ∷ rows) (h ∷ hs) =
-    copies_if (r.group == g) v r.blocks h (blocks_in_group g rows) (of_group g rows hs) (λ w. copies_from w (map (placed g) rows) hs) (λ w. copies_in_group g w rows hs)
 
 -- a group's copies are those of the histories that the provider has
 copies_same : (s : Plan) (acts : List Act) (g : ℕ)

@@ -9,7 +9,7 @@ ghost use Rattle.vss_model.specs.Acts.{Act, state, enabled};
 ghost use Rattle.vss_model.specs.State.{history_of, kept};
 ghost use Rattle.vss_model.specs.Told.{IsDigestIf};
 ghost use Rattle.vss_model.specs.declared.event.Event.TheVariants.{Line, Provider as ProviderEvent, Idle, Answer as AnswerEvent};
-ghost use Rattle.provider.specs.Devices.{devices_of, area_place, RoseAlone};
+ghost use Rattle.provider.specs.Devices.{devices_of, area_place, volume_place, RoseAlone};
 ghost use Rattle.provider.specs.Preparing.{LastsAt};
 ghost use Rattle.vss_world.specs.Devices.{tells_of, HasFailed};
 ghost use Rattle.vss_world.specs.Digests.{IsDigestedIf};
@@ -284,6 +284,19 @@ impl<D: Device> World<D> {
     {
         let rows = self.provider.digests(rt, alloc, scenario, wanted)?;
         Ok(ReadyDigests::new(rows))
+    }
+
+    /// Brings all accepted writes of a volume to where they last.
+    pub fn flush(&mut self, scenario: &Scenario, volume: u32) -> Result<(), Cause>
+        requires of { IsOf self.old scenario.now }
+        requires in_range { volume < length scenario.now.volumes }
+        ensures quiet { IsQuiet D.told D.count self.old self.new scenario.now }
+        ensures lasts { OnOk result (LastsAt D.told D.lasting (volume_place scenario.now volume) self.new.devices) }
+        ensures same { OnOk result (map D.count self.new.devices ≡ map D.count self.old.devices) }
+        ensures fault { IfErr result (λ fault. fault ≡ Cause.Volume) }
+        ensures cause { IfErr result (λ fault. HasFailed scenario.now volume fault (map D.count self.old.devices) (map D.count self.new.devices)) }
+    {
+        self.provider.flush(scenario, volume)
     }
 
     /// Writes the records of a group's copies to its area's device, and brings all that was written to that to where it lasts.
