@@ -1,7 +1,5 @@
-use crate::showing::{part, shown};
+use crate::showing::part;
 use scenario::{Refusal, Span, Word};
-use std::alloc::Global;
-use vss_names::OutOfMemory;
 
 /// A refused line, with the text that it stands in.
 #[derive(Clone, Copy)]
@@ -72,11 +70,6 @@ impl<'a> BadLine<'a> {
             Some(span) => self.at(span),
             None => self.bytes,
         }
-    }
-
-    /// That part, to be shown.
-    pub fn shown(&self, alloc: Global) -> Result<String, OutOfMemory> {
-        shown(alloc, self.found())
     }
 
     /// Where in the line that part begins, where it is one.

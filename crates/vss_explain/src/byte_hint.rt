@@ -1,7 +1,9 @@
 //! Bytes that no line of a scenario has.
 
 use crate::notes::Notes;
+use crate::piece::Piece::{Number, Words};
 use crate::showing::part;
+use std::alloc::Global;
 use vss_names::OutOfMemory;
 
 fn is_printable(byte: u8) -> bool {
@@ -50,26 +52,30 @@ fn character(bytes: &[u8]) -> Option<u32> {
     Some(value)
 }
 
+/// What these bytes begin with.
+fn name_of(alloc: Global, bytes: &[u8]) -> Result<String, OutOfMemory> {
+    Ok(
+        match (character(bytes), bytes.first().copied().unwrap_or(0)) {
+            (Some(0xa0), _) => {
+                String::from_str(alloc, "a no-break space (U+00A0), where a space stands")?
+            }
+            (Some(number), _) => {
+                format!(in alloc; "U+{number:04X}; lines have ASCII alone, comments too")?
+            }
+            (None, b'\t') => String::from_str(alloc, "a tab; before each field stands one space")?,
+            (None, 0) => String::from_str(alloc, "a zero byte")?,
+            (None, byte) => format!(in alloc;
+                "the byte 0x{byte:02X}; lines have printable ASCII alone, comments too"
+            )?,
+        },
+    )
+}
+
 /// Says what stands at the place of a line, whose bytes follow.
 fn say_byte(notes: &mut Notes, at: usize, bytes: &[u8]) -> Result<(), OutOfMemory> {
-    let alloc = notes.alloc();
-    let place = at.saturating_add(1);
-    let byte = bytes.first().copied().unwrap_or(0);
-    match character(bytes) {
-        Some(0xa0) => notes.say(format!(in alloc;
-            "character {place} is a no-break space (U+00A0), where a space stands"
-        )?),
-        Some(number) => notes.say(format!(in alloc;
-            "character {place} is U+{number:04X}; lines have ASCII alone, comments too"
-        )?),
-        None if byte == b'\t' => notes.say(format!(in alloc;
-            "character {place} is a tab; before each field stands one space"
-        )?),
-        None if byte == 0 => notes.say(format!(in alloc; "character {place} is a zero byte")?),
-        None => notes.say(format!(in alloc;
-            "character {place} is the byte 0x{byte:02X}; lines have printable ASCII alone, comments too"
-        )?),
-    }
+    let name = name_of(notes.alloc(), bytes)?;
+    let place = Number(at.saturating_add(1) as u64);
+    notes.say("character {} is {}", &[place, Words(name.as_str())])
 }
 
 /// Says which byte may not stand in a line, and answers its place.

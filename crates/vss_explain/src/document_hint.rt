@@ -1,8 +1,9 @@
 //! Why a writer's metadata document is refused. The fault is the one that its reader gives.
 
-use crate::near::question;
+use crate::near::nearest;
 use crate::notes::Notes;
-use crate::showing::{part, shown};
+use crate::piece::Piece::{Meant, Of, Shown, Words};
+use crate::showing::part;
 use serde_json::Value;
 use std::alloc::Global;
 use std::mem;
@@ -87,18 +88,7 @@ fn wanted(field: Field, of_component: bool) -> &'static str {
     }
 }
 
-/// Whose a member is.
-fn owner(alloc: Global, component: Option<usize>) -> Result<String, OutOfMemory> {
-    match component {
-        None => Ok(String::new(alloc)),
-        Some(i) => {
-            let number = i.saturating_add(1);
-            Ok(format!(in alloc; " of component {number}")?)
-        }
-    }
-}
-
-/// The value of a member, as it is written in short.
+/// The value of a member, as JSON.
 fn found_in(
     alloc: Global,
     document: &Value,
@@ -116,7 +106,7 @@ fn found_in(
     };
     match value {
         None => Ok(String::new(alloc)),
-        Some(value) => shown(alloc, value.to_string(alloc)?.as_bytes()),
+        Some(value) => Ok(value.to_string(alloc)?),
     }
 }
 
@@ -126,20 +116,31 @@ fn say_wrong_kind(
     component: Option<usize>,
     field: Field,
 ) -> Result<(), OutOfMemory> {
-    let alloc = notes.alloc();
-    let owner = owner(alloc, component)?;
-    let found = found_in(alloc, document, component, field)?;
-    let asked = wanted(field, component.is_some());
-    let member = field.member();
-    match field {
-        Field::Document => notes.say(format!(in alloc;
-            "the document is {found}; it has to be {asked}"
-        )?),
-        Field::Components if component.is_some() => notes.say(format!(in alloc;
-            "the value{owner} is {found}; it has to be {asked}"
-        )?),
-        _ => notes.say(format!(in alloc; "\"{member}\"{owner} is {found}; it has to be {asked}")?),
-    }
+    let found = found_in(notes.alloc(), document, component, field)?;
+    let (form, member) = match field {
+        Field::Document => ("{}the document{} is {}; it has to be {}", ""),
+        Field::Components if component.is_some() => ("{}the value{} is {}; it has to be {}", ""),
+        _ => ("\"{}\"{} is {}; it has to be {}", field.member()),
+    };
+    let asked = Words(wanted(field, component.is_some()));
+    notes.say(
+        form,
+        &[Words(member), Of(component), Shown(found.as_bytes()), asked],
+    )
+}
+
+/// Says that a member is none of these, and which was probably meant.
+fn say_no_member<'a>(
+    notes: &mut Notes,
+    name: &'a [u8],
+    component: Option<usize>,
+    members: &[&'a [u8]],
+) -> Result<(), OutOfMemory> {
+    let meant = nearest(notes.alloc(), name, members)?;
+    notes.say(
+        "\"{}\"{} is no member{}",
+        &[Shown(name), Of(component), Meant(meant)],
+    )
 }
 
 fn say_unknown(
@@ -147,21 +148,14 @@ fn say_unknown(
     name: &[u8],
     component: Option<usize>,
 ) -> Result<(), OutOfMemory> {
-    let alloc = notes.alloc();
-    let owner = owner(alloc, component)?;
-    let member = shown(alloc, name)?;
-    let (question, all) = match component {
-        None => (
-            question(alloc, name, &MEMBERS)?,
-            "class, name, level, usage, source, components, and freeze_timeout if it is not 60000",
-        ),
-        Some(_) => (
-            question(alloc, name, &COMPONENT_MEMBERS)?,
-            "type, name, selectable, and path if it is not empty",
-        ),
-    };
-    notes.say(format!(in alloc; "\"{member}\"{owner} is no member{question}")?)?;
-    notes.say(format!(in alloc; "the members are {all}")?)
+    if component.is_some() {
+        say_no_member(notes, name, component, &COMPONENT_MEMBERS)?;
+        return notes.add("the members are type, name, selectable, and path if it is not empty");
+    }
+    say_no_member(notes, name, component, &MEMBERS)?;
+    notes.add(
+        "the members are class, name, level, usage, source, components, and freeze_timeout if it is not 60000",
+    )
 }
 
 /// Says of a value that is read as JSON why it is no metadata document.
@@ -171,19 +165,20 @@ fn say_fault(
     component: Option<usize>,
     fault: &MetaFault,
 ) -> Result<(), OutOfMemory> {
-    let alloc = notes.alloc();
     match fault {
         MetaFault::MissingField(field) => {
-            let (member, owner) = (field.member(), owner(alloc, component)?);
-            let asked = wanted(*field, component.is_some());
-            notes.say(format!(in alloc; "\"{member}\"{owner} is missing; it has to be {asked}")?)
+            let asked = Words(wanted(*field, component.is_some()));
+            notes.say(
+                "\"{}\"{} is missing; it has to be {}",
+                &[Words(field.member()), Of(component), asked],
+            )
         }
         MetaFault::WrongKind(field) => say_wrong_kind(notes, document, component, *field),
         MetaFault::UnknownName(name) => say_unknown(notes, name.bytes(), component),
-        MetaFault::DoubleComponent(name) => {
-            let name = shown(alloc, name.bytes())?;
-            notes.say(format!(in alloc; "two components have the full name `{name}`")?)
-        }
+        MetaFault::DoubleComponent(name) => notes.say(
+            "two components have the full name `{}`",
+            &[Shown(name.bytes())],
+        ),
         MetaFault::TooMany => notes.add("a document has at most 1024 components"),
         MetaFault::NotJson => notes.add("it is no JSON"),
         MetaFault::OutOfMemory => Ok(()),
@@ -192,20 +187,22 @@ fn say_fault(
 
 /// Says what is wrong at a place of a text that is no JSON.
 fn say_no_json(notes: &mut Notes, text: &[u8], at: usize, is_cut: bool) -> Result<(), OutOfMemory> {
-    let alloc = notes.alloc();
-    let found = shown(alloc, part(text, at, at.saturating_add(1)))?;
+    let found = part(text, at, at.saturating_add(1));
     let before = part(text, at.saturating_sub(1), at);
     if is_cut {
-        notes.add("the JSON ends too early: a `\"`, `]` or `}` is missing")
-    } else if found.as_str() == "'" {
-        notes.add(
-            "this is no JSON: strings and names stand in double quotes, and not in single ones",
-        )
-    } else if before == b",".as_slice() {
-        notes.say(format!(in alloc; "this is no JSON: a comma stands before `{found}`")?)
-    } else {
-        notes.say(format!(in alloc; "this is no JSON from the character `{found}` on")?)
+        return notes.add("the JSON ends too early: a `\"`, `]` or `}` is missing");
     }
+    if found == b"'".as_slice() {
+        return notes.add(
+            "this is no JSON: strings and names stand in double quotes, and not in single ones",
+        );
+    }
+    let form = if before == b",".as_slice() {
+        "this is no JSON: a comma stands before `{}`"
+    } else {
+        "this is no JSON from the character `{}` on"
+    };
+    notes.say(form, &[Shown(found)])
 }
 
 /// Says why a text is no metadata document, and answers at which place of it, where there is one.

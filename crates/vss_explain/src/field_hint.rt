@@ -1,15 +1,13 @@
 //! Why a field is refused.
 
 use crate::bad_line::BadLine;
-use crate::near::question;
+use crate::near::{nearest, say_nearest};
 use crate::notes::Notes;
-use crate::showing::{part, shown};
+use crate::piece::Piece::{Listed, Meant, Number, Shown, Words};
+use crate::showing::part;
 use scenario::{NameKind, Quantity, Reason, Span};
 use std::alloc::Global;
 use vss_names::{Order, OutOfMemory, WriterError};
-
-/// How many declared names are listed.
-const MOST_LISTED: usize = 12;
 
 const NAMES: &str =
     "a name has 1 to 32 letters, digits, `_`, `-` and `.`, and begins with a letter";
@@ -40,23 +38,22 @@ pub fn say_number(
     least: u64,
     most: u64,
 ) -> Result<(), OutOfMemory> {
-    let alloc = notes.alloc();
-    let (found, name, field) = (bad.shown(alloc)?, quantity.name(), bad.field());
+    let (name, found) = (Words(quantity.name()), Shown(bad.found()));
     if bad.refusal.cause.reason == Reason::BadNumber {
-        let why = no_number(bad.found());
-        return notes.say(format!(in alloc; "{name} (field {field}) is `{found}`: {why}")?);
+        let (field, why) = (Number(bad.field() as u64), Words(no_number(bad.found())));
+        return notes.say("{} (field {}) is `{}`: {}", &[name, field, found, why]);
     }
+    let (least, most) = (Number(least), Number(most));
     match quantity {
-        Quantity::Version => notes.say(format!(in alloc;
-            "the number after `scenario` is 1, and not {found}"
-        )?),
-        Quantity::Block(volume) => {
-            let volume = shown(alloc, bad.at(volume))?;
-            notes.say(format!(in alloc;
-                "{name} is {least} to {most} on {volume} here, and not {found}"
-            )?)
-        }
-        _ => notes.say(format!(in alloc; "{name} is {least} to {most} here, and not {found}")?),
+        Quantity::Version => notes.say("the number after `scenario` is 1, and not {}", &[found]),
+        Quantity::Block(volume) => notes.say(
+            "{} is {} to {} on {} here, and not {}",
+            &[name, least, most, Shown(bad.at(volume)), found],
+        ),
+        _ => notes.say(
+            "{} is {} to {} here, and not {}",
+            &[name, least, most, found],
+        ),
     }
 }
 
@@ -67,19 +64,22 @@ pub fn say_new_name(
     kind: NameKind,
     taken: Option<usize>,
 ) -> Result<(), OutOfMemory> {
-    let alloc = notes.alloc();
-    let (found, what, field) = (bad.shown(alloc)?, kind.name(), bad.field());
+    let (found, what) = (Shown(bad.found()), Words(kind.name()));
     let earlier = taken.and_then(|place| bad.refusal.declared.get(place).copied());
     match earlier {
         Some(span) if bad.refusal.cause.reason == Reason::DoubleName => {
-            let line = bad.line_of(span);
-            let a = if let NameKind::Area = kind { "an" } else { "a" };
-            notes.say(format!(in alloc; "there is {a} {what} {found} already, from line {line}")?)
+            let form = if let NameKind::Area = kind {
+                "there is an {} {} already, from line {}"
+            } else {
+                "there is a {} {} already, from line {}"
+            };
+            notes.say(form, &[what, found, Number(bad.line_of(span) as u64)])
         }
         _ => {
-            notes.say(format!(in alloc;
-                "the name of the {what} (field {field}) is `{found}`, and no name"
-            )?)?;
+            notes.say(
+                "the name of the {} (field {}) is `{}`, and no name",
+                &[what, Number(bad.field() as u64), found],
+            )?;
             notes.add(NAMES)
         }
     }
@@ -98,21 +98,6 @@ fn names_at<'a>(
     Ok(names)
 }
 
-/// The first of these names, with commas, and how many more there are.
-fn listed(alloc: Global, names: &[&[u8]]) -> Result<String, OutOfMemory> {
-    let mut list = String::new(alloc);
-    let first = names.get(..MOST_LISTED).unwrap_or(names);
-    for name in first {
-        list.push_str(if list.is_empty() { "" } else { ", " })?;
-        list.push_str(shown(alloc, name)?.as_str())?;
-    }
-    let more = names.len().saturating_sub(first.len());
-    if more > 0 {
-        list.push_str(format!(in alloc; " and {more} more")?.as_str())?;
-    }
-    Ok(list)
-}
-
 /// Says that a field is no name of what was declared above.
 pub fn say_undeclared(
     notes: &mut Notes,
@@ -120,32 +105,30 @@ pub fn say_undeclared(
     kind: NameKind,
 ) -> Result<(), OutOfMemory> {
     let alloc = notes.alloc();
-    let (found, what) = (bad.shown(alloc)?, kind.name());
     let names = names_at(alloc, bad, &bad.refusal.declared)?;
+    let (found, what) = (Shown(bad.found()), Words(kind.name()));
     if names.is_empty() {
-        return notes.say(format!(in alloc;
-            "no {what} `{found}` is declared above; there is none"
-        )?);
+        return notes.say(
+            "no {} `{}` is declared above; there is none",
+            &[what, found],
+        );
     }
-    let question = question(alloc, bad.found(), &names)?;
-    let list = listed(alloc, &names)?;
-    notes.say(format!(in alloc;
-        "no {what} `{found}` is declared above; there are {list}{question}"
-    )?)
+    let meant = nearest(alloc, bad.found(), &names)?;
+    notes.say(
+        "no {} `{}` is declared above; there are {}{}",
+        &[what, found, Listed(&names), Meant(meant)],
+    )
 }
 
 /// Says that a field is no order.
 pub fn say_order(notes: &mut Notes, bad: &BadLine<'_>) -> Result<(), OutOfMemory> {
     let alloc = notes.alloc();
-    let found = bad.shown(alloc)?;
     let mut names = Vec::new(alloc);
     for order in &Order::ALL {
         names.push(order.name().as_bytes())?;
     }
-    let question = question(alloc, bad.found(), &names)?;
-    let list = listed(alloc, &names)?;
-    notes.say(format!(in alloc; "`{found}` is no order{question}")?)?;
-    notes.say(format!(in alloc; "orders are {list}")?)
+    say_nearest(notes, "`{}` is no order{}", bad.found(), &names)?;
+    notes.say("orders are {}", &[Listed(&names)])
 }
 
 /// The name of the error whose number, in hexadecimal digits, or whose last word this is.
@@ -164,33 +147,35 @@ fn code_for(alloc: Global, found: &[u8]) -> Result<Option<WriterError>, OutOfMem
 /// Says that a field is no code of a writer's error.
 pub fn say_code(notes: &mut Notes, bad: &BadLine<'_>) -> Result<(), OutOfMemory> {
     let alloc = notes.alloc();
-    let found = bad.shown(alloc)?;
     let mut names = Vec::new(alloc);
     for error in &WriterError::ALL {
         names.push(error.name().as_bytes())?;
     }
     match code_for(alloc, bad.found())? {
-        Some(error) => {
-            let name = error.name();
-            notes.say(format!(in alloc; "`{found}` is no code; did you mean `{name}`?")?)?;
-        }
+        Some(error) => notes.say(
+            "`{}` is no code; did you mean `{}`?",
+            &[Shown(bad.found()), Words(error.name())],
+        )?,
         None => {
-            let question = question(alloc, bad.found(), &names)?;
-            notes.say(format!(in alloc; "`{found}` is no code of a writer's error{question}")?)?;
+            say_nearest(
+                notes,
+                "`{}` is no code of a writer's error{}",
+                bad.found(),
+                &names,
+            )?;
         }
     }
-    let list = listed(alloc, &names)?;
-    notes.say(format!(in alloc; "codes are {list}")?)
+    notes.say("codes are {}", &[Listed(&names)])
 }
 
 /// Says that there is such an answer already.
 pub fn say_answered(notes: &mut Notes, bad: &BadLine<'_>) -> Result<(), OutOfMemory> {
-    let alloc = notes.alloc();
     let end = bad.mark().unwrap_or(0).saturating_add(bad.found().len());
     match bad.line_above(part(bad.bytes, 0, end)) {
-        Some(line) => notes.say(format!(in alloc;
-            "this writer has an answer to this order and number already, from line {line}"
-        )?),
+        Some(line) => notes.say(
+            "this writer has an answer to this order and number already, from line {}",
+            &[Number(line as u64)],
+        ),
         None => notes.add("this writer has an answer to this order and number already"),
     }
 }

@@ -6,21 +6,23 @@ use crate::document_hint::say_document;
 use crate::field_hint::{
     say_answered, say_code, say_new_name, say_number, say_order, say_undeclared,
 };
-use crate::near::question;
+use crate::near::say_nearest;
 use crate::notes::Notes;
-use crate::showing::{marked_line, shown};
+use crate::piece::Piece::{Number, Shown, Words};
+use crate::showing::marked_line;
 use scenario::{Expected, Reason, Refusal, Word};
 use std::alloc::Global;
 use vss_names::OutOfMemory;
 
 /// Says which forms the lines of a word have.
 fn say_forms(notes: &mut Notes, word: Word) -> Result<(), OutOfMemory> {
-    let (alloc, forms) = (notes.alloc(), word.forms());
-    if forms.contains("` or `") {
-        notes.say(format!(in alloc; "the forms are {forms}")?)
+    let forms = word.forms();
+    let form = if forms.contains("` or `") {
+        "the forms are {}"
     } else {
-        notes.say(format!(in alloc; "the form is {forms}")?)
-    }
+        "the form is {}"
+    };
+    notes.say(form, &[Words(forms)])
 }
 
 /// The words that lines begin with.
@@ -34,7 +36,6 @@ fn first_words(alloc: Global) -> Result<Vec<&'static [u8]>, OutOfMemory> {
 
 /// Says that no line begins so.
 fn say_first_word(notes: &mut Notes, bad: &BadLine<'_>) -> Result<(), OutOfMemory> {
-    let alloc = notes.alloc();
     let first = bad.first();
     if first.is_empty() {
         return notes.add("the line begins with a space; its word stands first");
@@ -42,10 +43,8 @@ fn say_first_word(notes: &mut Notes, bad: &BadLine<'_>) -> Result<(), OutOfMemor
     if bad.bytes == b"report 1".as_slice() {
         return notes.add("this is a report of a run and no scenario: are two files swapped?");
     }
-    let question = question(alloc, first, &first_words(alloc)?)?;
-    let word = shown(alloc, first)?;
-    notes.say(format!(in alloc; "no line begins with `{word}`{question}")?)?;
-    if question.is_empty() {
+    let words = first_words(notes.alloc())?;
+    if !say_nearest(notes, "no line begins with `{}`{}", first, &words)? {
         notes.add("docs/FORMATS.md has all words, and examples/ scenarios to begin with")?;
     }
     Ok(())
@@ -53,8 +52,7 @@ fn say_first_word(notes: &mut Notes, bad: &BadLine<'_>) -> Result<(), OutOfMemor
 
 /// Says what has to stand above the line, or must not.
 fn say_place(notes: &mut Notes, bad: &BadLine<'_>) -> Result<(), OutOfMemory> {
-    let alloc = notes.alloc();
-    let word = shown(alloc, bad.first())?;
+    let word = Shown(bad.first());
     match bad.refusal.cause.expected {
         Expected::Opening if bad.text.is_empty() => notes.add(
             "the input is empty; a scenario begins with the line `scenario 1`",
@@ -62,43 +60,45 @@ fn say_place(notes: &mut Notes, bad: &BadLine<'_>) -> Result<(), OutOfMemory> {
         Expected::Opening if bad.refusal.cause.reason == Reason::Empty => notes.add(
             "there is no line `scenario 1`, with which a scenario begins",
         ),
-        Expected::Opening => notes.say(format!(in alloc;
-            "`scenario 1` comes first: put it into a line above `{word}`"
-        )?),
+        Expected::Opening => notes.say(
+            "`scenario 1` comes first: put it into a line above `{}`",
+            &[word],
+        ),
         Expected::OneOpening => notes.add(
             "`scenario 1` stands once, as the first line that is neither empty nor a comment",
         ),
-        Expected::NoLane => {
-            let line = bad.line_above(b"lane").unwrap_or(0);
-            notes.say(format!(in alloc;
-                "`{word}` stands above the first lane, which begins in line {line}"
-            )?)
-        }
-        _ => notes.say(format!(in alloc;
-            "`{word}` is a line of a lane, and there is no lane above: `lane NAME` begins one"
-        )?),
+        Expected::NoLane => notes.say(
+            "`{}` stands above the first lane, which begins in line {}",
+            &[word, Number(bad.line_above(b"lane").unwrap_or(0) as u64)],
+        ),
+        _ => notes.say(
+            "`{}` is a line of a lane, and there is no lane above: `lane NAME` begins one",
+            &[word],
+        ),
     }
 }
 
 /// Says which space is one too many.
 fn say_space(notes: &mut Notes, bad: &BadLine<'_>, at: usize) -> Result<(), OutOfMemory> {
-    let (alloc, place) = (notes.alloc(), at.saturating_add(1));
+    let place = at.saturating_add(1);
     if place == bad.bytes.len() {
-        notes.add("a space stands at the end of the line")
-    } else {
-        notes.say(format!(in alloc;
-            "character {place} is a second space; before each field stands one"
-        )?)
+        return notes.add("a space stands at the end of the line");
     }
+    notes.say(
+        "character {} is a second space; before each field stands one",
+        &[Number(place as u64)],
+    )
 }
 
 /// Says that no form has so many fields.
 fn say_count(notes: &mut Notes, bad: &BadLine<'_>, word: Word) -> Result<(), OutOfMemory> {
-    let (alloc, fields) = (notes.alloc(), bad.fields());
     if word.takes_rest() {
         notes.add("behind the name the rest of the line is missing")?;
     } else {
-        notes.say(format!(in alloc; "no form of this line has so many fields, {fields}")?)?;
+        notes.say(
+            "no form of this line has so many fields, {}",
+            &[Number(bad.fields() as u64)],
+        )?;
     }
     for two in bad.bytes.windows(2) {
         if two == b" #".as_slice() {
@@ -124,7 +124,6 @@ fn space_of(bad: &BadLine<'_>) -> Option<usize> {
 
 /// Says what the reader expected of a line or its field.
 fn say_expected(notes: &mut Notes, bad: &BadLine<'_>) -> Result<(), OutOfMemory> {
-    let alloc = notes.alloc();
     match bad.refusal.cause.expected {
         Expected::Newline => notes.add(
             "the last line has no newline at its end: echo >> FILE adds one",
@@ -137,16 +136,17 @@ fn say_expected(notes: &mut Notes, bad: &BadLine<'_>) -> Result<(), OutOfMemory>
         } => say_number(notes, bad, quantity, least, most),
         Expected::NewName { kind, taken } => say_new_name(notes, bad, kind, taken),
         Expected::Declared(kind) => say_undeclared(notes, bad, kind),
-        Expected::Word(words) => {
-            let found = bad.shown(alloc)?;
-            notes.say(format!(in alloc; "`{found}` stands where {words} has to")?)
-        }
+        Expected::Word(words) => notes.say(
+            "`{}` stands where {} has to",
+            &[Shown(bad.found()), Words(words)],
+        ),
         Expected::Order => say_order(notes, bad),
         Expected::Code => say_code(notes, bad),
         Expected::NewAnswer => say_answered(notes, bad),
-        Expected::AtMost { what, most } => notes.say(format!(in alloc;
-            "a scenario has at most {most} {what}"
-        )?),
+        Expected::AtMost { what, most } => notes.say(
+            "a scenario has at most {} {}",
+            &[Number(most), Words(what)],
+        ),
         Expected::Form => match bad.word() {
             Some(word) => say_count(notes, bad, word),
             None => Ok(()),

@@ -12,6 +12,7 @@ mod field_hint;
 mod line_hint;
 mod near;
 mod notes;
+mod piece;
 mod showing;
 mod word_hint;
 

@@ -1,3 +1,4 @@
+use crate::piece::Piece;
 use std::alloc::Global;
 use vss_names::OutOfMemory;
 
@@ -22,17 +23,21 @@ impl Notes {
         self.alloc
     }
 
-    /// A line more.
-    pub fn say(&mut self, line: String) -> Result<(), OutOfMemory> {
-        self.text.push_str("     ")?;
-        self.text.push_str(line.as_str())?;
-        self.text.push_str("\n")?;
-        Ok(())
+    /// A line more: the words of a form, with a piece for each `{}` in it.
+    pub fn say(&mut self, form: &str, pieces: &[Piece<'_>]) -> Result<(), OutOfMemory> {
+        self.put("     ")?;
+        for (place, words) in form.split("{}").enumerate() {
+            self.put(words)?;
+            if let Some(piece) = pieces.get(place) {
+                piece.add_to(&mut self.text, self.alloc)?;
+            }
+        }
+        self.put("\n")
     }
 
     /// A line more, of fixed words.
     pub fn add(&mut self, line: &str) -> Result<(), OutOfMemory> {
-        self.say(String::from_str(self.alloc, line)?)
+        self.say(line, &[])
     }
 
     /// Lines more, as they stand.

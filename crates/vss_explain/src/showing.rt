@@ -31,17 +31,13 @@ fn add_letters(shown: &mut String, bytes: &[u8]) -> Result<(), OutOfMemory> {
     Ok(())
 }
 
-/// The first bytes, with `?` for what is not printable ASCII, and dots where more follow.
-pub fn shown(alloc: Global, bytes: &[u8]) -> Result<String, OutOfMemory> {
-    let mut shown = String::new(alloc);
-    match bytes.get(..MOST_SHOWN) {
-        None => add_letters(&mut shown, bytes)?,
-        Some(first) => {
-            add_letters(&mut shown, first)?;
-            shown.push_str("..")?;
-        }
-    }
-    Ok(shown)
+/// Adds the first bytes, with `?` for what is not printable ASCII, and dots where more follow.
+pub fn add_shown(text: &mut String, bytes: &[u8]) -> Result<(), OutOfMemory> {
+    let Some(first) = bytes.get(..MOST_SHOWN) else {
+        return add_letters(text, bytes);
+    };
+    add_letters(text, first)?;
+    Ok(text.push_str("..")?)
 }
 
 /// A line with its number, and below it a mark under the place `mark`, where there is one. Of a long line the part around the mark is

@@ -1,8 +1,8 @@
 //! Why the words of a command are no command.
 
-use crate::near::question;
+use crate::near::say_nearest;
 use crate::notes::Notes;
-use crate::showing::shown;
+use crate::piece::Piece::Shown;
 use scenario::Reason;
 use scenario::numbers::number_in;
 use vss_names::OutOfMemory;
@@ -11,34 +11,26 @@ const COMMANDS: [&[u8]; 4] = [b"run", b"gen", b"inspect", b"help"];
 
 /// Says of a word where `gen` has its number why it is none that it takes.
 fn say_number(notes: &mut Notes, word: Option<&str>) -> Result<bool, OutOfMemory> {
-    let alloc = notes.alloc();
     let Some(word) = word else {
         notes.add("behind `gen` a number is missing: 0 to 4294967295")?;
         return Ok(true);
     };
-    let given = shown(alloc, word.as_bytes())?;
-    match number_in(word.as_bytes(), 0, 4_294_967_295) {
+    let form = match number_in(word.as_bytes(), 0, 4_294_967_295) {
         Ok(_) => return Ok(false),
-        Err(Reason::OutOfRange) => notes.say(format!(in alloc;
-            "`{given}` is too large: the number is 0 to 4294967295"
-        )?)?,
-        Err(_) => notes.say(format!(in alloc;
-            "`{given}` is no number: 0 to 4294967295, in decimal digits without zeros before them"
-        )?)?,
-    }
+        Err(Reason::OutOfRange) => "`{}` is too large: the number is 0 to 4294967295",
+        Err(_) => "`{}` is no number: 0 to 4294967295, in decimal digits without zeros before them",
+    };
+    notes.say(form, &[Shown(word.as_bytes())])?;
     Ok(true)
 }
 
 /// Says of the word where a folder may stand, and of those behind it, what is wrong.
 fn say_folder(notes: &mut Notes, words: &[String]) -> Result<(), OutOfMemory> {
-    let alloc = notes.alloc();
     match (words.first(), words.get(1)) {
-        (_, Some(more)) => {
-            let more = shown(alloc, more.as_bytes())?;
-            notes.say(format!(in alloc;
-                "`{more}` is one word too many; a folder whose name has spaces stands in quotes"
-            )?)
-        }
+        (_, Some(more)) => notes.say(
+            "`{}` is one word too many; a folder whose name has spaces stands in quotes",
+            &[Shown(more.as_bytes())],
+        ),
         (Some(folder), None) if folder.is_empty() => notes.add("the folder's name is empty"),
         _ => Ok(()),
     }
@@ -46,13 +38,12 @@ fn say_folder(notes: &mut Notes, words: &[String]) -> Result<(), OutOfMemory> {
 
 /// Says which word begins with `-`.
 fn say_dashed(notes: &mut Notes, words: &[String]) -> Result<bool, OutOfMemory> {
-    let alloc = notes.alloc();
     for word in words {
         if word.as_bytes().first() == Some(&b'-') {
-            let word = shown(alloc, word.as_bytes())?;
-            notes.say(format!(in alloc;
-                "`{word}` begins with `-`, and there are no options; a folder of that name is `./{word}`"
-            )?)?;
+            notes.say(
+                "`{}` begins with `-`, and there are no options; a folder of that name is `./{}`",
+                &[Shown(word.as_bytes()), Shown(word.as_bytes())],
+            )?;
             return Ok(true);
         }
     }
@@ -61,7 +52,6 @@ fn say_dashed(notes: &mut Notes, words: &[String]) -> Result<bool, OutOfMemory> 
 
 /// Says which of the words is wrong, and why.
 pub fn say_words(notes: &mut Notes, words: &[String]) -> Result<(), OutOfMemory> {
-    let alloc = notes.alloc();
     let Some(first) = words.first() else {
         return notes.add("a command is missing");
     };
@@ -81,9 +71,8 @@ pub fn say_words(notes: &mut Notes, words: &[String]) -> Result<(), OutOfMemory>
             "behind `inspect` stands no word: the area is read from the standard input",
         ),
         _ => {
-            let question = question(alloc, first.as_bytes(), &COMMANDS)?;
-            let first = shown(alloc, first.as_bytes())?;
-            notes.say(format!(in alloc; "`{first}` is no command{question}")?)
+            say_nearest(notes, "`{}` is no command{}", first.as_bytes(), &COMMANDS)?;
+            Ok(())
         }
     }
 }
