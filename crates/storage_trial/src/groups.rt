@@ -57,6 +57,39 @@ fn print_table(rt: &HostRuntime, area: Area<HostDevice>) -> Result<(), TrialErro
     Ok(())
 }
 
+/// A group of so many volumes of one size.
+fn even_group(
+    rt: &HostRuntime,
+    plan: &Plan,
+    volumes: u32,
+    blocks: u32,
+    slots: u32,
+) -> Result<Made, TrialError> {
+    let sizes = vec![in rt.alloc(); blocks; volumes as usize]?;
+    Ok(Made::Group(making::group(rt, plan, slots, &sizes)?))
+}
+
+/// What a line makes; None where it makes nothing.
+fn made_by(
+    rt: &HostRuntime,
+    plan: &Plan,
+    style: Style,
+    call: &Call,
+) -> Result<Option<Made>, TrialError> {
+    Ok(Some(match (style, call.name.as_str(), call.numbers.as_slice()) {
+        (Style::Values, "group", [slots, blocks @ ..]) => {
+            Made::Group(making::group(rt, plan, *slots, blocks)?)
+        }
+        (_, "group" | "files", [volumes, blocks, slots]) if *volumes <= 128 => {
+            even_group(rt, plan, *volumes, *blocks, *slots)?
+        }
+        (_, "alone", [blocks, slots]) => {
+            Made::Alone(making::volume(rt, plan, "volume0", *blocks, *slots)?)
+        }
+        _ => return Ok(None),
+    }))
+}
+
 impl Groups {
     /// There is no group.
     pub fn new(style: Style) -> Groups {
@@ -74,19 +107,10 @@ impl Groups {
         call: &Call,
     ) -> Result<bool, TrialError> {
         plan.in_files = call.name.as_str() == "files";
-        self.made = match (self.style, call.name.as_str(), call.numbers.as_slice()) {
-            (Style::Values, "group", [slots, blocks @ ..]) => {
-                Made::Group(making::group(rt, plan, *slots, blocks)?)
-            }
-            (_, "group" | "files", [volumes, blocks, slots]) if *volumes <= 128 => {
-                let sizes = vec![in rt.alloc(); *blocks; *volumes as usize]?;
-                Made::Group(making::group(rt, plan, *slots, &sizes)?)
-            }
-            (_, "alone", [blocks, slots]) => {
-                Made::Alone(making::volume(rt, plan, "volume0", *blocks, *slots)?)
-            }
-            _ => return Ok(false),
+        let Some(made) = made_by(rt, plan, self.style, call)? else {
+            return Ok(false);
         };
+        self.made = made;
         *plan = Plan::none(rt.alloc());
         Ok(true)
     }

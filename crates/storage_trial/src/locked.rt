@@ -90,31 +90,52 @@ fn tell_cut<R: Wait>(
     tell_of(rt, "Cut", &journal.cut(number))
 }
 
-/// Makes a call that no draft is for, and says whether it is one.
+/// Whether a shard is held.
+fn tell_held<R: Wait>(
+    rt: &HostRuntime,
+    handle: &R,
+    locks: &Locks,
+    v: u32,
+) -> Result<(), TrialError> {
+    let shard = locks.shard(v)?.lock(handle);
+    tell_of(rt, "IsHeld", &shard.is_held())
+}
+
+/// How many cuts the journal has.
+fn tell_cuts<R: Wait>(rt: &HostRuntime, handle: &R, locks: &Locks) -> Result<(), TrialError> {
+    let journal = locks.journal()?.lock(handle);
+    tell_of(rt, "Cuts", &journal.cuts())
+}
+
+/// How many volumes there are.
+fn tell_volumes(rt: &HostRuntime, locks: &Locks) -> Result<(), TrialError> {
+    tell_of(rt, "Volumes", &locks.shards()?.volumes())
+}
+
+/// Makes a call that no draft is for; None where it is another.
 pub fn make<R: Wait>(
     rt: &HostRuntime,
     handle: &R,
     locks: &Locks,
     call: &Call,
-) -> Result<bool, TrialError> {
+) -> Option<Result<(), TrialError>> {
     match (call.name.as_str(), call.numbers.as_slice()) {
         ("fill", [v, block, byte, times @ ..]) => {
             let payload = Small::Fill((*byte % 256) as u8);
-            write(rt, handle, locks, *v, *block, payload, times)?;
+            Some(write(rt, handle, locks, *v, *block, payload, times))
         }
         ("stamp", [v, block, stamp, times @ ..]) => {
             let payload = Small::Stamp(u64::from(*stamp));
-            write(rt, handle, locks, *v, *block, payload, times)?;
+            Some(write(rt, handle, locks, *v, *block, payload, times))
         }
-        ("read", [v, block]) => read(rt, handle, locks, *v, *block)?,
-        ("image", [v, number, block]) => image(rt, handle, locks, *v, *number, *block)?,
-        ("is_held", [v]) => tell_of(rt, "IsHeld", &locks.shard(*v)?.lock(handle).is_held())?,
-        ("volumes", []) => tell_of(rt, "Volumes", &locks.shards()?.volumes())?,
-        ("cuts", []) => tell_of(rt, "Cuts", &locks.journal()?.lock(handle).cuts())?,
-        ("cut", [number]) => tell_cut(rt, handle, locks, *number)?,
-        _ => return Ok(false),
+        ("read", [v, block]) => Some(read(rt, handle, locks, *v, *block)),
+        ("image", [v, number, block]) => Some(image(rt, handle, locks, *v, *number, *block)),
+        ("is_held", [v]) => Some(tell_held(rt, handle, locks, *v)),
+        ("volumes", []) => Some(tell_volumes(rt, locks)),
+        ("cuts", []) => Some(tell_cuts(rt, handle, locks)),
+        ("cut", [number]) => Some(tell_cut(rt, handle, locks, *number)),
+        _ => None,
     }
-    Ok(true)
 }
 
 /// Holds a shard for a draft that is not recorded.

@@ -119,8 +119,8 @@ pub fn volume(
     ensures stands { IfOk result (λ volume. StandsForOne host_told volume fresh) }
     ensures blocks { IfOk result (λ volume. blocks_of volume ≡ blocks) }
 {
-    let area = area(rt, plan, "area", slots, &[blocks])?;
     let device = device(rt, plan, name, blocks)?;
+    let area = area(rt, plan, "area", slots, &[blocks])?;
     Ok(CowVolume::new(rt.alloc(), device, area)?)
 }
 
@@ -146,8 +146,8 @@ pub fn group(
     slots: u32,
     blocks: &[u32],
 ) -> Result<CowGroup<HostDevice>, TrialError> {
-    let area = area(rt, plan, "area", slots, blocks)?;
     let devices = devices(rt, plan, blocks)?;
+    let area = area(rt, plan, "area", slots, blocks)?;
     if !fit(&devices, &area) {
         return Err(TrialError::NotAllowed);
     }

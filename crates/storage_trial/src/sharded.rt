@@ -112,8 +112,8 @@ impl Sharded {
             ("threads", [writes, cuts]) => return self.write_in_threads(rt, handle, *writes, *cuts),
             _ => {}
         }
-        if locked::make(rt, handle, &self.locks, call)? {
-            return Ok(());
+        if let Some(made) = locked::make(rt, handle, &self.locks, call) {
+            return made;
         }
         match self.drafts.get_mut(self.draft) {
             Some(draft) => locked::make_for(rt, handle, &self.locks, draft, call),
