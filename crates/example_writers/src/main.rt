@@ -2,142 +2,97 @@
 //! writer vetoes its first freeze, the second hangs in its second, and the third try completes. `stdout` has what it prints.
 #![tactic(auto)]
 
-ghost use Rattle.std.specs.Prelude.{◌<◌, length, IfSome};
-ghost use Rattle.vss_world.specs.Moves.{IsEvent};
-
+mod driving;
 mod ledger;
 mod mail;
 mod seat;
 
+use driving::back_up;
 use ledger::Ledger;
 use mail::Mail;
-use scenario::parse;
+use scenario::{Op, Scenario, ScenarioBuilder};
 use seat::Seat;
+use std::alloc::Global;
 use std::process::ExitCode;
 use volume_device::{MemDevice, MemMaker, Store};
-use vss_model::{Event, Outcome, Told};
-use vss_names::SetOutcome;
 use vss_play::Service;
-use vss_world::Reply;
-use writer_calls::Answer;
+use writer_meta::Metadata;
 
-/// One volume, two writers, and the lines of a backup.
-const SCENARIO: &[u8] = b"scenario 1
-volume C 4 4
-writer ledger {\"class\":\"11111111-1111-4111-8111-111111111111\",\"components\":[{\"name\":\"main\",\"path\":\"\",\"selectable\":true,\"type\":1}],\"level\":2,\"name\":\"Ledger\",\"source\":1,\"usage\":3}
-writer mail {\"class\":\"22222222-2222-4222-8222-222222222222\",\"components\":[{\"name\":\"main\",\"path\":\"\",\"selectable\":true,\"type\":1}],\"level\":2,\"name\":\"Mail\",\"source\":1,\"usage\":3}
-lane backup
-begin 9
-gather
-await
-component ledger main
-component mail main
-start
-add C
-prepare
-await
-snapshot
-await
-end
-";
+/// The documents that the writers show of themselves.
+const LEDGER: &[u8] =
+    b"{\"class\":\"11111111-1111-4111-8111-111111111111\",\"components\":[{\"name\":\"main\",\"selectable\":true,\"type\":1}],\"level\":2,\"name\":\"Ledger\",\"source\":1,\"usage\":3}";
 
-/// What a writer answers, if it has an order that it was not given yet, and answers it.
-fn answer_of(service: &Service<MemDevice>, seats: &mut [Seat], writer: u32) -> Option<Answer>
-    requires { writer < length service.now.plan.writers }
-{
-    let order = service.poll(writer)?;
-    if writer as usize >= seats.len() {
-        return None;
-    }
-    seats[writer as usize].answer(order)
-}
+const MAIL: &[u8] =
+    b"{\"class\":\"22222222-2222-4222-8222-222222222222\",\"components\":[{\"name\":\"main\",\"selectable\":true,\"type\":1}],\"level\":2,\"name\":\"Mail\",\"source\":1,\"usage\":3}";
 
-/// The answer of the first writer that has one.
-fn next_answer(service: &Service<MemDevice>, seats: &mut [Seat]) -> Option<Event>
-    ensures { IfSome result (IsEvent service.now.plan) }
-{
-    for writer in 0..service.scenario().writers() {
-        if let Some(answer) = answer_of(service, seats, writer) {
-            return Some(Event::Answer { writer, answer });
-        }
-    }
-    None
-}
+/// The lines of a backup of all writers.
+const BACKUP: [Op; 10] = [
+    Op::Begin {
+        context: 9,
+        all: true,
+    },
+    Op::Gather,
+    Op::Await,
+    Op::Start,
+    Op::Add { volume: 0 },
+    Op::Prepare,
+    Op::Await,
+    Op::Snapshot,
+    Op::Await,
+    Op::End,
+];
 
-/// What comes if the lane has to wait: a writer's answer, else the provider's step, else time goes by.
-fn next_event(service: &Service<MemDevice>, seats: &mut [Seat]) -> Event
-    ensures { IsEvent service.now.plan result }
-{
-    match next_answer(service, seats) {
-        Some(answer) => answer,
-        None if service.may(Event::Provider) => Event::Provider,
-        None => Event::Idle,
+/// One volume, two writers, and a lane with the lines of a backup.
+fn scenario_of(alloc: Global) -> Option<Scenario> {
+    let ledger = Metadata::from_json(alloc, LEDGER).ok()?;
+    let mail = Metadata::from_json(alloc, MAIL).ok()?;
+    let mut builder = ScenarioBuilder::new(alloc)
+        .volume(alloc, b"C", 4, 4)
+        .ok()?
+        .writer(alloc, b"ledger", ledger)
+        .ok()?
+        .writer(alloc, b"mail", mail)
+        .ok()?
+        .lane(alloc, b"backup", None)
+        .ok()?;
+    for op in BACKUP {
+        builder = builder.line(alloc, op).ok()?;
     }
-}
-
-/// Prints answers, time that goes by, and how a set ends.
-fn show(rt: &HostRuntime, outcome: Outcome) -> Option<()> {
-    match outcome.told {
-        Told::Answered { order, answer } => println!(rt; "{order:?}: {answer:?}").ok()?,
-        Told::Ticks(ticks) => println!(rt; "{ticks} milliseconds go by").ok()?,
-        _ => {}
-    }
-    if outcome.result != SetOutcome::Running {
-        println!(rt; "set {}: {:?}", outcome.set, outcome.result).ok()?;
-    }
-    Some(())
-}
-
-/// Tells each writer of an abort that its row has more.
-fn tell_aborts(service: &Service<MemDevice>, seats: &mut [Seat]) {
-    for (writer, row) in service.rows().iter().enumerate() {
-        if writer >= seats.len() {
-            return;
-        }
-        let _ = seats[writer].tell(*row);
-    }
-}
-
-/// Makes all lines of the backup, each as soon as it may come.
-fn back_up(rt: &HostRuntime, service: &mut Service<MemDevice>, seats: &mut [Seat]) -> Option<()> {
-    let mut at = 0;
-    for _move in 0..1_000 {
-        let Some((line, _number)) = service.line(0, at) else {
-            return Some(());
-        };
-        let goes = service.may(line);
-        let event = if goes {
-            line
-        } else {
-            next_event(service, seats)
-        };
-        let Ok(Reply::Moved(outcome)) = service.step(rt.alloc(), event) else {
-            return None;
-        };
-        show(rt, outcome)?;
-        tell_aborts(service, seats);
-        at = at.saturating_add(u32::from(goes));
-    }
-    None
+    builder.finish(alloc).ok()
 }
 
 /// Tries the backup three times.
-fn try_all(rt: &HostRuntime) -> Option<()> {
-    let scenario = parse(rt.alloc(), SCENARIO).ok()?;
-    let mut maker = MemMaker::new(rt.alloc(), Vec::new(rt.alloc()));
-    let mut service = Service::new(rt.alloc(), scenario, &Store::Memory, &mut maker).ok()?;
-    let ledger = Box::new(rt.alloc(), Ledger { aborts: 0 }).ok()?;
-    let mail = Box::new(rt.alloc(), Mail { aborts: 0 }).ok()?;
-    let seats = &mut [Seat::of(ledger), Seat::of(mail)];
+fn try_all(rt: &HostRuntime, service: &mut Service<MemDevice>, seats: &mut [Seat]) -> Option<()> {
     for number in 1..4 {
         println!(rt; "try {number}").ok()?;
-        back_up(rt, &mut service, seats)?;
+        back_up(rt, service, seats)?;
     }
     Some(())
 }
 
+/// The service of the scenario, over devices in memory.
+fn service_of(alloc: Global) -> Option<Service<MemDevice>> {
+    let scenario = scenario_of(alloc)?;
+    let mut maker = MemMaker::new(alloc, Vec::new(alloc));
+    Service::new(alloc, scenario, &Store::Memory, &mut maker).ok()
+}
+
+/// The two writers.
+fn seats_of(alloc: Global) -> Option<[Seat; 2]> {
+    let ledger = Box::new(alloc, Ledger { aborts: 0 }).ok()?;
+    let mail = Box::new(alloc, Mail { aborts: 0 }).ok()?;
+    Some([Seat::of(ledger), Seat::of(mail)])
+}
+
+/// Makes the service and its writers, and has them try.
+fn run(rt: &HostRuntime) -> Option<()> {
+    let mut seats = seats_of(rt.alloc())?;
+    let mut service = service_of(rt.alloc())?;
+    try_all(rt, &mut service, &mut seats)
+}
+
 fn main(rt: HostRuntime) -> ExitCode {
-    match try_all(&rt) {
+    match run(&rt) {
         Some(()) => ExitCode::SUCCESS,
         None => ExitCode::FAILURE,
     }

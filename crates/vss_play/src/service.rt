@@ -142,4 +142,15 @@ impl<D: Device> Service<D> {
             }
         }
     }
+
+    /// The scenario and the core, as they are: from the core come the groups with their areas and devices, which can be synced and
+    /// taken up again.
+    pub fn into_parts(self) -> (Scenario, World<D>)
+        ensures scenario { result.0 ≡ self.plan }
+        ensures world { result.1 ≡ self.world }
+        ensures of { IsOf self.world self.plan }
+        ensures standing { IsStanding D.told self.world self.plan }
+    {
+        (self.scenario, self.world)
+    }
 }
