@@ -7,7 +7,7 @@ use block_data::Payload;
 use requestor::SessionCall;
 
 /// A line of a lane. Volumes and writers are named by their numbers, in order of declaration.
-#[derive(Clone, Copy)]
+#[derive(Clone, Copy, Debug)]
 pub enum Op {
     /// Writes a block full of one byte.
     WriteFill {
