@@ -97,6 +97,11 @@ for n in 1 2 3 4 5 6 7 8 9 10 11 12; do
 done
 fails C.vol make 1
 fails C.area make 1
+# a flush that fails at the end of the run is answered, the volume's and the area's
+ended="${statuses[6]}"
+fails C.vol flush 2
+fails C.area flush 1
+[ "${statuses[6]}" = $((ended + 2)) ] || wrong "a flush that failed at the end was not answered"
 fails sink room 20
 [ "$(cat "$room/out")" = "report 1
 1 lane a 6 " ] || wrong "a sink of twenty bytes took others"

@@ -192,22 +192,23 @@ def refuse_syncs(descriptor):
 
 
 def is_synced():
-    """Each volume is synced before the cut, and each area at the end: where that fails for one file alone, it is told of that one."""
+    """Each file is synced at the end, also where no set has flushed a volume: where that fails for one file alone, it is told of that one."""
     try:
         subprocess.run(["true"], preexec_fn=lambda: refuse_syncs(0), check=True)
     except subprocess.SubprocessError:
         return ", but the system lets no calls be refused, so it was not seen which files are synced"
-    came = []
-    for descriptor in range(3, 16):
-        disks = folder(f"synced_{descriptor}")
-        done = run(SET, disks, preexec_fn=lambda descriptor=descriptor: refuse_syncs(descriptor))
-        if failed(done, None, rb"synced: Input/output error \(os error 5\)"):
-            holds(not os.listdir(disks), "where an area is not synced, the files of the run are left")
-            came.append(os.path.basename(done.stderr.split()[3].decode()))
-        else:
-            holds(ended(done, 0), f"where a sync fails the run ended with {done.returncode}")
-            came += [line.split()[-2] for line in done.stdout.decode().splitlines() if " provider flush " in line and line.endswith(" fault")]
-    holds(sorted(came) == sorted([*VOLUMES, *AREAS]), f"where the sync of one file after another fails, it is told of {came}")
+    for name, text in ("set", SET), ("no_set", SET.partition(b"begin")[0]):
+        came = []
+        for descriptor in range(3, 16):
+            disks = folder(f"{name}_synced_{descriptor}")
+            done = run(text, disks, preexec_fn=lambda descriptor=descriptor: refuse_syncs(descriptor))
+            if failed(done, None, rb"synced: Input/output error \(os error 5\)"):
+                holds(not os.listdir(disks), "where a file is not synced, the files of the run are left")
+                came.append(os.path.basename(done.stderr.split()[3].decode()))
+            else:
+                holds(ended(done, 0), f"where a sync fails the run ended with {done.returncode}")
+        files = sorted([f"{volume}.vol" for volume in VOLUMES] + AREAS)
+        holds(sorted(came) == files, f"{name}: where the sync of one file after another fails, it is told of {came}")
     return ""
 
 

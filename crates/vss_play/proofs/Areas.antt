@@ -60,7 +60,7 @@ pub first_up : (a b : ℕ) (rows : List VolumeRow) → a ≤ b → first_place a
 first_up a b rows l = let e : a + (b - a) ≡ b = omega arith in subst (λ n. first_place a rows ≤ first_place n rows) e (first_by a (b - a) rows)
 
 -- the devices of an earlier group stand before the area's of a later one
-before_area : (a b p : ℕ) (rows : List VolumeRow) → a < b → p ≤ length (blocks_in_group a rows) → first_place a rows + p ≡ area_place b rows → ⊥
+pub before_area : (a b p : ℕ) (rows : List VolumeRow) → a < b → p ≤ length (blocks_in_group a rows) → first_place a rows + p ≡ area_place b rows → ⊥
 before_area a b p rows l m e = let up = first_up (suc a) b rows (omega arith) in omega arith
 
 -- ## areas
@@ -82,7 +82,7 @@ told_joined {D = D} told [] p = ap (told_of told) (slice_get_past {X = D} [] p (
 told_joined told (d ∷ ds) zero = refl
 told_joined told (d ∷ ds) (suc p) = told_joined told ds p
 
-told_same : {D : Type 0} (told : D → Option (List (List ℕ))) (old new : List D) → map told new ≡ map told old → (p : ℕ) → told_by told new p ≡ told_by told old p
+pub told_same : {D : Type 0} (told : D → Option (List (List ℕ))) (old new : List D) → map told new ≡ map told old → (p : ℕ) → told_by told new p ≡ told_by told old p
 told_same told old new e p = told_joined told new p ∙ ap (λ (os : List (Option (List (List ℕ)))). joined (slice_get os p)) e ∙ sym (told_joined told old p)
 
 -- the areas of the first k groups hold

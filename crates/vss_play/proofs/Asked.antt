@@ -1,7 +1,7 @@
 -- The volume of the provider's next step, and the writers that are asked, are of the scenario: an agenda is of its volumes and of its
 -- writers.
-use Rattle.std.proofs.Common.{◌≡◌, ℕ, ◌<◌, ◌≤◌, ◌==◌, List, [], ◌∷◌, length, Option, Some, None, refl, Bool, true, false, arith}
-use Rattle.std.specs.Prelude.{map, filter, if◌then◌else◌, not, ◌&&◌, ◌||◌, All}
+use Rattle.std.proofs.Common.{◌≡◌, ℕ, ◌<◌, ◌≤◌, List, [], ◌∷◌, length, Option, Some, None, refl, true, arith}
+use Rattle.std.specs.Prelude.{map, filter, not, All}
 use Rattle.std.proofs.lemmas.List.Elements.{All-cons}
 use Rattle.vss_names.specs.declared.order.Order.{Order}
 use Rattle.vss_names.specs.declared.order.Order.TheVariants.{Identify, PrepareBackup, PrepareSnapshot, Freeze, Thaw, PostSnapshot, BackupComplete}
@@ -10,41 +10,21 @@ use Rattle.set_agenda.specs.declared.group.Group.{Group}
 use Rattle.set_agenda.specs.declared.group.Group.TheVariants.{Orders, PreCommit, Flush, Hold, Cut, Commit, Release, PostCommit}
 use Rattle.set_agenda.specs.declared.place.Place.{Place}
 use Rattle.set_agenda.specs.declared.member.Member.{Member}
-use Rattle.set_agenda.specs.Agenda.{Agenda, Open, places, is_orders, is_over_volumes, is_at, has_said, has_failed, writers_at, members_of, waited_for, with_group, left_from, left, is_asking, is_asked, is_among, waits_now, order_now, order_of, order_if, open_order, next_volume, volume_if}
+use Rattle.set_agenda.specs.Agenda.{Agenda, Open, places, is_orders, is_at, has_said, has_failed, writers_at, members_of, waited_for, with_group, left_from, left, is_asking, is_asked, is_among, waits_now, order_now, order_of, open_order, next_volume}
 use Rattle.scenario.specs.Plan.{Plan}
 use Rattle.vss_world.specs.Stands.{AreBelow, MembersBelow, IsAgendaIn}
+use Rattle.diff_area.proofs.Valid.{and_left as first_of, and_right as second_of}
+use Rattle.vss_model.proofs.CourseCalls.{asked_if as order_asks}
+use Rattle.vss_world.proofs.InPlan.{below_filter, next_below_from, members_filter}
+use Rattle.vss_world.proofs.Provided.{below_among as among_below}
 
 -- ## numbers below a bound
-
-below_if : (b : Bool) (n v : ℕ) (vs : List ℕ) → v < n → AreBelow n vs → AreBelow n (if b then v ∷ vs else vs)
-below_if true n v vs h k = (h, k)
-below_if false n v vs h k = k
-
-below_filter : (test : ℕ → Bool) (n : ℕ) (vs : List ℕ) → AreBelow n vs → AreBelow n (filter test vs)
-below_filter test n [] h = tt
-below_filter test n (v ∷ vs) h = below_if (test v) n v (filter test vs) h.0 (below_filter test n vs h.1)
 
 pub all_below : (n : ℕ) (vs : List ℕ) → AreBelow n vs → All (λ v. v < n) vs
 all_below n [] h = λ k d l. absurd (omega arith)
 all_below n (v ∷ vs) h = All-cons (λ v. v < n) v vs h.0 (all_below n vs h.1)
 
-among_if : (b : Bool) (n w v : ℕ) (vs : List ℕ) → (v == w) ≡ b → v < n → (b || is_among w vs) ≡ true → (is_among w vs ≡ true → w < n) → w < n
-among_if true n w v vs e l h later = let same : v ≡ w = grind arith in omega arith
-among_if false n w v vs e l h later = later h
-
-among_below : (n w : ℕ) (vs : List ℕ) → AreBelow n vs → is_among w vs ≡ true → w < n
-among_below n w [] h e = absurd cc
-among_below n w (v ∷ vs) h e = among_if (v == w) n w v vs refl h.0 e (among_below n w vs h.1)
-
 -- ## the members of a group
-
-members_if : (b : Bool) (n : ℕ) (m : Member) (ms : List Member) → m.writer < n → MembersBelow n ms → MembersBelow n (if b then m ∷ ms else ms)
-members_if true n m ms h k = (h, k)
-members_if false n m ms h k = k
-
-members_filter : (test : Member → Bool) (n : ℕ) (ms : List Member) → MembersBelow n ms → MembersBelow n (filter test ms)
-members_filter test n [] h = tt
-members_filter test n (m ∷ ms) h = members_if (test m) n m (filter test ms) h.0 (members_filter test n ms h.1)
 
 numbers_below : (n : ℕ) (ms : List Member) → MembersBelow n ms → AreBelow n (map (λ (m : Member). m.writer) ms)
 numbers_below n [] h = tt
@@ -69,35 +49,11 @@ asked_below n a Commit l h e = absurd cc
 asked_below n a Release l h e = absurd cc
 asked_below n a PostCommit l h e = absurd cc
 
-volumes_below : (n : ℕ) (a : Agenda) (g : Group) (l : Option Level) → AreBelow n a.volumes → is_over_volumes g ≡ true → AreBelow n (members_of a g l)
-volumes_below n a (Orders o) l h e = absurd cc
-volumes_below n a PreCommit l h e = absurd cc
-volumes_below n a Flush l h e = h
-volumes_below n a Hold l h e = h
-volumes_below n a Cut l h e = absurd cc
-volumes_below n a Commit l h e = h
-volumes_below n a Release l h e = h
-volumes_below n a PostCommit l h e = absurd cc
-
 -- ## the volume of the next step
 
 abbrev pub IsBelowIf : ℕ → Option ℕ → Type 0
 IsBelowIf n None = Unit {0}
 IsBelowIf n (Some v) = v < n
-
-volume_below : (b : Bool) (n v : ℕ) → (b ≡ true → v < n) → IsBelowIf n (volume_if b v)
-volume_below true n v h = h refl
-volume_below false n v h = tt
-
-next_below_with : (n : ℕ) (p : Place) (ws : List ℕ) (later : List Open) → (is_over_volumes p.group ≡ true → AreBelow n ws) → IsBelowIf n (next_volume later) → IsBelowIf n (next_volume (with_group p ws later))
-next_below_with n p [] later over h = h
-next_below_with n p (w ∷ ws) later over h = volume_below (is_over_volumes p.group) n w (λ e. (over e).0)
-
-next_below_from : (n : ℕ) (a : Agenda) (ps : List Place) → AreBelow n a.volumes → IsBelowIf n (next_volume (left_from a ps))
-next_below_from n a [] h = tt
-next_below_from n a (p ∷ ps) h =
-    next_below_with n p (waited_for a p) (left_from a ps)
-    (λ e. below_filter (λ who. not (has_said a.log p who)) n (members_of a p.group p.level) (volumes_below n a p.group p.level h e)) (next_below_from n a ps h)
 
 pub next_below : (s : Plan) (a : Option Agenda) → IsAgendaIn s a → IsBelowIf (length s.volumes) (next_volume (left a))
 next_below s None h = tt
@@ -135,21 +91,9 @@ pub asks_order : (os : List Open) (o : Order) → order_now os ≡ Some o → is
 asks_order [] o e = absurd cc
 asks_order (p ∷ os) o e = orders_of p.place.group o e
 
-first_of : (a b : Bool) → (a && b) ≡ true → a ≡ true
-first_of true b e = refl
-first_of false b e = absurd cc
-
-second_of : (a b : Bool) → (a && b) ≡ true → b ≡ true
-second_of true b e = e
-second_of false b e = absurd cc
-
 asked_in : (n w : ℕ) (os : List Open) → (is_asking os ≡ true → AreBelow n (waits_now os)) → is_asked w os ≡ true → w < n
 asked_in n w [] h e = absurd cc
 asked_in n w (o ∷ os) h e = among_below n w o.waits (h (first_of (is_orders o.place.group) (is_among w o.waits) e)) (second_of (is_orders o.place.group) (is_among w o.waits) e)
-
-order_asks : (b : Bool) (o : Option Order) (x : Order) → order_if b o ≡ Some x → b ≡ true
-order_asks true o x e = refl
-order_asks false o x e = absurd cc
 
 -- a writer that has an order open is one of the scenario
 pub asked_in_plan : (s : Plan) (a : Option Agenda) (w : ℕ) (o : Order) → IsAgendaIn s a → open_order (left a) w ≡ Some o → w < length s.writers

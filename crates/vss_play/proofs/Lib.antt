@@ -13,6 +13,7 @@ pub mod GivingBack
 pub mod NewDevices
 pub mod Sorting
 pub mod Areas
+pub mod Lasting
 pub mod Opening
 pub mod Starting
 pub mod ClosingLines

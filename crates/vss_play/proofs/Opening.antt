@@ -13,7 +13,6 @@ use Rattle.scenario.specs.Bounds.{IsPlan, IsVolume, IsGroup, IsInGroup, groups_f
 use Rattle.diff_area.specs.Places.{blocks_for}
 use Rattle.diff_area.specs.Records.{AreVolumes}
 use Rattle.cow_volume.specs.GroupValue.{GroupValue}
-use Rattle.cow_volume.specs.StandsFor.{told_in}
 use Rattle.scenario.specs.Places.{of_group_if, blocks_in_group, count_if, place_in}
 use Rattle.provider.specs.Devices.{devices_of, first_place, area_place, volume_place_in, volume_place, volumes_area_in, volumes_area}
 use Rattle.vss_report.specs.ToldReport.{all_tell}
@@ -25,6 +24,8 @@ use Rattle.vss_play.proofs.Areas.{first_up}
 use Rattle.vss_play.proofs.LaneLines.{at_all}
 use Rattle.vss_play.proofs.NewDevices.{take_next, take_all, many_names, many_sizes, made_many, new_counts}
 use Rattle.vss_play.proofs.Sorting.{Next, in_group_append, one_of_each, map_in_group, all_in_group, next_at, none_left}
+use Rattle.cow_volume.proofs.Group.{told_in-both as both_tell}
+use Rattle.provider.proofs.Room.{few_within as few_in_group}
 
 -- ## the blocks of a group
 
@@ -126,14 +127,6 @@ few_groups n m (r ∷ rows) e = few_by n m r rows (nat_lt r.group n) (r.group ==
 
 pub few_devices : (s : Plan) → IsPlan s → length s.volumes + length s.groups ≤ 256
 few_devices s plan = let groups = few_groups 0 (length s.groups) s.volumes plan.grouped.numbered in let volumes = plan.few_volumes in omega arith
-
-few_if : (b : Bool) (n k : ℕ) (ns : List ℕ) → length ns ≤ k → length (of_group_if b n ns) ≤ suc k
-few_if true n k ns l = omega arith
-few_if false n k ns l = omega arith
-
-few_in_group : (g : ℕ) (rows : List VolumeRow) → length (blocks_in_group g rows) ≤ length rows
-few_in_group g [] = omega arith
-few_in_group g (r ∷ rows) = few_if (r.group == g) r.blocks (length rows) (blocks_in_group g rows) (few_in_group g rows)
 
 all_if : (P : ℕ → Type 0) (b : Bool) (n : ℕ) (ns : List ℕ) → P n → All P ns → All P (of_group_if b n ns)
 all_if P true n ns h k = All-cons P n ns h k
@@ -345,10 +338,6 @@ tells_by : {D : Type 0} (told : D → Option (List (List ℕ))) (ds : List D) (p
 tells_by told [] p h l = absurd (omega arith)
 tells_by told (d ∷ ds) zero h l = All-head (λ x. IsSome (told x)) d ds h
 tells_by told (d ∷ ds) (suc p) h l = tells_by told ds p (All-tail (λ x. IsSome (told x)) d ds h) (omega arith)
-
-both_tell : (a b : Option (List (List ℕ))) → is_some a ≡ true → is_some b ≡ true → is_some (told_in a b) ≡ true
-both_tell None b e f = absurd cc
-both_tell (Some slots) b e f = f
 
 row_tells : {D : Type 0} (told : D → Option (List (List ℕ))) (s : Plan) (ds : List D) (v : ℕ) (o : Option VolumeRow) (r : VolumeRow) → slice_get s.volumes v ≡ o → o ≡ Some r → r.group < length s.groups → length ds ≡ first_place (length s.groups) s.volumes → All (λ d. IsSome (told d)) ds → is_some (told_at told s ds v) ≡ true
 row_tells {D} told s ds v o r e f l many all =

@@ -6,18 +6,17 @@ use Rattle.std.proofs.lemmas.List.Elements.{All-cons, All-head, All-tail, All-ni
 use Rattle.std.proofs.lemmas.Option.{slice_get_past, slice_get_within, slice_get-map, slice_get-get_or}
 use Rattle.vss_play.specs.Made.{in_group, IsSorting}
 use Rattle.vss_play.proofs.NewDevices.{take_all}
+use Rattle.diff_area.proofs.Gets.{get-set_same as set_here}
+use Rattle.provider.proofs.Kept.{length_set}
+use Rattle.vss_play.proofs.GivingBack.{append_nil}
 
-nothing : {X : Type 0} (k : ℕ) (x : X) → slice_get [] k ≡ Some x → ⊥
+pub nothing : {X : Type 0} (k : ℕ) (x : X) → slice_get [] k ≡ Some x → ⊥
 nothing {X} k x e = clash (sym (slice_get_past [] k (omega arith)) ∙ e)
   where
     clash : None ≡ Some x → ⊥
     clash e = cc
 
 -- ## lists
-
-append_nil : {X : Type 0} → (xs : List X) → xs ++ [] ≡ xs
-append_nil [] = refl
-append_nil (x ∷ xs) = ap (λ ys. x ∷ ys) (append_nil xs)
 
 pub record Next {X : Type 0} (xs : List X) (k : ℕ) (x : X) (rest : List X) : Type 0 where
   pub at : slice_get xs k ≡ Some x
@@ -38,22 +37,12 @@ none_left [] k e = omega arith
 none_left (x ∷ xs) zero e = absurd cc
 none_left (x ∷ xs) (suc k) e = let l = none_left xs k e in omega arith
 
-set_here : {X : Type 0} (xs : List X) (k : ℕ) (y : X) → k < length xs → slice_get (slice_set xs k y) k ≡ Some y
-set_here [] k y l = absurd (omega arith)
-set_here (x ∷ xs) zero y l = refl
-set_here (x ∷ xs) (suc k) y l = set_here xs k y (omega arith)
-
 set_there : {X : Type 0} (xs : List X) (k i : ℕ) (y : X) → (i ≡ k → ⊥) → slice_get (slice_set xs k y) i ≡ slice_get xs i
 set_there [] k i y h = refl
 set_there (x ∷ xs) zero zero y h = absurd (h refl)
 set_there (x ∷ xs) zero (suc i) y h = refl
 set_there (x ∷ xs) (suc k) zero y h = refl
 set_there (x ∷ xs) (suc k) (suc i) y h = set_there xs k i y (λ e. h (ap suc e))
-
-length_set : {X : Type 0} (xs : List X) (k : ℕ) (y : X) → length (slice_set xs k y) ≡ length xs
-length_set [] k y = refl
-length_set (x ∷ xs) zero y = refl
-length_set (x ∷ xs) (suc k) y = ap suc (length_set xs k y)
 
 pub map_set : {X Y : Type 0} (f : X → Y) (xs : List X) (k : ℕ) (x : X) → map f (slice_set xs k x) ≡ slice_set (map f xs) k (f x)
 map_set f [] k x = refl

@@ -2,6 +2,7 @@ pub mod Played
 pub mod Running
 pub mod Made
 pub mod Closing
+pub mod Lasting
 pub mod Messages
 pub mod Acting
 pub mod Digested

@@ -6,10 +6,10 @@ ghost use Rattle.vss_world.specs.Quiet.{IsQuiet};
 ghost use Rattle.vss_play.specs.Played.{AnyRose, AreasHold};
 ghost use Rattle.vss_play.specs.Closing.{AreReady, StandsAfter, IsEnding};
 ghost use Rattle.vss_play.specs.Digested.{AreDigests};
+ghost use Rattle.vss_play.specs.Lasting.{HaveLasted};
 
-use crate::closing::sync_groups;
+use crate::closing::sync_all;
 use crate::end_digests::digest_volume;
-use crate::play_fault::PlayFault;
 use lent_digests::ReadyDigests;
 use scenario::Scenario;
 use volume_device::Device;
@@ -42,7 +42,8 @@ fn digest_volumes<D: Device>(
     Ok(())
 }
 
-/// Writes each group's area to its device, and then digests each volume, in order, with the digests that are ready in that order.
+/// Writes each group's area to its device, brings all that was written to any device to where it lasts, and then digests each volume, in
+/// order, with the digests that are ready in that order.
 pub fn digest_all<D: Device>(
     scenario: &Scenario,
     trail: &Trail,
@@ -55,15 +56,12 @@ pub fn digest_all<D: Device>(
     requires ready { AreReady (tells_of D.told scenario.now world.old.devices) scenario.now trail.now.moves ready.old.rows.items }
     ensures digests { OnOk result (AreDigests (tells_of D.told scenario.now world.old.devices) scenario.now trail.now.moves out.new) }
     ensures areas { OnOk result (AreasHold D.told scenario.now trail.now.moves world.new.devices) }
+    ensures lasted { OnOk result (HaveLasted D.told D.lasting scenario.now world.new.devices) }
     ensures ending { IsEnding D.told D.count world.old world.new scenario.now }
     ensures same { OnOk result (map D.count world.new.devices ≡ map D.count world.old.devices) }
     ensures rose { IsErr result → AnyRose (map D.count world.old.devices) (map D.count world.new.devices) }
 {
-    match sync_groups(scenario, trail, world) {
-        Ok(()) => {}
-        Err(PlayFault::Failed) => return Err(Failed),
-        Err(PlayFault::OutOfMemory) => unreachable!(),
-    }
+    sync_all(scenario, trail, world)?;
     digest_volumes(scenario, trail, world, ready, out)?;
     Ok(())
 }

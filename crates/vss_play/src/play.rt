@@ -3,6 +3,7 @@ ghost use Rattle.vss_names.specs.Faults.{Rose, all_counted};
 ghost use Rattle.vss_model.specs.Trail.{event_of};
 ghost use Rattle.vss_report.specs.ToldLines.{IsLineOf};
 ghost use Rattle.vss_play.specs.Digested.{AreDigests};
+ghost use Rattle.vss_play.specs.Lasting.{HaveLasted};
 ghost use Rattle.vss_play.specs.Running.{MayIfCan};
 ghost use Rattle.vss_play.specs.Played.{run_of, is_finished, tells_in, IsKept, IsTurn, IsFresh, IsUndone, IsDropped, IsQuietPlay, IsClosed, IsEnded, AnyRose, AreNamed, AreasHold, device_names};
 
@@ -231,9 +232,9 @@ impl<D: Device> Play<D> {
         self.scenario.writers()
     }
 
-    /// Writes each group's area to its device, and appends the closing lines: how many moves there are and the clock, for each
-    /// volume how it stands, with its kept images, and for each writer its state. Where it is refused, `out` has the bytes that it
-    /// had. Digests are made side by side where devices lend.
+    /// Writes each group's area to its device, brings all that was written to the devices to where it lasts, and appends the closing lines:
+    /// how many moves there are and the clock, for each volume how it stands, with its kept images, and for each writer its state. Where it
+    /// is refused, `out` has the bytes that it had. Digests are made side by side where devices lend.
     pub fn close<R: Threads + Sync>(
         &mut self,
         rt: &R,
@@ -241,6 +242,7 @@ impl<D: Device> Play<D> {
         out: &mut Text,
     ) -> Result<(), PlayFault>
         ensures closed { OnOk result (IsClosed D.told self.new out.old.bytes out.new.bytes) }
+        ensures lasted { OnOk result (HaveLasted D.told D.lasting self.new.plan self.new.devices) }
         ensures same { OnErr result (out.new.bytes ≡ out.old.bytes) }
         ensures quiet { IsQuietPlay D.told D.count self.old self.new }
         ensures kept { IsKept D.told D.count self.new }
@@ -274,12 +276,13 @@ impl<D: Device> Play<D> {
         Ok(())
     }
 
-    /// Writes each group's area to its device, and gives the SHA-256 of all blocks of each volume, in order of the volumes. Those of volumes
-    /// whose devices lend are made side by side.
+    /// Writes each group's area to its device, brings all that was written to the devices to where it lasts, and gives the SHA-256 of all
+    /// blocks of each volume, in order of the volumes. Those of volumes whose devices lend are made side by side.
     pub fn digests<R: Threads + Sync>(&mut self, rt: &R, out: &mut [[u8; 32]]) -> Result<(), Failed>
         requires many { length out.old ≡ length self.old.plan.volumes }
         ensures digests { OnOk result (AreDigests (tells_in D.told self.new) self.new.plan self.new.trail out.new) }
         ensures areas { OnOk result (AreasHold D.told self.new.plan self.new.trail self.new.devices) }
+        ensures lasted { OnOk result (HaveLasted D.told D.lasting self.new.plan self.new.devices) }
         ensures quiet { IsQuietPlay D.told D.count self.old self.new }
         ensures kept { IsKept D.told D.count self.new }
         ensures unfailed { OnOk result (map D.count self.new.devices ≡ map D.count self.old.devices) }
