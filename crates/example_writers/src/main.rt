@@ -44,8 +44,12 @@ const BACKUP: [Op; 10] = [
 
 /// One volume, two writers, and a lane with the lines of a backup.
 fn scenario_of(alloc: Global) -> Option<Scenario> {
-    let ledger = Metadata::from_json(alloc, LEDGER).ok()?;
-    let mail = Metadata::from_json(alloc, MAIL).ok()?;
+    let Ok(ledger) = Metadata::from_json(alloc, LEDGER) else {
+        return None;
+    };
+    let Ok(mail) = Metadata::from_json(alloc, MAIL) else {
+        return None;
+    };
     let mut builder = ScenarioBuilder::new(alloc)
         .volume(alloc, b"C", 4, 4)
         .ok()?
@@ -77,18 +81,12 @@ fn service_of(alloc: Global) -> Option<Service<MemDevice>> {
     Service::new(alloc, scenario, &Store::Memory, &mut maker).ok()
 }
 
-/// The two writers.
-fn seats_of(alloc: Global) -> Option<[Seat; 2]> {
-    let ledger = Box::new(alloc, Ledger { aborts: 0 }).ok()?;
-    let mail = Box::new(alloc, Mail { aborts: 0 }).ok()?;
-    Some([Seat::of(ledger), Seat::of(mail)])
-}
-
-/// Makes the service and its writers, and has them try.
+/// Makes the two writers and the service, and has them try.
 fn run(rt: &HostRuntime) -> Option<()> {
-    let mut seats = seats_of(rt.alloc())?;
+    let ledger = Box::new(rt.alloc(), Ledger { aborts: 0 }).ok()?;
+    let mail = Box::new(rt.alloc(), Mail { aborts: 0 }).ok()?;
     let mut service = service_of(rt.alloc())?;
-    try_all(rt, &mut service, &mut seats)
+    try_all(rt, &mut service, &mut [Seat::of(ledger), Seat::of(mail)])
 }
 
 fn main(rt: HostRuntime) -> ExitCode {
