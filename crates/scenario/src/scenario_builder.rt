@@ -172,7 +172,9 @@ impl ScenarioBuilder {
         ensures { IfOk result (λ scenario. scenario ≡ plan_in self.source self.draft.said) }
     {
         let Given {
-            source, mut draft, ..
+            source,
+            mut draft,
+            ..
         } = self.given;
         finish(alloc, &source, &mut draft)
     }
