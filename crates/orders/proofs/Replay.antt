@@ -22,7 +22,7 @@ use Rattle.vss_report.proofs.ReadTrail.{report_back}
 use Rattle.vss_report.proofs.ScenarioNames.{named_legible}
 use Rattle.vss_report.proofs.Telling.{is_told_report}
 use Rattle.vss_play.specs.Played.{Played, run_of, is_finished, IsKept, AreInTurn, first_actor, actors_in_turn}
-use Rattle.vss_play.proofs.LaneLines.{nothing_at}
+use Rattle.vss_play.proofs.Sorting.{nothing as nothing_at}
 use Rattle.orders.specs.declared.entry.Entry.{Entry}
 use Rattle.orders.specs.declared.why.Why.{Why}
 use Rattle.orders.specs.declared.why.Why.TheVariants.{Blocked, Finished}
