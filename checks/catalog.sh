@@ -18,4 +18,5 @@ cmp -s <(but_closing closed) <(but_closing open) || wrong "a group that was clos
 cmp -s <(but_closing first) <(but_closing alone) || wrong "a group in the first layout goes on otherwise"
 ends "${count[by_hand]} rows, ${count[open]} and ${count[alone]} answers of groups that go on as before, ${count[faults]} with failing calls," \
   "$(grep -c NoImage "$room/lacking.rows") copies without their image, $(grep -c Err "$room/bytes.rows") refused catalogs," \
+  "$(grep -c Bad "$room/refused.rows") refused areas," \
   "${count[limits]} answers at the limits"

@@ -1,6 +1,6 @@
 #!/usr/bin/env bash
 # `vss_orders` plays each example of examples/orders in its order, byte for byte, over devices of which calls fail if NAME.with says so, makes the
-# report of each example again from that report as its order, and replays it. A number draws the same bytes at each run, and several numbers draw
+# report of each example again from that report as its order, and replays it, also over devices that lend no block. A number draws the same bytes at each run, and several numbers draw
 # several orders; the outcomes of many are counted. What is no order and no report, and words that ask for nothing, are reported by the file, the
 # line and what was expected, with nothing on standard output. It runs the program as LLVM and, where that is there, as Rattle's own compiler builds it.
 . "$(dirname "${BASH_SOURCE[0]}")/prelude.sh" || exit 70
@@ -60,8 +60,12 @@ for program in "${builds[@]}"; do
     plays "${order%.order}.scenario" "$order" "${order%.order}.report"
     plays "${order%.order}.scenario" "${order%.order}.report" "${order%.order}.report"
   done
-  for scenario in examples/*.scenario; do
+  for scenario in examples/*.scenario checks/trials/one_cut.scenario; do
     plays "$scenario" "${scenario%.scenario}.report" "${scenario%.scenario}.report"
+  done
+  # a device of which some call is to fail lends no block, though that call never comes
+  for scenario in examples/first.scenario examples/revert.scenario; do
+    "$program" with C.vol read 1000000 with C.area read 1000000 again "$scenario" "${scenario%.scenario}.report" || wrong "$scenario over devices that lend no block"
   done
   for number in 0 1 2 3 4 5 6 7; do
     "$program" seed "$number" checks/trials/one_cut.scenario > "$room/$number.first" || wrong "seed $number has no report"
@@ -91,8 +95,11 @@ for program in "${builds[@]}"; do
   answers 3 "line 2: this move may not come here: its actor has to wait" order "4 times lane backup\nlane backup\n"
   answers 3 "line 3: this move may not come here: its actor has to wait" order "4 times lane backup\n3 times provider\nlane app\n"
   answers 3 "line 1: this move may not come here: its actor has no move left" order "3 times lane app\n"
+  printf '4 times lane a\n7 times provider\n5 times lane a\nprovider\n' > "$room/text"
+  refuses 3 "$room/text: line 4: this move may not come here: its actor has no move left" order $first.scenario "$room/text"
   waits examples/orders/frozen_writer "$(grep -n '^# the veto' examples/orders/frozen_writer.order | cut -d : -f 1)" "lane x"
   answers 3 "line 2: expected a line of a report of $held.scenario" order "report 1\n1 lane nobody 7 ok\n"
+  answers 3 "line 3: expected a line of a report of $held.scenario" order "report 1\n1 lane backup 6 ok\n3 lane backup 7 set 1\n"
   answers 3 "move 1: this move may not come here: its actor has to wait" order "report 1\n1 provider precommit\nend moves 1 clock 0\n"
 
   answers 3 "line 1: expected \`report 1\`" again ""
@@ -125,4 +132,4 @@ for program in "${builds[@]}"; do
   refuses 3 "$first.report: line 1: UnknownWord" order $first.report $first.report
   refuses 3 "$first.report: line 1: UnknownWord" many 3 $first.report
 done
-ends "$(ls examples/orders/*.order | wc -l) orders, $(ls examples/*.scenario examples/orders/*.scenario | wc -l) reports made again and replayed, by ${#builds[@]} builds"
+ends "$(ls examples/orders/*.order | wc -l) orders, $(ls examples/*.scenario examples/orders/*.scenario checks/trials/*.scenario | wc -l) reports made again and replayed, by ${#builds[@]} builds"

@@ -1,10 +1,11 @@
 #!/usr/bin/env python3
-"""Rows for the subject `catalog` of the trials of storage, in a folder: lists.py FOLDER ROWS..
+"""Rows of closed groups, for the subject `catalog` of the trials of storage, in a folder: lists.py FOLDER ROWS..
 
 open.rows: lists of calls of groups that are never closed. closed.rows: the same lists, but that each group is closed, loaded and taken up again
 after each sync. alone.rows and first.rows: the same of one volume, whose area is brought into the first layout before it is loaded. faults.rows:
 groups of which device calls fail, also after they were taken up. lacking.rows: groups that are taken up with lists of which one set is missing.
-bytes.rows: bytes that are a catalog, and those that are none. limits.rows: as many volumes, images and blocks as there may be.
+bytes.rows: bytes that are a catalog, and those that are none. refused.rows: areas of which a number was changed before they are loaded. limits.rows:
+as many volumes, images and blocks as there may be.
 """
 import hashlib
 import os
@@ -14,8 +15,9 @@ import sys
 
 sys.dont_write_bytecode = True  # nothing is written beside the sources
 sys.path.insert(0, os.path.join(os.path.dirname(os.path.abspath(__file__)), ".."))
-from rows import Subject, as_result, fails, main, written  # noqa: E402
-from volumes import BLOCK, Group, Refused, some  # noqa: E402
+from groups import Groups  # noqa: E402
+from rows import Subject, fails, main  # noqa: E402
+from volumes import BLOCK, Refused  # noqa: E402
 
 NAMES = [b"C", b"D", b"E", b"F", b"G", b"H", b"I", b"J"] + [b"V%d" % v for v in range(8, 128)]
 
@@ -59,42 +61,18 @@ def lists_in(digits):
     return lists
 
 
-class Catalog(Subject):
+class Catalog(Groups):
     """Calls of a group that is closed, loaded and taken up again."""
 
-    group = None
     synced = None
 
     def reply(self, word, *rest):
         if word in ("load", "resume"):
             return getattr(self, word)(*rest)
-        values = [int(n) for n in rest]
-        if word == "group":
-            self.group = Group(values[1:], values[0], self.taken_failing())
-            return None
-        return getattr(self, word)(*values)
-
-    def write(self, *place):
-        return written(*self.group.write(*place))
-
-    def read(self, *place):
-        return as_result(lambda: some(self.group.read(*place)))
-
-    def image(self, *place):
-        return as_result(lambda: some(self.group.image(*place)))
-
-    def cut(self, *image):
-        self.group.cut(*image)
-        return "()"
-
-    def drop(self, *image):
-        return as_result(lambda: self.group.drop(*image))
-
-    def revert(self, *image):
-        return as_result(lambda: self.group.revert(*image), lambda done: "()")
+        return super().reply(word, *rest)
 
     def sync(self):
-        said = as_result(self.group.sync)
+        said = super().sync()
         self.synced = list(self.group.slots)
         return said
 
@@ -103,25 +81,6 @@ class Catalog(Subject):
 
     def record(self, slot):
         return record_of(self.synced[slot]).hex()
-
-    def used_all(self):
-        return str(self.group.used())
-
-    def used(self, v):
-        return str(self.group.used(v))
-
-    def used_by(self, *image):
-        try:
-            self.group.has(*image)
-        except Refused:
-            return "None"
-        return some(self.group.used(*image))
-
-    def images(self, v):
-        return str(self.group.images[v])
-
-    def up_to(self, *place):
-        return str(self.group.goes_up_to(*place))
 
     def blocks(self):
         return [len(device.blocks) for device in self.group.devices]
@@ -235,6 +194,26 @@ def unread():
         yield Life([3, 2], 4, {"area": {"read": [number]}}).make_all(calls)
 
 
+# A group whose area has a copy of block 2 for set 3 in slot 1 of two; the numbers that are put into it, as BLOCK:AT:NUMBER, and what is then wrong.
+ONE_COPY = ["group 2 4", "write 0 2 9", "cut 0 2", "write 0 0 1", "cut 0 3", "write 0 2 5", "drop 0 2", "sync", "close"]
+SPOILT = (
+    ("0:4:1", "Magic", 1095979862), ("0:8:1", "Rest", 4), ("0:8:3", "Layout", 3), ("0:12:4294967295", "Slots", 4294967295),
+    ("0:16:2", "Used", 2), ("0:20:0", "Volumes", 0), ("0:24:4294967295", "Blocks", 4294967295), ("0:28:1", "Rest", 1),
+    ("1:0:3 1:4:2", 1, 3, 2, 0), ("0:24:1", 1, 3, 2, 0), ("1:16:0", 1, 0, 2, 0), ("1:20:4", 1, 3, 4, 0), ("1:24:1", 1, 3, 2, 1),
+    ("1:28:1", 1, 3, 2, 0), ("1:32:1", 2, 1, 0, 0),
+)
+
+
+def refused():
+    """The area of that group, with each of these numbers in it."""
+    for put, *wrong in SPOILT:
+        fields = ("field", "found") if len(wrong) == 2 else ("slot", "set", "block", "volume")
+        fault = ", ".join(f"{field}: {value}" for field, value in zip(fields, wrong))
+        closed = Catalog().make_all(ONE_COPY)
+        closed.rows.append((f"load {put}", [f"Err({'BadHeader' if len(wrong) == 2 else 'BadRecord'} {{ {fault} }})"]))
+        yield closed
+
+
 def lacking():
     """Groups that are taken up with lists of which one set is missing: each set of each volume in turn."""
     for blocks, slots, _ in groups(range(200, 212), 3):
@@ -303,5 +282,6 @@ def catalogs():
 
 main(Catalog, {
     "bytes": catalogs(), "open": lives(3), "closed": lives(3, 2), "first": lives(1, 1), "alone": lives(1),
-    "faults": list(faulty(range(100, 140))) + list(unread()), "lacking": lacking(), "limits": limits(),
+    "faults": list(faulty(range(100, 140))) + list(unread()), "lacking": lacking(), "refused": refused(),
+    "limits": limits(),
 })

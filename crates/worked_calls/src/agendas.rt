@@ -31,16 +31,26 @@ fn close_group(agenda: &mut Agenda) {
     }
 }
 
-/// The groups of a snapshot of one writer and one volume open in order; a prepare that asks no writer is done at once.
-pub fn show_groups(alloc: Global, page: &mut Page) -> Result<(), Stopped> {
-    let mut agenda = Agenda::new(alloc, Kind::Snapshot, &[LONE], &[5])?;
+/// Shows each open group and closes it, and then that none is left.
+fn show_all(page: &mut Page, agenda: &mut Agenda) {
     for _group in 0..11 {
-        show_group(page, &agenda);
-        close_group(&mut agenda);
+        show_group(page, agenda);
+        close_group(agenda);
     }
     page.show("done", &agenda.is_done());
     page.show("group", &agenda.open_group());
+}
+
+/// A prepare that asks no writer is done at once.
+fn show_unasked(alloc: Global, page: &mut Page) -> Result<(), Stopped> {
     let unasked = Agenda::new(alloc, Kind::Prepare, &[], &[])?;
     page.show("done", &unasked.is_done());
     Ok(())
+}
+
+/// The groups of a snapshot of one writer and one volume open in order.
+pub fn show_groups(alloc: Global, page: &mut Page) -> Result<(), Stopped> {
+    let mut agenda = Agenda::new(alloc, Kind::Snapshot, &[LONE], &[5])?;
+    show_all(page, &mut agenda);
+    show_unasked(alloc, page)
 }

@@ -30,11 +30,11 @@ fn register(
     coordinator: &mut Coordinator,
     class: u128,
 ) -> Result<(), Stopped> {
-    let name = Text::copy(alloc, b"db")?;
-    let db = metadata(alloc, class)?;
     if coordinator.writers() >= 64 {
         return Err(Stopped);
     }
+    let name = Text::copy(alloc, b"db")?;
+    let db = metadata(alloc, class)?;
     page.show("registered", &coordinator.register(alloc, &name, db));
     Ok(())
 }
@@ -107,17 +107,8 @@ fn show_step(page: &mut Page, coordinator: &mut Coordinator) -> Result<(), Stopp
     Ok(())
 }
 
-/// Goes through an agenda of so many steps, and shows what each does.
-fn go_through(
-    alloc: Global,
-    page: &mut Page,
-    coordinator: &mut Coordinator,
-    kind: Kind,
-    steps: u32,
-) -> Result<(), Stopped> {
-    page.show("agenda", &kind);
-    let begun = begin(alloc, coordinator, kind)?;
-    page.show("begun", &begun);
+/// Makes so many steps, and shows what each does.
+fn show_steps(page: &mut Page, coordinator: &mut Coordinator, steps: u32) -> Result<(), Stopped> {
     show_writer(page, coordinator);
     for _step in 0..steps {
         show_step(page, coordinator)?;
@@ -126,26 +117,17 @@ fn go_through(
     Ok(())
 }
 
-/// A writer is registered once and gathered.
-fn show_gathered(
+/// Goes through an agenda of so many steps.
+fn go_through(
     alloc: Global,
     page: &mut Page,
     coordinator: &mut Coordinator,
+    kind: Kind,
+    steps: u32,
 ) -> Result<(), Stopped> {
-    register(alloc, page, coordinator, 7)?;
-    register(alloc, page, coordinator, 8)?;
-    go_through(alloc, page, coordinator, Kind::Gather, 1)
-}
-
-/// A set completes, and its writer is told.
-fn show_completed(
-    alloc: Global,
-    page: &mut Page,
-    coordinator: &mut Coordinator,
-) -> Result<(), Stopped> {
-    go_through(alloc, page, coordinator, Kind::Prepare, 1)?;
-    go_through(alloc, page, coordinator, Kind::Snapshot, 11)?;
-    go_through(alloc, page, coordinator, Kind::Complete, 1)
+    page.show("agenda", &kind);
+    page.show("begun", &begin(alloc, coordinator, kind)?);
+    show_steps(page, coordinator, steps)
 }
 
 /// Without a writer an agenda that asks writers has ended as it begins.
@@ -155,14 +137,28 @@ fn show_unasked(
     coordinator: &mut Coordinator,
 ) -> Result<(), Stopped> {
     let none = Selection::new(alloc, 0)?;
-    page.show(
-        "gather",
-        &begin_over(alloc, coordinator, Kind::Gather, &none)?,
-    );
-    page.show(
-        "prepare",
-        &begin_over(alloc, coordinator, Kind::Prepare, &none)?,
-    );
+    for (what, kind) in [("gather", Kind::Gather), ("prepare", Kind::Prepare)] {
+        page.show(what, &begin_over(alloc, coordinator, kind, &none)?);
+    }
+    Ok(())
+}
+
+/// A writer is registered once and gathered, a set completes, and its writer is told.
+fn show_agendas(
+    alloc: Global,
+    page: &mut Page,
+    coordinator: &mut Coordinator,
+) -> Result<(), Stopped> {
+    register(alloc, page, coordinator, 7)?;
+    register(alloc, page, coordinator, 8)?;
+    for (kind, steps) in [
+        (Kind::Gather, 1u32),
+        (Kind::Prepare, 1),
+        (Kind::Snapshot, 11),
+        (Kind::Complete, 1),
+    ] {
+        go_through(alloc, page, coordinator, kind, steps)?;
+    }
     Ok(())
 }
 
@@ -170,6 +166,5 @@ fn show_unasked(
 pub fn show_coordinators(alloc: Global, page: &mut Page) -> Result<(), Stopped> {
     let mut coordinator = Coordinator::new(alloc)?;
     show_unasked(alloc, page, &mut coordinator)?;
-    show_gathered(alloc, page, &mut coordinator)?;
-    show_completed(alloc, page, &mut coordinator)
+    show_agendas(alloc, page, &mut coordinator)
 }

@@ -18,23 +18,31 @@ pub fn marked(alloc: Global, byte: u8) -> Result<BlockBuf, OutOfMemory>
     Ok(block)
 }
 
-/// Makes the call that a word names, on block 1: a block is read into the buffer and written from it. `mark` and `first` are of the buffer.
-fn show_call<D: Device>(page: &mut Page, device: &mut D, block: &mut BlockBuf, word: &str) {
-    if device.blocks() < 2 {
-        return;
-    }
+/// Makes the call that a word names, of those that have a number or nothing to show; `mark` and `first` are of the buffer.
+fn show_number<D: Device>(page: &mut Page, device: &mut D, block: &mut BlockBuf, word: &str) {
     match word {
-        "read" => page.show(word, &device.read_into(1, block.bytes_mut()).is_ok()),
-        "write" => page.show(word, &device.write(1, block.bytes()).is_ok()),
-        "flush" => page.show(word, &device.flush().is_ok()),
-        "lends" => page.show(word, &device.lends()),
-        "lend" => page.show(word, &device.lend(1).is_some()),
         "blocks" => page.show(word, &device.blocks()),
-        "zeros" => page.show(word, &block.bytes().iter().all(|byte| *byte == 0)),
         "first" => page.show(word, &block.bytes()[0]),
         "mark" => block.bytes_mut()[0] = 2,
         _ => page.show("faults", &device.faults()),
     }
+}
+
+/// Makes the call that a word names, on block 1: a block is read into the buffer and written from it.
+fn show_call<D: Device>(page: &mut Page, device: &mut D, block: &mut BlockBuf, word: &str) {
+    if device.blocks() < 2 {
+        return;
+    }
+    let is_so = match word {
+        "read" => device.read_into(1, block.bytes_mut()).is_ok(),
+        "write" => device.write(1, block.bytes()).is_ok(),
+        "flush" => device.flush().is_ok(),
+        "lends" => device.lends(),
+        "lend" => device.lend(1).is_some(),
+        "zeros" => block.bytes().iter().all(|byte| *byte == 0),
+        _ => return show_number(page, device, block, word),
+    };
+    page.show(word, &is_so);
 }
 
 /// Makes the calls that words name.

@@ -25,14 +25,19 @@ fn show_component(alloc: Global, page: &mut Page, component: &Component) -> Resu
     Ok(())
 }
 
-/// Shows the name and the components of a copy, in order.
-fn show_copy(alloc: Global, page: &mut Page, metadata: &Metadata) -> Result<(), Stopped> {
-    let copy = metadata.copy(alloc)?;
-    page.line("name", copy.name.bytes());
-    for component in copy.components.items() {
+/// Shows the name and the components, in order.
+fn show_parts(alloc: Global, page: &mut Page, metadata: &Metadata) -> Result<(), Stopped> {
+    page.line("name", metadata.name.bytes());
+    for component in metadata.components.items() {
         show_component(alloc, page, component)?;
     }
     Ok(())
+}
+
+/// Shows the parts of a copy.
+fn show_copy(alloc: Global, page: &mut Page, metadata: &Metadata) -> Result<(), Stopped> {
+    let copy = metadata.copy(alloc)?;
+    show_parts(alloc, page, &copy)
 }
 
 /// Shows a document with all its members, as it is written and as a copy has them.
@@ -40,8 +45,7 @@ fn show_metadata(alloc: Global, page: &mut Page, metadata: &Metadata) -> Result<
     requires { IsAllowed (meta_of metadata.now) }
 {
     show_fields(page, metadata);
-    let written = metadata.to_json(alloc)?;
-    page.line("written", written.bytes());
+    page.line("written", metadata.to_json(alloc)?.bytes());
     show_copy(alloc, page, metadata)
 }
 

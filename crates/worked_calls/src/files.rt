@@ -19,13 +19,27 @@ fn new_folder(rt: &HostRuntime) -> Result<String, Stopped> {
     Ok(path.into_string())
 }
 
-/// A device in a file gives back what was written; a file that is there is refused, and the files that were made go when they are to.
-fn show_written(rt: &HostRuntime, page: &mut Page, folder: &str) -> Result<(), Stopped> {
+/// The calls that are made on a device in a file.
+const CALLS: &str = "lends lend blocks read zeros mark write flush first mark read first";
+
+/// A device in a file gives back what was written, and a file that is there is refused.
+fn show_made_twice(
+    rt: &HostRuntime,
+    page: &mut Page,
+    maker: &mut HostMaker,
+    folder: &str,
+) -> Result<(), Stopped> {
     let store = Store::Folder(Text::copy(rt.alloc(), folder.as_bytes())?);
-    let calls = "lends lend blocks read zeros mark write flush first mark read first";
+    for name in ["C.vol", "C.vol"] {
+        show_made(rt.alloc(), page, maker, &store, name, CALLS)?;
+    }
+    Ok(())
+}
+
+/// The files that were made go when they are to.
+fn show_written(rt: &HostRuntime, page: &mut Page, folder: &str) -> Result<(), Stopped> {
     let mut maker = HostMaker::new(*rt);
-    show_made(rt.alloc(), page, &mut maker, &store, "C.vol", calls)?;
-    show_made(rt.alloc(), page, &mut maker, &store, "C.vol", calls)?;
+    show_made_twice(rt, page, &mut maker, folder)?;
     for fault in maker.failed_calls().iter() {
         page.print("failed", &fault.call);
     }

@@ -9,7 +9,6 @@
 
 mod agendas;
 mod area_bytes;
-mod areas;
 mod blocks;
 mod calls;
 mod coordinators;
@@ -17,15 +16,12 @@ mod devices;
 mod documents;
 mod files;
 mod generated;
-mod kept_area;
 mod lists;
 mod machines;
 mod mailboxes;
 mod makers;
-mod maps;
 mod names;
 mod page;
-mod reports;
 mod requestors;
 mod scripts;
 mod selections;
@@ -35,7 +31,6 @@ mod stopped;
 mod streams;
 mod texts;
 mod unfolded;
-mod words;
 
 use crate::page::Page;
 use crate::stopped::Stopped;
@@ -51,7 +46,6 @@ fn show_storage(rt: &HostRuntime, page: &mut Page) -> Result<(), Stopped> {
     streams::show_streams(alloc, page)?;
     makers::show_makers(rt, page)?;
     small_area::show_small_areas(alloc, page)?;
-    kept_area::show_kept(alloc, page)?;
     files::show_files(rt, page)
 }
 

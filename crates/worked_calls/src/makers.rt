@@ -3,6 +3,7 @@
 use crate::devices::{listed, marked, show_calls};
 use crate::page::Page;
 use crate::stopped::Stopped;
+use block_data::BlockBuf;
 use std::alloc::Global;
 use volume_device::{Device, HostDevice, HostMaker, Maker, MemDevice, MemMaker, Planned, Store};
 use vss_names::{Numbers, OutOfMemory, Text};
@@ -18,6 +19,19 @@ fn row(alloc: Global, name: &[u8], refused: bool, writes: &str) -> Result<Planne
     })
 }
 
+/// Calls a device, and gives it back.
+fn call_made<M: Maker>(
+    page: &mut Page,
+    maker: &mut M,
+    device: M::Made,
+    block: &mut BlockBuf,
+    calls: &str,
+) {
+    let mut device = device;
+    show_calls(page, &mut device, block, calls);
+    maker.take_back(device);
+}
+
 /// Makes a device of this name, calls it, and gives it back.
 pub fn show_made<M: Maker>(
     alloc: Global,
@@ -27,15 +41,11 @@ pub fn show_made<M: Maker>(
     name: &str,
     calls: &str,
 ) -> Result<(), Stopped> {
-    let mut block = marked(alloc, 1)?;
     page.line("make", name.as_bytes());
     let name = Text::copy(alloc, name.as_bytes())?;
+    let mut block = marked(alloc, 1)?;
     match maker.make(alloc, store, &name, 3) {
-        Ok(made) => {
-            let mut device = made;
-            show_calls(page, &mut device, &mut block, calls);
-            maker.take_back(device);
-        }
+        Ok(device) => call_made(page, maker, device, &mut block, calls),
         Err(fault) => page.show("refused", &fault),
     }
     page.show("faults", &maker.faults());
@@ -44,10 +54,9 @@ pub fn show_made<M: Maker>(
 
 /// A row of a plan serves one device.
 fn show_plan(alloc: Global, page: &mut Page, maker: &mut MemMaker) -> Result<(), Stopped> {
-    show_made(alloc, page, maker, &Store::Memory, "D.vol", "blocks write")?;
-    show_made(alloc, page, maker, &Store::Memory, "C.vol", "blocks write")?;
-    show_made(alloc, page, maker, &Store::Memory, "C.vol", "blocks write")?;
-    show_made(alloc, page, maker, &Store::Memory, "D.vol", "blocks write")?;
+    for name in ["D.vol", "C.vol", "C.vol", "D.vol"] {
+        show_made(alloc, page, maker, &Store::Memory, name, "blocks write")?;
+    }
     page.show("returned", &maker.returned().len());
     page.show("names", &maker.names().len());
     Ok(())
@@ -78,12 +87,6 @@ pub fn show_makers(rt: &HostRuntime, page: &mut Page) -> Result<(), Stopped> {
     let mut maker = planned(alloc)?;
     show_plan(alloc, page, &mut maker)?;
     let mut host = HostMaker::new(*rt);
-    show_made(
-        alloc,
-        page,
-        &mut host,
-        &Store::Memory,
-        "C.vol",
-        "lends write faults",
-    )
+    let calls = "lends write faults";
+    show_made(alloc, page, &mut host, &Store::Memory, "C.vol", calls)
 }

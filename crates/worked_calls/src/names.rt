@@ -1,6 +1,5 @@
 //! The tables against the SDK's own headers, and what printing writes.
 
-use crate::calls::first_word;
 use crate::page::Page;
 use crate::stopped::Stopped;
 use vss_names::{
@@ -8,17 +7,17 @@ use vss_names::{
     WriterState,
 };
 
-/// The number behind the first word.
-fn number_behind(words: &str) -> Option<u32> {
-    words.split_once(' ')?.1.parse::<u32>().ok()
+/// A name and the number behind it.
+fn numbered(words: &str) -> Option<(&str, u32)> {
+    let (name, number) = words.split_once(' ')?;
+    Some((name, number.parse::<u32>().ok()?))
 }
 
 /// A state by its name in the SDK, and by its number.
 pub fn show_state(page: &mut Page, words: &str) -> Result<(), Stopped> {
-    let Some(number) = number_behind(words) else {
+    let Some((name, number)) = numbered(words) else {
         return Err(Stopped);
     };
-    let name = first_word(words);
     page.show(name, &WriterState::of_name(name.as_bytes()));
     let state = WriterState::of_number(number);
     page.show("state", &state);
@@ -31,10 +30,9 @@ pub fn show_state(page: &mut Page, words: &str) -> Result<(), Stopped> {
 
 /// A writer's error by its name in the SDK, and by its code.
 pub fn show_error(page: &mut Page, words: &str) -> Result<(), Stopped> {
-    let Some(code) = number_behind(words) else {
+    let Some((name, code)) = numbered(words) else {
         return Err(Stopped);
     };
-    let name = first_word(words);
     page.show(name, &WriterError::of_name(name.as_bytes()));
     page.show("result", &VssResult::of_name(name.as_bytes()));
     let error = WriterError::of_number(code);
@@ -57,22 +55,25 @@ fn show_number(page: &mut Page, table: &str, number: u32) {
     }
 }
 
-/// What the table that the first word names has for a name or a number.
-pub fn show_name(page: &mut Page, words: &str) -> Result<(), Stopped> {
-    if let Some(number) = number_behind(words) {
-        show_number(page, first_word(words), number);
-        return Ok(());
-    }
-    let Some((table, name)) = words.split_once(' ') else {
-        return Err(Stopped);
-    };
-    let name = name.as_bytes();
+/// What the table that the first word names has for a name.
+fn show_named(page: &mut Page, table: &str, name: &[u8]) {
     match table {
         "level" => page.show(table, &Level::of_name(name)),
         "context" => page.show(table, &Context::of_name(name)),
         "kind" => page.show(table, &ComponentType::of_name(name)),
         "usage" => page.show(table, &Usage::of_name(name)),
         _ => page.show("source", &SourceKind::of_name(name)),
+    }
+}
+
+/// What the table that the first word names has for a name or a number.
+pub fn show_name(page: &mut Page, words: &str) -> Result<(), Stopped> {
+    let Some((table, row)) = words.split_once(' ') else {
+        return Err(Stopped);
+    };
+    match row.parse::<u32>() {
+        Ok(number) => show_number(page, table, number),
+        Err(_) => show_named(page, table, row.as_bytes()),
     }
     Ok(())
 }

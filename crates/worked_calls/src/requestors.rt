@@ -29,35 +29,31 @@ fn show_requestor(page: &mut Page, requestor: &Requestor) {
     page.show("last", &requestor.last());
 }
 
-/// The calls before the set is prepared.
-fn open(page: &mut Page, requestor: &mut Requestor) {
-    let begin = SessionCall::Begin {
-        context: 9,
-        all: true,
-    };
-    let gathered = Some(SetOutcome::Running);
-    go(page, requestor, begin, None);
-    go(page, requestor, SessionCall::Disable, None);
-    go(page, requestor, SessionCall::Gather, gathered);
-    go(page, requestor, SessionCall::Start, None);
-    go(page, requestor, SessionCall::Add, None);
-}
-
-/// The calls from there on, but for the last.
-fn finish(page: &mut Page, requestor: &mut Requestor) {
-    let told = Some(SetOutcome::Running);
-    let made = Some(SetOutcome::Complete);
-    go(page, requestor, SessionCall::Prepare, told);
-    go(page, requestor, SessionCall::Snapshot, made);
-    go(page, requestor, SessionCall::Complete, told);
-}
+/// The calls of a session with writers, and what the agendas of those come to that have one.
+const CALLS: [(SessionCall, Option<SetOutcome>); 8] = [
+    (
+        SessionCall::Begin {
+            context: 9,
+            all: true,
+        },
+        None,
+    ),
+    (SessionCall::Disable, None),
+    (SessionCall::Gather, Some(SetOutcome::Running)),
+    (SessionCall::Start, None),
+    (SessionCall::Add, None),
+    (SessionCall::Prepare, Some(SetOutcome::Running)),
+    (SessionCall::Snapshot, Some(SetOutcome::Complete)),
+    (SessionCall::Complete, Some(SetOutcome::Running)),
+];
 
 /// A session with writers goes through its stages; without one nothing is gathered.
 pub fn show_session(page: &mut Page) {
     let mut requestor = Requestor::new();
     page.show("gather", &requestor.check(4, SessionCall::Gather, false));
-    open(page, &mut requestor);
-    finish(page, &mut requestor);
+    for (call, outcome) in CALLS {
+        go(page, &mut requestor, call, outcome);
+    }
     show_requestor(page, &requestor);
     go(page, &mut requestor, SessionCall::End, None);
 }

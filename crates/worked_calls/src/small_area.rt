@@ -135,22 +135,39 @@ pub fn show_calls_of<D: Device>(
     Ok(())
 }
 
-/// Shows them over a device in memory on which these calls fail.
-fn show_over(alloc: Global, page: &mut Page, writes: &str, flushes: &str) -> Result<(), Stopped> {
+/// A device in memory on which these calls fail.
+fn failing(alloc: Global, writes: &str, flushes: &str) -> Result<MemDevice, Stopped> {
     let writes = listed(alloc, writes)?;
     let flushes = listed(alloc, flushes)?;
-    let device = MemDevice::new(alloc, 4)?.failing(Numbers::new(alloc), writes, flushes);
-    let mut area = open(alloc, device)?;
-    show_calls_of(alloc, page, &mut area)?;
-    let mut device = area.into_device();
+    Ok(MemDevice::new(alloc, 4)?.failing(Numbers::new(alloc), writes, flushes))
+}
+
+/// Shows whether a device has the bytes of the small area.
+fn show_kept(alloc: Global, page: &mut Page, device: &mut MemDevice) -> Result<(), Stopped> {
     page.show("faults", &device.faults());
-    let bytes = bytes_of(alloc, &mut device)?;
+    let bytes = bytes_of(alloc, device)?;
     page.show("same", &(bytes == small_area(alloc)?));
+    Ok(())
+}
+
+/// Shows the calls over a device in memory on which these calls fail.
+fn show_over(alloc: Global, page: &mut Page, writes: &str, flushes: &str) -> Result<(), Stopped> {
+    let mut area = open(alloc, failing(alloc, writes, flushes)?)?;
+    show_calls_of(alloc, page, &mut area)?;
+    show_kept(alloc, page, &mut area.into_device())
+}
+
+/// Shows that a device without a block has no area.
+fn show_unopened(alloc: Global, page: &mut Page) -> Result<(), Stopped> {
+    if let Err(unopened) = Area::load(alloc, MemDevice::new(alloc, 0)?) {
+        page.show("unopened", &unopened.fault);
+    }
     Ok(())
 }
 
 /// All of these.
 pub fn show_small_areas(alloc: Global, page: &mut Page) -> Result<(), Stopped> {
+    show_unopened(alloc, page)?;
     show_over(alloc, page, "-", "-")?;
     show_over(alloc, page, "3", "1")
 }

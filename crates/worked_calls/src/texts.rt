@@ -38,26 +38,6 @@ fn show_lanes(page: &mut Page, scenario: &Scenario) {
     page.show("line", &scenario.line(scenario.lanes(), 0));
 }
 
-/// Shows how many of each kind are named.
-fn show_lengths(page: &mut Page, scenario: &Scenario) {
-    page.show("volumes", &scenario.volumes());
-    page.show("groups", &scenario.groups());
-    page.show("writers", &scenario.writers());
-    page.show("lanes", &scenario.lanes());
-}
-
-/// Shows how many names of each kind a text has, or its first bad line.
-pub fn show_counts(alloc: Global, page: &mut Page, text: &str) -> Result<(), Stopped> {
-    if text.len() > 1_000_000 {
-        return Err(Stopped);
-    }
-    match parse(alloc, text.as_bytes()) {
-        Ok(scenario) => show_lengths(page, &scenario),
-        Err(refused) => page.show("refused", &refused),
-    }
-    Ok(())
-}
-
 /// Shows what a text says, or its first bad line.
 pub fn show_scenario(alloc: Global, page: &mut Page, text: &str) -> Result<(), Stopped> {
     if text.len() > 1_000_000 {

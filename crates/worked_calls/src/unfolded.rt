@@ -2,17 +2,28 @@ use crate::stopped::Stopped;
 use std::alloc::Global;
 use vss_names::Text;
 
-/// Adds a text: `|` stands for the end of a line, and `#` for the number.
-fn add_part(alloc: Global, text: &mut Text, part: &str, number: u32) -> Result<(), Stopped> {
-    let digits = format!(in alloc; "{number}")?;
-    for byte in part.bytes() {
-        match byte {
-            b'|' => text.add(b"\n")?,
-            b'#' => text.add(digits.as_bytes())?,
-            _ => text.add(&[byte])?,
-        }
+/// Adds what a byte stands for: `|` for the end of a line, `#` for a number's digits, and any other for itself.
+fn add_byte(text: &mut Text, byte: u8, digits: &[u8]) -> Result<(), Stopped> {
+    match byte {
+        b'|' => text.add(b"\n")?,
+        b'#' => text.add(digits)?,
+        _ => text.add(&[byte])?,
     }
     Ok(())
+}
+
+/// Adds what the bytes of a text stand for.
+fn add_bytes(text: &mut Text, part: &str, digits: &[u8]) -> Result<(), Stopped> {
+    for byte in part.bytes() {
+        add_byte(text, byte, digits)?;
+    }
+    Ok(())
+}
+
+/// Adds them, with this number.
+fn add_part(alloc: Global, text: &mut Text, part: &str, number: u32) -> Result<(), Stopped> {
+    let digits = format!(in alloc; "{number}")?;
+    add_bytes(text, part, digits.as_bytes())
 }
 
 /// Adds a text several times. It stands behind how often that is.
