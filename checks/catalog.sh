@@ -8,7 +8,7 @@ python3 checks/catalog/lists.py "$room" checks/catalog/*.rows || exit 1
 declare -A count
 for rows in checks/catalog/*.rows "$room"/*.rows; do
   before="$replies"
-  replied "$rows" "$trial" catalog
+  replied "$rows" "$trial" cow
   count["$(basename "$rows" .rows)"]="$((replies - before))"
 done
 

@@ -1,5 +1,5 @@
 #!/usr/bin/env python3
-"""Rows of closed groups, for the subject `catalog` of the trials of storage, in a folder: lists.py FOLDER ROWS..
+"""Rows of closed groups, for the subject `cow` of the trials of storage, in a folder: lists.py FOLDER ROWS..
 
 open.rows: lists of calls of groups that are never closed. closed.rows: the same lists, but that each group is closed, loaded and taken up again
 after each sync. alone.rows and first.rows: the same of one volume, whose area is brought into the first layout before it is loaded. faults.rows:

@@ -10,8 +10,9 @@ import sys
 
 sys.dont_write_bytecode = True  # nothing is written beside the sources
 sys.path.insert(0, os.path.join(os.path.dirname(os.path.abspath(__file__)), ".."))
-from rows import Subject, fails, main  # noqa: E402
-from volumes import Group, Refused  # noqa: E402
+from groups import Groups  # noqa: E402
+from rows import fails, main  # noqa: E402
+from volumes import some  # noqa: E402
 
 # two volumes with images, of which the older goes by merging, an eviction on both volumes, a revert and a sync
 ALL_CALLS = """\
@@ -31,93 +32,25 @@ cut 1 2
 write 1 2 16
 write 1 0 17
 write 1 1 18
-used
+used 0
+used 1
+used_all
 flush 0
 flush 1
 sync
-used
+used 0
+used 1
+used_all
 """.splitlines()
-WORDS = {"NoSuchBlock": "no such block", "NoSuchImage": "no such image", "Volume": "volume", "Area": "area"}
 
 
-class Cow(Subject):
-    """Calls of a group of copy-on-write volumes, or of one volume by itself, whose number is left out."""
-
-    group = None
-    is_alone = False
-
-    def reply(self, word, *rest):
-        values = [int(n) for n in rest]
-        if word in ("group", "files", "alone"):
-            self.is_alone = word == "alone"
-            volumes, blocks, slots = [1] * self.is_alone + values
-            self.group = Group([blocks] * volumes, slots, self.taken_failing(), lends=word != "files")
-            return None
-        if self.is_alone and word not in ("sync", "load", "used"):
-            values.insert(0, 0)
-        try:
-            return getattr(self, word.replace("-", "_"))(*values)
-        except Refused as refusal:
-            return WORDS[str(refusal)]
-
-    def write(self, v, block, byte):
-        cause, gone = self.group.write(v, block, byte)
-        return f"{WORDS.get(cause, 'ok')} up to {gone}"
-
-    def read(self, *place):
-        return str(self.group.read(*place))
-
-    def image(self, *place):
-        return str(self.group.image(*place))
-
-    @staticmethod
-    def lent(device, place):
-        return "not lent" if device.lend(place) is None else str(device.lend(place))
-
-    def lend(self, v, block):
-        return self.lent(self.group.devices[v], block)
-
-    def lend_image(self, *place):
-        return self.lent(*self.group.shown(*place))
-
-    def cut(self, *image):
-        self.group.cut(*image)
-        return "ok"
-
-    def drop(self, *image):
-        self.group.drop(*image)
-        return "ok"
-
-    def revert(self, *image):
-        cause, restored = self.group.revert(*image)
-        return "ok" if cause is None else f"{WORDS[cause]} after {restored}"
-
-    def goes(self, *place):
-        return str(self.group.goes_up_to(*place))
-
-    def images(self, v):
-        return " ".join(["images"] + [str(s) for s in self.group.images[v]])
-
-    def by(self, *image):
-        self.group.has(*image)
-        return str(self.group.used(*image))
-
-    def used(self):
-        each = [str(self.group.used(v)) for v in range(len(self.group.devices))]
-        return f"{' '.join(each)} of {len(self.group.slots)}" + ("" if self.is_alone else f": {self.group.used()}")
-
-    def flush(self, v):
-        self.group.devices[v].call("flush")
-        return "ok"
-
-    def sync(self):
-        self.group.sync()
-        return "ok"
+class Cow(Groups):
+    """These calls, and the table of the area that a group leaves."""
 
     def load(self):
-        """The records of the area that the group leaves."""
+        """What its used slots hold, and the sizes."""
         group = self.group
-        lines = [f"{slot}: {c[1]} {c[0]} {c[2]}: {group.area.blocks[group.first + slot]}" for slot, c in enumerate(group.slots) if c]
+        lines = [f"{slot}: {c[1]} {c[0]} {c[2]}: {some(group.area.blocks[group.first + slot])}" for slot, c in enumerate(group.slots) if c]
         return lines + [f"volumes {len(group.devices)} slots {len(group.slots)}"]
 
 
@@ -126,7 +59,7 @@ def failing():
     for device in "volume0", "volume1", "area":
         for kind, most in ("read", 6), ("write", 12), ("flush", 3):
             for number in range(1, most + 1):
-                yield Cow().make_all([f"fails {device} {kind} {number}", "group 2 4 4"] + ALL_CALLS)
+                yield Cow().make_all([f"fails {device} {kind} {number}", "group 4 4 4"] + ALL_CALLS)
 
 
 def drawn(seed):
@@ -138,7 +71,7 @@ def drawn(seed):
     lines = []
     for device in [f"volume{n}" for n in range(volumes)] + ["area"] if kind != "files" else []:
         lines += fails(device, {call: sorted(draw.sample(range(1, 20), 3)) for call in ("read", "write", "flush") if draw.random() < 0.2})
-    lines.append(" ".join(map(str, [kind] + [volumes] * (kind != "alone") + [blocks, slots])))
+    lines.append(" ".join(map(str, [kind] + ([blocks, slots] if kind == "alone" else [slots] + [blocks] * volumes))))
     newest = 0
 
     def v():
@@ -151,10 +84,10 @@ def drawn(seed):
         wanted, inside = draw.randint(1, newest + 1), draw.randrange(blocks)
         choices = [f"write {v()}{block()} {draw.randrange(256)}"] * 6
         choices += [f"cut {v()}{newest + 1}", f"read {v()}{block()}", f"lend {v()}{inside}", f"image {v()}{wanted} {block()}"]
-        choices += [f"lend-image {v()}{wanted} {block()}", f"drop {v()}{wanted}", f"revert {v()}{wanted}", f"by {v()}{wanted}"]
-        choices += [f"flush {v()}".rstrip(), "sync", "used"]
+        choices += [f"lend-image {v()}{wanted} {block()}", f"drop {v()}{wanted}", f"revert {v()}{wanted}", f"used_by {v()}{wanted}"]
+        choices += [f"flush {v()}".rstrip(), "sync", f"used {v()}".rstrip(), f"images {v()}".rstrip(), "slots"]
         if kind != "alone":
-            choices += [f"goes {v()}{inside}", f"images {v()}".rstrip()]
+            choices += [f"up_to {v()}{inside}", "used_all"]
         lines.append(draw.choice(choices))
         newest += lines[-1].startswith("cut")
     return kind, Cow().make_all(lines)

@@ -1,54 +1,65 @@
 //! Calls of a volume by itself.
 
-use crate::answer::{Answer, Style};
 use crate::call::Call;
 use crate::content::{buffer, filled_with};
-use crate::grouped::print_images;
 use crate::making::may_cut;
+use crate::telling::tell;
 use crate::trial_error::TrialError;
 use block_data::Payload;
 use cow_volume::CowVolume;
 use mirror_volume::ImageVolume;
 use volume_device::HostDevice;
 
-type Volume = CowVolume<HostDevice>;
-
-/// The answer of a call that volumes of each kind have; None where it is another.
-pub fn answer<V: ImageVolume>(
+/// Makes a call that volumes of each kind have, and prints its answer; None where it is another.
+pub fn make_common<V: ImageVolume>(
     rt: &HostRuntime,
     volume: &mut V,
     call: &Call,
-) -> Result<Option<Answer>, TrialError> {
+) -> Result<Option<()>, TrialError> {
     let mut out = buffer(rt.alloc())?;
-    Ok(Some(match (call.name.as_str(), call.numbers.as_slice()) {
+    match (call.name.as_str(), call.numbers.as_slice()) {
         ("read", [block]) => {
             let read = volume.read_into(*block, out.bytes_mut());
-            Answer::Read(read.map(|()| filled_with(out.bytes())))
+            tell(rt, &read.map(|()| filled_with(out.bytes())))?
         }
         ("image", [set, block]) => {
             let read = volume.read_image_into(*set, *block, out.bytes_mut());
-            Answer::Seen(read.map(|()| filled_with(out.bytes())))
+            tell(rt, &read.map(|()| filled_with(out.bytes())))?
         }
-        ("cut", [set]) if may_cut(volume.images(), *set) => Answer::Cut(volume.cut(*set)),
+        ("cut", [set]) if may_cut(volume.images(), *set) => tell(rt, &volume.cut(*set))?,
         ("write", [block, byte]) => {
-            Answer::Wrote(volume.write(*block, &Payload::Fill((*byte % 256) as u8)))
+            tell(
+                rt,
+                &volume.write(*block, &Payload::Fill((*byte % 256) as u8)),
+            )?
         }
-        ("drop", [set]) => Answer::Dropped(volume.drop_image(*set)),
+        ("drop", [set]) => tell(rt, &volume.drop_image(*set))?,
+        ("images", []) => tell(rt, &volume.images())?,
         _ => return Ok(None),
-    }))
+    }
+    Ok(Some(()))
 }
 
-/// The answer of a call that copy-on-write volumes alone have.
-fn answer_of_copies(volume: &mut Volume, call: &Call) -> Result<Answer, TrialError> {
+/// Makes a call that copy-on-write volumes alone have, and prints its answer.
+fn make_of_copies(
+    rt: &HostRuntime,
+    volume: &mut CowVolume<HostDevice>,
+    call: &Call,
+) -> Result<(), TrialError> {
     match (call.name.as_str(), call.numbers.as_slice()) {
-        ("revert", [set]) => Ok(Answer::Reverted(volume.revert(*set))),
-        ("flush", []) => Ok(Answer::Went(volume.flush())),
-        ("sync", []) => Ok(Answer::Went(volume.sync())),
+        ("revert", [set]) => tell(rt, &volume.revert(*set)),
+        ("flush", []) => tell(rt, &volume.flush()),
+        ("sync", []) => tell(rt, &volume.sync()),
         ("lend", [block]) if *block < volume.blocks() => {
-            Ok(Answer::of_lent(Ok(volume.lend_block(*block))))
+            tell(rt, &volume.lend_block(*block).map(filled_with))
         }
-        ("lend-image", [set, block]) => Ok(Answer::of_lent(volume.lend_image(*set, *block))),
-        ("by", [set]) => Ok(Answer::By(volume.used_by(*set))),
+        ("lend-image", [set, block]) => {
+            let lent = volume.lend_image(*set, *block);
+            tell(rt, &lent.map(|lent| lent.map(filled_with)))
+        }
+        ("used_by", [set]) => tell(rt, &volume.used_by(*set)),
+        ("used", []) => tell(rt, &volume.used()),
+        ("slots", []) => tell(rt, &volume.slots()),
         _ => Err(TrialError::NotAllowed),
     }
 }
@@ -56,19 +67,11 @@ fn answer_of_copies(volume: &mut Volume, call: &Call) -> Result<Answer, TrialErr
 /// Makes a call of a volume by itself, and prints its answer.
 pub fn make(
     rt: &HostRuntime,
-    style: Style,
-    volume: &mut Volume,
+    volume: &mut CowVolume<HostDevice>,
     call: &Call,
 ) -> Result<(), TrialError> {
-    if call.name.as_str() == "images" {
-        return print_images(rt, style, volume.images());
-    }
-    if call.name.as_str() == "used" {
-        println!(rt; "{} of {}", volume.used(), volume.slots())?;
-        return Ok(());
-    }
-    match answer(rt, volume, call)? {
-        Some(answer) => answer.print(rt, style),
-        None => answer_of_copies(volume, call)?.print(rt, style),
+    match make_common(rt, volume, call)? {
+        Some(()) => Ok(()),
+        None => make_of_copies(rt, volume, call),
     }
 }

@@ -1,25 +1,22 @@
 //! Trials of storage: `storage_trial SUBJECT` makes the call that each line of its standard input names, and prints on a line what it
-//! answered. The subjects are `cow`, `mirror`, `mirror both`, `catalog`, `recover` and `shards`. Lines of each:
+//! answered, as Rust prints the value. The subjects are `cow`, `mirror`, `mirror both`, `recover` and `shards`. Lines of each:
 //!
 //!     # ..                       is passed over, as an empty line is
 //!     subject SUBJECT            another subject begins, of which nothing is made
 //!     fails DEVICE CALL NUMBERS ..    calls fail of a device that is made next: `read`, `write` or `flush`, with the numbers of `1,4-7`
 //!
 //! A line that makes something, as `group`, makes it of zeros, and no call is planned to fail any longer. Of a block that is read the byte
-//! in each place is printed, or that they differ.
+//! in each place is printed, or None where they differ.
 //!
-//! cow: copy-on-write volumes over the devices `volume0`, `volume1` .. and `area`; answers are in words.
-//!
-//!     group VOLUMES BLOCKS SLOTS · files VOLUMES BLOCKS SLOTS (in the folder that it runs in) · alone BLOCKS SLOTS (a volume by itself)
-//!     cut V SET · write V BLOCK BYTE · read V BLOCK · image V SET BLOCK · lend V BLOCK · lend-image V SET BLOCK · drop V SET · revert V SET
-//!     flush V · goes V BLOCK · by V SET · images V · used · sync     without V of a volume by itself
-//!     load      takes it apart, and prints the table of its area as it is read from the area's device
-//!
-//! catalog: the calls of a group as above, and in place of the first line and the last:
+//! cow: copy-on-write volumes over the devices `volume0`, `volume1` .. and `area`.
 //!
 //!     group SLOTS BLOCKS ..     volumes with these numbers of blocks, which a catalog names C to J, V8, V9 and so on
-//!     up_to V BLOCK · used_by V SET · used V · used_all
+//!     files SLOTS BLOCKS ..     the same, in the folder that it runs in
+//!     alone BLOCKS SLOTS        a volume by itself
+//!     cut V SET · write V BLOCK BYTE · read V BLOCK · image V SET BLOCK · lend V BLOCK · lend-image V SET BLOCK · drop V SET · revert V SET
+//!     flush V · up_to V BLOCK · used_by V SET · used V · images V · used_all · slots · sync     without V of a volume by itself
 //!     close                     takes the group apart, and prints its catalog; bytes are two digits each
+//!     load                      takes what is not closed apart, and prints the table of its area as it is read from the area's device
 //!     load BLOCK:AT:NUMBER ..   loads the area of a closed group from its device, in whose bytes these numbers were put
 //!     bytes FIRST COUNT · record SLOT      the same, but prints some of these bytes, or the record of a slot as a view of them lends it
 //!     resume · resume BYTES     takes a closed group up again, with the lists of its catalog, or of the catalog of these bytes
@@ -63,7 +60,6 @@
 #![tactic(auto)]
 
 mod alone;
-mod answer;
 mod both;
 mod call;
 mod closed;

@@ -3,8 +3,7 @@ ghost use Rattle.volume_device.specs.OnHost.{host_told, host_size};
 ghost use Rattle.mirror_volume.specs.Mirrors.{StandsFor};
 ghost use Rattle.std.specs.Prelude.{IfOk};
 
-use crate::alone::answer;
-use crate::answer::Style;
+use crate::alone::make_common;
 use crate::call::Call;
 use crate::making::{device, mirrors};
 use crate::plan::Plan;
@@ -58,12 +57,8 @@ fn make(rt: &HostRuntime, volume: &mut Volume, call: &Call) -> Result<(), TrialE
         ("ready", []) => tell(rt, &volume.ready()),
         ("blocks", []) => tell(rt, &volume.blocks()),
         ("mirrors", []) => tell(rt, &volume.mirrors()),
-        ("images", []) => tell(rt, &volume.images()),
         ("fill", [byte]) => tell(rt, &fill(volume, (*byte % 256) as u8)),
-        _ => match answer(rt, volume, call)? {
-            Some(answer) => answer.print(rt, Style::Values),
-            None => Err(TrialError::NotAllowed),
-        },
+        _ => make_common(rt, volume, call)?.ok_or(TrialError::NotAllowed),
     }
 }
 

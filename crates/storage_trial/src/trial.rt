@@ -1,4 +1,3 @@
-use crate::answer::Style;
 use crate::both::Lists;
 use crate::call::Call;
 use crate::groups::Groups;
@@ -31,8 +30,7 @@ pub struct Trial {
 /// The subject of these words, of which nothing is made yet.
 fn subject_of(rt: &HostRuntime, words: &[&str]) -> Result<Subject, TrialError> {
     match *words {
-        ["cow"] => Ok(Subject::Groups(Groups::new(Style::Words))),
-        ["catalog"] => Ok(Subject::Groups(Groups::new(Style::Values))),
+        ["cow"] => Ok(Subject::Groups(Groups::Nothing)),
         ["mirror"] => Ok(Subject::Mirrored(Mirrored::new(rt)?)),
         ["mirror", "both"] => Ok(Subject::Lists(Lists::none(rt.alloc()))),
         ["recover"] => Ok(Subject::Recovering(Recovering { volume: None })),
