@@ -3,7 +3,7 @@ ghost use Rattle.vss_names.specs.Faults.{HasCause};
 ghost use Rattle.block_data.specs.Runs.{zeros};
 ghost use Rattle.block_data.specs.PayloadBytes.{payload_bytes};
 ghost use Rattle.write_history.specs.History.{History, contents, fresh, dropped, cut};
-ghost use Rattle.mirror_volume.specs.Mirrors.{StandsFor, mirror_over, ready_count, EqualsPrimary};
+ghost use Rattle.mirror_volume.specs.Mirrors.{AreMirrors, StandsFor, mirror_over, ready_count, EqualsPrimary};
 ghost use Rattle.mirror_volume.specs.MirrorCalls.{IsWrite, after_write, IsRead, IsImageRead, IsCut, IsDropped, IsQuiet, IsMirrorFlush, IsAllFlushed};
 ghost use Rattle.mirror_volume.specs.Resync.{IsSynced, stale_at};
 
@@ -265,6 +265,7 @@ impl<D: Device> MirrorVolume<D> {
     pub fn into_parts(self) -> (D, Vec<Mirror<D>>)
         ensures primary { result.0 ≡ self.primary }
         ensures mirrors { result.1.items ≡ self.mirrors }
+        ensures fits { AreMirrors D.size (D.size result.0) result.1.items }
     {
         (self.primary, self.mirrors)
     }
