@@ -208,6 +208,19 @@ class Mirrors:
                 self.copy(device, stale, block, content)
         return None, 0
 
+    def flush(self, *mirror):
+        """Of the primary, or of a mirror."""
+        try:
+            (self.mirrors[mirror[0]] if mirror else self.primary).call("flush")
+        except Refused:
+            raise Refused("Failed") from None
+
+    def sync(self):
+        """The primary, and then each mirror, up to the first that fails."""
+        self.flush()
+        for k in range(len(self.mirrors)):
+            self.flush(k)
+
     @staticmethod
     def copy(device, stale, block, content):
         try:
@@ -259,6 +272,7 @@ class Mended:
         self.window = None
         self.claims = []
         self.final = set()  # the sets of the images whose window was closed
+        self.synced = None  # the mended blocks that the overlay's table of one page has
 
     @property
     def images(self):
@@ -311,6 +325,21 @@ class Mended:
             raise Refused(f"Other({refusal})") from None
         self.settle()
         return done
+
+    def flush(self):
+        self.copies.devices[0].call("flush")
+
+    def sync(self):
+        """The area of the copies, and then the overlay: its header, its page if that changed, and a flush."""
+        self.copies.sync()
+        for _ in range(1 + (set(self.mended) != self.synced)):
+            self.overlay.call("write")
+        self.synced = set(self.mended)
+        self.overlay.call("flush")
+
+    def again(self, final):
+        """It is taken apart and taken up again, with these final sets."""
+        self.window, self.claims, self.final = None, [], set(final)
 
     # ## the window
 

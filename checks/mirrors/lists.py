@@ -31,7 +31,7 @@ class Singly(Subject):
             return written(*volume.write(*values))
         if word in ("read", "image"):
             return as_result(lambda: some(getattr(volume, word)(*values)))
-        if word in ("cut", "drop"):
+        if word in ("cut", "drop", "flush", "sync"):
             return as_result(lambda: getattr(volume, word)(*values))
         if word == "step":
             return as_result(lambda: volume.step(*values), lambda block: "InStep" if block is None else f"Copied {{ block: {block} }}")

@@ -81,6 +81,16 @@ class Recover(Subject):
     def overlay_used(self):
         return str(len(self.volume.mended))
 
+    def flush(self):
+        return as_result(self.volume.flush)
+
+    def sync(self):
+        return as_result(self.volume.sync)
+
+    def again(self, *final):
+        self.volume.again(final)
+        return "()"
+
 
 # ## claims
 

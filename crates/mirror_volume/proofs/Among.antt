@@ -28,7 +28,8 @@ among_of_more s set [] is = by_test (set == s) refl is where
   by_test true e is = inl (sym (same_number set s e))
   by_test false e is = cc
 among_of_more s set (i ∷ images) is = by_test (i == s) (among_of_more s set images) is where
-  by_test : (t : Bool) → (is_among s (images ++ set ∷ []) ≡ true → (s ≡ set) ⊎ (is_among s images ≡ true)) → (t || is_among s (images ++ set ∷ [])) ≡ true → (s ≡ set) ⊎ ((t || is_among s images) ≡ true)
+  by_test : (t : Bool) → (is_among s (images ++ set ∷ []) ≡ true → (s ≡ set) ⊎ (is_among s images ≡ true)) → (t || is_among s (images ++ set ∷ [])) ≡ true
+      → (s ≡ set) ⊎ ((t || is_among s images) ≡ true)
   by_test true rest is = inr refl
   by_test false rest is = rest is
 

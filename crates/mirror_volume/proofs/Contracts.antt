@@ -3,6 +3,7 @@ use Rattle.std.proofs.Common.{◌≡◌, ℕ, zero, suc, ◌+◌, ◌≤◌, Lis
 use Rattle.std.specs.Prelude.{slice_get, slice_set, ◌&&◌, map, count_by, is_some, is_none, ◌==◌, OnOk, Result, Ok, Err}
 use Rattle.std.specs.List.{list_all}
 use Rattle.vss_names.specs.Faults.{Rose}
+use Rattle.volume_device.specs.declared.device.Device.{Ghosts}
 use Rattle.write_history.specs.History.{History, Write, written, dropped, cut}
 use Rattle.cow_volume.specs.Calls.{is_among}
 use Rattle.cow_volume.specs.OneVolume.{without_up_to}
@@ -23,7 +24,8 @@ use Rattle.mirror_volume.specs.MirrorCalls.{IsQuiet, IsQuietOn, HasCause, IsWrit
 use Rattle.mirror_volume.proofs.Among.{none_gone}
 use Rattle.mirror_volume.proofs.Held.{map-slice_set}
 use Rattle.mirror_volume.proofs.Standing.{now_bytes, shown_bytes}
-use Rattle.mirror_volume.proofs.Ready.{AllLater, AnyRose, all_later, all_rose, later_itself, later_set, rose_set, all_later_followed, tells_followed, tells_set, ready_followed, ready_set, ready_split, ready_some}
+use Rattle.mirror_volume.proofs.Ready.{AllLater, AnyRose, all_later, all_rose, later_itself, later_set, rose_set, all_later_followed, tells_followed, tells_set, ready_followed, ready_set, ready_split}
+use Rattle.mirror_volume.proofs.Ready.{ready_some}
 
 and_first : (s t : Bool) → (s && t) ≡ true → s ≡ true
 and_first true t e = refl
@@ -40,157 +42,186 @@ all_at test (y ∷ xs) (suc k) x all at = all_at test xs k x (and_second (test y
 
 -- ## what is kept
 
-module _ {D : Type 0} (told : D → Option (List (List ℕ))) (size count : D → ℕ) where
-  quiet_later : (old new : MirrorValue D) → IsQuiet told size count old new → faults_of count old ≤ faults_of count new
-  quiet_later old new is = all_later (count old.primary) (count new.primary) (map (λ m. count m.device) old.mirrors) (map (λ m. count m.device) new.mirrors) is.primary.later
-      (subst (λ (ms : List (Mirror D)). AllLater (map (λ m. count m.device) old.mirrors) (map (λ m. count m.device) ms)) (sym is.mirrors) (later_itself (map (λ m. count m.device) old.mirrors)))
+module _ {D : Type 0} (ghosts : Ghosts D) where
+  quiet_later : (old new : MirrorValue D) → IsQuiet ghosts old new → faults_of ghosts.count old ≤ faults_of ghosts.count new
+  quiet_later old new is = all_later (ghosts.count old.primary) (ghosts.count new.primary) (map (λ m. ghosts.count m.device) old.mirrors)
+      (map (λ m. ghosts.count m.device) new.mirrors) is.primary.later
+      (subst (λ (ms : List (Mirror D)). AllLater (map (λ m. ghosts.count m.device) old.mirrors) (map (λ m. ghosts.count m.device) ms)) (sym is.mirrors)
+      (later_itself (map (λ m. ghosts.count m.device) old.mirrors)))
 
-  quiet_rose : (old new : MirrorValue D) → IsQuiet told size count old new → Rose (count old.primary) (count new.primary) → Rose (faults_of count old) (faults_of count new)
-  quiet_rose old new is rose = all_rose (count old.primary) (count new.primary) (map (λ m. count m.device) old.mirrors) (map (λ m. count m.device) new.mirrors) is.primary.later
-      (subst (λ (ms : List (Mirror D)). AllLater (map (λ m. count m.device) old.mirrors) (map (λ m. count m.device) ms)) (sym is.mirrors) (later_itself (map (λ m. count m.device) old.mirrors))) (inl rose)
+  quiet_rose : (old new : MirrorValue D) → IsQuiet ghosts old new → Rose (ghosts.count old.primary) (ghosts.count new.primary) → Rose (faults_of ghosts.count old) (faults_of ghosts.count new)
+  quiet_rose old new is rose = all_rose (ghosts.count old.primary) (ghosts.count new.primary) (map (λ m. ghosts.count m.device) old.mirrors)
+      (map (λ m. ghosts.count m.device) new.mirrors) is.primary.later
+      (subst (λ (ms : List (Mirror D)). AllLater (map (λ m. ghosts.count m.device) old.mirrors) (map (λ m. ghosts.count m.device) ms)) (sym is.mirrors)
+      (later_itself (map (λ m. ghosts.count m.device) old.mirrors))) (inl rose)
 
-  pub quiet_same : (old new : MirrorValue D) → IsQuiet told size count old new → IsSame (tells told) (λ v. size v.primary) (λ v. None) (faults_of count) old new
+  pub quiet_same : (old new : MirrorValue D) → IsQuiet ghosts old new → IsSame (tells ghosts.told) (λ v. ghosts.size v.primary) (λ v. None) (faults_of ghosts.count) old new
   quiet_same old new is = record {
-    tells_is = ap (λ (t : Option (List (List ℕ))). is_some t && list_all (λ m. is_some (told m.device)) new.mirrors) is.primary.told_is
-        ∙ ap (λ (ms : List (Mirror D)). is_some (told old.primary) && list_all (λ m. is_some (told m.device)) ms) is.mirrors;
+    tells_is = ap (λ (t : Option (List (List ℕ))). is_some t && list_all (λ m. is_some (ghosts.told m.device)) new.mirrors) is.primary.told_is
+        ∙ ap (λ (ms : List (Mirror D)). is_some (ghosts.told old.primary) && list_all (λ m. is_some (ghosts.told m.device)) ms) is.mirrors;
     size_is = is.primary.size_is;
     slots_is = refl;
     later = quiet_later old new is;
   }
 
-  pub quiet_ready : (old new : MirrorValue D) → IsQuiet told size count old new → IsNoLessReady ready_count (faults_of count) old new
+  pub quiet_ready : (old new : MirrorValue D) → IsQuiet ghosts old new → IsNoLessReady ready_count (faults_of ghosts.count) old new
   quiet_ready old new is = inl (let same = ap (λ (ms : List (Mirror D)). count_by is_ready ms) is.mirrors in omega arith)
 
   -- nothing changed
-  pub itself_same : (v new : MirrorValue D) → new ≡ v → IsSame (tells told) (λ v. size v.primary) (λ v. None) (faults_of count) v new
-  itself_same v new same = record { tells_is = ap (tells told) same; size_is = ap (λ (x : MirrorValue D). size x.primary) same; slots_is = refl; later = (let e = ap (faults_of count) same in omega arith) }
+  pub itself_same : (v new : MirrorValue D) → new ≡ v → IsSame (tells ghosts.told) (λ v. ghosts.size v.primary) (λ v. None) (faults_of ghosts.count) v new
+  itself_same v new same = record {
+    tells_is = ap (tells ghosts.told) same;
+    size_is = ap
+        (λ (x : MirrorValue D). ghosts.size x.primary) same;
+    slots_is = refl;
+    later = (let e = ap (faults_of ghosts.count) same in omega arith);
+  }
 
-  pub itself_ready : (v new : MirrorValue D) → new ≡ v → IsNoLessReady ready_count (faults_of count) v new
+  pub itself_ready : (v new : MirrorValue D) → new ≡ v → IsNoLessReady ready_count (faults_of ghosts.count) v new
   itself_ready v new same = inl (let e = ap ready_count same in omega arith)
 
   -- ## writes
 
-  written_same : (old new : MirrorValue D) (w : Write) → IsWritten told size count old new w → IsSame (tells told) (λ v. size v.primary) (λ v. None) (faults_of count) old new
+  written_same : (old new : MirrorValue D) (w : Write) → IsWritten ghosts old new w → IsSame (tells ghosts.told) (λ v. ghosts.size v.primary) (λ v. None) (faults_of ghosts.count) old new
   written_same old new w is = record {
-    tells_is = ap (λ (t : Option (List (List ℕ))). is_some t && list_all (λ m. is_some (told m.device)) new.mirrors) is.told_is
-        ∙ ap (λ (t : Bool). t && list_all (λ m. is_some (told m.device)) new.mirrors) (put_tells (told old.primary) w.block w.bytes)
-        ∙ ap (λ (t : Bool). is_some (told old.primary) && t) (tells_followed told size count w.block w.bytes old.mirrors new.mirrors is.mirrors);
+    tells_is = ap (λ (t : Option (List (List ℕ))). is_some t && list_all (λ m. is_some (ghosts.told m.device)) new.mirrors) is.told_is
+        ∙ ap (λ (t : Bool). t && list_all (λ m. is_some (ghosts.told m.device)) new.mirrors) (put_tells (ghosts.told old.primary) w.block w.bytes)
+        ∙ ap (λ (t : Bool). is_some (ghosts.told old.primary) && t) (tells_followed ghosts w.block w.bytes old.mirrors new.mirrors is.mirrors);
     size_is = is.size_is;
     slots_is = refl;
-    later = all_later (count old.primary) (count new.primary) (map (λ m. count m.device) old.mirrors) (map (λ m. count m.device) new.mirrors) (let same = is.unfailed in omega arith)
-        (all_later_followed told size count w.block w.bytes old.mirrors new.mirrors is.mirrors);
+    later = all_later (ghosts.count old.primary) (ghosts.count new.primary) (map (λ m. ghosts.count m.device) old.mirrors) (map (λ m. ghosts.count m.device) new.mirrors)
+        (let same = is.unfailed in omega arith)
+        (all_later_followed ghosts w.block w.bytes old.mirrors new.mirrors is.mirrors);
   }
 
-  written_ready : (old new : MirrorValue D) (w : Write) → IsWritten told size count old new w → IsNoLessReady ready_count (faults_of count) old new
-  written_ready old new w is = elim (ready_followed told size count w.block w.bytes old.mirrors new.mirrors is.mirrors) [
+  written_ready : (old new : MirrorValue D) (w : Write) → IsWritten ghosts old new w → IsNoLessReady ready_count (faults_of ghosts.count) old new
+  written_ready old new w is = elim (ready_followed ghosts w.block w.bytes old.mirrors new.mirrors is.mirrors) [
     | inl ready ↦ inl ready
-    | inr rose ↦ inr (all_rose (count old.primary) (count new.primary) (map (λ m. count m.device) old.mirrors) (map (λ m. count m.device) new.mirrors) (let same = is.unfailed in omega arith)
-        (all_later_followed told size count w.block w.bytes old.mirrors new.mirrors is.mirrors) (inr rose))
+    | inr rose ↦ inr (all_rose (ghosts.count old.primary) (ghosts.count new.primary) (map (λ m. ghosts.count m.device) old.mirrors) (map (λ m. ghosts.count m.device) new.mirrors)
+        (let same = is.unfailed in omega arith)
+        (all_later_followed ghosts w.block w.bytes old.mirrors new.mirrors is.mirrors) (inr rose))
   ]
 
-  pub write_same : (old new : MirrorValue D) (w : Write) (result : Result Written WriteFault) → IsWrite told size count old new w result → IsSame (tells told) (λ v. size v.primary) (λ v. None) (faults_of count) old new
+  pub write_same : (old new : MirrorValue D) (w : Write) (result : Result Written WriteFault) → IsWrite ghosts old new w result
+      → IsSame (tells ghosts.told) (λ v. ghosts.size v.primary) (λ v. None) (faults_of ghosts.count) old new
   write_same old new w (Ok done) is = written_same old new w is.1
   write_same old new w (Err fault) is = quiet_same old new is.2
 
-  pub write_ready : (old new : MirrorValue D) (w : Write) (result : Result Written WriteFault) → IsWrite told size count old new w result → IsNoLessReady ready_count (faults_of count) old new
+  pub write_ready : (old new : MirrorValue D) (w : Write) (result : Result Written WriteFault) → IsWrite ghosts old new w result → IsNoLessReady ready_count (faults_of ghosts.count) old new
   write_ready old new w (Ok done) is = written_ready old new w is.1
   write_ready old new w (Err fault) is = quiet_ready old new is.2
 
-  block_cause : (old new : MirrorValue D) (b : ℕ) (cause : Cause) → HasCause size count b old new cause → IsQuiet told size count old new → contract.HasBlockCause (λ v. size v.primary) (faults_of count) b old new cause
+  block_cause : (old new : MirrorValue D) (b : ℕ) (cause : Cause) → HasCause ghosts.size ghosts.count b old new cause → IsQuiet ghosts old new
+      → contract.HasBlockCause (λ v. ghosts.size v.primary) (faults_of ghosts.count) b old new cause
   block_cause old new b NoSuchBlock is quiet = is.0
   block_cause old new b Volume is quiet = (is.0, quiet_rose old new quiet is.1)
   block_cause old new b Area is quiet = absurd is
 
   -- no image of set 0 stands, so none goes
-  none_evicted : (v : MirrorValue D) (h : History) (up_to : ℕ) → StandsFor told size v h → up_to ≡ 0 → without_up_to up_to h ≡ h
+  none_evicted : (v : MirrorValue D) (h : History) (up_to : ℕ) → StandsFor ghosts v h → up_to ≡ 0 → without_up_to up_to h ≡ h
   none_evicted v h up_to stood none =
-      ap (λ (n : ℕ). without_up_to n h) none ∙ ap (λ is. let g : History = record { writes = h.writes; images = is } in g) (none_gone h.images (λ set among. stood.above_zero set (ap (is_among set) stood.sets ∙ among)))
+      ap (λ (n : ℕ). without_up_to n h) none
+      ∙ ap (λ is. let g : History = record { writes = h.writes; images = is } in g) (none_gone h.images (λ set among. stood.above_zero set (ap (is_among set) stood.sets ∙ among)))
 
-  pub write_is : (old new : MirrorValue D) (w : Write) (result : Result Written WriteFault) → IsWrite told size count old new w result
-      → ((h : History) → StandsFor told size old h → StandsFor told size new (after_write w result h)) → contract.IsWrite (StandsFor told size) (λ v. size v.primary) (λ v. None) (faults_of count) old new w result
+  pub write_is : (old new : MirrorValue D) (w : Write) (result : Result Written WriteFault) → IsWrite ghosts old new w result
+      → ((h : History) → StandsFor ghosts old h → StandsFor ghosts new (after_write w result h))
+      → contract.IsWrite (StandsFor ghosts) (λ v. ghosts.size v.primary) (λ v. None) (faults_of ghosts.count) old new w result
   write_is old new w (Ok done) is stands = record {
     in_range = is.1.in_range;
     evicted = λ h stood. is.0;
-    stands_for = λ h stood. subst (λ (g : History). StandsFor told size new (written w g)) (sym (none_evicted old h done.evicted_up_to stood is.0)) (stands h stood);
+    stands_for = λ h stood. subst (λ (g : History). StandsFor ghosts new (written w g)) (sym (none_evicted old h done.evicted_up_to stood is.0)) (stands h stood);
   }
   write_is old new w (Err fault) is stands = record {
     cause = block_cause old new w.block fault.cause is.1 is.2;
     evicted = λ low h stood. is.0;
     none = λ past. is.0;
-    stands_for = λ h stood. subst (λ (g : History). StandsFor told size new g) (sym (none_evicted old h fault.evicted_up_to stood is.0)) (stands h stood);
+    stands_for = λ h stood. subst (λ (g : History). StandsFor ghosts new g) (sym (none_evicted old h fault.evicted_up_to stood is.0)) (stands h stood);
   }
 
   -- ## reads
 
-  pub read_same : (old new : MirrorValue D) (b : ℕ) (bytes : List ℕ) (result : Result Unit Cause) → IsRead told size count old new b bytes result → IsSame (tells told) (λ v. size v.primary) (λ v. None) (faults_of count) old new
+  pub read_same : (old new : MirrorValue D) (b : ℕ) (bytes : List ℕ) (result : Result Unit Cause) → IsRead ghosts old new b bytes result
+      → IsSame (tells ghosts.told) (λ v. ghosts.size v.primary) (λ v. None) (faults_of ghosts.count) old new
   read_same old new b bytes (Ok done) is = quiet_same old new is.2
   read_same old new b bytes (Err cause) is = quiet_same old new is.1
 
-  pub read_ready : (old new : MirrorValue D) (b : ℕ) (bytes : List ℕ) (result : Result Unit Cause) → IsRead told size count old new b bytes result → IsNoLessReady ready_count (faults_of count) old new
+  pub read_ready : (old new : MirrorValue D) (b : ℕ) (bytes : List ℕ) (result : Result Unit Cause) → IsRead ghosts old new b bytes result → IsNoLessReady ready_count (faults_of ghosts.count) old new
   read_ready old new b bytes (Ok done) is = quiet_ready old new is.2
   read_ready old new b bytes (Err cause) is = quiet_ready old new is.1
 
-  pub read_is : (old new : MirrorValue D) (b : ℕ) (bytes : List ℕ) (result : Result Unit Cause) → IsRead told size count old new b bytes result
-      → contract.IsRead (StandsFor told size) (tells told) (λ v. size v.primary) (faults_of count) old new b bytes result
+  pub read_is : (old new : MirrorValue D) (b : ℕ) (bytes : List ℕ) (result : Result Unit Cause) → IsRead ghosts old new b bytes result
+      → contract.IsRead (StandsFor ghosts) (tells ghosts.told) (λ v. ghosts.size v.primary) (faults_of ghosts.count) old new b bytes result
   read_is old new b bytes (Ok done) is = (
     is.0,
     λ h stood tell.
-        now_bytes (told old.primary) (size old.primary) b bytes h stood.primary is.1 is.0 (and_first (is_some (told old.primary)) (list_all (λ m. is_some (told m.device)) old.mirrors) tell),
+        now_bytes (ghosts.told old.primary) (ghosts.size old.primary) b bytes h stood.primary is.1 is.0
+        (and_first (is_some (ghosts.told old.primary)) (list_all (λ m. is_some (ghosts.told m.device)) old.mirrors) tell),
   )
   read_is old new b bytes (Err cause) is = block_cause old new b cause is.0 is.1
 
-  called_later : (old new : MirrorValue D) (k : ℕ) (m : Mirror D) → IsQuietOn told size count old new k m → AllLater (map (λ x. count x.device) old.mirrors) (map (λ x. count x.device) new.mirrors)
+  called_later : (old new : MirrorValue D) (k : ℕ) (m : Mirror D) → IsQuietOn ghosts old new k m
+      → AllLater (map (λ x. ghosts.count x.device) old.mirrors) (map (λ x. ghosts.count x.device) new.mirrors)
   called_later old new k m is =
-      subst (λ (cs : List ℕ). AllLater (map (λ x. count x.device) old.mirrors) cs)
-      (sym (ap (map (λ x. count x.device)) is.mirrors ∙ map-slice_set (λ x. count x.device) old.mirrors k (record { device = is.after; holds = m.holds; stale = m.stale })))
-      (later_set (map (λ x. count x.device) old.mirrors) k (count m.device) (count is.after) (at_map old.mirrors k m is.was) is.device.later) where
-        at_map : (ms : List (Mirror D)) (k : ℕ) (m : Mirror D) → slice_get ms k ≡ Some m → slice_get (map (λ (x : Mirror D). count x.device) ms) k ≡ Some (count m.device)
-        at_map ms k m at = slice_get_map (λ (x : Mirror D). count x.device) ms k m at
+      subst (λ (cs : List ℕ). AllLater (map (λ x. ghosts.count x.device) old.mirrors) cs)
+      (sym (ap (map (λ x. ghosts.count x.device)) is.mirrors ∙ map-slice_set (λ x. ghosts.count x.device) old.mirrors k (record { device = is.after; holds = m.holds; stale = m.stale })))
+      (later_set (map (λ x. ghosts.count x.device) old.mirrors) k (ghosts.count m.device) (ghosts.count is.after) (at_map old.mirrors k m is.was) is.device.later) where
+        at_map : (ms : List (Mirror D)) (k : ℕ) (m : Mirror D) → slice_get ms k ≡ Some m → slice_get (map (λ (x : Mirror D). ghosts.count x.device) ms) k ≡ Some (ghosts.count m.device)
+        at_map ms k m at = slice_get_map (λ (x : Mirror D). ghosts.count x.device) ms k m at
 
-  called_rose : (old new : MirrorValue D) (k : ℕ) (m : Mirror D) (is : IsQuietOn told size count old new k m) → Rose (count m.device) (count is.after) → Rose (faults_of count old) (faults_of count new)
+  called_rose : (old new : MirrorValue D) (k : ℕ) (m : Mirror D) (is : IsQuietOn ghosts old new k m) → Rose (ghosts.count m.device) (ghosts.count is.after)
+      → Rose (faults_of ghosts.count old) (faults_of ghosts.count new)
   called_rose old new k m is rose =
-      all_rose (count old.primary) (count new.primary) (map (λ x. count x.device) old.mirrors) (map (λ x. count x.device) new.mirrors) (let same = ap count is.primary in omega arith) (called_later old new k m is)
-      (inr (subst (λ (cs : List ℕ). AnyRose (map (λ x. count x.device) old.mirrors) cs)
-      (sym (ap (map (λ x. count x.device)) is.mirrors ∙ map-slice_set (λ x. count x.device) old.mirrors k (record { device = is.after; holds = m.holds; stale = m.stale })))
-      (rose_set (map (λ x. count x.device) old.mirrors) k (count m.device) (count is.after) (slice_get_map (λ (x : Mirror D). count x.device) old.mirrors k m is.was) rose)))
+      all_rose (ghosts.count old.primary) (ghosts.count new.primary) (map (λ x. ghosts.count x.device) old.mirrors) (map (λ x. ghosts.count x.device) new.mirrors)
+      (let same = ap ghosts.count is.primary in omega arith) (called_later old new k m is)
+      (inr (subst (λ (cs : List ℕ). AnyRose (map (λ x. ghosts.count x.device) old.mirrors) cs)
+      (sym (ap (map (λ x. ghosts.count x.device)) is.mirrors ∙ map-slice_set (λ x. ghosts.count x.device) old.mirrors k (record { device = is.after; holds = m.holds; stale = m.stale })))
+      (rose_set (map (λ x. ghosts.count x.device) old.mirrors) k (ghosts.count m.device) (ghosts.count is.after)
+      (slice_get_map (λ (x : Mirror D). ghosts.count x.device) old.mirrors k m is.was) rose)))
 
-  called_same : (old new : MirrorValue D) (k : ℕ) (m : Mirror D) → IsQuietOn told size count old new k m → IsSame (tells told) (λ v. size v.primary) (λ v. None) (faults_of count) old new
+  called_same : (old new : MirrorValue D) (k : ℕ) (m : Mirror D) → IsQuietOn ghosts old new k m → IsSame (tells ghosts.told) (λ v. ghosts.size v.primary) (λ v. None) (faults_of ghosts.count) old new
   called_same old new k m is = record {
-    tells_is = ap (λ (d : D). is_some (told d) && list_all (λ x. is_some (told x.device)) new.mirrors) is.primary
-        ∙ ap (λ (t : Bool). is_some (told old.primary) && t) (ap (list_all (λ x. is_some (told x.device))) is.mirrors
-        ∙ tells_set (λ x. is_some (told x.device)) old.mirrors k m (record { device = is.after; holds = m.holds; stale = m.stale }) is.was (ap (λ (t : Option (List (List ℕ))). is_some t) is.device.told_is));
-    size_is = ap size is.primary;
+    tells_is = ap (λ (d : D). is_some (ghosts.told d) && list_all (λ x. is_some (ghosts.told x.device)) new.mirrors) is.primary
+        ∙ ap (λ (t : Bool). is_some (ghosts.told old.primary) && t) (ap (list_all (λ x. is_some (ghosts.told x.device))) is.mirrors
+        ∙ tells_set (λ x. is_some (ghosts.told x.device)) old.mirrors k m (record { device = is.after; holds = m.holds; stale = m.stale }) is.was
+        (ap (λ (t : Option (List (List ℕ))). is_some t) is.device.told_is));
+    size_is = ap ghosts.size is.primary;
     slots_is = refl;
-    later = all_later (count old.primary) (count new.primary) (map (λ x. count x.device) old.mirrors) (map (λ x. count x.device) new.mirrors) (let same = ap count is.primary in omega arith) (called_later old new k m is);
+    later = all_later (ghosts.count old.primary) (ghosts.count new.primary) (map (λ x. ghosts.count x.device) old.mirrors) (map (λ x. ghosts.count x.device) new.mirrors)
+        (let same = ap ghosts.count is.primary in omega arith) (called_later old new k m is);
   }
 
-  called_ready : (old new : MirrorValue D) (k : ℕ) (m : Mirror D) → IsQuietOn told size count old new k m → IsNoLessReady ready_count (faults_of count) old new
+  called_ready : (old new : MirrorValue D) (k : ℕ) (m : Mirror D) → IsQuietOn ghosts old new k m → IsNoLessReady ready_count (faults_of ghosts.count) old new
   called_ready old new k m is =
-      inl (subst (λ (ms : List (Mirror D)). count_by is_ready old.mirrors ≤ count_by is_ready ms) (sym is.mirrors) (ready_set old.mirrors k m (record { device = is.after; holds = m.holds; stale = m.stale }) is.was (λ r. r)))
+      inl (subst (λ (ms : List (Mirror D)). count_by is_ready old.mirrors ≤ count_by is_ready ms) (sym is.mirrors)
+      (ready_set old.mirrors k m (record { device = is.after; holds = m.holds; stale = m.stale }) is.was (λ r. r)))
 
-  pub image_same : (old new : MirrorValue D) (set b : ℕ) (bytes : List ℕ) (result : Result Unit ImageFault) → IsImageRead told size count old new set b bytes result → IsSame (tells told) (λ v. size v.primary) (λ v. None) (faults_of count) old new
+  pub image_same : (old new : MirrorValue D) (set b : ℕ) (bytes : List ℕ) (result : Result Unit ImageFault) → IsImageRead ghosts old new set b bytes result
+      → IsSame (tells ghosts.told) (λ v. ghosts.size v.primary) (λ v. None) (faults_of ghosts.count) old new
   image_same old new set b bytes (Ok done) is = called_same old new is.0.place is.0.mirror is.0.quiet
   image_same old new set b bytes (Err NoSuchImage) is = itself_same old new is.1
   image_same old new set b bytes (Err NoBlock) is = itself_same old new is.2
   image_same old new set b bytes (Err VolumeFailed) is = called_same old new is.0.place is.0.mirror is.0.quiet
   image_same old new set b bytes (Err AreaFailed) is = absurd is
 
-  pub image_ready : (old new : MirrorValue D) (set b : ℕ) (bytes : List ℕ) (result : Result Unit ImageFault) → IsImageRead told size count old new set b bytes result → IsNoLessReady ready_count (faults_of count) old new
+  pub image_ready : (old new : MirrorValue D) (set b : ℕ) (bytes : List ℕ) (result : Result Unit ImageFault) → IsImageRead ghosts old new set b bytes result
+      → IsNoLessReady ready_count (faults_of ghosts.count) old new
   image_ready old new set b bytes (Ok done) is = called_ready old new is.0.place is.0.mirror is.0.quiet
   image_ready old new set b bytes (Err NoSuchImage) is = itself_ready old new is.1
   image_ready old new set b bytes (Err NoBlock) is = itself_ready old new is.2
   image_ready old new set b bytes (Err VolumeFailed) is = called_ready old new is.0.place is.0.mirror is.0.quiet
   image_ready old new set b bytes (Err AreaFailed) is = absurd is
 
-  pub image_is : (old new : MirrorValue D) (set b : ℕ) (bytes : List ℕ) (result : Result Unit ImageFault) → IsImageRead told size count old new set b bytes result
-      → contract.IsImageRead (StandsFor told size) (tells told) (λ v. size v.primary) (λ v. v.images) (faults_of count) old new set b bytes result
+  pub image_is : (old new : MirrorValue D) (set b : ℕ) (bytes : List ℕ) (result : Result Unit ImageFault) → IsImageRead ghosts old new set b bytes result
+      → contract.IsImageRead (StandsFor ghosts) (tells ghosts.told) (λ v. ghosts.size v.primary) (λ v. v.images) (faults_of ghosts.count) old new set b bytes result
   image_is old new set b bytes (Ok done) is = (
     is.0.among,
     is.0.in_range,
     λ h p stood tell at.
-        shown_bytes (told old.primary) (told is.0.mirror.device) (size old.primary) b set p bytes is.0.mirror.holds is.0.mirror.stale h (stood.mirrors is.0.place is.0.mirror is.0.quiet.was) is.0.held at is.1 is.0.in_range
-        (and_first (is_some (told old.primary)) (list_all (λ m. is_some (told m.device)) old.mirrors) tell)
-        (all_at (λ m. is_some (told m.device)) old.mirrors is.0.place is.0.mirror (and_second (is_some (told old.primary)) (list_all (λ m. is_some (told m.device)) old.mirrors) tell) is.0.quiet.was),
+        shown_bytes (ghosts.told old.primary) (ghosts.told is.0.mirror.device) (ghosts.size old.primary) b set p bytes is.0.mirror.holds is.0.mirror.stale h
+        (stood.mirrors is.0.place is.0.mirror is.0.quiet.was) is.0.held at is.1 is.0.in_range
+        (and_first (is_some (ghosts.told old.primary)) (list_all (λ m. is_some (ghosts.told m.device)) old.mirrors) tell)
+        (all_at (λ m. is_some (ghosts.told m.device)) old.mirrors is.0.place is.0.mirror
+        (and_second (is_some (ghosts.told old.primary)) (list_all (λ m. is_some (ghosts.told m.device)) old.mirrors) tell) is.0.quiet.was),
   )
   image_is old new set b bytes (Err NoSuchImage) is = is.0
   image_is old new set b bytes (Err NoBlock) is = (is.0, is.1)
@@ -199,41 +230,53 @@ module _ {D : Type 0} (told : D → Option (List (List ℕ))) (size count : D �
 
   -- ## images
 
-  moved_same : (old new : MirrorValue D) (k : ℕ) (m next : Mirror D) → new.primary ≡ old.primary → slice_get old.mirrors k ≡ Some m → next.device ≡ m.device → new.mirrors ≡ slice_set old.mirrors k next
-      → IsSame (tells told) (λ v. size v.primary) (λ v. None) (faults_of count) old new
+  moved_same : (old new : MirrorValue D) (k : ℕ) (m next : Mirror D) → new.primary ≡ old.primary → slice_get old.mirrors k ≡ Some m → next.device ≡ m.device
+      → new.mirrors ≡ slice_set old.mirrors k next
+      → IsSame (tells ghosts.told) (λ v. ghosts.size v.primary) (λ v. None) (faults_of ghosts.count) old new
   moved_same old new k m next primary was device mirrors = record {
-    tells_is = ap (λ (d : D). is_some (told d) && list_all (λ x. is_some (told x.device)) new.mirrors) primary
-        ∙ ap (λ (t : Bool). is_some (told old.primary) && t) (ap (list_all (λ x. is_some (told x.device))) mirrors ∙ tells_set (λ x. is_some (told x.device)) old.mirrors k m next was (ap (λ (d : D). is_some (told d)) device));
-    size_is = ap size primary;
+    tells_is = ap (λ (d : D). is_some (ghosts.told d) && list_all (λ x. is_some (ghosts.told x.device)) new.mirrors) primary
+        ∙ ap (λ (t : Bool). is_some (ghosts.told old.primary) && t)
+        (ap (list_all (λ x. is_some (ghosts.told x.device))) mirrors ∙ tells_set (λ x. is_some (ghosts.told x.device)) old.mirrors k m next was (ap (λ (d : D). is_some (ghosts.told d)) device));
+    size_is = ap ghosts.size primary;
     slots_is = refl;
-    later = all_later (count old.primary) (count new.primary) (map (λ x. count x.device) old.mirrors) (map (λ x. count x.device) new.mirrors) (let same = ap count primary in omega arith)
-        (subst (λ (cs : List ℕ). AllLater (map (λ x. count x.device) old.mirrors) cs)
-        (sym (ap (map (λ x. count x.device)) mirrors ∙ map-slice_set (λ x. count x.device) old.mirrors k next))
-        (later_set (map (λ x. count x.device) old.mirrors) k (count m.device) (count next.device) (slice_get_map (λ (x : Mirror D). count x.device) old.mirrors k m was) (let same = ap count device in omega arith)));
+    later = all_later (ghosts.count old.primary) (ghosts.count new.primary) (map (λ x. ghosts.count x.device) old.mirrors) (map (λ x. ghosts.count x.device) new.mirrors)
+        (let same = ap ghosts.count primary in omega arith)
+        (subst (λ (cs : List ℕ). AllLater (map (λ x. ghosts.count x.device) old.mirrors) cs)
+        (sym (ap (map (λ x. ghosts.count x.device)) mirrors ∙ map-slice_set (λ x. ghosts.count x.device) old.mirrors k next))
+        (later_set (map (λ x. ghosts.count x.device) old.mirrors) k (ghosts.count m.device) (ghosts.count next.device) (slice_get_map (λ (x : Mirror D). ghosts.count x.device) old.mirrors k m was)
+        (let same = ap ghosts.count device in omega arith)));
   }
 
-  pub cut_same : {E : Type 0} (old new : MirrorValue D) (set : ℕ) (result : Result Unit E) → IsCut old new set result → IsSame (tells told) (λ v. size v.primary) (λ v. None) (faults_of count) old new
-  cut_same old new set (Ok done) is = moved_same old new is.place is.split.mirror (record { device = is.split.mirror.device; holds = Some set; stale = is.split.mirror.stale }) is.primary is.split.was refl is.mirrors
+  pub cut_same : {E : Type 0} (old new : MirrorValue D) (set : ℕ) (result : Result Unit E) → IsCut old new set result
+      → IsSame (tells ghosts.told) (λ v. ghosts.size v.primary) (λ v. None) (faults_of ghosts.count) old new
+  cut_same old new set (Ok done) is = moved_same old new is.place is.split.mirror
+      (record { device = is.split.mirror.device; holds = Some set; stale = is.split.mirror.stale }) is.primary is.split.was refl is.mirrors
   cut_same old new set (Err refused) is = itself_same old new is.1
 
-  pub cut_is : {E : Type 0} (old new : MirrorValue D) (set : ℕ) (result : Result Unit E) → IsCut old new set result → OnOk result (StandsAfter (StandsFor told size) old new (cut set)) → contract.IsCut (StandsFor told size) ready_count 1 old new set result
+  pub cut_is : {E : Type 0} (old new : MirrorValue D) (set : ℕ) (result : Result Unit E) → IsCut old new set result → OnOk result (StandsAfter (StandsFor ghosts) old new (cut set))
+      → contract.IsCut (StandsFor ghosts) ready_count 1 old new set result
   cut_is old new set (Ok done) is stands = (
     ready_some old.mirrors is.place is.split.mirror is.split.was is.split.ready,
-    subst (λ (ms : List (Mirror D)). count_by is_ready old.mirrors ≤ count_by is_ready ms + 1) (sym is.mirrors) (ready_split old.mirrors is.place is.split.mirror (record { device = is.split.mirror.device; holds = Some set; stale = is.split.mirror.stale }) is.split.was),
+    subst (λ (ms : List (Mirror D)). count_by is_ready old.mirrors ≤ count_by is_ready ms + 1) (sym is.mirrors)
+        (ready_split old.mirrors is.place is.split.mirror (record { device = is.split.mirror.device; holds = Some set; stale = is.split.mirror.stale }) is.split.was),
     stands,
   )
   cut_is old new set (Err refused) is stands = is
 
-  pub drop_same : (old new : MirrorValue D) (set : ℕ) (result : Result Unit ImageFault) → IsDropped old new set result → IsSame (tells told) (λ v. size v.primary) (λ v. None) (faults_of count) old new
-  drop_same old new set (Ok done) is = moved_same old new is.1.place is.1.mirror (record { device = is.1.mirror.device; holds = None; stale = is.1.mirror.stale }) is.1.primary is.1.was refl is.1.mirrors
+  pub drop_same : (old new : MirrorValue D) (set : ℕ) (result : Result Unit ImageFault) → IsDropped old new set result
+      → IsSame (tells ghosts.told) (λ v. ghosts.size v.primary) (λ v. None) (faults_of ghosts.count) old new
+  drop_same old new set (Ok done) is = moved_same old new is.1.place is.1.mirror
+      (record { device = is.1.mirror.device; holds = None; stale = is.1.mirror.stale }) is.1.primary is.1.was refl is.1.mirrors
   drop_same old new set (Err fault) is = itself_same old new is.2
 
-  pub drop_ready : (old new : MirrorValue D) (set : ℕ) (result : Result Unit ImageFault) → IsDropped old new set result → IsNoLessReady ready_count (faults_of count) old new
+  pub drop_ready : (old new : MirrorValue D) (set : ℕ) (result : Result Unit ImageFault) → IsDropped old new set result → IsNoLessReady ready_count (faults_of ghosts.count) old new
   drop_ready old new set (Ok done) is =
-      inl (subst (λ (ms : List (Mirror D)). count_by is_ready old.mirrors ≤ count_by is_ready ms) (sym is.1.mirrors) (ready_set old.mirrors is.1.place is.1.mirror (record { device = is.1.mirror.device; holds = None; stale = is.1.mirror.stale }) is.1.was
+      inl (subst (λ (ms : List (Mirror D)). count_by is_ready old.mirrors ≤ count_by is_ready ms) (sym is.1.mirrors)
+      (ready_set old.mirrors is.1.place is.1.mirror (record { device = is.1.mirror.device; holds = None; stale = is.1.mirror.stale }) is.1.was
       (λ ready. and_second (is_none is.1.mirror.holds) (stale_count is.1.mirror.stale == 0) ready)))
   drop_ready old new set (Err fault) is = itself_ready old new is.2
 
-  pub drop_is : (old new : MirrorValue D) (set : ℕ) (result : Result Unit ImageFault) → IsDropped old new set result → OnOk result (StandsAfter (StandsFor told size) old new (dropped set)) → contract.IsDropped (StandsFor told size) (λ v. v.images) old new set result
+  pub drop_is : (old new : MirrorValue D) (set : ℕ) (result : Result Unit ImageFault) → IsDropped old new set result → OnOk result (StandsAfter (StandsFor ghosts) old new (dropped set))
+      → contract.IsDropped (StandsFor ghosts) (λ v. v.images) old new set result
   drop_is old new set (Ok done) is stands = (is.0, stands)
   drop_is old new set (Err fault) is stands = is

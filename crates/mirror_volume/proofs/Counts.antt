@@ -111,7 +111,8 @@ keeps_of true n low = keeps_stale n low
 keeps_of false n low = keeps_new n low
 
 -- a block that stands in the queue already is marked
-pub keeps_marked : (stale queue : List Bool) (count b : ℕ) → KeepsStale stale queue count → slice_get stale b ≡ Some false → slice_get queue b ≡ Some true → KeepsStale (slice_set stale b true) queue (count + 1)
+pub keeps_marked : (stale queue : List Bool) (count b : ℕ) → KeepsStale stale queue count → slice_get stale b ≡ Some false → slice_get queue b ≡ Some true
+    → KeepsStale (slice_set stale b true) queue (count + 1)
 keeps_marked stale queue count b keeps at queued = record {
   holds = record {
     long = keeps.holds.long ∙ sym (length-slice_set stale b true);
@@ -125,7 +126,8 @@ keeps_marked stale queue count b keeps at queued = record {
   by_number c false other is = keeps.holds.queued c (sym (slice_get-set_other stale b c true (λ e. other_number c b other (sym e))) ∙ is)
 
 -- or it is put there
-pub keeps_queued : (stale queue : List Bool) (count b : ℕ) → KeepsStale stale queue count → slice_get stale b ≡ Some false → slice_get queue b ≡ Some false → KeepsStale (slice_set stale b true) (slice_set queue b true) (count + 1)
+pub keeps_queued : (stale queue : List Bool) (count b : ℕ) → KeepsStale stale queue count → slice_get stale b ≡ Some false → slice_get queue b ≡ Some false
+    → KeepsStale (slice_set stale b true) (slice_set queue b true) (count + 1)
 keeps_queued stale queue count b keeps at free = record {
   holds = record {
     long = length-slice_set queue b true ∙ keeps.holds.long ∙ sym (length-slice_set stale b true);
@@ -203,7 +205,8 @@ is_free_of result queue b iff within e = let found = slice_get_inside queue b wi
   by_bool false at = absurd (true_false result (iff.1 at) e)
 
 -- what is taken out of the queue is its lowest
-pub taken_lowest : (queue new : List Bool) (block : ℕ) (result : Option ℕ) → IsLowestFree queue block → IfSome result (IsLowestFree queue) → IfSome result (λ slot. new ≡ slice_set queue slot false) → (IsNone result ↔ (free_count queue ≡ 0))
+pub taken_lowest : (queue new : List Bool) (block : ℕ) (result : Option ℕ) → IsLowestFree queue block → IfSome result (IsLowestFree queue) → IfSome result (λ slot. new ≡ slice_set queue slot false)
+    → (IsNone result ↔ (free_count queue ≡ 0))
     → new ≡ slice_set queue block false
 taken_lowest queue new block None lowest also is iff = let some = count_some queue block lowest.free in let none : stale_count queue ≡ 0 = iff.0 refl in absurd (omega arith)
 taken_lowest queue new block (Some slot) lowest also is iff = is ∙ ap (λ (k : ℕ). slice_set queue k false) (by_order (nat_lt slot block) (nat_lt block slot) refl refl) where

@@ -21,20 +21,23 @@ use Rattle.mirror_volume.proofs.Ready.{AllLater, AnyRose, all_later, all_rose}
 
 -- ## the devices of two states, one by one
 
-each_later : {D : Type 0} → (count : D → ℕ) (old new : List D) → length new ≡ length old → ((v : ℕ) (d e : D) → slice_get old v ≡ Some d → slice_get new v ≡ Some e → count d ≤ count e) → AllLater (map count old) (map count new)
+each_later : {D : Type 0} → (count : D → ℕ) (old new : List D) → length new ≡ length old → ((v : ℕ) (d e : D) → slice_get old v ≡ Some d → slice_get new v ≡ Some e → count d ≤ count e)
+    → AllLater (map count old) (map count new)
 each_later count [] [] long each = tt
 each_later count [] (e ∷ new) long each = absurd (omega arith)
 each_later count (d ∷ old) [] long each = absurd (omega arith)
 each_later count (d ∷ old) (e ∷ new) long each = (each 0 d e refl refl, each_later count old new (omega arith) (λ v x y at also. each (suc v) x y at also))
 
-each_tells : {D : Type 0} → (test : D → Bool) (old new : List D) → length new ≡ length old → ((v : ℕ) (d e : D) → slice_get old v ≡ Some d → slice_get new v ≡ Some e → test e ≡ test d) → list_all test new ≡ list_all test old
+each_tells : {D : Type 0} → (test : D → Bool) (old new : List D) → length new ≡ length old → ((v : ℕ) (d e : D) → slice_get old v ≡ Some d → slice_get new v ≡ Some e → test e ≡ test d)
+    → list_all test new ≡ list_all test old
 each_tells test [] [] long each = refl
 each_tells test [] (e ∷ new) long each = absurd (omega arith)
 each_tells test (d ∷ old) [] long each = absurd (omega arith)
 each_tells test (d ∷ old) (e ∷ new) long each =
     ap (λ (t : Bool). t && list_all test new) (each 0 d e refl refl) ∙ ap (λ (t : Bool). test d && t) (each_tells test old new (omega arith) (λ v x y at also. each (suc v) x y at also))
 
-one_rose : {D : Type 0} → (count : D → ℕ) (old new : List D) (v : ℕ) (d e : D) → slice_get old v ≡ Some d → slice_get new v ≡ Some e → Rose (count d) (count e) → AnyRose (map count old) (map count new)
+one_rose : {D : Type 0} → (count : D → ℕ) (old new : List D) (v : ℕ) (d e : D) → slice_get old v ≡ Some d → slice_get new v ≡ Some e → Rose (count d) (count e)
+    → AnyRose (map count old) (map count new)
 one_rose count [] new v d e at also rose = cc
 one_rose count (x ∷ old) [] v d e at also rose = cc
 one_rose count (x ∷ old) (y ∷ new) zero d e at also rose =
@@ -70,32 +73,43 @@ module _ {D : Type 0} (told : D → Option (List (List ℕ))) (size count : D �
   area_rose : (old new : GroupValue D) → IsKept told size count lending old new → AreaRose count old new → Rose (faults_of count old) (faults_of count new)
   area_rose old new kept rose = all_rose (count old.area.device) (count new.area.device) (map count old.devices) (map count new.devices) kept.area.later (later old new kept) (inl rose.rose)
 
-  block_cause : (old new : GroupValue D) (b : ℕ) (cause : Cause) → IsKept told size count lending old new → HasCauseAt count 0 b old new cause → contract.HasBlockCause (λ v. blocks_of v) (λ v. faults_of count v) b old new cause
+  block_cause : (old new : GroupValue D) (b : ℕ) (cause : Cause) → IsKept told size count lending old new → HasCauseAt count 0 b old new cause
+      → contract.HasBlockCause (λ v. blocks_of v) (λ v. faults_of count v) b old new cause
   block_cause old new b NoSuchBlock kept is = is.0
   block_cause old new b Volume kept is = (is.0, volume_rose old new kept is.1)
   block_cause old new b Area kept is = (is.0, area_rose old new kept is.1)
 
   -- ## the calls
 
-  evicted_is : (old : GroupValue D) (b up_to : ℕ) → ((h : History) → StandsForOne told old h → IsEvictedOne old b h up_to) → contract.IsEvicted (λ v h. StandsForOne told v h) (λ v. blocks_of v) (λ v. slots_of v) old b up_to
+  evicted_is : (old : GroupValue D) (b up_to : ℕ) → ((h : History) → StandsForOne told old h → IsEvictedOne old b h up_to)
+      → contract.IsEvicted (λ v h. StandsForOne told v h) (λ v. blocks_of v) (λ v. slots_of v) old b up_to
   evicted_is old b up_to is = λ h stood sets most.
       is h stood sets most ∙ ap (λ (ns : List ℕ). evicted_up_to sets (length old.area.records) (placed ns) 0 b (h ∷ [])) (one_listed old.area.volumes (sym stood.histories))
 
   pub write_is : (old new : GroupValue D) (w : Write) (result : Result Written WriteFault) → IsOneWrite told size count lending old new w result
       → contract.IsWrite (λ v h. StandsForOne told v h) (λ v. blocks_of v) (λ v. slots_of v) (λ v. faults_of count v) old new w result
   write_is old new w (Ok done) is = record { in_range = is.in_range; evicted = evicted_is old w.block done.evicted_up_to is.evicted; stands_for = is.stands }
-  write_is old new w (Err fault) is = record { cause = block_cause old new w.block fault.cause is.kept is.cause; evicted = λ low. evicted_is old w.block fault.evicted_up_to (is.evicted low); none = is.none; stands_for = is.stands }
+  write_is old new w (Err fault) is = record {
+    cause = block_cause old new w.block fault.cause is.kept is.cause;
+    evicted = λ low. evicted_is old w.block fault.evicted_up_to
+        (is.evicted low);
+    none = is.none;
+    stands_for = is.stands;
+  }
 
-  pub write_same : (old new : GroupValue D) (w : Write) (result : Result Written WriteFault) → IsOneWrite told size count lending old new w result → contract.IsSame (λ v. tells told v) (λ v. blocks_of v) (λ v. slots_of v) (λ v. faults_of count v) old new
+  pub write_same : (old new : GroupValue D) (w : Write) (result : Result Written WriteFault) → IsOneWrite told size count lending old new w result
+      → contract.IsSame (λ v. tells told v) (λ v. blocks_of v) (λ v. slots_of v) (λ v. faults_of count v) old new
   write_same old new w (Ok done) is = kept_same old new is.kept
   write_same old new w (Err fault) is = kept_same old new is.kept
 
-  pub read_is : (old new : GroupValue D) (b : ℕ) (bytes : List ℕ) (result : Result Unit Cause) → IsQuiet told size count lending old new → OnOk result (b < blocks_of old) → OnOk result (IsOneNow told old b bytes) → IfErr result (HasOneCause count b old new)
+  pub read_is : (old new : GroupValue D) (b : ℕ) (bytes : List ℕ) (result : Result Unit Cause) → IsQuiet told size count lending old new → OnOk result (b < blocks_of old)
+      → OnOk result (IsOneNow told old b bytes) → IfErr result (HasOneCause count b old new)
       → contract.IsRead (λ v h. StandsForOne told v h) (λ v. tells told v) (λ v. blocks_of v) (λ v. faults_of count v) old new b bytes result
   read_is old new b bytes (Ok done) quiet low now cause = (low, now)
   read_is old new b bytes (Err fault) quiet low now cause = block_cause old new b fault quiet.kept cause
 
-  pub image_is : (old new : GroupValue D) (set b : ℕ) (bytes : List ℕ) (result : Result Unit ImageFault) → IsQuiet told size count lending old new → OnOk result (is_among set (image_sets old) ≡ true) → OnOk result (b < blocks_of old)
+  pub image_is : (old new : GroupValue D) (set b : ℕ) (bytes : List ℕ) (result : Result Unit ImageFault) → IsQuiet told size count lending old new → OnOk result (is_among set (image_sets old) ≡ true)
+      → OnOk result (b < blocks_of old)
       → OnOk result (IsOneShown told old set b bytes) → IfErr result (HasOneImageCause count set b old new)
       → contract.IsImageRead (λ v h. StandsForOne told v h) (λ v. tells told v) (λ v. blocks_of v) (λ v. image_sets v) (λ v. faults_of count v) old new set b bytes result
   image_is old new set b bytes (Ok done) quiet among low shown cause = (among, low, shown)
@@ -104,11 +118,13 @@ module _ {D : Type 0} (told : D → Option (List (List ℕ))) (size count : D �
   image_is old new set b bytes (Err VolumeFailed) quiet among low shown cause = (cause.0, cause.1, volume_rose old new quiet.kept cause.2)
   image_is old new set b bytes (Err AreaFailed) quiet among low shown cause = (cause.0, cause.1, area_rose old new quiet.kept cause.2)
 
-  pub drop_is : (old new : GroupValue D) (set : ℕ) (result : Result Unit ImageFault) → IsOneDropped told size count lending old new set result → contract.IsDropped (λ v h. StandsForOne told v h) (λ v. image_sets v) old new set result
+  pub drop_is : (old new : GroupValue D) (set : ℕ) (result : Result Unit ImageFault) → IsOneDropped told size count lending old new set result
+      → contract.IsDropped (λ v h. StandsForOne told v h) (λ v. image_sets v) old new set result
   drop_is old new set (Ok done) is = (is.0, is.1.stands)
   drop_is old new set (Err fault) is = is
 
-  pub drop_same : (old new : GroupValue D) (set : ℕ) (result : Result Unit ImageFault) → IsOneDropped told size count lending old new set result → contract.IsSame (λ v. tells told v) (λ v. blocks_of v) (λ v. slots_of v) (λ v. faults_of count v) old new
+  pub drop_same : (old new : GroupValue D) (set : ℕ) (result : Result Unit ImageFault) → IsOneDropped told size count lending old new set result
+      → contract.IsSame (λ v. tells told v) (λ v. blocks_of v) (λ v. slots_of v) (λ v. faults_of count v) old new
   drop_same old new set (Ok done) is = kept_same old new is.1.kept
   drop_same old new set (Err fault) is = record {
     tells_is = ap (tells told) is.2;

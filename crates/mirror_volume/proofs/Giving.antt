@@ -49,7 +49,8 @@ drop_fewer set NoSuchImage h = fewer_itself h.images
 drop_fewer set NoMirror h = fewer_itself h.images
 
 -- after a command that adds no image the rest may be given
-with_fewer : (n newest room : ℕ) (rest : List Command) (now before : List Shown) → AreFewer now before → All (λ s. s ≤ newest) (sets_of before) → length (sets_of before) + room ≤ 512 → AreAllowed n newest room rest → MayBeGiven n (sets_of now) rest
+with_fewer : (n newest room : ℕ) (rest : List Command) (now before : List Shown) → AreFewer now before → All (λ s. s ≤ newest) (sets_of before) → length (sets_of before) + room ≤ 512
+    → AreAllowed n newest room rest → MayBeGiven n (sets_of now) rest
 with_fewer n newest room rest now before fewer most few allowed = record {
   newest = newest;
   room = room;
@@ -58,7 +59,8 @@ with_fewer n newest room rest now before fewer most few allowed = record {
   allowed = allowed;
 }
 
-cut_given : (n newest room left set : ℕ) (rest : List Command) (said : Said) (h : History) → All (λ s. s ≤ newest) (sets_of h.images) → length (sets_of h.images) + room ≤ 512 → room ≡ left + 1 → newest < set → AreAllowed n set left rest
+cut_given : (n newest room left set : ℕ) (rest : List Command) (said : Said) (h : History) → All (λ s. s ≤ newest) (sets_of h.images) → length (sets_of h.images) + room ≤ 512 → room ≡ left + 1
+    → newest < set → AreAllowed n set left rest
     → MayBeGiven n (sets_of (after_cut set said h).images) rest
 cut_given n newest room left set rest said h most few one less allowed = by_said said where
   weaker : All (λ s. s ≤ set) (sets_of h.images)

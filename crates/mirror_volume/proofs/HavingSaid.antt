@@ -37,7 +37,8 @@ same_kind : (per n m : ℕ) (slots also : Option ℕ) → n ≡ m → slots ≡ 
 same_kind per n m slots also same such = ap (λ (k : ℕ). kind_with per k slots) same ∙ ap (λ (o : Option ℕ). kind_with per m o) such
 
 -- the first k commands were given, and this was said to them
-pub record HaveSaid {V : Type 0} (stands : V → History → Type 0) (tells : V → Bool) (size : V → ℕ) (slots : V → Option ℕ) (ready count : V → ℕ) (sets : V → List ℕ) (per : ℕ) (first now : V) (commands : List Command) (k : ℕ) (said : List Said) : Type 0 where
+pub record HaveSaid {V : Type 0} (stands : V → History → Type 0) (tells : V → Bool) (size : V → ℕ) (slots : V → Option ℕ) (ready count : V → ℕ) (sets : V → List ℕ) (per : ℕ) (first now : V)
+    (commands : List Command) (k : ℕ) (said : List Said) : Type 0 where
   pub long : length said ≡ k
   pub tells_is : tells now ≡ tells first
   pub size_is : size now ≡ size first
@@ -58,13 +59,17 @@ module _ {V : Type 0} (stands : V → History → Type 0) (tells : V → Bool) (
     allowed = may;
   }
 
-  pub may_give : (first now : V) (commands : List Command) (k : ℕ) (said : List Said) (c : Command) → HaveSaid stands tells size slots ready count sets per first now commands k said → slice_get commands k ≡ Some c → IsAllowed (size now) (sets now) c
+  pub may_give : (first now : V) (commands : List Command) (k : ℕ) (said : List Said) (c : Command) → HaveSaid stands tells size slots ready count sets per first now commands k said
+      → slice_get commands k ≡ Some c → IsAllowed (size now) (sets now) c
   may_give first now commands k said c have at =
-      subst (λ (n : ℕ). IsAllowed n (sets now) c) (sym have.size_is) (given_first (size first) c (drop (k + 1) commands) (sets now) (subst (λ (cs : List Command). MayBeGiven (size first) (sets now) cs) (drop_one commands k c at) have.allowed))
+      subst (λ (n : ℕ). IsAllowed n (sets now) c) (sym have.size_is)
+      (given_first (size first) c (drop (k + 1) commands) (sets now) (subst (λ (cs : List Command). MayBeGiven (size first) (sets now) cs) (drop_one commands k c at) have.allowed))
 
-  pub one_said : (first now next : V) (commands : List Command) (k : ℕ) (said : List Said) (c : Command) (s : Said) (h0 : History) → stands first h0 → ((v : V) (h : History) → stands v h → sets v ≡ sets_of h.images)
+  pub one_said : (first now next : V) (commands : List Command) (k : ℕ) (said : List Said) (c : Command) (s : Said) (h0 : History) → stands first h0
+      → ((v : V) (h : History) → stands v h → sets v ≡ sets_of h.images)
       → HaveSaid stands tells size slots ready count sets per first now commands k said → slice_get commands k ≡ Some c
-      → ((h : History) → stands now h → IsStep (kind_of size slots per now) (tells now) h c s (ready now) (count now) (ready next) (count next)) → ((h : History) → stands now h → stands next (after h c s)) → tells next ≡ tells now → size next ≡ size now → slots next ≡ slots now
+      → ((h : History) → stands now h → IsStep (kind_of size slots per now) (tells now) h c s (ready now) (count now) (ready next) (count next))
+      → ((h : History) → stands now h → stands next (after h c s)) → tells next ≡ tells now → size next ≡ size now → slots next ≡ slots now
       → HaveSaid stands tells size slots ready count sets per first next commands (k + 1) (said ++ s ∷ [])
   one_said first now next commands k said c s h0 stood are have at step after_is tell sized slotted =
       let more = take_one commands k c at in
@@ -77,7 +82,8 @@ module _ {V : Type 0} (stands : V → History → Type 0) (tells : V → Bool) (
         run = λ h is. subst (λ (cs : List Command). IsRun (kind_of size slots per first) (tells first) h (ready first) (count first) cs (said ++ s ∷ []) (ready next) (count next)) (sym more)
             (run-more (kind_of size slots per first) (tells first) h (ready first) (count first) (ready now) (count now) (ready next) (count next) (take k commands) said c s (have.run h is)
             (subst (λ (t : Bool). IsStep (kind_of size slots per first) t (after_all h (take k commands) said) c s (ready now) (count now) (ready next) (count next)) have.tells_is
-            (subst (λ (kind : Kind). IsStep kind (tells now) (after_all h (take k commands) said) c s (ready now) (count now) (ready next) (count next)) (same_kind per (size now) (size first) (slots now) (slots first) have.size_is have.slots_is)
+            (subst (λ (kind : Kind). IsStep kind (tells now) (after_all h (take k commands) said) c s (ready now) (count now) (ready next) (count next))
+            (same_kind per (size now) (size first) (slots now) (slots first) have.size_is have.slots_is)
             (step (after_all h (take k commands) said) (have.stands_now h is)))));
         stands_now = λ h is. subst (λ (cs : List Command). stands next (after_all h cs (said ++ s ∷ []))) (sym more)
             (subst (λ (g : History). stands next g) (sym (after_all-more h (take k commands) said c s long)) (after_is (after_all h (take k commands) said) (have.stands_now h is)));
@@ -92,7 +98,8 @@ module _ {V : Type 0} (stands : V → History → Type 0) (tells : V → Bool) (
 
   pub all_said : (first now : V) (commands : List Command) (k : ℕ) (said : List Said) → HaveSaid stands tells size slots ready count sets per first now commands k said → length commands ≤ k
       → ((h : History) → stands first h → IsRun (kind_of size slots per first) (tells first) h (ready first) (count first) commands said (ready now) (count now))
-  all_said first now commands k said have all = λ h is. subst (λ (cs : List Command). IsRun (kind_of size slots per first) (tells first) h (ready first) (count first) cs said (ready now) (count now)) (take_all k commands all) (have.run h is)
+  all_said first now commands k said have all = λ h is. subst (λ (cs : List Command). IsRun (kind_of size slots per first) (tells first) h (ready first) (count first) cs said (ready now) (count now))
+      (take_all k commands all) (have.run h is)
 
   pub all_stands : (first now : V) (commands : List Command) (k : ℕ) (said : List Said) → HaveSaid stands tells size slots ready count sets per first now commands k said → length commands ≤ k
       → ((h : History) → stands first h → stands now (after_all h commands said))

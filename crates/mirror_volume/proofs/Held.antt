@@ -3,6 +3,7 @@ use Rattle.std.proofs.Common.{◌≡◌, ◌≢◌, ℕ, zero, suc, ◌<◌, ◌
 use Rattle.std.specs.Prelude.{◌⊎◌, slice_get, slice_set, ◌==◌, not, filter, map, All}
 use Rattle.std.proofs.lemmas.Option.{same_Some, slice_get_within}
 use Rattle.std.proofs.lemmas.List.{length-map, length-replicate}
+use Rattle.volume_device.specs.declared.device.Device.{Ghosts}
 use Rattle.cow_volume.specs.Calls.{is_among}
 use Rattle.cow_volume.proofs.Group.{slice_get-set_same, slice_get-set_other, length-slice_set, slice_get_inside, same_number, other_number}
 use Rattle.cow_volume.proofs.Merging.{was_row}
@@ -19,7 +20,8 @@ map-slice_set f (x ∷ xs) (suc i) y = ap (λ ys. f x ∷ ys) (map-slice_set f x
 
 -- ## the images that mirrors hold
 
-pub held_cut : (holds : List (Option ℕ)) (images : List ℕ) (k set : ℕ) → AreHeld holds images → slice_get holds k ≡ Some None → is_among set images ≡ false → AreHeld (slice_set holds k (Some set)) (images ++ set ∷ [])
+pub held_cut : (holds : List (Option ℕ)) (images : List ℕ) (k set : ℕ) → AreHeld holds images → slice_get holds k ≡ Some None → is_among set images ≡ false
+    → AreHeld (slice_set holds k (Some set)) (images ++ set ∷ [])
 held_cut holds images k set are free new = record {
   each = λ j s at. each j s (j == k) refl at;
   held = λ s is. found s (among_of_more s set images is);
@@ -61,7 +63,8 @@ held_cut holds images k set are free new = record {
         no e = cc
   one j i s false false is also at too = are.one j i s (at_other j s is at) (at_other i s also too)
 
-pub held_drop : (holds : List (Option ℕ)) (images : List ℕ) (k set : ℕ) → AreHeld holds images → slice_get holds k ≡ Some (Some set) → AreHeld (slice_set holds k None) (filter (λ s. not (s == set)) images)
+pub held_drop : (holds : List (Option ℕ)) (images : List ℕ) (k set : ℕ) → AreHeld holds images → slice_get holds k ≡ Some (Some set)
+    → AreHeld (slice_set holds k None) (filter (λ s. not (s == set)) images)
 held_drop holds images k set are was = record {
   each = λ j s at. each j s (j == k) refl at;
   held = λ s is. let old = among_was s set images is in let found = are.held s old.1 in (found.0, elsewhere s found.0 old.0 found.1 (found.0 == k) refl);
@@ -87,7 +90,8 @@ held_drop holds images k set are was = record {
 
 -- ## the mirrors
 
-pub mirrors_one : {D : Type 0} → (size : D → ℕ) (n k : ℕ) (mirrors : List (Mirror D)) (m next : Mirror D) → AreMirrors size n mirrors → slice_get mirrors k ≡ Some m → size next.device ≡ n → length next.stale ≡ n → AreMirrors size n (slice_set mirrors k next)
+pub mirrors_one : {D : Type 0} → (size : D → ℕ) (n k : ℕ) (mirrors : List (Mirror D)) (m next : Mirror D) → AreMirrors size n mirrors → slice_get mirrors k ≡ Some m → size next.device ≡ n
+    → length next.stale ≡ n → AreMirrors size n (slice_set mirrors k next)
 mirrors_one {D = D} size n k mirrors m next are was sized long = let kept = length-slice_set mirrors k next in record {
   some = let some = are.some in omega arith;
   few = let few = are.few in omega arith;
@@ -108,39 +112,43 @@ mirrors_one {D = D} size n k mirrors m next are was sized long = let kept = leng
   stale_at j x true is at = ap (λ (y : Mirror D). length y.stale) (sym (is_next j x is at)) ∙ long
   stale_at j x false is at = are.stale j x (was_at j x is at)
 
-followed_size : {D : Type 0} → (told : D → Option (List (List ℕ))) (size count : D → ℕ) (b : ℕ) (bytes : List ℕ) (m next : Mirror D) → IsFollowed told size count b bytes m next → (size next.device ≡ size m.device) × (length next.stale ≡ length m.stale)
-followed_size {D = D} told size count b bytes m next is = by_outcome is.outcome where
-  by_outcome : IsLeft b m next ⊎ IsMirrored told size count b bytes m next ⊎ IsMissed told size count b m next → (size next.device ≡ size m.device) × (length next.stale ≡ length m.stale)
-  by_outcome (inl left) = (ap size left.device, ap length left.stale ∙ length-slice_set m.stale b true)
+followed_size : {D : Type 0} → (ghosts : Ghosts D) (b : ℕ) (bytes : List ℕ) (m next : Mirror D) → IsFollowed ghosts b bytes m next
+    → (ghosts.size next.device ≡ ghosts.size m.device) × (length next.stale ≡ length m.stale)
+followed_size {D = D} ghosts b bytes m next is = by_outcome is.outcome where
+  by_outcome : IsLeft b m next ⊎ IsMirrored ghosts b bytes m next ⊎ IsMissed ghosts b m next → (ghosts.size next.device ≡ ghosts.size m.device) × (length next.stale ≡ length m.stale)
+  by_outcome (inl left) = (ap ghosts.size left.device, ap length left.stale ∙ length-slice_set m.stale b true)
   by_outcome (inr (inl got)) = (got.size_is, ap length got.stale ∙ length-slice_set m.stale b false)
   by_outcome (inr (inr missed)) = (missed.device.size_is, ap length missed.stale ∙ length-slice_set m.stale b true)
 
-pub mirrors_followed : {D : Type 0} → (told : D → Option (List (List ℕ))) (size count : D → ℕ) (n b : ℕ) (bytes : List ℕ) (old new : List (Mirror D)) → AreFollowed told size count b bytes old new → AreMirrors size n old → AreMirrors size n new
-mirrors_followed {D = D} told size count n b bytes old new are was = let long = are.long in record {
+pub mirrors_followed : {D : Type 0} → (ghosts : Ghosts D) (n b : ℕ) (bytes : List ℕ) (old new : List (Mirror D)) → AreFollowed ghosts b bytes old new → AreMirrors ghosts.size n old
+    → AreMirrors ghosts.size n new
+mirrors_followed {D = D} ghosts n b bytes old new are was = let long = are.long in record {
   some = let some = was.some in omega arith;
   few = let few = was.few in omega arith;
-  sizes = λ k m at. let before = at_old k m at in (followed_size told size count b bytes before.0 m (are.each k before.0 m before.1 at)).0 ∙ was.sizes k before.0 before.1;
-  stale = λ k m at. let before = at_old k m at in (followed_size told size count b bytes before.0 m (are.each k before.0 m before.1 at)).1 ∙ was.stale k before.0 before.1;
+  sizes = λ k m at. let before = at_old k m at in (followed_size ghosts b bytes before.0 m (are.each k before.0 m before.1 at)).0 ∙ was.sizes k before.0 before.1;
+  stale = λ k m at. let before = at_old k m at in (followed_size ghosts b bytes before.0 m (are.each k before.0 m before.1 at)).1 ∙ was.stale k before.0 before.1;
 } where
   at_old : (k : ℕ) (m : Mirror D) → slice_get new k ≡ Some m → (x : Mirror D) × (slice_get old k ≡ Some x)
   at_old k m at = let within = slice_get_within new k m at in let long = are.long in slice_get_inside old k (omega arith)
 
-pub followed_rest : {D : Type 0} → (told : D → Option (List (List ℕ))) (size count : D → ℕ) (b : ℕ) (bytes : List ℕ) (m n : Mirror D) (old new : List (Mirror D)) → AreFollowed told size count b bytes (m ∷ old) (n ∷ new) → AreFollowed told size count b bytes old new
-followed_rest told size count b bytes m n old new are = record {
+pub followed_rest : {D : Type 0} → (ghosts : Ghosts D) (b : ℕ) (bytes : List ℕ) (m n : Mirror D) (old new : List (Mirror D)) → AreFollowed ghosts b bytes (m ∷ old) (n ∷ new)
+    → AreFollowed ghosts b bytes old new
+followed_rest ghosts b bytes m n old new are = record {
   long = let long = are.long in omega arith;
   each = λ k x y at also. are.each (suc k) x y at also;
 }
 
 -- what followed holds what it held
-pub holds_followed : {D : Type 0} → (told : D → Option (List (List ℕ))) (size count : D → ℕ) (b : ℕ) (bytes : List ℕ) (old new : List (Mirror D)) → AreFollowed told size count b bytes old new → holds_of new ≡ holds_of old
-holds_followed told size count b bytes [] [] are = refl
-holds_followed told size count b bytes [] (n ∷ new) are = absurd (let long = are.long in omega arith)
-holds_followed told size count b bytes (m ∷ old) [] are = absurd (let long = are.long in omega arith)
-holds_followed {D = D} told size count b bytes (m ∷ old) (n ∷ new) are =
-    ap (λ (o : Option ℕ). o ∷ holds_of new) (are.each 0 m n refl refl).holds ∙ ap (λ os. m.holds ∷ os) (holds_followed told size count b bytes old new (followed_rest told size count b bytes m n old new are))
+pub holds_followed : {D : Type 0} → (ghosts : Ghosts D) (b : ℕ) (bytes : List ℕ) (old new : List (Mirror D)) → AreFollowed ghosts b bytes old new → holds_of new ≡ holds_of old
+holds_followed ghosts b bytes [] [] are = refl
+holds_followed ghosts b bytes [] (n ∷ new) are = absurd (let long = are.long in omega arith)
+holds_followed ghosts b bytes (m ∷ old) [] are = absurd (let long = are.long in omega arith)
+holds_followed {D = D} ghosts b bytes (m ∷ old) (n ∷ new) are =
+    ap (λ (o : Option ℕ). o ∷ holds_of new) (are.each 0 m n refl refl).holds ∙ ap (λ os. m.holds ∷ os) (holds_followed ghosts b bytes old new (followed_rest ghosts b bytes m n old new are))
 
 -- new mirrors
-pub mirrors_new : {D : Type 0} → (size : D → ℕ) (stale : Bool) (n : ℕ) (devices : List D) → 0 < length devices → length devices ≤ 8 → All (λ d. size d ≡ n) devices → AreMirrors size n (map (mirror_over stale n) devices)
+pub mirrors_new : {D : Type 0} → (size : D → ℕ) (stale : Bool) (n : ℕ) (devices : List D) → 0 < length devices → length devices ≤ 8 → All (λ d. size d ≡ n) devices
+    → AreMirrors size n (map (mirror_over stale n) devices)
 mirrors_new {D = D} size stale n devices some few sized = let long = length-map devices (mirror_over stale n) in record {
   some = omega arith;
   few = omega arith;

@@ -20,11 +20,13 @@ use Rattle.mirror_volume.specs.declared.sync_fault.SyncFault.{SyncFault}
 use Rattle.mirror_volume.specs.declared.sync_fault.SyncFault.TheVariants.{HoldsImage, Volume as DeviceFailed}
 use Rattle.vss_names.specs.Faults as Faults
 use Rattle.volume_device.specs.Blocks.{AreBlocks}
+use Rattle.volume_device.specs.declared.device.Device.{Ghosts}
 use Rattle.mirror_volume.proofs.Standing.{ready_holds, quiet_on_stands}
 use Rattle.mirror_volume.proofs.Held.{map-slice_set, held_cut, held_drop, mirrors_one, mirrors_followed, holds_followed, mirrors_new, held_new}
 use Rattle.mirror_volume.proofs.Among.{new_set}
 
-pub keeps_new : {D : Type 0} → (size : D → ℕ) (stale : Bool) (primary : D) (devices : List D) (mirrors : List (Mirror D)) (images : Vec ℕ Global) → 0 < length devices → length devices ≤ 8 → All (λ d. size d ≡ size primary) devices
+pub keeps_new : {D : Type 0} → (size : D → ℕ) (stale : Bool) (primary : D) (devices : List D) (mirrors : List (Mirror D)) (images : Vec ℕ Global) → 0 < length devices → length devices ≤ 8
+    → All (λ d. size d ≡ size primary) devices
     → mirrors ≡ map (mirror_over stale (size primary)) devices → images.items ≡ [] → 512 ≤ vec_capacity images → KeepsMirrors size primary mirrors images
 keeps_new {D = D} size stale primary devices mirrors images some few sized are none room = record {
   are_mirrors = subst (λ (ms : List (Mirror D)). AreMirrors size (size primary) ms) (sym are) (mirrors_new size stale (size primary) devices some few sized);
@@ -33,47 +35,55 @@ keeps_new {D = D} size stale primary devices mirrors images some few sized are n
 }
 
 -- the primary is another state of the same device
-pub keeps_primary : {D : Type 0} → (size : D → ℕ) (primary now : D) (mirrors : List (Mirror D)) (images : Vec ℕ Global) → size now ≡ size primary → KeepsMirrors size primary mirrors images → KeepsMirrors size now mirrors images
+pub keeps_primary : {D : Type 0} → (size : D → ℕ) (primary now : D) (mirrors : List (Mirror D)) (images : Vec ℕ Global) → size now ≡ size primary → KeepsMirrors size primary mirrors images
+    → KeepsMirrors size now mirrors images
 keeps_primary size primary now mirrors images same keeps = record {
   are_mirrors = subst (λ (n : ℕ). AreMirrors size n mirrors) (sym same) keeps.are_mirrors;
   are_held = keeps.are_held;
   room = keeps.room;
 }
 
-pub keeps_written : {D : Type 0} → (told : D → Option (List (List ℕ))) (size count : D → ℕ) (b : ℕ) (bytes : List ℕ) (primary now : D) (old new : List (Mirror D)) (images : Vec ℕ Global) → size now ≡ size primary → AreFollowed told size count b bytes old new
-    → KeepsMirrors size primary old images → KeepsMirrors size now new images
-keeps_written {D = D} told size count b bytes primary now old new images same are keeps = record {
-  are_mirrors = subst (λ (n : ℕ). AreMirrors size n new) (sym same) (mirrors_followed told size count (size primary) b bytes old new are keeps.are_mirrors);
-  are_held = subst (λ (holds : List (Option ℕ)). AreHeld holds images.items) (sym (holds_followed told size count b bytes old new are)) keeps.are_held;
+pub keeps_written : {D : Type 0} → (ghosts : Ghosts D) (b : ℕ) (bytes : List ℕ) (primary now : D) (old new : List (Mirror D)) (images : Vec ℕ Global) → ghosts.size now ≡ ghosts.size primary
+    → AreFollowed ghosts b bytes old new
+    → KeepsMirrors ghosts.size primary old images → KeepsMirrors ghosts.size now new images
+keeps_written {D = D} ghosts b bytes primary now old new images same are keeps = record {
+  are_mirrors = subst (λ (n : ℕ). AreMirrors ghosts.size n new) (sym same) (mirrors_followed ghosts (ghosts.size primary) b bytes old new are keeps.are_mirrors);
+  are_held = subst (λ (holds : List (Option ℕ)). AreHeld holds images.items) (sym (holds_followed ghosts b bytes old new are)) keeps.are_held;
   room = keeps.room;
 }
 
 -- one mirror changes, and holds what it held
-pub keeps_one : {D : Type 0} → (size : D → ℕ) (primary now : D) (mirrors : List (Mirror D)) (images : Vec ℕ Global) (k : ℕ) (m next : Mirror D) → size now ≡ size primary → slice_get mirrors k ≡ Some m → size next.device ≡ size m.device → length next.stale ≡ length m.stale → next.holds ≡ m.holds
+pub keeps_one : {D : Type 0} → (size : D → ℕ) (primary now : D) (mirrors : List (Mirror D)) (images : Vec ℕ Global) (k : ℕ) (m next : Mirror D) → size now ≡ size primary
+    → slice_get mirrors k ≡ Some m → size next.device ≡ size m.device → length next.stale ≡ length m.stale → next.holds ≡ m.holds
     → KeepsMirrors size primary mirrors images → KeepsMirrors size now (slice_set mirrors k next) images
 keeps_one {D = D} size primary now mirrors images k m next same at sized long holds keeps = record {
   are_mirrors = subst (λ (n : ℕ). AreMirrors size n (slice_set mirrors k next)) (sym same)
       (mirrors_one size (size primary) k mirrors m next keeps.are_mirrors at (sized ∙ keeps.are_mirrors.sizes k m at) (long ∙ keeps.are_mirrors.stale k m at));
-  are_held = subst (λ (hs : List (Option ℕ)). AreHeld hs images.items) (sym (map-slice_set (λ (x : Mirror D). x.holds) mirrors k next ∙ same_set (holds_of mirrors) k m.holds next.holds (slice_get_map (λ (x : Mirror D). x.holds) mirrors k m at) holds)) keeps.are_held;
+  are_held = subst (λ (hs : List (Option ℕ)). AreHeld hs images.items)
+      (sym (map-slice_set (λ (x : Mirror D). x.holds) mirrors k next
+      ∙ same_set (holds_of mirrors) k m.holds next.holds (slice_get_map (λ (x : Mirror D). x.holds) mirrors k m at) holds)) keeps.are_held;
   room = keeps.room;
 } where
   same_set : {X : Type 0} (xs : List X) (i : ℕ) (x y : X) → slice_get xs i ≡ Some x → y ≡ x → slice_set xs i y ≡ xs
   same_set xs i x y at same = ap (slice_set xs i) same ∙ slice_set-same xs i x at
 
 -- an image is cut
-pub keeps_cut : {D : Type 0} → (size : D → ℕ) (primary : D) (mirrors : List (Mirror D)) (images now : Vec ℕ Global) (k set : ℕ) (is : IsFirstReady mirrors k) → All (λ s. s < set) images.items → now.items ≡ images.items ++ set ∷ [] → vec_capacity images ≤ vec_capacity now
+pub keeps_cut : {D : Type 0} → (size : D → ℕ) (primary : D) (mirrors : List (Mirror D)) (images now : Vec ℕ Global) (k set : ℕ) (is : IsFirstReady mirrors k) → All (λ s. s < set) images.items
+    → now.items ≡ images.items ++ set ∷ [] → vec_capacity images ≤ vec_capacity now
     → KeepsMirrors size primary mirrors images → KeepsMirrors size primary (slice_set mirrors k (record { device = is.mirror.device; holds = Some set; stale = is.mirror.stale })) now
 keeps_cut {D = D} size primary mirrors images now k set is below items room keeps =
     let next : Mirror D = record { device = is.mirror.device; holds = Some set; stale = is.mirror.stale } in record {
       are_mirrors = mirrors_one size (size primary) k mirrors is.mirror next keeps.are_mirrors is.was (keeps.are_mirrors.sizes k is.mirror is.was) (keeps.are_mirrors.stale k is.mirror is.was);
       are_held = subst (λ (ss : List ℕ). AreHeld (holds_of (slice_set mirrors k next)) ss) (sym items)
           (subst (λ (hs : List (Option ℕ)). AreHeld hs (images.items ++ set ∷ [])) (sym (map-slice_set (λ (x : Mirror D). x.holds) mirrors k next))
-          (held_cut (holds_of mirrors) images.items k set keeps.are_held (slice_get_map (λ (x : Mirror D). x.holds) mirrors k is.mirror is.was ∙ ap Some (ready_holds is.mirror is.ready)) (new_set set images.items below)));
+          (held_cut (holds_of mirrors) images.items k set keeps.are_held (slice_get_map (λ (x : Mirror D). x.holds) mirrors k is.mirror is.was ∙ ap Some (ready_holds is.mirror is.ready))
+          (new_set set images.items below)));
       room = let before = keeps.room in omega arith;
     }
 
 -- an image goes
-pub keeps_drop : {D : Type 0} → (size : D → ℕ) (primary : D) (mirrors : List (Mirror D)) (images now : Vec ℕ Global) (k set : ℕ) (is : IsHolder mirrors set k) → now.items ≡ filter (λ s. not (s == set)) images.items → vec_capacity images ≤ vec_capacity now
+pub keeps_drop : {D : Type 0} → (size : D → ℕ) (primary : D) (mirrors : List (Mirror D)) (images now : Vec ℕ Global) (k set : ℕ) (is : IsHolder mirrors set k)
+    → now.items ≡ filter (λ s. not (s == set)) images.items → vec_capacity images ≤ vec_capacity now
     → KeepsMirrors size primary mirrors images → KeepsMirrors size primary (slice_set mirrors k (record { device = is.mirror.device; holds = None; stale = is.mirror.stale })) now
 keeps_drop {D = D} size primary mirrors images now k set is items room keeps =
     let next : Mirror D = record { device = is.mirror.device; holds = None; stale = is.mirror.stale } in record {
@@ -92,7 +102,8 @@ have_block size n b mirrors are low = λ k m at. ((let same = are.sizes k m at i
 pub among_held : {D : Type 0} → (mirrors : List (Mirror D)) (images : List ℕ) (k set : ℕ) → AreHeld (holds_of mirrors) images → IsHolder mirrors set k → is_among set images ≡ true
 among_held {D = D} mirrors images k set are is = are.each k set (slice_get_map (λ (x : Mirror D). x.holds) mirrors k is.mirror is.was ∙ ap Some is.held)
 
-pub not_among : {D : Type 0} → (mirrors : List (Mirror D)) (images : List ℕ) (set : ℕ) → AreHeld (holds_of mirrors) images → ((k : ℕ) (m : Mirror D) → k < length mirrors → slice_get mirrors k ≡ Some m → m.holds ≡ Some set → ⊥) → is_among set images ≡ false
+pub not_among : {D : Type 0} → (mirrors : List (Mirror D)) (images : List ℕ) (set : ℕ) → AreHeld (holds_of mirrors) images
+    → ((k : ℕ) (m : Mirror D) → k < length mirrors → slice_get mirrors k ≡ Some m → m.holds ≡ Some set → ⊥) → is_among set images ≡ false
 not_among {D = D} mirrors images set are none = by_bool (is_among set images) refl where
   by_bool : (t : Bool) → is_among set images ≡ t → is_among set images ≡ false
   by_bool true is =
@@ -106,14 +117,16 @@ not_among {D = D} mirrors images set are none = by_bool (is_among set images) re
 abbrev pub value_of : {D : Type 0} → D → List (Mirror D) → List ℕ → MirrorValue D
 value_of primary mirrors images = record { primary = primary; mirrors = mirrors; images = images }
 
-pub quiet_parts : {D : Type 0} → (told : D → Option (List (List ℕ))) (size count : D → ℕ) (p q : D) (mirrors : List (Mirror D)) (images : List ℕ) → told q ≡ told p → size q ≡ size p → count p ≤ count q → IsQuiet told size count (value_of p mirrors images) (value_of q mirrors images)
-quiet_parts told size count p q mirrors images tells sized later = record { primary = record { told_is = tells; size_is = sized; later = later }; mirrors = refl; images = refl }
+pub quiet_parts : {D : Type 0} → (ghosts : Ghosts D) (p q : D) (mirrors : List (Mirror D)) (images : List ℕ) → ghosts.told q ≡ ghosts.told p → ghosts.size q ≡ ghosts.size p
+    → ghosts.count p ≤ ghosts.count q → IsQuiet ghosts (value_of p mirrors images) (value_of q mirrors images)
+quiet_parts ghosts p q mirrors images tells sized later = record { primary = record { told_is = tells; size_is = sized; later = later }; mirrors = refl; images = refl }
 
 -- a block was copied to a device, or the device failed
-pub copy_or : {D E : Type 0} → (told : D → Option (List (List ℕ))) (size count : D → ℕ) (from now to next : D) (b : ℕ) (bytes : List ℕ) (result : Result Unit E) → IsQuietDevice told size count from now → count now ≡ count from
-    → IfSome (told from) (λ blocks. slice_get blocks b ≡ Some bytes) → IfSome (told to) (AreBlocks (size to)) → OnOk result (told next ≡ option_map (λ blocks. slice_set blocks b bytes) (told to)) → OnErr result (told next ≡ told to) → size next ≡ size to
-    → Faults.HasCause (count to) (count next) result → IsCopyOr told size count from now to next b result
-copy_or told size count from now to next b bytes (Ok done) quiet unfailed read whole written kept sized cause = record {
+pub copy_or : {D E : Type 0} → (ghosts : Ghosts D) (from now to next : D) (b : ℕ) (bytes : List ℕ) (result : Result Unit E) → IsQuietDevice ghosts from now → ghosts.count now ≡ ghosts.count from
+    → IfSome (ghosts.told from) (λ blocks. slice_get blocks b ≡ Some bytes) → IfSome (ghosts.told to) (AreBlocks (ghosts.size to))
+    → OnOk result (ghosts.told next ≡ option_map (λ blocks. slice_set blocks b bytes) (ghosts.told to)) → OnErr result (ghosts.told next ≡ ghosts.told to) → ghosts.size next ≡ ghosts.size to
+    → Faults.HasCause (ghosts.count to) (ghosts.count next) result → IsCopyOr ghosts from now to next b result
+copy_or ghosts from now to next b bytes (Ok done) quiet unfailed read whole written kept sized cause = record {
   bytes = bytes;
   source = quiet;
   read = read;
@@ -123,14 +136,14 @@ copy_or told size count from now to next b bytes (Ok done) quiet unfailed read w
   unfailed_source = unfailed;
   unfailed = cause.same;
 }
-copy_or told size count from now to next b bytes (Err e) quiet unfailed read whole written kept sized cause = record {
+copy_or ghosts from now to next b bytes (Err e) quiet unfailed read whole written kept sized cause = record {
   source = quiet;
   target = record { told_is = kept; size_is = sized; later = cause.later };
   rose = inr (cause.rose refl);
 }
 
-pub quiet_device : {D : Type 0} → (told : D → Option (List (List ℕ))) (size count : D → ℕ) (d : D) → IsQuietDevice told size count d d
-quiet_device told size count d = record { told_is = refl; size_is = refl; later = (let same : count d ≤ count d = omega arith in same) }
+pub quiet_device : {D : Type 0} → (ghosts : Ghosts D) (d : D) → IsQuietDevice ghosts d d
+quiet_device ghosts d = record { told_is = refl; size_is = refl; later = (let same : ghosts.count d ≤ ghosts.count d = omega arith in same) }
 
 pub set_same : {X : Type 0} → (xs : List X) (i : ℕ) (x y : X) → slice_get xs i ≡ Some x → y ≡ x → slice_set xs i y ≡ xs
 set_same xs i x y at same = ap (slice_set xs i) same ∙ slice_set-same xs i x at
@@ -185,11 +198,11 @@ mirror_is {D = D} m next holds stale =
     ∙ ap (λ (s : List Bool). let x : Mirror D = record { device = next.device; holds = m.holds; stale = s } in x) stale
 
 -- the image of a set was read from the mirror that holds it
-pub image_read : {D : Type 0} → (told : D → Option (List (List ℕ))) (size count : D → ℕ) (p : D) (mirrors : List (Mirror D)) (images : List ℕ) (set k b : ℕ) (x next : Mirror D) (bytes : List ℕ) (result : Result Unit ImageFault)
-    → AreHeld (holds_of mirrors) images → HolderAt mirrors set k x → b < size p → IsMirrorRead told size count x next b bytes result
-    → IsImageRead told size count (value_of p mirrors images) (value_of p (slice_set mirrors k next) images) set b bytes result
-image_read {D = D} told size count p mirrors images set k b x next bytes result are at low is = by_result result is where
-  called : IsCalled told size count x next → IsCalledFor told size count (value_of p mirrors images) (value_of p (slice_set mirrors k next) images) set b
+pub image_read : {D : Type 0} → (ghosts : Ghosts D) (p : D) (mirrors : List (Mirror D)) (images : List ℕ) (set k b : ℕ) (x next : Mirror D) (bytes : List ℕ) (result : Result Unit ImageFault)
+    → AreHeld (holds_of mirrors) images → HolderAt mirrors set k x → b < ghosts.size p → IsMirrorRead ghosts x next b bytes result
+    → IsImageRead ghosts (value_of p mirrors images) (value_of p (slice_set mirrors k next) images) set b bytes result
+image_read {D = D} ghosts p mirrors images set k b x next bytes result are at low is = by_result result is where
+  called : IsCalled ghosts x next → IsCalledFor ghosts (value_of p mirrors images) (value_of p (slice_set mirrors k next) images) set b
   called call = record {
     place = k;
     mirror = x;
@@ -206,43 +219,67 @@ image_read {D = D} told size count p mirrors images set k b x next bytes result 
     };
   }
 
-  by_result : (r : Result Unit ImageFault) → IsMirrorRead told size count x next b bytes r → IsImageRead told size count (value_of p mirrors images) (value_of p (slice_set mirrors k next) images) set b bytes r
+  by_result : (r : Result Unit ImageFault) → IsMirrorRead ghosts x next b bytes r → IsImageRead ghosts (value_of p mirrors images) (value_of p (slice_set mirrors k next) images) set b bytes r
   by_result (Ok done) got = (called got.0, got.1, got.2)
   by_result (Err fault) got =
-      let failed : IsImageRead told size count (value_of p mirrors images) (value_of p (slice_set mirrors k next) images) set b bytes (Err VolumeFailed) = (called got.0, got.2) in
-      subst (λ (f : ImageFault). IsImageRead told size count (value_of p mirrors images) (value_of p (slice_set mirrors k next) images) set b bytes (Err f)) (sym got.1) failed
+      let failed : IsImageRead ghosts (value_of p mirrors images) (value_of p (slice_set mirrors k next) images) set b bytes (Err VolumeFailed) = (called got.0, got.2) in
+      subst (λ (f : ImageFault). IsImageRead ghosts (value_of p mirrors images) (value_of p (slice_set mirrors k next) images) set b bytes (Err f)) (sym got.1) failed
 
-pub image_read_stands : {D : Type 0} → (told : D → Option (List (List ℕ))) (size count : D → ℕ) (p : D) (mirrors : List (Mirror D)) (images : List ℕ) (k b : ℕ) (x next : Mirror D) (bytes : List ℕ) (result : Result Unit ImageFault)
-    → slice_get mirrors k ≡ Some x → IsMirrorRead told size count x next b bytes result → (h : History) → StandsFor told size (value_of p mirrors images) h → StandsFor told size (value_of p (slice_set mirrors k next) images) h
-image_read_stands {D = D} told size count p mirrors images k b x next bytes result at is h stood =
-    quiet_on_stands told size count (value_of p mirrors images) (value_of p (slice_set mirrors k next) images) k x h
-    (record { was = at; after = next.device; device = (call result is).device; mirrors = ap (slice_set mirrors k) (mirror_is x next (call result is).holds (call result is).stale); primary = refl; images = refl }) stood where
-      call : (r : Result Unit ImageFault) → IsMirrorRead told size count x next b bytes r → IsCalled told size count x next
+pub image_read_stands : {D : Type 0} → (ghosts : Ghosts D) (p : D) (mirrors : List (Mirror D)) (images : List ℕ) (k b : ℕ) (x next : Mirror D) (bytes : List ℕ) (result : Result Unit ImageFault)
+    → slice_get mirrors k ≡ Some x → IsMirrorRead ghosts x next b bytes result → (h : History) → StandsFor ghosts (value_of p mirrors images) h
+    → StandsFor ghosts (value_of p (slice_set mirrors k next) images) h
+image_read_stands {D = D} ghosts p mirrors images k b x next bytes result at is h stood =
+    quiet_on_stands ghosts (value_of p mirrors images) (value_of p (slice_set mirrors k next) images) k x h
+    (record {
+      was = at;
+      after = next.device;
+      device = (call result is).device;
+      mirrors = ap (slice_set mirrors k)
+          (mirror_is x next (call result is).holds (call result is).stale);
+      primary = refl;
+      images = refl;
+    }) stood where
+      call : (r : Result Unit ImageFault) → IsMirrorRead ghosts x next b bytes r → IsCalled ghosts x next
       call (Ok done) got = got.0
       call (Err fault) got = got.0
 
-pub keeps_read : {D : Type 0} → (told : D → Option (List (List ℕ))) (size count : D → ℕ) (p : D) (mirrors : List (Mirror D)) (images : Vec ℕ Global) (k b : ℕ) (x next : Mirror D) (bytes : List ℕ) (result : Result Unit ImageFault)
-    → slice_get mirrors k ≡ Some x → IsMirrorRead told size count x next b bytes result → KeepsMirrors size p mirrors images → KeepsMirrors size p (slice_set mirrors k next) images
-keeps_read {D = D} told size count p mirrors images k b x next bytes result at is keeps =
-    keeps_one size p p mirrors images k x next refl at (call result is).device.size_is (ap length (call result is).stale) (call result is).holds keeps where
-      call : (r : Result Unit ImageFault) → IsMirrorRead told size count x next b bytes r → IsCalled told size count x next
+pub keeps_read : {D : Type 0} → (ghosts : Ghosts D) (p : D) (mirrors : List (Mirror D)) (images : Vec ℕ Global) (k b : ℕ) (x next : Mirror D) (bytes : List ℕ) (result : Result Unit ImageFault)
+    → slice_get mirrors k ≡ Some x → IsMirrorRead ghosts x next b bytes result → KeepsMirrors ghosts.size p mirrors images → KeepsMirrors ghosts.size p (slice_set mirrors k next) images
+keeps_read {D = D} ghosts p mirrors images k b x next bytes result at is keeps =
+    keeps_one ghosts.size p p mirrors images k x next refl at (call result is).device.size_is (ap length (call result is).stale) (call result is).holds keeps where
+      call : (r : Result Unit ImageFault) → IsMirrorRead ghosts x next b bytes r → IsCalled ghosts x next
       call (Ok done) got = got.0
       call (Err fault) got = got.0
 
 -- ## steps of a mirror
 
-step_sizes : {D : Type 0} → (told : D → Option (List (List ℕ))) (size count : D → ℕ) (p q : D) (m n : Mirror D) (result : Result Synced SyncFault) → IsStep told size count p q m n result
-    → (size q ≡ size p) × (size n.device ≡ size m.device) × (length n.stale ≡ length m.stale) × (n.holds ≡ m.holds)
-step_sizes told size count p q m n (Ok (Copied b)) is = (is.copied.source.size_is, is.copied.size_is, ap length is.stale ∙ length-slice_set m.stale b false, is.holds)
-step_sizes told size count p q m n (Ok InStep) is = (ap size is.primary_is, ap (λ (x : Mirror _). size x.device) is.mirror_is, ap (λ (x : Mirror _). length x.stale) is.mirror_is, ap (λ (x : Mirror _). x.holds) is.mirror_is)
-step_sizes told size count p q m n (Err (HoldsImage set)) is = (ap size is.primary_is, ap (λ (x : Mirror _). size x.device) is.mirror_is, ap (λ (x : Mirror _). length x.stale) is.mirror_is, ap (λ (x : Mirror _). x.holds) is.mirror_is)
-step_sizes told size count p q m n (Err DeviceFailed) is = (is.uncopied.source.size_is, is.uncopied.target.size_is, ap length is.stale, is.holds)
+step_sizes : {D : Type 0} → (ghosts : Ghosts D) (p q : D) (m n : Mirror D) (result : Result Synced SyncFault) → IsStep ghosts p q m n result
+    → (ghosts.size q ≡ ghosts.size p) × (ghosts.size n.device ≡ ghosts.size m.device) × (length n.stale ≡ length m.stale) × (n.holds ≡ m.holds)
+step_sizes ghosts p q m n (Ok (Copied b)) is = (is.copied.source.size_is, is.copied.size_is, ap length is.stale ∙ length-slice_set m.stale b false, is.holds)
+step_sizes ghosts p q m n
+    (Ok InStep) is = (
+      ap ghosts.size is.primary_is,
+      ap (λ (x : Mirror _). ghosts.size x.device) is.mirror_is,
+      ap (λ (x : Mirror _). length x.stale) is.mirror_is,
+      ap
+          (λ (x : Mirror _). x.holds) is.mirror_is,
+    )
+step_sizes ghosts p q m n
+    (Err (HoldsImage set)) is = (
+      ap ghosts.size is.primary_is,
+      ap (λ (x : Mirror _). ghosts.size x.device) is.mirror_is,
+      ap (λ (x : Mirror _). length x.stale) is.mirror_is,
+      ap
+          (λ (x : Mirror _). x.holds) is.mirror_is,
+    )
+step_sizes ghosts p q m n (Err DeviceFailed) is = (is.uncopied.source.size_is, is.uncopied.target.size_is, ap length is.stale, is.holds)
 
-pub keeps_synced : {D : Type 0} → (told : D → Option (List (List ℕ))) (size count : D → ℕ) (p q : D) (mirrors : List (Mirror D)) (images : Vec ℕ Global) (k : ℕ) (m n : Mirror D) (result : Result Synced SyncFault) → slice_get mirrors k ≡ Some m → IsStep told size count p q m n result
-    → KeepsMirrors size p mirrors images → KeepsMirrors size q (slice_set mirrors k n) images
-keeps_synced told size count p q mirrors images k m n result at is keeps =
-    let sizes = step_sizes told size count p q m n result is in
-    keeps_one size p q mirrors images k m n sizes.0 at sizes.1 sizes.2 sizes.3 keeps
+pub keeps_synced : {D : Type 0} → (ghosts : Ghosts D) (p q : D) (mirrors : List (Mirror D)) (images : Vec ℕ Global) (k : ℕ) (m n : Mirror D) (result : Result Synced SyncFault)
+    → slice_get mirrors k ≡ Some m → IsStep ghosts p q m n result
+    → KeepsMirrors ghosts.size p mirrors images → KeepsMirrors ghosts.size q (slice_set mirrors k n) images
+keeps_synced ghosts p q mirrors images k m n result at is keeps =
+    let sizes = step_sizes ghosts p q m n result is in
+    keeps_one ghosts.size p q mirrors images k m n sizes.0 at sizes.1 sizes.2 sizes.3 keeps
 
 -- ## writes
 

@@ -12,3 +12,4 @@ pub mod Keeping
 pub mod Saying
 pub mod Giving
 pub mod HavingSaid
+pub mod Flushing

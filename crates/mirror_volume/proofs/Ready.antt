@@ -5,6 +5,7 @@ use Rattle.std.specs.List.{list_all}
 use Rattle.std.proofs.lemmas.Bool.Decides.{nat_tests}
 use Rattle.std.proofs.lemmas.Option.{same_Some}
 use Rattle.vss_names.specs.Faults.{counted, all_counted, Rose, most}
+use Rattle.volume_device.specs.declared.device.Device.{Ghosts}
 use Rattle.cow_volume.proofs.Group.{same_number}
 use Rattle.cow_volume.proofs.Merging.{and_left, and_right}
 use Rattle.cow_volume.proofs.Writing.{put_tells}
@@ -90,34 +91,36 @@ rose_set (x ∷ cs) (suc k) c d at rose = inr (rose_set cs k c d at rose)
 
 -- ## mirrors that follow
 
-later_followed : {D : Type 0} → (told : D → Option (List (List ℕ))) (size count : D → ℕ) (b : ℕ) (bytes : List ℕ) (m next : Mirror D) → IsFollowed told size count b bytes m next → count m.device ≤ count next.device
-later_followed {D = D} told size count b bytes m next is = by_outcome is.outcome where
-  by_outcome : IsLeft b m next ⊎ IsMirrored told size count b bytes m next ⊎ IsMissed told size count b m next → count m.device ≤ count next.device
-  by_outcome (inl left) = let same = ap count left.device in omega arith
+later_followed : {D : Type 0} → (ghosts : Ghosts D) (b : ℕ) (bytes : List ℕ) (m next : Mirror D) → IsFollowed ghosts b bytes m next → ghosts.count m.device ≤ ghosts.count next.device
+later_followed {D = D} ghosts b bytes m next is = by_outcome is.outcome where
+  by_outcome : IsLeft b m next ⊎ IsMirrored ghosts b bytes m next ⊎ IsMissed ghosts b m next → ghosts.count m.device ≤ ghosts.count next.device
+  by_outcome (inl left) = let same = ap ghosts.count left.device in omega arith
   by_outcome (inr (inl got)) = let same = got.unfailed in omega arith
   by_outcome (inr (inr missed)) = missed.device.later
 
-pub all_later_followed : {D : Type 0} → (told : D → Option (List (List ℕ))) (size count : D → ℕ) (b : ℕ) (bytes : List ℕ) (old new : List (Mirror D)) → AreFollowed told size count b bytes old new → AllLater (map (λ m. count m.device) old) (map (λ m. count m.device) new)
-all_later_followed told size count b bytes [] [] are = tt
-all_later_followed told size count b bytes [] (n ∷ new) are = absurd (let long = are.long in omega arith)
-all_later_followed told size count b bytes (m ∷ old) [] are = absurd (let long = are.long in omega arith)
-all_later_followed told size count b bytes (m ∷ old) (n ∷ new) are =
-    (later_followed told size count b bytes m n (are.each 0 m n refl refl), all_later_followed told size count b bytes old new (followed_rest told size count b bytes m n old new are))
+pub all_later_followed : {D : Type 0} → (ghosts : Ghosts D) (b : ℕ) (bytes : List ℕ) (old new : List (Mirror D)) → AreFollowed ghosts b bytes old new
+    → AllLater (map (λ m. ghosts.count m.device) old) (map (λ m. ghosts.count m.device) new)
+all_later_followed ghosts b bytes [] [] are = tt
+all_later_followed ghosts b bytes [] (n ∷ new) are = absurd (let long = are.long in omega arith)
+all_later_followed ghosts b bytes (m ∷ old) [] are = absurd (let long = are.long in omega arith)
+all_later_followed ghosts b bytes (m ∷ old) (n ∷ new) are =
+    (later_followed ghosts b bytes m n (are.each 0 m n refl refl), all_later_followed ghosts b bytes old new (followed_rest ghosts b bytes m n old new are))
 
-tells_one : {D : Type 0} → (told : D → Option (List (List ℕ))) (size count : D → ℕ) (b : ℕ) (bytes : List ℕ) (m next : Mirror D) → IsFollowed told size count b bytes m next → is_some (told next.device) ≡ is_some (told m.device)
-tells_one {D = D} told size count b bytes m next is = by_outcome is.outcome where
-  by_outcome : IsLeft b m next ⊎ IsMirrored told size count b bytes m next ⊎ IsMissed told size count b m next → is_some (told next.device) ≡ is_some (told m.device)
-  by_outcome (inl left) = ap (λ (d : D). is_some (told d)) left.device
-  by_outcome (inr (inl got)) = ap (λ (t : Option (List (List ℕ))). is_some t) got.told_is ∙ put_tells (told m.device) b bytes
+tells_one : {D : Type 0} → (ghosts : Ghosts D) (b : ℕ) (bytes : List ℕ) (m next : Mirror D) → IsFollowed ghosts b bytes m next → is_some (ghosts.told next.device) ≡ is_some (ghosts.told m.device)
+tells_one {D = D} ghosts b bytes m next is = by_outcome is.outcome where
+  by_outcome : IsLeft b m next ⊎ IsMirrored ghosts b bytes m next ⊎ IsMissed ghosts b m next → is_some (ghosts.told next.device) ≡ is_some (ghosts.told m.device)
+  by_outcome (inl left) = ap (λ (d : D). is_some (ghosts.told d)) left.device
+  by_outcome (inr (inl got)) = ap (λ (t : Option (List (List ℕ))). is_some t) got.told_is ∙ put_tells (ghosts.told m.device) b bytes
   by_outcome (inr (inr missed)) = ap (λ (t : Option (List (List ℕ))). is_some t) missed.device.told_is
 
-pub tells_followed : {D : Type 0} → (told : D → Option (List (List ℕ))) (size count : D → ℕ) (b : ℕ) (bytes : List ℕ) (old new : List (Mirror D)) → AreFollowed told size count b bytes old new → list_all (λ m. is_some (told m.device)) new ≡ list_all (λ m. is_some (told m.device)) old
-tells_followed told size count b bytes [] [] are = refl
-tells_followed told size count b bytes [] (n ∷ new) are = absurd (let long = are.long in omega arith)
-tells_followed told size count b bytes (m ∷ old) [] are = absurd (let long = are.long in omega arith)
-tells_followed told size count b bytes (m ∷ old) (n ∷ new) are =
-    ap (λ (t : Bool). t && list_all (λ x. is_some (told x.device)) new) (tells_one told size count b bytes m n (are.each 0 m n refl refl))
-    ∙ ap (λ (t : Bool). is_some (told m.device) && t) (tells_followed told size count b bytes old new (followed_rest told size count b bytes m n old new are))
+pub tells_followed : {D : Type 0} → (ghosts : Ghosts D) (b : ℕ) (bytes : List ℕ) (old new : List (Mirror D)) → AreFollowed ghosts b bytes old new
+    → list_all (λ m. is_some (ghosts.told m.device)) new ≡ list_all (λ m. is_some (ghosts.told m.device)) old
+tells_followed ghosts b bytes [] [] are = refl
+tells_followed ghosts b bytes [] (n ∷ new) are = absurd (let long = are.long in omega arith)
+tells_followed ghosts b bytes (m ∷ old) [] are = absurd (let long = are.long in omega arith)
+tells_followed ghosts b bytes (m ∷ old) (n ∷ new) are =
+    ap (λ (t : Bool). t && list_all (λ x. is_some (ghosts.told x.device)) new) (tells_one ghosts b bytes m n (are.each 0 m n refl refl))
+    ∙ ap (λ (t : Bool). is_some (ghosts.told m.device) && t) (tells_followed ghosts b bytes old new (followed_rest ghosts b bytes m n old new are))
 
 pub tells_set : {X : Type 0} → (test : X → Bool) (xs : List X) (k : ℕ) (x next : X) → slice_get xs k ≡ Some x → test next ≡ test x → list_all test (slice_set xs k next) ≡ list_all test xs
 tells_set test [] k x next at same = refl
@@ -134,15 +137,16 @@ zero_is : (n : ℕ) → n ≤ 0 → (n == 0) ≡ true
 zero_is n l = grind (arith, nat_tests)
 
 -- a mirror that was ready is so still, or its device failed
-still_ready : {D : Type 0} → (told : D → Option (List (List ℕ))) (size count : D → ℕ) (b : ℕ) (bytes : List ℕ) (m next : Mirror D) → IsFollowed told size count b bytes m next → is_ready m ≡ true → (is_ready next ≡ true) ⊎ Rose (count m.device) (count next.device)
-still_ready {D = D} told size count b bytes m next is ready = by_outcome is.outcome where
+still_ready : {D : Type 0} → (ghosts : Ghosts D) (b : ℕ) (bytes : List ℕ) (m next : Mirror D) → IsFollowed ghosts b bytes m next → is_ready m ≡ true
+    → (is_ready next ≡ true) ⊎ Rose (ghosts.count m.device) (ghosts.count next.device)
+still_ready {D = D} ghosts b bytes m next is ready = by_outcome is.outcome where
   none : is_none m.holds ≡ true
   none = and_left (is_none m.holds) (stale_count m.stale == 0) ready
 
   count_is : stale_count m.stale ≡ 0
   count_is = same_number (stale_count m.stale) 0 (and_right (is_none m.holds) (stale_count m.stale == 0) ready)
 
-  by_outcome : IsLeft b m next ⊎ IsMirrored told size count b bytes m next ⊎ IsMissed told size count b m next → (is_ready next ≡ true) ⊎ Rose (count m.device) (count next.device)
+  by_outcome : IsLeft b m next ⊎ IsMirrored ghosts b bytes m next ⊎ IsMissed ghosts b m next → (is_ready next ≡ true) ⊎ Rose (ghosts.count m.device) (ghosts.count next.device)
   by_outcome (inl left) = absurd (not_none m.holds left.holds_image none)
   by_outcome (inr (inl got)) =
       let few = fewer_stale m.stale b in
@@ -162,35 +166,41 @@ count_two true false m n more l = let never = more refl in absurd (false_not_tru
 count_two false true m n more l = omega arith
 count_two false false m n more l = omega arith
 
-pub ready_followed : {D : Type 0} → (told : D → Option (List (List ℕ))) (size count : D → ℕ) (b : ℕ) (bytes : List ℕ) (old new : List (Mirror D)) → AreFollowed told size count b bytes old new
-    → (count_by is_ready old ≤ count_by is_ready new) ⊎ AnyRose (map (λ m. count m.device) old) (map (λ m. count m.device) new)
-ready_followed told size count b bytes [] [] are = inl (omega arith)
-ready_followed told size count b bytes [] (n ∷ new) are = absurd (let long = are.long in omega arith)
-ready_followed told size count b bytes (m ∷ old) [] are = absurd (let long = are.long in omega arith)
-ready_followed {D = D} told size count b bytes (m ∷ old) (n ∷ new) are = by_one (is_ready m) refl (ready_followed told size count b bytes old new (followed_rest told size count b bytes m n old new are)) where
+pub ready_followed : {D : Type 0} → (ghosts : Ghosts D) (b : ℕ) (bytes : List ℕ) (old new : List (Mirror D)) → AreFollowed ghosts b bytes old new
+    → (count_by is_ready old ≤ count_by is_ready new) ⊎ AnyRose (map (λ m. ghosts.count m.device) old) (map (λ m. ghosts.count m.device) new)
+ready_followed ghosts b bytes [] [] are = inl (omega arith)
+ready_followed ghosts b bytes [] (n ∷ new) are = absurd (let long = are.long in omega arith)
+ready_followed ghosts b bytes (m ∷ old) [] are = absurd (let long = are.long in omega arith)
+ready_followed {D = D} ghosts b bytes (m ∷ old) (n ∷ new) are = by_one (is_ready m) refl (ready_followed ghosts b bytes old new (followed_rest ghosts b bytes m n old new are)) where
   Goal : Type 0
-  Goal = (count_by is_ready (m ∷ old) ≤ count_by is_ready (n ∷ new)) ⊎ AnyRose (map (λ (x : Mirror D). count x.device) (m ∷ old)) (map (λ (x : Mirror D). count x.device) (n ∷ new))
+  Goal = (count_by is_ready (m ∷ old) ≤ count_by is_ready (n ∷ new)) ⊎ AnyRose (map (λ (x : Mirror D). ghosts.count x.device) (m ∷ old)) (map (λ (x : Mirror D). ghosts.count x.device) (n ∷ new))
 
-  by_both : (count_by is_ready old ≤ count_by is_ready new) ⊎ AnyRose (map (λ (x : Mirror D). count x.device) old) (map (λ (x : Mirror D). count x.device) new) → ((is_ready m ≡ true → is_ready n ≡ true) ⊎ Rose (count m.device) (count n.device))
-      → (count_by is_ready (m ∷ old) ≤ count_by is_ready (n ∷ new)) ⊎ AnyRose (map (λ (x : Mirror D). count x.device) (m ∷ old)) (map (λ (x : Mirror D). count x.device) (n ∷ new))
-  by_both (inl rest) (inl more) = inl (let a = count-cons is_ready m old in let b = count-cons is_ready n new in let l = count_two (is_ready m) (is_ready n) (count_by is_ready old) (count_by is_ready new) more rest in omega arith)
+  by_both : (count_by is_ready old ≤ count_by is_ready new) ⊎ AnyRose (map (λ (x : Mirror D). ghosts.count x.device) old) (map (λ (x : Mirror D). ghosts.count x.device) new)
+      → ((is_ready m ≡ true → is_ready n ≡ true) ⊎ Rose (ghosts.count m.device) (ghosts.count n.device))
+      → (count_by is_ready (m ∷ old) ≤ count_by is_ready (n ∷ new)) ⊎ AnyRose (map (λ (x : Mirror D). ghosts.count x.device) (m ∷ old)) (map (λ (x : Mirror D). ghosts.count x.device) (n ∷ new))
+  by_both (inl rest) (inl more) = inl
+      (let a = count-cons is_ready m old in let b = count-cons is_ready n new in let l = count_two (is_ready m) (is_ready n) (count_by is_ready old)
+      (count_by is_ready new) more rest in omega arith)
   by_both (inr rest) more = inr (inr rest)
   by_both (inl rest) (inr rose) = inr (inl rose)
 
-  by_one : (t : Bool) → is_ready m ≡ t → (count_by is_ready old ≤ count_by is_ready new) ⊎ AnyRose (map (λ (x : Mirror D). count x.device) old) (map (λ (x : Mirror D). count x.device) new)
-      → (count_by is_ready (m ∷ old) ≤ count_by is_ready (n ∷ new)) ⊎ AnyRose (map (λ (x : Mirror D). count x.device) (m ∷ old)) (map (λ (x : Mirror D). count x.device) (n ∷ new))
-  by_one true is rest = by_both rest (elim (still_ready told size count b bytes m n (are.each 0 m n refl refl) is) [ inl r ↦ inl (λ _. r) | inr r ↦ inr r ])
+  by_one : (t : Bool) → is_ready m ≡ t
+      → (count_by is_ready old ≤ count_by is_ready new) ⊎ AnyRose (map (λ (x : Mirror D). ghosts.count x.device) old) (map (λ (x : Mirror D). ghosts.count x.device) new)
+      → (count_by is_ready (m ∷ old) ≤ count_by is_ready (n ∷ new)) ⊎ AnyRose (map (λ (x : Mirror D). ghosts.count x.device) (m ∷ old)) (map (λ (x : Mirror D). ghosts.count x.device) (n ∷ new))
+  by_one true is rest = by_both rest (elim (still_ready ghosts b bytes m n (are.each 0 m n refl refl) is) [ inl r ↦ inl (λ _. r) | inr r ↦ inr r ])
   by_one false is rest = by_both rest (inl (λ ready. absurd (false_not_true (sym is ∙ ready)))) where
     false_not_true : false ≡ true → ⊥
     false_not_true e = cc
 
 -- one mirror changes
-pub ready_set : {D : Type 0} → (mirrors : List (Mirror D)) (k : ℕ) (m next : Mirror D) → slice_get mirrors k ≡ Some m → (is_ready m ≡ true → is_ready next ≡ true) → count_by is_ready mirrors ≤ count_by is_ready (slice_set mirrors k next)
+pub ready_set : {D : Type 0} → (mirrors : List (Mirror D)) (k : ℕ) (m next : Mirror D) → slice_get mirrors k ≡ Some m → (is_ready m ≡ true → is_ready next ≡ true)
+    → count_by is_ready mirrors ≤ count_by is_ready (slice_set mirrors k next)
 ready_set [] k m next at more = omega arith
 ready_set {D = D} (x ∷ mirrors) zero m next at more =
     let a = count-cons is_ready x mirrors in
     let b = count-cons is_ready next mirrors in
-    let l = count_two (is_ready x) (is_ready next) (count_by is_ready mirrors) (count_by is_ready mirrors) (subst (λ (y : Mirror D). is_ready y ≡ true → is_ready next ≡ true) (sym (same_Some x m at)) more) (same_le (count_by is_ready mirrors)) in
+    let l = count_two (is_ready x) (is_ready next) (count_by is_ready mirrors) (count_by is_ready mirrors)
+    (subst (λ (y : Mirror D). is_ready y ≡ true → is_ready next ≡ true) (sym (same_Some x m at)) more) (same_le (count_by is_ready mirrors)) in
     omega arith
 ready_set (x ∷ mirrors) (suc k) m next at more =
     let a = count-cons is_ready x mirrors in

@@ -7,6 +7,7 @@ use Rattle.std.proofs.lemmas.Option.{same_Some, slice_get_within}
 use Rattle.std.proofs.lemmas.List.{length_push, map-append}
 use Rattle.block_data.specs.Runs.{zeros}
 use Rattle.volume_device.specs.Blocks.{AreBlocks}
+use Rattle.volume_device.specs.declared.device.Device.{Ghosts}
 use Rattle.write_history.specs.History.{Write, Image, History, content, contents, point_in, sets_of, without_set, written, cut, dropped, fresh}
 use Rattle.cow_volume.specs.Calls.{is_among}
 use Rattle.cow_volume.specs.StandsFor.{told_in}
@@ -124,7 +125,7 @@ mirrored p q d e n stale h w put own whole low mirror = record {
       ap (λ (bs : List (List ℕ)). slice_get bs c) now ∙ slice_get-set_other old w.block c w.bytes other
       ∙ mirror.in_step old c (tell_both p d ps old told tells) (sym (slice_get-set_other stale w.block c false other) ∙ step) ∙ ap Some (sym (content_other h.writes w c other))
 
-same_mirror : (known new_known : Option (List (List ℕ))) (n : ℕ) (holds new_holds : Option ℕ) (stale new_stale : List Bool) (h : History)
+pub same_mirror : (known new_known : Option (List (List ℕ))) (n : ℕ) (holds new_holds : Option ℕ) (stale new_stale : List Bool) (h : History)
     → known ≡ new_known → holds ≡ new_holds → stale ≡ new_stale → IsMirror known n holds stale h → IsMirror new_known n new_holds new_stale h
 same_mirror known new_known n holds new_holds stale new_stale h is_known is_held is_stale mirror =
     subst (λ (k : Option (List (List ℕ))). IsMirror k n new_holds new_stale h) is_known
@@ -132,25 +133,25 @@ same_mirror known new_known n holds new_holds stale new_stale h is_known is_held
     (subst (λ (s : List Bool). IsMirror known n holds s h) is_stale mirror))
 
 -- a mirror that followed
-followed : {D : Type 0} → (told : D → Option (List (List ℕ))) (size count : D → ℕ) (p q : Option (List (List ℕ))) (n : ℕ) (m next : Mirror D) (h : History) (w : Write)
-    → q ≡ option_map (λ blocks. slice_set blocks w.block w.bytes) p → w.block < n → size m.device ≡ n → length m.stale ≡ n
-    → IsFollowed told size count w.block w.bytes m next → IsMirror (told_in p (told m.device)) n m.holds m.stale h → IsMirror (told_in q (told next.device)) n next.holds next.stale (written w h)
-followed {D = D} told size count p q n m next h w put low sized long follow mirror = by_outcome follow.outcome where
+followed : {D : Type 0} → (ghosts : Ghosts D) (p q : Option (List (List ℕ))) (n : ℕ) (m next : Mirror D) (h : History) (w : Write)
+    → q ≡ option_map (λ blocks. slice_set blocks w.block w.bytes) p → w.block < n → ghosts.size m.device ≡ n → length m.stale ≡ n
+    → IsFollowed ghosts w.block w.bytes m next → IsMirror (told_in p (ghosts.told m.device)) n m.holds m.stale h → IsMirror (told_in q (ghosts.told next.device)) n next.holds next.stale (written w h)
+followed {D = D} ghosts p q n m next h w put low sized long follow mirror = by_outcome follow.outcome where
   within : w.block < length m.stale
   within = omega arith
 
-  by_outcome : IsLeft w.block m next ⊎ IsMirrored told size count w.block w.bytes m next ⊎ IsMissed told size count w.block m next → IsMirror (told_in q (told next.device)) n next.holds next.stale (written w h)
+  by_outcome : IsLeft w.block m next ⊎ IsMirrored ghosts w.block w.bytes m next ⊎ IsMissed ghosts w.block m next → IsMirror (told_in q (ghosts.told next.device)) n next.holds next.stale (written w h)
   by_outcome (inl left) =
-      same_mirror (told_in q (told m.device)) (told_in q (told next.device)) n m.holds next.holds (slice_set m.stale w.block true) next.stale (written w h)
-      (ap (λ (d : D). told_in q (told d)) (sym left.device)) (sym follow.holds) (sym left.stale) (marked p q (told m.device) n m.holds m.stale h w put within mirror)
+      same_mirror (told_in q (ghosts.told m.device)) (told_in q (ghosts.told next.device)) n m.holds next.holds (slice_set m.stale w.block true) next.stale (written w h)
+      (ap (λ (d : D). told_in q (ghosts.told d)) (sym left.device)) (sym follow.holds) (sym left.stale) (marked p q (ghosts.told m.device) n m.holds m.stale h w put within mirror)
   by_outcome (inr (inl got)) =
-      let unsplit = same_mirror (told_in p (told m.device)) (told_in p (told m.device)) n m.holds None m.stale m.stale h refl got.holds_none refl mirror in
-      let whole = subst (λ (k : ℕ). IfSome (told m.device) (AreBlocks k)) sized got.whole in
-      same_mirror (told_in q (told next.device)) (told_in q (told next.device)) n None next.holds (slice_set m.stale w.block false) next.stale (written w h)
-      refl (sym (follow.holds ∙ got.holds_none)) (sym got.stale) (mirrored p q (told m.device) (told next.device) n m.stale h w put got.told_is whole low unsplit)
+      let unsplit = same_mirror (told_in p (ghosts.told m.device)) (told_in p (ghosts.told m.device)) n m.holds None m.stale m.stale h refl got.holds_none refl mirror in
+      let whole = subst (λ (k : ℕ). IfSome (ghosts.told m.device) (AreBlocks k)) sized got.whole in
+      same_mirror (told_in q (ghosts.told next.device)) (told_in q (ghosts.told next.device)) n None next.holds (slice_set m.stale w.block false) next.stale (written w h)
+      refl (sym (follow.holds ∙ got.holds_none)) (sym got.stale) (mirrored p q (ghosts.told m.device) (ghosts.told next.device) n m.stale h w put got.told_is whole low unsplit)
   by_outcome (inr (inr missed)) =
-      same_mirror (told_in q (told m.device)) (told_in q (told next.device)) n m.holds next.holds (slice_set m.stale w.block true) next.stale (written w h)
-      (ap (λ (t : Option (List (List ℕ))). told_in q t) (sym missed.device.told_is)) (sym follow.holds) (sym missed.stale) (marked p q (told m.device) n m.holds m.stale h w put within mirror)
+      same_mirror (told_in q (ghosts.told m.device)) (told_in q (ghosts.told next.device)) n m.holds next.holds (slice_set m.stale w.block true) next.stale (written w h)
+      (ap (λ (t : Option (List (List ℕ))). told_in q t) (sym missed.device.told_is)) (sym follow.holds) (sym missed.stale) (marked p q (ghosts.told m.device) n m.holds m.stale h w put within mirror)
 
 put_contents : (p q : Option (List (List ℕ))) (n : ℕ) (ws : List Write) (w : Write) → w.block < n → q ≡ option_map (λ blocks. slice_set blocks w.block w.bytes) p
     → IfSome p (λ blocks. blocks ≡ contents n ws (length ws)) → IfSome q (λ blocks. blocks ≡ contents n (ws ++ w ∷ []) (length (ws ++ w ∷ [])))
@@ -159,22 +160,22 @@ put_contents (Some old) q n ws w low put is =
     subst (λ (x : Option (List (List ℕ))). IfSome x (λ blocks. blocks ≡ contents n (ws ++ w ∷ []) (length (ws ++ w ∷ [])))) (sym put)
     (ap (λ (bs : List (List ℕ)). slice_set bs w.block w.bytes) is ∙ sym (contents-more n ws w low))
 
-pub written_stands : {D : Type 0} → (told : D → Option (List (List ℕ))) (size count : D → ℕ) (old new : MirrorValue D) (w : Write) (h : History)
-    → AreMirrors size (size old.primary) old.mirrors → IsWritten told size count old new w → StandsFor told size old h → StandsFor told size new (written w h)
-written_stands {D = D} told size count old new w h are is stood = record {
+pub written_stands : {D : Type 0} → (ghosts : Ghosts D) (old new : MirrorValue D) (w : Write) (h : History)
+    → AreMirrors ghosts.size (ghosts.size old.primary) old.mirrors → IsWritten ghosts old new w → StandsFor ghosts old h → StandsFor ghosts new (written w h)
+written_stands {D = D} ghosts old new w h are is stood = record {
   sets = is.images ∙ stood.sets;
   above_zero = λ set among. stood.above_zero set (ap (is_among set) (sym is.images) ∙ among);
-  primary = subst (λ (n : ℕ). IfSome (told new.primary) (λ blocks. blocks ≡ contents n (h.writes ++ w ∷ []) (length (h.writes ++ w ∷ [])))) (sym is.size_is)
-      (put_contents (told old.primary) (told new.primary) (size old.primary) h.writes w is.in_range is.told_is stood.primary);
+  primary = subst (λ (n : ℕ). IfSome (ghosts.told new.primary) (λ blocks. blocks ≡ contents n (h.writes ++ w ∷ []) (length (h.writes ++ w ∷ [])))) (sym is.size_is)
+      (put_contents (ghosts.told old.primary) (ghosts.told new.primary) (ghosts.size old.primary) h.writes w is.in_range is.told_is stood.primary);
   mirrors = λ k m at. mirror_at k m at;
 } where
-  mirror_at : (k : ℕ) (m : Mirror D) → slice_get new.mirrors k ≡ Some m → IsMirror (told_in (told new.primary) (told m.device)) (size new.primary) m.holds m.stale (written w h)
+  mirror_at : (k : ℕ) (m : Mirror D) → slice_get new.mirrors k ≡ Some m → IsMirror (told_in (ghosts.told new.primary) (ghosts.told m.device)) (ghosts.size new.primary) m.holds m.stale (written w h)
   mirror_at k m at =
       let within = slice_get_within new.mirrors k m at in
       let long = is.mirrors.long in
       let was = slice_get_inside old.mirrors k (omega arith) in
-      subst (λ (n : ℕ). IsMirror (told_in (told new.primary) (told m.device)) n m.holds m.stale (written w h)) (sym is.size_is)
-      (followed told size count (told old.primary) (told new.primary) (size old.primary) was.0 m h w is.told_is is.in_range (are.sizes k was.0 was.1) (are.stale k was.0 was.1)
+      subst (λ (n : ℕ). IsMirror (told_in (ghosts.told new.primary) (ghosts.told m.device)) n m.holds m.stale (written w h)) (sym is.size_is)
+      (followed ghosts (ghosts.told old.primary) (ghosts.told new.primary) (ghosts.size old.primary) was.0 m h w is.told_is is.in_range (are.sizes k was.0 was.1) (are.stale k was.0 was.1)
       (is.mirrors.each k was.0 m was.1 at) (stood.mirrors k was.0 was.1))
 
 -- ## images
@@ -183,7 +184,8 @@ written_stands {D = D} told size count old new w h are is stood = record {
 point_more : (s p : ℕ) (images more : List Image) → point_in s images ≡ Some p → point_in s (images ++ more) ≡ Some p
 point_more s p [] more at = cc
 point_more s p (i ∷ images) more at = by_test (i.set == s) (point_more s p images more) at where
-  by_test : (t : Bool) → (point_in s images ≡ Some p → point_in s (images ++ more) ≡ Some p) → (if t then Some i.point else point_in s images) ≡ Some p → (if t then Some i.point else point_in s (images ++ more)) ≡ Some p
+  by_test : (t : Bool) → (point_in s images ≡ Some p → point_in s (images ++ more) ≡ Some p) → (if t then Some i.point else point_in s images) ≡ Some p
+      → (if t then Some i.point else point_in s (images ++ more)) ≡ Some p
   by_test true rest at = at
   by_test false rest at = rest at
 
@@ -208,30 +210,33 @@ point_without s set p (i ∷ images) other at = by_tests (i.set == set) (i.set =
   by_tests false false is also rest at = ap (λ (t : Bool). if t then Some i.point else point_in s (without_set set images)) also ∙ rest at
 
 -- one mirror changes, and the history as f says; the primary tells what it told
-one_changed : {D : Type 0} → (told : D → Option (List (List ℕ))) (size : D → ℕ) (old new : MirrorValue D) (h g : History) (k : ℕ) (m next : Mirror D)
-    → StandsFor told size old h → g.writes ≡ h.writes → new.images ≡ sets_of g.images → ((set : ℕ) → is_among set new.images ≡ true → 0 < set) → told new.primary ≡ told old.primary → size new.primary ≡ size old.primary
+one_changed : {D : Type 0} → (ghosts : Ghosts D) (old new : MirrorValue D) (h g : History) (k : ℕ) (m next : Mirror D)
+    → StandsFor ghosts old h → g.writes ≡ h.writes → new.images ≡ sets_of g.images → ((set : ℕ) → is_among set new.images ≡ true → 0 < set) → ghosts.told new.primary ≡ ghosts.told old.primary
+    → ghosts.size new.primary ≡ ghosts.size old.primary
     → slice_get old.mirrors k ≡ Some m → new.mirrors ≡ slice_set old.mirrors k next
-    → IsMirror (told_in (told old.primary) (told next.device)) (size old.primary) next.holds next.stale g
-    → ((j : ℕ) (n : Mirror D) → j ≢ k → slice_get old.mirrors j ≡ Some n → IsMirror (told_in (told old.primary) (told n.device)) (size old.primary) n.holds n.stale g)
-    → StandsFor told size new g
-one_changed {D = D} told size old new h g k m next stood writes sets above tells sized was mirrors changed others = record {
+    → IsMirror (told_in (ghosts.told old.primary) (ghosts.told next.device)) (ghosts.size old.primary) next.holds next.stale g
+    → ((j : ℕ) (n : Mirror D) → j ≢ k → slice_get old.mirrors j ≡ Some n → IsMirror (told_in (ghosts.told old.primary) (ghosts.told n.device)) (ghosts.size old.primary) n.holds n.stale g)
+    → StandsFor ghosts new g
+one_changed {D = D} ghosts old new h g k m next stood writes sets above tells sized was mirrors changed others = record {
   sets = sets;
   above_zero = above;
-  primary = subst (λ (t : Option (List (List ℕ))). IfSome t (λ blocks. blocks ≡ contents (size new.primary) g.writes (length g.writes))) (sym tells)
-      (subst (λ (n : ℕ). IfSome (told old.primary) (λ blocks. blocks ≡ contents n g.writes (length g.writes))) (sym sized)
-      (subst (λ (ws : List Write). IfSome (told old.primary) (λ blocks. blocks ≡ contents (size old.primary) ws (length ws))) (sym writes) stood.primary));
+  primary = subst (λ (t : Option (List (List ℕ))). IfSome t (λ blocks. blocks ≡ contents (ghosts.size new.primary) g.writes (length g.writes))) (sym tells)
+      (subst (λ (n : ℕ). IfSome (ghosts.told old.primary) (λ blocks. blocks ≡ contents n g.writes (length g.writes))) (sym sized)
+      (subst (λ (ws : List Write). IfSome (ghosts.told old.primary) (λ blocks. blocks ≡ contents (ghosts.size old.primary) ws (length ws))) (sym writes) stood.primary));
   mirrors = λ j n at. by_number j n (j == k) refl (ap (λ (ms : List (Mirror D)). slice_get ms j) (sym mirrors) ∙ at);
 } where
-  now : (n : Mirror D) → IsMirror (told_in (told old.primary) (told n.device)) (size old.primary) n.holds n.stale g → IsMirror (told_in (told new.primary) (told n.device)) (size new.primary) n.holds n.stale g
+  now : (n : Mirror D) → IsMirror (told_in (ghosts.told old.primary) (ghosts.told n.device)) (ghosts.size old.primary) n.holds n.stale g
+      → IsMirror (told_in (ghosts.told new.primary) (ghosts.told n.device)) (ghosts.size new.primary) n.holds n.stale g
   now n mirror =
-      subst (λ (t : Option (List (List ℕ))). IsMirror (told_in t (told n.device)) (size new.primary) n.holds n.stale g) (sym tells)
-      (subst (λ (s : ℕ). IsMirror (told_in (told old.primary) (told n.device)) s n.holds n.stale g) (sym sized) mirror)
+      subst (λ (t : Option (List (List ℕ))). IsMirror (told_in t (ghosts.told n.device)) (ghosts.size new.primary) n.holds n.stale g) (sym tells)
+      (subst (λ (s : ℕ). IsMirror (told_in (ghosts.told old.primary) (ghosts.told n.device)) s n.holds n.stale g) (sym sized) mirror)
 
-  by_number : (j : ℕ) (n : Mirror D) (t : Bool) → (j == k) ≡ t → slice_get (slice_set old.mirrors k next) j ≡ Some n → IsMirror (told_in (told new.primary) (told n.device)) (size new.primary) n.holds n.stale g
+  by_number : (j : ℕ) (n : Mirror D) (t : Bool) → (j == k) ≡ t → slice_get (slice_set old.mirrors k next) j ≡ Some n
+      → IsMirror (told_in (ghosts.told new.primary) (ghosts.told n.device)) (ghosts.size new.primary) n.holds n.stale g
   by_number j n true is at =
       let same = same_number j k is in
       let here : Some next ≡ Some n = sym (slice_get-set_same old.mirrors k m next was) ∙ ap (slice_get (slice_set old.mirrors k next)) (sym same) ∙ at in
-      subst (λ (x : Mirror D). IsMirror (told_in (told new.primary) (told x.device)) (size new.primary) x.holds x.stale g) (same_Some next n here) (now next changed)
+      subst (λ (x : Mirror D). IsMirror (told_in (ghosts.told new.primary) (ghosts.told x.device)) (ghosts.size new.primary) x.holds x.stale g) (same_Some next n here) (now next changed)
   by_number j n false is at =
       let other = other_number j k is in
       now n (others j n other (sym (slice_get-set_other old.mirrors k j next (λ e. other (sym e))) ∙ at))
@@ -269,21 +274,23 @@ ready_holds m ready = by_option m.holds (and_left (is_none m.holds) (stale_count
 ready_count_is : {D : Type 0} → (m : Mirror D) → is_ready m ≡ true → stale_count m.stale ≡ 0
 ready_count_is m ready = same_number (stale_count m.stale) 0 (and_right (is_none m.holds) (stale_count m.stale == 0) ready)
 
-pub cut_stands : {D : Type 0} → (told : D → Option (List (List ℕ))) (size : D → ℕ) (old new : MirrorValue D) (set : ℕ) (h : History)
-    → AreMirrors size (size old.primary) old.mirrors → is_among set old.images ≡ false → 0 < set → IsSplit old new set → StandsFor told size old h → StandsFor told size new (cut set h)
-cut_stands {D = D} told size old new set h are fresh_set above is stood =
-    one_changed told size old new h (cut set h) is.place is.split.mirror (record { device = is.split.mirror.device; holds = Some set; stale = is.split.mirror.stale })
+pub cut_stands : {D : Type 0} → (ghosts : Ghosts D) (old new : MirrorValue D) (set : ℕ) (h : History)
+    → AreMirrors ghosts.size (ghosts.size old.primary) old.mirrors → is_among set old.images ≡ false → 0 < set → IsSplit old new set → StandsFor ghosts old h → StandsFor ghosts new (cut set h)
+cut_stands {D = D} ghosts old new set h are fresh_set above is stood =
+    one_changed ghosts old new h (cut set h) is.place is.split.mirror (record { device = is.split.mirror.device; holds = Some set; stale = is.split.mirror.stale })
     stood refl (is.images ∙ ap (λ (s : List ℕ). s ++ set ∷ []) stood.sets ∙ sym (map-append (λ (i : Image). i.set) h.images (record { set = set; point = length h.writes } ∷ [])))
     (λ s among. above_more s (among_of_more s set old.images (ap (is_among s) (sym is.images) ∙ among)))
-    (ap told is.primary) (ap size is.primary) is.split.was is.mirrors
-    (split_off (told_in (told old.primary) (told is.split.mirror.device)) (size old.primary) set is.split.mirror.holds is.split.mirror.stale h
-    (ap (is_among set) (sym stood.sets) ∙ fresh_set) (are.stale is.place is.split.mirror is.split.was) (ready_count_is is.split.mirror is.split.ready) (stood.mirrors is.place is.split.mirror is.split.was))
-    (λ j n other at. cut_mirror (told_in (told old.primary) (told n.device)) (size old.primary) set n.holds n.stale h (stood.mirrors j n at)) where
+    (ap ghosts.told is.primary) (ap ghosts.size is.primary) is.split.was is.mirrors
+    (split_off (told_in (ghosts.told old.primary) (ghosts.told is.split.mirror.device)) (ghosts.size old.primary) set is.split.mirror.holds is.split.mirror.stale h
+    (ap (is_among set) (sym stood.sets) ∙ fresh_set) (are.stale is.place is.split.mirror is.split.was) (ready_count_is is.split.mirror is.split.ready)
+    (stood.mirrors is.place is.split.mirror is.split.was))
+    (λ j n other at. cut_mirror (told_in (ghosts.told old.primary) (ghosts.told n.device)) (ghosts.size old.primary) set n.holds n.stale h (stood.mirrors j n at)) where
       above_more : (s : ℕ) → (s ≡ set) ⊎ (is_among s old.images ≡ true) → 0 < s
       above_more s (inl same) = omega arith
       above_more s (inr among) = stood.above_zero s among
 
-drop_mirror : (known : Option (List (List ℕ))) (n set : ℕ) (holds : Option ℕ) (stale : List Bool) (h : History) → ((s : ℕ) → holds ≡ Some s → s ≢ set) → IsMirror known n holds stale h → IsMirror known n holds stale (dropped set h)
+drop_mirror : (known : Option (List (List ℕ))) (n set : ℕ) (holds : Option ℕ) (stale : List Bool) (h : History) → ((s : ℕ) → holds ≡ Some s → s ≢ set) → IsMirror known n holds stale h
+    → IsMirror known n holds stale (dropped set h)
 drop_mirror known n set holds stale h other mirror = record {
   in_step = mirror.in_step;
   split = λ s holding. let at = mirror.split s holding in record {
@@ -299,15 +306,15 @@ joined_mirror known n set holds stale h mirror = record { in_step = mirror.in_st
   none : (s : ℕ) → None ≡ Some s → ⊥
   none s e = cc
 
-pub dropped_stands : {D : Type 0} → (told : D → Option (List (List ℕ))) (size : D → ℕ) (old new : MirrorValue D) (set : ℕ) (h : History)
-    → AreHeld (holds_of old.mirrors) old.images → IsJoined old new set → StandsFor told size old h → StandsFor told size new (dropped set h)
-dropped_stands {D = D} told size old new set h held is stood =
-    one_changed told size old new h (dropped set h) is.place is.mirror (record { device = is.mirror.device; holds = None; stale = is.mirror.stale })
+pub dropped_stands : {D : Type 0} → (ghosts : Ghosts D) (old new : MirrorValue D) (set : ℕ) (h : History)
+    → AreHeld (holds_of old.mirrors) old.images → IsJoined old new set → StandsFor ghosts old h → StandsFor ghosts new (dropped set h)
+dropped_stands {D = D} ghosts old new set h held is stood =
+    one_changed ghosts old new h (dropped set h) is.place is.mirror (record { device = is.mirror.device; holds = None; stale = is.mirror.stale })
     stood refl (is.images ∙ ap (filter (λ s. not (s == set))) stood.sets ∙ sets_of-filter (λ s. not (s == set)) h.images)
     (λ s among. stood.above_zero s (among_was s set old.images (ap (is_among s) (sym is.images) ∙ among)).1)
-    (ap told is.primary) (ap size is.primary) is.was is.mirrors
-    (joined_mirror (told_in (told old.primary) (told is.mirror.device)) (size old.primary) set is.mirror.holds is.mirror.stale h (stood.mirrors is.place is.mirror is.was))
-    (λ j n other at. drop_mirror (told_in (told old.primary) (told n.device)) (size old.primary) set n.holds n.stale h (apart j n other at) (stood.mirrors j n at)) where
+    (ap ghosts.told is.primary) (ap ghosts.size is.primary) is.was is.mirrors
+    (joined_mirror (told_in (ghosts.told old.primary) (ghosts.told is.mirror.device)) (ghosts.size old.primary) set is.mirror.holds is.mirror.stale h (stood.mirrors is.place is.mirror is.was))
+    (λ j n other at. drop_mirror (told_in (ghosts.told old.primary) (ghosts.told n.device)) (ghosts.size old.primary) set n.holds n.stale h (apart j n other at) (stood.mirrors j n at)) where
       apart : (j : ℕ) (n : Mirror D) → j ≢ is.place → slice_get old.mirrors j ≡ Some n → (s : ℕ) → n.holds ≡ Some s → s ≢ set
       apart j n other at s holding same =
           let here = slice_get_map (λ (m : Mirror D). m.holds) old.mirrors j n at ∙ ap Some (holding ∙ ap Some same) in
@@ -335,7 +342,8 @@ got_block p d e n b bytes stale h primary read own whole low mirror = record {
   long None old are e = cc
   long (Some y) old are e = let same : y ≡ old = same_Some y old e in let number = are.number in subst (λ (bs : List (List ℕ)). b < length bs) same (omega arith)
 
-  is_content : (x : Option (List (List ℕ))) (ps : List (List ℕ)) → x ≡ Some ps → IfSome x (λ blocks. blocks ≡ contents n h.writes (length h.writes)) → IfSome x (λ blocks. slice_get blocks b ≡ Some bytes)
+  is_content : (x : Option (List (List ℕ))) (ps : List (List ℕ)) → x ≡ Some ps → IfSome x (λ blocks. blocks ≡ contents n h.writes (length h.writes))
+      → IfSome x (λ blocks. slice_get blocks b ≡ Some bytes)
       → Some bytes ≡ Some (content h.writes (length h.writes) b)
   is_content None ps e are at = cc
   is_content (Some y) ps e are at = sym at ∙ ap (λ (bs : List (List ℕ)). slice_get bs b) are ∙ contents_at n h.writes (length h.writes) b low
@@ -353,55 +361,62 @@ got_block p d e n b bytes stale h primary read own whole low mirror = record {
       ∙ mirror.in_step old c (tell_both p d ps old told tells) (sym (slice_get-set_other stale b c false other) ∙ step)
 
 -- a step of mirror k
-pub synced_stands : {D : Type 0} → (told : D → Option (List (List ℕ))) (size count : D → ℕ) (old new : MirrorValue D) (k : ℕ) (result : Result Synced SyncFault) (h : History)
-    → AreMirrors size (size old.primary) old.mirrors → IsSynced told size count old new k result → StandsFor told size old h → StandsFor told size new h
-synced_stands {D = D} told size count old new k result h are is stood = by_step result is.step where
-  was : IsMirror (told_in (told old.primary) (told is.before.device)) (size old.primary) is.before.holds is.before.stale h
+pub synced_stands : {D : Type 0} → (ghosts : Ghosts D) (old new : MirrorValue D) (k : ℕ) (result : Result Synced SyncFault) (h : History)
+    → AreMirrors ghosts.size (ghosts.size old.primary) old.mirrors → IsSynced ghosts old new k result → StandsFor ghosts old h → StandsFor ghosts new h
+synced_stands {D = D} ghosts old new k result h are is stood = by_step result is.step where
+  was : IsMirror (told_in (ghosts.told old.primary) (ghosts.told is.before.device)) (ghosts.size old.primary) is.before.holds is.before.stale h
   was = stood.mirrors k is.before is.was
 
-  changed : (tells : told new.primary ≡ told old.primary) → size new.primary ≡ size old.primary
-      → IsMirror (told_in (told old.primary) (told is.after.device)) (size old.primary) is.after.holds is.after.stale h → StandsFor told size new h
-  changed tells sized mirror = one_changed told size old new h h k is.before is.after stood refl (is.images ∙ stood.sets) (λ set among. stood.above_zero set (ap (is_among set) (sym is.images) ∙ among)) tells sized is.was is.mirrors mirror (λ j n other at. stood.mirrors j n at)
+  changed : (tells : ghosts.told new.primary ≡ ghosts.told old.primary) → ghosts.size new.primary ≡ ghosts.size old.primary
+      → IsMirror (told_in (ghosts.told old.primary) (ghosts.told is.after.device)) (ghosts.size old.primary) is.after.holds is.after.stale h → StandsFor ghosts new h
+  changed tells sized mirror = one_changed ghosts old new h h k is.before is.after stood refl (is.images ∙ stood.sets)
+      (λ set among. stood.above_zero set (ap (is_among set) (sym is.images) ∙ among)) tells sized is.was is.mirrors mirror (λ j n other at. stood.mirrors j n at)
 
-  same : (now_primary : D) → new.primary ≡ old.primary → is.after ≡ is.before → StandsFor told size new h
+  same : (now_primary : D) → new.primary ≡ old.primary → is.after ≡ is.before → StandsFor ghosts new h
   same now_primary primary mirror =
-      changed (ap told primary) (ap size primary) (subst (λ (m : Mirror D). IsMirror (told_in (told old.primary) (told m.device)) (size old.primary) m.holds m.stale h) (sym mirror) was)
+      changed (ap ghosts.told primary) (ap ghosts.size primary)
+      (subst (λ (m : Mirror D). IsMirror (told_in (ghosts.told old.primary) (ghosts.told m.device)) (ghosts.size old.primary) m.holds m.stale h) (sym mirror) was)
 
-  by_step : (r : Result Synced SyncFault) → IsStep told size count old.primary new.primary is.before is.after r → StandsFor told size new h
+  by_step : (r : Result Synced SyncFault) → IsStep ghosts old.primary new.primary is.before is.after r → StandsFor ghosts new h
   by_step (Ok (Copied b)) step =
-      let low : b < size old.primary = (let within = slice_get_within is.before.stale b true step.lowest.is_stale in let long = are.stale k is.before is.was in omega arith) in
-      let unsplit = same_mirror (told_in (told old.primary) (told is.before.device)) (told_in (told old.primary) (told is.before.device)) (size old.primary) is.before.holds None is.before.stale is.before.stale h refl step.holds_none refl was in
-      let whole = subst (λ (n : ℕ). IfSome (told is.before.device) (AreBlocks n)) (are.sizes k is.before is.was) step.copied.whole in
+      let low : b < ghosts.size old.primary = (let within = slice_get_within is.before.stale b true step.lowest.is_stale in let long = are.stale k is.before is.was in omega arith) in
+      let unsplit = same_mirror (told_in (ghosts.told old.primary) (ghosts.told is.before.device)) (told_in (ghosts.told old.primary) (ghosts.told is.before.device))
+      (ghosts.size old.primary) is.before.holds None is.before.stale is.before.stale h refl step.holds_none refl was in
+      let whole = subst (λ (n : ℕ). IfSome (ghosts.told is.before.device) (AreBlocks n)) (are.sizes k is.before is.was) step.copied.whole in
       changed step.copied.source.told_is step.copied.source.size_is
-      (same_mirror (told_in (told old.primary) (told is.after.device)) (told_in (told old.primary) (told is.after.device)) (size old.primary) None is.after.holds (slice_set is.before.stale b false) is.after.stale h
+      (same_mirror (told_in (ghosts.told old.primary) (ghosts.told is.after.device)) (told_in (ghosts.told old.primary) (ghosts.told is.after.device)) (ghosts.size old.primary) None is.after.holds
+      (slice_set is.before.stale b false) is.after.stale h
       refl (sym (step.holds ∙ step.holds_none)) (sym step.stale)
-      (got_block (told old.primary) (told is.before.device) (told is.after.device) (size old.primary) b step.copied.bytes is.before.stale h stood.primary step.copied.read step.copied.told_is whole low unsplit))
+      (got_block (ghosts.told old.primary) (ghosts.told is.before.device) (ghosts.told is.after.device)
+      (ghosts.size old.primary) b step.copied.bytes is.before.stale h stood.primary step.copied.read step.copied.told_is whole low unsplit))
   by_step (Ok InStep) step = same old.primary step.primary_is step.mirror_is
   by_step (Err (HoldsImage set)) step = same old.primary step.primary_is step.mirror_is
   by_step (Err DeviceFailed) step =
       changed step.uncopied.source.told_is step.uncopied.source.size_is
-      (same_mirror (told_in (told old.primary) (told is.before.device)) (told_in (told old.primary) (told is.after.device)) (size old.primary) is.before.holds is.after.holds is.before.stale is.after.stale h
-      (ap (λ (t : Option (List (List ℕ))). told_in (told old.primary) t) (sym step.uncopied.target.told_is)) (sym step.holds) (sym step.stale) was)
+      (same_mirror (told_in (ghosts.told old.primary) (ghosts.told is.before.device)) (told_in (ghosts.told old.primary) (ghosts.told is.after.device))
+      (ghosts.size old.primary) is.before.holds is.after.holds is.before.stale is.after.stale h
+      (ap (λ (t : Option (List (List ℕ))). told_in (ghosts.told old.primary) t) (sym step.uncopied.target.told_is)) (sym step.holds) (sym step.stale) was)
 
 -- ## calls that change nothing
 
-pub quiet_stands : {D : Type 0} → (told : D → Option (List (List ℕ))) (size count : D → ℕ) (old new : MirrorValue D) (h : History) → IsQuiet told size count old new → StandsFor told size old h → StandsFor told size new h
-quiet_stands {D = D} told size count old new h is stood = record {
+pub quiet_stands : {D : Type 0} → (ghosts : Ghosts D) (old new : MirrorValue D) (h : History) → IsQuiet ghosts old new → StandsFor ghosts old h → StandsFor ghosts new h
+quiet_stands {D = D} ghosts old new h is stood = record {
   sets = is.images ∙ stood.sets;
   above_zero = λ set among. stood.above_zero set (ap (is_among set) (sym is.images) ∙ among);
-  primary = subst (λ (t : Option (List (List ℕ))). IfSome t (λ blocks. blocks ≡ contents (size new.primary) h.writes (length h.writes))) (sym is.primary.told_is)
-      (subst (λ (n : ℕ). IfSome (told old.primary) (λ blocks. blocks ≡ contents n h.writes (length h.writes))) (sym is.primary.size_is) stood.primary);
+  primary = subst (λ (t : Option (List (List ℕ))). IfSome t (λ blocks. blocks ≡ contents (ghosts.size new.primary) h.writes (length h.writes))) (sym is.primary.told_is)
+      (subst (λ (n : ℕ). IfSome (ghosts.told old.primary) (λ blocks. blocks ≡ contents n h.writes (length h.writes))) (sym is.primary.size_is) stood.primary);
   mirrors = λ k m at.
-      subst (λ (t : Option (List (List ℕ))). IsMirror (told_in t (told m.device)) (size new.primary) m.holds m.stale h) (sym is.primary.told_is)
-      (subst (λ (n : ℕ). IsMirror (told_in (told old.primary) (told m.device)) n m.holds m.stale h) (sym is.primary.size_is)
+      subst (λ (t : Option (List (List ℕ))). IsMirror (told_in t (ghosts.told m.device)) (ghosts.size new.primary) m.holds m.stale h) (sym is.primary.told_is)
+      (subst (λ (n : ℕ). IsMirror (told_in (ghosts.told old.primary) (ghosts.told m.device)) n m.holds m.stale h) (sym is.primary.size_is)
       (stood.mirrors k m (ap (λ (ms : List (Mirror D)). slice_get ms k) (sym is.mirrors) ∙ at)));
 }
 
-pub quiet_on_stands : {D : Type 0} → (told : D → Option (List (List ℕ))) (size count : D → ℕ) (old new : MirrorValue D) (k : ℕ) (m : Mirror D) (h : History) → IsQuietOn told size count old new k m → StandsFor told size old h → StandsFor told size new h
-quiet_on_stands {D = D} told size count old new k m h is stood =
-    one_changed told size old new h h k m (record { device = is.after; holds = m.holds; stale = m.stale }) stood refl (is.images ∙ stood.sets) (λ set among. stood.above_zero set (ap (is_among set) (sym is.images) ∙ among)) (ap told is.primary) (ap size is.primary) is.was is.mirrors
-    (same_mirror (told_in (told old.primary) (told m.device)) (told_in (told old.primary) (told is.after)) (size old.primary) m.holds m.holds m.stale m.stale h
-    (ap (λ (t : Option (List (List ℕ))). told_in (told old.primary) t) (sym is.device.told_is)) refl refl (stood.mirrors k m is.was))
+pub quiet_on_stands : {D : Type 0} → (ghosts : Ghosts D) (old new : MirrorValue D) (k : ℕ) (m : Mirror D) (h : History) → IsQuietOn ghosts old new k m → StandsFor ghosts old h → StandsFor ghosts new h
+quiet_on_stands {D = D} ghosts old new k m h is stood =
+    one_changed ghosts old new h h k m (record { device = is.after; holds = m.holds; stale = m.stale }) stood refl (is.images ∙ stood.sets)
+    (λ set among. stood.above_zero set (ap (is_among set) (sym is.images) ∙ among)) (ap ghosts.told is.primary) (ap ghosts.size is.primary) is.was is.mirrors
+    (same_mirror (told_in (ghosts.told old.primary) (ghosts.told m.device)) (told_in (ghosts.told old.primary) (ghosts.told is.after)) (ghosts.size old.primary) m.holds m.holds m.stale m.stale h
+    (ap (λ (t : Option (List (List ℕ))). told_in (ghosts.told old.primary) t) (sym is.device.told_is)) refl refl (stood.mirrors k m is.was))
     (λ j n other at. stood.mirrors j n at)
 
 -- ## a new volume
@@ -436,25 +451,26 @@ All-at P [] k x all at = cc
 All-at P (y ∷ xs) zero x all at = subst P (same_Some y x at) (All-head P y xs all)
 All-at P (y ∷ xs) (suc k) x all at = All-at P xs k x (All-tail P y xs all) at
 
-pub fresh_stands : {D : Type 0} → (told : D → Option (List (List ℕ))) (size : D → ℕ) (primary : D) (devices : List D) → All (λ d. size d ≡ size primary) devices
-    → IfSome (told primary) (λ blocks. blocks ≡ replicate (size primary) zeros) → All (λ d. IfSome (told d) (λ blocks. blocks ≡ replicate (size d) zeros)) devices
-    → StandsFor told size (record { primary = primary; mirrors = map (mirror_over false (size primary)) devices; images = [] }) fresh
-fresh_stands {D = D} told size primary devices sized primary_zeros mirror_zeros = record {
+pub fresh_stands : {D : Type 0} → (ghosts : Ghosts D) (primary : D) (devices : List D) → All (λ d. ghosts.size d ≡ ghosts.size primary) devices
+    → IfSome (ghosts.told primary) (λ blocks. blocks ≡ replicate (ghosts.size primary) zeros) → All (λ d. IfSome (ghosts.told d) (λ blocks. blocks ≡ replicate (ghosts.size d) zeros)) devices
+    → StandsFor ghosts (record { primary = primary; mirrors = map (mirror_over false (ghosts.size primary)) devices; images = [] }) fresh
+fresh_stands {D = D} ghosts primary devices sized primary_zeros mirror_zeros = record {
   sets = refl;
   above_zero = λ set among. absurd (never among);
-  primary = fresh_told (told primary) (size primary) primary_zeros;
+  primary = fresh_told (ghosts.told primary) (ghosts.size primary) primary_zeros;
   mirrors = λ k m at. mirror_at k m at;
 } where
   never : false ≡ true → ⊥
   never e = cc
 
-  mirror_at : (k : ℕ) (m : Mirror D) → slice_get (map (mirror_over false (size primary)) devices) k ≡ Some m → IsMirror (told_in (told primary) (told m.device)) (size primary) m.holds m.stale fresh
+  mirror_at : (k : ℕ) (m : Mirror D) → slice_get (map (mirror_over false (ghosts.size primary)) devices) k ≡ Some m
+      → IsMirror (told_in (ghosts.told primary) (ghosts.told m.device)) (ghosts.size primary) m.holds m.stale fresh
   mirror_at k m at =
-      let was = was_row (mirror_over false (size primary)) devices k m at in
-      let is_size = All-at (λ (d : D). size d ≡ size primary) devices k was.0 sized was.1 in
-      let are_zeros = All-at (λ (d : D). IfSome (told d) (λ blocks. blocks ≡ replicate (size d) zeros)) devices k was.0 mirror_zeros was.1 in
-      subst (λ (x : Mirror D). IsMirror (told_in (told primary) (told x.device)) (size primary) x.holds x.stale fresh) was.2
-      (fresh_mirror (told primary) (told was.0) (size primary) (subst (λ (n : ℕ). IfSome (told was.0) (λ blocks. blocks ≡ replicate n zeros)) is_size are_zeros))
+      let was = was_row (mirror_over false (ghosts.size primary)) devices k m at in
+      let is_size = All-at (λ (d : D). ghosts.size d ≡ ghosts.size primary) devices k was.0 sized was.1 in
+      let are_zeros = All-at (λ (d : D). IfSome (ghosts.told d) (λ blocks. blocks ≡ replicate (ghosts.size d) zeros)) devices k was.0 mirror_zeros was.1 in
+      subst (λ (x : Mirror D). IsMirror (told_in (ghosts.told primary) (ghosts.told x.device)) (ghosts.size primary) x.holds x.stale fresh) was.2
+      (fresh_mirror (ghosts.told primary) (ghosts.told was.0) (ghosts.size primary) (subst (λ (n : ℕ). IfSome (ghosts.told was.0) (λ blocks. blocks ≡ replicate n zeros)) is_size are_zeros))
 
 -- ## a volume taken up again
 
@@ -472,28 +488,31 @@ stale_mirror known n h = record {
   none set e = cc
 
 -- it stands for each history without images whose content its primary has
-pub resumed_stands : {D : Type 0} → (told : D → Option (List (List ℕ))) (size : D → ℕ) (primary : D) (devices : List D) (h : History) → h.images ≡ []
-    → IfSome (told primary) (λ blocks. blocks ≡ contents (size primary) h.writes (length h.writes))
-    → StandsFor told size (record { primary = primary; mirrors = map (mirror_over true (size primary)) devices; images = [] }) h
-resumed_stands {D = D} told size primary devices h none primary_is = record {
+pub resumed_stands : {D : Type 0} → (ghosts : Ghosts D) (primary : D) (devices : List D) (h : History) → h.images ≡ []
+    → IfSome (ghosts.told primary) (λ blocks. blocks ≡ contents (ghosts.size primary) h.writes (length h.writes))
+    → StandsFor ghosts (record { primary = primary; mirrors = map (mirror_over true (ghosts.size primary)) devices; images = [] }) h
+resumed_stands {D = D} ghosts primary devices h none primary_is = record {
   sets = sym (ap sets_of none);
   above_zero = λ set among. absurd (never among);
   primary = primary_is;
-  mirrors = λ k m at. let was = was_row (mirror_over true (size primary)) devices k m at in
-      subst (λ (x : Mirror D). IsMirror (told_in (told primary) (told x.device)) (size primary) x.holds x.stale h) was.2 (stale_mirror (told_in (told primary) (told was.0)) (size primary) h);
+  mirrors = λ k m at. let was = was_row (mirror_over true (ghosts.size primary)) devices k m at in
+      subst (λ (x : Mirror D). IsMirror (told_in (ghosts.told primary) (ghosts.told x.device)) (ghosts.size primary) x.holds x.stale h) was.2
+      (stale_mirror (told_in (ghosts.told primary) (ghosts.told was.0)) (ghosts.size primary) h);
 } where
   never : false ≡ true → ⊥
   never e = cc
 
 -- ## what is read
 
-pub now_bytes : (p : Option (List (List ℕ))) (n b : ℕ) (bytes : List ℕ) (h : History) → IfSome p (λ blocks. blocks ≡ contents n h.writes (length h.writes)) → IfSome p (λ blocks. slice_get blocks b ≡ Some bytes) → b < n → is_some p ≡ true
+pub now_bytes : (p : Option (List (List ℕ))) (n b : ℕ) (bytes : List ℕ) (h : History) → IfSome p (λ blocks. blocks ≡ contents n h.writes (length h.writes))
+    → IfSome p (λ blocks. slice_get blocks b ≡ Some bytes) → b < n → is_some p ≡ true
     → bytes ≡ content h.writes (length h.writes) b
 now_bytes None n b bytes h are at low tells = cc
 now_bytes (Some blocks) n b bytes h are at low tells =
     same_Some bytes (content h.writes (length h.writes) b) (sym at ∙ ap (λ (bs : List (List ℕ)). slice_get bs b) are ∙ contents_at n h.writes (length h.writes) b low)
 
-pub shown_bytes : (p d : Option (List (List ℕ))) (n b set point : ℕ) (bytes : List ℕ) (holds : Option ℕ) (stale : List Bool) (h : History) → IsMirror (told_in p d) n holds stale h → holds ≡ Some set → point_in set h.images ≡ Some point
+pub shown_bytes : (p d : Option (List (List ℕ))) (n b set point : ℕ) (bytes : List ℕ) (holds : Option ℕ) (stale : List Bool) (h : History) → IsMirror (told_in p d) n holds stale h → holds ≡ Some set
+    → point_in set h.images ≡ Some point
     → IfSome d (λ blocks. slice_get blocks b ≡ Some bytes) → b < n → is_some p ≡ true → is_some d ≡ true → bytes ≡ content h.writes point b
 shown_bytes None d n b set point bytes holds stale h mirror held at read low tells own = cc
 shown_bytes (Some ps) None n b set point bytes holds stale h mirror held at read low tells own = cc
@@ -503,12 +522,14 @@ shown_bytes (Some ps) (Some blocks) n b set point bytes holds stale h mirror hel
     same_Some bytes (content h.writes point b) (sym read ∙ split.shows blocks b refl low ∙ ap (λ (k : ℕ). Some (content h.writes k b)) same)
 
 -- a block that is not stale is the primary's
-pub equals_primary : {D : Type 0} → (told : D → Option (List (List ℕ))) (size : D → ℕ) (v : MirrorValue D) (k : ℕ) (h : History) → AreMirrors size (size v.primary) v.mirrors → StandsFor told size v h → EqualsPrimary told v k
-equals_primary {D = D} told size v k h are stood = λ m blocks own b at tells also step.
-    let low : b < size v.primary = (let within = slice_get_within m.stale b false step in let long = are.stale k m at in omega arith) in
+pub equals_primary : {D : Type 0} → (ghosts : Ghosts D) (v : MirrorValue D) (k : ℕ) (h : History) → AreMirrors ghosts.size (ghosts.size v.primary) v.mirrors → StandsFor ghosts v h
+    → EqualsPrimary ghosts.told v k
+equals_primary {D = D} ghosts v k h are stood = λ m blocks own b at tells also step.
+    let low : b < ghosts.size v.primary = (let within = slice_get_within m.stale b false step in let long = are.stale k m at in omega arith) in
     let mirror = stood.mirrors k m at in
-    mirror.in_step own b (tell_both (told v.primary) (told m.device) blocks own tells also) step
-    ∙ sym (primary_at (told v.primary) blocks b tells stood.primary low) where
-      primary_at : (x : Option (List (List ℕ))) (blocks : List (List ℕ)) (b : ℕ) → x ≡ Some blocks → IfSome x (λ bs. bs ≡ contents (size v.primary) h.writes (length h.writes)) → b < size v.primary → slice_get blocks b ≡ Some (content h.writes (length h.writes) b)
+    mirror.in_step own b (tell_both (ghosts.told v.primary) (ghosts.told m.device) blocks own tells also) step
+    ∙ sym (primary_at (ghosts.told v.primary) blocks b tells stood.primary low) where
+      primary_at : (x : Option (List (List ℕ))) (blocks : List (List ℕ)) (b : ℕ) → x ≡ Some blocks → IfSome x (λ bs. bs ≡ contents (ghosts.size v.primary) h.writes (length h.writes))
+          → b < ghosts.size v.primary → slice_get blocks b ≡ Some (content h.writes (length h.writes) b)
       primary_at None blocks b e are low = cc
-      primary_at (Some y) blocks b e are low = ap (λ (bs : List (List ℕ)). slice_get bs b) (sym (same_Some y blocks e) ∙ are) ∙ contents_at (size v.primary) h.writes (length h.writes) b low
+      primary_at (Some y) blocks b e are low = ap (λ (bs : List (List ℕ)). slice_get bs b) (sym (same_Some y blocks e) ∙ are) ∙ contents_at (ghosts.size v.primary) h.writes (length h.writes) b low

@@ -1,8 +1,9 @@
 -- A mirror that is brought into step, block after block.
-use Rattle.std.proofs.Common.{◌≡◌, ℕ, zero, suc, ◌+◌, List, [], ◌∷◌, ap, sym, refl, subst, ◌∙◌, arith, Bool, true, false, Option, Some, None}
+use Rattle.std.proofs.Common.{◌≡◌, ℕ, zero, suc, ◌+◌, List, [], ◌∷◌, ap, sym, refl, subst, ◌∙◌, arith, Bool, true, false, Some, None}
 use Rattle.std.specs.Prelude.{slice_get, slice_set, sum, map, ◌==◌, if◌then◌else◌, Result, Ok, Err}
 use Rattle.std.proofs.lemmas.Option.{same_Some}
 use Rattle.std.proofs.lemmas.List.Sums.{sum_by-cons}
+use Rattle.volume_device.specs.declared.device.Device.{Ghosts}
 use Rattle.cow_volume.proofs.Group.{slice_get-set_same, slice_get-set_other, same_number, other_number}
 use Rattle.cow_volume.specs.declared.image_fault.ImageFault.TheVariants.{NoSuchImage, NoSuchBlock, Volume as VolumeFailed, Area as AreaFailed}
 use Rattle.mirror_volume.specs.declared.mirror.Mirror.{Mirror}
@@ -16,20 +17,20 @@ use Rattle.mirror_volume.specs.Mirrors.{MirrorValue}
 use Rattle.mirror_volume.specs.Resync.{IsStep, IsSynced, Call, IsCall, AreCalls, Step, Read, ImageRead, Cut, Drop, Flush, MirrorFlush, copied_by, copied_on, stale_in, stale_at}
 use Rattle.mirror_volume.proofs.Counts.{count-unmarked}
 
-step_fewer : {D : Type 0} → (told : D → Option (List (List ℕ))) (size count : D → ℕ) (primary now : D) (old new : Mirror D) (result : Result Synced SyncFault)
-    → IsStep told size count primary now old new result
+step_fewer : {D : Type 0} → (ghosts : Ghosts D) (primary now : D) (old new : Mirror D) (result : Result Synced SyncFault)
+    → IsStep ghosts primary now old new result
     → stale_count new.stale + copied_by result ≡ stale_count old.stale
-step_fewer told size count primary now old new (Ok (Copied b)) step = let fewer = count-unmarked old.stale b step.lowest.is_stale in let same = ap stale_count step.stale in omega arith
-step_fewer told size count primary now old new (Ok InStep) step = let same = ap (λ (m : Mirror _). stale_count m.stale) step.mirror_is in omega arith
-step_fewer told size count primary now old new (Err (HoldsImage set)) step = let same = ap (λ (m : Mirror _). stale_count m.stale) step.mirror_is in omega arith
-step_fewer told size count primary now old new (Err Volume) step = let same = ap stale_count step.stale in omega arith
+step_fewer ghosts primary now old new (Ok (Copied b)) step = let fewer = count-unmarked old.stale b step.lowest.is_stale in let same = ap stale_count step.stale in omega arith
+step_fewer ghosts primary now old new (Ok InStep) step = let same = ap (λ (m : Mirror _). stale_count m.stale) step.mirror_is in omega arith
+step_fewer ghosts primary now old new (Err (HoldsImage set)) step = let same = ap (λ (m : Mirror _). stale_count m.stale) step.mirror_is in omega arith
+step_fewer ghosts primary now old new (Err Volume) step = let same = ap stale_count step.stale in omega arith
 
-one_fewer : {D : Type 0} → (told : D → Option (List (List ℕ))) (size count : D → ℕ) (old new : MirrorValue D) (k : ℕ) (result : Result Synced SyncFault) → IsSynced told size count old new k result
+one_fewer : {D : Type 0} → (ghosts : Ghosts D) (old new : MirrorValue D) (k : ℕ) (result : Result Synced SyncFault) → IsSynced ghosts old new k result
     → stale_at new k + copied_by result ≡ stale_at old k
-one_fewer told size count old new k result is =
+one_fewer ghosts old new k result is =
     let before = ap stale_in is.was in
     let after = ap stale_in (ap (λ (ms : List (Mirror _)). slice_get ms k) is.mirrors ∙ slice_get-set_same old.mirrors k is.before is.after is.was) in
-    let step = step_fewer told size count old.primary new.primary is.before is.after result is.step in
+    let step = step_fewer ghosts old.primary new.primary is.before is.after result is.step in
     omega arith
 
 -- ## calls between
@@ -42,7 +43,7 @@ as_stale (x ∷ ms) zero (suc k) m n at same = refl
 as_stale (x ∷ ms) (suc j) zero m n at same = refl
 as_stale (x ∷ ms) (suc j) (suc k) m n at same = as_stale ms j k m n at same
 
-module _ {D : Type 0} (told lasting : D → Option (List (List ℕ))) (size count : D → ℕ) (k : ℕ) where
+module _ {D : Type 0} (ghosts : Ghosts D) (k : ℕ) where
   -- by the mirrors of the two states
   by_mirrors : (old new : MirrorValue D) (ms : List (Mirror D)) → new.mirrors ≡ ms → stale_in (slice_get ms k) ≡ stale_at old k → stale_at new k + 0 ≡ stale_at old k
   by_mirrors old new ms is same = let now = ap (λ (xs : List (Mirror D)). stale_in (slice_get xs k)) is in omega arith
@@ -53,16 +54,16 @@ module _ {D : Type 0} (told lasting : D → Option (List (List ℕ))) (size coun
   nothing : (old new : MirrorValue D) → new ≡ old → stale_at new k + 0 ≡ stale_at old k
   nothing old new same = unchanged old new (ap (λ (v : MirrorValue D). v.mirrors) same)
 
-  quiet_on : (old new : MirrorValue D) (j : ℕ) (m : Mirror D) → IsQuietOn told size count old new j m → stale_at new k + 0 ≡ stale_at old k
+  quiet_on : (old new : MirrorValue D) (j : ℕ) (m : Mirror D) → IsQuietOn ghosts old new j m → stale_at new k + 0 ≡ stale_at old k
   quiet_on old new j m is =
       let now : Mirror D = record { device = is.after; holds = m.holds; stale = m.stale } in
       by_mirrors old new (slice_set old.mirrors j now) is.mirrors (as_stale old.mirrors j k m now is.was refl)
 
   -- a call leaves fewer stale blocks by those that it copied
-  call_fewer : (old new : MirrorValue D) (call : Call) → IsCall told lasting size count old call new → stale_at new k + copied_on k call ≡ stale_at old k
+  call_fewer : (old new : MirrorValue D) (call : Call) → IsCall ghosts old call new → stale_at new k + copied_on k call ≡ stale_at old k
   call_fewer old new (Step j answer) is = by_test (j == k) refl where
     by_test : (t : Bool) → (j == k) ≡ t → stale_at new k + (if t then copied_by answer else 0) ≡ stale_at old k
-    by_test true e = let P : ℕ → Type 0 = λ i. stale_at new i + copied_by answer ≡ stale_at old i in subst P (same_number j k e) (one_fewer told size count old new j answer is)
+    by_test true e = let P : ℕ → Type 0 = λ i. stale_at new i + copied_by answer ≡ stale_at old i in subst P (same_number j k e) (one_fewer ghosts old new j answer is)
     by_test false e = by_mirrors old new (slice_set old.mirrors j is.after) is.mirrors (ap stale_in (slice_get-set_other old.mirrors j k is.after (other_number j k e)))
   call_fewer old new (Read b bytes (Ok done)) is = unchanged old new is.2.mirrors
   call_fewer old new (Read b bytes (Err cause)) is = unchanged old new is.1.mirrors
@@ -82,7 +83,7 @@ module _ {D : Type 0} (told lasting : D → Option (List (List ℕ))) (size coun
   call_fewer old new Flush is = unchanged old new is.mirrors
   call_fewer old new (MirrorFlush j result) is = quiet_on old new j is.mirror is.quiet
 
-  calls_fewer : (old new : MirrorValue D) (calls : List Call) → AreCalls told lasting size count old calls new → stale_at new k + sum (map (copied_on k) calls) ≡ stale_at old k
+  calls_fewer : (old new : MirrorValue D) (calls : List Call) → AreCalls ghosts old calls new → stale_at new k + sum (map (copied_on k) calls) ≡ stale_at old k
   calls_fewer old new [] are = let same = ap (λ (v : MirrorValue D). stale_at v k) are in omega arith
   calls_fewer old new (call ∷ calls) are =
       let first = call_fewer old are.0 call are.1 in
@@ -91,5 +92,5 @@ module _ {D : Type 0} (told lasting : D → Option (List (List ℕ))) (size coun
       omega arith
 
   -- after as many copied blocks as were stale, none is
-  pub calls_in_step : (old new : MirrorValue D) (calls : List Call) → AreCalls told lasting size count old calls new → sum (map (copied_on k) calls) ≡ stale_at old k → stale_at new k ≡ 0
+  pub calls_in_step : (old new : MirrorValue D) (calls : List Call) → AreCalls ghosts old calls new → sum (map (copied_on k) calls) ≡ stale_at old k → stale_at new k ≡ 0
   calls_in_step old new calls are all = let fewer = calls_fewer old new calls are in omega arith

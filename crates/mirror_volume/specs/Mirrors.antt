@@ -5,6 +5,7 @@ use Rattle.std.specs.Prelude.{ℕ, ◌≡◌, ◌<◌, ◌≤◌, ◌==◌, ◌&
 use Rattle.std.specs.List.{list_all}
 use Rattle.std.specs.declared.alloc.Global.{Global}
 use Rattle.vss_names.specs.Faults.{all_counted}
+use Rattle.volume_device.specs.declared.device.Device.{Ghosts}
 use Rattle.write_history.specs.History.{History, content, contents, point_in, sets_of}
 use Rattle.cow_volume.specs.Calls.{is_among}
 use Rattle.cow_volume.specs.StandsFor.{told_in}
@@ -32,9 +33,12 @@ is_ready m = is_none m.holds && (stale_count m.stale == 0)
 abbrev pub ready_count : {D : Type 0} → MirrorValue D → ℕ
 ready_count v = count_by is_ready v.mirrors
 
--- the counts of the devices together
+-- the counts of the devices together, from one
+abbrev pub counts_from : {D : Type 0} → (D → ℕ) → ℕ → List (Mirror D) → ℕ
+counts_from count own mirrors = all_counted own (map (λ m. count m.device) mirrors)
+
 abbrev pub faults_of : {D : Type 0} → (D → ℕ) → MirrorValue D → ℕ
-faults_of count v = all_counted (count v.primary) (map (λ m. count m.device) v.mirrors)
+faults_of count v = counts_from count (count v.primary) v.mirrors
 
 -- all devices tell their blocks
 abbrev pub tells : {D : Type 0} → (D → Option (List (List ℕ))) → MirrorValue D → Bool
@@ -82,11 +86,11 @@ pub record IsMirror (known : Option (List (List ℕ))) (n : ℕ) (holds : Option
   pub in_step : (blocks : List (List ℕ)) (b : ℕ) → known ≡ Some blocks → IsInStep stale b → slice_get blocks b ≡ Some (content h.writes (length h.writes) b)
   pub split : (set : ℕ) → holds ≡ Some set → IsSplitAt known n set h
 
-pub record StandsFor {D : Type 0} (told : D → Option (List (List ℕ))) (size : D → ℕ) (v : MirrorValue D) (h : History) : Type 0 where
+pub record StandsFor {D : Type 0} (ghosts : Ghosts D) (v : MirrorValue D) (h : History) : Type 0 where
   pub sets : v.images ≡ sets_of h.images
   pub above_zero : (set : ℕ) → is_among set v.images ≡ true → 0 < set
-  pub primary : IfSome (told v.primary) (λ blocks. blocks ≡ contents (size v.primary) h.writes (length h.writes))
-  pub mirrors : (k : ℕ) (m : Mirror D) → slice_get v.mirrors k ≡ Some m → IsMirror (told_in (told v.primary) (told m.device)) (size v.primary) m.holds m.stale h
+  pub primary : IfSome (ghosts.told v.primary) (λ blocks. blocks ≡ contents (ghosts.size v.primary) h.writes (length h.writes))
+  pub mirrors : (k : ℕ) (m : Mirror D) → slice_get v.mirrors k ≡ Some m → IsMirror (told_in (ghosts.told v.primary) (ghosts.told m.device)) (ghosts.size v.primary) m.holds m.stale h
 
 -- each block of a mirror that is not stale is the primary's, where both tell
 abbrev pub EqualsPrimary : {D : Type 0} → (D → Option (List (List ℕ))) → MirrorValue D → ℕ → Type 0

@@ -3,6 +3,7 @@ use Rattle.std.specs.Prelude.{ℕ, ◌≡◌, ◌<◌, ◌⊎◌, ◌==◌, if�
 use Rattle.vss_names.specs.Faults.{Rose}
 use Rattle.vss_names.specs.declared.failed.Failed.{Failed}
 use Rattle.volume_device.specs.Blocks.{AreBlocks}
+use Rattle.volume_device.specs.declared.device.Device.{Ghosts}
 use Rattle.cow_volume.specs.declared.cause.Cause.{Cause}
 use Rattle.cow_volume.specs.declared.image_fault.ImageFault.{ImageFault}
 use Rattle.mirror_volume.specs.declared.mirror.Mirror.{Mirror}
@@ -18,33 +19,33 @@ use Rattle.mirror_volume.specs.MirrorCalls.{IsQuietDevice, IsRead, IsImageRead, 
 -- ## one block
 
 -- block b of one device was copied to the other
-pub record IsBlockCopied {D : Type 0} (told : D → Option (List (List ℕ))) (size count : D → ℕ) (from now_from to now_to : D) (b : ℕ) : Type 0 where
+pub record IsBlockCopied {D : Type 0} (ghosts : Ghosts D) (from now_from to now_to : D) (b : ℕ) : Type 0 where
   pub bytes : List ℕ
-  pub source : IsQuietDevice told size count from now_from
-  pub read : IfSome (told from) (λ blocks. slice_get blocks b ≡ Some bytes)
-  pub whole : IfSome (told to) (AreBlocks (size to))
-  pub told_is : told now_to ≡ option_map (λ blocks. slice_set blocks b bytes) (told to)
-  pub size_is : size now_to ≡ size to
-  pub unfailed_source : count now_from ≡ count from
-  pub unfailed : count now_to ≡ count to
+  pub source : IsQuietDevice ghosts from now_from
+  pub read : IfSome (ghosts.told from) (λ blocks. slice_get blocks b ≡ Some bytes)
+  pub whole : IfSome (ghosts.told to) (AreBlocks (ghosts.size to))
+  pub told_is : ghosts.told now_to ≡ option_map (λ blocks. slice_set blocks b bytes) (ghosts.told to)
+  pub size_is : ghosts.size now_to ≡ ghosts.size to
+  pub unfailed_source : ghosts.count now_from ≡ ghosts.count from
+  pub unfailed : ghosts.count now_to ≡ ghosts.count to
 
 -- one of the two devices failed, and both are as they were
-pub record IsNotCopied {D : Type 0} (told : D → Option (List (List ℕ))) (size count : D → ℕ) (from now_from to now_to : D) : Type 0 where
-  pub source : IsQuietDevice told size count from now_from
-  pub target : IsQuietDevice told size count to now_to
-  pub rose : Rose (count from) (count now_from) ⊎ Rose (count to) (count now_to)
+pub record IsNotCopied {D : Type 0} (ghosts : Ghosts D) (from now_from to now_to : D) : Type 0 where
+  pub source : IsQuietDevice ghosts from now_from
+  pub target : IsQuietDevice ghosts to now_to
+  pub rose : Rose (ghosts.count from) (ghosts.count now_from) ⊎ Rose (ghosts.count to) (ghosts.count now_to)
 
-abbrev pub IsCopyOr : {D E : Type 0} → (D → Option (List (List ℕ))) → (D → ℕ) → (D → ℕ) → D → D → D → D → ℕ → Result Unit E → Type 0
-IsCopyOr told size count from now_from to now_to b (Ok done) = IsBlockCopied told size count from now_from to now_to b
-IsCopyOr told size count from now_from to now_to b (Err failed) = IsNotCopied told size count from now_from to now_to
+abbrev pub IsCopyOr : {D E : Type 0} → Ghosts D → D → D → D → D → ℕ → Result Unit E → Type 0
+IsCopyOr ghosts from now_from to now_to b (Ok done) = IsBlockCopied ghosts from now_from to now_to b
+IsCopyOr ghosts from now_from to now_to b (Err failed) = IsNotCopied ghosts from now_from to now_to
 
 -- ## one step
 
 -- the lowest stale block was copied, and is stale no longer
-pub record IsCopied {D : Type 0} (told : D → Option (List (List ℕ))) (size count : D → ℕ) (primary now_primary : D) (old new : Mirror D) (b : ℕ) : Type 0 where
+pub record IsCopied {D : Type 0} (ghosts : Ghosts D) (primary now_primary : D) (old new : Mirror D) (b : ℕ) : Type 0 where
   pub holds_none : old.holds ≡ None
   pub lowest : IsLowestStale old.stale b
-  pub copied : IsBlockCopied told size count primary now_primary old.device new.device b
+  pub copied : IsBlockCopied ghosts primary now_primary old.device new.device b
   pub stale : new.stale ≡ slice_set old.stale b false
   pub holds : new.holds ≡ old.holds
 
@@ -62,27 +63,27 @@ pub record IsHolding {D : Type 0} (primary now_primary : D) (old new : Mirror D)
   pub mirror_is : new ≡ old
 
 -- a device failed, and the block that was to be copied is stale still
-pub record IsFailed {D : Type 0} (told : D → Option (List (List ℕ))) (size count : D → ℕ) (primary now_primary : D) (old new : Mirror D) : Type 0 where
+pub record IsFailed {D : Type 0} (ghosts : Ghosts D) (primary now_primary : D) (old new : Mirror D) : Type 0 where
   pub holds_none : old.holds ≡ None
   pub some : 0 < stale_count old.stale
-  pub uncopied : IsNotCopied told size count primary now_primary old.device new.device
+  pub uncopied : IsNotCopied ghosts primary now_primary old.device new.device
   pub stale : new.stale ≡ old.stale
   pub holds : new.holds ≡ old.holds
 
-abbrev pub IsStep : {D : Type 0} → (D → Option (List (List ℕ))) → (D → ℕ) → (D → ℕ) → D → D → Mirror D → Mirror D → Result Synced SyncFault → Type 0
-IsStep told size count primary now_primary old new (Ok (Copied b)) = IsCopied told size count primary now_primary old new b
-IsStep told size count primary now_primary old new (Ok InStep) = IsInStepAlready primary now_primary old new
-IsStep told size count primary now_primary old new (Err (HoldsImage set)) = IsHolding primary now_primary old new set
-IsStep told size count primary now_primary old new (Err Volume) = IsFailed told size count primary now_primary old new
+abbrev pub IsStep : {D : Type 0} → Ghosts D → D → D → Mirror D → Mirror D → Result Synced SyncFault → Type 0
+IsStep ghosts primary now_primary old new (Ok (Copied b)) = IsCopied ghosts primary now_primary old new b
+IsStep ghosts primary now_primary old new (Ok InStep) = IsInStepAlready primary now_primary old new
+IsStep ghosts primary now_primary old new (Err (HoldsImage set)) = IsHolding primary now_primary old new set
+IsStep ghosts primary now_primary old new (Err Volume) = IsFailed ghosts primary now_primary old new
 
 -- the step was made on mirror k, and no other changed
-pub record IsSynced {D : Type 0} (told : D → Option (List (List ℕ))) (size count : D → ℕ) (old new : MirrorValue D) (k : ℕ) (result : Result Synced SyncFault) : Type 0 where
+pub record IsSynced {D : Type 0} (ghosts : Ghosts D) (old new : MirrorValue D) (k : ℕ) (result : Result Synced SyncFault) : Type 0 where
   pub before : Mirror D
   pub after : Mirror D
   pub was : slice_get old.mirrors k ≡ Some before
   pub mirrors : new.mirrors ≡ slice_set old.mirrors k after
   pub images : new.images ≡ old.images
-  pub step : IsStep told size count old.primary new.primary before after result
+  pub step : IsStep ghosts old.primary new.primary before after result
 
 -- ## all steps
 
@@ -117,19 +118,19 @@ pub data Call : Type 0 where
   -- a flush of a mirror
   MirrorFlush : ℕ → Result Unit Failed → Call
 
-abbrev pub IsCall : {D : Type 0} → (D → Option (List (List ℕ))) → (D → Option (List (List ℕ))) → (D → ℕ) → (D → ℕ) → MirrorValue D → Call → MirrorValue D → Type 0
-IsCall told lasting size count old (Step k answer) new = IsSynced told size count old new k answer
-IsCall told lasting size count old (Read b bytes result) new = IsRead told size count old new b bytes result
-IsCall told lasting size count old (ImageRead set b bytes result) new = IsImageRead told size count old new set b bytes result
-IsCall told lasting size count old (Cut set result) new = IsCut old new set result
-IsCall told lasting size count old (Drop set result) new = IsDropped old new set result
-IsCall told lasting size count old Flush new = IsQuiet told size count old new
-IsCall told lasting size count old (MirrorFlush k result) new = IsMirrorFlush told lasting size count old new k result
+abbrev pub IsCall : {D : Type 0} → Ghosts D → MirrorValue D → Call → MirrorValue D → Type 0
+IsCall ghosts old (Step k answer) new = IsSynced ghosts old new k answer
+IsCall ghosts old (Read b bytes result) new = IsRead ghosts old new b bytes result
+IsCall ghosts old (ImageRead set b bytes result) new = IsImageRead ghosts old new set b bytes result
+IsCall ghosts old (Cut set result) new = IsCut old new set result
+IsCall ghosts old (Drop set result) new = IsDropped old new set result
+IsCall ghosts old Flush new = IsQuiet ghosts old new
+IsCall ghosts old (MirrorFlush k result) new = IsMirrorFlush ghosts old new k result
 
 -- calls one after another lead from one state of a volume to another
-abbrev pub AreCalls : {D : Type 0} → (D → Option (List (List ℕ))) → (D → Option (List (List ℕ))) → (D → ℕ) → (D → ℕ) → MirrorValue D → List Call → MirrorValue D → Type 0
-AreCalls told lasting size count old [] new = new ≡ old
-AreCalls {D = D} told lasting size count old (call ∷ calls) new = (next : MirrorValue D) × IsCall told lasting size count old call next × AreCalls told lasting size count next calls new
+abbrev pub AreCalls : {D : Type 0} → Ghosts D → MirrorValue D → List Call → MirrorValue D → Type 0
+AreCalls ghosts old [] new = new ≡ old
+AreCalls {D = D} ghosts old (call ∷ calls) new = (next : MirrorValue D) × IsCall ghosts old call next × AreCalls ghosts next calls new
 
 -- how many blocks of mirror k a call copied
 abbrev pub copied_on : ℕ → Call → ℕ

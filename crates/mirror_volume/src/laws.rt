@@ -37,6 +37,6 @@ pub fn cuts_are_refused_for_a_cause()
 /// A mirror is in step after as many steps that copied a block of it as it had stale blocks, with no write between, whatever other
 /// calls were.
 pub fn steps_bring_a_mirror_into_step<D: Device>()
-    ensures { (k : ℕ) (old new : MirrorValue D) (calls : List Call) → AreCalls D.told D.lasting D.size D.count old calls new
+    ensures { (k : ℕ) (old new : MirrorValue D) (calls : List Call) → AreCalls D.Device old calls new
         → sum (map (copied_on k) calls) ≡ stale_at old k → stale_at new k ≡ 0 }
 {}

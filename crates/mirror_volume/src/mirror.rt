@@ -1,8 +1,8 @@
-ghost use Rattle.std.specs.Prelude.{◌≡◌, ◌<◌, length, map, option_map, slice_set, IfOk, IfSome, IsNone, OnOk, OnErr};
+ghost use Rattle.std.specs.Prelude.{◌≡◌, ◌<◌, ℕ, length, map, option_map, slice_set, IfOk, IfSome, IsNone, OnOk, OnErr};
 ghost use Rattle.vss_names.specs.Faults.{HasCause};
 ghost use Rattle.block_data.specs.PayloadBytes.{payload_bytes};
-ghost use Rattle.mirror_volume.specs.Mirrors.{mirror_over, is_held, is_ready};
-ghost use Rattle.mirror_volume.specs.MirrorCalls.{HaveBlock, IsMirrorRead, IsFollowed, AreFollowed, IsFirstReady, NoneReady, IsHolder, NoneHolds};
+ghost use Rattle.mirror_volume.specs.Mirrors.{counts_from, mirror_over, is_held, is_ready};
+ghost use Rattle.mirror_volume.specs.MirrorCalls.{HaveBlock, IsCalled, AreCalled, AreLasting, IsMirrorRead, IsFollowed, AreFollowed, IsFirstReady, NoneReady, IsHolder, NoneHolds};
 
 use crate::stale_blocks::StaleBlocks;
 use block_data::{BLOCK, BlockBuf, Payload};
@@ -66,7 +66,7 @@ impl<D: Device> Mirror<D> {
         requires in_range { block < D.size self.old.device }
         requires place { block < length self.old.stale }
         requires whole { length bytes.now ≡ BLOCK }
-        ensures { IsFollowed D.told D.size D.count block bytes.now self.old self.new }
+        ensures { IsFollowed D.Device block bytes.now self.old self.new }
     {
         if self.holds.is_some() {
             self.stale.mark(block);
@@ -77,6 +77,15 @@ impl<D: Device> Mirror<D> {
             Ok(()) => self.stale.unmark(block),
             Err(_) => self.stale.mark(block),
         }
+    }
+
+    /// Brings all that was written to it to where it lasts.
+    fn flush(&mut self) -> Result<(), Failed>
+        ensures called { IsCalled D.Device self.old self.new }
+        ensures lasts { OnOk result (D.lasting self.new.device ≡ D.told self.new.device) }
+        ensures cause { HasCause (D.count self.old.device) (D.count self.new.device) result }
+    {
+        self.device.flush()
     }
 }
 
@@ -106,7 +115,7 @@ pub(crate) fn read_mirror<D: Device>(
 ) -> Result<(), ImageFault>
     requires in_range { block < D.size mirror.old.device }
     requires whole { length out.old ≡ BLOCK }
-    ensures { IsMirrorRead D.told D.size D.count mirror.old mirror.new block out.new result }
+    ensures { IsMirrorRead D.Device mirror.old mirror.new block out.new result }
 {
     match mirror.device.read_into(block, out) {
         Ok(()) => Ok(()),
@@ -118,11 +127,23 @@ pub(crate) fn read_mirror<D: Device>(
 pub(crate) fn follow_all<D: Device>(mirrors: &mut [Mirror<D>], block: u32, bytes: &[u8])
     requires places { HaveBlock D.size block mirrors.old }
     requires whole { length bytes.now ≡ BLOCK }
-    ensures { AreFollowed D.told D.size D.count block bytes.now mirrors.old mirrors.new }
+    ensures { AreFollowed D.Device block bytes.now mirrors.old mirrors.new }
 {
     for mirror in mirrors.iter_mut() {
         mirror.follow(block, bytes);
     }
+}
+
+/// Brings all that was written to each mirror to where it lasts, one after another. It ends at the first that fails.
+pub(crate) fn flush_all<D: Device>(mirrors: &mut [Mirror<D>]) -> Result<(), Failed>
+    ensures called { AreCalled D.Device mirrors.old mirrors.new }
+    ensures last { OnOk result (AreLasting D.Device mirrors.new) }
+    ensures cause { (own : ℕ) → HasCause (counts_from D.count own mirrors.old) (counts_from D.count own mirrors.new) result }
+{
+    for mirror in mirrors.iter_mut() {
+        mirror.flush()?;
+    }
+    Ok(())
 }
 
 /// Mirrors over these devices, each of so many blocks, all of which are stale, or in step.

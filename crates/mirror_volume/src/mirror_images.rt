@@ -11,7 +11,7 @@ use cow_volume::{Cause, ImageFault, WriteFault, Written};
 use volume_device::Device;
 
 impl<D: Device> ImageVolume for MirrorVolume<D> {
-    ghost stands = { λ v h. StandsFor D.told D.size v h };
+    ghost stands = { λ v h. StandsFor D.Device v h };
 
     ghost tells = { λ v. tells D.told v };
 

@@ -3,24 +3,24 @@ ghost use Rattle.vss_names.specs.Faults.{HasCause};
 ghost use Rattle.block_data.specs.Runs.{zeros};
 ghost use Rattle.block_data.specs.PayloadBytes.{payload_bytes};
 ghost use Rattle.write_history.specs.History.{History, contents, fresh, dropped, cut};
-ghost use Rattle.mirror_volume.specs.Mirrors.{StandsFor, mirror_over, ready_count, EqualsPrimary};
-ghost use Rattle.mirror_volume.specs.MirrorCalls.{IsWrite, after_write, IsRead, IsImageRead, IsCut, IsDropped, IsQuiet, IsMirrorFlush};
+ghost use Rattle.mirror_volume.specs.Mirrors.{AreMirrors, StandsFor, mirror_over, ready_count, EqualsPrimary};
+ghost use Rattle.mirror_volume.specs.MirrorCalls.{IsWrite, after_write, IsRead, IsImageRead, IsCut, IsDropped, IsQuiet, IsMirrorFlush, IsAllFlushed};
 ghost use Rattle.mirror_volume.specs.Resync.{IsSynced, stale_at};
 
-use crate::mirror::{Mirror, all_mirrors, first_ready, follow_all, holder, put_block, read_mirror};
+use crate::mirror::{
+    Mirror, all_mirrors, first_ready, flush_all, follow_all, holder, put_block, read_mirror,
+};
 use crate::no_mirror::NoMirror;
 use crate::resync::step;
 use crate::sync_fault::SyncFault;
 use crate::synced::Synced;
 use block_data::{BLOCK, BlockBuf, Payload};
 use cow_volume::{Cause, ImageFault, WriteFault, Written};
+use diff_map::MOST_IMAGES;
 use std::alloc::Global;
 use std::marker::Model;
 use volume_device::Device;
 use vss_names::{Failed, OutOfMemory};
-
-/// The most images that a volume has.
-const MOST_IMAGES: usize = 512;
 
 /// A volume with 1 to 8 whole mirrors of it. At a cut a mirror that is in step is split off, and shows the image until that is
 /// dropped; then it is brought into step again, a block a step.
@@ -55,7 +55,7 @@ impl<D: Device> MirrorVolume<D> {
         requires primary_zeros { IfSome (D.told primary) (λ blocks. blocks ≡ replicate (D.size primary) zeros) }
         requires mirrors_zeros { All (λ d. IfSome (D.told d) (λ blocks. blocks ≡ replicate (D.size d) zeros)) mirrors.items }
         ensures value { IfOk result (λ volume. volume ≡ record { primary = primary; mirrors = map (mirror_over false (D.size primary)) mirrors.items; images = [] }) }
-        ensures stands { IfOk result (λ volume. StandsFor D.told D.size volume fresh) }
+        ensures stands { IfOk result (λ volume. StandsFor D.Device volume fresh) }
     {
         let images = Vec::with_capacity(alloc, MOST_IMAGES)?;
         let scratch = BlockBuf::zeroed(alloc)?;
@@ -79,7 +79,7 @@ impl<D: Device> MirrorVolume<D> {
         requires few { length mirrors.items ≤ 8 }
         requires fits { All (λ d. D.size d ≡ D.size primary) mirrors.items }
         ensures value { IfOk result (λ volume. volume ≡ record { primary = primary; mirrors = map (mirror_over true (D.size primary)) mirrors.items; images = [] }) }
-        ensures stands { IfOk result (λ volume. (h : History) → h.images ≡ [] → IfSome (D.told primary) (λ blocks. blocks ≡ contents (D.size primary) h.writes (length h.writes)) → StandsFor D.told D.size volume h) }
+        ensures stands { IfOk result (λ volume. (h : History) → h.images ≡ [] → IfSome (D.told primary) (λ blocks. blocks ≡ contents (D.size primary) h.writes (length h.writes)) → StandsFor D.Device volume h) }
     {
         let images = Vec::with_capacity(alloc, MOST_IMAGES)?;
         let scratch = BlockBuf::zeroed(alloc)?;
@@ -127,7 +127,7 @@ impl<D: Device> MirrorVolume<D> {
     pub fn stale(&self, mirror: u32) -> u32
         requires { mirror < length self.now.mirrors }
         ensures count { result ≡ stale_at self.now mirror }
-        ensures others { (h : History) → StandsFor D.told D.size self.now h → EqualsPrimary D.told self.now mirror }
+        ensures others { (h : History) → StandsFor D.Device self.now h → EqualsPrimary D.told self.now mirror }
     {
         let mirror = &self.mirrors[mirror as usize];
         mirror.stale.count()
@@ -136,8 +136,8 @@ impl<D: Device> MirrorVolume<D> {
     /// Writes a block to the primary, and then to each mirror that holds no image. A mirror whose write fails has the block stale,
     /// as one that holds an image has.
     pub fn write(&mut self, block: u32, payload: &Payload) -> Result<Written, WriteFault>
-        ensures write { IsWrite D.told D.size D.count self.old self.new (record { block = block; bytes = payload_bytes payload.now }) result }
-        ensures stands { (h : History) → StandsFor D.told D.size self.old h → StandsFor D.told D.size self.new (after_write (record { block = block; bytes = payload_bytes payload.now }) result h) }
+        ensures write { IsWrite D.Device self.old self.new (record { block = block; bytes = payload_bytes payload.now }) result }
+        ensures stands { (h : History) → StandsFor D.Device self.old h → StandsFor D.Device self.new (after_write (record { block = block; bytes = payload_bytes payload.now }) result h) }
     {
         if block >= self.primary.blocks() {
             return Err(WriteFault {
@@ -158,8 +158,8 @@ impl<D: Device> MirrorVolume<D> {
     /// Reads a block of the primary into `out`, which after a failed read holds any bytes.
     pub fn read_into(&mut self, block: u32, out: &mut [u8]) -> Result<(), Cause>
         requires { length out.old ≡ BLOCK }
-        ensures read { IsRead D.told D.size D.count self.old self.new block out.new result }
-        ensures stands { (h : History) → StandsFor D.told D.size self.old h → StandsFor D.told D.size self.new h }
+        ensures read { IsRead D.Device self.old self.new block out.new result }
+        ensures stands { (h : History) → StandsFor D.Device self.old h → StandsFor D.Device self.new h }
     {
         if block >= self.primary.blocks() {
             return Err(Cause::NoSuchBlock);
@@ -178,8 +178,8 @@ impl<D: Device> MirrorVolume<D> {
         out: &mut [u8],
     ) -> Result<(), ImageFault>
         requires { length out.old ≡ BLOCK }
-        ensures read { IsImageRead D.told D.size D.count self.old self.new set block out.new result }
-        ensures stands { (h : History) → StandsFor D.told D.size self.old h → StandsFor D.told D.size self.new h }
+        ensures read { IsImageRead D.Device self.old self.new set block out.new result }
+        ensures stands { (h : History) → StandsFor D.Device self.old h → StandsFor D.Device self.new h }
     {
         let Some(place) = holder(&self.mirrors, set) else {
             return Err(ImageFault::NoSuchImage);
@@ -197,7 +197,7 @@ impl<D: Device> MirrorVolume<D> {
         requires above_zero { 0 < set }
         requires newest { All (λ s. s < set) self.old.images }
         ensures cut { IsCut self.old self.new set result }
-        ensures stands { OnOk result ((h : History) → StandsFor D.told D.size self.old h → StandsFor D.told D.size self.new (cut set h)) }
+        ensures stands { OnOk result ((h : History) → StandsFor D.Device self.old h → StandsFor D.Device self.new (cut set h)) }
     {
         let Some(place) = first_ready(&self.mirrors) else {
             return Err(NoMirror);
@@ -211,7 +211,7 @@ impl<D: Device> MirrorVolume<D> {
     /// The image of a set goes. The mirror that held it has its stale blocks still.
     pub fn drop_image(&mut self, set: u32) -> Result<(), ImageFault>
         ensures dropped { IsDropped self.old self.new set result }
-        ensures stands { OnOk result ((h : History) → StandsFor D.told D.size self.old h → StandsFor D.told D.size self.new (dropped set h)) }
+        ensures stands { OnOk result ((h : History) → StandsFor D.Device self.old h → StandsFor D.Device self.new (dropped set h)) }
     {
         let Some(place) = holder(&self.mirrors, set) else {
             return Err(ImageFault::NoSuchImage);
@@ -225,8 +225,8 @@ impl<D: Device> MirrorVolume<D> {
     /// Copies the lowest stale block of a mirror from the primary, where the mirror holds no image.
     pub fn resync_step(&mut self, mirror: u32) -> Result<Synced, SyncFault>
         requires { mirror < length self.old.mirrors }
-        ensures synced { IsSynced D.told D.size D.count self.old self.new mirror result }
-        ensures stands { (h : History) → StandsFor D.told D.size self.old h → StandsFor D.told D.size self.new h }
+        ensures synced { IsSynced D.Device self.old self.new mirror result }
+        ensures stands { (h : History) → StandsFor D.Device self.old h → StandsFor D.Device self.new h }
     {
         let mirror = &mut self.mirrors[mirror as usize];
         step(&mut self.primary, mirror, &mut self.scratch)
@@ -235,9 +235,9 @@ impl<D: Device> MirrorVolume<D> {
     /// Brings all accepted writes of the volume to where they last. The mirrors are flushed one by one.
     pub fn flush(&mut self) -> Result<(), Failed>
         ensures lasts { OnOk result (D.lasting self.new.primary ≡ D.told self.new.primary) }
-        ensures quiet { IsQuiet D.told D.size D.count self.old self.new }
+        ensures quiet { IsQuiet D.Device self.old self.new }
         ensures cause { HasCause (D.count self.old.primary) (D.count self.new.primary) result }
-        ensures stands { (h : History) → StandsFor D.told D.size self.old h → StandsFor D.told D.size self.new h }
+        ensures stands { (h : History) → StandsFor D.Device self.old h → StandsFor D.Device self.new h }
     {
         self.primary.flush()
     }
@@ -245,17 +245,27 @@ impl<D: Device> MirrorVolume<D> {
     /// Brings all that was written to a mirror to where it lasts: the image that it holds, or its blocks in step.
     pub fn flush_mirror(&mut self, mirror: u32) -> Result<(), Failed>
         requires { mirror < length self.old.mirrors }
-        ensures flushed { IsMirrorFlush D.told D.lasting D.size D.count self.old self.new mirror result }
-        ensures stands { (h : History) → StandsFor D.told D.size self.old h → StandsFor D.told D.size self.new h }
+        ensures flushed { IsMirrorFlush D.Device self.old self.new mirror result }
+        ensures stands { (h : History) → StandsFor D.Device self.old h → StandsFor D.Device self.new h }
     {
         let mirror = &mut self.mirrors[mirror as usize];
         mirror.device.flush()
+    }
+
+    /// Brings all that was written to the primary, and then to each mirror, to where it lasts. It ends at the first device that fails.
+    pub fn sync(&mut self) -> Result<(), Failed>
+        ensures flushed { IsAllFlushed D.Device self.old self.new result }
+        ensures stands { (h : History) → StandsFor D.Device self.old h → StandsFor D.Device self.new h }
+    {
+        self.primary.flush()?;
+        flush_all(&mut self.mirrors)
     }
 
     /// The primary's device, and the mirrors, as they are.
     pub fn into_parts(self) -> (D, Vec<Mirror<D>>)
         ensures primary { result.0 ≡ self.primary }
         ensures mirrors { result.1.items ≡ self.mirrors }
+        ensures fits { AreMirrors D.size (D.size result.0) result.1.items }
     {
         (self.primary, self.mirrors)
     }

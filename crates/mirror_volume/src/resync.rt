@@ -19,7 +19,7 @@ fn copy_block<D: Device>(
 ) -> Result<(), Failed>
     requires from { block < D.size from.old }
     requires to { block < D.size to.old }
-    ensures { IsCopyOr D.told D.size D.count from.old from.new to.old to.new block result }
+    ensures { IsCopyOr D.Device from.old from.new to.old to.new block result }
 {
     let _blocks = to.blocks();
     if let Some(bytes) = from.lend(block) {
@@ -37,7 +37,7 @@ pub(crate) fn step<D: Device>(
 ) -> Result<Synced, SyncFault>
     requires size { D.size mirror.old.device ≡ D.size primary.old }
     requires stale { length mirror.old.stale ≡ D.size primary.old }
-    ensures { IsStep D.told D.size D.count primary.old primary.new mirror.old mirror.new result }
+    ensures { IsStep D.Device primary.old primary.new mirror.old mirror.new result }
 {
     if let Some(set) = mirror.holds {
         return Err(SyncFault::HoldsImage { set });

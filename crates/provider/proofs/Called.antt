@@ -15,7 +15,8 @@ use Rattle.cow_volume.specs.declared.image_fault.ImageFault.{ImageFault}
 use Rattle.cow_volume.specs.declared.image_fault.ImageFault.TheVariants as image
 use Rattle.cow_volume.specs.declared.revert_fault.RevertFault.{RevertFault}
 use Rattle.cow_volume.specs.declared.revert_fault.RevertFault.TheVariants.{NoSuchImage as NoImage, Fault}
-use Rattle.cow_volume.specs.Calls.{IsSameDevice, IsUnfailed, HasCauseAt, HasImageCause as HasGroupImageCause, DeviceRose, VolumeRose, IsRevert as IsGroupRevert, IsReverted, blocks_at, changed_at, is_among, sets_at, history_at as group_history_at}
+use Rattle.cow_volume.specs.Calls.{IsSameDevice, IsUnfailed, HasCauseAt, HasImageCause as HasGroupImageCause, DeviceRose, VolumeRose, IsRevert as IsGroupRevert, IsReverted, blocks_at, changed_at}
+use Rattle.cow_volume.specs.Calls.{is_among, sets_at, history_at as group_history_at}
 use Rattle.cow_volume.specs.Steps.{IsPutOr}
 use Rattle.cow_volume.specs.Parts.{IsUnseen}
 use Rattle.cow_volume.proofs.Group.{quiet_stands, slice_set-same, slice_get-set_other}

@@ -22,7 +22,8 @@ IsPoint u set hs p = point_in set (history_at hs u).images ≡ Some p
 
 -- at a point of volume u's history this holds of its effective writes, where its device and the area's tell
 abbrev pub AtPoint : {D : Type 0} → (D → Option (List (List ℕ))) → GroupValue D → ℕ → (List History → ℕ → Type 0) → (List History → ℕ → Type 0) → Type 0
-AtPoint {D = D} told g u At P = (hs : List History) (d : D) (p : ℕ) → StandsFor told g hs → slice_get g.devices u ≡ Some d → is_some (told d) ≡ true → is_some (told g.area.device) ≡ true → At hs p → P hs p
+AtPoint {D = D} told g u At P = (hs : List History) (d : D) (p : ℕ) → StandsFor told g hs → slice_get g.devices u ≡ Some d → is_some (told d) ≡ true → is_some (told g.area.device) ≡ true → At hs p
+    → P hs p
 
 -- block b as it was there was hashed
 pub record Adds {D : Type 0} (told : D → Option (List (List ℕ))) (g : GroupValue D) (u : ℕ) (At : List History → ℕ → Type 0) (b : ℕ) (before after : Hasher) : Type 0 where

@@ -40,7 +40,7 @@ fn give<V: ImageVolume>(
 
 /// Brings each mirror that holds no image into step, and prints what the last step of each answered.
 fn resync<D: Device>(rt: &HostRuntime, volume: &mut MirrorVolume<D>) -> Result<(), TrialError>
-    ensures { (h : History) → StandsFor D.told D.size volume.old h → StandsFor D.told D.size volume.new h }
+    ensures { (h : History) → StandsFor D.Device volume.old h → StandsFor D.Device volume.new h }
 {
     for mirror in 0..volume.mirrors() {
         let answer = all_steps(volume, mirror)?;
@@ -56,7 +56,7 @@ fn give_pieces<D: Device>(
     copies: &mut CowVolume<D>,
     pieces: &[Vec<Command>],
 ) -> Result<(), TrialError>
-    requires mirrored { (h : History) × StandsFor D.told D.size mirrors.old h }
+    requires mirrored { (h : History) × StandsFor D.Device mirrors.old h }
     requires copied { (h : History) × StandsForOne D.told copies.old h }
 {
     for piece in pieces {

@@ -11,7 +11,6 @@ use diff_area::{Area, AreaFault, AreaView};
 use std::alloc::Global;
 use volume_device::{Device, HostDevice};
 use vss_catalog::Catalog;
-use vss_catalog::laws::what_is_read_is_written_again;
 use vss_names::{Numbers, Text};
 
 /// The names in a catalog of the first volumes.
@@ -71,7 +70,6 @@ pub fn tell_catalog(rt: &HostRuntime, digits: &str) -> Result<(), TrialError> {
 fn decoded(alloc: Global, bytes: &[u8]) -> Result<Catalog, TrialError>
     ensures { IfOk result (λ catalog. IsCatalog catalog) }
 {
-    what_is_read_is_written_again();
     match Catalog::decode(alloc, bytes) {
         Ok(catalog) => Ok(catalog),
         Err(_) => Err(TrialError::NotAllowed),

@@ -1,5 +1,4 @@
 ghost use Rattle.write_history.specs.History.{fresh};
-ghost use Rattle.volume_device.specs.OnHost.{host_told, host_size};
 ghost use Rattle.mirror_volume.specs.Mirrors.{StandsFor};
 ghost use Rattle.std.specs.Prelude.{IfOk};
 
@@ -13,13 +12,13 @@ use crate::trial_error::TrialError;
 use block_data::Payload;
 use mirror_volume::{MirrorVolume, Synced};
 use std::time::Instant;
-use volume_device::HostDevice;
+use volume_device::{Device, HostDevice};
 
 type Volume = MirrorVolume<HostDevice>;
 
 /// A volume of so many blocks with so many mirrors, over the devices `primary`, `mirror0` and so on.
 pub fn volume(rt: &HostRuntime, plan: &Plan, blocks: u32, count: u32) -> Result<Volume, TrialError>
-    ensures { IfOk result (λ volume. StandsFor host_told host_size volume fresh) }
+    ensures { IfOk result (λ volume. StandsFor ⟦<HostDevice as Device>⟧ volume fresh) }
 {
     let primary = device(rt, plan, "primary", blocks)?;
     let mirrors = mirrors(rt, plan, &primary, count)?;
@@ -57,6 +56,11 @@ fn make(rt: &HostRuntime, volume: &mut Volume, call: &Call) -> Result<(), TrialE
         ("ready", []) => tell(rt, &volume.ready()),
         ("blocks", []) => tell(rt, &volume.blocks()),
         ("mirrors", []) => tell(rt, &volume.mirrors()),
+        ("flush", []) => tell(rt, &volume.flush()),
+        ("sync", []) => tell(rt, &volume.sync()),
+        ("flush", [mirror]) if *mirror < volume.mirrors() => {
+            tell(rt, &volume.flush_mirror(*mirror))
+        }
         ("fill", [byte]) => tell(rt, &fill(volume, (*byte % 256) as u8)),
         _ => make_common(rt, volume, call)?.ok_or(TrialError::NotAllowed),
     }

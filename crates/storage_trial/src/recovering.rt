@@ -5,8 +5,12 @@ use crate::plan::Plan;
 use crate::telling::{say, tell};
 use crate::trial_error::TrialError;
 use block_data::Payload;
+use cow_volume::CowVolume;
+use diff_map::MOST_IMAGES;
+use std::alloc::Global;
 use std::fmt::Debug;
 use volume_device::HostDevice;
+use vss_names::Numbers;
 use vss_recover::{Claim, RecoverVolume};
 
 type Volume = RecoverVolume<HostDevice>;
@@ -25,6 +29,21 @@ fn volume_of(
     let overlay = area(rt, plan, "overlay", overlay, &[blocks])?;
     let volume = volume(rt, plan, "volume", blocks, slots)?;
     Ok(RecoverVolume::new(rt.alloc(), volume, overlay)?)
+}
+
+/// The volume is taken apart, and taken up again with these final sets; the volume beneath it too, by way of a group.
+fn again(alloc: Global, volume: Volume, finals: &[u32]) -> Result<Volume, TrialError> {
+    if finals.len() > MOST_IMAGES {
+        return Err(TrialError::NotAllowed);
+    }
+    let (volume, overlay) = volume.into_parts();
+    let volume = CowVolume::of(volume.into_group());
+    let images = Numbers::copy(alloc, volume.images())?;
+    let (device, area) = volume.into_parts();
+    match CowVolume::resume(alloc, device, area, images) {
+        Ok(volume) => Ok(RecoverVolume::resume(alloc, volume, overlay, finals)?),
+        Err(_) => Err(TrialError::NotAllowed),
+    }
 }
 
 /// Prints the first eight bytes of a block that was read, where it is these again and again, or why it was not read.
@@ -108,6 +127,8 @@ fn make_in_window(rt: &HostRuntime, volume: &mut Volume, call: &Call) -> Result<
         ("images", []) => tell(rt, &volume.images()),
         ("used", []) => tell(rt, &volume.used()),
         ("overlay_used", []) => tell(rt, &volume.overlay_used()),
+        ("flush", []) => tell(rt, &volume.flush()),
+        ("sync", []) => tell(rt, &volume.sync()),
         _ => Err(TrialError::Line),
     }
 }
@@ -159,6 +180,11 @@ impl Recovering {
                 self.volume = Some(volume_of(rt, plan, *blocks, *slots, *overlay)?);
                 *plan = Plan::none(rt.alloc());
                 tell(rt, &Ok::<(), ()>(()))
+            }
+            ("again", finals, held) => {
+                let volume = held.take().ok_or(TrialError::NoVolume)?;
+                *held = Some(again(rt.alloc(), volume, finals)?);
+                tell(rt, &())
             }
             (_, _, Some(volume)) => make(rt, volume, call),
             _ => Err(TrialError::NoVolume),

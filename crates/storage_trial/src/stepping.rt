@@ -12,7 +12,7 @@ pub fn step<D: Device>(
     volume: &mut MirrorVolume<D>,
     mirror: u32,
 ) -> Result<Result<Synced, SyncFault>, TrialError>
-    ensures { (h : History) → StandsFor D.told D.size volume.old h → StandsFor D.told D.size volume.new h }
+    ensures { (h : History) → StandsFor D.Device volume.old h → StandsFor D.Device volume.new h }
 {
     if mirror >= volume.mirrors() {
         return Err(TrialError::NotAllowed);
@@ -33,7 +33,7 @@ pub fn all_steps<D: Device>(
     volume: &mut MirrorVolume<D>,
     mirror: u32,
 ) -> Result<Result<Synced, SyncFault>, TrialError>
-    ensures { (h : History) → StandsFor D.told D.size volume.old h → StandsFor D.told D.size volume.new h }
+    ensures { (h : History) → StandsFor D.Device volume.old h → StandsFor D.Device volume.new h }
 {
     for _step in 0..stale(volume, mirror)? {
         if let Err(fault) = step(volume, mirror)? {

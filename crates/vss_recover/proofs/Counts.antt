@@ -13,7 +13,8 @@ use Rattle.cow_volume.specs.StandsFor.{record_of}
 use Rattle.cow_volume.specs.Calls.{is_among}
 use Rattle.cow_volume.specs.Changes.{has_record}
 use Rattle.cow_volume.proofs.Group.{same_number, number_is}
-use Rattle.cow_volume.proofs.Members.{Has, AreApart, permuted, has_at, place_of, has_left, has_right, has_either, has-map, from-map, apart-append, apart-map, has-filter, from-filter, apart-filter, has-range, from-range, apart-range, apart-filtered}
+use Rattle.cow_volume.proofs.Members.{Has, AreApart, permuted, has_at, place_of, has_left, has_right, has_either, has-map, from-map, apart-append, apart-map, has-filter, from-filter, apart-filter}
+use Rattle.cow_volume.proofs.Members.{has-range, from-range, apart-range, apart-filtered}
 use Rattle.cow_volume.proofs.Counting.{not_free, record_is_used, used_record}
 use Rattle.cow_volume.proofs.Named.{numbers_are}
 use Rattle.cow_volume.proofs.Merging.{found_record, has_found}
@@ -42,7 +43,8 @@ is_not false e = refl
 
 -- ## the records of an overlay
 
-pub of_one : (n : ℕ) (records : List Record) (k : ℕ) (r : Record) → AreRecords (n ∷ []) records → slice_get records k ≡ Some r → r ≢ free → (0 < r.set) × (r.block < n) × (r ≡ record_of 0 r.set r.block)
+pub of_one : (n : ℕ) (records : List Record) (k : ℕ) (r : Record) → AreRecords (n ∷ []) records → slice_get records k ≡ Some r → r ≢ free
+    → (0 < r.set) × (r.block < n) × (r ≡ record_of 0 r.set r.block)
 of_one n records k r are at used =
     let is = are.each k r at used in
     let low = is.volume in
@@ -71,7 +73,8 @@ from_pair n rs set r m =
     record { block = of.0; low = (let l = within.1 in omega arith); named = known.1; is = of.2 }
 
 apart_pairs : (n : ℕ) (rs : List Recovery) (set : ℕ) → AreApart (pairs_of n rs set)
-apart_pairs n rs set = apart-map (record_of 0 set) (blocks_named n (recovered set rs)) (λ x y e. ap (λ (r : Record). r.block) e) (apart-filtered (names (recovered set rs)) (range_with_len 0 n) (apart-range 0 n))
+apart_pairs n rs set = apart-map (record_of 0 set) (blocks_named n (recovered set rs)) (λ x y e. ap (λ (r : Record). r.block) e)
+    (apart-filtered (names (recovered set rs)) (range_with_len 0 n) (apart-range 0 n))
 
 block_of : (set : ℕ) (r : Record) → is_block_of set r ≡ true → (0 < r.set) × (r.set ≡ set)
 block_of set r e = let parts = both (nat_lt 0 r.set) (r.set == set) e in (ltb-true 0 r.set parts.0, same_number r.set set parts.1)
@@ -80,7 +83,8 @@ of_block : (set b : ℕ) → 0 < set → is_block_of set (record_of 0 set b) ≡
 of_block set b l = joined (nat_lt 0 set) (set == set) (lt-ltb 0 set l) (number_is set)
 
 -- as many records are of an image as blocks of it are named
-pub counted_in : (slots : Option (List (List ℕ))) (records : List Record) (n : ℕ) (rs : List Recovery) (set : ℕ) → IsOverlay slots records n rs → AreRecords (n ∷ []) records → 0 < set → count_in set records ≡ blocks_recovered n rs set
+pub counted_in : (slots : Option (List (List ℕ))) (records : List Record) (n : ℕ) (rs : List Recovery) (set : ℕ) → IsOverlay slots records n rs → AreRecords (n ∷ []) records → 0 < set
+    → count_in set records ≡ blocks_recovered n rs set
 counted_in slots records n rs set is are above =
     sym (length-filter (is_block_of set) records)
     ∙ sym (length_permutation (filter (is_block_of set) records) (pairs_of n rs set) (permuted (filter (is_block_of set) records) (pairs_of n rs set)
@@ -117,8 +121,10 @@ length-all_pairs n rs (set ∷ sets) =
 has_all : (n : ℕ) (rs : List Recovery) (sets : List ℕ) (set b : ℕ) → is_among set sets ≡ true → b < n → names (recovered set rs) b ≡ true → Has (record_of 0 set b) (all_pairs n rs sets)
 has_all n rs [] set b among l e = cc
 has_all n rs (s ∷ sets) set b among l e = by_test (s == set) refl among (λ g. has_all n rs sets set b g l e) where
-  by_test : (t : Bool) → (s == set) ≡ t → (t || is_among set sets) ≡ true → (is_among set sets ≡ true → Has (record_of 0 set b) (all_pairs n rs sets)) → Has (record_of 0 set b) (pairs_of n rs s ++ all_pairs n rs sets)
-  by_test true f g rest = has_left (record_of 0 set b) (pairs_of n rs s) (all_pairs n rs sets) (subst (λ (x : ℕ). Has (record_of 0 set b) (pairs_of n rs x)) (sym (same_number s set f)) (has_pair n rs set b l e))
+  by_test : (t : Bool) → (s == set) ≡ t → (t || is_among set sets) ≡ true → (is_among set sets ≡ true → Has (record_of 0 set b) (all_pairs n rs sets))
+      → Has (record_of 0 set b) (pairs_of n rs s ++ all_pairs n rs sets)
+  by_test true f g rest = has_left (record_of 0 set b) (pairs_of n rs s) (all_pairs n rs sets)
+      (subst (λ (x : ℕ). Has (record_of 0 set b) (pairs_of n rs x)) (sym (same_number s set f)) (has_pair n rs set b l e))
   by_test false f g rest = has_right (record_of 0 set b) (pairs_of n rs s) (all_pairs n rs sets) (rest g)
 
 from_all : (n : ℕ) (rs : List Recovery) (sets : List ℕ) (r : Record) → Has r (all_pairs n rs sets) → (set : ℕ) × Has set sets × Pair n rs set r
@@ -138,7 +144,8 @@ apart_all n rs (s ∷ sets) a = apart-append (pairs_of n rs s) (all_pairs n rs s
     let P : ℕ → Type 0 = λ x. Has x sets in
     a.0 (subst P same there.1))
 
-pub counted_all : (slots : Option (List (List ℕ))) (records : List Record) (n : ℕ) (rs : List Recovery) (sets : List ℕ) → IsOverlay slots records n rs → AreRecords (n ∷ []) records → AreApart sets → ((s : ℕ) → Has s sets → 0 < s)
+pub counted_all : (slots : Option (List (List ℕ))) (records : List Record) (n : ℕ) (rs : List Recovery) (sets : List ℕ) → IsOverlay slots records n rs → AreRecords (n ∷ []) records → AreApart sets
+    → ((s : ℕ) → Has s sets → 0 < s)
     → ((s b : ℕ) → names (recovered s rs) b ≡ true → is_among s sets ≡ true) → used_in records ≡ all_recovered n rs sets
 counted_all slots records n rs sets is are apart above stand =
     sym (length-filter (λ r. not (is_free r)) records)
@@ -157,7 +164,8 @@ counted_all slots records n rs sets is are apart above stand =
     let l = above of.0 of.1 in
     let at = is.recorded of.0 of.2.block l of.2.low of.2.named in
     let P : Record → Type 0 = λ x. Has x (filter (λ r. not (is_free r)) records) in
-    subst P of.2.is (has-filter (λ r. not (is_free r)) (record_of 0 of.0 of.2.block) records (is_not (is_free (record_of 0 of.0 of.2.block)) (record_is_used (record_of 0 of.0 of.2.block) l)) (has_at records at.0 (record_of 0 of.0 of.2.block) at.1)))))
+    subst P of.2.is (has-filter (λ r. not (is_free r)) (record_of 0 of.0 of.2.block) records (is_not (is_free (record_of 0 of.0 of.2.block)) (record_is_used (record_of 0 of.0 of.2.block) l))
+    (has_at records at.0 (record_of 0 of.0 of.2.block) at.1)))))
     ∙ length-all_pairs n rs sets
 
 -- ## the sets of images
@@ -181,7 +189,8 @@ among_has (x ∷ sets) s (inr m) = by_test (x == s) (among_has sets s m) where
 
 -- ## whether a block has a slot
 
-pub has_slot : (slots : Option (List (List ℕ))) (records : List Record) (n : ℕ) (rs : List Recovery) (set b : ℕ) → IsOverlay slots records n rs → 0 < set → b < n → has_record records (record_of 0 set b) ≡ names (recovered set rs) b
+pub has_slot : (slots : Option (List (List ℕ))) (records : List Record) (n : ℕ) (rs : List Recovery) (set b : ℕ) → IsOverlay slots records n rs → 0 < set → b < n
+    → has_record records (record_of 0 set b) ≡ names (recovered set rs) b
 has_slot slots records n rs set b is above low = by_tests (has_record records (record_of 0 set b)) refl (names (recovered set rs) b) refl where
   by_tests : (t : Bool) → has_record records (record_of 0 set b) ≡ t → (u : Bool) → names (recovered set rs) b ≡ u → t ≡ u
   by_tests true e u f = (let at = found_record records (record_of 0 set b) e in sym (is.named at.0 set b above at.1) ∙ f)

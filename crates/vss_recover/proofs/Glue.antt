@@ -1,5 +1,6 @@
 -- What the calls come to, from what the calls that they are made of come to.
-use Rattle.std.proofs.Common.{◌≡◌, ◌<◌, ◌≤◌, ◌∙◌, ◌++◌, length-append, ℕ, zero, suc, List, [], ◌∷◌, ◌-◌, ◌+◌, Bool, true, false, Option, Some, refl, ap, sym, subst, arith, vec_capacity, Vec, length, slice_index_or, filter, take}
+use Rattle.std.proofs.Common.{◌≡◌, ◌<◌, ◌≤◌, ◌∙◌, ◌++◌, length-append, ℕ, zero, suc, List, [], ◌∷◌, ◌-◌, ◌+◌, Bool, true, false, Option, Some, refl, ap, sym, subst, arith, vec_capacity, Vec, length}
+use Rattle.std.proofs.Common.{slice_index_or, filter, take}
 use Rattle.std.specs.Prelude.{Result, Ok, Err, OnOk, IfSome, slice_get, if◌then◌else◌}
 use Rattle.std.specs.declared.alloc.Global.{Global}
 use Rattle.std.proofs.lemmas.Option.{get_or_from_slice_get}
@@ -37,7 +38,8 @@ use Rattle.vss_recover.specs.Keeping.{KeepsWindow}
 use Rattle.vss_recover.proofs.OfImages.{window_kept}
 use Rattle.vss_recover.proofs.Values.{value_of}
 
-pub settled_is : {D : Type 0} (volume : GroupValue D) (overlay now_overlay : AreaValue D) (window now : Option ℕ) (claims : List Claim) (final left images : List ℕ) → images ≡ image_sets volume → now_overlay ≡ with_records (kept_records images overlay.records) overlay
+pub settled_is : {D : Type 0} (volume : GroupValue D) (overlay now_overlay : AreaValue D) (window now : Option ℕ) (claims : List Claim) (final left images : List ℕ) → images ≡ image_sets volume
+    → now_overlay ≡ with_records (kept_records images overlay.records) overlay
     → now ≡ kept_window images window → left ≡ kept_final images final → IsSettled (value_of volume overlay window claims final) (value_of volume now_overlay now claims left)
 settled_is volume overlay now_overlay window now claims final left images sets overlay_is window_is final_is = record {
   device = ap (λ (a : AreaValue _). a.device) overlay_is;
@@ -48,7 +50,8 @@ settled_is volume overlay now_overlay window now claims final left images sets o
   final = final_is ∙ ap (λ (s : List ℕ). kept_final s final) sets;
 }
 
-pub keeps_settled : {D : Type 0} (volume : GroupValue D) (overlay now_overlay : AreaValue D) (window now : Option ℕ) (claims : Vec Claim Global) (finals left next : Vec ℕ Global) (images : List ℕ) → now_overlay.volumes ≡ overlay.volumes → now ≡ kept_window images window
+pub keeps_settled : {D : Type 0} (volume : GroupValue D) (overlay now_overlay : AreaValue D) (window now : Option ℕ) (claims : Vec Claim Global) (finals left next : Vec ℕ Global) (images : List ℕ)
+    → now_overlay.volumes ≡ overlay.volumes → now ≡ kept_window images window
     → vec_capacity finals ≤ vec_capacity left → KeepsWindow volume overlay window claims finals next → KeepsWindow volume now_overlay now claims left next
 keeps_settled volume overlay now_overlay window now claims finals left next images volumes window_is room keeps =
     let enough = keeps.final_room in
@@ -63,7 +66,8 @@ keeps_settled volume overlay now_overlay window now claims finals left next imag
 pub blocks_kept : {D : Type 0} (old new : GroupValue D) → new.area.volumes ≡ old.area.volumes → blocks_of new ≡ blocks_of old
 blocks_kept old new e = ap (λ (ns : List ℕ). blocks_in (slice_get ns 0)) e
 
-pub keeps_volume : {D : Type 0} (volume new : GroupValue D) (overlay : AreaValue D) (window : Option ℕ) (claims : Vec Claim Global) (finals next : Vec ℕ Global) → new.area.volumes ≡ volume.area.volumes → KeepsWindow volume overlay window claims finals next → KeepsWindow new overlay window claims finals next
+pub keeps_volume : {D : Type 0} (volume new : GroupValue D) (overlay : AreaValue D) (window : Option ℕ) (claims : Vec Claim Global) (finals next : Vec ℕ Global)
+    → new.area.volumes ≡ volume.area.volumes → KeepsWindow volume overlay window claims finals next → KeepsWindow new overlay window claims finals next
 keeps_volume volume new overlay window claims finals next same keeps = record {
   fits = keeps.fits ∙ ap (λ (n : ℕ). n ∷ []) (sym (blocks_kept volume new same));
   above_zero = keeps.above_zero;
@@ -86,7 +90,8 @@ newest_there sets images set same among = subst (λ (xs : List ℕ). IsNewest se
 
 -- ## reads
 
-pub below_if_ok : {D E : Type 0} (told : D → Option (List (List ℕ))) (v : RecoverValue D) (set b : ℕ) (bytes : List ℕ) (result : Result Unit E) → (0 < set → has_record v.overlay.records (record_of 0 set b) ≡ false) → b < blocks_of v.volume → OnOk result (IsOneShown told v.volume set b bytes) → OnOk result (IsShown told v set b bytes)
+pub below_if_ok : {D E : Type 0} (told : D → Option (List (List ℕ))) (v : RecoverValue D) (set b : ℕ) (bytes : List ℕ) (result : Result Unit E)
+    → (0 < set → has_record v.overlay.records (record_of 0 set b) ≡ false) → b < blocks_of v.volume → OnOk result (IsOneShown told v.volume set b bytes) → OnOk result (IsShown told v set b bytes)
 below_if_ok told v set b bytes (Ok done) none low is = shown_below told v set b bytes none low is
 below_if_ok told v set b bytes (Err fault) none low is = tt
 
@@ -95,7 +100,8 @@ below_if_ok told v set b bytes (Err fault) none low is = tt
 one_more : (k : ℕ) → suc k + 1 ≡ suc (k + 1)
 one_more k = omega arith
 
-filter_if : (t u : Bool) (y x : ℕ) (xs ys : List ℕ) → ys ≡ (if u then xs ++ x ∷ [] else xs) → (if t then y ∷ ys else ys) ≡ (if u then (if t then y ∷ xs else xs) ++ x ∷ [] else (if t then y ∷ xs else xs))
+filter_if : (t u : Bool) (y x : ℕ) (xs ys : List ℕ) → ys ≡ (if u then xs ++ x ∷ [] else xs)
+    → (if t then y ∷ ys else ys) ≡ (if u then (if t then y ∷ xs else xs) ++ x ∷ [] else (if t then y ∷ xs else xs))
 filter_if true true y x xs ys e = ap (λ zs. y ∷ zs) e
 filter_if true false y x xs ys e = ap (λ zs. y ∷ zs) e
 filter_if false true y x xs ys e = e
@@ -114,16 +120,21 @@ long_one_more xs x i l = let same = length-append xs (x ∷ []) in omega arith
 
 -- ## a recovery write
 
-pub recovered_if_ok : {D : Type 0} (told : D → Option (List (List ℕ))) (size count : D → ℕ) (lending : D → Bool) (old : RecoverValue D) (overlay : AreaValue D) (r : Recovery) (bytes : List ℕ) (result : Result Unit RecoverFault) → bytes ≡ r.write.bytes → old.overlay.volumes ≡ blocks_of old.volume ∷ [] → AreRecords old.overlay.volumes old.overlay.records
-    → size old.overlay.device ≡ blocks_for (length old.overlay.records) → IfSome (told old.overlay.device) (AreBlocks (size old.overlay.device)) → old.window ≡ Some r.set → r.write.block < blocks_of old.volume → owner_of old.claims r.write.block ≡ Some r.writer
+pub recovered_if_ok : {D : Type 0} (told : D → Option (List (List ℕ))) (size count : D → ℕ) (lending : D → Bool) (old : RecoverValue D) (overlay : AreaValue D) (r : Recovery) (bytes : List ℕ)
+    (result : Result Unit RecoverFault) → bytes ≡ r.write.bytes → old.overlay.volumes ≡ blocks_of old.volume ∷ [] → AreRecords old.overlay.volumes old.overlay.records
+    → size old.overlay.device ≡ blocks_for (length old.overlay.records) → IfSome (told old.overlay.device) (AreBlocks (size old.overlay.device)) → old.window ≡ Some r.set
+    → r.write.block < blocks_of old.volume → owner_of old.claims r.write.block ≡ Some r.writer
     → IsPut told size count lending old.overlay overlay r.set r.write.block bytes result → OnOk result (IsStep told old (value_of old.volume overlay old.window old.claims old.final) (Recovered r))
 recovered_if_ok told size count lending old overlay r bytes (Ok done) same fits are sized whole window low owner is =
-    recovered_step told size count lending old overlay r fits are sized whole window low owner (subst (λ (x : List ℕ). IsPutIn told size count lending old.overlay overlay r.set r.write.block x) same is.1)
+    recovered_step told size count lending old overlay r fits are sized whole window low owner
+    (subst (λ (x : List ℕ). IsPutIn told size count lending old.overlay overlay r.set r.write.block x) same is.1)
 recovered_if_ok told size count lending old overlay r bytes (Err fault) same fits are sized whole window low owner is = tt
 
 -- ## a revert that a device broke off
 
-pub revert_fault_step : {D : Type 0} (told : D → Option (List (List ℕ))) (size count : D → ℕ) (lending : D → Bool) (old new : RecoverValue D) (set : ℕ) (fault : RevertFault) → old.overlay.volumes ≡ blocks_of old.volume ∷ [] → AreRecords old.overlay.volumes old.overlay.records
+pub revert_fault_step : {D : Type 0} (told : D → Option (List (List ℕ))) (size count : D → ℕ) (lending : D → Bool) (old new : RecoverValue D) (set : ℕ) (fault : RevertFault)
+    → old.overlay.volumes ≡ blocks_of old.volume ∷ [] → AreRecords old.overlay.volumes old.overlay.records
     → count_in set old.overlay.records ≡ 0 → IsSettled old new → IsOneRevert told size count lending old.volume new.volume set (Err fault) → IsRevertStep told old new set (Err (Other fault))
 revert_fault_step told size count lending old new set NoSuchImage fits are none settled is = tt
-revert_fault_step told size count lending old new set (Fault k cause) fits are none settled is = λ h p stood point. in_part_step told size count lending old new set fits are none settled h p stood point k is.0
+revert_fault_step told size count lending old new set
+    (Fault k cause) fits are none settled is = λ h p stood point. in_part_step told size count lending old new set fits are none settled h p stood point k is.0

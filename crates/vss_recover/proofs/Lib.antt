@@ -9,3 +9,5 @@ pub mod Values
 pub mod Glue
 pub mod Taken
 pub mod UsedSlots
+pub mod Syncing
+pub mod TakenUp

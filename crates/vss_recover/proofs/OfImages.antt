@@ -48,7 +48,8 @@ among_less a s sets other e = by_test (is_among a sets) (ap (λ (t : Bool). is_a
 pub among_filter : (p : Image → Bool) (images : List Image) (s : ℕ) → is_among s (sets_of (filter p images)) ≡ true → is_among s (sets_of images) ≡ true
 among_filter p [] s e = e
 among_filter p (i ∷ images) s e = by_test (p i) e (λ f. among_filter p images s f) where
-  by_test : (t : Bool) → is_among s (sets_of (if t then i ∷ filter p images else filter p images)) ≡ true → (is_among s (sets_of (filter p images)) ≡ true → is_among s (sets_of images) ≡ true) → is_among s (sets_of (i ∷ images)) ≡ true
+  by_test : (t : Bool) → is_among s (sets_of (if t then i ∷ filter p images else filter p images)) ≡ true → (is_among s (sets_of (filter p images)) ≡ true → is_among s (sets_of images) ≡ true)
+      → is_among s (sets_of (i ∷ images)) ≡ true
   by_test true f rest = or_rest (i.set == s) (is_among s (sets_of (filter p images))) (is_among s (sets_of images)) f rest
   by_test false f rest = among_tail s i.set (sets_of images) (rest f)
 
@@ -117,5 +118,6 @@ pub of_closed : (set : ℕ) (h : Recovering) → IsOfImages (sets_of h.volume.im
 of_closed set h is = record {
   recoveries = is.recoveries;
   window = λ s e. cc;
-  final = All-filter (λ s. (s == set) || is_among s h.final) (λ s. is_among s (sets_of h.volume.images) ≡ true) (sets_of h.volume.images) (all_in (sets_of h.volume.images) (sets_of h.volume.images) (λ s e. e));
+  final = All-filter (λ s. (s == set) || is_among s h.final) (λ s. is_among s (sets_of h.volume.images) ≡ true) (sets_of h.volume.images)
+      (all_in (sets_of h.volume.images) (sets_of h.volume.images) (λ s e. e));
 }

@@ -25,7 +25,8 @@ last-push b x (v ∷ ws) w = last-push b (if v.block == b then v.bytes else x) w
 pub last_if_named : (b : ℕ) (x y : List ℕ) (ws : List Write) → names ws b ≡ true → last_bytes b x ws ≡ last_bytes b y ws
 last_if_named b x y [] e = cc
 last_if_named b x y (w ∷ ws) e = by_test (w.block == b) e (λ f. last_if_named b x y ws f) where
-  by_test : (t : Bool) → (t || names ws b) ≡ true → (names ws b ≡ true → last_bytes b x ws ≡ last_bytes b y ws) → last_bytes b (if t then w.bytes else x) ws ≡ last_bytes b (if t then w.bytes else y) ws
+  by_test : (t : Bool) → (t || names ws b) ≡ true → (names ws b ≡ true → last_bytes b x ws ≡ last_bytes b y ws)
+      → last_bytes b (if t then w.bytes else x) ws ≡ last_bytes b (if t then w.bytes else y) ws
   by_test true f rest = refl
   by_test false f rest = rest f
 
@@ -49,7 +50,8 @@ names-push_other b (v ∷ ws) w e = ap (λ (t : Bool). (v.block == b) || t) (nam
 
 -- ## one recovery write more
 
-push_if : (t u : Bool) (w v : Write) (xs ys : List Write) → ys ≡ (if u then xs ++ v ∷ [] else xs) → (if t then w ∷ ys else ys) ≡ (if u then (if t then w ∷ xs else xs) ++ v ∷ [] else (if t then w ∷ xs else xs))
+push_if : (t u : Bool) (w v : Write) (xs ys : List Write) → ys ≡ (if u then xs ++ v ∷ [] else xs)
+    → (if t then w ∷ ys else ys) ≡ (if u then (if t then w ∷ xs else xs) ++ v ∷ [] else (if t then w ∷ xs else xs))
 push_if true true w v xs ys e = ap (λ zs. w ∷ zs) e
 push_if true false w v xs ys e = ap (λ zs. w ∷ zs) e
 push_if false true w v xs ys e = e

@@ -45,7 +45,8 @@ tells_mapped None f = refl
 tells_mapped (Some x) f = refl
 
 module _ {D : Type 0} (told : D → Option (List (List ℕ))) (size count : D → ℕ) (lending : D → Bool) (old mid : AreaValue D) where
-  pub written_to : (slot : ℕ) (bytes : List ℕ) → KeepsTable size lending old mid → told mid.device ≡ put (place_of_slot (length old.records) slot) bytes (told old.device) → count mid.device ≡ count old.device → count old.device ≤ count mid.device
+  pub written_to : (slot : ℕ) (bytes : List ℕ) → KeepsTable size lending old mid → told mid.device ≡ put (place_of_slot (length old.records) slot) bytes (told old.device)
+      → count mid.device ≡ count old.device → count old.device ≤ count mid.device
       → IsWrittenTo told size count lending old mid slot bytes
   written_to slot bytes table told_is same later = record {
     volumes = table.volumes;
@@ -69,11 +70,13 @@ module _ {D : Type 0} (told : D → Option (List (List ℕ))) (size count : D �
   }
 
   -- where a fault is told, nothing was put
-  pub not_put : (set b slot : ℕ) (bytes : List ℕ) (fault : RecoverFault) → lacks_room old.records set b ≡ false → IsWrittenIn told size count lending old mid slot bytes (Err fault) → IsPut told size count lending old mid set b bytes (Err fault)
+  pub not_put : (set b slot : ℕ) (bytes : List ℕ) (fault : RecoverFault) → lacks_room old.records set b ≡ false → IsWrittenIn told size count lending old mid slot bytes (Err fault)
+      → IsPut told size count lending old mid set b bytes (Err fault)
   not_put set b slot bytes fault room is = subst (λ (f : RecoverFault). IsPut told size count lending old mid set b bytes (Err f)) (sym is.0) (room, is.1, is.2)
 
   -- the block's own slot was written
-  pub put_over : (set b slot : ℕ) (bytes : List ℕ) (result : Result Unit RecoverFault) → slice_get old.records slot ≡ Some (record_of 0 set b) → IsWrittenIn told size count lending old mid slot bytes result → IsPut told size count lending old mid set b bytes result
+  pub put_over : (set b slot : ℕ) (bytes : List ℕ) (result : Result Unit RecoverFault) → slice_get old.records slot ≡ Some (record_of 0 set b)
+      → IsWrittenIn told size count lending old mid slot bytes result → IsPut told size count lending old mid set b bytes result
   put_over set b slot bytes (Ok done) own is = (
     room_if_chosen old.records set b slot (inl own),
     record {
@@ -89,7 +92,8 @@ module _ {D : Type 0} (told : D → Option (List (List ℕ))) (size count : D �
   put_over set b slot bytes (Err fault) own is = not_put set b slot bytes fault (room_if_chosen old.records set b slot (inl own)) is
 
   -- a free slot was written and noted
-  pub put_first : (new : AreaValue D) (set b slot : ℕ) (bytes : List ℕ) → slice_get old.records slot ≡ Some free → has_record old.records (record_of 0 set b) ≡ false → IsWrittenTo told size count lending old mid slot bytes
+  pub put_first : (new : AreaValue D) (set b slot : ℕ) (bytes : List ℕ) → slice_get old.records slot ≡ Some free → has_record old.records (record_of 0 set b) ≡ false
+      → IsWrittenTo told size count lending old mid slot bytes
       → new ≡ with_records (slice_set mid.records slot (record_of 0 set b)) mid → IsPut told size count lending old new set b bytes (Ok tt)
   put_first new set b slot bytes empty none is new_is =
       let device : new.device ≡ mid.device = ap (λ (a : AreaValue D). a.device) new_is in (

@@ -38,7 +38,8 @@ one_of_it told g h stands =
       slots = told g.area.device;
       blocks = told_in (told g.area.device) (told place.device);
       blocks_is = ap blocks_in place.blocks_at;
-      volume = subst (λ (sets : List ℕ). IsVolume (told_in (told g.area.device) (told place.device)) (told g.area.device) g.area.records 0 place.blocks sets h) (sym (ap sets_in place.sets_at)) place.stands;
+      volume = subst (λ (sets : List ℕ). IsVolume (told_in (told g.area.device) (told place.device)) (told g.area.device) g.area.records 0 place.blocks sets h)
+          (sym (ap sets_in place.sets_at)) place.stands;
     }
 
 pub sets_are : {D : Type 0} (told : D → Option (List (List ℕ))) (g : GroupValue D) (h : History) → StandsForOne told g h → image_sets g ≡ sets_of h.images
@@ -71,7 +72,8 @@ same_overlay : (slots : Option (List (List ℕ))) (records : List Record) (n m :
 same_overlay slots records n m rs e is = subst (λ (k : ℕ). IsOverlay slots records k rs) (sym e) is
 
 -- where all is of the images that stand now, nothing goes
-pub changed_alone : (v : History) (h : Recovering) → IsOfImages (sets_of v.images) h → changed v h ≡ record { volume = v; recoveries = h.recoveries; window = h.window; claims = h.claims; final = h.final }
+pub changed_alone : (v : History) (h : Recovering) → IsOfImages (sets_of v.images) h
+    → changed v h ≡ record { volume = v; recoveries = h.recoveries; window = h.window; claims = h.claims; final = h.final }
 changed_alone v h of =
     let a = filter-all (λ (r : Recovery). is_among r.set (sets_of v.images)) h.recoveries of.recoveries in
     let b = window_stays (sets_of v.images) h.window of.window in
@@ -81,8 +83,10 @@ changed_alone v h of =
     ∙ ap (λ fs. let x : Recovering = record { volume = v; recoveries = h.recoveries; window = h.window; claims = h.claims; final = fs } in x) c
 
 -- the volume's history became another with images of sets of which all is said, and the overlay has what it had
-pub beside_stands : {D : Type 0} (told : D → Option (List (List ℕ))) (old new : RecoverValue D) (v : History) (h : Recovering) → StandsFor told old h → StandsForOne told new.volume v → blocks_of new.volume ≡ blocks_of old.volume
-    → IsOfImages (sets_of v.images) h → new.overlay.records ≡ old.overlay.records → told new.overlay.device ≡ told old.overlay.device → new.window ≡ old.window → new.claims ≡ old.claims → new.final ≡ old.final
+pub beside_stands : {D : Type 0} (told : D → Option (List (List ℕ))) (old new : RecoverValue D) (v : History) (h : Recovering) → StandsFor told old h → StandsForOne told new.volume v
+    → blocks_of new.volume ≡ blocks_of old.volume
+    → IsOfImages (sets_of v.images) h → new.overlay.records ≡ old.overlay.records → told new.overlay.device ≡ told old.overlay.device → new.window ≡ old.window → new.claims ≡ old.claims
+    → new.final ≡ old.final
     → StandsFor told new (record { volume = v; recoveries = h.recoveries; window = h.window; claims = h.claims; final = h.final })
 beside_stands told old new v h stood stands blocks of records slots window claims final = record {
   volume = stands;
@@ -97,20 +101,24 @@ beside_stands told old new v h stood stands blocks of records slots window claim
 }
 
 -- nothing changed but counts of devices
-pub quiet_stands : {D : Type 0} (told : D → Option (List (List ℕ))) (old new : RecoverValue D) (h : Recovering) → StandsFor told old h → StandsForOne told new.volume h.volume → blocks_of new.volume ≡ blocks_of old.volume
+pub quiet_stands : {D : Type 0} (told : D → Option (List (List ℕ))) (old new : RecoverValue D) (h : Recovering) → StandsFor told old h → StandsForOne told new.volume h.volume
+    → blocks_of new.volume ≡ blocks_of old.volume
     → new.overlay.records ≡ old.overlay.records → told new.overlay.device ≡ told old.overlay.device → new.window ≡ old.window → new.claims ≡ old.claims → new.final ≡ old.final → StandsFor told new h
 quiet_stands told old new h stood stands blocks records slots window claims final =
-    beside_stands told old new h.volume h stood stands blocks (subst (λ (sets : List ℕ). IsOfImages sets h) (sets_are told old.volume h.volume stood.volume) stood.of_images) records slots window claims final
+    beside_stands told old new h.volume h stood stands blocks
+    (subst (λ (sets : List ℕ). IsOfImages sets h) (sets_are told old.volume h.volume stood.volume) stood.of_images) records slots window claims final
 
 -- ## images that go
 
-pub settled_stands : {D : Type 0} (told : D → Option (List (List ℕ))) (old new : RecoverValue D) (v : History) (h : Recovering) → StandsFor told old h → StandsForOne told new.volume v → blocks_of new.volume ≡ blocks_of old.volume
+pub settled_stands : {D : Type 0} (told : D → Option (List (List ℕ))) (old new : RecoverValue D) (v : History) (h : Recovering) → StandsFor told old h → StandsForOne told new.volume v
+    → blocks_of new.volume ≡ blocks_of old.volume
     → IsSettled old new → StandsFor told new (changed v h)
 settled_stands told old new v h stood stands blocks settled =
     let sets = sets_are told new.volume v stands in
     record {
       volume = stands;
-      overlay = subst (λ (rows : List Record). IsOverlay (told new.overlay.device) rows (blocks_of new.volume) (kept (sets_of v.images) h.recoveries)) (sym (settled.records ∙ ap (λ (s : List ℕ). kept_records s old.overlay.records) sets))
+      overlay = subst (λ (rows : List Record). IsOverlay (told new.overlay.device) rows (blocks_of new.volume) (kept (sets_of v.images) h.recoveries))
+          (sym (settled.records ∙ ap (λ (s : List ℕ). kept_records s old.overlay.records) sets))
           (subst (λ d. IsOverlay (told d) (kept_records (sets_of v.images) old.overlay.records) (blocks_of new.volume) (kept (sets_of v.images) h.recoveries)) (sym settled.device)
           (same_overlay (told old.overlay.device) (kept_records (sets_of v.images) old.overlay.records) (blocks_of new.volume) (blocks_of old.volume) (kept (sets_of v.images) h.recoveries) blocks
           (keep_overlay (told old.overlay.device) old.overlay.records (blocks_of old.volume) (sets_of v.images) h.recoveries stood.overlay)));
@@ -121,12 +129,15 @@ settled_stands told old new v h stood stands blocks settled =
     }
 
 -- after a write for which the images up to a set went
-pub settled_up_to_stands : {D : Type 0} (told : D → Option (List (List ℕ))) (old new : RecoverValue D) (up_to : ℕ) (f : History → History) (h : Recovering) → StandsFor told old h → StandsForOne told new.volume (f (without_up_to up_to h.volume))
+pub settled_up_to_stands : {D : Type 0} (told : D → Option (List (List ℕ))) (old new : RecoverValue D) (up_to : ℕ) (f : History → History) (h : Recovering) → StandsFor told old h
+    → StandsForOne told new.volume (f (without_up_to up_to h.volume))
     → ((x : History) → (f x).images ≡ x.images) → blocks_of new.volume ≡ blocks_of old.volume → IsSettledUpTo up_to old new → StandsFor told new (changed (f (without_up_to up_to h.volume)) h)
 settled_up_to_stands told old new zero f h stood stands same blocks beside =
     let v = f (without_up_to 0 h.volume) in
-    let sets : image_sets old.volume ≡ sets_of v.images = sets_are told old.volume h.volume stood.volume ∙ sym (none_gone told old.volume h.volume stood.volume) ∙ sym (ap sets_of (same (without_up_to 0 h.volume))) in
+    let sets : image_sets old.volume ≡ sets_of v.images = sets_are told old.volume h.volume stood.volume ∙ sym (none_gone told old.volume h.volume stood.volume)
+    ∙ sym (ap sets_of (same (without_up_to 0 h.volume))) in
     let of : IsOfImages (sets_of v.images) h = subst (λ (s : List ℕ). IsOfImages s h) sets stood.of_images in
     subst (λ (k : Recovering). StandsFor told new k) (sym (changed_alone v h of))
-    (beside_stands told old new v h stood stands blocks of (ap (λ (a : AreaValue _). a.records) beside.overlay) (ap (λ (a : AreaValue _). told a.device) beside.overlay) beside.window beside.claims beside.final)
+    (beside_stands told old new v h stood stands blocks of (ap (λ (a : AreaValue _). a.records) beside.overlay)
+    (ap (λ (a : AreaValue _). told a.device) beside.overlay) beside.window beside.claims beside.final)
 settled_up_to_stands told old new (suc up_to) f h stood stands same blocks settled = settled_stands told old new (f (without_up_to (suc up_to) h.volume)) h stood stands blocks settled

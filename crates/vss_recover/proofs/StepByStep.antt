@@ -36,7 +36,8 @@ Fits h w = (set : ℕ) → h.window ≡ Some set → w ≡ Some (set, h.claims)
 kept_fits : (v : History) (h : Recovering) (w : Option (ℕ × List Claim)) → Fits h w → Fits (changed v h) w
 kept_fits v h w fits = λ set e. fits set (window_kept (sets_of v.images) h.window set e).0
 
-pub made_in : (n : ℕ) (h : Recovering) (w : Option (ℕ × List Claim)) (before later : List Step) (r : Recovery) → Fits h w → AreAllowed n h (before ++ Recovered r ∷ later) → IsMadeIn (last_window w before) r
+pub made_in : (n : ℕ) (h : Recovering) (w : Option (ℕ × List Claim)) (before later : List Step) (r : Recovery) → Fits h w → AreAllowed n h (before ++ Recovered r ∷ later)
+    → IsMadeIn (last_window w before) r
 made_in n h w [] later r fits all = subst (λ (o : Option (ℕ × List Claim)). IsMadeIn o r) (sym (fits r.set all.0.0)) (refl, all.0.2)
 made_in n h w (Wrote x up_to ∷ before) later r fits all = made_in n (after n h (Wrote x up_to)) w before later r (kept_fits (written x (without_up_to up_to h.volume)) h w fits) all.1
 made_in n h w (Evicted up_to ∷ before) later r fits all = made_in n (after n h (Evicted up_to)) w before later r (kept_fits (without_up_to up_to h.volume) h w fits) all.1
@@ -44,7 +45,8 @@ made_in n h w (Cut set ∷ before) later r fits all = made_in n (after n h (Cut 
 made_in n h w (Dropped set ∷ before) later r fits all = made_in n (after n h (Dropped set)) w before later r (kept_fits (dropped set h.volume) h w fits) all.1
 made_in n h w (Reverted set p ∷ before) later r fits all = made_in n (after n h (Reverted set p)) w before later r (kept_fits (reverted set p h.volume) h w fits) all.1
 made_in n h w (RevertedInPart set p m ∷ before) later r fits all = made_in n (after n h (RevertedInPart set p m)) w before later r (kept_fits (reverted_in_part n set p m h.volume) h w fits) all.1
-made_in n h w (Opened set claims ∷ before) later r fits all = made_in n (after n h (Opened set claims)) (Some (set, claims)) before later r (λ s e. (let same : set ≡ s = cc in ap (λ x. Some (x, claims)) same)) all.1
+made_in n h w (Opened set claims ∷ before) later r fits all = made_in n (after n h (Opened set claims)) (Some (set, claims)) before later r
+    (λ s e. (let same : set ≡ s = cc in ap (λ x. Some (x, claims)) same)) all.1
 made_in n h w (Recovered q ∷ before) later r fits all = made_in n (after n h (Recovered q)) w before later r fits all.1
 made_in n h w (Closed set ∷ before) later r fits all = made_in n (after n h (Closed set)) None before later r (λ s e. cc) all.1
 
@@ -54,13 +56,15 @@ made_in n h w (Closed set ∷ before) later r fits all = made_in n (after n h (C
 abbrev Shows : ℕ → Recovering → List Write → Type 0
 Shows set h made = is_among set (sets_of h.volume.images) ≡ true → recovered set h.recoveries ≡ made
 
-kept_shows : (set : ℕ) (v : History) (h : Recovering) (made : List Write) → ((s : ℕ) → is_among s (sets_of v.images) ≡ true → is_among s (sets_of h.volume.images) ≡ true) → Shows set h made → Shows set (changed v h) made
+kept_shows : (set : ℕ) (v : History) (h : Recovering) (made : List Write) → ((s : ℕ) → is_among s (sets_of v.images) ≡ true → is_among s (sets_of h.volume.images) ≡ true) → Shows set h made
+    → Shows set (changed v h) made
 kept_shows set v h made fewer shows = λ e. recovered-kept (sets_of v.images) set h.recoveries e ∙ shows (fewer set e)
 
 cut_sets : (images : List Image) (s p : ℕ) → sets_of (images ++ record { set = s; point = p } ∷ []) ≡ sets_of images ++ s ∷ []
 cut_sets images s p = map-append (λ (i : Image). i.set) images (record { set = s; point = p } ∷ [])
 
-cut_shows : (set s : ℕ) (h : Recovering) (made : List Write) → IsOfImages (sets_of h.volume.images) h → is_among s (sets_of h.volume.images) ≡ false → Shows set h made → is_among set (sets_of h.volume.images ++ s ∷ []) ≡ true
+cut_shows : (set s : ℕ) (h : Recovering) (made : List Write) → IsOfImages (sets_of h.volume.images) h → is_among s (sets_of h.volume.images) ≡ false → Shows set h made
+    → is_among set (sets_of h.volume.images ++ s ∷ []) ≡ true
     → recovered set h.recoveries ≡ (if s == set then [] else made)
 cut_shows set s h made of new shows among = by_test (s == set) refl where
   by_test : (t : Bool) → (s == set) ≡ t → recovered set h.recoveries ≡ (if t then [] else made)
@@ -70,7 +74,8 @@ cut_shows set s h made of new shows among = by_test (s == set) refl where
 push_shows : (set : ℕ) (r : Recovery) (rs : List Recovery) (made : List Write) → recovered set rs ≡ made → recovered set (rs ++ r ∷ []) ≡ (if r.set == set then made ++ r.write ∷ [] else made)
 push_shows set r rs made e = recovered-push set rs r ∙ ap (λ (ws : List Write). if r.set == set then ws ++ r.write ∷ [] else ws) e
 
-pub shows_made : (n set : ℕ) (h : Recovering) (made : List Write) (steps : List Step) → IsOfImages (sets_of h.volume.images) h → AreAllowed n h steps → Shows set h made → Shows set (after_all n h steps) (made_since_cut set made steps)
+pub shows_made : (n set : ℕ) (h : Recovering) (made : List Write) (steps : List Step) → IsOfImages (sets_of h.volume.images) h → AreAllowed n h steps → Shows set h made
+    → Shows set (after_all n h steps) (made_since_cut set made steps)
 shows_made n set h made [] of all shows = shows
 shows_made n set h made (Wrote w up_to ∷ steps) of all shows = (let v = written w (without_up_to up_to h.volume) in
     shows_made n set (changed v h) made steps (of_changed v h) all.1 (kept_shows set v h made (λ s e. among_filter _ h.volume.images s e) shows))
@@ -87,7 +92,8 @@ shows_made n set h made (Reverted s p ∷ steps) of all shows = (let v = reverte
 shows_made n set h made (RevertedInPart s p m ∷ steps) of all shows = (let v = reverted_in_part n s p m h.volume in
     shows_made n set (changed v h) made steps (of_changed v h) all.1 (kept_shows set v h made (λ x e. among_filter _ h.volume.images x e) shows))
 shows_made n set h made (Opened s claims ∷ steps) of all shows =
-    shows_made n set (opened s claims h) made steps (of_opened (sets_of h.volume.images) s claims h (among_at (sets_of h.volume.images) (length (sets_of h.volume.images) - 1) s all.0.0) of) all.1 shows
+    shows_made n set (opened s claims h) made steps
+    (of_opened (sets_of h.volume.images) s claims h (among_at (sets_of h.volume.images) (length (sets_of h.volume.images) - 1) s all.0.0) of) all.1 shows
 shows_made n set h made (Recovered r ∷ steps) of all shows =
     shows_made n set (recovered_by r h) (if r.set == set then made ++ r.write ∷ [] else made) steps (of_recovered (sets_of h.volume.images) r h all.0.0 of) all.1
     (λ e. push_shows set r h.recoveries made (shows e))

@@ -48,7 +48,8 @@ none_free k slot set b records are l e =
 nothing : {X : Type 0} (P : X → Type 0) → All P []
 nothing P = λ k d l. absurd (omega arith)
 
-pub new_stands : {D : Type 0} (told : D → Option (List (List ℕ))) (volume : GroupValue D) (overlay : AreaValue D) (h : History) → overlay.records ≡ replicate (length overlay.records) free → StandsForOne told volume h
+pub new_stands : {D : Type 0} (told : D → Option (List (List ℕ))) (volume : GroupValue D) (overlay : AreaValue D) (h : History) → overlay.records ≡ replicate (length overlay.records) free
+    → StandsForOne told volume h
     → StandsFor told (record { volume = volume; overlay = overlay; window = None; claims = []; final = [] }) (unrecovered h)
 new_stands told volume overlay h are stands = record {
   volume = stands;
@@ -75,7 +76,8 @@ stand_if_named sets s b rs all e = by_test (is_among s sets) refl where
   by_test true f = f
   by_test false f = (let none : names [] b ≡ true = ap (λ (ws : List Write). names ws b) (sym (none_recovered sets s rs all f)) ∙ e in absurd cc)
 
-pub used_pairs : {D : Type 0} (told : D → Option (List (List ℕ))) (v : RecoverValue D) (h : Recovering) → StandsFor told v h → v.overlay.volumes ≡ blocks_of v.volume ∷ [] → AreRecords v.overlay.volumes v.overlay.records
+pub used_pairs : {D : Type 0} (told : D → Option (List (List ℕ))) (v : RecoverValue D) (h : Recovering) → StandsFor told v h → v.overlay.volumes ≡ blocks_of v.volume ∷ []
+    → AreRecords v.overlay.volumes v.overlay.records
     → used_in v.overlay.records ≡ all_recovered (blocks_of v.volume) h.recoveries (image_sets v.volume)
 used_pairs told v h stood fits are =
     let one = one_of_it told v.volume h.volume stood.volume in
@@ -84,12 +86,15 @@ used_pairs told v h stood fits are =
     (λ s m. above_zero told v.volume h.volume s stood.volume (among_has (image_sets v.volume) s m))
     (λ s b e. stand_if_named (image_sets v.volume) s b h.recoveries stood.of_images.recoveries e)
 
-pub blocks_counted : {D : Type 0} (told : D → Option (List (List ℕ))) (v : RecoverValue D) (h : Recovering) (set : ℕ) → StandsFor told v h → v.overlay.volumes ≡ blocks_of v.volume ∷ [] → AreRecords v.overlay.volumes v.overlay.records
+pub blocks_counted : {D : Type 0} (told : D → Option (List (List ℕ))) (v : RecoverValue D) (h : Recovering) (set : ℕ) → StandsFor told v h → v.overlay.volumes ≡ blocks_of v.volume ∷ []
+    → AreRecords v.overlay.volumes v.overlay.records
     → is_among set (image_sets v.volume) ≡ true → count_in set v.overlay.records ≡ blocks_recovered (blocks_of v.volume) h.recoveries set
 blocks_counted told v h set stood fits are among =
-    counted_in (told v.overlay.device) v.overlay.records (blocks_of v.volume) h.recoveries set stood.overlay (subst (λ (ns : List ℕ). AreRecords ns v.overlay.records) fits are) (above_zero told v.volume h.volume set stood.volume among)
+    counted_in (told v.overlay.device) v.overlay.records (blocks_of v.volume) h.recoveries set stood.overlay (subst (λ (ns : List ℕ). AreRecords ns v.overlay.records) fits are)
+    (above_zero told v.volume h.volume set stood.volume among)
 
-pub room_is : {D : Type 0} (told : D → Option (List (List ℕ))) (v : RecoverValue D) (h : Recovering) (set b : ℕ) → StandsFor told v h → v.overlay.volumes ≡ blocks_of v.volume ∷ [] → AreRecords v.overlay.volumes v.overlay.records → v.window ≡ Some set → b < blocks_of v.volume
+pub room_is : {D : Type 0} (told : D → Option (List (List ℕ))) (v : RecoverValue D) (h : Recovering) (set b : ℕ) → StandsFor told v h → v.overlay.volumes ≡ blocks_of v.volume ∷ []
+    → AreRecords v.overlay.volumes v.overlay.records → v.window ≡ Some set → b < blocks_of v.volume
     → lacks_room v.overlay.records set b ≡ (not (names (recovered set h.recoveries) b) && (all_recovered (blocks_of v.volume) h.recoveries (image_sets v.volume) == length v.overlay.records))
 room_is told v h set b stood fits are window low =
     let among = stood.of_images.window set (sym stood.window ∙ window) in
@@ -102,11 +107,13 @@ room_is told v h set b stood fits are window low =
 point_among : (images : List Image) (set p : ℕ) → point_in set images ≡ Some p → is_among set (sets_of images) ≡ true
 point_among [] set p e = cc
 point_among (i ∷ images) set p e = by_test (i.set == set) e (λ f. point_among images set p f) where
-  by_test : (t : Bool) → (if t then Some i.point else point_in set images) ≡ Some p → (point_in set images ≡ Some p → is_among set (sets_of images) ≡ true) → (t || is_among set (sets_of images)) ≡ true
+  by_test : (t : Bool) → (if t then Some i.point else point_in set images) ≡ Some p → (point_in set images ≡ Some p → is_among set (sets_of images) ≡ true)
+      → (t || is_among set (sets_of images)) ≡ true
   by_test true f rest = refl
   by_test false f rest = rest f
 
-pub image_of_point : {D : Type 0} (told : D → Option (List (List ℕ))) (g : GroupValue D) (h : History) (set p : ℕ) → StandsForOne told g h → point_in set h.images ≡ Some p → is_among set (image_sets g) ≡ true
+pub image_of_point : {D : Type 0} (told : D → Option (List (List ℕ))) (g : GroupValue D) (h : History) (set p : ℕ) → StandsForOne told g h → point_in set h.images ≡ Some p
+    → is_among set (image_sets g) ≡ true
 image_of_point told g h set p stands e = ap (is_among set) (sets_are told g h stands) ∙ point_among h.images set p e
 
 and_first : (s t : Bool) → (s && t) ≡ true → s ≡ true
@@ -126,28 +133,33 @@ pub shown_slot : {D : Type 0} (told : D → Option (List (List ℕ))) (v : Recov
     → IfSome (told v.overlay.device) (λ blocks. slice_get blocks (place_of_slot (length v.overlay.records) slot) ≡ Some bytes) → IsShown told v set b bytes
 shown_slot told v set b slot bytes at block = λ h p stood all point. (
     let above = above_zero told v.volume h.volume set stood.volume (image_of_point told v.volume h.volume set p stood.volume point) in
-    told_bytes (told v.overlay.device) (place_of_slot (length v.overlay.records) slot) bytes (last_bytes b [] (recovered set h.recoveries)) (and_second (tells told v.volume) (is_some (told v.overlay.device)) all) block (stood.overlay.copied slot set b above at)
+    told_bytes (told v.overlay.device) (place_of_slot (length v.overlay.records) slot) bytes (last_bytes b [] (recovered set h.recoveries))
+    (and_second (tells told v.volume) (is_some (told v.overlay.device)) all) block (stood.overlay.copied slot set b above at)
     ∙ last_if_named b [] (content h.volume.writes p b) (recovered set h.recoveries) (stood.overlay.named slot set b above at))
 
 -- each other one is the volume's image's
-pub shown_below : {D : Type 0} (told : D → Option (List (List ℕ))) (v : RecoverValue D) (set b : ℕ) (bytes : List ℕ) → (0 < set → has_record v.overlay.records (record_of 0 set b) ≡ false) → b < blocks_of v.volume → IsOneShown told v.volume set b bytes → IsShown told v set b bytes
+pub shown_below : {D : Type 0} (told : D → Option (List (List ℕ))) (v : RecoverValue D) (set b : ℕ) (bytes : List ℕ) → (0 < set → has_record v.overlay.records (record_of 0 set b) ≡ false)
+    → b < blocks_of v.volume → IsOneShown told v.volume set b bytes → IsShown told v set b bytes
 shown_below told v set b bytes none low is = λ h p stood all point. (
     let above = above_zero told v.volume h.volume set stood.volume (image_of_point told v.volume h.volume set p stood.volume point) in
     is h.volume p stood.volume (and_first (tells told v.volume) (is_some (told v.overlay.device)) all) point
-    ∙ sym (last_if_unnamed b (content h.volume.writes p b) (recovered set h.recoveries) (sym (has_slot (told v.overlay.device) v.overlay.records (blocks_of v.volume) h.recoveries set b stood.overlay above low) ∙ none above)))
+    ∙ sym (last_if_unnamed b (content h.volume.writes p b) (recovered set h.recoveries)
+    (sym (has_slot (told v.overlay.device) v.overlay.records (blocks_of v.volume) h.recoveries set b stood.overlay above low) ∙ none above)))
 
 -- ## the volume's own calls
 
 blocks_same : {D : Type 0} (old new : GroupValue D) → new.area.volumes ≡ old.area.volumes → blocks_of new ≡ blocks_of old
 blocks_same old new e = ap (λ (ns : List ℕ). blocks_in (slice_get ns 0)) e
 
-pub wrote_step : {D : Type 0} (told : D → Option (List (List ℕ))) (size count : D → ℕ) (lending : D → Bool) (old new : RecoverValue D) (w : Write) (up_to : ℕ) → IsOneWritten told size count lending old.volume new.volume w up_to → IsSettledUpTo up_to old new → IsStep told old new (Wrote w up_to)
+pub wrote_step : {D : Type 0} (told : D → Option (List (List ℕ))) (size count : D → ℕ) (lending : D → Bool) (old new : RecoverValue D) (w : Write) (up_to : ℕ)
+    → IsOneWritten told size count lending old.volume new.volume w up_to → IsSettledUpTo up_to old new → IsStep told old new (Wrote w up_to)
 wrote_step told size count lending old new w up_to is settled = λ h stood. (
   is.in_range,
   settled_up_to_stands told old new up_to (written w) h stood (is.stands h.volume stood.volume) (λ x. refl) (blocks_same old.volume new.volume is.kept.volumes) settled,
 )
 
-pub evicted_step : {D : Type 0} (told : D → Option (List (List ℕ))) (size count : D → ℕ) (lending : D → Bool) (old new : RecoverValue D) (b : ℕ) (fault : _) → IsOneUnwritten told size count lending old.volume new.volume b fault → IsSettledUpTo fault.evicted_up_to old new → IsStep told old new (Evicted fault.evicted_up_to)
+pub evicted_step : {D : Type 0} (told : D → Option (List (List ℕ))) (size count : D → ℕ) (lending : D → Bool) (old new : RecoverValue D) (b : ℕ) (fault : _)
+    → IsOneUnwritten told size count lending old.volume new.volume b fault → IsSettledUpTo fault.evicted_up_to old new → IsStep told old new (Evicted fault.evicted_up_to)
 evicted_step told size count lending old new b fault is settled = λ h stood. (
   tt,
   settled_up_to_stands told old new fault.evicted_up_to (λ x. x) h stood (is.stands h.volume stood.volume) (λ x. refl) (blocks_same old.volume new.volume is.kept.volumes) settled,
@@ -159,7 +171,8 @@ not_below (s ∷ sets) set all =
     let l = All-head (λ s. s < set) s sets all in
     ap (λ (t : Bool). t || is_among set sets) (number_is_other s set (λ e. absurd (omega arith))) ∙ not_below sets set (All-tail (λ s. s < set) s sets all)
 
-pub cut_step : {D : Type 0} (told : D → Option (List (List ℕ))) (old new : RecoverValue D) (set : ℕ) → new.volume.area ≡ old.volume.area → image_sets new.volume ≡ image_sets old.volume ++ set ∷ [] → IsBeside old new
+pub cut_step : {D : Type 0} (told : D → Option (List (List ℕ))) (old new : RecoverValue D) (set : ℕ) → new.volume.area ≡ old.volume.area → image_sets new.volume ≡ image_sets old.volume ++ set ∷ []
+    → IsBeside old new
     → ((h : History) → StandsForOne told old.volume h → StandsForOne told new.volume (cut set h)) → All (λ s. s < set) (image_sets old.volume) → old.window ≡ None → IsStep told old new (Cut set)
 cut_step told old new set area images beside stands newest none = λ h stood. (
     let sets = sets_are told old.volume h.volume stood.volume in
@@ -172,26 +185,39 @@ cut_step told old new set area images beside stands newest none = λ h stood. (
           (ap (λ (a : AreaValue _). a.records) beside.overlay) (ap (λ (a : AreaValue _). told a.device) beside.overlay) beside.window beside.claims beside.final,
     ))
 
-pub dropped_step : {D : Type 0} (told : D → Option (List (List ℕ))) (size count : D → ℕ) (lending : D → Bool) (old new : RecoverValue D) (set : ℕ) → IsOneDropped told size count lending old.volume new.volume set (Ok tt) → IsSettled old new → IsStep told old new (Dropped set)
+pub dropped_step : {D : Type 0} (told : D → Option (List (List ℕ))) (size count : D → ℕ) (lending : D → Bool) (old new : RecoverValue D) (set : ℕ)
+    → IsOneDropped told size count lending old.volume new.volume set (Ok tt) → IsSettled old new → IsStep told old new (Dropped set)
 dropped_step told size count lending old new set is settled = λ h stood. (
   ap (is_among set) (sym (sets_are told old.volume h.volume stood.volume)) ∙ is.0,
   settled_stands told old new (dropped set h.volume) h stood (is.1.stands h.volume stood.volume) (blocks_same old.volume new.volume is.1.kept.volumes) settled,
 )
 
-module _ {D : Type 0} (told : D → Option (List (List ℕ))) (size count : D → ℕ) (lending : D → Bool) (old new : RecoverValue D) (set : ℕ) (fits : old.overlay.volumes ≡ blocks_of old.volume ∷ []) (are : AreRecords old.overlay.volumes old.overlay.records)
+module _ {D : Type 0} (told : D → Option (List (List ℕ))) (size count : D → ℕ) (lending : D → Bool) (old new : RecoverValue D) (set : ℕ) (fits : old.overlay.volumes ≡ blocks_of old.volume ∷ [])
+    (are : AreRecords old.overlay.volumes old.overlay.records)
     (none : count_in set old.overlay.records ≡ 0) (settled : IsSettled old new) (h : Recovering) (p : ℕ) (stood : StandsFor told old h) (point : point_in set h.volume.images ≡ Some p) where
   unrecovered_there : blocks_recovered (blocks_of old.volume) h.recoveries set ≡ 0
   unrecovered_there = sym (blocks_counted told old h set stood fits are (image_of_point told old.volume h.volume set p stood.volume point)) ∙ none
 
-  pub reverted_step : IsOneReverted told size count lending old.volume new.volume set → IsAllowed (blocks_of old.volume) h (Reverted set p) × StandsFor told new (after (blocks_of old.volume) h (Reverted set p))
-  reverted_step is = ((point, unrecovered_there), settled_stands told old new (reverted set p h.volume) h stood (is.stands h.volume p stood.volume point) (blocks_same old.volume new.volume is.kept.volumes) settled)
+  pub reverted_step : IsOneReverted told size count lending old.volume new.volume set
+      → IsAllowed (blocks_of old.volume) h (Reverted set p) × StandsFor told new (after (blocks_of old.volume) h (Reverted set p))
+  reverted_step is = (
+    (point, unrecovered_there),
+    settled_stands told old new (reverted set p h.volume) h stood (is.stands h.volume p stood.volume point)
+        (blocks_same old.volume new.volume is.kept.volumes) settled,
+  )
 
-  pub in_part_step : (k : ℕ) → IsOneRevertedInPart told size count lending old.volume new.volume set k → IsAllowed (blocks_of old.volume) h (RevertedInPart set p k) × StandsFor told new (after (blocks_of old.volume) h (RevertedInPart set p k))
-  in_part_step k is = ((point, unrecovered_there), settled_stands told old new (reverted_in_part (blocks_of old.volume) set p k h.volume) h stood (is.stands h.volume p stood.volume point) (blocks_same old.volume new.volume is.kept.volumes) settled)
+  pub in_part_step : (k : ℕ) → IsOneRevertedInPart told size count lending old.volume new.volume set k
+      → IsAllowed (blocks_of old.volume) h (RevertedInPart set p k) × StandsFor told new (after (blocks_of old.volume) h (RevertedInPart set p k))
+  in_part_step k is = (
+    (point, unrecovered_there),
+    settled_stands told old new (reverted_in_part (blocks_of old.volume) set p k h.volume) h stood (is.stands h.volume p stood.volume point)
+        (blocks_same old.volume new.volume is.kept.volumes) settled,
+  )
 
 -- ## the window
 
-pub opened_step : {D : Type 0} (told : D → Option (List (List ℕ))) (old : RecoverValue D) (set : ℕ) (claims : List Claim) → IsNewest (image_sets old.volume) set → old.window ≡ None → is_among set old.final ≡ false → AreWithin (blocks_of old.volume) claims → AreApart claims
+pub opened_step : {D : Type 0} (told : D → Option (List (List ℕ))) (old : RecoverValue D) (set : ℕ) (claims : List Claim) → IsNewest (image_sets old.volume) set → old.window ≡ None
+    → is_among set old.final ≡ false → AreWithin (blocks_of old.volume) claims → AreApart claims
     → IsStep told old (record { volume = old.volume; overlay = old.overlay; window = Some set; claims = claims; final = old.final }) (Opened set claims)
 opened_step told old set claims newest none open_still within apart = λ h stood. (
     let sets = sets_are told old.volume h.volume stood.volume in (
@@ -225,15 +251,19 @@ closed_step told old set window = λ h stood. (
 
 -- ## a recovery write
 
-pub recovered_step : {D : Type 0} (told : D → Option (List (List ℕ))) (size count : D → ℕ) (lending : D → Bool) (old : RecoverValue D) (overlay : AreaValue D) (r : Recovery) → old.overlay.volumes ≡ blocks_of old.volume ∷ [] → AreRecords old.overlay.volumes old.overlay.records
-    → size old.overlay.device ≡ blocks_for (length old.overlay.records) → IfSome (told old.overlay.device) (AreBlocks (size old.overlay.device)) → old.window ≡ Some r.set → r.write.block < blocks_of old.volume → owner_of old.claims r.write.block ≡ Some r.writer
-    → IsPutIn told size count lending old.overlay overlay r.set r.write.block r.write.bytes → IsStep told old (record { volume = old.volume; overlay = overlay; window = old.window; claims = old.claims; final = old.final }) (Recovered r)
+pub recovered_step : {D : Type 0} (told : D → Option (List (List ℕ))) (size count : D → ℕ) (lending : D → Bool) (old : RecoverValue D) (overlay : AreaValue D) (r : Recovery)
+    → old.overlay.volumes ≡ blocks_of old.volume ∷ [] → AreRecords old.overlay.volumes old.overlay.records
+    → size old.overlay.device ≡ blocks_for (length old.overlay.records) → IfSome (told old.overlay.device) (AreBlocks (size old.overlay.device)) → old.window ≡ Some r.set
+    → r.write.block < blocks_of old.volume → owner_of old.claims r.write.block ≡ Some r.writer
+    → IsPutIn told size count lending old.overlay overlay r.set r.write.block r.write.bytes
+    → IsStep told old (record { volume = old.volume; overlay = overlay; window = old.window; claims = old.claims; final = old.final }) (Recovered r)
 recovered_step told size count lending old overlay r fits are sized whole window low owner is = λ h stood. (
     let n = blocks_of old.volume in
     let among = stood.of_images.window r.set (sym stood.window ∙ window) in
     let above = above_zero told old.volume h.volume r.set stood.volume among in
     let mine = sym stood.window ∙ window in
-    let one = set_one old.overlay.volumes old.overlay.records is.slot (record_of 0 r.set r.write.block) are (λ e. (let none : r.set ≡ 0 = ap (λ (x : Record). x.set) e in absurd (omega arith))) is.was in
+    let one = set_one old.overlay.volumes old.overlay.records is.slot (record_of 0 r.set r.write.block) are
+    (λ e. (let none : r.set ≡ 0 = ap (λ (x : Record). x.set) e in absurd (omega arith))) is.was in
     let within = slice_get_within (slice_set old.overlay.records is.slot (record_of 0 r.set r.write.block)) is.slot (record_of 0 r.set r.write.block) one.at in
     let long = one.long in
     let room = slot_room (told old.overlay.device) (length old.overlay.records) is.slot (subst (λ (k : ℕ). IfSome (told old.overlay.device) (AreBlocks k)) sized whole) (omega arith) in (
@@ -242,7 +272,8 @@ recovered_step told size count lending old overlay r fits are sized whole window
         volume = stood.volume;
         overlay = subst (λ (rows : List Record). IsOverlay (told overlay.device) rows n (h.recoveries ++ r ∷ [])) (sym is.records)
             (subst (λ (o : Option (List (List ℕ))). IsOverlay o (slice_set old.overlay.records is.slot (record_of 0 r.set r.write.block)) n (h.recoveries ++ r ∷ [])) (sym is.slots)
-            (put_overlay (told old.overlay.device) old.overlay.records (slice_set old.overlay.records is.slot (record_of 0 r.set r.write.block)) n is.slot h.recoveries r stood.overlay above one room));
+            (put_overlay (told old.overlay.device) old.overlay.records
+            (slice_set old.overlay.records is.slot (record_of 0 r.set r.write.block)) n is.slot h.recoveries r stood.overlay above one room));
         of_images = (let of = of_recovered (image_sets old.volume) r h mine stood.of_images in record { recoveries = of.recoveries; window = of.window; final = of.final });
         window = stood.window;
         claims = stood.claims;

@@ -1,5 +1,6 @@
 -- The ordered list of the used slots of an overlay: what is found in it, a slot that is noted, and images that go.
-use Rattle.std.proofs.Common.{◌≡◌, ◌<◌, ◌≤◌, ◌+◌, ◌^◌, ◌⊎◌, ℕ, zero, suc, List, [], ◌∷◌, length, map, take, replicate, get_or, refl, ap, sym, subst, ◌∙◌, arith, Bool, true, false, cond, not, Option, Some, None, inl, inr, All, Vec, vec_capacity}
+use Rattle.std.proofs.Common.{◌≡◌, ◌<◌, ◌≤◌, ◌+◌, ◌^◌, ◌⊎◌, ℕ, zero, suc, List, [], ◌∷◌, length, map, take, replicate, get_or, refl, ap, sym, subst, ◌∙◌, arith, Bool, true, false, cond, not, Option}
+use Rattle.std.proofs.Common.{Some, None, inl, inr, All, Vec, vec_capacity}
 use Rattle.std.specs.List.{AllWithin, filter, filter_map, cons_option, insert}
 use Rattle.std.specs.Option.{option_and_then, option_map}
 use Rattle.std.specs.Prelude.{slice_get, slice_set, count_by, if◌then◌else◌, nat_lt, ◌==◌, ◌&&◌}
@@ -62,12 +63,14 @@ both_test a b c d same too = grind (arith, nat_tests)
 
 -- ## found
 
-pub found_row : (entries : List Entry) (records : List Record) (set b n : ℕ) (e : Entry) → IsIndex entries (rows records) → n < length entries → e ≡ get_or entries n e → e.block ≡ b → e.set ≡ set → slice_get records e.slot ≡ Some (record_of 0 set b)
+pub found_row : (entries : List Entry) (records : List Record) (set b n : ℕ) (e : Entry) → IsIndex entries (rows records) → n < length entries → e ≡ get_or entries n e → e.block ≡ b → e.set ≡ set
+    → slice_get records e.slot ≡ Some (record_of 0 set b)
 found_row entries records set b n e index inside is block_is set_is =
     let noted : IsNoted (rows records) e = subst (IsNoted (rows records)) (sym is) (index.each n e inside) in
     (record_of_row 0 records e.slot (copy_of e.set e.block) noted.row).1 ∙ ap (λ (s : ℕ). Some (record_of 0 s e.block)) set_is ∙ ap (λ (k : ℕ). Some (record_of 0 set k)) block_is
 
-pub no_row : (entries : List Entry) (records : List Record) (set b n : ℕ) → IsIndex entries (rows records) → AllWithin (λ e. place e < place_of b set) entries 0 n → AllWithin (λ e. place_of b set ≤ place e) entries n (length entries)
+pub no_row : (entries : List Entry) (records : List Record) (set b n : ℕ) → IsIndex entries (rows records) → AllWithin (λ e. place e < place_of b set) entries 0 n
+    → AllWithin (λ e. place_of b set ≤ place e) entries n (length entries)
     → (n < length entries → (d : Entry) → (get_or entries n d).block ≡ b → (get_or entries n d).set ≡ set → ⊥) → 0 < set → has_record records (record_of 0 set b) ≡ false
 no_row entries records set b n index before onward apart some = by_test (has_record records (record_of 0 set b)) refl where
   by_test : (t : Bool) → has_record records (record_of 0 set b) ≡ t → has_record records (record_of 0 set b) ≡ false
@@ -80,7 +83,8 @@ no_row entries records set b n index before onward apart some = by_test (has_rec
       let far = past_search entries (place_of b set) there.0 n f before (omega arith) in
       let last = there.1 in
       elim (cases_eq n there.0) [
-        | inl same ↦ absurd (apart (omega arith) f (ap (λ (k : ℕ). (get_or entries k f).block) same ∙ ap (λ (x : Entry). x.block) there.2) (ap (λ (k : ℕ). (get_or entries k f).set) same ∙ ap (λ (x : Entry). x.set) there.2))
+        | inl same ↦ absurd (apart (omega arith) f (ap (λ (k : ℕ). (get_or entries k f).block) same ∙ ap (λ (x : Entry). x.block) there.2)
+            (ap (λ (k : ℕ). (get_or entries k f).set) same ∙ ap (λ (x : Entry). x.set) there.2))
         | inr other ↦ (let up = index.in_order n there.0 f (omega arith) last in let high = onward n f (omega arith) (omega arith) in absurd (omega arith))
       ]
 
@@ -89,7 +93,8 @@ lacks_copy records set b none has = false≢true (sym none ∙ has_found records
 
 -- ## the records are of one volume
 
-pub each_used : (volumes : List ℕ) (records : List Record) → length volumes ≡ 1 → AreRecords volumes records → (k : ℕ) (r : Record) → slice_get records k ≡ Some r → (r ≡ free) ⊎ ((0 < r.set) × (r.volume ≡ 0))
+pub each_used : (volumes : List ℕ) (records : List Record) → length volumes ≡ 1 → AreRecords volumes records → (k : ℕ) (r : Record) → slice_get records k ≡ Some r
+    → (r ≡ free) ⊎ ((0 < r.set) × (r.volume ≡ 0))
 each_used volumes records one are k r at = by_test (is_free r) refl where
   by_test : (t : Bool) → is_free r ≡ t → (r ≡ free) ⊎ ((0 < r.set) × (r.volume ≡ 0))
   by_test true e = inl (free_is r e)
@@ -134,17 +139,21 @@ one_test set r (inr used) =
 abbrev keep_all : Copied → Option Copied
 keep_all c = Some c
 
-pub entries_counted : (volumes : List ℕ) (records : List Record) (entries : List Entry) (set : ℕ) → length volumes ≡ 1 → AreRecords volumes records → IsIndex entries (rows records) → count_by (λ (e : Entry). e.set == set) entries ≡ count_in set records
+pub entries_counted : (volumes : List ℕ) (records : List Record) (entries : List Entry) (set : ℕ) → length volumes ≡ 1 → AreRecords volumes records → IsIndex entries (rows records)
+    → count_by (λ (e : Entry). e.set == set) entries ≡ count_in set records
 entries_counted volumes records entries set one are index =
     sym (count_same (λ (e : Entry). is_its set (record_of 0 e.set e.block)) (λ (e : Entry). e.set == set) entries
-    (λ i e at. ap (λ (t : Bool). t && (e.set == set)) (both_on (nat_lt 0 e.set) (0 == 0) (lt-ltb 0 e.set (record_of_row 0 records e.slot (copy_of e.set e.block) (noted_at 0 keep_all entries records index i e at)).0) refl)))
+    (λ i e at. ap (λ (t : Bool). t && (e.set == set))
+    (both_on (nat_lt 0 e.set) (0 == 0) (lt-ltb 0 e.set (record_of_row 0 records e.slot (copy_of e.set e.block) (noted_at 0 keep_all entries records index i e at)).0) refl)))
     ∙ entries_count (is_its set) 0 entries records index (its_volume set) refl
     ∙ count_same (is_its set) (is_block_of set) records (λ k r at. one_test set r (each_used volumes records one are k r at))
 
 -- ## noted
 
-pub overlay_noted : (volumes : List ℕ) (records : List Record) (entries later : Vec Entry Global) (pool new_pool : List Bool) (set b slot n : ℕ) → KeepsOverlay volumes records entries pool → has_record records (record_of 0 set b) ≡ false → slice_get records slot ≡ Some free → 0 < set → set < 2 ^ 32
-    → n ≤ length entries.items → AllWithin (λ e. place e < place_of b set) entries.items 0 n → AllWithin (λ e. place_of b set ≤ place e) entries.items n (length entries.items) → later.items ≡ insert entries.items n (record { block = b; set = set; slot = slot })
+pub overlay_noted : (volumes : List ℕ) (records : List Record) (entries later : Vec Entry Global) (pool new_pool : List Bool) (set b slot n : ℕ) → KeepsOverlay volumes records entries pool
+    → has_record records (record_of 0 set b) ≡ false → slice_get records slot ≡ Some free → 0 < set → set < 2 ^ 32
+    → n ≤ length entries.items → AllWithin (λ e. place e < place_of b set) entries.items 0 n → AllWithin (λ e. place_of b set ≤ place e) entries.items n (length entries.items)
+    → later.items ≡ insert entries.items n (record { block = b; set = set; slot = slot })
     → vec_capacity entries ≤ vec_capacity later → new_pool ≡ slice_set pool slot false → KeepsOverlay volumes (slice_set records slot (record_of 0 set b)) later new_pool
 overlay_noted volumes records entries later pool new_pool set b slot n keeps none empty above narrow within before onward items cap taken =
     let row : slice_set (rows records) slot (Some (copy_of set b)) ≡ rows (slice_set records slot (record_of 0 set b)) =
@@ -155,12 +164,15 @@ overlay_noted volumes records entries later pool new_pool set b slot n keeps non
           (subst (IsIndex (insert entries.items n (record { block = b; set = set; slot = slot }))) row
           (IsIndex-noted entries.items (rows records) slot set b n keeps.index (unnoted records (rows records) 0 slot refl empty) (lacks_copy records set b none) narrow within before onward));
       room = let r = keeps.room in let long = length-set records slot (record_of 0 set b) in omega arith;
-      pool_is = taken ∙ ap (λ (p : List Bool). slice_set p slot false) keeps.pool_is ∙ ap (slice_set (map is_free records) slot) (sym (used_is (record_of 0 set b) above)) ∙ sym (map-set is_free records slot (record_of 0 set b));
+      pool_is = taken ∙ ap (λ (p : List Bool). slice_set p slot false) keeps.pool_is ∙ ap (slice_set (map is_free records) slot) (sym (used_is (record_of 0 set b) above))
+          ∙ sym (map-set is_free records slot (record_of 0 set b));
     }
 
 -- there is room for one more entry
-pub room_for : (volumes : List ℕ) (records : List Record) (entries : Vec Entry Global) (pool : List Bool) (set b slot n : ℕ) → KeepsOverlay volumes records entries pool → has_record records (record_of 0 set b) ≡ false → slice_get records slot ≡ Some free → set < 2 ^ 32
-    → n ≤ length entries.items → AllWithin (λ e. place e < place_of b set) entries.items 0 n → AllWithin (λ e. place_of b set ≤ place e) entries.items n (length entries.items) → length entries.items < vec_capacity entries
+pub room_for : (volumes : List ℕ) (records : List Record) (entries : Vec Entry Global) (pool : List Bool) (set b slot n : ℕ) → KeepsOverlay volumes records entries pool
+    → has_record records (record_of 0 set b) ≡ false → slice_get records slot ≡ Some free → set < 2 ^ 32
+    → n ≤ length entries.items → AllWithin (λ e. place e < place_of b set) entries.items 0 n → AllWithin (λ e. place_of b set ≤ place e) entries.items n (length entries.items)
+    → length entries.items < vec_capacity entries
 room_for volumes records entries pool set b slot n keeps none empty narrow within before onward =
     let more = room_for_one entries.items (rows records) slot set b n keeps.index (unnoted records (rows records) 0 slot refl empty) (lacks_copy records set b none) narrow within before onward in
     let long = length-map records (copied_for 0) in
@@ -197,14 +209,16 @@ row_kept sets r (inr used) =
     by_test true = same_record (record_of 0 r.set r.block) r refl refl (sym used.1)
     by_test false = refl
 
-rows_kept : (sets : List ℕ) (records : List Record) → ((k : ℕ) (r : Record) → slice_get records k ≡ Some r → (r ≡ free) ⊎ ((0 < r.set) × (r.volume ≡ 0))) → followed 0 (renewed (among sets) (rows records)) records ≡ kept_records sets records
+rows_kept : (sets : List ℕ) (records : List Record) → ((k : ℕ) (r : Record) → slice_get records k ≡ Some r → (r ≡ free) ⊎ ((0 < r.set) × (r.volume ≡ 0)))
+    → followed 0 (renewed (among sets) (rows records)) records ≡ kept_records sets records
 rows_kept sets [] each = refl
 rows_kept sets (r ∷ records) each =
     ap (λ (q : Record). q ∷ followed 0 (renewed (among sets) (rows records)) records) (row_kept sets r (each 0 r refl))
     ∙ ap (λ (rs : List Record). kept_record sets r ∷ rs) (rows_kept sets records (λ k q at. each (suc k) q at))
 
 -- what follows the rows of the images that stay are the records of these
-pub followed_kept : (volumes : List ℕ) (records : List Record) (sets : List ℕ) → length volumes ≡ 1 → AreRecords volumes records → followed 0 (renewed (among sets) (rows records)) records ≡ kept_records sets records
+pub followed_kept : (volumes : List ℕ) (records : List Record) (sets : List ℕ) → length volumes ≡ 1 → AreRecords volumes records
+    → followed 0 (renewed (among sets) (rows records)) records ≡ kept_records sets records
 followed_kept volumes records sets one are = rows_kept sets records (each_used volumes records one are)
 
 abbrev made : ℕ → Copied → Entry
@@ -214,7 +228,8 @@ module _ (sets : List ℕ) (copies : List (Option Copied)) where
   row_now : (e : Entry) → IsNoted copies e → copied_at (renewed (among sets) copies) e.slot ≡ among sets (copy_of e.set e.block)
   row_now e noted = copied_at-renewed (among sets) copies e.slot ∙ ap (option_and_then (among sets)) noted.row
 
-  one_more : (e : Entry) (left es : List Entry) (t : Bool) → is_among e.set sets ≡ t → IsNoted copies e → left ≡ es → cond (is_among e.set sets) (e ∷ left) left ≡ cons_option (entry_now (renewed (among sets) copies) e) es
+  one_more : (e : Entry) (left es : List Entry) (t : Bool) → is_among e.set sets ≡ t → IsNoted copies e → left ≡ es
+      → cond (is_among e.set sets) (e ∷ left) left ≡ cons_option (entry_now (renewed (among sets) copies) e) es
   one_more e left es true test noted rest =
       ap (λ (b : Bool). cond b (e ∷ left) left) test ∙ ap (λ (xs : List Entry). e ∷ xs) rest
       ∙ ap (λ (o : Option Copied). cons_option (option_map (made e.slot) o) es) (sym (row_now e noted ∙ among_stays sets (copy_of e.set e.block) test))
@@ -224,7 +239,8 @@ module _ (sets : List ℕ) (copies : List (Option Copied)) where
 
   filters : (entries : List Entry) → All (IsNoted copies) entries → filter (λ (e : Entry). is_among e.set sets) entries ≡ filter_map (entry_now (renewed (among sets) copies)) entries
   filters [] each = refl
-  filters (e ∷ es) each = one_more e (filter (λ (x : Entry). is_among x.set sets) es) (filter_map (entry_now (renewed (among sets) copies)) es) (is_among e.set sets) refl (All-head (IsNoted copies) e es each) (filters es (All-tail (IsNoted copies) e es each))
+  filters (e ∷ es) each = one_more e (filter (λ (x : Entry). is_among x.set sets) es) (filter_map (entry_now (renewed (among sets) copies)) es) (is_among e.set sets) refl
+      (All-head (IsNoted copies) e es each) (filters es (All-tail (IsNoted copies) e es each))
 
   keeps_order : (entries : List Entry) → IsIndex entries copies → KeepsOrder (among sets) copies
   keeps_order entries index = record {
@@ -237,11 +253,13 @@ module _ (sets : List ℕ) (copies : List (Option Copied)) where
         omega arith;
   }
 
-pub overlay_kept : (volumes : List ℕ) (records : List Record) (entries later : Vec Entry Global) (pool new_pool : List Bool) (sets : List ℕ) → KeepsOverlay volumes records entries pool → AreRecords volumes records → later.items ≡ filter (λ (e : Entry). is_among e.set sets) entries.items
+pub overlay_kept : (volumes : List ℕ) (records : List Record) (entries later : Vec Entry Global) (pool new_pool : List Bool) (sets : List ℕ) → KeepsOverlay volumes records entries pool
+    → AreRecords volumes records → later.items ≡ filter (λ (e : Entry). is_among e.set sets) entries.items
     → vec_capacity later ≡ vec_capacity entries → new_pool ≡ map is_free (kept_records sets records) → KeepsOverlay volumes (kept_records sets records) later new_pool
 overlay_kept volumes records entries later pool new_pool sets keeps are items cap pool_is =
     let now : rows (kept_records sets records) ≡ renewed (among sets) (rows records) =
-    ap (λ (rs : List Record). rows rs) (sym (followed_kept volumes records sets keeps.one are)) ∙ own_map 0 (among sets) records (λ c d gives above. (let e : d.set ≡ c.set = ap (λ (x : Copied). x.set) (among_gives sets c d gives) in omega arith)) in
+    ap (λ (rs : List Record). rows rs) (sym (followed_kept volumes records sets keeps.one are))
+    ∙ own_map 0 (among sets) records (λ c d gives above. (let e : d.set ≡ c.set = ap (λ (x : Copied). x.set) (among_gives sets c d gives) in omega arith)) in
     record {
       one = keeps.one;
       index = subst (λ (es : List Entry). IsIndex es (rows (kept_records sets records))) (sym (items ∙ filters sets (rows records) entries.items keeps.index.each))
@@ -252,7 +270,8 @@ overlay_kept volumes records entries later pool new_pool sets keeps are items ca
     }
 
 -- the slot of an entry that was not passed is taken
-pub taken_there : {D : Type 0} (first old : AreaValue D) (pool : List Bool) (rule : Copied → Option Copied) (entries : List Entry) (i : ℕ) (e : Entry) → IsIndex entries (rows first.records) → slice_get entries i ≡ Some e
+pub taken_there : {D : Type 0} (first old : AreaValue D) (pool : List Bool) (rule : Copied → Option Copied) (entries : List Entry) (i : ℕ) (e : Entry) → IsIndex entries (rows first.records)
+    → slice_get entries i ≡ Some e
     → old ≡ with_records (passed 0 rule (take i entries) first.records) first → pool ≡ map is_free old.records → IsTaken pool e.slot
 taken_there {D = D} first old pool rule entries i e index at was pool_is =
     ap (λ (p : List Bool). slice_get p e.slot) (pool_is ∙ ap (λ (a : AreaValue D). map is_free a.records) was)
@@ -269,7 +288,8 @@ pool_new : (k : ℕ) → replicate k true ≡ map is_free (replicate k free)
 pool_new zero = refl
 pool_new (suc k) = ap (λ (ts : List Bool). true ∷ ts) (pool_new k)
 
-pub overlay_new : (volumes : List ℕ) (records : List Record) (entries : Vec Entry Global) (pool : List Bool) → length volumes ≡ 1 → records ≡ replicate (length records) free → entries.items ≡ [] → length records ≤ vec_capacity entries → pool ≡ replicate (length records) true → KeepsOverlay volumes records entries pool
+pub overlay_new : (volumes : List ℕ) (records : List Record) (entries : Vec Entry Global) (pool : List Bool) → length volumes ≡ 1 → records ≡ replicate (length records) free → entries.items ≡ []
+    → length records ≤ vec_capacity entries → pool ≡ replicate (length records) true → KeepsOverlay volumes records entries pool
 overlay_new volumes records entries pool one are items room pool_is =
     let none : rows records ≡ replicate (length records) None = ap (λ (rs : List Record). rows rs) are ∙ rows_new (length records) in
     record {

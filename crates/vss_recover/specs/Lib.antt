@@ -6,3 +6,5 @@ pub mod Calls
 pub mod Keeping
 pub mod OverlayCalls
 pub mod Messages
+pub mod Syncing
+pub mod TakingUp

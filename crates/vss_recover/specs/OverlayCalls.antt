@@ -1,10 +1,13 @@
 -- What the calls on an overlay leave: its records, and what its device tells. (This project's own.)
-use Rattle.std.specs.Prelude.{ℕ, ◌≡◌, ◌⊎◌, Bool, true, false, List, length, map, Option, Some, slice_get, slice_set, count_by, nat_lt, ◌==◌, ◌&&◌, not, if◌then◌else◌, Result, Ok, Err}
+use Rattle.std.specs.Prelude.{ℕ, ◌≡◌, ◌<◌, ◌≤◌, ◌^◌, ◌⊎◌, Bool, true, false, List, length, map, Option, Some, slice_get, slice_set, count_by, nat_lt, ◌==◌, ◌&&◌, not, if◌then◌else◌, Result, Ok, Err}
+use Rattle.std.specs.List.{AllWithin, insert}
 use Rattle.vss_names.specs.Faults.{Rose}
 use Rattle.diff_area.specs.AreaValue.{AreaValue}
 use Rattle.diff_area.specs.Places.{place_of_slot}
 use Rattle.diff_area.specs.Records.{free}
 use Rattle.diff_area.specs.declared.table_record.Record.{Record}
+use Rattle.diff_map.specs.Index.{place, place_of}
+use Rattle.diff_map.specs.declared.entry.Entry.{Entry}
 use Rattle.cow_volume.specs.StandsFor.{record_of}
 use Rattle.cow_volume.specs.Calls.{is_among, IsSameDevice}
 use Rattle.cow_volume.specs.Changes.{has_record}
@@ -31,6 +34,15 @@ kept_record sets r = if is_among r.set sets then r else free
 
 abbrev pub kept_records : List ℕ → List Record → List Record
 kept_records sets records = map (kept_record sets) records
+
+-- the slot of a record is noted in its place among ordered entries
+pub record IsNotedIn (old new : List Entry) (slot : ℕ) (r : Record) : Type 0 where
+  pub at : ℕ
+  pub narrow : r.set < 2 ^ 32
+  pub within : at ≤ length old
+  pub before : AllWithin (λ e. place e < place_of r.block r.set) old 0 at
+  pub onward : AllWithin (λ e. place_of r.block r.set ≤ place e) old at (length old)
+  pub items : new ≡ insert old at (record { block = r.block; set = r.set; slot = slot })
 
 -- the device was called, and the records are as they were
 pub record KeepsRecords {D : Type 0} (told : D → Option (List (List ℕ))) (size count : D → ℕ) (lending : D → Bool) (old new : AreaValue D) : Type 0 where

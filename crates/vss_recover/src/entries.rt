@@ -1,15 +1,15 @@
 //! The ordered list of the used slots of an overlay: what is found in it, and which slots are given back.
 
-ghost use Rattle.std.specs.Prelude.{◌≡◌, ◌≤◌, ◌<◌, ◌==◌, ◌&&◌, ◌^◌, not, length, map, count_by};
+ghost use Rattle.std.specs.Prelude.{◌≡◌, ◌≤◌, ◌<◌, ◌==◌, ◌&&◌, ◌^◌, [], true, false, not, length, map, count_by, vec_capacity};
 ghost use Rattle.std.specs.List.{AllWithin};
 ghost use Rattle.diff_area.specs.Records.{AreRecords, is_free};
 ghost use Rattle.diff_map.specs.Index.{IsInOrder, IsIndex, place, place_of};
 ghost use Rattle.cow_volume.specs.Calls.{is_among};
 ghost use Rattle.cow_volume.specs.CopiesAfter.{with_records};
 ghost use Rattle.cow_volume.specs.Tied.{copied_for};
-ghost use Rattle.vss_recover.specs.OverlayCalls.{kept_records};
+ghost use Rattle.vss_recover.specs.OverlayCalls.{IsNotedIn, kept_records};
 
-use diff_area::Area;
+use diff_area::{Area, Record};
 use diff_map::Entry;
 use slot_pool::SlotPool;
 use volume_device::Device;
@@ -29,6 +29,35 @@ pub(crate) fn is_at(entry: Entry, block: u32, set: u32) -> bool
     ensures { result ≡ ((entry.block == block) && (entry.set == set)) }
 {
     entry.block == block && entry.set == set
+}
+
+/// Notes the slots of the records of an area that are not free, where no slot is noted yet.
+pub(crate) fn note_used<D: Device>(entries: &mut Vec<Entry>, area: &Area<D>)
+    requires one { length area.now.volumes ≡ 1 }
+    requires none { entries.old.items ≡ [] }
+    requires room { length area.now.records ≤ vec_capacity entries.old }
+    ensures index { IsIndex entries.new.items (map (copied_for 0) area.now.records) }
+    ensures room { length area.now.records ≤ vec_capacity entries.new }
+{
+    for slot in 0..area.slots() {
+        note_if_used(entries, slot, area.record_at(slot));
+    }
+}
+
+/// Notes a slot for its record, where that is not free.
+fn note_if_used(entries: &mut Vec<Entry>, slot: u32, row: Record)
+    requires order { IsInOrder entries.old.items }
+    requires room { length entries.old.items < vec_capacity entries.old }
+    ensures free { is_free row ≡ true → entries.new.items ≡ entries.old.items }
+    ensures noted { is_free row ≡ false → IsNotedIn entries.old.items entries.new.items slot row }
+    ensures room { vec_capacity entries.old ≤ vec_capacity entries.new }
+{
+    if row.is_free() {
+        return;
+    }
+    let Record { set, block, .. } = row;
+    let at = place_from(entries, block, set);
+    let _ = entries.insert(at, Entry { block, set, slot });
 }
 
 /// How many entries are of the image of a set.

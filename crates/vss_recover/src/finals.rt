@@ -6,9 +6,7 @@ ghost use Rattle.vss_recover.specs.Recoveries.{kept_window, with_final};
 
 use crate::claim::Claim;
 use crate::entries::is_one_of;
-
-/// The most images that a volume has.
-pub(crate) const MOST_IMAGES: usize = 512;
+use diff_map::MOST_IMAGES;
 
 /// The most claims of a window.
 pub(crate) const MOST_CLAIMS: usize = 64;

@@ -1,19 +1,23 @@
-ghost use Rattle.std.specs.Prelude.{◌≡◌, ◌<◌, false, IfSome, IsNone, IfOk, OnOk, Some, length, replicate, map, slice_get, slice_set};
+ghost use Rattle.std.specs.Prelude.{◌≡◌, ◌<◌, false, List, IfSome, IsNone, IfOk, OnOk, Some, length, replicate, map, slice_get, slice_set};
 ghost use Rattle.vss_names.specs.Faults.{HasCause};
 ghost use Rattle.volume_device.specs.Blocks.{AreBlocks};
 ghost use Rattle.block_data.specs.PayloadBytes.{payload_bytes};
 ghost use Rattle.slot_pool.specs.Slots.{IsLowestFree};
+ghost use Rattle.write_history.specs.Slots.{Copy};
 ghost use Rattle.diff_area.specs.AreaValue.{KeepsTable};
+ghost use Rattle.diff_area.specs.Copies.{AreHeld, AreStored};
 ghost use Rattle.diff_area.specs.Places.{blocks_for, place_of_slot};
 ghost use Rattle.diff_area.specs.Records.{AreRecords, IsUsed, free, is_free, used_in};
 ghost use Rattle.cow_volume.specs.StandsFor.{record_of};
 ghost use Rattle.cow_volume.specs.Changes.{has_record};
 ghost use Rattle.cow_volume.specs.CopiesAfter.{with_records};
 ghost use Rattle.vss_recover.specs.OverlayCalls.{IsPut, IsWrittenIn, count_in, kept_records};
+ghost use Rattle.vss_recover.specs.Syncing.{KeepsSlots};
 
-use crate::entries::{entries_of, free_gone, is_at, is_one_of, place_from};
+use crate::entries::{entries_of, free_gone, is_at, is_one_of, note_used, place_from};
 use crate::recover_fault::RecoverFault;
 use block_data::{BLOCK, BlockBuf, BlockView, Payload};
+use cow_volume::pool_of;
 use diff_area::{Area, AreaFault, Record};
 use diff_map::Entry;
 use slot_pool::SlotPool;
@@ -58,6 +62,35 @@ impl<D: Device> Overlay<D> {
             entries,
             pool,
         })
+    }
+
+    /// The overlay in an area with the blocks that its records say. It takes all memory that the overlay ever needs.
+    pub(crate) fn resume(alloc: Global, area: Area<D>) -> Result<Overlay<D>, OutOfMemory>
+        requires { length area.volumes ≡ 1 }
+        ensures value { IfOk result (λ overlay. overlay ≡ area) }
+        ensures valid { AreRecords area.volumes area.records }
+    {
+        let _facts = area.slots();
+        let pool = pool_of(alloc, &area)?;
+        let mut entries = Vec::with_capacity(alloc, area.slots() as usize)?;
+        note_used(&mut entries, &area);
+        Ok(Overlay {
+            area,
+            entries,
+            pool,
+        })
+    }
+
+    /// Writes the records to the area's device, and brings all that was written to it to where it lasts.
+    pub(crate) fn sync(&mut self) -> Result<(), AreaFault>
+        ensures stored { OnOk result ((copies : List Copy) → AreHeld (D.told self.old.device) self.old.records copies → AreStored (D.told self.new.device) copies) }
+        ensures lasts { OnOk result (D.lasting self.new.device ≡ D.told self.new.device) }
+        ensures kept { KeepsSlots D.told D.size D.count D.lending self.old self.new }
+        ensures cause { HasCause (D.count self.old.device) (D.count self.new.device) result }
+    {
+        let _facts = self.area.slots();
+        self.area.sync()?;
+        self.area.flush()
     }
 
     /// The area, as it is.

@@ -1,7 +1,8 @@
 ghost use Rattle.std.specs.Prelude.{◌≡◌, ◌<◌, ◌≤◌, ◌++◌, ◌∷◌, ◌&&◌, ◌||◌, ◌==◌, [], true, None, Some, length, replicate, slice_get, vec_capacity, not, List, All, IfOk, IfErr, OnOk};
 ghost use Rattle.block_data.specs.PayloadBytes.{payload_bytes};
 ghost use Rattle.write_history.specs.History.{History, point_in, names};
-ghost use Rattle.write_history.specs.Slots.{used};
+ghost use Rattle.write_history.specs.Slots.{used, Copy};
+ghost use Rattle.diff_area.specs.Copies.{AreHeld, AreStored};
 ghost use Rattle.diff_area.specs.Records.{free, used_in};
 ghost use Rattle.cow_volume.specs.Calls.{IsQuiet, IsUnfailed, VolumeRose, is_among};
 ghost use Rattle.cow_volume.specs.OneVolume.{StandsForOne, blocks_of, image_sets, IsOneWrite, IsOneCopiedOnce, IsOneNow, HasOneCause, IsOneDropped};
@@ -10,11 +11,13 @@ ghost use Rattle.vss_recover.specs.OverlayCalls.{count_in, lacks_room};
 ghost use Rattle.vss_recover.specs.Recoveries.{Recovering, unrecovered, recovered, blocks_recovered, all_recovered, with_final, kept_window};
 ghost use Rattle.vss_recover.specs.RecoverValue.{StandsFor};
 ghost use Rattle.vss_recover.specs.Steps.{Step};
+ghost use Rattle.vss_recover.specs.Syncing.{IsRecoverSync, KeepsSaid};
+ghost use Rattle.vss_recover.specs.TakingUp.{AreOfImages, taken_up};
 
 use crate::claim::Claim;
 use crate::claims::{first_out, first_overlap, owner_of};
 use crate::entries::is_one_of;
-use crate::finals::{MOST_CLAIMS, MOST_IMAGES, final_among, kept_window, take_claims};
+use crate::finals::{MOST_CLAIMS, final_among, kept_window, take_claims};
 use crate::open_fault::OpenFault;
 use crate::overlay::{Overlay, put_payload};
 use crate::recover_fault::RecoverFault;
@@ -22,6 +25,7 @@ use crate::recover_revert::RecoverRevert;
 use block_data::{BLOCK, BlockBuf, Payload};
 use cow_volume::{Cause, CowVolume, ImageFault, RevertFault, WriteFault, Written};
 use diff_area::Area;
+use diff_map::MOST_IMAGES;
 use std::alloc::Global;
 use std::marker::Model;
 use std::mem::swap;
@@ -77,6 +81,35 @@ impl<D: Device> RecoverVolume<D> {
             window: None,
             claims: Vec::with_capacity(alloc, MOST_CLAIMS)?,
             finals: Vec::with_capacity(alloc, MOST_IMAGES)?,
+            next_finals: Vec::with_capacity(alloc, MOST_IMAGES)?,
+            scratch: BlockBuf::zeroed(alloc)?,
+        })
+    }
+
+    /// Takes a volume up again: the copy-on-write volume, the overlay with the blocks that its records say, and the sets of the final
+    /// images. No window is open. It takes all memory of the later calls. Where the overlay's device does not tell what it holds, the
+    /// volume stands for what the copy-on-write volume stands for, with some recovery writes.
+    pub fn resume(
+        alloc: Global,
+        volume: CowVolume<D>,
+        overlay: Area<D>,
+        finals: &[u32],
+    ) -> Result<RecoverVolume<D>, OutOfMemory>
+        requires fits { overlay.volumes ≡ blocks_of volume ∷ [] }
+        requires few { length finals.now ≤ 512 }
+        ensures value { IfOk result (λ v. v ≡ taken_up volume overlay finals.now) }
+        ensures untold { IfOk result (λ v. (h : History) → AreOfImages h overlay.records finals.now → D.told overlay.device ≡ None
+            → StandsForOne D.told volume h → (r : Recovering) × (r.volume ≡ h) × StandsFor D.told v r) }
+    {
+        let overlay = Overlay::resume(alloc, overlay)?;
+        let mut all = Vec::with_capacity(alloc, MOST_IMAGES)?;
+        all.extend_from_slice(finals)?;
+        Ok(RecoverVolume {
+            volume,
+            overlay,
+            window: None,
+            claims: Vec::with_capacity(alloc, MOST_CLAIMS)?,
+            finals: all,
             next_finals: Vec::with_capacity(alloc, MOST_IMAGES)?,
             scratch: BlockBuf::zeroed(alloc)?,
         })
@@ -299,10 +332,28 @@ impl<D: Device> RecoverVolume<D> {
         self.volume.flush()
     }
 
+    /// Writes the records of the copies and of the recovered blocks to the devices of their areas, and brings all that was written to
+    /// these to where it lasts. The volume's area comes first.
+    pub fn sync(&mut self) -> Result<(), Cause>
+        ensures sync { IsRecoverSync D.told D.size D.count D.lending self.old self.new result }
+        ensures stored { OnOk result ((copies : List Copy) → AreHeld (D.told self.old.overlay.device) self.old.overlay.records copies → AreStored (D.told self.new.overlay.device) copies) }
+        ensures lasts { OnOk result (D.lasting self.new.volume.area.device ≡ D.told self.new.volume.area.device) }
+        ensures overlay_lasts { OnOk result (D.lasting self.new.overlay.device ≡ D.told self.new.overlay.device) }
+        ensures said { KeepsSaid self.old self.new }
+        ensures stands { (h : Recovering) → StandsFor D.told self.old h → StandsFor D.told self.new h }
+    {
+        self.volume.sync()?;
+        match self.overlay.sync() {
+            Ok(()) => Ok(()),
+            Err(_) => Err(Cause::Area),
+        }
+    }
+
     /// The volume and the overlay, as they are.
     pub fn into_parts(self) -> (CowVolume<D>, Area<D>)
         ensures volume { result.0 ≡ self.volume }
         ensures overlay { result.1 ≡ self.overlay }
+        ensures fits { result.1.volumes ≡ blocks_of result.0 ∷ [] }
     {
         (self.volume, self.overlay.into_area())
     }

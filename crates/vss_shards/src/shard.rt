@@ -62,6 +62,13 @@ impl<D: Device> Shard<D> {
         })
     }
 
+    /// Its number among the shards.
+    pub fn number(&self) -> u32
+        ensures { result ≡ self.now.number }
+    {
+        self.number
+    }
+
     /// Whether it is held for a cut.
     pub fn is_held(&self) -> bool
         ensures held { result ≡ is_some self.now.held }

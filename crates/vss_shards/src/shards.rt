@@ -1,8 +1,10 @@
 ghost use Rattle.std.specs.Prelude.{◌≡◌, ◌<◌, ◌≤◌, length, vec_len, IfOk};
 ghost use Rattle.std.specs.List.{All};
+ghost use Rattle.std.specs.List.Sorted.{IsNonDecreasingBy};
 ghost use Rattle.write_history.specs.History.{fresh};
 ghost use Rattle.cow_volume.specs.OneVolume.{StandsForOne};
 ghost use Rattle.vss_shards.specs.Entries.{most_volumes};
+ghost use Rattle.vss_shards.specs.Shards.{ShardValue};
 
 use crate::journal::Journal;
 use crate::shard::Shard;
@@ -71,9 +73,10 @@ impl<D: Device> Shards<D> {
         &self.journal
     }
 
-    /// What the locks keep, the shards in order of their numbers, without taking memory.
+    /// What the locks keep, the shards in order of their numbers, whatever was exchanged among them, without taking memory.
     pub fn into_states(self) -> (Vec<Shard<D>>, Journal)
-        ensures { vec_len result.0 ≡ self }
+        ensures count { vec_len result.0 ≡ self }
+        ensures ordered { IsNonDecreasingBy (λ (s : ShardValue D). s.number) result.0.items }
     {
         let Shards {
             shards,
@@ -83,6 +86,7 @@ impl<D: Device> Shards<D> {
         for shard in shards {
             states.push_reserved(shard.into_inner());
         }
+        states.sort_unstable_by_key(|shard| shard.number());
         (states, journal.into_inner())
     }
 }

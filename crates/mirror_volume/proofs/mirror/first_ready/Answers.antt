@@ -18,7 +18,8 @@ pub loop-place-preserved : goal.loop-place-preserved
 loop-place-preserved g c =
     let within : c.loop-place.place < length c.args.mirrors.now = (let test = c.loop-place-test.true in omega arith) in
     λ k m l at. more_at (λ x. is_ready x ≡ false) c.args.mirrors.now c.loop-place.place c.index-mirrors-place.result
-    (at_place c.args.mirrors.now c.loop-place.place c.index-mirrors-place.result within c.index-mirrors-place.is) (sym c.is_ready.ensures ∙ c.if-is_ready.false) (λ j x before is. c.loop-place.invariant j x before is) k m l at
+    (at_place c.args.mirrors.now c.loop-place.place c.index-mirrors-place.result within c.index-mirrors-place.is) (sym c.is_ready.ensures ∙ c.if-is_ready.false)
+    (λ j x before is. c.loop-place.invariant j x before is) k m l at
 
 pub returns-clause-none : goal.returns-clause-none
 returns-clause-none g c = λ none k m at. c.loop-place.invariant k m (let within = slice_get_within c.args.mirrors.now k m at in let test = c.loop-place-test.false in omega arith) at

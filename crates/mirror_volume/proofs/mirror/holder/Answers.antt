@@ -15,5 +15,6 @@ pub loop-place-preserved : goal.loop-place-preserved
 loop-place-preserved g c =
     let within : c.loop-place.place < length c.args.mirrors.now = (let test = c.loop-place-test.true in omega arith) in
     λ k m l at. more_at (λ x. x.holds ≡ Some c.args.set → ⊥) c.args.mirrors.now c.loop-place.place c.index-mirrors-place.result
-    (at_place c.args.mirrors.now c.loop-place.place c.index-mirrors-place.result within c.index-mirrors-place.is) (held_not c.args.set c.index-mirrors-place.result.holds (sym c.holds_image.ensures ∙ c.if-holds_image.false))
+    (at_place c.args.mirrors.now c.loop-place.place c.index-mirrors-place.result within c.index-mirrors-place.is)
+    (held_not c.args.set c.index-mirrors-place.result.holds (sym c.holds_image.ensures ∙ c.if-holds_image.false))
     (λ j x before is. c.loop-place.invariant j x before is) k m l at

@@ -4,4 +4,4 @@ use Rattle.storage_trial.proofs.stepping.all_steps.Given as goal
 
 -- the volume stands for what it stood for
 abbrev pub invariant-loop-step : goal.invariant-loop-step
-invariant-loop-step g l = (h : History) → StandsFor g.D.Device.told g.D.Device.size l.fn.volume h → StandsFor g.D.Device.told g.D.Device.size l.volume h
+invariant-loop-step g l = (h : History) → StandsFor g.D.Device l.fn.volume h → StandsFor g.D.Device l.volume h

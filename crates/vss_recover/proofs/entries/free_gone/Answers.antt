@@ -17,13 +17,15 @@ pub clear_record-requires : goal.clear_record-requires
 clear_record-requires g c =
     let zero_entry : Entry = record { block = 0; set = 0; slot = 0 } in
     let i = c.loop-entry.entry-index in
-    slot_within c.args.area.now c.loop-entry.area 0 (among c.args.images.now) c.args.entries.now i (get_or c.args.entries.now i zero_entry) c.requires.index (entry_at c.args.entries.now i zero_entry c.loop-entry-test.true) c.loop-entry.invariant.area
+    slot_within c.args.area.now c.loop-entry.area 0 (among c.args.images.now) c.args.entries.now i (get_or c.args.entries.now i zero_entry) c.requires.index
+    (entry_at c.args.entries.now i zero_entry c.loop-entry-test.true) c.loop-entry.invariant.area
 
 pub give-requires : goal.give-requires
 give-requires g c =
     let zero_entry : Entry = record { block = 0; set = 0; slot = 0 } in
     let i = c.loop-entry.entry-index in
-    taken_there c.args.area.now c.loop-entry.area c.loop-entry.pool (among c.args.images.now) c.args.entries.now i (get_or c.args.entries.now i zero_entry) c.requires.index (entry_at c.args.entries.now i zero_entry c.loop-entry-test.true) c.loop-entry.invariant.area c.loop-entry.invariant.pool
+    taken_there c.args.area.now c.loop-entry.area c.loop-entry.pool (among c.args.images.now) c.args.entries.now i (get_or c.args.entries.now i zero_entry) c.requires.index
+    (entry_at c.args.entries.now i zero_entry c.loop-entry-test.true) c.loop-entry.invariant.area c.loop-entry.invariant.pool
 
 pub loop-entry-preserved : goal.loop-entry-preserved
 loop-entry-preserved g c =
@@ -35,7 +37,8 @@ loop-entry-preserved g c =
       | then-is_gone w ↦ rw (w.area-is, w.pool-is) (record {
         area = step_set c.args.area.now c.loop-entry.area w.clear_record.new.self 0 (among c.args.images.now) c.args.entries.now i e _ at c.loop-entry.invariant.area w.clear_record.ensures
             (ap (record_for 0) (among_goes c.args.images.now (copy_of e.set e.block) (not_true (is_among e.set c.args.images.now) (sym c.is_gone.ensures ∙ w.if-is_gone.true))));
-        pool = w.give.ensures ∙ ap (λ (p : List Bool). slice_set p e.slot true) c.loop-entry.invariant.pool ∙ sym (map-set is_free c.loop-entry.area.records e.slot free) ∙ ap (λ (a : AreaValue _). map is_free a.records) (sym w.clear_record.ensures);
+        pool = w.give.ensures ∙ ap (λ (p : List Bool). slice_set p e.slot true) c.loop-entry.invariant.pool ∙ sym (map-set is_free c.loop-entry.area.records e.slot free)
+            ∙ ap (λ (a : AreaValue _). map is_free a.records) (sym w.clear_record.ensures);
       })
       | else-is_gone w ↦ rw (w.area-is, w.pool-is) (record {
         area = step_kept c.args.area.now c.loop-entry.area 0 (among c.args.images.now) c.args.entries.now i e c.requires.index at c.loop-entry.invariant.area

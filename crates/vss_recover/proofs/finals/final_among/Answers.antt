@@ -15,12 +15,14 @@ loop-image-preserved c =
     let more = filter_take p images i x (element_at images i within) in
     elim c.if-is_final.branch [
       | then-is_final w ↦ rw w.out-is (record {
-        gathered = w.push_within.ensures.items ∙ ap (λ (xs : List ℕ). xs ++ x ∷ []) c.loop-image.invariant.gathered ∙ sym (more ∙ ap (λ (t : Bool). if t then filter p (take i images) ++ x ∷ [] else filter p (take i images)) (sym c.is_final.ensures ∙ w.if-is_final.true));
+        gathered = w.push_within.ensures.items ∙ ap (λ (xs : List ℕ). xs ++ x ∷ []) c.loop-image.invariant.gathered
+            ∙ sym (more ∙ ap (λ (t : Bool). if t then filter p (take i images) ++ x ∷ [] else filter p (take i images)) (sym c.is_final.ensures ∙ w.if-is_final.true));
         few = rw w.push_within.ensures.items (long_one_more c.loop-image.out.items x i c.loop-image.invariant.few);
         room = (let a = w.push_within.ensures.room in let b = c.loop-image.invariant.room in omega arith);
       })
       | else-is_final w ↦ rw w.out-is (record {
-        gathered = c.loop-image.invariant.gathered ∙ sym (more ∙ ap (λ (t : Bool). if t then filter p (take i images) ++ x ∷ [] else filter p (take i images)) (sym c.is_final.ensures ∙ w.if-is_final.false));
+        gathered = c.loop-image.invariant.gathered
+            ∙ sym (more ∙ ap (λ (t : Bool). if t then filter p (take i images) ++ x ∷ [] else filter p (take i images)) (sym c.is_final.ensures ∙ w.if-is_final.false));
         few = (let l = c.loop-image.invariant.few in omega arith);
         room = c.loop-image.invariant.room;
       })

@@ -57,6 +57,7 @@ returns-clause-stands g c =
     let is = c.push.ensures.succeeds (omega arith) in
     let items = pushed (is_ok c.push.result) c.push.new.self.items (c.self.inside.images.items ++ c.args.set ∷ []) c.self.inside.images.items is c.push.ensures.items in
     let next : Mirror _ = record { device = c.index_mut-mirror.result.now.device; holds = Some c.args.set; stale = c.index_mut-mirror.result.now.stale } in
-    rw (← c.self.view_is) (λ h stood. cut_stands g.D.Device.told g.D.Device.size (value_of c.self.inside.primary c.self.inside.mirrors.items c.self.inside.images.items)
-    (value_of c.self.inside.primary (slice_set c.self.inside.mirrors.items c.in-Some.place next) c.push.new.self.items) c.args.set h c.self.invariant.are_mirrors (new_set c.args.set c.self.inside.images.items newest) c.requires.above_zero
+    rw (← c.self.view_is) (λ h stood. cut_stands g.D.Device (value_of c.self.inside.primary c.self.inside.mirrors.items c.self.inside.images.items)
+    (value_of c.self.inside.primary (slice_set c.self.inside.mirrors.items c.in-Some.place next) c.push.new.self.items) c.args.set h c.self.invariant.are_mirrors
+    (new_set c.args.set c.self.inside.images.items newest) c.requires.above_zero
     (record { place = c.in-Some.place; split = first_of c.self.inside.mirrors.items c.in-Some.place c.index_mut-mirror.result.now at; mirrors = refl; primary = refl; images = items }) stood)

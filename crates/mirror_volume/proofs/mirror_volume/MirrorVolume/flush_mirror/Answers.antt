@@ -39,6 +39,6 @@ returns-clause-stands g c =
     let told = c.flush.ensures.told in
     let size = c.flush.ensures.size in
     let later = c.flush.ensures.cause.later in
-    rw (← c.self.view_is) (λ h stood. quiet_on_stands g.D.Device.told g.D.Device.size g.D.Device.count (value_of c.self.inside.primary c.self.inside.mirrors.items c.self.inside.images.items)
+    rw (← c.self.view_is) (λ h stood. quiet_on_stands g.D.Device (value_of c.self.inside.primary c.self.inside.mirrors.items c.self.inside.images.items)
     (value_of c.self.inside.primary (slice_set c.self.inside.mirrors.items c.args.mirror after) c.self.inside.images.items) c.args.mirror before h
     (record { was = at; after = c.flush.new.self; device = record { told_is = told; size_is = size; later = later }; mirrors = refl; primary = refl; images = refl }) stood)

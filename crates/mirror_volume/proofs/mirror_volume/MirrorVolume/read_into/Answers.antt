@@ -4,5 +4,8 @@ use Rattle.mirror_volume.proofs.mirror_volume.MirrorVolume.read_into.Goals as go
 
 pub returns-clause-stands : goal.returns-clause-stands
 returns-clause-stands g c =
-    let quiet = quiet_parts g.D.Device.told g.D.Device.size g.D.Device.count c.self.inside.primary c.read_into.new.self c.self.inside.mirrors.items c.self.inside.images.items c.read_into.ensures.told c.read_into.ensures.size c.read_into.ensures.cause.later in
-    rw (← c.self.view_is) (λ h stood. quiet_stands g.D.Device.told g.D.Device.size g.D.Device.count (value_of c.self.inside.primary c.self.inside.mirrors.items c.self.inside.images.items) (value_of c.read_into.new.self c.self.inside.mirrors.items c.self.inside.images.items) h quiet stood)
+    let quiet = quiet_parts g.D.Device c.self.inside.primary c.read_into.new.self c.self.inside.mirrors.items c.self.inside.images.items c.read_into.ensures.told c.read_into.ensures.size
+    c.read_into.ensures.cause.later in
+    rw (← c.self.view_is)
+    (λ h stood. quiet_stands g.D.Device (value_of c.self.inside.primary c.self.inside.mirrors.items c.self.inside.images.items)
+    (value_of c.read_into.new.self c.self.inside.mirrors.items c.self.inside.images.items) h quiet stood)

@@ -15,7 +15,7 @@ invariant_of-result g c =
 pub returns-clause-stands : goal.returns-clause-stands
 returns-clause-stands g c h none is =
     let are = c.in_ok-mirrors.ensures ∙ ap (λ (n : ℕ). map (mirror_over true n) c.args.mirrors.items) c.blocks-2.ensures.size in
-    subst (λ (ms : List (Mirror _)). StandsFor g.D.Device.told g.D.Device.size (value_of c.args.primary ms c.in_ok-images.images.items) h) (sym are)
-    (subst (λ (is : List ℕ). StandsFor g.D.Device.told g.D.Device.size (value_of c.args.primary (map (mirror_over true (g.D.Device.size c.args.primary)) c.args.mirrors.items) is) h)
+    subst (λ (ms : List (Mirror _)). StandsFor g.D.Device (value_of c.args.primary ms c.in_ok-images.images.items) h) (sym are)
+    (subst (λ (is : List ℕ). StandsFor g.D.Device (value_of c.args.primary (map (mirror_over true (g.D.Device.size c.args.primary)) c.args.mirrors.items) is) h)
     (sym c.in_ok-images.ensures.items)
-    (resumed_stands g.D.Device.told g.D.Device.size c.args.primary c.args.mirrors.items h none is))
+    (resumed_stands g.D.Device c.args.primary c.args.mirrors.items h none is))

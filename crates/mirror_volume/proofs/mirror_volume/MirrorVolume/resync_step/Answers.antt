@@ -9,7 +9,8 @@ pub invariant_of-self : goal.invariant_of-self
 invariant_of-self g c =
     let within = rw (← c.self.view_is) at c.requires in
     let at = at_place c.self.inside.mirrors.items c.args.mirror c.index_mut-mirror.result.now within c.index_mut-mirror.ensures.value in
-    keeps_synced g.D.Device.told g.D.Device.size g.D.Device.count c.self.inside.primary c.step.new.primary c.self.inside.mirrors.items c.self.inside.images c.args.mirror c.index_mut-mirror.result.now c.step.new.mirror c.step.result at c.step.ensures c.self.invariant
+    keeps_synced g.D.Device c.self.inside.primary c.step.new.primary c.self.inside.mirrors.items c.self.inside.images c.args.mirror c.index_mut-mirror.result.now c.step.new.mirror
+    c.step.result at c.step.ensures c.self.invariant
 
 pub returns-clause-synced : goal.returns-clause-synced
 returns-clause-synced g c =
@@ -21,6 +22,6 @@ pub returns-clause-stands : goal.returns-clause-stands
 returns-clause-stands g c =
     let within = rw (← c.self.view_is) at c.requires in
     let at = at_place c.self.inside.mirrors.items c.args.mirror c.index_mut-mirror.result.now within c.index_mut-mirror.ensures.value in
-    rw (← c.self.view_is) (λ h stood. synced_stands g.D.Device.told g.D.Device.size g.D.Device.count (value_of c.self.inside.primary c.self.inside.mirrors.items c.self.inside.images.items)
+    rw (← c.self.view_is) (λ h stood. synced_stands g.D.Device (value_of c.self.inside.primary c.self.inside.mirrors.items c.self.inside.images.items)
     (value_of c.step.new.primary (slice_set c.self.inside.mirrors.items c.args.mirror c.step.new.mirror) c.self.inside.images.items) c.args.mirror c.step.result h c.self.invariant.are_mirrors
     (record { before = c.index_mut-mirror.result.now; after = c.step.new.mirror; was = at; mirrors = refl; images = refl; step = c.step.ensures }) stood)

@@ -4,4 +4,5 @@ use Rattle.mirror_volume.proofs.mirror_volume.MirrorVolume.stale.Goals as goal
 
 pub returns-clause-others : goal.returns-clause-others
 returns-clause-others g c =
-    rw (← c.self.view_is) (λ h stood. equals_primary g.D.Device.told g.D.Device.size (value_of c.self.inside.primary c.self.inside.mirrors.items c.self.inside.images.items) c.args.mirror h c.self.invariant.are_mirrors stood)
+    rw (← c.self.view_is)
+    (λ h stood. equals_primary g.D.Device (value_of c.self.inside.primary c.self.inside.mirrors.items c.self.inside.images.items) c.args.mirror h c.self.invariant.are_mirrors stood)

@@ -16,7 +16,8 @@ pub invariant_of-self : goal.invariant_of-self
 invariant_of-self c =
     let within = rw (← c.self.view_is) at c.requires in
     let at = at_place c.self.inside.stale.items c.args.block c.index.result.now within c.index.ensures ∙ ap Some c.if-index.false in
-    rw c.give.ensures (keeps_queued c.self.inside.stale.items c.self.inside.queue c.self.inside.count c.args.block c.self.invariant at (is_taken_of c.is_taken.result c.self.inside.queue c.args.block c.is_taken.ensures c.if-is_taken.true))
+    rw c.give.ensures (keeps_queued c.self.inside.stale.items c.self.inside.queue c.self.inside.count c.args.block c.self.invariant at
+    (is_taken_of c.is_taken.result c.self.inside.queue c.args.block c.is_taken.ensures c.if-is_taken.true))
 
 pub invariant_of-self-else-is_taken : goal.invariant_of-self-else-is_taken
 invariant_of-self-else-is_taken c =
@@ -24,4 +25,5 @@ invariant_of-self-else-is_taken c =
     let at = at_place c.self.inside.stale.items c.args.block c.index.result.now within c.index.ensures ∙ ap Some c.if-index.false in
     let long = c.self.invariant.holds.long in
     let low : c.args.block < length c.self.inside.queue = omega arith in
-    keeps_marked c.self.inside.stale.items c.self.inside.queue c.self.inside.count c.args.block c.self.invariant at (is_free_of c.is_taken.result c.self.inside.queue c.args.block c.is_taken.ensures low c.if-is_taken.false)
+    keeps_marked c.self.inside.stale.items c.self.inside.queue c.self.inside.count c.args.block c.self.invariant at
+    (is_free_of c.is_taken.result c.self.inside.queue c.args.block c.is_taken.ensures low c.if-is_taken.false)

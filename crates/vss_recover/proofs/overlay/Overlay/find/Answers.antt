@@ -13,7 +13,9 @@ returns-then-is_at-clause-found g c =
     let long = ap length c.deref.ensures.value in
     let within : c.place_from-at.result < length c.self.inside.entries.items = omega arith in
     let same = both_same c.index-entry.result.now.block c.args.block c.index-entry.result.now.set c.args.set (sym c.is_at.ensures ∙ c.if-is_at.true) in
-    rw (← c.self.view_is) (found_row c.self.inside.entries.items c.self.inside.area.records c.args.set c.args.block c.place_from-at.result c.index-entry.result.now c.self.invariant.index within c.index-entry.ensures same.0 same.1)
+    rw (← c.self.view_is)
+    (found_row c.self.inside.entries.items c.self.inside.area.records c.args.set c.args.block c.place_from-at.result c.index-entry.result.now c.self.invariant.index within c.index-entry.ensures
+    same.0 same.1)
 
 pub returns-then-at-len-clause-none : goal.returns-then-at-len-clause-none
 returns-then-at-len-clause-none g c =
@@ -21,7 +23,9 @@ returns-then-at-len-clause-none g c =
     let onward = rw c.deref.ensures.value at c.place_from-at.ensures.onward in
     let long = c.len.ensures in
     let end = c.if-at-len.true in
-    rw (← c.self.view_is) (λ none some. no_row c.self.inside.entries.items c.self.inside.area.records c.args.set c.args.block c.place_from-at.result c.self.invariant.index before onward (λ inside d b s. absurd (omega arith)) some)
+    rw (← c.self.view_is)
+    (λ none some. no_row c.self.inside.entries.items c.self.inside.area.records c.args.set c.args.block c.place_from-at.result c.self.invariant.index before onward
+    (λ inside d b s. absurd (omega arith)) some)
 
 pub returns-else-is_at-clause-none : goal.returns-else-is_at-clause-none
 returns-else-is_at-clause-none g c =

@@ -34,7 +34,11 @@ invariant_of-self g c =
     let within = rw c.deref.ensures.value at c.place_from-at.ensures.within in
     let before = rw c.deref.ensures.value at c.place_from-at.ensures.before in
     let onward = rw c.deref.ensures.value at c.place_from-at.ensures.onward in
-    let room = room_for c.self.inside.area.volumes c.self.inside.area.records c.self.inside.entries c.self.inside.pool c.args.set c.args.block c.args.slot c.place_from-at.result c.self.invariant lacks empty c.ranges.set.fits within before onward in
+    let room = room_for c.self.inside.area.volumes c.self.inside.area.records c.self.inside.entries c.self.inside.pool c.args.set c.args.block c.args.slot c.place_from-at.result c.self.invariant
+    lacks empty c.ranges.set.fits within before onward in
     let is_ok = c.insert.ensures.succeeds (omega arith) in
-    let items = c.insert.ensures.items ∙ ap (λ (b : Bool). cond b (insert c.self.inside.entries.items c.place_from-at.result (record { block = c.args.block; set = c.args.set; slot = c.args.slot })) c.self.inside.entries.items) is_ok in
-    rw c.set_record.ensures (overlay_noted c.self.inside.area.volumes c.self.inside.area.records c.self.inside.entries c.insert.new.self c.self.inside.pool c.take-taken.new.self c.args.set c.args.block c.args.slot c.place_from-at.result c.self.invariant lacks empty c.requires.used.set c.ranges.set.fits within before onward items c.insert.ensures.capacity taken)
+    let items = c.insert.ensures.items
+    ∙ ap (λ (b : Bool). cond b (insert c.self.inside.entries.items c.place_from-at.result (record { block = c.args.block; set = c.args.set; slot = c.args.slot })) c.self.inside.entries.items) is_ok in
+    rw c.set_record.ensures
+    (overlay_noted c.self.inside.area.volumes c.self.inside.area.records c.self.inside.entries c.insert.new.self c.self.inside.pool c.take-taken.new.self c.args.set c.args.block c.args.slot
+    c.place_from-at.result c.self.invariant lacks empty c.requires.used.set c.ranges.set.fits within before onward items c.insert.ensures.capacity taken)

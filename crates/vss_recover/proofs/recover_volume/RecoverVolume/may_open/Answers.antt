@@ -8,8 +8,12 @@ use Rattle.vss_recover.proofs.recover_volume.RecoverVolume.may_open.Goals as goa
 pub returns-then-newest-set-clause-cause : goal.returns-then-newest-set-clause-cause
 returns-then-newest-set-clause-cause g c = λ claims.
     let among : is_among c.args.set (image_sets c.args.self.now.volume) ≡ true = sym c.has_image.ensures ∙ c.if-not-has_image.false in
-    let some : 0 < c.args.set = (let e = c.if-set-eq0.false in omega arith) in
-    ((some, among), newest_there (image_sets c.args.self.now.volume) c.images-images.result.now c.args.set (c.images-images.ensures.images ∙ ap (λ v. image_sets v.volume) c.self.view_is) among, c.if-newest-set.true)
+    let some : 0 < c.args.set = (let e = c.if-set-eq0.false in omega arith) in (
+      (some, among),
+      newest_there (image_sets c.args.self.now.volume) c.images-images.result.now c.args.set
+          (c.images-images.ensures.images ∙ ap (λ v. image_sets v.volume) c.self.view_is) among,
+      c.if-newest-set.true,
+    )
 
 pub returns-in-Some-clause-cause : goal.returns-in-Some-clause-cause
 returns-in-Some-clause-cause g c = λ claims.

@@ -5,4 +5,7 @@ use Rattle.vss_recover.proofs.recover_volume.RecoverVolume.overlay_used.Goals as
 
 pub returns-clause-pairs : goal.returns-clause-pairs
 returns-clause-pairs g c =
-    rw (← c.self.view_is) (λ h stood. c.used.ensures ∙ used_pairs g.D.Device.told (value_of c.self.inside.volume c.self.inside.overlay c.self.inside.window c.self.inside.claims.items c.self.inside.finals.items) h stood c.self.invariant.fits c.slots-valid.ensures.valid)
+    rw (← c.self.view_is)
+    (λ h stood. c.used.ensures
+    ∙ used_pairs g.D.Device.told
+    (value_of c.self.inside.volume c.self.inside.overlay c.self.inside.window c.self.inside.claims.items c.self.inside.finals.items) h stood c.self.invariant.fits c.slots-valid.ensures.valid)

@@ -16,5 +16,9 @@ returns-in_err-may_open-clause-opened g c =
 pub returns-clause-step : goal.returns-clause-step
 returns-clause-step g c =
     let may = rw (← c.self.view_is) at c.in_ok-may_open.ensures.may in
-    rw (← c.self.view_is) (subst (λ (cs : List Claim). IsStep g.D.Device.told (value_of c.self.inside.volume c.self.inside.overlay c.self.inside.window c.self.inside.claims.items c.self.inside.finals.items) (value_of c.self.inside.volume c.self.inside.overlay (Some c.args.set) cs c.self.inside.finals.items) (Opened c.args.set c.args.claims.now)) (sym c.take_claims.ensures.items)
-    (opened_step g.D.Device.told (value_of c.self.inside.volume c.self.inside.overlay c.self.inside.window c.self.inside.claims.items c.self.inside.finals.items) c.args.set c.args.claims.now may.0.1 may.1 may.2 (subst (λ n. AreWithin n c.args.claims.now) c.blocks-2.ensures (c.in_default.ensures.none refl)) (c.in_default-first_overlap.ensures.none refl)))
+    rw (← c.self.view_is)
+    (subst (λ (cs : List Claim). IsStep g.D.Device.told (value_of c.self.inside.volume c.self.inside.overlay c.self.inside.window c.self.inside.claims.items c.self.inside.finals.items)
+    (value_of c.self.inside.volume c.self.inside.overlay (Some c.args.set) cs c.self.inside.finals.items) (Opened c.args.set c.args.claims.now)) (sym c.take_claims.ensures.items)
+    (opened_step g.D.Device.told
+    (value_of c.self.inside.volume c.self.inside.overlay c.self.inside.window c.self.inside.claims.items c.self.inside.finals.items) c.args.set c.args.claims.now may.0.1 may.1 may.2
+    (subst (λ n. AreWithin n c.args.claims.now) c.blocks-2.ensures (c.in_default.ensures.none refl)) (c.in_default-first_overlap.ensures.none refl)))

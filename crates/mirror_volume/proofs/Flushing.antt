@@ -1,0 +1,151 @@
+-- Mirrors are flushed one after another, and what is kept of a volume whose devices were called so.
+use Rattle.std.proofs.Common.{◌≡◌, ◌<◌, ◌≤◌, ◌+◌, ℕ, suc, List, [], ◌∷◌, length, map, refl, ap, sym, subst, ◌∙◌, arith, Bool, true, false, Option, Some, Vec, inl, inr}
+use Rattle.std.specs.Prelude.{slice_get, slice_set, ◌==◌, Ok, Err}
+use Rattle.std.specs.declared.alloc.Global.{Global}
+use Rattle.std.proofs.lemmas.Bool.{false≢true}
+use Rattle.std.proofs.lemmas.Option.{same_Some, slice_get_within}
+use Rattle.vss_names.specs.Faults.{HasCause, Rose, all_counted}
+use Rattle.volume_device.specs.declared.device.Device.{Ghosts}
+use Rattle.write_history.specs.History.{History}
+use Rattle.cow_volume.specs.StandsFor.{told_in}
+use Rattle.cow_volume.proofs.Group.{slice_get-set_same, slice_get-set_other, slice_get_inside, slice_get_map, slice_set-same, length-slice_set, same_number, other_number}
+use Rattle.mirror_volume.specs.declared.mirror.Mirror.{Mirror}
+use Rattle.mirror_volume.specs.Mirrors.{MirrorValue, StandsFor, AreHeld, KeepsMirrors, counts_from, holds_of}
+use Rattle.mirror_volume.specs.MirrorCalls.{IsCalled, AreCalled, AreLasting, IsQuietDevice}
+use Rattle.mirror_volume.proofs.Following.{more_at}
+use Rattle.mirror_volume.proofs.Held.{map-slice_set}
+use Rattle.mirror_volume.proofs.Keeping.{quiet_device, keeps_primary}
+use Rattle.mirror_volume.proofs.Ready.{all_later, all_rose, later_itself, later_set, rose_set}
+use Rattle.mirror_volume.proofs.Standing.{quiet_stands, same_mirror}
+
+-- the first k mirrors were flushed, and no call failed
+pub record HaveFlushed {D : Type 0} (ghosts : Ghosts D) (k : ℕ) (old new : List (Mirror D)) : Type 0 where
+  pub called : AreCalled ghosts old new
+  pub last : (j : ℕ) (n : Mirror D) → j < k → slice_get new j ≡ Some n → ghosts.lasting n.device ≡ ghosts.told n.device
+  pub counts : map (λ m. ghosts.count m.device) new ≡ map (λ m. ghosts.count m.device) old
+
+module _ {D : Type 0} (ghosts : Ghosts D) where
+  abbrev count_of : Mirror D → ℕ
+  count_of m = ghosts.count m.device
+
+  -- ## one after another
+
+  called_on : (x y z : Mirror D) → IsCalled ghosts x y → IsCalled ghosts y z → IsCalled ghosts x z
+  called_on x y z a b = record {
+    device = record {
+      told_is = b.device.told_is ∙ a.device.told_is;
+      size_is = b.device.size_is ∙ a.device.size_is;
+      later = (let first = a.device.later in let then = b.device.later in omega arith);
+    };
+    holds = b.holds ∙ a.holds;
+    stale = b.stale ∙ a.stale;
+  }
+
+  pub none_called : (mirrors : List (Mirror D)) → AreCalled ghosts mirrors mirrors
+  none_called mirrors = record {
+    long = refl;
+    each = λ k m n at also. subst (λ (x : Mirror D). IsCalled ghosts m x) (same_Some m n (sym at ∙ also)) (record { device = quiet_device ghosts m.device; holds = refl; stale = refl });
+  }
+
+  pub one_called : (old now : List (Mirror D)) (k : ℕ) (m next : Mirror D) → AreCalled ghosts old now → slice_get now k ≡ Some m → IsCalled ghosts m next
+      → AreCalled ghosts old (slice_set now k next)
+  one_called old now k m next are at is = record { long = length-slice_set now k next ∙ are.long; each = λ j x y was after. by_number j x y (j == k) refl was after } where
+    by_number : (j : ℕ) (x y : Mirror D) (t : Bool) → (j == k) ≡ t → slice_get old j ≡ Some x → slice_get (slice_set now k next) j ≡ Some y → IsCalled ghosts x y
+    by_number j x y true e was after =
+        let same = same_number j k e in
+        let here : Some next ≡ Some y = sym (slice_get-set_same now k m next at) ∙ ap (slice_get (slice_set now k next)) (sym same) ∙ after in
+        let before = are.each k x m (ap (slice_get old) (sym same) ∙ was) at in
+        subst (λ (z : Mirror D). IsCalled ghosts x z) (same_Some next y here) (called_on x m next before is)
+    by_number j x y false e was after =
+        let other = other_number j k e in
+        are.each j x y was (sym (slice_get-set_other now k j next (λ same. other (sym same))) ∙ after)
+
+  pub none_flushed : (mirrors : List (Mirror D)) → HaveFlushed ghosts 0 mirrors mirrors
+  none_flushed mirrors = record { called = none_called mirrors; last = λ j n low at. absurd (omega arith); counts = refl }
+
+  pub one_flushed : (k : ℕ) (old now : List (Mirror D)) (m next : Mirror D) → HaveFlushed ghosts k old now → slice_get now k ≡ Some m → IsCalled ghosts m next
+      → ghosts.lasting next.device ≡ ghosts.told next.device → count_of next ≡ count_of m → HaveFlushed ghosts (k + 1) old (slice_set now k next)
+  one_flushed k old now m next have at is lasts same = record {
+    called = one_called old now k m next have.called at is;
+    last = λ j n low here. more_at (λ (x : Mirror D). ghosts.lasting x.device ≡ ghosts.told x.device) (slice_set now k next) k next (slice_get-set_same now k m next at) lasts
+        (λ i x before there. have.last i x before (sym (slice_get-set_other now k i next (λ e. absurd (omega arith))) ∙ there)) j n low here;
+    counts = map-slice_set count_of now k next ∙ (ap (slice_set (map count_of now) k) same ∙ slice_set-same (map count_of now) k (count_of m) (slice_get_map count_of now k m at)) ∙ have.counts;
+  }
+
+  pub all_last : (k : ℕ) (old new : List (Mirror D)) → HaveFlushed ghosts k old new → length new ≤ k → AreLasting ghosts new
+  all_last k old new have all j n at = have.last j n (let within = slice_get_within new j n at in omega arith) at
+
+  -- ## the counts
+
+  pub cause_ok : {E : Type 0} (own k : ℕ) (old new : List (Mirror D)) → HaveFlushed ghosts k old new
+      → HasCause {T = Unit} {E = E} (counts_from ghosts.count own old) (counts_from ghosts.count own new) (Ok tt)
+  cause_ok own k old new have =
+      let same : counts_from ghosts.count own new ≡ counts_from ghosts.count own old = ap (λ (cs : List ℕ). all_counted own cs) have.counts in
+      record { later = omega arith; rose = λ is. absurd (false≢true is); same = same }
+
+  pub cause_err : {E : Type 0} (own k : ℕ) (old now : List (Mirror D)) (m next : Mirror D) (e : E) → HaveFlushed ghosts k old now → slice_get now k ≡ Some m
+      → ghosts.count m.device ≤ ghosts.count next.device → Rose (ghosts.count m.device) (ghosts.count next.device)
+      → HasCause {T = Unit} {E = E} (counts_from ghosts.count own old) (counts_from ghosts.count own (slice_set now k next)) (Err e)
+  cause_err {E = E} own k old now m next e have at later rose =
+      let here = slice_get_map count_of now k m at in
+      let low : own ≤ own = omega arith in
+      subst (λ (cs : List ℕ). HasCause {T = Unit} {E = E} (all_counted own cs) (counts_from ghosts.count own (slice_set now k next)) (Err e)) have.counts
+      (subst (λ (cs : List ℕ). HasCause {T = Unit} {E = E} (counts_from ghosts.count own now) (all_counted own cs) (Err e)) (sym (map-slice_set count_of now k next)) (record {
+        later = all_later own own (map count_of now) (slice_set (map count_of now) k (count_of next)) low (later_set (map count_of now) k (count_of m) (count_of next) here later);
+        rose = λ is. all_rose own own (map count_of now) (slice_set (map count_of now) k (count_of next)) low (later_set (map count_of now) k (count_of m) (count_of next) here later)
+            (inr (rose_set (map count_of now) k (count_of m) (count_of next) here rose));
+        same = tt;
+      }))
+
+  -- the primary failed, and no mirror was called
+  pub cause_first : {E : Type 0} (a b : ℕ) (mirrors : List (Mirror D)) (e : E) → a ≤ b → Rose a b
+      → HasCause {T = Unit} {E = E} (counts_from ghosts.count a mirrors) (counts_from ghosts.count b mirrors) (Err e)
+  cause_first a b mirrors e later rose = record {
+    later = all_later a b (map count_of mirrors) (map count_of mirrors) later (later_itself (map count_of mirrors));
+    rose = λ is. all_rose a b (map count_of mirrors) (map count_of mirrors) later (later_itself (map count_of mirrors)) (inl rose);
+    same = tt;
+  }
+
+  -- ## the volume
+
+  called_rest : (m n : Mirror D) (old new : List (Mirror D)) → AreCalled ghosts (m ∷ old) (n ∷ new) → AreCalled ghosts old new
+  called_rest m n old new are = record { long = (let long = are.long in omega arith); each = λ k x y at also. are.each (suc k) x y at also }
+
+  holds_called : (old new : List (Mirror D)) → AreCalled ghosts old new → holds_of new ≡ holds_of old
+  holds_called [] [] are = refl
+  holds_called [] (n ∷ new) are = absurd (let long = are.long in omega arith)
+  holds_called (m ∷ old) [] are = absurd (let long = are.long in omega arith)
+  holds_called (m ∷ old) (n ∷ new) are =
+      ap (λ (o : Option ℕ). o ∷ holds_of new) (are.each 0 m n refl refl).holds ∙ ap (λ os. m.holds ∷ os) (holds_called old new (called_rest m n old new are))
+
+  at_old : (old new : List (Mirror D)) (k : ℕ) (n : Mirror D) → AreCalled ghosts old new → slice_get new k ≡ Some n → (m : Mirror D) × (slice_get old k ≡ Some m)
+  at_old old new k n are at = let within = slice_get_within new k n at in let long = are.long in slice_get_inside old k (omega arith)
+
+  pub keeps_called : (primary now : D) (old new : List (Mirror D)) (images : Vec ℕ Global) → ghosts.size now ≡ ghosts.size primary → AreCalled ghosts old new
+      → KeepsMirrors ghosts.size primary old images → KeepsMirrors ghosts.size now new images
+  keeps_called primary now old new images same are keeps = let long = are.long in keeps_primary ghosts.size primary now new images same (record {
+    are_mirrors = record {
+      some = let some = keeps.are_mirrors.some in omega arith;
+      few = let few = keeps.are_mirrors.few in omega arith;
+      sizes = λ k n at. let was = at_old old new k n are at in (are.each k was.0 n was.1 at).device.size_is ∙ keeps.are_mirrors.sizes k was.0 was.1;
+      stale = λ k n at. let was = at_old old new k n are at in ap length (are.each k was.0 n was.1 at).stale ∙ keeps.are_mirrors.stale k was.0 was.1;
+    };
+    are_held = subst (λ (holds : List (Option ℕ)). AreHeld holds images.items) (sym (holds_called old new are)) keeps.are_held;
+    room = keeps.room;
+  })
+
+  pub called_stands : (old new : MirrorValue D) (h : History) → IsQuietDevice ghosts old.primary new.primary → AreCalled ghosts old.mirrors new.mirrors → new.images ≡ old.images
+      → StandsFor ghosts old h → StandsFor ghosts new h
+  called_stands old new h primary are images stood =
+      let mid : MirrorValue D = record { primary = old.primary; mirrors = new.mirrors; images = old.images } in
+      quiet_stands ghosts mid new h (record { primary = primary; mirrors = refl; images = images }) (record {
+        sets = stood.sets;
+        above_zero = stood.above_zero;
+        primary = stood.primary;
+        mirrors = λ k n at.
+            let was = at_old old.mirrors new.mirrors k n are at in
+            let call = are.each k was.0 n was.1 at in
+            same_mirror (told_in (ghosts.told old.primary) (ghosts.told was.0.device)) (told_in (ghosts.told old.primary) (ghosts.told n.device)) (ghosts.size old.primary)
+            was.0.holds n.holds was.0.stale n.stale h
+            (ap (λ (t : Option (List (List ℕ))). told_in (ghosts.told old.primary) t) (sym call.device.told_is)) (sym call.holds) (sym call.stale) (stood.mirrors k was.0 was.1);
+      })

@@ -1,0 +1,114 @@
+-- What is kept where the records of an overlay are written to its device, and for what a volume stands after that.
+use Rattle.std.proofs.Common.{◌≡◌, ◌≤◌, ◌+◌, ℕ, Bool, List, ◌∷◌, [], take, length, refl, ap, sym, subst, ◌∙◌, arith, Option, Some, Vec}
+use Rattle.std.specs.Prelude.{slice_get, option_map, is_some, IfSome, Result, Ok, Err}
+use Rattle.std.specs.declared.alloc.Global.{Global}
+use Rattle.std.proofs.lemmas.List.{length-take-le}
+use Rattle.write_history.specs.History.{last_bytes}
+use Rattle.diff_area.specs.AreaValue.{AreaValue, KeepsTable, AreInPart, with_first}
+use Rattle.diff_area.specs.Places.{table_for, place_of_slot}
+use Rattle.diff_area.specs.Written.{table_blocks}
+use Rattle.diff_area.specs.declared.table_record.Record.{Record}
+use Rattle.diff_area.proofs.TableBlocks.{length-table}
+use Rattle.cow_volume.specs.GroupValue.{GroupValue}
+use Rattle.cow_volume.specs.Calls.{sets_in}
+use Rattle.cow_volume.specs.Ending.{IsSynced}
+use Rattle.cow_volume.specs.OneVolume.{blocks_of, IsOneSync}
+use Rattle.cow_volume.specs.declared.cause.Cause.{Cause}
+use Rattle.cow_volume.proofs.Synced.{past_first, tells_written}
+use Rattle.vss_recover.specs.Keeping.{KeepsWindow}
+use Rattle.vss_recover.specs.Recoveries.{Recovery, Recovering, recovered, IsOfImages}
+use Rattle.vss_recover.specs.RecoverValue.{RecoverValue, StandsFor, IsOverlay}
+use Rattle.vss_recover.specs.Syncing.{KeepsSlots, KeepsSaid}
+use Rattle.vss_recover.specs.declared.claim.Claim.{Claim}
+use Rattle.vss_recover.proofs.Glue.{blocks_kept, keeps_volume}
+
+below : (a b c : ℕ) → a ≤ b → a ≤ b + c
+below a b c l = omega arith
+
+-- ## the overlay
+
+module _ {D : Type 0} (told : D → Option (List (List ℕ))) (size count : D → ℕ) (lending : D → Bool) where
+  slots_first : (old new : AreaValue D) (first : List (List ℕ)) → KeepsTable size lending old new → count old.device ≤ count new.device
+      → length first ≤ table_for (length old.records) → told new.device ≡ option_map (with_first first) (told old.device) → KeepsSlots told size count lending old new
+  slots_first old new first table later short e = record {
+    volumes = table.volumes;
+    records = table.records;
+    device = record { tells = tells_written (told old.device) (told new.device) first e; size_is = table.size_is; lends = table.lends; later = later };
+    slots = λ slot bytes has. past_first (told old.device) (told new.device) first (place_of_slot (length old.records) slot) bytes
+        (below (length first) (table_for (length old.records)) slot short) e has;
+  }
+
+  -- the table was written
+  pub slots_all : (old new : AreaValue D) → KeepsTable size lending old new → count old.device ≤ count new.device
+      → told new.device ≡ option_map (with_first (table_blocks old.volumes old.records)) (told old.device) → KeepsSlots told size count lending old new
+  slots_all old new table later e =
+      let same = length-table old.volumes old.records in
+      slots_first old new (table_blocks old.volumes old.records) table later (omega arith) e
+
+  -- a part of it was
+  pub slots_part : (old new : AreaValue D) → KeepsTable size lending old new → count old.device ≤ count new.device
+      → AreInPart (table_blocks old.volumes old.records) (told old.device) (told new.device) → KeepsSlots told size count lending old new
+  slots_part old new table later part =
+      let same = length-table old.volumes old.records in
+      let short = length-take-le part.count (table_blocks old.volumes old.records) part.within in
+      let within = part.within in
+      slots_first old new (take part.count (table_blocks old.volumes old.records)) table later (omega arith) part.blocks
+
+  -- and then only a count may have changed
+  pub slots_further : (old mid new : AreaValue D) → KeepsSlots told size count lending old mid → KeepsTable size lending mid new → told new.device ≡ told mid.device
+      → count mid.device ≤ count new.device → KeepsSlots told size count lending old new
+  slots_further old mid new kept table same later = record {
+    volumes = table.volumes ∙ kept.volumes;
+    records = table.records ∙ kept.records;
+    device = record {
+      tells = ap (λ (o : Option (List (List ℕ))). is_some o) same ∙ kept.device.tells;
+      size_is = table.size_is ∙ kept.device.size_is;
+      lends = table.lends ∙ kept.device.lends;
+      later = let before = kept.device.later in omega arith;
+    };
+    slots = λ slot bytes has. subst (λ (o : Option (List (List ℕ))). IfSome o (λ blocks. slice_get blocks (place_of_slot (length old.records) slot) ≡ Some bytes)) (sym same)
+        (kept.slots slot bytes has);
+  }
+
+  -- ## the volume
+
+  kept_overlay : (old new : AreaValue D) (n : ℕ) (rs : List Recovery) → KeepsSlots told size count lending old new
+      → IsOverlay (told old.device) old.records n rs → IsOverlay (told new.device) new.records n rs
+  kept_overlay old new n rs kept is =
+      subst (λ (rows : List Record). IsOverlay (told new.device) rows n rs) (sym kept.records) (record {
+        named = is.named;
+        recorded = is.recorded;
+        copied = λ slot set b above row. kept.slots slot (last_bytes b [] (recovered set rs)) (is.copied slot set b above row);
+      })
+
+  pub synced_stands : (old new : RecoverValue D) (h : Recovering) → IsSynced told size count lending old.volume new.volume → KeepsSlots told size count lending old.overlay new.overlay
+      → KeepsSaid old new
+      → StandsFor told old h → StandsFor told new h
+  synced_stands old new h synced kept said stood = record {
+    volume = synced.stands (h.volume ∷ []) stood.volume;
+    overlay = subst (λ (n : ℕ). IsOverlay (told new.overlay.device) new.overlay.records n h.recoveries) (sym (blocks_kept old.volume new.volume synced.kept.volumes))
+        (kept_overlay old.overlay new.overlay (blocks_of old.volume) h.recoveries kept stood.overlay);
+    of_images = subst (λ (sets : List ℕ). IsOfImages sets h) (sym (ap (λ (ss : List (List ℕ)). sets_in (slice_get ss 0)) synced.images)) stood.of_images;
+    window = said.window ∙ stood.window;
+    claims = said.claims ∙ stood.claims;
+    final = said.final ∙ stood.final;
+  }
+
+  pub same_slots : (area : AreaValue D) → KeepsSlots told size count lending area area
+  same_slots area = record {
+    volumes = refl;
+    records = refl;
+    device = record { tells = refl; size_is = refl; lends = refl; later = omega arith };
+    slots = λ slot bytes has. has;
+  }
+
+  -- what the fields keep
+  pub keeps_synced : (volume new : GroupValue D) (overlay now : AreaValue D) (window : Option ℕ) (claims : Vec Claim Global) (finals next : Vec ℕ Global) → IsSynced told size count lending volume new
+      → KeepsSlots told size count lending overlay now → KeepsWindow volume overlay window claims finals next → KeepsWindow new now window claims finals next
+  keeps_synced volume new overlay now window claims finals next synced kept keeps =
+      let mid = keeps_volume volume new overlay window claims finals next synced.kept.volumes keeps in
+      record { fits = kept.volumes ∙ mid.fits; above_zero = mid.above_zero; claim_room = mid.claim_room; final_room = mid.final_room; next_room = mid.next_room }
+
+  pub synced_of : (old new : GroupValue D) (result : Result Unit Cause) → IsOneSync told size count lending old new result → IsSynced told size count lending old new
+  synced_of old new (Ok done) is = is.0
+  synced_of old new (Err cause) is = is.0

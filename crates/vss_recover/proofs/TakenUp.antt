@@ -1,0 +1,233 @@
+-- The ordered list of the used slots of an overlay that is taken up again, record after record; and recovery writes that are those of
+-- its records, with bytes of which nothing is said.
+use Rattle.std.proofs.Common.{◌≡◌, ◌<◌, ◌≤◌, ◌+◌, ℕ, zero, suc, List, [], ◌∷◌, length, map, refl, ap, sym, subst, ◌∙◌, arith, Bool, true, false, Option, Some, None, inl, inr, All}
+use Rattle.std.specs.List.{insert}
+use Rattle.std.specs.Prelude.{slice_get, slice_set, if◌then◌else◌, nat_lt, ◌==◌, ◌||◌}
+use Rattle.std.proofs.lemmas.Bool.{false≢true, lt-ltb}
+use Rattle.std.proofs.lemmas.Bool.Decides.{nat_tests}
+use Rattle.std.proofs.lemmas.List.Edits.{length-insert}
+use Rattle.std.proofs.lemmas.List.Elements.{All-nil, All-cons}
+use Rattle.std.proofs.lemmas.Option.{none-some, same_Some}
+use Rattle.write_history.specs.History.{History, Write, names, sets_of}
+use Rattle.diff_area.specs.AreaValue.{AreaValue}
+use Rattle.diff_area.specs.Records.{is_free, AreRecords}
+use Rattle.diff_area.specs.declared.table_record.Record.{Record}
+use Rattle.diff_map.specs.Copies.{copied_at, copy_of, HasCopy}
+use Rattle.diff_map.specs.Index.{IsIndex}
+use Rattle.diff_map.specs.declared.copied.Copied.{Copied}
+use Rattle.diff_map.specs.declared.entry.Entry.{Entry}
+use Rattle.diff_map.proofs.Noting.{IsIndex-noted}
+use Rattle.cow_volume.specs.Calls.{is_among}
+use Rattle.cow_volume.specs.GroupValue.{GroupValue}
+use Rattle.cow_volume.specs.OneVolume.{StandsForOne, blocks_of}
+use Rattle.cow_volume.specs.StandsFor.{record_of}
+use Rattle.cow_volume.specs.TakingUp.{mixed, unnoted}
+use Rattle.cow_volume.specs.Tied.{copied_for}
+use Rattle.cow_volume.proofs.Counting.{used_record}
+use Rattle.cow_volume.proofs.Group.{same_number, number_is}
+use Rattle.cow_volume.proofs.MixedRows.{mixed-all, mixed-set, mixed-same, mixed-from}
+use Rattle.cow_volume.proofs.Rows.{copied_for-is, copied_for-free, record-from, same_record}
+use Rattle.cow_volume.proofs.TakingUp.{noted_before}
+use Rattle.cow_volume.proofs.Ties.{free_is}
+use Rattle.vss_recover.specs.OverlayCalls.{IsNotedIn}
+use Rattle.vss_recover.specs.Recoveries.{Recovery, Recovering, recovered, IsOfImages}
+use Rattle.vss_recover.specs.RecoverValue.{StandsFor, IsOverlay}
+use Rattle.vss_recover.specs.TakingUp.{AreOfImages, taken_up}
+use Rattle.vss_recover.proofs.Standing.{sets_are}
+use Rattle.vss_recover.proofs.UsedSlots.{each_used}
+
+-- ## the list of the used slots
+
+-- the rows of the first k records
+abbrev pub rows_to : ℕ → List Record → List (Option Copied)
+rows_to k records = mixed (copied_for 0) unnoted k records
+
+none_yet : (records : List Record) (slot : ℕ) (c : Copied) → copied_at (map unnoted records) slot ≡ Some c → ⊥
+none_yet [] slot c e = none-some c e
+none_yet (r ∷ rs) zero c e = none-some c e
+none_yet (r ∷ rs) (suc slot) c e = none_yet rs slot c e
+
+pub index_begun : (entries : List Entry) (records : List Record) → entries ≡ [] → IsIndex entries (rows_to 0 records)
+index_begun entries records none = subst (λ (es : List Entry). IsIndex es (rows_to 0 records)) (sym none) (record {
+  in_order = λ i j d low inside. absurd (omega arith);
+  each = λ k d inside. absurd (omega arith);
+  all = λ slot c row. absurd (none_yet records slot c row);
+})
+
+pub index_all : (entries : List Entry) (records : List Record) (k : ℕ) → length records ≤ k → IsIndex entries (rows_to k records) → IsIndex entries (map (copied_for 0) records)
+index_all entries records k past is = subst (λ (rows : List (Option Copied)). IsIndex entries rows) (mixed-all (copied_for 0) unnoted k records past) is
+
+-- the next record is free
+pub index_same : (entries : List Entry) (records : List Record) (k : ℕ) (r : Record) → slice_get records k ≡ Some r → is_free r ≡ true → IsIndex entries (rows_to k records)
+    → IsIndex entries (rows_to (k + 1) records)
+index_same entries records k r at empty is =
+    subst (λ (rows : List (Option Copied)). IsIndex entries rows) (sym (mixed-same (copied_for 0) unnoted k records r at (ap (copied_for 0) (free_is r empty) ∙ copied_for-free 0))) is
+
+module _ (volumes : List ℕ) (records : List Record) (one : length volumes ≡ 1) (are : AreRecords volumes records) (k : ℕ) (r : Record) (at : slice_get records k ≡ Some r)
+    (is_used : is_free r ≡ false) where
+  used : (0 < r.set) × (r.volume ≡ 0)
+  used = elim (each_used volumes records one are k r at) [
+    | inl empty ↦ absurd (false≢true (sym is_used ∙ ap is_free empty))
+    | inr both ↦ both
+  ]
+
+  row : slice_get (rows_to k records) k ≡ Some None
+  row = mixed-from (copied_for 0) unnoted k records k r (omega arith) at
+
+  -- no record before is of the same block of the same image
+  lacks : HasCopy (rows_to k records) r.set r.block → ⊥
+  lacks has =
+      let before = noted_before 0 records k has.0 (copy_of r.set r.block) has.1 in
+      let own = record-from 0 before.0 (copy_of r.set r.block) before.3 in
+      let is : before.0 ≡ r = own.1 ∙ same_record (record_of 0 r.set r.block) r refl refl (sym used.1) in
+      let once = are.once has.0 k r (before.2 ∙ ap (λ (x : Record). Some x) is) at (used_record r is_used) in
+      let low = before.1 in
+      absurd (omega arith)
+
+  -- its slot is noted in its place
+  index_noted : (entries later : List Entry) → IsIndex entries (rows_to k records) → IsNotedIn entries later k r → IsIndex later (rows_to (k + 1) records)
+  index_noted entries later index is =
+      let next : slice_set (rows_to k records) k (Some (copy_of r.set r.block)) ≡ rows_to (k + 1) records =
+      ap (slice_set (rows_to k records) k) (sym (copied_for-is 0 r used.0 used.1)) ∙ sym (mixed-set (copied_for 0) unnoted k records r at) in
+      subst (λ (es : List Entry). IsIndex es (rows_to (k + 1) records)) (sym is.items)
+      (subst (λ (rows : List (Option Copied)). IsIndex (insert entries is.at (record { block = r.block; set = r.set; slot = k })) rows) next
+      (IsIndex-noted entries (rows_to k records) k r.set r.block is.at index row lacks is.narrow is.within is.before is.onward))
+
+one_longer : (entries later : List Entry) (k : ℕ) (r : Record) → length entries ≤ k → IsNotedIn entries later k r → length later ≤ k + 1
+one_longer entries later k r few is =
+    let long = length-insert entries is.at (record { block = r.block; set = r.set; slot = k }) is.within in
+    let same = ap length is.items in
+    omega arith
+
+-- the entries after so many records
+pub record AreNoted (records : List Record) (k : ℕ) (entries : List Entry) : Type 0 where
+  pub index : IsIndex entries (rows_to k records)
+  pub few : length entries ≤ k
+
+free_next : (records : List Record) (k : ℕ) (r : Record) (entries : List Entry) → slice_get records k ≡ Some r → is_free r ≡ true → AreNoted records k entries → AreNoted records (k + 1) entries
+free_next records k r entries at e was = record { index = index_same entries records k r at e was.index; few = let few = was.few in omega arith }
+
+used_next : (volumes : List ℕ) (records : List Record) (k : ℕ) (r : Record) (entries later : List Entry) → length volumes ≡ 1 → AreRecords volumes records → slice_get records k ≡ Some r
+    → is_free r ≡ false
+    → AreNoted records k entries → IsNotedIn entries later k r → AreNoted records (k + 1) later
+used_next volumes records k r entries later one are at e was noted = record {
+  index = index_noted volumes records one are k r at e entries later was.index noted;
+  few = one_longer entries later k r was.few noted;
+}
+
+-- one record more
+pub noted_next : (volumes : List ℕ) (records : List Record) (k : ℕ) (r : Record) (entries later : List Entry) → length volumes ≡ 1 → AreRecords volumes records → slice_get records k ≡ Some r
+    → (is_free r ≡ true → later ≡ entries) → (is_free r ≡ false → IsNotedIn entries later k r) → AreNoted records k entries → AreNoted records (k + 1) later
+noted_next volumes records k r entries later one are at same noted was = by_test (is_free r) refl where
+  by_test : (t : Bool) → is_free r ≡ t → AreNoted records (k + 1) later
+  by_test true e = subst (λ (es : List Entry). AreNoted records (k + 1) es) (sym (same e)) (free_next records k r entries at e was)
+  by_test false e = used_next volumes records k r entries later one are at e was (noted e)
+
+-- ## recovery writes of the records
+
+-- a recovery write of a block, with bytes that nothing is said of
+abbrev unknown : ℕ → Write
+unknown b = record { block = b; bytes = [] }
+
+abbrev one_made : Record → Recovery
+one_made r = record { set = r.set; writer = 0; write = unknown r.block }
+
+abbrev made : List Record → List Recovery
+made [] = []
+made (r ∷ rs) = if nat_lt 0 r.set then one_made r ∷ made rs else made rs
+
+more_named : (t : Bool) (w : Write) (ws : List Write) (b : ℕ) → names ws b ≡ true → names (if t then w ∷ ws else ws) b ≡ true
+more_named true w ws b e = or_later (w.block == b) (names ws b) e where
+  or_later : (s t : Bool) → t ≡ true → (s || t) ≡ true
+  or_later true t f = refl
+  or_later false t f = f
+more_named false w ws b e = e
+
+more_made : (t : Bool) (r : Record) (rs : List Record) (set b : ℕ) → names (recovered set (made rs)) b ≡ true → names (recovered set (if t then one_made r ∷ made rs else made rs)) b ≡ true
+more_made true r rs set b e = more_named (r.set == set) (unknown r.block) (recovered set (made rs)) b e
+more_made false r rs set b e = e
+
+made_named : (set b slot : ℕ) (records : List Record) → 0 < set → slice_get records slot ≡ Some (record_of 0 set b) → names (recovered set (made records)) b ≡ true
+made_named set b slot [] above at = absurd (none-some (record_of 0 set b) at)
+made_named set b zero (r ∷ rs) above at =
+    let is : r ≡ record_of 0 set b = same_Some r (record_of 0 set b) at in
+    ap (λ (x : Record). names (recovered set (made (x ∷ rs))) b) is
+    ∙ ap (λ (t : Bool). names (recovered set (if t then one_made (record_of 0 set b) ∷ made rs else made rs)) b) (lt-ltb 0 set above)
+    ∙ ap (λ (t : Bool). names (if t then unknown b ∷ recovered set (made rs) else recovered set (made rs)) b) (number_is set)
+    ∙ ap (λ (t : Bool). t || names (recovered set (made rs)) b) (number_is b)
+made_named set b (suc slot) (r ∷ rs) above at = more_made (nat_lt 0 r.set) r rs set b (made_named set b slot rs above at)
+
+-- a slot has a record of the block of the image of a set
+pub record HasBlock (records : List Record) (set b : ℕ) : Type 0 where
+  pub slot : ℕ
+  pub row : Record
+  pub at : slice_get records slot ≡ Some row
+  pub above : 0 < row.set
+  pub set_is : row.set ≡ set
+  pub block_is : row.block ≡ b
+
+block_next : (r : Record) (rs : List Record) (set b : ℕ) → HasBlock rs set b → HasBlock (r ∷ rs) set b
+block_next r rs set b has = record { slot = suc has.slot; row = has.row; at = has.at; above = has.above; set_is = has.set_is; block_is = has.block_is }
+
+above_none : (n : ℕ) → nat_lt 0 n ≡ true → 0 < n
+above_none n e = grind (arith, nat_tests)
+
+block_here : (r : Record) (rs : List Record) (set b : ℕ) → nat_lt 0 r.set ≡ true → (r.set == set) ≡ true → (r.block == b) ≡ true → HasBlock (r ∷ rs) set b
+block_here r rs set b some own is = record { slot = 0; row = r; at = refl; above = above_none r.set some; set_is = same_number r.set set own; block_is = same_number r.block b is }
+
+-- a block that they name has a record
+made_recorded : (set b : ℕ) (records : List Record) → names (recovered set (made records)) b ≡ true → HasBlock records set b
+made_recorded set b [] e = absurd (false≢true e)
+made_recorded set b (r ∷ rs) e = by_tests (nat_lt 0 r.set) refl (r.set == set) refl (r.block == b) refl e (λ more. block_next r rs set b (made_recorded set b rs more)) where
+  by_tests : (t : Bool) → nat_lt 0 r.set ≡ t → (s : Bool) → (r.set == set) ≡ s → (u : Bool) → (r.block == b) ≡ u
+      → names (recovered set (if t then one_made r ∷ made rs else made rs)) b ≡ true → (names (recovered set (made rs)) b ≡ true → HasBlock (r ∷ rs) set b) → HasBlock (r ∷ rs) set b
+  by_tests false none s own u is more further = further more
+  by_tests true some false own u is more further = further (sym (ap (λ (x : Bool). names (if x then unknown r.block ∷ recovered set (made rs) else recovered set (made rs)) b) own) ∙ more)
+  by_tests true some true own true is more further = block_here r rs set b some own is
+  by_tests true some true own false is more further =
+      further (sym (ap (λ (x : Bool). names (if x then unknown r.block ∷ recovered set (made rs) else recovered set (made rs)) b) own ∙ ap (λ (x : Bool). x || names (recovered set (made rs)) b) is)
+      ∙ more)
+
+all_if : (P : Recovery → Type 0) (t : Bool) (r : Recovery) (rs : List Recovery) → (t ≡ true → P r) → All P rs → All P (if t then r ∷ rs else rs)
+all_if P true r rs here rest = All-cons P r rs (here refl) rest
+all_if P false r rs here rest = rest
+
+made_of_images : (sets : List ℕ) (records : List Record) → ((slot : ℕ) (r : Record) → slice_get records slot ≡ Some r → nat_lt 0 r.set ≡ true → is_among r.set sets ≡ true)
+    → All (λ (r : Recovery). is_among r.set sets ≡ true) (made records)
+made_of_images sets [] each = All-nil (λ (r : Recovery). is_among r.set sets ≡ true)
+made_of_images sets (r ∷ rs) each =
+    all_if (λ (q : Recovery). is_among q.set sets ≡ true) (nat_lt 0 r.set) (one_made r) (made rs) (each 0 r refl) (made_of_images sets rs (λ slot q at. each (suc slot) q at))
+
+-- where the overlay's device tells nothing, the volume stands for its history with these
+pub made_stand : {D : Type 0} (told : D → Option (List (List ℕ))) (volume : GroupValue D) (overlay : AreaValue D) (final : List ℕ) (h : History) → overlay.volumes ≡ blocks_of volume ∷ []
+    → AreRecords overlay.volumes overlay.records
+    → AreOfImages h overlay.records final → told overlay.device ≡ None → StandsForOne told volume h → (r : Recovering) × (r.volume ≡ h) × StandsFor told (taken_up volume overlay final) r
+made_stand told volume overlay final h fits are of none stood =
+    let one : length overlay.volumes ≡ 1 = ap length fits in
+    let with_made : Recovering = record { volume = h; recoveries = made overlay.records; window = None; claims = []; final = final } in
+    let unread : IsOverlay None overlay.records (blocks_of volume) (made overlay.records) = record {
+      named = λ slot set b above at. made_named set b slot overlay.records above at;
+      recorded = λ set b above low named.
+          let from = made_recorded set b overlay.records named in
+          let at_zero : from.row.volume ≡ 0 = elim (each_used overlay.volumes overlay.records one are from.slot from.row from.at) [
+            | inl empty ↦ (let zero_set = ap (λ (x : Record). x.set) empty in let some = from.above in absurd (omega arith))
+            | inr both ↦ both.1
+          ] in
+          (from.slot, from.at ∙ ap (λ (x : Record). Some x) (same_record from.row (record_of 0 set b) from.set_is from.block_is at_zero));
+      copied = λ slot set b above at. tt;
+    } in (
+      with_made,
+      refl,
+      record {
+        volume = stood;
+        overlay = subst (λ (o : Option (List (List ℕ))). IsOverlay o overlay.records (blocks_of volume) (made overlay.records)) (sym none) unread;
+        of_images = subst (λ (sets : List ℕ). IsOfImages sets with_made) (sym (sets_are told volume h stood)) (record {
+          recoveries = made_of_images (sets_of h.images) overlay.records of.records_are;
+          window = λ set e. absurd (none-some set e);
+          final = of.final_are;
+        });
+        window = refl;
+        claims = refl;
+        final = refl;
+      },
+    )
