@@ -2,7 +2,7 @@
 -- its records, with bytes of which nothing is said.
 use Rattle.std.proofs.Common.{◌≡◌, ◌<◌, ◌≤◌, ◌+◌, ℕ, zero, suc, List, [], ◌∷◌, length, map, refl, ap, sym, subst, ◌∙◌, arith, Bool, true, false, Option, Some, None, inl, inr, All}
 use Rattle.std.specs.List.{insert}
-use Rattle.std.specs.Prelude.{slice_get, slice_set, if◌then◌else◌, nat_lt, ◌==◌, ◌||◌}
+use Rattle.std.specs.Prelude.{Result, Ok, Err, IfOk, slice_get, slice_set, if◌then◌else◌, nat_lt, ◌==◌, ◌||◌}
 use Rattle.std.proofs.lemmas.Bool.{false≢true, lt-ltb}
 use Rattle.std.proofs.lemmas.Bool.Decides.{nat_tests}
 use Rattle.std.proofs.lemmas.List.Edits.{length-insert}
@@ -231,3 +231,8 @@ made_stand told volume overlay final h fits are of none stood =
         final = refl;
       },
     )
+
+-- what holds of a value holds of an answer that is this value
+pub of_value : {X E : Type 0} (P : X → Type 0) (r : Result X E) (x : X) → IfOk r (λ v. v ≡ x) → P x → IfOk r P
+of_value P (Ok v) x is holds = subst P (sym is) holds
+of_value P (Err e) x is holds = tt

@@ -1,15 +1,51 @@
 //! What is kept beside a volume: the claims of its window, the window where its image stands, and the sets of the final images.
 
-ghost use Rattle.std.specs.Prelude.{◌≡◌, ◌<◌, ◌≤◌, ◌++◌, ◌∷◌, ◌||◌, ◌==◌, [], length, vec_capacity};
+ghost use Rattle.std.specs.Prelude.{◌≡◌, ◌<◌, ◌≤◌, ◌++◌, ◌∷◌, ◌||◌, ◌==◌, [], length, vec_capacity, IfOk};
 ghost use Rattle.cow_volume.specs.Calls.{is_among};
 ghost use Rattle.vss_recover.specs.Recoveries.{kept_window, with_final};
 
 use crate::claim::Claim;
 use crate::entries::is_one_of;
+use block_data::BlockBuf;
 use diff_map::MOST_IMAGES;
+use std::alloc::Global;
+use vss_names::OutOfMemory;
 
 /// The most claims of a window.
 pub(crate) const MOST_CLAIMS: usize = 64;
+
+/// The memory that a volume keeps for its windows, with the sets of the final images.
+#[derive(Drop)]
+pub(crate) struct Room {
+    pub(crate) claims: Vec<Claim>,
+    pub(crate) finals: Vec<u32>,
+    pub(crate) next_finals: Vec<u32>,
+    pub(crate) scratch: BlockBuf,
+}
+
+impl Room {
+    /// All of it, and no claim.
+    pub(crate) fn new(alloc: Global, finals: &[u32]) -> Result<Room, OutOfMemory>
+        requires { length finals.now ≤ 512 }
+        ensures claims { IfOk result (λ room. room.claims.items ≡ []) }
+        ensures finals { IfOk result (λ room. room.finals.items ≡ finals.now) }
+        ensures claim_room { IfOk result (λ room. 64 ≤ vec_capacity room.claims) }
+        ensures final_room { IfOk result (λ room. 512 ≤ vec_capacity room.finals) }
+        ensures next_room { IfOk result (λ room. 512 ≤ vec_capacity room.next_finals) }
+    {
+        let claims = Vec::with_capacity(alloc, MOST_CLAIMS)?;
+        let mut all = Vec::with_capacity(alloc, MOST_IMAGES)?;
+        all.extend_from_slice(finals)?;
+        let next_finals = Vec::with_capacity(alloc, MOST_IMAGES)?;
+        let scratch = BlockBuf::zeroed(alloc)?;
+        Ok(Room {
+            claims,
+            finals: all,
+            next_finals,
+            scratch,
+        })
+    }
+}
 
 /// The window, where it is that of one of these images.
 pub(crate) fn kept_window(images: &[u32], window: Option<u32>) -> Option<u32>

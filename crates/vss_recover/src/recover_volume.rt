@@ -17,7 +17,7 @@ ghost use Rattle.vss_recover.specs.TakingUp.{AreOfImages, taken_up};
 use crate::claim::Claim;
 use crate::claims::{first_out, first_overlap, owner_of};
 use crate::entries::is_one_of;
-use crate::finals::{MOST_CLAIMS, final_among, kept_window, take_claims};
+use crate::finals::{MOST_CLAIMS, Room, final_among, kept_window, take_claims};
 use crate::open_fault::OpenFault;
 use crate::overlay::{Overlay, put_payload};
 use crate::recover_fault::RecoverFault;
@@ -25,7 +25,6 @@ use crate::recover_revert::RecoverRevert;
 use block_data::{BLOCK, BlockBuf, Payload};
 use cow_volume::{Cause, CowVolume, ImageFault, RevertFault, WriteFault, Written};
 use diff_area::Area;
-use diff_map::MOST_IMAGES;
 use std::alloc::Global;
 use std::marker::Model;
 use std::mem::swap;
@@ -75,15 +74,7 @@ impl<D: Device> RecoverVolume<D> {
         ensures stands { IfOk result (λ v. (h : History) → StandsForOne D.told volume h → StandsFor D.told v (unrecovered h)) }
     {
         let overlay = Overlay::new(alloc, overlay)?;
-        Ok(RecoverVolume {
-            volume,
-            overlay,
-            window: None,
-            claims: Vec::with_capacity(alloc, MOST_CLAIMS)?,
-            finals: Vec::with_capacity(alloc, MOST_IMAGES)?,
-            next_finals: Vec::with_capacity(alloc, MOST_IMAGES)?,
-            scratch: BlockBuf::zeroed(alloc)?,
-        })
+        RecoverVolume::without_window(alloc, volume, overlay, &[])
     }
 
     /// Takes a volume up again: the copy-on-write volume, the overlay with the blocks that its records say, and the sets of the final
@@ -102,16 +93,29 @@ impl<D: Device> RecoverVolume<D> {
             → StandsForOne D.told volume h → (r : Recovering) × (r.volume ≡ h) × StandsFor D.told v r) }
     {
         let overlay = Overlay::resume(alloc, overlay)?;
-        let mut all = Vec::with_capacity(alloc, MOST_IMAGES)?;
-        all.extend_from_slice(finals)?;
+        RecoverVolume::without_window(alloc, volume, overlay, finals)
+    }
+
+    /// A volume with no open window. It takes all memory of the later calls but the overlay's.
+    fn without_window(
+        alloc: Global,
+        volume: CowVolume<D>,
+        overlay: Overlay<D>,
+        finals: &[u32],
+    ) -> Result<RecoverVolume<D>, OutOfMemory>
+        requires fits { overlay.volumes ≡ blocks_of volume ∷ [] }
+        requires few { length finals.now ≤ 512 }
+        ensures { IfOk result (λ v. v ≡ taken_up volume overlay finals.now) }
+    {
+        let room = Room::new(alloc, finals)?;
         Ok(RecoverVolume {
             volume,
             overlay,
             window: None,
-            claims: Vec::with_capacity(alloc, MOST_CLAIMS)?,
-            finals: all,
-            next_finals: Vec::with_capacity(alloc, MOST_IMAGES)?,
-            scratch: BlockBuf::zeroed(alloc)?,
+            claims: room.claims,
+            finals: room.finals,
+            next_finals: room.next_finals,
+            scratch: room.scratch,
         })
     }
 
