@@ -1,6 +1,6 @@
 -- A builder goes on: what holds of its draft holds with whatever is appended to its source, also after one more call.
 use Rattle.std.proofs.Common.{◌≡◌, ◌∙◌, ℕ, ◌+◌, ◌-◌, ◌<◌, ◌≤◌, true, false, List, [], ◌∷◌, ◌++◌, length, Option, None, refl, ap, sym, subst, arith, length-append, take, drop}
-use Rattle.std.specs.Prelude.{◌&&◌, is_some, slice_get, nat_lt, IfOk, Result, Ok, Err}
+use Rattle.std.specs.Prelude.{◌&&◌, is_some, slice_get, nat_lt, Result, Ok, Err}
 use Rattle.std.proofs.lemmas.List.{take-append-le, drop-append-le, length-drop, append_assoc, append-nil}
 use Rattle.std.proofs.lemmas.List.Elements.{All-nil}
 use Rattle.scenario.specs.declared.span.Span.{Span}
@@ -13,7 +13,6 @@ use Rattle.writer_meta.specs.Metadata.{Meta, meta_of}
 use Rattle.scenario.specs.declared.op.Op.TheVariants as op
 use Rattle.scenario.specs.declared.value.Value.{Value}
 use Rattle.scenario.specs.declared.value.Value.TheVariants as value
-use Rattle.scenario.specs.declared.cause.Cause.{Cause}
 use Rattle.scenario.specs.declared.reason.Reason.{Reason}
 use Rattle.scenario.specs.declared.reason.Reason.TheVariants.{Misplaced, TooMany}
 use Rattle.writer_calls.specs.declared.scripted.Scripted.{Scripted}
@@ -25,7 +24,7 @@ use Rattle.scenario.specs.SoFar as saying
 use Rattle.scenario.specs.Declarations.{name_field, has_space, has_volume_room, new_volume, own_row, shared_row, area_at, new_writer, new_nth, new_lane}
 use Rattle.scenario.specs.Entries.{has_lane, has_line_room}
 use Rattle.scenario.specs.Bounds.{IsShortPart, IsRanged}
-use Rattle.scenario.specs.Drafts.{DraftValue, empty_draft, IsDraft, IsEntry, IsNewVolume, IsNewName, AreNames, with_entry, saying_in, names_after, told}
+use Rattle.scenario.specs.Drafts.{DraftValue, empty_draft, IsDraft, IsEntry, IsNewVolume, IsNewName, AreNames, with_entry, saying_in, names_after}
 use Rattle.scenario.specs.Built.{IsGrowing, IsNewlyNamed, before_lanes, number_if, number_below, whom_in, op_in, area_said, own_said, shared_said, writer_said, answer_said, lane_said, line_said, value_said}
 use Rattle.scenario.proofs.Kept.{kept}
 use Rattle.scenario.proofs.Named.{IsSaid, IsGood, named_after, plan_named, on_bind, on_either, new_name, volume_new, writer_new, lane_new}
@@ -225,10 +224,6 @@ newly text k d (entry.Line line) h = h
 good_is : (P : Saying → Type 0) (r : Result Saying Reason) (s : Saying) → r ≡ Ok s → IsGood P r → P s
 good_is P r s e h = subst (IsGood P) e h
 
-named_if : (text : List ℕ) (k : ℕ) (d : SoFar) (said : Result Entry Cause) (r : Result Saying Reason) → told said ≡ r → IsGood (IsSaid text d k) r → IfOk said (IsNewlyNamed text k)
-named_if text k d (Ok e) r same h = newly text k d e (good_is (IsSaid text d k) r (saying_in e) (sym same) h)
-named_if text k d (Err cause) r same h = tt
-
 before : (P : Saying → Type 0) (d : SoFar) (r : Result Saying Reason) → IsGood P r → IsGood P (before_lanes d r)
 before P d r h = on_either P (has_lane d.lanes) (Err Misplaced) r tt h
 
@@ -291,5 +286,14 @@ value_good text d k name (value.Lane whom) = lane_good text d k name whom
 value_good text d k name (value.Line what) = line_good text d k what
 value_good text d k name (value.Component writer) = line_good text d k (op.Component writer name)
 
-pub named_value : (text : List ℕ) (d : SoFar) (k : ℕ) (name : Span) (v : Value) (said : Result Entry Cause) → told said ≡ value_said text d k name v → IfOk said (IsNewlyNamed text k)
-named_value text d k name v said same = named_if text k d said (value_said text d k name v) same (value_good text d k name v)
+-- ## a call
+
+pub drafted : (source bytes text : List ℕ) (k : ℕ) (d : DraftValue) → text ≡ source ++ bytes ++ 10 ∷ [] → IsGrowing source k d → length source + length bytes + 1 ≤ 4000000000 → IsDraft text d
+drafted source bytes text k d same h room = subst (λ t. IsDraft t d) (sym same) (as_is (source ++ bytes ++ 10 ∷ []) k d (appended source bytes k d h room))
+
+pub grown_by : (source bytes text : List ℕ) (k : ℕ) (d : DraftValue) (name : Span) (v : Value) (e : Entry) → text ≡ source ++ bytes ++ 10 ∷ [] → IsGrowing source k d → length source + length bytes + 1 ≤ 4000000000
+    → IsEntry text d e → Ok (saying_in e) ≡ value_said text d.said k name v → IsGrowing text (k + 1) (with_entry text d e)
+grown_by source bytes text k d name v e same h room new said =
+    let grows : IsGrowing text k d = subst (λ t. IsGrowing t k d) (sym same) (appended source bytes k d h room) in
+    let named : IsNewlyNamed text k e = newly text k d.said e (good_is (IsSaid text d.said k) _ (saying_in e) (sym said) (value_good text d.said k name v)) in
+    grown text k d e grows new named (omega (arith, h.few, ap length same, length-append (source ++ bytes) (10 ∷ []), length-append source bytes))

@@ -1,7 +1,7 @@
 -- Scenarios that are built of values: what each call of a builder adds, or why it is refused. A call is a line: lines are numbered from
 -- 2, as where a text begins with `scenario 1`; names are appended to the source, each with a newline. A call is checked
 -- as the line of a text would be, with the same definitions and the same reasons. (This project's own.)
-use Rattle.std.specs.Prelude.{ℕ, ◌≡◌, ◌<◌, ◌≤◌, ◌+◌, ◌-◌, ◌++◌, ◌&&◌, Bool, true, List, [], ◌∷◌, length, nat_le, nat_lt, if◌then◌else◌, Option, Some, None, is_some, Result, Ok, Err, slice_get}
+use Rattle.std.specs.Prelude.{ℕ, ◌≡◌, ◌<◌, ◌≤◌, ◌+◌, ◌-◌, ◌++◌, ◌&&◌, true, List, [], ◌∷◌, length, nat_le, nat_lt, if◌then◌else◌, Option, Some, None, is_some, Result, Ok, Err, slice_get}
 use Rattle.std.specs.List.{list_all}
 use Rattle.writer_meta.specs.Metadata.{Meta, meta_of}
 use Rattle.writer_meta.specs.Allowed.{IsAllowed}
@@ -50,25 +50,13 @@ nothing_built = record { source = []; number = 2; draft = empty_draft }
 abbrev pub pushed : BuiltValue → List ℕ → BuiltValue
 pushed b bytes = record b { source = b.source ++ bytes ++ 10 ∷ [] }
 
-abbrev pub span_in : BuiltValue → List ℕ → Span
-span_in b bytes = record { start = length b.source; end = length b.source + length bytes }
+abbrev pub span_after : List ℕ → List ℕ → Span
+span_after source bytes = record { start = length source; end = length source + length bytes }
 
--- at most 4,000,000,000 bytes
-abbrev pub has_text_room : BuiltValue → List ℕ → Bool
-has_text_room b bytes = nat_le (length b.source + length bytes + 1) 4000000000
-
--- what a builder is after a call, or the line that is refused, with its first failing check
-abbrev pub Built : Type 0
-Built = Result BuiltValue (ℕ × Reason)
-
--- what a call does with the bytes that it was given
-abbrev pub Next : Type 0
-Next = BuiltValue → Span → Built
-
--- the bytes of a name are taken first
-abbrev pub given : BuiltValue → List ℕ → Next → Built
-given b bytes next =
-    if list_all is_printable bytes then (if has_text_room b bytes then next (pushed b bytes) (span_in b bytes) else Err (b.number, TooMany)) else Err (b.number, BadByte)
+-- where the bytes of a name will be, if they may stand in a line and the source has at most 4,000,000,000 bytes with them
+unfoldable pub place_after : List ℕ → List ℕ → Result Span Reason
+place_after source bytes =
+    if list_all is_printable bytes then (if nat_le (length source + length bytes + 1) 4000000000 then Ok (span_after source bytes) else Err TooMany) else Err BadByte
 
 abbrev pub with_saying : BuiltValue → Saying → BuiltValue
 with_saying b s = record {
@@ -76,6 +64,10 @@ with_saying b s = record {
   number = b.number + 1;
   draft = record { said = after b.draft.said s; names = names_after b.source b.draft.names s; counts = counts_after b.draft.counts s };
 }
+
+-- what a builder is after a call, or the line that is refused, with its first failing check
+abbrev pub Built : Type 0
+Built = Result BuiltValue (ℕ × Reason)
 
 abbrev pub added : BuiltValue → Result Saying Reason → Built
 added b (Ok s) = Ok (with_saying b s)
@@ -202,12 +194,10 @@ value_said text d number name (value.Lane whom) = lane_said text d name whom
 value_said text d number name (value.Line what) = line_said text d number what
 value_said text d number name (value.Component writer) = line_said text d number (op.Component writer name)
 
-abbrev pub says : Value → Next
-says v p span = added p (value_said p.source p.draft.said p.number span v)
-
--- what a builder is after a call with these bytes and this value
+-- what a builder is after a call with these bytes and this value: the bytes are taken first
 abbrev pub with_value : BuiltValue → List ℕ → Value → Built
-with_value b bytes v = given b bytes (says v)
+with_value b bytes v =
+    added (pushed b bytes) (place_after b.source bytes >>= (λ name. value_said (pushed b bytes).source b.draft.said b.number name v))
 
 -- a writer's metadata are allowed by their format
 abbrev pub IsValue : Value → Type 0

@@ -16,11 +16,11 @@ use Rattle.scenario.specs.declared.volume_row.VolumeRow.{VolumeRow}
 use Rattle.scenario.specs.declared.counts.Counts.{Counts}
 use Rattle.scenario.specs.declared.entry.Entry.{Entry}
 use Rattle.scenario.specs.declared.entry.Entry.TheVariants as entry
-use Rattle.scenario.specs.Plan.{GroupPlan, WriterPlan, LaneLine, LanePlan, blocks_in, script_in}
+use Rattle.scenario.specs.Plan.{GroupPlan, LaneLine, LanePlan, script_in}
 use Rattle.scenario.specs.Bounds.{IsShortPart, IsRow, IsGroupRow, IsNth, IsWriterRow, IsRanged, begins_agenda, IsInGroup, groups_from}
 use Rattle.scenario.specs.SoFar.{SoFar, Saying, nothing, after, group_for, area_group, line_count, agenda_count, answer_count}
 use Rattle.scenario.specs.SoFar as saying
-use Rattle.scenario.specs.Fields.{bytes_of, IsPart}
+use Rattle.scenario.specs.Fields.{bytes_of}
 use Rattle.scenario.specs.Names.{place_of, area_names, volume_names, writer_names, lane_names}
 
 -- the names that are taken, by kind and in order of declaration
