@@ -1,6 +1,6 @@
 -- What is kept of the lines that were read so far: what they say, the names by kind, and how many there are of what is
 -- limited; and what holds of it after every line. (This project's own.)
-use Rattle.std.specs.Prelude.{ℕ, ◌≡◌, ◌<◌, ◌≤◌, ◌+◌, ◌++◌, true, List, [], ◌∷◌, length, All, find, Some, None, IfSome, slice_get, if◌then◌else◌, Result, Ok, Err}
+use Rattle.std.specs.Prelude.{ℕ, ◌≡◌, ◌<◌, ◌≤◌, ◌+◌, ◌++◌, Bool, true, false, List, [], ◌∷◌, length, All, find, Some, None, IfSome, slice_get, if◌then◌else◌, Result, Ok, Err}
 use Rattle.writer_meta.specs.Metadata.{meta_of}
 use Rattle.writer_meta.specs.Allowed.{IsAllowed}
 use Rattle.writer_calls.specs.declared.scripted.Scripted.{Scripted}
@@ -35,12 +35,16 @@ pub record DraftValue : Type 0 where
   pub names : Names
   pub counts : Counts
 
-abbrev pub empty_draft : DraftValue
-empty_draft = record {
-  said = nothing;
+-- where the `scenario` line was read, or not
+abbrev pub new_draft : Bool → DraftValue
+new_draft opened = record {
+  said = record nothing { opened = opened };
   names = record { areas = []; volumes = []; writers = []; lanes = [] };
   counts = record { lines = 0; agenda_lines = 0; answers = 0 };
 }
+
+abbrev pub empty_draft : DraftValue
+empty_draft = new_draft false
 
 -- ## one line more
 

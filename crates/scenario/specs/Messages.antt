@@ -6,7 +6,7 @@ use Rattle.scenario.specs.declared.expected.Expected.TheVariants.{NewName, Decla
 use Rattle.scenario.specs.declared.name_kind.NameKind.{NameKind}
 use Rattle.scenario.specs.declared.name_kind.NameKind.TheVariants as kind
 use Rattle.scenario.specs.declared.quantity.Quantity.{Quantity}
-use Rattle.scenario.specs.declared.quantity.Quantity.TheVariants.{Version, Slots, Blocks, Block, Byte, Stamp, Set, Ticks, Context, Nth}
+use Rattle.scenario.specs.declared.quantity.Quantity.TheVariants as quantity
 use Rattle.scenario.specs.declared.word.Word.TheVariants as word
 use Rattle.scenario.specs.Words.{name_of}
 use Rattle.scenario.specs.declared.reason.Reason.{Reason}
@@ -59,16 +59,16 @@ name_of_kind kind.Lane = name_of word.Lane
 
 -- what a number is called in the forms of lines
 abbrev pub name_of_quantity : Quantity → List ℕ
-name_of_quantity Version = codes "VERSION"
-name_of_quantity Slots = codes "SLOTS"
-name_of_quantity Blocks = codes "BLOCKS"
-name_of_quantity (Block name) = codes "BLOCK"
-name_of_quantity Byte = codes "BYTE"
-name_of_quantity Stamp = codes "NUMBER"
-name_of_quantity Set = codes "SET"
-name_of_quantity Ticks = codes "TICKS"
-name_of_quantity Context = codes "CONTEXT"
-name_of_quantity Nth = codes "NTH"
+name_of_quantity quantity.Version = codes "VERSION"
+name_of_quantity quantity.Slots = codes "SLOTS"
+name_of_quantity quantity.Blocks = codes "BLOCKS"
+name_of_quantity (quantity.Block name) = codes "BLOCK"
+name_of_quantity quantity.Byte = codes "BYTE"
+name_of_quantity quantity.Stamp = codes "NUMBER"
+name_of_quantity quantity.Set = codes "SET"
+name_of_quantity quantity.Ticks = codes "TICKS"
+name_of_quantity quantity.Context = codes "CONTEXT"
+name_of_quantity quantity.Nth = codes "NTH"
 
 -- the kind of the name that was expected, where it was one
 abbrev pub kind_expected : Expected → Option NameKind

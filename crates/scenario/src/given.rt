@@ -3,7 +3,6 @@ ghost use Rattle.scenario.specs.Fields.{IsPart};
 ghost use Rattle.scenario.specs.Drafts.{IsDraft, IsEntry, saying_in};
 ghost use Rattle.scenario.specs.Built.{value_of, place_after, with_saying, with_value, IsRefusedBy, IsValue, Grows};
 
-use crate::additions::entry_of_value;
 use crate::draft::Draft;
 use crate::entries::are_printable;
 use crate::entry::Entry;
@@ -11,6 +10,7 @@ use crate::reason::Reason;
 use crate::refused::Refused;
 use crate::span::Span;
 use crate::value::Value;
+use crate::value_lines::entry_of_value;
 use std::alloc::Global;
 use vss_names::OutOfMemory;
 
@@ -62,7 +62,8 @@ impl Given {
         requires draft { IsDraft self.old.source.items self.old.draft }
         requires few { self.old.number < 4294967295 }
         requires entry { IsEntry self.old.source.items self.old.draft entry }
-        ensures { OnOk result (value_of self.new ≡ with_saying (value_of self.old) (saying_in entry)) }
+        ensures { OnOk result (value_of self.new
+            ≡ with_saying (value_of self.old) (saying_in entry)) }
     {
         self.draft.add(alloc, &self.source, entry)?;
         self.number += 1;
@@ -74,8 +75,10 @@ impl Given {
         requires grows { Grows self.old }
         requires value { IsValue value }
         ensures grows { OnOk result (Grows self.new) }
-        ensures built { OnOk result (with_value (value_of self.old) bytes.now value ≡ Ok (value_of self.new)) }
-        ensures refused { IfErr result (IsRefusedBy (with_value (value_of self.old) bytes.now value)) }
+        ensures built { OnOk result (with_value (value_of self.old) bytes.now value
+            ≡ Ok (value_of self.new)) }
+        ensures refused { IfErr result (IsRefusedBy
+            (with_value (value_of self.old) bytes.now value)) }
     {
         let line = self.number;
         let name = match place_after(&self.source, bytes) {

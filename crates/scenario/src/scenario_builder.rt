@@ -44,7 +44,7 @@ impl ScenarioBuilder {
         let given = Given {
             source: Vec::new(alloc),
             number: 2,
-            draft: Draft::new(alloc),
+            draft: Draft::new(alloc, true),
         };
         ScenarioBuilder { given }
     }
