@@ -13,14 +13,14 @@ use Rattle.scenario.specs.declared.reason.Reason.TheVariants.{Misplaced, BadName
 use Rattle.scenario.specs.declared.span.Span.{Span}
 use Rattle.scenario.specs.Plan.{WriterPlan, LanePlan}
 use Rattle.scenario.specs.Lines.{span_from}
-use Rattle.scenario.specs.Fields.{bytes_of, rest_fields}
+use Rattle.scenario.specs.Fields.{bytes_of, fields_of, rest_fields}
 use Rattle.scenario.specs.Numbers.{number_in}
 use Rattle.scenario.specs.Words.{word_of}
 use Rattle.scenario.specs.Names.{is_name, place_of, volume_named, writer_named}
 use Rattle.scenario.specs.Ops.{◌>>=◌, number_field}
 use Rattle.scenario.specs.SoFar.{SoFar, Saying, nothing, after}
 use Rattle.scenario.specs.SoFar as saying
-use Rattle.scenario.specs.Declarations.{name_field, opening_of, own_volume_of, own_row, has_volume_room, writer_of, described, document_field, writer_if}
+use Rattle.scenario.specs.Declarations.{name_field, opening_of, own_volume_of, volume_of, own_row, has_volume_room, writer_of, described, document_field, writer_if}
 use Rattle.scenario.specs.Entries.{placed_row_of, row_of, has_lane}
 use Rattle.generator_text.specs.Lines.{as_lines}
 use Rattle.generator_text.specs.ScenarioText.{declarations}
@@ -107,7 +107,7 @@ volume text rest c cs m good named free small i =
         = new_name text _ first (c ∷ cs) name named (ap₂ (λ x ns. is_some (place_of x ns)) name h.names ∙ free) in
         record {
           said = saying.OwnVolume row;
-          is = ap₂ (λ (a b : Bool). if a && not b then own_volume_of text d first second third else Err Misplaced) h.opened (no_lane text d.lanes said.lanes)
+          is = ap₂ (λ (a b : Bool). if a && not b then volume_of text d (fields_of (first ∷ second ∷ third ∷ [])) else Err Misplaced) h.opened (no_lane text d.lanes said.lanes)
               ∙ ap (λ (r : Result Span Reason). r >>= (λ n. number_field text 1 65536 second >>= (λ b. number_field text 0 65536 third >>= (λ s. if has_volume_room d (b + s) then Ok (saying.OwnVolume (own_row d n b s)) else Err TooMany)))) new
               ∙ ap (λ (bytes : List ℕ). number_in 1 65536 bytes >>= (λ b. number_field text 0 65536 third >>= (λ s. if has_volume_room d (b + s) then Ok (saying.OwnVolume (own_row d first b s)) else Err TooMany))) blocks
               ∙ ap (λ (bytes : List ℕ). number_in 0 65536 bytes >>= (λ s. if has_volume_room d (256 + s) then Ok (saying.OwnVolume (own_row d first 256 s)) else Err TooMany)) slots

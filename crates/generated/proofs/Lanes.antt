@@ -12,13 +12,13 @@ use Rattle.scenario.specs.declared.reason.Reason.TheVariants.{Misplaced, Unknown
 use Rattle.scenario.specs.declared.span.Span.{Span}
 use Rattle.scenario.specs.Plan.{LanePlan}
 use Rattle.scenario.specs.Lines.{span_from}
-use Rattle.scenario.specs.Fields.{bytes_of}
+use Rattle.scenario.specs.Fields.{bytes_of, fields_of}
 use Rattle.scenario.specs.Words.{word_of}
 use Rattle.scenario.specs.Names.{is_name, place_of, lane_named, writer_named}
-use Rattle.scenario.specs.Ops.{◌>>=◌, writer_field, is_word as is_word_at}
+use Rattle.scenario.specs.Ops.{◌>>=◌, writer_field}
 use Rattle.scenario.specs.SoFar.{SoFar, Saying, after, line_count, agenda_count}
 use Rattle.scenario.specs.SoFar as saying
-use Rattle.scenario.specs.Declarations.{name_field, free_lane_of, acting_lane_of, lane_if}
+use Rattle.scenario.specs.Declarations.{name_field, free_lane_of, acting_lane_of, lane_of, lane_if}
 use Rattle.scenario.specs.Entries.{placed_row_of, row_of}
 use Rattle.generator_text.specs.ScenarioText.{acting, lane_text, writes_text}
 use Rattle.vss_report.proofs.Joined.{first_of_both, second_of_both}
@@ -97,8 +97,8 @@ acting_lane text rest run name w plain found new i =
         let last = tail_is _ _ _ _ more in
         record {
           said = saying.Lane span (Some w);
-          is = ap (λ b. if b then acting_lane_of text d span kind writer else Err Misplaced) h.declared.opened
-              ∙ ap (λ (r : Result Span Reason). r >>= (λ n. if is_word_at text kind (codes "as") then (writer_field text d.writers writer >>= (λ x. lane_if d n (Some x))) else Err UnknownWord)) (new_lane_is text all_declared run d span name h new is)
+          is = ap (λ b. if b then lane_of text d (fields_of (span ∷ kind ∷ writer ∷ [])) else Err Misplaced) h.declared.opened
+              ∙ ap (λ (r : Result Span Reason). r >>= (λ n. if bytes_eq (bytes_of text kind) (codes "as") then (writer_field text d.writers writer >>= (λ x. lane_if d n (Some x))) else Err UnknownWord)) (new_lane_is text all_declared run d span name h new is)
               ∙ ap (λ (bytes : List ℕ). if bytes_eq bytes (codes "as") then (writer_field text d.writers writer >>= (λ x. lane_if d span (Some x))) else Err UnknownWord) (head_is _ _ _ _ more)
               ∙ ap₂ (λ (bytes : List ℕ) names. ok_or (place_of bytes names) UnknownName >>= (λ x. lane_if d span (Some x))) (head_is _ _ _ _ last) h.declared.writers
               ∙ ap (λ (o : Option ℕ). ok_or o UnknownName >>= (λ x. lane_if d span (Some x))) found

@@ -14,10 +14,10 @@ use Rattle.scenario.specs.declared.reason.Reason.TheVariants.{UnknownWord}
 use Rattle.scenario.specs.declared.volume_row.VolumeRow.{VolumeRow}
 use Rattle.scenario.specs.Plan.{LaneLine, blocks_in}
 use Rattle.scenario.specs.Lines.{span_from}
-use Rattle.scenario.specs.Fields.{bytes_of, fields_of}
+use Rattle.scenario.specs.Fields.{bytes_of, text_field, fields_of}
 use Rattle.scenario.specs.Numbers.{number_in}
 use Rattle.scenario.specs.Words.{word_of}
-use Rattle.scenario.specs.Ops.{◌>>=◌, number_field, volume_field, block_field, payload_of, write_of, op_of}
+use Rattle.scenario.specs.Ops.{◌>>=◌, number_field, volume_field, block_at as block_value, payload_of, write_of, op_of}
 use Rattle.scenario.specs.SoFar.{SoFar}
 use Rattle.scenario.specs.Entries.{row_of}
 use Rattle.generator_text.specs.Draws.{drawn, volume_at, block_at, stamp_at}
@@ -68,14 +68,14 @@ volume_reads : (text : List ℕ) (d : SoFar) (v start end : ℕ) → IsDeclared 
 unfolding volume_field
 volume_reads text d v start end h l e = volume_is text d v h (known v l) (bytes_of text (span_from start end)) (e ∙ ap (λ ds. 118 ∷ ds) (decimal_digit v (omega (arith, l))))
 
-block_reads : (text : List ℕ) (d : SoFar) (v b start end : ℕ) → IsDeclared text all_declared d → v < 8 → b < 256 → bytes_of text (span_from start end) ≡ decimal b → block_field text d.volumes v (span_from start end) ≡ Ok b
-unfolding block_field number_field
+block_reads : (text : List ℕ) (d : SoFar) (v b start end : ℕ) → IsDeclared text all_declared d → v < 8 → b < 256 → bytes_of text (span_from start end) ≡ decimal b → block_value text d.volumes v (text_field (span_from start end)) ≡ Ok b
+unfolding number_field
 block_reads text d v b start end h l m e =
     ap₂ (λ n (bytes : List ℕ). number_in 0 (n - 1) bytes) (blocks_from 0 8 v d.volumes h.shapes l) e
     ∙ number_reads 0 255 b (omega (arith, m)) (within 0 255 b (omega arith) (omega (arith, m)))
 
 stamp_reads : (text : List ℕ) (v b s at end start stop : ℕ) → s ≤ 18446744073709551615 → bytes_of text (span_from at end) ≡ codes "stamp" → bytes_of text (span_from start stop) ≡ decimal s
-    → payload_of text v b (span_from at end) (span_from start stop) ≡ Ok (WriteStamp v b s)
+    → payload_of text v b (text_field (span_from at end)) (text_field (span_from start stop)) ≡ Ok (WriteStamp v b s)
 unfolding number_field
 stamp_reads text v b s at end start stop small kind digits =
     ap₂ (λ (name bytes : List ℕ). if bytes_eq name (codes "fill") then (number_in 0 255 bytes >>= (λ x. Ok (WriteFill v b x)))
@@ -100,8 +100,8 @@ write_makes text d v b s at h w parts =
     let block = block_reads text d v b _ _ h w.volume w.block (head_is _ _ _ _ rest) in
     record {
       op = WriteStamp v b s;
-      is = ap (λ (r : Result ℕ Reason). r >>= (λ x. block_field text d.volumes x block_at >>= (λ y. payload_of text x y kind stamp))) volume
-          ∙ ap (λ (r : Result ℕ Reason). r >>= (λ y. payload_of text v y kind stamp)) block
+      is = ap (λ (r : Result ℕ Reason). r >>= (λ x. block_value text d.volumes x (text_field block_at) >>= (λ y. payload_of text x y (text_field kind) (text_field stamp)))) volume
+          ∙ ap (λ (r : Result ℕ Reason). r >>= (λ y. payload_of text v y (text_field kind) (text_field stamp))) block
           ∙ stamp_reads text v b s _ _ _ _ w.stamp (head_is _ _ _ _ more) (head_is _ _ _ _ last);
       meant = refl;
     }

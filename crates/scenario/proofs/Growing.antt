@@ -1,6 +1,6 @@
 -- A builder goes on: what holds of its draft holds with whatever is appended to its source, also after one more call.
-use Rattle.std.proofs.Common.{◌≡◌, ◌∙◌, ℕ, ◌+◌, ◌-◌, ◌<◌, ◌≤◌, true, false, List, [], ◌∷◌, ◌++◌, length, Option, None, refl, ap, sym, subst, arith, length-append, take, drop}
-use Rattle.std.specs.Prelude.{◌&&◌, is_some, slice_get, nat_lt, IfOk, Result, Ok, Err}
+use Rattle.std.proofs.Common.{◌≡◌, ◌∙◌, ℕ, ◌+◌, ◌-◌, ◌<◌, ◌≤◌, true, false, List, [], ◌∷◌, ◌++◌, length, Option, Some, None, refl, ap, sym, subst, arith, length-append, take, drop}
+use Rattle.std.specs.Prelude.{is_some, nat_lt, Result, Ok, Err}
 use Rattle.std.proofs.lemmas.List.{take-append-le, drop-append-le, length-drop, append_assoc, append-nil}
 use Rattle.std.proofs.lemmas.List.Elements.{All-nil}
 use Rattle.scenario.specs.declared.span.Span.{Span}
@@ -10,10 +10,15 @@ use Rattle.scenario.specs.declared.volume_row.VolumeRow.{VolumeRow}
 use Rattle.scenario.specs.declared.entry.Entry.{Entry}
 use Rattle.scenario.specs.declared.entry.Entry.TheVariants as entry
 use Rattle.writer_meta.specs.Metadata.{Meta, meta_of}
+use Rattle.scenario.specs.declared.word.Word.{Word}
+use Rattle.scenario.specs.declared.word.Word.TheVariants as word
 use Rattle.scenario.specs.declared.op.Op.TheVariants as op
+use Rattle.scenario.specs.declared.field.Field.TheVariants.{Text, Number}
+use Rattle.scenario.specs.declared.field.Field.TheVariants as field
+use Rattle.scenario.specs.declared.fields.Fields.{Fields}
+use Rattle.scenario.specs.declared.fields.Fields.TheVariants.{One, Two, Three, Four}
 use Rattle.scenario.specs.declared.value.Value.{Value}
 use Rattle.scenario.specs.declared.value.Value.TheVariants as value
-use Rattle.scenario.specs.declared.cause.Cause.{Cause}
 use Rattle.scenario.specs.declared.reason.Reason.{Reason}
 use Rattle.scenario.specs.declared.reason.Reason.TheVariants.{Misplaced, TooMany}
 use Rattle.writer_calls.specs.declared.scripted.Scripted.{Scripted}
@@ -22,13 +27,14 @@ use Rattle.scenario.specs.Names.{is_name, place_of, volume_named, writer_named, 
 use Rattle.scenario.specs.Named.{IsNamed, HasNames}
 use Rattle.scenario.specs.SoFar.{SoFar, Saying, plan_in, after, line_count, agenda_count, answer_count}
 use Rattle.scenario.specs.SoFar as saying
-use Rattle.scenario.specs.Declarations.{name_field, has_space, has_volume_room, new_volume, own_row, shared_row, area_at, new_writer, new_nth, new_lane}
-use Rattle.scenario.specs.Entries.{has_lane, has_line_room}
+use Rattle.scenario.specs.Declarations.{new_writer, nth_field}
+use Rattle.scenario.specs.Entries.{has_lane, has_line_room, may_stand}
+use Rattle.scenario.specs.Ops.{writer_at}
 use Rattle.scenario.specs.Bounds.{IsShortPart, IsRanged}
-use Rattle.scenario.specs.Drafts.{DraftValue, empty_draft, IsDraft, IsEntry, IsNewVolume, IsNewName, AreNames, with_entry, saying_in, names_after, told}
-use Rattle.scenario.specs.Built.{IsGrowing, IsNewlyNamed, before_lanes, number_if, number_below, whom_in, op_in, area_said, own_said, shared_said, writer_said, answer_said, lane_said, line_said, value_said}
+use Rattle.scenario.specs.Drafts.{DraftValue, new_draft, IsDraft, IsEntry, IsNewVolume, IsNewName, AreNames, with_entry, saying_in, names_after}
+use Rattle.scenario.specs.Built.{IsGrowing, IsNewlyNamed, if_placed, op_in, line_said, op_said, writer_said, answer_said, value_said}
 use Rattle.scenario.proofs.Kept.{kept}
-use Rattle.scenario.proofs.Named.{IsSaid, IsGood, named_after, plan_named, on_bind, on_either, new_name, volume_new, writer_new, lane_new}
+use Rattle.scenario.proofs.Named.{IsSaid, IsGood, named_after, plan_named, on_bind, on_either, new_name, writer_new, word_said}
 
 -- ## parts of a source
 
@@ -165,7 +171,7 @@ as_is source k d h = subst (λ text. IsDraft text d) (append-nil source) (h.draf
 pub plan_has_names : (source : List ℕ) (k : ℕ) (d : DraftValue) → IsGrowing source k d → HasNames (plan_in source d.said)
 plan_has_names source k d h = plan_named source k d.said (subst (λ text. IsNamed text k d.said) (append-nil source) (h.named [])) h.some h.few
 
-pub begun : IsGrowing [] 2 empty_draft
+pub begun : IsGrowing [] 2 (new_draft true)
 begun =
     record {
       drafts = λ more. record {
@@ -225,71 +231,50 @@ newly text k d (entry.Line line) h = h
 good_is : (P : Saying → Type 0) (r : Result Saying Reason) (s : Saying) → r ≡ Ok s → IsGood P r → P s
 good_is P r s e h = subst (IsGood P) e h
 
-named_if : (text : List ℕ) (k : ℕ) (d : SoFar) (said : Result Entry Cause) (r : Result Saying Reason) → told said ≡ r → IsGood (IsSaid text d k) r → IfOk said (IsNewlyNamed text k)
-named_if text k d (Ok e) r same h = newly text k d e (good_is (IsSaid text d k) r (saying_in e) (sym same) h)
-named_if text k d (Err cause) r same h = tt
+placed : (text : List ℕ) (d : SoFar) (k : ℕ) (w : Word) (said : Result Saying Reason) → IsGood (IsSaid text d k) said → IsGood (IsSaid text d k) (if_placed d w said)
+placed text d k w said h = on_either (IsSaid text d k) (may_stand d.opened (has_lane d.lanes) w) said (Err Misplaced) h tt
 
-before : (P : Saying → Type 0) (d : SoFar) (r : Result Saying Reason) → IsGood P r → IsGood P (before_lanes d r)
-before P d r h = on_either P (has_lane d.lanes) (Err Misplaced) r tt h
+line_good : (text : List ℕ) (d : SoFar) (k : ℕ) (w : Word) (fields : Fields) → IsGood (IsSaid text d k) (line_said text d k w fields)
+line_good text d k w fields = placed text d k w _ (word_said text d k w fields)
 
-area_good : (text : List ℕ) (d : SoFar) (k : ℕ) (name : Span) (slots : ℕ) → IsGood (IsSaid text d k) (area_said text d name slots)
-unfolding area_said
-area_good text d k name slots =
+op_good : (text : List ℕ) (d : SoFar) (k : ℕ) (what : Op) → IsGood (IsSaid text d k) (op_said text d k what)
+op_good text d k what =
     let P = IsSaid text d k in
-    before P d _ (on_bind P (name_field text _ name) _ (λ n e. on_bind P (number_if 0 65536 slots) _
-    (λ s f. on_either P (nat_lt (length d.areas) 128 && has_space d s) (Ok (saying.Area (record { name = n; slots = s }))) (Err TooMany) tt tt)))
-
-own_good : (text : List ℕ) (d : SoFar) (k : ℕ) (name : Span) (blocks slots : ℕ) → IsGood (IsSaid text d k) (own_said text d name blocks slots)
-unfolding own_said
-own_good text d k name blocks slots =
-    let P = IsSaid text d k in
-    before P d _ (on_bind P (new_volume text d name) _ (λ n e. on_bind P (number_if 1 65536 blocks) _ (λ b f. on_bind P (number_if 0 65536 slots) _
-    (λ s g. on_either P (has_volume_room d (b + s)) (Ok (saying.OwnVolume (own_row d n b s))) (Err TooMany) (volume_new text d name n (new_name text _ name n e)) tt))))
-
-shared_good : (text : List ℕ) (d : SoFar) (k : ℕ) (name : Span) (blocks a : ℕ) → IsGood (IsSaid text d k) (shared_said text d name blocks a)
-unfolding shared_said
-shared_good text d k name blocks a =
-    let P = IsSaid text d k in
-    before P d _ (on_bind P (new_volume text d name) _ (λ n e. on_bind P (number_if 1 65536 blocks) _ (λ b f. on_bind P (area_at a (slice_get d.areas a)) _
-    (λ p g. on_either P (has_volume_room d b) (Ok (saying.SharedVolume (shared_row d n b p.1) p.0 p.1)) (Err TooMany) (volume_new text d name n (new_name text _ name n e)) tt))))
+    on_either P (has_lane d.lanes) _ (Err Misplaced) (on_bind P (op_in text d.volumes d.writers what) _
+    (λ o e. on_either P (has_line_room (line_count d.lanes) (agenda_count d.lanes) o) (Ok (saying.Line (record { number = k; op = o }))) (Err TooMany) refl tt)) tt
 
 writer_good : (text : List ℕ) (d : SoFar) (k : ℕ) (name : Span) (meta : Meta) → IsGood (IsSaid text d k) (writer_said text d name meta)
-unfolding writer_said
 writer_good text d k name meta =
     let P = IsSaid text d k in
-    before P d _ (on_bind P (new_writer text d name) _
-    (λ n e. on_either P (nat_lt (length d.writers) 64) (Ok (saying.Writer (record { name = n; meta = meta; script = [] }))) (Err TooMany) (writer_new text d name n (new_name text _ name n e)) tt))
+    on_bind P (new_writer text d name) _
+    (λ n e. on_either P (nat_lt (length d.writers) 64) (Ok (saying.Writer (record { name = n; meta = meta; script = [] }))) (Err TooMany) (writer_new text d name n (new_name text _ name n e)) tt)
 
-answer_good : (text : List ℕ) (d : SoFar) (k w : ℕ) (row : Scripted) → IsGood (IsSaid text d k) (answer_said d w row)
+answer_good : (text : List ℕ) (d : SoFar) (k w : ℕ) (row : Scripted) → IsGood (IsSaid text d k) (answer_said text d w row)
 unfolding answer_said
 answer_good text d k w row =
     let P = IsSaid text d k in
-    before P d _ (on_bind P (number_below (length d.writers) w) _ (λ i e. on_bind P (number_if 1 2000 row.nth) _ (λ n f. on_bind P (new_nth d.writers i row.order n) _
-    (λ m g. on_either P (nat_lt (answer_count d.writers) 10000) _ (Err TooMany) tt tt))))
-
-lane_good : (text : List ℕ) (d : SoFar) (k : ℕ) (name : Span) (whom : Option ℕ) → IsGood (IsSaid text d k) (lane_said text d name whom)
-unfolding lane_said
-lane_good text d k name whom =
-    let P = IsSaid text d k in
-    on_bind P (new_lane text d name) _ (λ n e. on_bind P (whom_in (length d.writers) whom) _
-    (λ w f. on_either P (nat_lt (length d.lanes) 64) (Ok (saying.Lane n w)) (Err TooMany) (lane_new text d name n (new_name text _ name n e)) tt))
-
-line_good : (text : List ℕ) (d : SoFar) (k : ℕ) (what : Op) → IsGood (IsSaid text d k) (line_said text d k what)
-unfolding line_said
-line_good text d k what =
-    let P = IsSaid text d k in
-    on_either P (has_lane d.lanes) _ (Err Misplaced) (on_bind P (op_in text d.volumes (length d.writers) what) _
-    (λ o e. on_either P (has_line_room (line_count d.lanes) (agenda_count d.lanes) o) (Ok (saying.Line (record { number = k; op = o }))) (Err TooMany) refl tt)) tt
+    on_bind P (writer_at text d.writers (Number w)) _ (λ i e. on_bind P (nth_field text d.writers i row.order (Number row.nth)) _
+    (λ n f. on_either P (nat_lt (answer_count d.writers) 10000) _ (Err TooMany) tt tt))
 
 value_good : (text : List ℕ) (d : SoFar) (k : ℕ) (name : Span) (v : Value) → IsGood (IsSaid text d k) (value_said text d k name v)
-value_good text d k name (value.Area slots) = area_good text d k name slots
-value_good text d k name (value.OwnVolume blocks slots) = own_good text d k name blocks slots
-value_good text d k name (value.SharedVolume blocks area) = shared_good text d k name blocks area
-value_good text d k name (value.Writer metadata) = writer_good text d k name (meta_of metadata)
-value_good text d k name (value.Answer writer row) = answer_good text d k writer row
-value_good text d k name (value.Lane whom) = lane_good text d k name whom
-value_good text d k name (value.Line what) = line_good text d k what
-value_good text d k name (value.Component writer) = line_good text d k (op.Component writer name)
+value_good text d k name (value.Writer metadata) = placed text d k word.Writer _ (writer_good text d k name (meta_of metadata))
+value_good text d k name (value.Answer writer row) = placed text d k word.Answer _ (answer_good text d k writer row)
+value_good text d k name (value.Area slots) = line_good text d k word.Area (Two (Text name) (Number slots))
+value_good text d k name (value.OwnVolume blocks slots) = line_good text d k word.Volume (Three (Text name) (Number blocks) (Number slots))
+value_good text d k name (value.SharedVolume blocks area) = line_good text d k word.Volume (Four (Text name) (Number blocks) field.Word (Number area))
+value_good text d k name (value.Lane None) = line_good text d k word.Lane (One (Text name))
+value_good text d k name (value.Lane (Some w)) = line_good text d k word.Lane (Three (Text name) field.Word (Number w))
+value_good text d k name (value.Line what) = op_good text d k what
+value_good text d k name (value.Component writer) = op_good text d k (op.Component writer name)
 
-pub named_value : (text : List ℕ) (d : SoFar) (k : ℕ) (name : Span) (v : Value) (said : Result Entry Cause) → told said ≡ value_said text d k name v → IfOk said (IsNewlyNamed text k)
-named_value text d k name v said same = named_if text k d said (value_said text d k name v) same (value_good text d k name v)
+-- ## a call
+
+pub drafted : (source bytes text : List ℕ) (k : ℕ) (d : DraftValue) → text ≡ source ++ bytes ++ 10 ∷ [] → IsGrowing source k d → length source + length bytes + 1 ≤ 4000000000 → IsDraft text d
+drafted source bytes text k d same h room = subst (λ t. IsDraft t d) (sym same) (as_is (source ++ bytes ++ 10 ∷ []) k d (appended source bytes k d h room))
+
+pub grown_by : (source bytes text : List ℕ) (k : ℕ) (d : DraftValue) (name : Span) (v : Value) (e : Entry) → text ≡ source ++ bytes ++ 10 ∷ [] → IsGrowing source k d → length source + length bytes + 1 ≤ 4000000000
+    → IsEntry text d e → Ok (saying_in e) ≡ value_said text d.said k name v → IsGrowing text (k + 1) (with_entry text d e)
+grown_by source bytes text k d name v e same h room new said =
+    let grows : IsGrowing text k d = subst (λ t. IsGrowing t k d) (sym same) (appended source bytes k d h room) in
+    let named : IsNewlyNamed text k e = newly text k d.said e (good_is (IsSaid text d.said k) _ (saying_in e) (sym said) (value_good text d.said k name v)) in
+    grown text k d e grows new named (omega (arith, h.few, ap length same, length-append (source ++ bytes) (10 ∷ []), length-append source bytes))

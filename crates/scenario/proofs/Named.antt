@@ -15,6 +15,7 @@ use Rattle.scenario.specs.declared.reason.Reason.TheVariants.{Empty, BadName, Do
 use Rattle.scenario.specs.declared.span.Span.{Span}
 use Rattle.scenario.specs.declared.text_line.TextLine.{TextLine}
 use Rattle.scenario.specs.declared.volume_row.VolumeRow.{VolumeRow}
+use Rattle.scenario.specs.declared.field.Field.{Field}
 use Rattle.scenario.specs.declared.fields.Fields.{Fields}
 use Rattle.scenario.specs.declared.fields.Fields.TheVariants.{One, Two, Three, Four, Five}
 use Rattle.scenario.specs.declared.word.Word.{Word}
@@ -23,11 +24,11 @@ use Rattle.scenario.specs.Plan.{Plan, WriterPlan, LanePlan, LaneLine}
 use Rattle.scenario.specs.Bounds.{ends_sessions}
 use Rattle.scenario.specs.Names.{is_name, volume_names, writer_names, lane_names, volume_named, writer_named, lane_named}
 use Rattle.scenario.specs.Lines.{span_from, lines_from, lines_in}
-use Rattle.scenario.specs.Fields.{bytes_of, words_at, fields_for}
+use Rattle.scenario.specs.Fields.{bytes_of, span_of, words_at, fields_for}
 use Rattle.scenario.specs.Words.{word_of}
-use Rattle.scenario.specs.Ops.{◌>>=◌, op_of, number_field, writer_field, is_word}
+use Rattle.scenario.specs.Ops.{◌>>=◌, op_of, number_at, writer_at, is_word}
 use Rattle.scenario.specs.SoFar.{SoFar, Saying, Skipped, Opening, Area, OwnVolume, SharedVolume, Writer, Answer, Lane, Line, nothing, after, with_answer, with_line, implied_end, closed, closed_lane, plan_in, line_count, agenda_count, answer_count}
-use Rattle.scenario.specs.Declarations.{name_field, opening_of, area_of, has_space, has_volume_room, new_volume, blocks_field, own_row, own_volume_of, area_field, shared_row, shared_volume_of, volume_of, document_field, new_writer, writer_of, code_field, asked_of, answer_if, row_for, answer_of, new_lane, free_lane_of, acting_lane_of, lane_of}
+use Rattle.scenario.specs.Declarations.{name_field, opening_of, new_area, area_of, has_space, has_volume_room, new_volume, own_row, own_volume_of, area_field, shared_row, shared_volume_of, volume_of, document_field, new_writer, writer_of, code_field, asked_of, answer_if, row_for, answer_of, new_lane, free_lane_of, acting_lane_of, lane_of}
 use Rattle.scenario.specs.Entries.{is_printable, is_skipped, has_lane, may_stand, has_line_room, line_of, row_of, placed_row_of, said_of, saying_of}
 use Rattle.scenario.specs.Grammar.{IsScenario, IsBad, goes_on, read_from, reading_of}
 use Rattle.scenario.specs.Named.{AllNamed, Differ, Distinct, volume_spans, writer_spans, lane_spans, Numbered, AllNumbered, IsNamed, HasNames}
@@ -75,34 +76,34 @@ new_name text taken span x e = by_tests (is_name (bytes_of text span)) taken ref
 
 opening_said : (text : List ℕ) (d : SoFar) (number : ℕ) (fields : Fields) → IsGood (IsSaid text d number) (opening_of text fields)
 unfolding opening_of
-opening_said text d number (One version) = on_bind (IsSaid text d number) (number_field text 1 1 version) _ (λ n e. tt)
+opening_said text d number (One version) = on_bind (IsSaid text d number) (number_at text 1 1 version) _ (λ n e. tt)
 opening_said text d number _ = tt
 
 area_said : (text : List ℕ) (d : SoFar) (number : ℕ) (fields : Fields) → IsGood (IsSaid text d number) (area_of text d fields)
 unfolding area_of
 area_said text d number (Two name slots) =
-    on_bind (IsSaid text d number) (name_field text _ name) _ (λ n e. on_bind (IsSaid text d number) (number_field text 0 65536 slots) _ (λ s f. on_either (IsSaid text d number) (nat_lt (length d.areas) 128 && has_space d s) (Ok (Area (record { name = n; slots = s }))) (Err TooMany) tt tt))
+    on_bind (IsSaid text d number) (new_area text d (span_of name)) _ (λ n e. on_bind (IsSaid text d number) (number_at text 0 65536 slots) _ (λ s f. on_either (IsSaid text d number) (nat_lt (length d.areas) 128 && has_space d s) (Ok (Area (record { name = n; slots = s }))) (Err TooMany) tt tt))
 area_said text d number _ = tt
 
 pub volume_new : (text : List ℕ) (d : SoFar) (name n : Span) → IsNewName text (is_some (volume_named text d.volumes (bytes_of text name))) name n
     → (is_name (bytes_of text n) ≡ true) × (is_some (volume_named text d.volumes (bytes_of text n)) ≡ false)
 volume_new text d name n h = (h.name, subst (λ x. is_some (volume_named text d.volumes (bytes_of text x)) ≡ false) (sym h.same) h.free)
 
-own_said : (text : List ℕ) (d : SoFar) (number : ℕ) (name blocks slots : Span) → IsGood (IsSaid text d number) (own_volume_of text d name blocks slots)
+own_said : (text : List ℕ) (d : SoFar) (number : ℕ) (name : Span) (blocks slots : Field) → IsGood (IsSaid text d number) (own_volume_of text d name blocks slots)
 unfolding own_volume_of
 own_said text d number name blocks slots =
-    on_bind (IsSaid text d number) (new_volume text d name) _ (λ n e. on_bind (IsSaid text d number) (blocks_field text blocks) _ (λ b f. on_bind (IsSaid text d number) (number_field text 0 65536 slots) _
+    on_bind (IsSaid text d number) (new_volume text d name) _ (λ n e. on_bind (IsSaid text d number) (number_at text 1 65536 blocks) _ (λ b f. on_bind (IsSaid text d number) (number_at text 0 65536 slots) _
     (λ s g. on_either (IsSaid text d number) (has_volume_room d (b + s)) (Ok (OwnVolume (own_row d n b s))) (Err TooMany) (volume_new text d name n (new_name text _ name n e)) tt)))
 
-shared_said : (text : List ℕ) (d : SoFar) (number : ℕ) (name blocks kind area : Span) → IsGood (IsSaid text d number) (shared_volume_of text d name blocks kind area)
+shared_said : (text : List ℕ) (d : SoFar) (number : ℕ) (name : Span) (blocks kind area : Field) → IsGood (IsSaid text d number) (shared_volume_of text d name blocks kind area)
 unfolding shared_volume_of
 shared_said text d number name blocks kind area =
-    on_bind (IsSaid text d number) (new_volume text d name) _ (λ n e. on_bind (IsSaid text d number) (blocks_field text blocks) _ (λ b f. on_either (IsSaid text d number) (is_word text kind (codes "in")) _ (Err UnknownWord)
+    on_bind (IsSaid text d number) (new_volume text d name) _ (λ n e. on_bind (IsSaid text d number) (number_at text 1 65536 blocks) _ (λ b f. on_either (IsSaid text d number) (is_word text kind (codes "in")) _ (Err UnknownWord)
     (on_bind (IsSaid text d number) (area_field text d.areas area) _ (λ p g. on_either (IsSaid text d number) (has_volume_room d b) (Ok (SharedVolume (shared_row d n b p.1) p.0 p.1)) (Err TooMany) (volume_new text d name n (new_name text _ name n e)) tt)) tt))
 
 volume_said : (text : List ℕ) (d : SoFar) (number : ℕ) (fields : Fields) → IsGood (IsSaid text d number) (volume_of text d fields)
-volume_said text d number (Three name blocks slots) = own_said text d number name blocks slots
-volume_said text d number (Four name blocks kind area) = shared_said text d number name blocks kind area
+volume_said text d number (Three name blocks slots) = own_said text d number (span_of name) blocks slots
+volume_said text d number (Four name blocks kind area) = shared_said text d number (span_of name) blocks kind area
 volume_said text d number _ = tt
 
 pub writer_new : (text : List ℕ) (d : SoFar) (name n : Span) → IsNewName text (is_some (writer_named text d.writers (bytes_of text name))) name n
@@ -116,8 +117,8 @@ lane_new text d name n h = (h.name, subst (λ x. is_some (lane_named text d.lane
 pub writer_said : (text : List ℕ) (d : SoFar) (number : ℕ) (fields : Fields) → IsGood (IsSaid text d number) (writer_of text d fields)
 unfolding writer_of
 writer_said text d number (Two name document) =
-    on_bind (IsSaid text d number) (new_writer text d name) _ (λ n e. on_bind (IsSaid text d number) (document_field text document) _
-    (λ meta f. on_either (IsSaid text d number) (nat_lt (length d.writers) 64) (Ok (Writer (record { name = n; meta = meta; script = [] }))) (Err TooMany) (writer_new text d name n (new_name text _ name n e)) tt))
+    on_bind (IsSaid text d number) (new_writer text d (span_of name)) _ (λ n e. on_bind (IsSaid text d number) (document_field text (span_of document)) _
+    (λ meta f. on_either (IsSaid text d number) (nat_lt (length d.writers) 64) (Ok (Writer (record { name = n; meta = meta; script = [] }))) (Err TooMany) (writer_new text d (span_of name) n (new_name text _ (span_of name) n e)) tt))
 writer_said text d number _ = tt
 
 row_said : (text : List ℕ) (d : SoFar) (number : ℕ) (asked : Asked) (answer : Option Answered) → IsGood (IsSaid text d number) (answer_if d asked answer)
@@ -130,7 +131,7 @@ answer_said text d number (Four writer order nth kind) =
     (λ asked e. on_either (IsSaid text d number) (is_word text kind (codes "lost")) (answer_if d asked None) (Err UnknownWord) (row_said text d number asked None) tt)
 answer_said text d number (Five writer order nth kind code) =
     on_bind (IsSaid text d number) (asked_of text d.writers writer order nth) _
-    (λ asked e. on_either (IsSaid text d number) (is_word text kind (codes "veto")) _ (Err UnknownWord) (on_bind (IsSaid text d number) (code_field text code) _ (λ error h. row_said text d number asked (Some (Veto error)))) tt)
+    (λ asked e. on_either (IsSaid text d number) (is_word text kind (codes "veto")) _ (Err UnknownWord) (on_bind (IsSaid text d number) (code_field text (span_of code)) _ (λ error h. row_said text d number asked (Some (Veto error)))) tt)
 answer_said text d number _ = tt
 
 free_said : (text : List ℕ) (d : SoFar) (number : ℕ) (name : Span) → IsGood (IsSaid text d number) (free_lane_of text d name)
@@ -138,15 +139,15 @@ unfolding free_lane_of
 free_said text d number name =
     on_bind (IsSaid text d number) (new_lane text d name) _ (λ n e. on_either (IsSaid text d number) (nat_lt (length d.lanes) 64) (Ok (Lane n None)) (Err TooMany) (lane_new text d name n (new_name text _ name n e)) tt)
 
-acting_said : (text : List ℕ) (d : SoFar) (number : ℕ) (name kind writer : Span) → IsGood (IsSaid text d number) (acting_lane_of text d name kind writer)
+acting_said : (text : List ℕ) (d : SoFar) (number : ℕ) (name : Span) (kind writer : Field) → IsGood (IsSaid text d number) (acting_lane_of text d name kind writer)
 unfolding acting_lane_of
 acting_said text d number name kind writer =
     on_bind (IsSaid text d number) (new_lane text d name) _ (λ n e. on_either (IsSaid text d number) (is_word text kind (codes "as")) _ (Err UnknownWord)
-    (on_bind (IsSaid text d number) (writer_field text d.writers writer) _ (λ w f. on_either (IsSaid text d number) (nat_lt (length d.lanes) 64) (Ok (Lane n (Some w))) (Err TooMany) (lane_new text d name n (new_name text _ name n e)) tt)) tt)
+    (on_bind (IsSaid text d number) (writer_at text d.writers writer) _ (λ w f. on_either (IsSaid text d number) (nat_lt (length d.lanes) 64) (Ok (Lane n (Some w))) (Err TooMany) (lane_new text d name n (new_name text _ name n e)) tt)) tt)
 
 lane_said : (text : List ℕ) (d : SoFar) (number : ℕ) (fields : Fields) → IsGood (IsSaid text d number) (lane_of text d fields)
-lane_said text d number (One name) = free_said text d number name
-lane_said text d number (Three name kind writer) = acting_said text d number name kind writer
+lane_said text d number (One name) = free_said text d number (span_of name)
+lane_said text d number (Three name kind writer) = acting_said text d number (span_of name) kind writer
 lane_said text d number _ = tt
 
 line_said : (text : List ℕ) (d : SoFar) (number : ℕ) (w : Word) (fields : Fields) → IsGood (IsSaid text d number) (line_of text d number w fields)
@@ -154,7 +155,7 @@ unfolding line_of
 line_said text d number w fields =
     on_bind (IsSaid text d number) (op_of text d.volumes d.writers w fields) _ (λ op e. on_either (IsSaid text d number) (has_line_room (line_count d.lanes) (agenda_count d.lanes) op) (Ok (Line (record { number = number; op = op }))) (Err TooMany) refl tt)
 
-word_said : (text : List ℕ) (d : SoFar) (number : ℕ) (w : Word) (fields : Fields) → IsGood (IsSaid text d number) (row_of text d number w fields)
+pub word_said : (text : List ℕ) (d : SoFar) (number : ℕ) (w : Word) (fields : Fields) → IsGood (IsSaid text d number) (row_of text d number w fields)
 unfolding row_of
 word_said text d number word.Scenario fields = opening_said text d number fields
 word_said text d number word.Area fields = area_said text d number fields

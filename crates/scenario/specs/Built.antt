@@ -1,7 +1,7 @@
 -- Scenarios that are built of values: what each call of a builder adds, or why it is refused. A call is a line: lines are numbered from
 -- 2, as where a text begins with `scenario 1`; names are appended to the source, each with a newline. A call is checked
 -- as the line of a text would be, with the same definitions and the same reasons. (This project's own.)
-use Rattle.std.specs.Prelude.{ℕ, ◌≡◌, ◌<◌, ◌≤◌, ◌+◌, ◌-◌, ◌++◌, ◌&&◌, Bool, true, List, [], ◌∷◌, length, nat_le, nat_lt, if◌then◌else◌, Option, Some, None, is_some, Result, Ok, Err, slice_get}
+use Rattle.std.specs.Prelude.{ℕ, ◌≡◌, ◌<◌, ◌≤◌, ◌+◌, ◌++◌, ◌&&◌, true, List, [], ◌∷◌, length, nat_le, nat_lt, if◌then◌else◌, Some, None, Result, Ok, Err}
 use Rattle.std.specs.List.{list_all}
 use Rattle.writer_meta.specs.Metadata.{Meta, meta_of}
 use Rattle.writer_meta.specs.Allowed.{IsAllowed}
@@ -9,26 +9,30 @@ use Rattle.writer_calls.specs.declared.scripted.Scripted.{Scripted}
 use Rattle.scenario.specs.declared.op.Op.{Op}
 use Rattle.scenario.specs.declared.op.Op.TheVariants as op
 use Rattle.scenario.specs.declared.reason.Reason.{Reason}
-use Rattle.scenario.specs.declared.reason.Reason.TheVariants.{BadByte, Misplaced, BadCount, UnknownName, TooMany}
+use Rattle.scenario.specs.declared.reason.Reason.TheVariants.{BadByte, Misplaced, BadCount, TooMany}
 use Rattle.scenario.specs.declared.refused.Refused.{Refused}
 use Rattle.scenario.specs.declared.refused.Refused.TheVariants.{Line, OutOfMemory}
 use Rattle.scenario.specs.declared.span.Span.{Span}
-use Rattle.scenario.specs.declared.volume_row.VolumeRow.{VolumeRow}
+use Rattle.scenario.specs.declared.field.Field.TheVariants.{Text, Number}
+use Rattle.scenario.specs.declared.field.Field.TheVariants as field
+use Rattle.scenario.specs.declared.fields.Fields.{Fields}
+use Rattle.scenario.specs.declared.fields.Fields.TheVariants.{One, Two, Three, Four}
+use Rattle.scenario.specs.declared.word.Word.{Word}
+use Rattle.scenario.specs.declared.word.Word.TheVariants as word
 use Rattle.scenario.specs.declared.given.Given.{Given}
 use Rattle.scenario.specs.declared.entry.Entry.{Entry}
 use Rattle.scenario.specs.declared.entry.Entry.TheVariants as entry
 use Rattle.scenario.specs.declared.value.Value.{Value}
 use Rattle.scenario.specs.declared.value.Value.TheVariants as value
-use Rattle.scenario.specs.Plan.{blocks_in}
-use Rattle.scenario.specs.Numbers.{in_range}
-use Rattle.scenario.specs.Names.{is_name, area_named}
+use Rattle.scenario.specs.declared.volume_row.VolumeRow.{VolumeRow}
+use Rattle.scenario.specs.Plan.{WriterPlan}
+use Rattle.scenario.specs.Names.{is_name}
 use Rattle.scenario.specs.Fields.{bytes_of}
-use Rattle.scenario.specs.Ops.{◌>>=◌}
-use Rattle.scenario.specs.SoFar.{SoFar, Saying, line_count, agenda_count, after}
-use Rattle.scenario.specs.SoFar as saying
-use Rattle.scenario.specs.Declarations.{name_field, has_space, has_volume_room, new_volume, own_row, area_at, shared_if, new_writer, writer_if, new_nth, answer_if, new_lane, lane_if}
-use Rattle.scenario.specs.Entries.{is_printable, has_lane, has_line_room}
-use Rattle.scenario.specs.Drafts.{DraftValue, empty_draft, names_after, counts_after, IsDraft}
+use Rattle.scenario.specs.Ops.{◌>>=◌, volume_at, block_at, writer_at, read_of, image_of, query_of, properties_of, revert_of, delete_of, tick_of, disable_of, add_of}
+use Rattle.scenario.specs.SoFar.{SoFar, Saying, after}
+use Rattle.scenario.specs.Declarations.{new_writer, writer_if, nth_field, answer_if}
+use Rattle.scenario.specs.Entries.{is_printable, has_lane, may_stand, line_if, row_of}
+use Rattle.scenario.specs.Drafts.{DraftValue, new_draft, names_after, counts_after, IsDraft}
 use Rattle.scenario.specs.Named.{IsNamed}
 
 pub record BuiltValue : Type 0 where
@@ -41,8 +45,9 @@ pub record BuiltValue : Type 0 where
 abbrev pub value_of : Given → BuiltValue
 value_of g = record { source = g.source.items; number = g.number; draft = g.draft }
 
+-- after the line `scenario 1`
 abbrev pub nothing_built : BuiltValue
-nothing_built = record { source = []; number = 2; draft = empty_draft }
+nothing_built = record { source = []; number = 2; draft = new_draft true }
 
 -- ## one call
 
@@ -50,25 +55,13 @@ nothing_built = record { source = []; number = 2; draft = empty_draft }
 abbrev pub pushed : BuiltValue → List ℕ → BuiltValue
 pushed b bytes = record b { source = b.source ++ bytes ++ 10 ∷ [] }
 
-abbrev pub span_in : BuiltValue → List ℕ → Span
-span_in b bytes = record { start = length b.source; end = length b.source + length bytes }
+abbrev pub span_after : List ℕ → List ℕ → Span
+span_after source bytes = record { start = length source; end = length source + length bytes }
 
--- at most 4,000,000,000 bytes
-abbrev pub has_text_room : BuiltValue → List ℕ → Bool
-has_text_room b bytes = nat_le (length b.source + length bytes + 1) 4000000000
-
--- what a builder is after a call, or the line that is refused, with its first failing check
-abbrev pub Built : Type 0
-Built = Result BuiltValue (ℕ × Reason)
-
--- what a call does with the bytes that it was given
-abbrev pub Next : Type 0
-Next = BuiltValue → Span → Built
-
--- the bytes of a name are taken first
-abbrev pub given : BuiltValue → List ℕ → Next → Built
-given b bytes next =
-    if list_all is_printable bytes then (if has_text_room b bytes then next (pushed b bytes) (span_in b bytes) else Err (b.number, TooMany)) else Err (b.number, BadByte)
+-- where the bytes of a name will be, if they may stand in a line and the source has at most 4,000,000,000 bytes with them
+unfoldable pub place_after : List ℕ → List ℕ → Result Span Reason
+place_after source bytes =
+    if list_all is_printable bytes then (if nat_le (length source + length bytes + 1) 4000000000 then Ok (span_after source bytes) else Err TooMany) else Err BadByte
 
 abbrev pub with_saying : BuiltValue → Saying → BuiltValue
 with_saying b s = record {
@@ -76,6 +69,10 @@ with_saying b s = record {
   number = b.number + 1;
   draft = record { said = after b.draft.said s; names = names_after b.source b.draft.names s; counts = counts_after b.draft.counts s };
 }
+
+-- what a builder is after a call, or the line that is refused, with its first failing check
+abbrev pub Built : Type 0
+Built = Result BuiltValue (ℕ × Reason)
 
 abbrev pub added : BuiltValue → Result Saying Reason → Built
 added b (Ok s) = Ok (with_saying b s)
@@ -86,128 +83,74 @@ abbrev pub IsRefusedBy : Built → Refused → Type 0
 IsRefusedBy built (Line line reason) = built ≡ Err (line, reason)
 IsRefusedBy built OutOfMemory = Unit {0}
 
--- ## declarations
+-- ## lines of values
 
--- a number from `low` to `high`
-unfoldable pub number_if : ℕ → ℕ → ℕ → Result ℕ Reason
-number_if low high n = in_range low high (Some n)
+-- a line with this word, where it may stand
+abbrev pub if_placed : SoFar → Word → Result Saying Reason → Result Saying Reason
+if_placed d w said = if may_stand d.opened (has_lane d.lanes) w then said else Err Misplaced
 
--- the number of one of so many that were declared
-unfoldable pub number_below : ℕ → ℕ → Result ℕ Reason
-number_below n i = if nat_lt i n then Ok i else Err UnknownName
+abbrev pub line_said : List ℕ → SoFar → ℕ → Word → Fields → Result Saying Reason
+line_said text d number w fields = if_placed d w (row_of text d number w fields)
 
-abbrev pub before_lanes : SoFar → Result Saying Reason → Result Saying Reason
-before_lanes d said = if has_lane d.lanes then Err Misplaced else said
-
-unfoldable pub area_said : List ℕ → SoFar → Span → ℕ → Result Saying Reason
-area_said text d name slots = before_lanes d (do
-  n ← name_field text (is_some (area_named text d.areas (bytes_of text name))) name
-  s ← number_if 0 65536 slots
-  if nat_lt (length d.areas) 128 && has_space d s then Ok (saying.Area (record { name = n; slots = s })) else Err TooMany)
-
-unfoldable pub own_said : List ℕ → SoFar → Span → ℕ → ℕ → Result Saying Reason
-own_said text d name blocks slots = before_lanes d (do
-  n ← new_volume text d name
-  b ← number_if 1 65536 blocks
-  s ← number_if 0 65536 slots
-  if has_volume_room d (b + s) then Ok (saying.OwnVolume (own_row d n b s)) else Err TooMany)
-
-unfoldable pub shared_said : List ℕ → SoFar → Span → ℕ → ℕ → Result Saying Reason
-shared_said text d name blocks a = before_lanes d (do
-  n ← new_volume text d name
-  b ← number_if 1 65536 blocks
-  p ← area_at a (slice_get d.areas a)
-  shared_if d n b p.0 p.1)
-
-unfoldable pub writer_said : List ℕ → SoFar → Span → Meta → Result Saying Reason
-writer_said text d name meta = before_lanes d (new_writer text d name >>= (λ n. writer_if d n meta))
-
-unfoldable pub answer_said : SoFar → ℕ → Scripted → Result Saying Reason
-answer_said d writer row = before_lanes d (do
-  w ← number_below (length d.writers) writer
-  k ← number_if 1 2000 row.nth
-  n ← new_nth d.writers w row.order k
-  answer_if d (record { writer = w; order = row.order; nth = n }) row.answer)
-
-unfoldable pub whom_in : ℕ → Option ℕ → Result (Option ℕ) Reason
-whom_in n None = Ok None
-whom_in n (Some w) = number_below n w >>= (λ i. Ok (Some i))
-
-unfoldable pub lane_said : List ℕ → SoFar → Span → Option ℕ → Result Saying Reason
-lane_said text d name whom = do
-  n ← new_lane text d name
-  w ← whom_in (length d.writers) whom
-  lane_if d n w
-
--- ## the lines of a lane
-
-unfoldable pub of_block : List VolumeRow → ℕ → ℕ → Op → Result Op Reason
-of_block rows v b what = number_below (length rows) v >>= (λ i. number_if 0 (blocks_in (slice_get rows i) - 1) b >>= (λ k. Ok what))
-
-unfoldable pub of_volume : List VolumeRow → ℕ → Op → Result Op Reason
-of_volume rows v what = number_below (length rows) v >>= (λ i. Ok what)
-
-abbrev pub of_set : ℕ → Result Op Reason → Result Op Reason
-of_set set more = number_if 1 4294967295 set >>= (λ s. more)
+-- a line that writes this block: its number or its byte is in range
+unfoldable pub of_block : List ℕ → List VolumeRow → ℕ → ℕ → Op → Result Op Reason
+of_block text rows v b what = volume_at text rows (Number v) >>= (λ i. block_at text rows i (Number b) >>= (λ k. Ok what))
 
 -- the full name of a component is some part of the source
 unfoldable pub of_part : List ℕ → Span → Op → Result Op Reason
 of_part text full what = if nat_lt full.start full.end && nat_le full.end (length text) then Ok what else Err BadCount
 
--- a line whose numbers are in range, checked as the fields of its form from left to right
-unfoldable pub op_in : List ℕ → List VolumeRow → ℕ → Op → Result Op Reason
-op_in text rows writers (op.WriteFill v b x) = of_block rows v b (op.WriteFill v b x)
-op_in text rows writers (op.WriteStamp v b n) = of_block rows v b (op.WriteStamp v b n)
-op_in text rows writers (op.Read v b) = of_block rows v b (op.Read v b)
-op_in text rows writers (op.ImageDigest s v) = of_set s (of_volume rows v (op.ImageDigest s v))
-op_in text rows writers (op.ImageBlock s v b) = of_set s (of_block rows v b (op.ImageBlock s v b))
-op_in text rows writers (op.Query v) = of_volume rows v (op.Query v)
-op_in text rows writers (op.Properties s v) = of_set s (of_volume rows v (op.Properties s v))
-op_in text rows writers (op.Revert s v) = of_set s (of_volume rows v (op.Revert s v))
-op_in text rows writers (op.DeleteSet s) = of_set s (Ok (op.DeleteSet s))
-op_in text rows writers (op.DeleteImage s v) = of_set s (of_volume rows v (op.DeleteImage s v))
-op_in text rows writers (op.Tick n) = number_if 1 1000000000 n >>= (λ t. Ok (op.Tick n))
-op_in text rows writers (op.Begin c all) = Ok (op.Begin c all)
-op_in text rows writers (op.Disable w) = number_below writers w >>= (λ i. Ok (op.Disable w))
-op_in text rows writers op.Gather = Ok op.Gather
-op_in text rows writers (op.Component w full) = number_below writers w >>= (λ i. of_part text full (op.Component w full))
-op_in text rows writers op.Document = Ok op.Document
-op_in text rows writers op.Start = Ok op.Start
-op_in text rows writers (op.Add v) = of_volume rows v (op.Add v)
-op_in text rows writers op.Prepare = Ok op.Prepare
-op_in text rows writers op.Snapshot = Ok op.Snapshot
-op_in text rows writers op.Await = Ok op.Await
-op_in text rows writers op.Status = Ok op.Status
-op_in text rows writers op.Complete = Ok op.Complete
-op_in text rows writers op.Abort = Ok op.Abort
-op_in text rows writers op.End = Ok op.End
+-- a line of a lane, checked as the fields of its form
+unfoldable pub op_in : List ℕ → List VolumeRow → List WriterPlan → Op → Result Op Reason
+op_in text rows writers (op.WriteFill v b x) = of_block text rows v b (op.WriteFill v b x)
+op_in text rows writers (op.WriteStamp v b n) = of_block text rows v b (op.WriteStamp v b n)
+op_in text rows writers (op.Read v b) = read_of text rows (Two (Number v) (Number b))
+op_in text rows writers (op.ImageDigest s v) = image_of text rows (Two (Number s) (Number v))
+op_in text rows writers (op.ImageBlock s v b) = image_of text rows (Three (Number s) (Number v) (Number b))
+op_in text rows writers (op.Query v) = query_of text rows (One (Number v))
+op_in text rows writers (op.Properties s v) = properties_of text rows (Two (Number s) (Number v))
+op_in text rows writers (op.Revert s v) = revert_of text rows (Two (Number s) (Number v))
+op_in text rows writers (op.DeleteSet s) = delete_of text rows (One (Number s))
+op_in text rows writers (op.DeleteImage s v) = delete_of text rows (Two (Number s) (Number v))
+op_in text rows writers (op.Tick n) = tick_of text (One (Number n))
+op_in text rows writers (op.Disable w) = disable_of text writers (One (Number w))
+op_in text rows writers (op.Component w full) = writer_at text writers (Number w) >>= (λ i. of_part text full (op.Component w full))
+op_in text rows writers (op.Add v) = add_of text rows (One (Number v))
+op_in text rows writers what = Ok what
 
-unfoldable pub line_said : List ℕ → SoFar → ℕ → Op → Result Saying Reason
-line_said text d number what =
-    if has_lane d.lanes
-    then (op_in text d.volumes (length d.writers) what
-    >>= (λ o. if has_line_room (line_count d.lanes) (agenda_count d.lanes) o then Ok (saying.Line (record { number = number; op = o })) else Err TooMany))
-    else Err Misplaced
+abbrev pub op_said : List ℕ → SoFar → ℕ → Op → Result Saying Reason
+op_said text d number what = if has_lane d.lanes then (op_in text d.volumes d.writers what >>= (λ o. line_if d number o)) else Err Misplaced
 
--- ## calls
+-- a writer with its metadata in place of a document
+abbrev pub writer_said : List ℕ → SoFar → Span → Meta → Result Saying Reason
+writer_said text d name meta = new_writer text d name >>= (λ n. writer_if d n meta)
+
+-- a row of a script, which may also be an answer that is ok
+unfoldable pub answer_said : List ℕ → SoFar → ℕ → Scripted → Result Saying Reason
+answer_said text d writer row = do
+  w ← writer_at text d.writers (Number writer)
+  n ← nth_field text d.writers w row.order (Number row.nth)
+  answer_if d (record { writer = w; order = row.order; nth = n }) row.answer
 
 -- what a value says, with a name or a full name at this part of the source
 abbrev pub value_said : List ℕ → SoFar → ℕ → Span → Value → Result Saying Reason
-value_said text d number name (value.Area slots) = area_said text d name slots
-value_said text d number name (value.OwnVolume blocks slots) = own_said text d name blocks slots
-value_said text d number name (value.SharedVolume blocks area) = shared_said text d name blocks area
-value_said text d number name (value.Writer metadata) = writer_said text d name (meta_of metadata)
-value_said text d number name (value.Answer writer row) = answer_said d writer row
-value_said text d number name (value.Lane whom) = lane_said text d name whom
-value_said text d number name (value.Line what) = line_said text d number what
-value_said text d number name (value.Component writer) = line_said text d number (op.Component writer name)
+value_said text d number name (value.Area slots) = line_said text d number word.Area (Two (Text name) (Number slots))
+value_said text d number name (value.OwnVolume blocks slots) = line_said text d number word.Volume (Three (Text name) (Number blocks) (Number slots))
+value_said text d number name (value.SharedVolume blocks area) =
+    line_said text d number word.Volume (Four (Text name) (Number blocks) field.Word (Number area))
+value_said text d number name (value.Writer metadata) = if_placed d word.Writer (writer_said text d name (meta_of metadata))
+value_said text d number name (value.Answer writer row) = if_placed d word.Answer (answer_said text d writer row)
+value_said text d number name (value.Lane None) = line_said text d number word.Lane (One (Text name))
+value_said text d number name (value.Lane (Some w)) = line_said text d number word.Lane (Three (Text name) field.Word (Number w))
+value_said text d number name (value.Line what) = op_said text d number what
+value_said text d number name (value.Component writer) = op_said text d number (op.Component writer name)
 
-abbrev pub says : Value → Next
-says v p span = added p (value_said p.source p.draft.said p.number span v)
+-- ## calls
 
--- what a builder is after a call with these bytes and this value
+-- what a builder is after a call with these bytes and this value: the bytes are taken first
 abbrev pub with_value : BuiltValue → List ℕ → Value → Built
-with_value b bytes v = given b bytes (says v)
+with_value b bytes v =
+    added (pushed b bytes) (place_after b.source bytes >>= (λ name. value_said (pushed b bytes).source b.draft.said b.number name v))
 
 -- a writer's metadata are allowed by their format
 abbrev pub IsValue : Value → Type 0

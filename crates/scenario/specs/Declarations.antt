@@ -18,12 +18,14 @@ use Rattle.scenario.specs.declared.span.Span.{Span}
 use Rattle.scenario.specs.declared.area_row.AreaRow.{AreaRow}
 use Rattle.scenario.specs.declared.volume_row.VolumeRow.{VolumeRow}
 use Rattle.scenario.specs.declared.asked.Asked.{Asked}
+use Rattle.scenario.specs.declared.field.Field.{Field}
+use Rattle.scenario.specs.declared.field.Field.TheVariants.{Text}
 use Rattle.scenario.specs.declared.fields.Fields.{Fields}
 use Rattle.scenario.specs.declared.fields.Fields.TheVariants.{One, Two, Three, Four, Five}
 use Rattle.scenario.specs.Plan.{WriterPlan, script_in}
-use Rattle.scenario.specs.Fields.{bytes_of}
+use Rattle.scenario.specs.Fields.{bytes_of, span_of}
 use Rattle.scenario.specs.Names.{is_name, area_named, volume_named, writer_named, lane_named}
-use Rattle.scenario.specs.Ops.{◌>>=◌, number_field, writer_field, is_word}
+use Rattle.scenario.specs.Ops.{◌>>=◌, number_at, writer_at, number_below, is_word}
 use Rattle.scenario.specs.SoFar.{SoFar, Saying, group_for, answer_count}
 use Rattle.scenario.specs.SoFar as saying
 
@@ -33,7 +35,7 @@ name_field text taken span = if is_name (bytes_of text span) then (if taken then
 
 -- `scenario 1`
 unfoldable pub opening_of : List ℕ → Fields → Result Saying Reason
-opening_of text (One version) = number_field text 1 1 version >>= (λ n. Ok saying.Opening)
+opening_of text (One version) = number_at text 1 1 version >>= (λ n. Ok saying.Opening)
 opening_of text _ = Err BadCount
 
 -- ## areas and volumes
@@ -42,11 +44,15 @@ opening_of text _ = Err BadCount
 abbrev pub has_space : SoFar → ℕ → Bool
 has_space d size = nat_le (d.size + size) 131072
 
+-- the name of an area that is new
+abbrev pub new_area : List ℕ → SoFar → Span → Result Span Reason
+new_area text d name = name_field text (is_some (area_named text d.areas (bytes_of text name))) name
+
 -- `area name slots`
 unfoldable pub area_of : List ℕ → SoFar → Fields → Result Saying Reason
 area_of text d (Two name slots) = do
-  n ← name_field text (is_some (area_named text d.areas (bytes_of text name))) name
-  s ← number_field text 0 65536 slots
+  n ← new_area text d (span_of name)
+  s ← number_at text 0 65536 slots
   if nat_lt (length d.areas) 128 && has_space d s then Ok (saying.Area (record { name = n; slots = s })) else Err TooMany
 area_of text d _ = Err BadCount
 
@@ -54,22 +60,19 @@ area_of text d _ = Err BadCount
 abbrev pub has_volume_room : SoFar → ℕ → Bool
 has_volume_room d size = nat_lt (length d.volumes) 128 && has_space d size
 
--- the name of a volume that is new, and its blocks
+-- the name of a volume that is new
 abbrev pub new_volume : List ℕ → SoFar → Span → Result Span Reason
 new_volume text d name = name_field text (is_some (volume_named text d.volumes (bytes_of text name))) name
-
-abbrev pub blocks_field : List ℕ → Span → Result ℕ Reason
-blocks_field text blocks = number_field text 1 65536 blocks
 
 abbrev pub own_row : SoFar → Span → ℕ → ℕ → VolumeRow
 own_row d name blocks slots = record { name = name; blocks = blocks; slots = slots; group = length d.groups }
 
 -- `volume name blocks slots`
-unfoldable pub own_volume_of : List ℕ → SoFar → Span → Span → Span → Result Saying Reason
+unfoldable pub own_volume_of : List ℕ → SoFar → Span → Field → Field → Result Saying Reason
 own_volume_of text d name blocks slots = do
   n ← new_volume text d name
-  b ← blocks_field text blocks
-  s ← number_field text 0 65536 slots
+  b ← number_at text 1 65536 blocks
+  s ← number_at text 0 65536 slots
   if has_volume_room d (b + s) then Ok (saying.OwnVolume (own_row d n b s)) else Err TooMany
 
 abbrev pub shared_row : SoFar → Span → ℕ → AreaRow → VolumeRow
@@ -79,23 +82,28 @@ abbrev pub area_at : ℕ → Option AreaRow → Result (ℕ × AreaRow) Reason
 area_at a None = Err UnknownName
 area_at a (Some area) = Ok (a, area)
 
+-- the number of a declared area
+abbrev pub area_number : List ℕ → List AreaRow → Field → Result ℕ Reason
+area_number text areas (Text span) = ok_or (area_named text areas (bytes_of text span)) UnknownName
+area_number text areas field = number_below (length areas) field
+
 -- a declared area, with its number
-unfoldable pub area_field : List ℕ → List AreaRow → Span → Result (ℕ × AreaRow) Reason
-area_field text areas span = ok_or (area_named text areas (bytes_of text span)) UnknownName >>= (λ a. area_at a (slice_get areas a))
+unfoldable pub area_field : List ℕ → List AreaRow → Field → Result (ℕ × AreaRow) Reason
+area_field text areas field = area_number text areas field >>= (λ a. area_at a (slice_get areas a))
 
 abbrev pub shared_if : SoFar → Span → ℕ → ℕ → AreaRow → Result Saying Reason
 shared_if d name blocks a area = if has_volume_room d blocks then Ok (saying.SharedVolume (shared_row d name blocks area) a area) else Err TooMany
 
 -- `volume name blocks in area`
-unfoldable pub shared_volume_of : List ℕ → SoFar → Span → Span → Span → Span → Result Saying Reason
+unfoldable pub shared_volume_of : List ℕ → SoFar → Span → Field → Field → Field → Result Saying Reason
 shared_volume_of text d name blocks kind area = do
   n ← new_volume text d name
-  b ← blocks_field text blocks
+  b ← number_at text 1 65536 blocks
   if is_word text kind (codes "in") then (area_field text d.areas area >>= (λ p. shared_if d n b p.0 p.1)) else Err UnknownWord
 
 abbrev pub volume_of : List ℕ → SoFar → Fields → Result Saying Reason
-volume_of text d (Three name blocks slots) = own_volume_of text d name blocks slots
-volume_of text d (Four name blocks kind area) = shared_volume_of text d name blocks kind area
+volume_of text d (Three name blocks slots) = own_volume_of text d (span_of name) blocks slots
+volume_of text d (Four name blocks kind area) = shared_volume_of text d (span_of name) blocks kind area
 volume_of text d _ = Err BadCount
 
 -- ## writers and their answers
@@ -116,7 +124,7 @@ writer_if d name meta = if nat_lt (length d.writers) 64 then Ok (saying.Writer (
 
 -- `writer name rest`, the rest a metadata document
 unfoldable pub writer_of : List ℕ → SoFar → Fields → Result Saying Reason
-writer_of text d (Two name document) = new_writer text d name >>= (λ n. document_field text document >>= writer_if d n)
+writer_of text d (Two name document) = new_writer text d (span_of name) >>= (λ n. document_field text (span_of document) >>= writer_if d n)
 writer_of text d _ = Err BadCount
 
 abbrev pub order_field : List ℕ → Span → Result Order Reason
@@ -132,14 +140,14 @@ is_answered writers w order nth = is_some (find (is_row_for order nth) (script_i
 abbrev pub new_nth : List WriterPlan → ℕ → Order → ℕ → Result ℕ Reason
 new_nth writers w order nth = if is_answered writers w order nth then Err DoubleName else Ok nth
 
-abbrev pub nth_field : List ℕ → List WriterPlan → ℕ → Order → Span → Result ℕ Reason
-nth_field text writers w order span = number_field text 1 2000 span >>= new_nth writers w order
+abbrev pub nth_field : List ℕ → List WriterPlan → ℕ → Order → Field → Result ℕ Reason
+nth_field text writers w order field = number_at text 1 2000 field >>= new_nth writers w order
 
 -- which order of which writer an `answer` line speaks of
-unfoldable pub asked_of : List ℕ → List WriterPlan → Span → Span → Span → Result Asked Reason
+unfoldable pub asked_of : List ℕ → List WriterPlan → Field → Field → Field → Result Asked Reason
 asked_of text writers writer order nth = do
-  w ← writer_field text writers writer
-  o ← order_field text order
+  w ← writer_at text writers writer
+  o ← order_field text (span_of order)
   n ← nth_field text writers w o nth
   Ok (record { writer = w; order = o; nth = n })
 
@@ -150,12 +158,12 @@ row_for asked answer = record { order = asked.order; nth = asked.nth; answer = a
 abbrev pub answer_if : SoFar → Asked → Option Answer → Result Saying Reason
 answer_if d asked answer = if nat_lt (answer_count d.writers) 10000 then Ok (saying.Answer asked.writer (row_for asked answer)) else Err TooMany
 
-abbrev pub lost_if : List ℕ → SoFar → Span → Asked → Result Saying Reason
+abbrev pub lost_if : List ℕ → SoFar → Field → Asked → Result Saying Reason
 lost_if text d kind asked = if is_word text kind (codes "lost") then answer_if d asked None else Err UnknownWord
 
-abbrev pub veto_if : List ℕ → SoFar → Span → Span → Asked → Result Saying Reason
+abbrev pub veto_if : List ℕ → SoFar → Field → Field → Asked → Result Saying Reason
 veto_if text d kind code asked =
-    if is_word text kind (codes "veto") then (code_field text code >>= (λ error. answer_if d asked (Some (Veto error)))) else Err UnknownWord
+    if is_word text kind (codes "veto") then (code_field text (span_of code) >>= (λ error. answer_if d asked (Some (Veto error)))) else Err UnknownWord
 
 -- `answer writer order nth lost`, `answer writer order nth veto code`
 unfoldable pub answer_of : List ℕ → SoFar → Fields → Result Saying Reason
@@ -177,12 +185,12 @@ unfoldable pub free_lane_of : List ℕ → SoFar → Span → Result Saying Reas
 free_lane_of text d name = new_lane text d name >>= (λ n. lane_if d n None)
 
 -- `lane name as writer`
-unfoldable pub acting_lane_of : List ℕ → SoFar → Span → Span → Span → Result Saying Reason
+unfoldable pub acting_lane_of : List ℕ → SoFar → Span → Field → Field → Result Saying Reason
 acting_lane_of text d name kind writer = do
   n ← new_lane text d name
-  if is_word text kind (codes "as") then (writer_field text d.writers writer >>= (λ w. lane_if d n (Some w))) else Err UnknownWord
+  if is_word text kind (codes "as") then (writer_at text d.writers writer >>= (λ w. lane_if d n (Some w))) else Err UnknownWord
 
 abbrev pub lane_of : List ℕ → SoFar → Fields → Result Saying Reason
-lane_of text d (One name) = free_lane_of text d name
-lane_of text d (Three name kind writer) = acting_lane_of text d name kind writer
+lane_of text d (One name) = free_lane_of text d (span_of name)
+lane_of text d (Three name kind writer) = acting_lane_of text d (span_of name) kind writer
 lane_of text d _ = Err BadCount

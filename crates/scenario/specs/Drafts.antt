@@ -1,6 +1,6 @@
 -- What is kept of the lines that were read so far: what they say, the names by kind, and how many there are of what is
 -- limited; and what holds of it after every line. (This project's own.)
-use Rattle.std.specs.Prelude.{ℕ, ◌≡◌, ◌<◌, ◌≤◌, ◌+◌, ◌++◌, true, List, [], ◌∷◌, length, All, find, Some, None, IfSome, slice_get, if◌then◌else◌, Result, Ok, Err}
+use Rattle.std.specs.Prelude.{ℕ, ◌≡◌, ◌<◌, ◌≤◌, ◌+◌, ◌++◌, Bool, true, false, List, [], ◌∷◌, length, All, find, Some, None, IfSome, slice_get, if◌then◌else◌, Result, Ok, Err}
 use Rattle.writer_meta.specs.Metadata.{meta_of}
 use Rattle.writer_meta.specs.Allowed.{IsAllowed}
 use Rattle.writer_calls.specs.declared.scripted.Scripted.{Scripted}
@@ -16,11 +16,11 @@ use Rattle.scenario.specs.declared.volume_row.VolumeRow.{VolumeRow}
 use Rattle.scenario.specs.declared.counts.Counts.{Counts}
 use Rattle.scenario.specs.declared.entry.Entry.{Entry}
 use Rattle.scenario.specs.declared.entry.Entry.TheVariants as entry
-use Rattle.scenario.specs.Plan.{GroupPlan, WriterPlan, LaneLine, LanePlan, blocks_in, script_in}
+use Rattle.scenario.specs.Plan.{GroupPlan, LaneLine, LanePlan, script_in}
 use Rattle.scenario.specs.Bounds.{IsShortPart, IsRow, IsGroupRow, IsNth, IsWriterRow, IsRanged, begins_agenda, IsInGroup, groups_from}
 use Rattle.scenario.specs.SoFar.{SoFar, Saying, nothing, after, group_for, area_group, line_count, agenda_count, answer_count}
 use Rattle.scenario.specs.SoFar as saying
-use Rattle.scenario.specs.Fields.{bytes_of, IsPart}
+use Rattle.scenario.specs.Fields.{bytes_of}
 use Rattle.scenario.specs.Names.{place_of, area_names, volume_names, writer_names, lane_names}
 
 -- the names that are taken, by kind and in order of declaration
@@ -35,12 +35,16 @@ pub record DraftValue : Type 0 where
   pub names : Names
   pub counts : Counts
 
-abbrev pub empty_draft : DraftValue
-empty_draft = record {
-  said = nothing;
+-- where the `scenario` line was read, or not
+abbrev pub new_draft : Bool → DraftValue
+new_draft opened = record {
+  said = record nothing { opened = opened };
   names = record { areas = []; volumes = []; writers = []; lanes = [] };
   counts = record { lines = 0; agenda_lines = 0; answers = 0 };
 }
+
+abbrev pub empty_draft : DraftValue
+empty_draft = new_draft false
 
 -- ## one line more
 

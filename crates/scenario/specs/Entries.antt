@@ -50,11 +50,12 @@ may_stand opened in_lane _ = opened && in_lane
 abbrev pub has_line_room : ℕ → ℕ → Op → Bool
 has_line_room lines agendas op = nat_lt lines 100000 && (not (begins_agenda op) || nat_lt agendas 2000)
 
+abbrev pub line_if : SoFar → ℕ → Op → Result Saying Reason
+line_if d number op = if has_line_room (line_count d.lanes) (agenda_count d.lanes) op then Ok (saying.Line (record { number = number; op = op })) else Err TooMany
+
 -- a line of the lane at hand
 unfoldable pub line_of : List ℕ → SoFar → ℕ → Word → Fields → Result Saying Reason
-line_of text d number w fields =
-    op_of text d.volumes d.writers w fields
-    >>= (λ op. if has_line_room (line_count d.lanes) (agenda_count d.lanes) op then Ok (saying.Line (record { number = number; op = op })) else Err TooMany)
+line_of text d number w fields = op_of text d.volumes d.writers w fields >>= (λ op. line_if d number op)
 
 unfoldable pub row_of : List ℕ → SoFar → ℕ → Word → Fields → Result Saying Reason
 row_of text d number word.Scenario fields = opening_of text fields

@@ -1,6 +1,7 @@
 ghost use Rattle.std.specs.Prelude.{◌≡◌};
 
 use crate::expected::Expected;
+use crate::field::Field;
 use crate::name_kind::NameKind;
 use crate::reason::Reason;
 use crate::span::Span;
@@ -16,12 +17,16 @@ pub struct Cause {
 
 impl Cause {
     /// A field that does not pass.
-    pub(crate) fn field(reason: Reason, found: Span, expected: Expected) -> Cause
+    pub(crate) fn field(reason: Reason, field: Field, expected: Expected) -> Cause
         ensures { result.reason ≡ reason }
     {
+        let found = match field {
+            Field::Text(span) => Some(span),
+            _ => None,
+        };
         Cause {
             reason,
-            found: Some(found),
+            found,
             expected,
         }
     }
@@ -38,14 +43,14 @@ impl Cause {
     }
 
     /// None of the words that may stand there.
-    pub(crate) fn no_word(found: Span, words: &'static str) -> Cause
+    pub(crate) fn no_word(found: Field, words: &'static str) -> Cause
         ensures { result.reason ≡ Reason.UnknownWord }
     {
         Cause::field(Reason::UnknownWord, found, Expected::Word(words))
     }
 
     /// No name of this kind that was declared above.
-    pub(crate) fn undeclared(found: Span, kind: NameKind) -> Cause
+    pub(crate) fn undeclared(found: Field, kind: NameKind) -> Cause
         ensures { result.reason ≡ Reason.UnknownName }
     {
         Cause::field(Reason::UnknownName, found, Expected::Declared(kind))

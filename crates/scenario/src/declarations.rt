@@ -1,19 +1,20 @@
 //! The lines before the lanes, but for writers and answers, and the line that begins a lane.
 ghost use Rattle.std.specs.Prelude.{◌≡◌, ◌<◌, ◌≤◌, ◌+◌, ◌^◌, ◌&&◌, false, [], None, Some, nat_le, nat_lt, length, slice_get, is_some, true, IfOk, IfErr, IfSome, IsTrue};
 ghost use Rattle.scenario.specs.declared.entry.Entry.TheVariants as entry;
-ghost use Rattle.scenario.specs.Fields.{bytes_of, IsPart, AreParts};
+ghost use Rattle.scenario.specs.Fields.{bytes_of, IsPart, IsField, AreFields};
 ghost use Rattle.scenario.specs.Names.{place_of, area_named};
 ghost use Rattle.scenario.specs.SoFar.{group_for};
 ghost use Rattle.scenario.specs.Bounds.{IsShortPart};
 ghost use Rattle.scenario.specs.Drafts.{DraftValue, by_reason, IsDraft, IsEntry, told};
-ghost use Rattle.scenario.specs.Declarations.{name_field, opening_of, has_space, has_volume_room, area_of, area_field, new_volume, own_volume_of, shared_volume_of, volume_of, new_lane, lane_if, free_lane_of, acting_lane_of, lane_of};
+ghost use Rattle.scenario.specs.Declarations.{name_field, opening_of, has_space, has_volume_room, new_area, area_of, area_number, area_field, new_volume, own_volume_of, shared_volume_of, volume_of, new_lane, lane_if, free_lane_of, acting_lane_of, lane_of};
 
 use crate::area_row::AreaRow;
 use crate::cause::Cause;
 use crate::draft::Draft;
 use crate::entry::Entry;
 use crate::expected::Expected;
-use crate::field_values::{is_word, number_field, writer_field};
+use crate::field::Field;
+use crate::field_values::{is_word, number_below, number_field, writer_field};
 use crate::fields::{Fields, bytes_of};
 use crate::group_row::GroupRow;
 use crate::name_kind::NameKind;
@@ -23,13 +24,13 @@ use crate::reason::Reason;
 use crate::span::Span;
 use crate::volume_row::VolumeRow;
 
-pub(crate) const MOST_AREAS: usize = 128;
+const MOST_AREAS: usize = 128;
 
 const MOST_VOLUMES: usize = 128;
 /// Of a volume.
-pub(crate) const MOST_BLOCKS: u32 = 65_536;
+const MOST_BLOCKS: u32 = 65_536;
 /// Of an area.
-pub(crate) const MOST_SLOTS: u32 = 65_536;
+const MOST_SLOTS: u32 = 65_536;
 /// Of the blocks of all volumes and the slots of all areas together.
 const MOST_SIZE: u64 = 131_072;
 
@@ -51,10 +52,10 @@ pub(crate) fn name_field(
 {
     let expected = Expected::NewName { kind, taken };
     if !is_name(bytes_of(text, span)) {
-        return Err(Cause::field(Reason::BadName, span, expected));
+        return Err(Cause::field(Reason::BadName, Field::Text(span), expected));
     }
     if taken.is_some() {
-        return Err(Cause::field(Reason::DoubleName, span, expected));
+        return Err(Cause::field(Reason::DoubleName, Field::Text(span), expected));
     }
     Ok(span)
 }
@@ -62,7 +63,7 @@ pub(crate) fn name_field(
 /// `scenario 1`.
 #[tactic(auto, unfolding(crate::specs::Declarations::opening_of))]
 pub(crate) fn opening_of(text: &[u8], fields: Fields) -> Result<Entry, Cause>
-    requires { AreParts (length text.now) fields }
+    requires { AreFields (length text.now) fields }
     ensures value { told result ≡ opening_of text.now fields }
     ensures kept { (d : DraftValue) → IfOk result (IsEntry text.now d) }
 {
@@ -74,7 +75,7 @@ pub(crate) fn opening_of(text: &[u8], fields: Fields) -> Result<Entry, Cause>
 }
 
 /// Whether so many blocks and slots more have their place.
-pub(crate) fn has_space(draft: &Draft, size: u32) -> bool
+fn has_space(draft: &Draft, size: u32) -> bool
     requires { draft.now.said.size ≤ 131072 }
     ensures { result ≡ has_space draft.now.said size }
 {
@@ -82,7 +83,7 @@ pub(crate) fn has_space(draft: &Draft, size: u32) -> bool
 }
 
 /// More blocks and slots than there may be.
-pub(crate) fn no_space() -> Cause
+fn no_space() -> Cause
     ensures { result.reason ≡ Reason.TooMany }
 {
     Cause::too_many(
@@ -93,10 +94,10 @@ pub(crate) fn no_space() -> Cause
 
 /// The name of an area that is new.
 #[tactic(auto, unfolding(crate::specs::Names::area_named))]
-pub(crate) fn new_area(text: &[u8], draft: &Draft, name: Span) -> Result<Span, Cause>
+fn new_area(text: &[u8], draft: &Draft, name: Span) -> Result<Span, Cause>
     requires part { IsPart (length text.now) name }
     requires draft { IsDraft text.now draft.now }
-    ensures value { by_reason result ≡ name_field text.now (is_some (area_named text.now draft.now.said.areas (bytes_of text.now name))) name }
+    ensures value { by_reason result ≡ new_area text.now draft.now.said name }
     ensures short { IfOk result (IsShortPart (length text.now)) }
     ensures new { IfOk result (λ n. place_of (bytes_of text.now n) draft.now.names.areas ≡ None) }
 {
@@ -107,7 +108,7 @@ pub(crate) fn new_area(text: &[u8], draft: &Draft, name: Span) -> Result<Span, C
 /// `area name slots`.
 #[tactic(auto, unfolding(crate::specs::Declarations::area_of))]
 pub(crate) fn area_of(text: &[u8], draft: &Draft, fields: Fields) -> Result<Entry, Cause>
-    requires parts { AreParts (length text.now) fields }
+    requires parts { AreFields (length text.now) fields }
     requires draft { IsDraft text.now draft.now }
     ensures value { told result ≡ area_of text.now draft.now.said fields }
     ensures kept { IfOk result (IsEntry text.now draft.now) }
@@ -115,7 +116,7 @@ pub(crate) fn area_of(text: &[u8], draft: &Draft, fields: Fields) -> Result<Entr
     let Fields::Two(name, slots) = fields else {
         return Err(Cause::no_form());
     };
-    let name = new_area(text, draft, name)?;
+    let name = new_area(text, draft, name.span())?;
     let slots = number_field(text, Quantity::Slots, 0, MOST_SLOTS, slots)?;
     if draft.areas().len() >= MOST_AREAS {
         return Err(Cause::too_many("areas", MOST_AREAS as u64));
@@ -128,7 +129,7 @@ pub(crate) fn area_of(text: &[u8], draft: &Draft, fields: Fields) -> Result<Entr
 
 /// The name of a volume that is new.
 #[tactic(auto, unfolding(crate::specs::Names::volume_named))]
-pub(crate) fn new_volume(text: &[u8], draft: &Draft, name: Span) -> Result<Span, Cause>
+fn new_volume(text: &[u8], draft: &Draft, name: Span) -> Result<Span, Cause>
     requires part { IsPart (length text.now) name }
     requires draft { IsDraft text.now draft.now }
     ensures value { by_reason result ≡ new_volume text.now draft.now.said name }
@@ -140,7 +141,7 @@ pub(crate) fn new_volume(text: &[u8], draft: &Draft, name: Span) -> Result<Span,
 }
 
 /// Goes on where one more volume, of so many blocks and slots, has its place.
-pub(crate) fn volume_room(draft: &Draft, size: u32) -> Result<(), Cause>
+fn volume_room(draft: &Draft, size: u32) -> Result<(), Cause>
     requires { draft.now.said.size ≤ 131072 }
     ensures ok { IfOk result (λ it. has_volume_room draft.now.said size ≡ true) }
     ensures full { IfErr result (λ cause. has_volume_room draft.now.said size ≡ false) }
@@ -161,12 +162,12 @@ fn own_volume_of(
     text: &[u8],
     draft: &Draft,
     name: Span,
-    blocks: Span,
-    slots: Span,
+    blocks: Field,
+    slots: Field,
 ) -> Result<Entry, Cause>
     requires name { IsPart (length text.now) name }
-    requires blocks { IsPart (length text.now) blocks }
-    requires slots { IsPart (length text.now) slots }
+    requires blocks { IsField (length text.now) blocks }
+    requires slots { IsField (length text.now) slots }
     requires draft { IsDraft text.now draft.now }
     requires no_lane { draft.now.said.lanes ≡ [] }
     ensures value { told result ≡ own_volume_of text.now draft.now.said name blocks slots }
@@ -184,23 +185,38 @@ fn own_volume_of(
     }))
 }
 
-/// A declared area, with its number.
-#[tactic(auto, unfolding(crate::specs::Declarations::area_field, crate::specs::Names::area_named), using(crate::proofs::Taken::count_areas))]
-fn area_field(text: &[u8], draft: &Draft, span: Span) -> Result<(u32, AreaRow), Cause>
-    requires part { IsPart (length text.now) span }
+/// The number of a declared area.
+#[tactic(auto, unfolding(crate::specs::Names::area_named), using(crate::proofs::Taken::count_areas))]
+fn area_number(text: &[u8], draft: &Draft, field: Field) -> Result<u32, Cause>
+    requires part { IsField (length text.now) field }
     requires draft { IsDraft text.now draft.now }
-    ensures value { by_reason result ≡ area_field text.now draft.now.said.areas span }
-    ensures found { IfOk result (λ p. slice_get draft.now.said.areas p.0 ≡ Some p.1) }
-    ensures few_slots { IfOk result (λ p. p.1.slots ≤ 65536) }
+    ensures value { by_reason result ≡ area_number text.now draft.now.said.areas field }
+    ensures in_range { IfOk result (λ a. a < length draft.now.said.areas) }
 {
+    let Field::Text(span) = field else {
+        return number_below(NameKind::Area, draft.areas().len(), field);
+    };
     match draft.area_named(bytes_of(text, span)) {
-        Some(a) => Ok((a as u32, draft.areas()[a])),
-        None => Err(Cause::undeclared(span, NameKind::Area)),
+        Some(a) => Ok(a as u32),
+        None => Err(Cause::undeclared(field, NameKind::Area)),
     }
 }
 
+/// A declared area, with its number.
+#[tactic(auto, unfolding(crate::specs::Declarations::area_field))]
+fn area_field(text: &[u8], draft: &Draft, field: Field) -> Result<(u32, AreaRow), Cause>
+    requires part { IsField (length text.now) field }
+    requires draft { IsDraft text.now draft.now }
+    ensures value { by_reason result ≡ area_field text.now draft.now.said.areas field }
+    ensures found { IfOk result (λ p. slice_get draft.now.said.areas p.0 ≡ Some p.1) }
+    ensures few_slots { IfOk result (λ p. p.1.slots ≤ 65536) }
+{
+    let a = area_number(text, draft, field)?;
+    Ok((a, draft.areas()[a as usize]))
+}
+
 /// The number of a declared area's group: the one that it has, or the next number.
-pub(crate) fn group_for(draft: &Draft, area: AreaRow) -> u32
+fn group_for(draft: &Draft, area: AreaRow) -> u32
     requires { length draft.now.said.groups ≤ 128 }
     ensures { result ≡ group_for draft.now.said.groups area }
 {
@@ -216,14 +232,14 @@ fn shared_volume_of(
     text: &[u8],
     draft: &Draft,
     name: Span,
-    blocks: Span,
-    kind: Span,
-    area: Span,
+    blocks: Field,
+    kind: Field,
+    area: Field,
 ) -> Result<Entry, Cause>
     requires name { IsPart (length text.now) name }
-    requires blocks { IsPart (length text.now) blocks }
-    requires kind { IsPart (length text.now) kind }
-    requires area { IsPart (length text.now) area }
+    requires blocks { IsField (length text.now) blocks }
+    requires kind { IsField (length text.now) kind }
+    requires area { IsField (length text.now) area }
     requires draft { IsDraft text.now draft.now }
     requires no_lane { draft.now.said.lanes ≡ [] }
     ensures value { told result ≡ shared_volume_of text.now draft.now.said name blocks kind area }
@@ -247,16 +263,22 @@ fn shared_volume_of(
 
 /// `volume name blocks slots`, `volume name blocks in area`.
 pub(crate) fn volume_of(text: &[u8], draft: &Draft, fields: Fields) -> Result<Entry, Cause>
-    requires parts { AreParts (length text.now) fields }
+    requires parts { AreFields (length text.now) fields }
     requires draft { IsDraft text.now draft.now }
     requires no_lane { draft.now.said.lanes ≡ [] }
     ensures value { told result ≡ volume_of text.now draft.now.said fields }
     ensures kept { IfOk result (IsEntry text.now draft.now) }
 {
     match fields {
-        Fields::Three(name, blocks, slots) => own_volume_of(text, draft, name, blocks, slots),
+        Fields::Three(name, blocks, slots) => own_volume_of(
+            text,
+            draft,
+            name.span(),
+            blocks,
+            slots,
+        ),
         Fields::Four(name, blocks, kind, area) => {
-            shared_volume_of(text, draft, name, blocks, kind, area)
+            shared_volume_of(text, draft, name.span(), blocks, kind, area)
         }
         _ => Err(Cause::no_form()),
     }
@@ -264,7 +286,7 @@ pub(crate) fn volume_of(text: &[u8], draft: &Draft, fields: Fields) -> Result<En
 
 /// The name of a lane that is new.
 #[tactic(auto, unfolding(crate::specs::Names::lane_named))]
-pub(crate) fn new_lane(text: &[u8], draft: &Draft, name: Span) -> Result<Span, Cause>
+fn new_lane(text: &[u8], draft: &Draft, name: Span) -> Result<Span, Cause>
     requires part { IsPart (length text.now) name }
     requires draft { IsDraft text.now draft.now }
     ensures value { by_reason result ≡ new_lane text.now draft.now.said name }
@@ -276,7 +298,7 @@ pub(crate) fn new_lane(text: &[u8], draft: &Draft, name: Span) -> Result<Span, C
 }
 
 /// One lane more.
-pub(crate) fn lane_if(draft: &Draft, name: Span, whom: Option<u32>) -> Result<Entry, Cause>
+fn lane_if(draft: &Draft, name: Span, whom: Option<u32>) -> Result<Entry, Cause>
     ensures value { told result ≡ lane_if draft.now.said name whom }
     ensures same { IfOk result (λ e. e ≡ entry.Lane name whom) }
     ensures few { IfOk result (λ e. length draft.now.said.lanes < 64) }
@@ -305,12 +327,12 @@ fn acting_lane_of(
     text: &[u8],
     draft: &Draft,
     name: Span,
-    kind: Span,
-    writer: Span,
+    kind: Field,
+    writer: Field,
 ) -> Result<Entry, Cause>
     requires name { IsPart (length text.now) name }
-    requires kind { IsPart (length text.now) kind }
-    requires writer { IsPart (length text.now) writer }
+    requires kind { IsField (length text.now) kind }
+    requires writer { IsField (length text.now) writer }
     requires draft { IsDraft text.now draft.now }
     ensures value { told result ≡ acting_lane_of text.now draft.now.said name kind writer }
     ensures kept { IfOk result (IsEntry text.now draft.now) }
@@ -325,14 +347,14 @@ fn acting_lane_of(
 
 /// `lane name`, `lane name as writer`.
 pub(crate) fn lane_of(text: &[u8], draft: &Draft, fields: Fields) -> Result<Entry, Cause>
-    requires parts { AreParts (length text.now) fields }
+    requires parts { AreFields (length text.now) fields }
     requires draft { IsDraft text.now draft.now }
     ensures value { told result ≡ lane_of text.now draft.now.said fields }
     ensures kept { IfOk result (IsEntry text.now draft.now) }
 {
     match fields {
-        Fields::One(name) => free_lane_of(text, draft, name),
-        Fields::Three(name, kind, writer) => acting_lane_of(text, draft, name, kind, writer),
+        Fields::One(name) => free_lane_of(text, draft, name.span()),
+        Fields::Three(name, kind, writer) => acting_lane_of(text, draft, name.span(), kind, writer),
         _ => Err(Cause::no_form()),
     }
 }

@@ -71,13 +71,14 @@ impl Draft {
     ghost use Rattle.scenario.specs.SoFar.{after, closed_lane};
     ghost use Rattle.scenario.specs.SoFar as saying;
     ghost use Rattle.scenario.specs.Names.{place_of};
-    ghost use Rattle.scenario.specs.Drafts.{empty_draft, counts_after, with_entry, IsDraft, IsEntry, IsNewAnswer};
+    ghost use Rattle.scenario.specs.Drafts.{new_draft, counts_after, with_entry, IsDraft, IsEntry, IsNewAnswer};
 
-    pub(crate) fn new(alloc: Global) -> Draft
-        ensures { result ≡ empty_draft }
+    /// Nothing, or the `scenario` line alone.
+    pub(crate) fn new(alloc: Global, opened: bool) -> Draft
+        ensures { result ≡ new_draft opened }
     {
         Draft {
-            opened: false,
+            opened,
             areas: Vec::new(alloc),
             volumes: Vec::new(alloc),
             groups: Vec::new(alloc),

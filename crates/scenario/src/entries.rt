@@ -1,10 +1,13 @@
 //! What one line says after the lines before it.
-ghost use Rattle.std.specs.Prelude.{◌≡◌, ◌<◌, ◌≤◌, false, Ok, length, IfOk, IfErr, IsTrue};
+ghost use Rattle.std.specs.Prelude.{◌≡◌, ◌<◌, ◌≤◌, true, false, Ok, length, IfOk, IfErr, IsTrue};
 ghost use Rattle.std.specs.List.{list_all};
-ghost use Rattle.scenario.specs.Fields.{IsPart, AreParts, words_at};
-ghost use Rattle.scenario.specs.Drafts.{IsDraft, IsEntry, saying_in, told, IsUnread};
+ghost use Rattle.scenario.specs.declared.entry.Entry.TheVariants as entry;
+ghost use Rattle.scenario.specs.Bounds.{begins_agenda};
+ghost use Rattle.scenario.specs.SoFar.{line_count, agenda_count};
+ghost use Rattle.scenario.specs.Fields.{IsPart, AreFields, words_at};
+ghost use Rattle.scenario.specs.Drafts.{AreCounts, IsDraft, IsEntry, saying_in, told, IsUnread};
 ghost use Rattle.scenario.specs.Words.{takes_document};
-ghost use Rattle.scenario.specs.Entries.{is_printable, is_skipped, has_lane, may_stand, has_line_room, line_of, row_of, said_of, saying_of};
+ghost use Rattle.scenario.specs.Entries.{is_printable, is_skipped, has_lane, may_stand, has_line_room, line_if, line_of, row_of, said_of, saying_of};
 
 use crate::cause::Cause;
 use crate::counts::{Counts, begins_agenda};
@@ -12,6 +15,7 @@ use crate::declarations::{area_of, lane_of, opening_of, volume_of};
 use crate::draft::Draft;
 use crate::entry::Entry;
 use crate::expected::Expected;
+use crate::field::Field;
 use crate::fields::{Fields, bytes_of, fields_for, word_at};
 use crate::lane_line::LaneLine;
 use crate::op::Op;
@@ -50,7 +54,7 @@ pub(crate) fn has_lane(draft: &Draft) -> bool
 }
 
 /// Whether a line that begins with this word may stand after those before it.
-fn may_stand(draft: &Draft, word: Word) -> bool
+pub(crate) fn may_stand(draft: &Draft, word: Word) -> bool
     ensures { result ≡ may_stand draft.now.said.opened (has_lane draft.now.said.lanes) word }
 {
     match word {
@@ -64,14 +68,14 @@ fn may_stand(draft: &Draft, word: Word) -> bool
 }
 
 /// Whether there may be one more such line.
-pub(crate) fn has_line_room(counts: Counts, op: Op) -> bool
+fn has_line_room(counts: Counts, op: Op) -> bool
     ensures { result ≡ has_line_room counts.lines counts.agenda_lines op }
 {
     counts.lines < MOST_LINES && (!begins_agenda(op) || counts.agenda_lines < MOST_AGENDA_LINES)
 }
 
 /// More lines than there may be, of all or of those that may begin an agenda.
-pub(crate) fn no_line_room(counts: Counts) -> Cause
+fn no_line_room(counts: Counts) -> Cause
     ensures { result.reason ≡ Reason.TooMany }
 {
     if counts.lines >= MOST_LINES {
@@ -84,7 +88,7 @@ pub(crate) fn no_line_room(counts: Counts) -> Cause
 }
 
 /// What has to stand above a line with this word that may not stand here, or must not.
-fn missed_place(draft: &Draft, word: Word) -> Expected {
+pub(crate) fn missed_place(draft: &Draft, word: Word) -> Expected {
     if let Word::Scenario = word {
         return Expected::OneOpening;
     }
@@ -98,6 +102,21 @@ fn missed_place(draft: &Draft, word: Word) -> Expected {
     }
 }
 
+/// One line more of the lane at hand.
+pub(crate) fn line_if(draft: &Draft, number: u32, op: Op) -> Result<Entry, Cause>
+    requires { AreCounts draft.now.said draft.now.counts }
+    ensures value { told result ≡ line_if draft.now.said number op }
+    ensures same { IfOk result (λ e. e ≡ entry.Line (record { number = number; op = op })) }
+    ensures few { IfOk result (λ e. line_count draft.now.said.lanes < 100000) }
+    ensures few_agendas { IfOk result (λ e.
+        begins_agenda op ≡ true → agenda_count draft.now.said.lanes < 2000) }
+{
+    if !has_line_room(draft.counts(), op) {
+        return Err(no_line_room(draft.counts()));
+    }
+    Ok(Entry::Line(LaneLine { number, op }))
+}
+
 /// A line of the lane at hand.
 #[tactic(auto, unfolding(crate::specs::Entries::line_of))]
 fn line_of(
@@ -107,29 +126,26 @@ fn line_of(
     word: Word,
     fields: Fields,
 ) -> Result<Entry, Cause>
-    requires parts { AreParts (length text.now) fields }
+    requires parts { AreFields (length text.now) fields }
     requires draft { IsDraft text.now draft.now }
     requires in_lane { 0 < length draft.now.said.lanes }
     ensures value { told result ≡ line_of text.now draft.now.said number word fields }
     ensures kept { IfOk result (IsEntry text.now draft.now) }
 {
     let op = op_of(text, draft, word, fields)?;
-    if !has_line_room(draft.counts(), op) {
-        return Err(no_line_room(draft.counts()));
-    }
-    Ok(Entry::Line(LaneLine { number, op }))
+    line_if(draft, number, op)
 }
 
 /// What a line says that may stand here and has no document.
 #[tactic(auto, unfolding(crate::specs::Entries::row_of))]
-fn row_of(
+pub(crate) fn row_of(
     text: &[u8],
     draft: &Draft,
     number: u32,
     word: Word,
     fields: Fields,
 ) -> Result<Entry, Cause>
-    requires parts { AreParts (length text.now) fields }
+    requires parts { AreFields (length text.now) fields }
     requires draft { IsDraft text.now draft.now }
     requires placed { IsTrue (may_stand draft.now.said.opened (has_lane draft.now.said.lanes) word) }
     requires plain { takes_document word ≡ false }
@@ -156,7 +172,7 @@ fn placed_row_of(
     word: Word,
     fields: Fields,
 ) -> Result<Entry, Unread>
-    requires parts { AreParts (length text.now) fields }
+    requires parts { AreFields (length text.now) fields }
     requires draft { IsDraft text.now draft.now }
     requires placed { IsTrue (may_stand draft.now.said.opened (has_lane draft.now.said.lanes) word) }
     ensures read { IfOk result (λ entry. row_of text.now draft.now.said number word fields ≡ Ok (saying_in entry)) }
@@ -189,10 +205,18 @@ fn said_of(
 {
     let first = word_at(text, span.start, span.end);
     let Some(word) = Word::of(bytes_of(text, first)) else {
-        return Err(Unread::Bad(Cause::field(Reason::UnknownWord, first, Expected::FirstWord)));
+        return Err(Unread::Bad(Cause::field(
+            Reason::UnknownWord,
+            Field::Text(first),
+            Expected::FirstWord,
+        )));
     };
     if !may_stand(draft, word) {
-        return Err(Unread::Bad(Cause::field(Reason::Misplaced, first, missed_place(draft, word))));
+        return Err(Unread::Bad(Cause::field(
+            Reason::Misplaced,
+            Field::Text(first),
+            missed_place(draft, word),
+        )));
     }
     let fields = fields_for(text, word, first.end, span.end);
     placed_row_of(alloc, text, draft, number, word, fields)

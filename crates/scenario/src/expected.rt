@@ -1,3 +1,6 @@
+ghost use Rattle.std.specs.Prelude.{◌≡◌};
+ghost use Rattle.scenario.specs.Messages.{kind_expected};
+
 use crate::name_kind::NameKind;
 use crate::quantity::Quantity;
 
@@ -51,7 +54,9 @@ pub enum Expected {
 
 impl Expected {
     /// The kind of the name that was expected, where it was one.
-    pub fn kind(self) -> Option<NameKind> {
+    pub fn kind(self) -> Option<NameKind>
+        ensures { result ≡ kind_expected self }
+    {
         match self {
             Expected::NewName { kind, .. } | Expected::Declared(kind) => Some(kind),
             _ => None,

@@ -1,19 +1,34 @@
 //! The values of the fields of a line, after the lines before it.
 ghost use Rattle.std.specs.Prelude.{◌≡◌, ◌<◌, ◌≤◌, length, IfOk, slice_get};
 ghost use Rattle.scenario.specs.Plan.{blocks_in};
-ghost use Rattle.scenario.specs.Numbers.{number_in};
-ghost use Rattle.scenario.specs.Fields.{bytes_of, IsPart, AreParts};
+ghost use Rattle.scenario.specs.Fields.{IsField, AreFields};
 ghost use Rattle.scenario.specs.Drafts.{IsDraft, by_reason};
-ghost use Rattle.scenario.specs.Ops.{number_field, volume_field, writer_field, block_field, is_word, volume_alone, writer_alone, set_and_volume};
+ghost use Rattle.scenario.specs.Ops.{number_at, number_below, volume_at, writer_at, block_at, is_word, volume_alone, set_and_volume};
 
 use crate::cause::Cause;
 use crate::draft::Draft;
 use crate::expected::Expected;
+use crate::field::Field;
 use crate::fields::{Fields, bytes_of};
 use crate::name_kind::NameKind;
-use crate::numbers::number_in;
+use crate::numbers::{in_range, number_in};
 use crate::quantity::Quantity;
-use crate::span::Span;
+use crate::reason::Reason;
+
+/// The number that a field is, from `least` to `most`.
+#[tactic(auto, unfolding(crate::specs::Ops::number_field))]
+fn number_of(text: &[u8], least: u64, most: u64, field: Field) -> Result<u64, Reason>
+    requires { IsField (length text.now) field }
+    ensures value { result ≡ number_at text.now least most field }
+    ensures least { IfOk result (λ n. least ≤ n) }
+    ensures most { IfOk result (λ n. n ≤ most) }
+{
+    match field {
+        Field::Text(span) => number_in(bytes_of(text, span), least, most),
+        Field::Number(number) => in_range(number, least, most),
+        Field::Word => Err(Reason::BadNumber),
+    }
+}
 
 /// A number from `least` to `most`.
 pub(crate) fn long_field(
@@ -21,18 +36,18 @@ pub(crate) fn long_field(
     quantity: Quantity,
     least: u64,
     most: u64,
-    span: Span,
+    field: Field,
 ) -> Result<u64, Cause>
-    requires { IsPart (length text.now) span }
-    ensures value { by_reason result ≡ number_in least most (bytes_of text.now span) }
+    requires { IsField (length text.now) field }
+    ensures value { by_reason result ≡ number_at text.now least most field }
     ensures least { IfOk result (λ n. least ≤ n) }
     ensures most { IfOk result (λ n. n ≤ most) }
 {
-    match number_in(bytes_of(text, span), least, most) {
+    match number_of(text, least, most, field) {
         Ok(number) => Ok(number),
         Err(reason) => Err(Cause::field(
             reason,
-            span,
+            field,
             Expected::Number {
                 quantity,
                 least,
@@ -43,103 +58,119 @@ pub(crate) fn long_field(
 }
 
 /// A number from `low` to `high`.
-#[tactic(auto, unfolding(crate::specs::Ops::number_field))]
 pub(crate) fn number_field(
     text: &[u8],
     quantity: Quantity,
     low: u32,
     high: u32,
-    span: Span,
+    field: Field,
 ) -> Result<u32, Cause>
-    requires { IsPart (length text.now) span }
-    ensures value { by_reason result ≡ number_field text.now low high span }
+    requires { IsField (length text.now) field }
+    ensures value { by_reason result ≡ number_at text.now low high field }
     ensures least { IfOk result (λ n. low ≤ n) }
     ensures most { IfOk result (λ n. n ≤ high) }
 {
-    let number = long_field(text, quantity, u64::from(low), u64::from(high), span)?;
+    let number = long_field(text, quantity, u64::from(low), u64::from(high), field)?;
     Ok(number as u32)
+}
+
+/// The number of one of so many of this kind that were declared.
+pub(crate) fn number_below(kind: NameKind, count: usize, field: Field) -> Result<u32, Cause>
+    requires { count < 4294967296 }
+    ensures value { by_reason result ≡ number_below count field }
+    ensures below { IfOk result (λ n. n < count) }
+{
+    match field {
+        Field::Number(number) => {
+            if number < count as u64 {
+                return Ok(number as u32);
+            }
+            Err(Cause::undeclared(field, kind))
+        }
+        _ => Err(Cause::undeclared(field, kind)),
+    }
 }
 
 /// The number of a declared volume.
 #[tactic(auto, unfolding(crate::specs::Ops::volume_field, crate::specs::Names::volume_named), using(crate::proofs::Taken::count_volumes))]
-pub(crate) fn volume_field(text: &[u8], draft: &Draft, span: Span) -> Result<u32, Cause>
-    requires part { IsPart (length text.now) span }
+pub(crate) fn volume_field(text: &[u8], draft: &Draft, field: Field) -> Result<u32, Cause>
+    requires part { IsField (length text.now) field }
     requires draft { IsDraft text.now draft.now }
-    ensures value { by_reason result ≡ volume_field text.now draft.now.said.volumes span }
+    ensures value { by_reason result ≡ volume_at text.now draft.now.said.volumes field }
     ensures in_range { IfOk result (λ v. v < length draft.now.said.volumes) }
 {
+    let Field::Text(span) = field else {
+        return number_below(NameKind::Volume, draft.volumes().len(), field);
+    };
     match draft.volume_named(bytes_of(text, span)) {
         Some(v) => Ok(v as u32),
-        None => Err(Cause::undeclared(span, NameKind::Volume)),
+        None => Err(Cause::undeclared(field, NameKind::Volume)),
     }
 }
 
 /// The number of a declared writer.
 #[tactic(auto, unfolding(crate::specs::Ops::writer_field, crate::specs::Names::writer_named), using(crate::proofs::Taken::count_writers))]
-pub(crate) fn writer_field(text: &[u8], draft: &Draft, span: Span) -> Result<u32, Cause>
-    requires part { IsPart (length text.now) span }
+pub(crate) fn writer_field(text: &[u8], draft: &Draft, field: Field) -> Result<u32, Cause>
+    requires part { IsField (length text.now) field }
     requires draft { IsDraft text.now draft.now }
-    ensures value { by_reason result ≡ writer_field text.now draft.now.said.writers span }
+    ensures value { by_reason result ≡ writer_at text.now draft.now.said.writers field }
     ensures in_range { IfOk result (λ w. w < length draft.now.said.writers) }
 {
+    let Field::Text(span) = field else {
+        return number_below(NameKind::Writer, draft.writers(), field);
+    };
     match draft.writer_named(bytes_of(text, span)) {
         Some(w) => Ok(w as u32),
-        None => Err(Cause::undeclared(span, NameKind::Writer)),
+        None => Err(Cause::undeclared(field, NameKind::Writer)),
     }
 }
 
 /// A block of a volume.
-#[tactic(auto, unfolding(crate::specs::Ops::block_field))]
-pub(crate) fn block_field(text: &[u8], draft: &Draft, volume: u32, span: Span) -> Result<u32, Cause>
-    requires part { IsPart (length text.now) span }
+pub(crate) fn block_field(
+    text: &[u8],
+    draft: &Draft,
+    volume: u32,
+    field: Field,
+) -> Result<u32, Cause>
+    requires part { IsField (length text.now) field }
     requires draft { IsDraft text.now draft.now }
     requires volume { volume < length draft.now.said.volumes }
-    ensures value { by_reason result ≡ block_field text.now draft.now.said.volumes volume span }
+    ensures value { by_reason result ≡ block_at text.now draft.now.said.volumes volume field }
     ensures in_range { IfOk result (λ b. b < blocks_in (slice_get draft.now.said.volumes volume)) }
 {
     let row = draft.volumes()[volume as usize];
-    number_field(text, Quantity::Block(row.name), 0, row.blocks - 1, span)
+    number_field(text, Quantity::Block(row.name), 0, row.blocks - 1, field)
 }
 
 /// The number of a set, from 1.
-pub(crate) fn set_field(text: &[u8], span: Span) -> Result<u32, Cause>
-    requires { IsPart (length text.now) span }
-    ensures { by_reason result ≡ number_field text.now 1 4294967295 span }
+pub(crate) fn set_field(text: &[u8], field: Field) -> Result<u32, Cause>
+    requires { IsField (length text.now) field }
+    ensures { by_reason result ≡ number_at text.now 1 4294967295 field }
 {
-    number_field(text, Quantity::Set, 1, u32::MAX, span)
+    number_field(text, Quantity::Set, 1, u32::MAX, field)
 }
 
-pub(crate) fn is_word(text: &[u8], span: Span, name: &[u8]) -> bool
-    requires { IsPart (length text.now) span }
-    ensures { result ≡ is_word text.now span name.now }
+pub(crate) fn is_word(text: &[u8], field: Field, name: &[u8]) -> bool
+    requires { IsField (length text.now) field }
+    ensures { result ≡ is_word text.now field name.now }
 {
-    bytes_of(text, span) == name
+    match field {
+        Field::Text(span) => bytes_of(text, span) == name,
+        Field::Word => true,
+        Field::Number(_) => false,
+    }
 }
 
 /// A volume alone.
 #[tactic(auto, unfolding(crate::specs::Ops::volume_alone))]
 pub(crate) fn volume_alone(text: &[u8], draft: &Draft, fields: Fields) -> Result<u32, Cause>
-    requires parts { AreParts (length text.now) fields }
+    requires parts { AreFields (length text.now) fields }
     requires draft { IsDraft text.now draft.now }
     ensures value { by_reason result ≡ volume_alone text.now draft.now.said.volumes fields }
     ensures in_range { IfOk result (λ v. v < length draft.now.said.volumes) }
 {
     match fields {
         Fields::One(volume) => volume_field(text, draft, volume),
-        _ => Err(Cause::no_form()),
-    }
-}
-
-/// A writer alone.
-#[tactic(auto, unfolding(crate::specs::Ops::writer_alone))]
-pub(crate) fn writer_alone(text: &[u8], draft: &Draft, fields: Fields) -> Result<u32, Cause>
-    requires parts { AreParts (length text.now) fields }
-    requires draft { IsDraft text.now draft.now }
-    ensures value { by_reason result ≡ writer_alone text.now draft.now.said.writers fields }
-    ensures in_range { IfOk result (λ w. w < length draft.now.said.writers) }
-{
-    match fields {
-        Fields::One(writer) => writer_field(text, draft, writer),
         _ => Err(Cause::no_form()),
     }
 }
@@ -151,7 +182,7 @@ pub(crate) fn set_and_volume(
     draft: &Draft,
     fields: Fields,
 ) -> Result<(u32, u32), Cause>
-    requires parts { AreParts (length text.now) fields }
+    requires parts { AreFields (length text.now) fields }
     requires draft { IsDraft text.now draft.now }
     ensures value { by_reason result ≡ set_and_volume text.now draft.now.said.volumes fields }
     ensures in_range { IfOk result (λ p. p.1 < length draft.now.said.volumes) }

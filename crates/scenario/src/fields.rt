@@ -1,6 +1,7 @@
 ghost use Rattle.std.specs.Prelude.{◌≡◌, ◌<◌, ◌≤◌, ◌+◌, ◌∷◌, length};
-ghost use Rattle.scenario.specs.Fields.{words_at, words_after, fields_of, rest_fields, fields_for, bytes_of, IsPart, AreParts};
+ghost use Rattle.scenario.specs.Fields.{words_at, words_after, fields_of, rest_fields, fields_for, bytes_of, IsPart, AreFields};
 
+use crate::field::Field;
 use crate::span::Span;
 use crate::word::Word;
 
@@ -8,11 +9,11 @@ use crate::word::Word;
 #[derive(Clone, Copy)]
 pub(crate) enum Fields {
     Zero,
-    One(Span),
-    Two(Span, Span),
-    Three(Span, Span, Span),
-    Four(Span, Span, Span, Span),
-    Five(Span, Span, Span, Span, Span),
+    One(Field),
+    Two(Field, Field),
+    Three(Field, Field, Field),
+    Four(Field, Field, Field, Field),
+    Five(Field, Field, Field, Field, Field),
     /// More than any line may have.
     Many,
 }
@@ -50,30 +51,41 @@ fn fields_after(text: &[u8], at: u32, end: u32) -> Fields
     requires ordered { at ≤ end }
     requires short { length text.now < 4294967295 }
     ensures value { result ≡ fields_of (words_after text.now at end) }
-    ensures parts { AreParts (length text.now) result }
+    ensures parts { AreFields (length text.now) result }
 {
     if at == end {
         return Fields::Zero;
     }
     let first = word_at(text, at + 1, end);
     if first.end == end {
-        return Fields::One(first);
+        return Fields::One(Field::Text(first));
     }
     let second = word_at(text, first.end + 1, end);
     if second.end == end {
-        return Fields::Two(first, second);
+        return Fields::Two(Field::Text(first), Field::Text(second));
     }
     let third = word_at(text, second.end + 1, end);
     if third.end == end {
-        return Fields::Three(first, second, third);
+        return Fields::Three(Field::Text(first), Field::Text(second), Field::Text(third));
     }
     let fourth = word_at(text, third.end + 1, end);
     if fourth.end == end {
-        return Fields::Four(first, second, third, fourth);
+        return Fields::Four(
+            Field::Text(first),
+            Field::Text(second),
+            Field::Text(third),
+            Field::Text(fourth),
+        );
     }
     let fifth = word_at(text, fourth.end + 1, end);
     if fifth.end == end {
-        return Fields::Five(first, second, third, fourth, fifth);
+        return Fields::Five(
+            Field::Text(first),
+            Field::Text(second),
+            Field::Text(third),
+            Field::Text(fourth),
+            Field::Text(fifth),
+        );
     }
     Fields::Many
 }
@@ -84,7 +96,7 @@ fn rest_after(text: &[u8], at: u32, end: u32) -> Fields
     requires ordered { at ≤ end }
     requires short { length text.now < 4294967295 }
     ensures value { result ≡ rest_fields end (words_after text.now at end) }
-    ensures parts { AreParts (length text.now) result }
+    ensures parts { AreFields (length text.now) result }
 {
     if at == end {
         return Fields::Zero;
@@ -92,9 +104,9 @@ fn rest_after(text: &[u8], at: u32, end: u32) -> Fields
     let first = word_at(text, at + 1, end);
     if first.end + 1 < end {
         let start = first.end + 1;
-        Fields::Two(first, Span { start, end })
+        Fields::Two(Field::Text(first), Field::Text(Span { start, end }))
     } else {
-        Fields::One(first)
+        Fields::One(Field::Text(first))
     }
 }
 
@@ -104,7 +116,7 @@ pub(crate) fn fields_for(text: &[u8], word: Word, at: u32, end: u32) -> Fields
     requires ordered { at ≤ end }
     requires short { length text.now < 4294967295 }
     ensures value { result ≡ fields_for word end (words_after text.now at end) }
-    ensures parts { AreParts (length text.now) result }
+    ensures parts { AreFields (length text.now) result }
 {
     if word.takes_rest() {
         rest_after(text, at, end)

@@ -1,10 +1,8 @@
-ghost use Rattle.std.specs.Prelude.{◌≡◌, ◌<◌, ◌+◌, Ok, length, IfOk, IfErr};
+ghost use Rattle.std.specs.Prelude.{◌≡◌, ◌<◌, ◌≤◌, ◌+◌, ◌++◌, ◌∷◌, [], Ok, length, vec_len, IfOk, IfErr, OnOk};
 ghost use Rattle.scenario.specs.Fields.{IsPart};
-ghost use Rattle.scenario.specs.Drafts.{IsDraft, IsEntry, told};
-ghost use Rattle.scenario.specs.Built.{Next, value_of, pushed, span_in, given, added, with_value, IsRefusedBy, IsNewlyNamed, IsValue, Grows};
+ghost use Rattle.scenario.specs.Drafts.{IsDraft, IsEntry, saying_in};
+ghost use Rattle.scenario.specs.Built.{value_of, place_after, with_saying, with_value, IsRefusedBy, IsValue, Grows};
 
-use crate::additions::entry_of_value;
-use crate::cause::Cause;
 use crate::draft::Draft;
 use crate::entries::are_printable;
 use crate::entry::Entry;
@@ -12,7 +10,9 @@ use crate::reason::Reason;
 use crate::refused::Refused;
 use crate::span::Span;
 use crate::value::Value;
+use crate::value_lines::entry_of_value;
 use std::alloc::Global;
+use vss_names::OutOfMemory;
 
 /// The most bytes of all names, with a newline for each.
 const MOST_SOURCE: usize = 4_000_000_000;
@@ -27,100 +27,77 @@ pub(crate) struct Given {
     pub draft: Draft,
 }
 
+/// Where these bytes will be in a source, if they may be appended to it.
+#[tactic(auto, unfolding(crate::specs::Built::place_after))]
+fn place_after(source: &[u8], bytes: &[u8]) -> Result<Span, Reason>
+    requires { length source.now ≤ 4000000000 }
+    ensures value { result ≡ place_after source.now bytes.now }
+    ensures room { IfOk result (λ span. length source.now + length bytes.now + 1 ≤ 4000000000) }
+    ensures part { IfOk result (IsPart (length source.now + length bytes.now + 1)) }
+{
+    if !are_printable(bytes) {
+        return Err(Reason::BadByte);
+    }
+    if source.len() + bytes.len() + 1 > MOST_SOURCE {
+        return Err(Reason::TooMany);
+    }
+    let start = source.len() as u32;
+    let end = start + bytes.len() as u32;
+    Ok(Span { start, end })
+}
+
+/// Appends these bytes and a newline.
+fn push_line(source: &mut Vec<u8>, bytes: &[u8]) -> Result<(), OutOfMemory>
+    requires { vec_len source.old + length bytes.now + 1 ≤ 4000000000 }
+    ensures { OnOk result (source.new.items ≡ source.old.items ++ bytes.now ++ 10 ∷ []) }
+{
+    source.extend_from_slice(bytes)?;
+    source.push(b'\n')?;
+    Ok(())
+}
+
 impl Given {
-    /// With a name more in the source, and where that is.
-    fn take(self, bytes: &[u8]) -> Result<(Given, Span), Refused>
-        requires { Grows self }
-        ensures grows { IfOk result (λ p. Grows p.0) }
-        ensures draft { IfOk result (λ p. IsDraft p.0.source.items p.0.draft) }
-        ensures pushed { IfOk result (λ p. value_of p.0 ≡ pushed (value_of self) bytes.now) }
-        ensures part { IfOk result (λ p. IsPart (length p.0.source.items) p.1) }
-        ensures few { IfOk result (λ p. p.0.number < length p.0.source.items + 2) }
-        ensures next { IfOk result (λ p. (next : Next) →
-            given (value_of self) bytes.now next ≡ next (value_of p.0) p.1) }
-        ensures refused { IfErr result (λ refused. (next : Next) →
-            IsRefusedBy (given (value_of self) bytes.now next) refused) }
+    /// Takes in what a line says.
+    fn enter(&mut self, alloc: Global, entry: Entry) -> Result<(), OutOfMemory>
+        requires draft { IsDraft self.old.source.items self.old.draft }
+        requires few { self.old.number < 4294967295 }
+        requires entry { IsEntry self.old.source.items self.old.draft entry }
+        ensures { OnOk result (value_of self.new
+            ≡ with_saying (value_of self.old) (saying_in entry)) }
     {
-        let number = self.number;
-        if !are_printable(bytes) {
-            return Err(Refused::Line {
-                line: number,
-                reason: Reason::BadByte,
-            });
-        }
-        let mut source = self.source;
-        if source.len() + bytes.len() + 1 > MOST_SOURCE {
-            return Err(Refused::Line {
-                line: number,
-                reason: Reason::TooMany,
-            });
-        }
-        let start = source.len() as u32;
-        let end = start + bytes.len() as u32;
-        if source.extend_from_slice(bytes).is_err() {
-            return Err(Refused::OutOfMemory);
-        }
-        if source.push(b'\n').is_err() {
-            return Err(Refused::OutOfMemory);
-        }
-        let draft = self.draft;
-        Ok((
-            Given {
-                source,
-                number,
-                draft,
-            },
-            Span { start, end },
-        ))
+        self.draft.add(alloc, &self.source, entry)?;
+        self.number += 1;
+        Ok(())
     }
 
-    /// With what a line says.
-    fn add(self, alloc: Global, said: Result<Entry, Cause>) -> Result<Given, Refused>
-        requires grows { Grows self }
-        requires few { self.number < length self.source.items + 2 }
-        requires entry { IfOk said (IsEntry self.source.items self.draft) }
-        requires named { IfOk said (IsNewlyNamed self.source.items self.number) }
-        ensures grows { IfOk result Grows }
-        ensures built { IfOk result (λ g. added (value_of self) (told said) ≡ Ok (value_of g)) }
-        ensures refused { IfErr result (IsRefusedBy (added (value_of self) (told said))) }
+    /// Takes in what a value says, and the name that it has.
+    pub(crate) fn add(&mut self, alloc: Global, bytes: &[u8], value: Value) -> Result<(), Refused>
+        requires grows { Grows self.old }
+        requires value { IsValue value }
+        ensures grows { OnOk result (Grows self.new) }
+        ensures built { OnOk result (with_value (value_of self.old) bytes.now value
+            ≡ Ok (value_of self.new)) }
+        ensures refused { IfErr result (IsRefusedBy
+            (with_value (value_of self.old) bytes.now value)) }
     {
-        let number = self.number;
-        let entry = match said {
+        let line = self.number;
+        let name = match place_after(&self.source, bytes) {
+            Ok(name) => name,
+            Err(reason) => return Err(Refused::Line { line, reason }),
+        };
+        if push_line(&mut self.source, bytes).is_err() {
+            return Err(Refused::OutOfMemory);
+        }
+        let entry = match entry_of_value(&self.source, &self.draft, line, name, value) {
             Ok(entry) => entry,
             Err(cause) => {
-                return Err(Refused::Line {
-                    line: number,
-                    reason: cause.reason,
-                });
+                let reason = cause.reason;
+                return Err(Refused::Line { line, reason });
             }
         };
-        let source = self.source;
-        let mut draft = self.draft;
-        match draft.add(alloc, &source, entry) {
-            Ok(()) => Ok(Given {
-                source,
-                number: number + 1,
-                draft,
-            }),
+        match self.enter(alloc, entry) {
+            Ok(()) => Ok(()),
             Err(_) => Err(Refused::OutOfMemory),
-        }
-    }
-
-    /// With what a value says, and with the name that it has.
-    pub(crate) fn with(self, alloc: Global, bytes: &[u8], value: Value) -> Result<Given, Refused>
-        requires grows { Grows self }
-        requires value { IsValue value }
-        ensures grows { IfOk result Grows }
-        ensures built { IfOk result (λ g.
-            with_value (value_of self) bytes.now value ≡ Ok (value_of g)) }
-        ensures refused { IfErr result (IsRefusedBy (with_value (value_of self) bytes.now value)) }
-    {
-        match self.take(bytes) {
-            Ok((given, name)) => {
-                let said = entry_of_value(&given.source, &given.draft, given.number, name, value);
-                given.add(alloc, said)
-            }
-            Err(refused) => Err(refused),
         }
     }
 }

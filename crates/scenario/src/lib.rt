@@ -11,7 +11,6 @@
 //! writer's script.
 #![tactic(auto)]
 
-mod additions;
 mod area_row;
 mod asked;
 mod cause;
@@ -22,6 +21,7 @@ mod draft;
 mod entries;
 mod entry;
 mod expected;
+mod field;
 mod field_values;
 mod fields;
 mod given;
@@ -52,6 +52,7 @@ mod stopped;
 mod text_line;
 mod unread;
 mod value;
+mod value_lines;
 mod volume_row;
 mod word;
 mod writer;

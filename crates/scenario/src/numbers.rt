@@ -1,5 +1,5 @@
 //! Numbers as scenarios and reports write them.
-ghost use Rattle.std.specs.Prelude.{◌≡◌, ◌<◌, ◌≤◌, ◌+◌, length, IfOk};
+ghost use Rattle.std.specs.Prelude.{◌≡◌, ◌<◌, ◌≤◌, ◌+◌, Some, length, IfOk};
 ghost use Rattle.scenario.specs.Numbers.{is_digit, begins_number, value_from, in_range, number_in, capped};
 
 use crate::reason::Reason;
@@ -28,6 +28,16 @@ fn capped(value: u128, high: u64) -> u128
     if high < value { high + 1 } else { value }
 }
 
+/// A number, if it is from `low` to `high`.
+pub(crate) fn in_range(number: u64, low: u64, high: u64) -> Result<u64, Reason>
+    ensures { result ≡ in_range low high (Some number) }
+{
+    if low <= number && number <= high {
+        return Ok(number);
+    }
+    Err(Reason::OutOfRange)
+}
+
 /// The number that these digits are, from `low` to `high`.
 fn value_of(digits: &[u8], low: u64, high: u64) -> Result<u64, Reason>
     ensures { result ≡ in_range low high (value_from 0 digits.now) }
@@ -39,13 +49,10 @@ fn value_of(digits: &[u8], low: u64, high: u64) -> Result<u64, Reason>
         }
         value = capped(value * 10 + u128::from(*byte - b'0'), high);
     }
-    if value < u128::from(low) {
-        return Err(Reason::OutOfRange);
-    }
     if value > u128::from(high) {
         return Err(Reason::OutOfRange);
     }
-    Ok(value as u64)
+    in_range(value as u64, low, high)
 }
 
 /// The number that these bytes are, from `low` to `high`.

@@ -1,7 +1,7 @@
 //! The lines of a lane.
 ghost use Rattle.std.specs.Prelude.{◌≡◌, List, ℕ, length, IfOk};
 ghost use Rattle.scenario.specs.declared.volume_row.VolumeRow.{VolumeRow as Row};
-ghost use Rattle.scenario.specs.Fields.{AreParts};
+ghost use Rattle.scenario.specs.Fields.{AreFields};
 ghost use Rattle.scenario.specs.Bounds.{IsRanged};
 ghost use Rattle.scenario.specs.Drafts.{IsDraft, by_reason};
 ghost use Rattle.scenario.specs.Ops.{write_of, read_of, image_of, query_of, add_of, properties_of, revert_of, disable_of, delete_of, tick_of, begin_of, component_of, alone, op_of};
@@ -11,7 +11,7 @@ use crate::draft::Draft;
 use crate::expected::Expected;
 use crate::field_values::{
     block_field, is_word, long_field, number_field, set_and_volume, set_field, volume_alone,
-    volume_field, writer_alone, writer_field,
+    volume_field, writer_field,
 };
 use crate::fields::Fields;
 use crate::op::Op;
@@ -22,9 +22,9 @@ use crate::word::Word;
 pub(crate) const MOST_TICKS: u32 = 1_000_000_000;
 
 /// `write volume block fill x`, `write volume block stamp n`.
-#[tactic(auto, unfolding(crate::specs::Ops::write_of, crate::specs::Ops::number_field))]
+#[tactic(auto, unfolding(crate::specs::Ops::write_of))]
 fn write_of(text: &[u8], draft: &Draft, fields: Fields) -> Result<Op, Cause>
-    requires parts { AreParts (length text.now) fields }
+    requires parts { AreFields (length text.now) fields }
     requires draft { IsDraft text.now draft.now }
     ensures value { by_reason result ≡ write_of text.now draft.now.said.volumes fields }
     ensures ranged { IfOk result (IsRanged (length text.now) draft.now.said.volumes (length draft.now.said.writers)) }
@@ -55,8 +55,8 @@ fn write_of(text: &[u8], draft: &Draft, fields: Fields) -> Result<Op, Cause>
 
 /// `read volume block`.
 #[tactic(auto, unfolding(crate::specs::Ops::read_of))]
-fn read_of(text: &[u8], draft: &Draft, fields: Fields) -> Result<Op, Cause>
-    requires parts { AreParts (length text.now) fields }
+pub(crate) fn read_of(text: &[u8], draft: &Draft, fields: Fields) -> Result<Op, Cause>
+    requires parts { AreFields (length text.now) fields }
     requires draft { IsDraft text.now draft.now }
     ensures value { by_reason result ≡ read_of text.now draft.now.said.volumes fields }
     ensures ranged { IfOk result (IsRanged (length text.now) draft.now.said.volumes (length draft.now.said.writers)) }
@@ -71,8 +71,8 @@ fn read_of(text: &[u8], draft: &Draft, fields: Fields) -> Result<Op, Cause>
 
 /// `image set volume`, `image set volume block`.
 #[tactic(auto, unfolding(crate::specs::Ops::image_of))]
-fn image_of(text: &[u8], draft: &Draft, fields: Fields) -> Result<Op, Cause>
-    requires parts { AreParts (length text.now) fields }
+pub(crate) fn image_of(text: &[u8], draft: &Draft, fields: Fields) -> Result<Op, Cause>
+    requires parts { AreFields (length text.now) fields }
     requires draft { IsDraft text.now draft.now }
     ensures value { by_reason result ≡ image_of text.now draft.now.said.volumes fields }
     ensures ranged { IfOk result (IsRanged (length text.now) draft.now.said.volumes (length draft.now.said.writers)) }
@@ -94,8 +94,8 @@ fn image_of(text: &[u8], draft: &Draft, fields: Fields) -> Result<Op, Cause>
 }
 
 /// `query volume`.
-fn query_of(text: &[u8], draft: &Draft, fields: Fields) -> Result<Op, Cause>
-    requires parts { AreParts (length text.now) fields }
+pub(crate) fn query_of(text: &[u8], draft: &Draft, fields: Fields) -> Result<Op, Cause>
+    requires parts { AreFields (length text.now) fields }
     requires draft { IsDraft text.now draft.now }
     ensures value { by_reason result ≡ query_of text.now draft.now.said.volumes fields }
     ensures ranged { IfOk result (IsRanged (length text.now) draft.now.said.volumes (length draft.now.said.writers)) }
@@ -105,8 +105,8 @@ fn query_of(text: &[u8], draft: &Draft, fields: Fields) -> Result<Op, Cause>
 }
 
 /// `add volume`.
-fn add_of(text: &[u8], draft: &Draft, fields: Fields) -> Result<Op, Cause>
-    requires parts { AreParts (length text.now) fields }
+pub(crate) fn add_of(text: &[u8], draft: &Draft, fields: Fields) -> Result<Op, Cause>
+    requires parts { AreFields (length text.now) fields }
     requires draft { IsDraft text.now draft.now }
     ensures value { by_reason result ≡ add_of text.now draft.now.said.volumes fields }
     ensures ranged { IfOk result (IsRanged (length text.now) draft.now.said.volumes (length draft.now.said.writers)) }
@@ -116,8 +116,8 @@ fn add_of(text: &[u8], draft: &Draft, fields: Fields) -> Result<Op, Cause>
 }
 
 /// `properties set volume`.
-fn properties_of(text: &[u8], draft: &Draft, fields: Fields) -> Result<Op, Cause>
-    requires parts { AreParts (length text.now) fields }
+pub(crate) fn properties_of(text: &[u8], draft: &Draft, fields: Fields) -> Result<Op, Cause>
+    requires parts { AreFields (length text.now) fields }
     requires draft { IsDraft text.now draft.now }
     ensures value { by_reason result ≡ properties_of text.now draft.now.said.volumes fields }
     ensures ranged { IfOk result (IsRanged (length text.now) draft.now.said.volumes (length draft.now.said.writers)) }
@@ -127,8 +127,8 @@ fn properties_of(text: &[u8], draft: &Draft, fields: Fields) -> Result<Op, Cause
 }
 
 /// `revert set volume`.
-fn revert_of(text: &[u8], draft: &Draft, fields: Fields) -> Result<Op, Cause>
-    requires parts { AreParts (length text.now) fields }
+pub(crate) fn revert_of(text: &[u8], draft: &Draft, fields: Fields) -> Result<Op, Cause>
+    requires parts { AreFields (length text.now) fields }
     requires draft { IsDraft text.now draft.now }
     ensures value { by_reason result ≡ revert_of text.now draft.now.said.volumes fields }
     ensures ranged { IfOk result (IsRanged (length text.now) draft.now.said.volumes (length draft.now.said.writers)) }
@@ -138,20 +138,23 @@ fn revert_of(text: &[u8], draft: &Draft, fields: Fields) -> Result<Op, Cause>
 }
 
 /// `disable writer`.
-fn disable_of(text: &[u8], draft: &Draft, fields: Fields) -> Result<Op, Cause>
-    requires parts { AreParts (length text.now) fields }
+pub(crate) fn disable_of(text: &[u8], draft: &Draft, fields: Fields) -> Result<Op, Cause>
+    requires parts { AreFields (length text.now) fields }
     requires draft { IsDraft text.now draft.now }
     ensures value { by_reason result ≡ disable_of text.now draft.now.said.writers fields }
     ensures ranged { IfOk result (IsRanged (length text.now) draft.now.said.volumes (length draft.now.said.writers)) }
 {
-    let writer = writer_alone(text, draft, fields)?;
+    let Fields::One(writer) = fields else {
+        return Err(Cause::no_form());
+    };
+    let writer = writer_field(text, draft, writer)?;
     Ok(Op::Disable { writer })
 }
 
 /// `delete set`, `delete set volume`.
 #[tactic(auto, unfolding(crate::specs::Ops::delete_of))]
-fn delete_of(text: &[u8], draft: &Draft, fields: Fields) -> Result<Op, Cause>
-    requires parts { AreParts (length text.now) fields }
+pub(crate) fn delete_of(text: &[u8], draft: &Draft, fields: Fields) -> Result<Op, Cause>
+    requires parts { AreFields (length text.now) fields }
     requires draft { IsDraft text.now draft.now }
     ensures value { by_reason result ≡ delete_of text.now draft.now.said.volumes fields }
     ensures ranged { IfOk result (IsRanged (length text.now) draft.now.said.volumes (length draft.now.said.writers)) }
@@ -172,8 +175,8 @@ fn delete_of(text: &[u8], draft: &Draft, fields: Fields) -> Result<Op, Cause>
 
 /// `tick n`.
 #[tactic(auto, unfolding(crate::specs::Ops::tick_of))]
-fn tick_of(text: &[u8], fields: Fields) -> Result<Op, Cause>
-    requires { AreParts (length text.now) fields }
+pub(crate) fn tick_of(text: &[u8], fields: Fields) -> Result<Op, Cause>
+    requires { AreFields (length text.now) fields }
     ensures value { by_reason result ≡ tick_of text.now fields }
     ensures ranged { (n writers : ℕ) (rows : List Row) → IfOk result (IsRanged n rows writers) }
 {
@@ -187,7 +190,7 @@ fn tick_of(text: &[u8], fields: Fields) -> Result<Op, Cause>
 /// `begin n`, `begin n all`.
 #[tactic(auto, unfolding(crate::specs::Ops::begin_of))]
 fn begin_of(text: &[u8], fields: Fields) -> Result<Op, Cause>
-    requires { AreParts (length text.now) fields }
+    requires { AreFields (length text.now) fields }
     ensures value { by_reason result ≡ begin_of text.now fields }
     ensures ranged { (n writers : ℕ) (rows : List Row) → IfOk result (IsRanged n rows writers) }
 {
@@ -213,7 +216,7 @@ fn begin_of(text: &[u8], fields: Fields) -> Result<Op, Cause>
 /// `component writer rest`.
 #[tactic(auto, unfolding(crate::specs::Ops::component_of))]
 fn component_of(text: &[u8], draft: &Draft, fields: Fields) -> Result<Op, Cause>
-    requires parts { AreParts (length text.now) fields }
+    requires parts { AreFields (length text.now) fields }
     requires draft { IsDraft text.now draft.now }
     ensures value { by_reason result ≡ component_of text.now draft.now.said.writers fields }
     ensures ranged { IfOk result (IsRanged (length text.now) draft.now.said.volumes (length draft.now.said.writers)) }
@@ -222,6 +225,7 @@ fn component_of(text: &[u8], draft: &Draft, fields: Fields) -> Result<Op, Cause>
         return Err(Cause::no_form());
     };
     let writer = writer_field(text, draft, writer)?;
+    let full = full.span();
     Ok(Op::Component { writer, full })
 }
 
@@ -240,7 +244,7 @@ fn alone(op: Op, fields: Fields) -> Result<Op, Cause>
 /// What a line of a lane says, by its first word.
 #[tactic(auto, unfolding(crate::specs::Ops::op_of))]
 pub(crate) fn op_of(text: &[u8], draft: &Draft, word: Word, fields: Fields) -> Result<Op, Cause>
-    requires parts { AreParts (length text.now) fields }
+    requires parts { AreFields (length text.now) fields }
     requires draft { IsDraft text.now draft.now }
     ensures value { by_reason result ≡ op_of text.now draft.now.said.volumes draft.now.said.writers word fields }
     ensures ranged { IfOk result (IsRanged (length text.now) draft.now.said.volumes (length draft.now.said.writers)) }

@@ -121,7 +121,7 @@ pub fn parse(alloc: Global, text: &[u8]) -> Result<Scenario, Refused>
     ensures read { IfOk result (λ scenario. reading_of text.now ≡ IsScenario scenario) }
     ensures refused { IfErr result (IsRefusal text.now) }
 {
-    let mut draft = Draft::new(alloc);
+    let mut draft = Draft::new(alloc, false);
     let answer = parse_into(alloc, text, &mut draft);
     drop(draft);
     answer
@@ -165,7 +165,7 @@ pub fn refusal_of(alloc: Global, text: &[u8]) -> Result<Option<Refusal>, OutOfMe
     requires { length text.now < 4294967295 }
     ensures { IfOk result (λ refusal. option_map told_bad refusal ≡ first_bad (reading_of text.now)) }
 {
-    let mut draft = Draft::new(alloc);
+    let mut draft = Draft::new(alloc, false);
     let answer = refusal_in(alloc, text, &mut draft);
     drop(draft);
     answer

@@ -1,3 +1,6 @@
+ghost use Rattle.std.specs.Prelude.{◌≡◌};
+ghost use Rattle.scenario.specs.Messages.{name_of_quantity};
+
 use crate::span::Span;
 
 /// What a number of a line counts or numbers.
@@ -20,7 +23,9 @@ pub enum Quantity {
 
 impl Quantity {
     /// What it is called in the forms of lines.
-    pub fn name(self) -> &'static str {
+    pub fn name(self) -> &'static str
+        ensures { result.now ≡ name_of_quantity self }
+    {
         match self {
             Quantity::Version => "VERSION",
             Quantity::Slots => "SLOTS",

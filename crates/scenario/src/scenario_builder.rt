@@ -1,6 +1,6 @@
 ghost use Rattle.std.specs.Prelude.{◌≡◌, Ok, [], IfOk, IfErr};
 ghost use Rattle.scenario.specs.SoFar.{plan_in};
-ghost use Rattle.scenario.specs.Built.{nothing_built, with_value, IsRefusedBy};
+ghost use Rattle.scenario.specs.Built.{nothing_built, with_value, IsRefusedBy, IsValue};
 ghost use Rattle.scenario.specs.declared.value.Value.TheVariants as value;
 ghost use Rattle.writer_meta.specs.Metadata.{meta_of};
 ghost use Rattle.writer_meta.specs.Allowed.{IsAllowed};
@@ -44,9 +44,22 @@ impl ScenarioBuilder {
         let given = Given {
             source: Vec::new(alloc),
             number: 2,
-            draft: Draft::new(alloc),
+            draft: Draft::new(alloc, true),
         };
         ScenarioBuilder { given }
+    }
+
+    /// With what a value says, and with the name that it has.
+    fn with(self, alloc: Global, bytes: &[u8], value: Value) -> Result<ScenarioBuilder, Refused>
+        requires { IsValue value }
+        ensures built { IfOk result (λ b. with_value self bytes.now value ≡ Ok b) }
+        ensures refused { IfErr result (IsRefusedBy (with_value self bytes.now value)) }
+    {
+        let mut given = self.given;
+        match given.add(alloc, bytes, value) {
+            Ok(()) => Ok(ScenarioBuilder { given }),
+            Err(refused) => Err(refused),
+        }
     }
 
     /// Declares an area of so many slots, 0 to 65,536, which volumes share.
@@ -54,8 +67,7 @@ impl ScenarioBuilder {
         ensures built { IfOk result (λ b. with_value self name.now (value.Area slots) ≡ Ok b) }
         ensures refused { IfErr result (IsRefusedBy (with_value self name.now (value.Area slots))) }
     {
-        let given = self.given.with(alloc, name, Value::Area { slots })?;
-        Ok(ScenarioBuilder { given })
+        self.with(alloc, name, Value::Area { slots })
     }
 
     /// Declares a volume of so many blocks of 16 KiB, 1 to 65,536, with an area of its own, of so many slots.
@@ -71,10 +83,7 @@ impl ScenarioBuilder {
         ensures refused { IfErr result (IsRefusedBy
             (with_value self name.now (value.OwnVolume blocks slots))) }
     {
-        let given = self
-            .given
-            .with(alloc, name, Value::OwnVolume { blocks, slots })?;
-        Ok(ScenarioBuilder { given })
+        self.with(alloc, name, Value::OwnVolume { blocks, slots })
     }
 
     /// Declares a volume whose old blocks go to a declared area, which is named by its number.
@@ -90,10 +99,7 @@ impl ScenarioBuilder {
         ensures refused { IfErr result (IsRefusedBy
             (with_value self name.now (value.SharedVolume blocks area))) }
     {
-        let given = self
-            .given
-            .with(alloc, name, Value::SharedVolume { blocks, area })?;
-        Ok(ScenarioBuilder { given })
+        self.with(alloc, name, Value::SharedVolume { blocks, area })
     }
 
     /// Declares a writer, with metadata that their format allows, as those that were read of a document.
@@ -108,8 +114,7 @@ impl ScenarioBuilder {
         ensures refused { IfErr result (IsRefusedBy
             (with_value self name.now (value.Writer metadata))) }
     {
-        let given = self.given.with(alloc, name, Value::Writer(metadata))?;
-        Ok(ScenarioBuilder { given })
+        self.with(alloc, name, Value::Writer(metadata))
     }
 
     /// What a writer answers to the `nth` order of a kind, 1 to 2,000, where that is not ok.
@@ -123,8 +128,7 @@ impl ScenarioBuilder {
         ensures refused { IfErr result (IsRefusedBy
             (with_value self [] (value.Answer writer row))) }
     {
-        let given = self.given.with(alloc, b"", Value::Answer { writer, row })?;
-        Ok(ScenarioBuilder { given })
+        self.with(alloc, b"", Value::Answer { writer, row })
     }
 
     /// Begins a lane, to which the lines that follow belong. It may act as a writer.
@@ -138,8 +142,7 @@ impl ScenarioBuilder {
         ensures refused { IfErr result (IsRefusedBy
             (with_value self name.now (value.Lane acts_as))) }
     {
-        let given = self.given.with(alloc, name, Value::Lane { acts_as })?;
-        Ok(ScenarioBuilder { given })
+        self.with(alloc, name, Value::Lane { acts_as })
     }
 
     /// A line of the lane at hand.
@@ -147,8 +150,7 @@ impl ScenarioBuilder {
         ensures built { IfOk result (λ b. with_value self [] (value.Line op) ≡ Ok b) }
         ensures refused { IfErr result (IsRefusedBy (with_value self [] (value.Line op))) }
     {
-        let given = self.given.with(alloc, b"", Value::Line(op))?;
-        Ok(ScenarioBuilder { given })
+        self.with(alloc, b"", Value::Line(op))
     }
 
     /// The line that chooses a component of a writer by its full name.
@@ -163,8 +165,7 @@ impl ScenarioBuilder {
         ensures refused { IfErr result (IsRefusedBy
             (with_value self full.now (value.Component writer))) }
     {
-        let given = self.given.with(alloc, full, Value::Component { writer })?;
-        Ok(ScenarioBuilder { given })
+        self.with(alloc, full, Value::Component { writer })
     }
 
     /// The scenario. A lane that has begun a session and not ended it gets an `end`, as in a text.

@@ -1,12 +1,15 @@
 //! The lines that declare a writer and its answers.
 ghost use Rattle.std.specs.Prelude.{◌≡◌, ◌<◌, ◌≤◌, [], false, Ok, None, length, is_some, IfOk, IfErr};
 ghost use Rattle.scenario.specs.declared.entry.Entry.TheVariants as entry;
-ghost use Rattle.scenario.specs.Fields.{bytes_of, IsPart, AreParts};
+ghost use Rattle.scenario.specs.Fields.{bytes_of, span_of, IsPart, IsField, AreFields};
 ghost use Rattle.scenario.specs.Names.{place_of};
 ghost use Rattle.scenario.specs.SoFar.{answer_count};
 ghost use Rattle.scenario.specs.Bounds.{IsShortPart};
 ghost use Rattle.scenario.specs.Drafts.{AreCounts, by_reason, IsDraft, IsEntry, saying_in, told, IsUnread};
-ghost use Rattle.scenario.specs.Declarations.{order_field, code_field, is_answered, nth_field, asked_of, row_for, answer_if, lost_if, veto_if, answer_of, new_writer, writer_of};
+ghost use Rattle.scenario.specs.Declarations.{order_field, code_field, is_answered, nth_field, asked_of, row_for, answer_if, lost_if, veto_if, answer_of, new_writer, writer_if, writer_of};
+ghost use Rattle.scenario.specs.Built.{writer_said, answer_said};
+ghost use Rattle.writer_meta.specs.Metadata.{meta_of};
+ghost use Rattle.writer_meta.specs.Allowed.{IsAllowed};
 
 use crate::asked::Asked;
 use crate::cause::Cause;
@@ -14,6 +17,7 @@ use crate::declarations::name_field;
 use crate::draft::Draft;
 use crate::entry::Entry;
 use crate::expected::Expected;
+use crate::field::{Field, number};
 use crate::field_values::{is_word, number_field, writer_field};
 use crate::fields::{Fields, bytes_of};
 use crate::name_kind::NameKind;
@@ -26,15 +30,15 @@ use vss_names::{Order, WriterError};
 use writer_calls::{Answer, Scripted};
 use writer_meta::{MetaFault, Metadata};
 
-pub(crate) const MOST_WRITERS: usize = 64;
+const MOST_WRITERS: usize = 64;
 /// Of the orders of a kind that a script speaks of.
-pub(crate) const MOST_NTH: u32 = 2_000;
+const MOST_NTH: u32 = 2_000;
 /// Of the `answer` lines.
 const MOST_ANSWERS: usize = 10_000;
 
 /// The name of a writer that is new.
 #[tactic(auto, unfolding(crate::specs::Names::writer_named))]
-pub(crate) fn new_writer(text: &[u8], draft: &Draft, name: Span) -> Result<Span, Cause>
+fn new_writer(text: &[u8], draft: &Draft, name: Span) -> Result<Span, Cause>
     requires part { IsPart (length text.now) name }
     requires draft { IsDraft text.now draft.now }
     ensures value { by_reason result ≡ new_writer text.now draft.now.said name }
@@ -45,6 +49,36 @@ pub(crate) fn new_writer(text: &[u8], draft: &Draft, name: Span) -> Result<Span,
     name_field(text, NameKind::Writer, taken, name)
 }
 
+/// One writer more.
+fn writer_if(draft: &Draft, name: Span, metadata: Metadata) -> Result<Entry, Cause>
+    ensures value { told result ≡ writer_if draft.now.said name (meta_of metadata) }
+    ensures same { IfOk result (λ e. e ≡ entry.Writer name metadata) }
+    ensures few { IfOk result (λ e. length draft.now.said.writers < 64) }
+{
+    if draft.writers() >= MOST_WRITERS {
+        return Err(Cause::too_many("writers", MOST_WRITERS as u64));
+    }
+    Ok(Entry::Writer(name, metadata))
+}
+
+/// A writer with its metadata.
+pub(crate) fn writer_of_value(
+    text: &[u8],
+    draft: &Draft,
+    name: Span,
+    metadata: Metadata,
+) -> Result<Entry, Cause>
+    requires part { IsPart (length text.now) name }
+    requires draft { IsDraft text.now draft.now }
+    requires allowed { IsAllowed (meta_of metadata) }
+    requires no_lane { draft.now.said.lanes ≡ [] }
+    ensures value { told result ≡ writer_said text.now draft.now.said name (meta_of metadata) }
+    ensures kept { IfOk result (IsEntry text.now draft.now) }
+{
+    let name = new_writer(text, draft, name)?;
+    writer_if(draft, name, metadata)
+}
+
 /// `writer name rest`, the rest a metadata document.
 #[tactic(auto, unfolding(crate::specs::Declarations::writer_of))]
 pub(crate) fn writer_of(
@@ -53,7 +87,7 @@ pub(crate) fn writer_of(
     draft: &Draft,
     fields: Fields,
 ) -> Result<Entry, Unread>
-    requires parts { AreParts (length text.now) fields }
+    requires parts { AreFields (length text.now) fields }
     requires draft { IsDraft text.now draft.now }
     requires no_lane { draft.now.said.lanes ≡ [] }
     ensures read { IfOk result (λ entry. writer_of text.now draft.now.said fields ≡ Ok (saying_in entry)) }
@@ -63,11 +97,11 @@ pub(crate) fn writer_of(
     let Fields::Two(name, document) = fields else {
         return Err(Unread::Bad(Cause::no_form()));
     };
-    let name = match new_writer(text, draft, name) {
+    let name = match new_writer(text, draft, name.span()) {
         Ok(name) => name,
         Err(cause) => return Err(Unread::Bad(cause)),
     };
-    let metadata = match Metadata::from_json(alloc, bytes_of(text, document)) {
+    let metadata = match Metadata::from_json(alloc, bytes_of(text, document.span())) {
         Ok(metadata) => metadata,
         Err(MetaFault::OutOfMemory) => return Err(Unread::OutOfMemory),
         Err(_) => {
@@ -78,31 +112,31 @@ pub(crate) fn writer_of(
             )));
         }
     };
-    if draft.writers() >= MOST_WRITERS {
-        return Err(Unread::Bad(Cause::too_many("writers", MOST_WRITERS as u64)));
+    match writer_if(draft, name, metadata) {
+        Ok(entry) => Ok(entry),
+        Err(cause) => Err(Unread::Bad(cause)),
     }
-    Ok(Entry::Writer(name, metadata))
 }
 
 /// An order by its name.
-fn order_field(text: &[u8], span: Span) -> Result<Order, Cause>
-    requires { IsPart (length text.now) span }
-    ensures { by_reason result ≡ order_field text.now span }
+fn order_field(text: &[u8], field: Field) -> Result<Order, Cause>
+    requires { IsField (length text.now) field }
+    ensures { by_reason result ≡ order_field text.now (span_of field) }
 {
-    match Order::of_name(bytes_of(text, span)) {
+    match Order::of_name(bytes_of(text, field.span())) {
         Some(order) => Ok(order),
-        None => Err(Cause::field(Reason::UnknownWord, span, Expected::Order)),
+        None => Err(Cause::field(Reason::UnknownWord, field, Expected::Order)),
     }
 }
 
 /// The code of a veto by its name.
-fn code_field(text: &[u8], span: Span) -> Result<WriterError, Cause>
-    requires { IsPart (length text.now) span }
-    ensures { by_reason result ≡ code_field text.now span }
+fn code_field(text: &[u8], field: Field) -> Result<WriterError, Cause>
+    requires { IsField (length text.now) field }
+    ensures { by_reason result ≡ code_field text.now (span_of field) }
 {
-    match WriterError::of_name(bytes_of(text, span)) {
+    match WriterError::of_name(bytes_of(text, field.span())) {
         Some(error) => Ok(error),
-        None => Err(Cause::field(Reason::UnknownWord, span, Expected::Code)),
+        None => Err(Cause::field(Reason::UnknownWord, field, Expected::Code)),
     }
 }
 
@@ -112,18 +146,18 @@ fn nth_field(
     draft: &Draft,
     writer: u32,
     order: Order,
-    span: Span,
+    field: Field,
 ) -> Result<u32, Cause>
-    requires part { IsPart (length text.now) span }
+    requires part { IsField (length text.now) field }
     requires writer { writer < length draft.now.said.writers }
-    ensures value { by_reason result ≡ nth_field text.now draft.now.said.writers writer order span }
+    ensures value { by_reason result ≡ nth_field text.now draft.now.said.writers writer order field }
     ensures least { IfOk result (λ n. 0 < n) }
     ensures most { IfOk result (λ n. n ≤ 2000) }
     ensures new { IfOk result (λ n. is_answered draft.now.said.writers writer order n ≡ false) }
 {
-    let nth = number_field(text, Quantity::Nth, 1, MOST_NTH, span)?;
+    let nth = number_field(text, Quantity::Nth, 1, MOST_NTH, field)?;
     if draft.is_answered(writer, order, nth) {
-        return Err(Cause::field(Reason::DoubleName, span, Expected::NewAnswer));
+        return Err(Cause::field(Reason::DoubleName, field, Expected::NewAnswer));
     }
     Ok(nth)
 }
@@ -133,13 +167,13 @@ fn nth_field(
 fn asked_of(
     text: &[u8],
     draft: &Draft,
-    writer: Span,
-    order: Span,
-    nth: Span,
+    writer: Field,
+    order: Field,
+    nth: Field,
 ) -> Result<Asked, Cause>
-    requires writer { IsPart (length text.now) writer }
-    requires order { IsPart (length text.now) order }
-    requires nth { IsPart (length text.now) nth }
+    requires writer { IsField (length text.now) writer }
+    requires order { IsField (length text.now) order }
+    requires nth { IsField (length text.now) nth }
     requires draft { IsDraft text.now draft.now }
     ensures value { by_reason result ≡ asked_of text.now draft.now.said.writers writer order nth }
     ensures known { IfOk result (λ a. a.writer < length draft.now.said.writers) }
@@ -154,7 +188,7 @@ fn asked_of(
 }
 
 /// One row more.
-pub(crate) fn answer_if(draft: &Draft, asked: Asked, answer: Option<Answer>) -> Result<Entry, Cause>
+fn answer_if(draft: &Draft, asked: Asked, answer: Option<Answer>) -> Result<Entry, Cause>
     requires { AreCounts draft.now.said draft.now.counts }
     ensures value { told result ≡ answer_if draft.now.said asked answer }
     ensures same { IfOk result (λ e. e ≡ entry.Answer asked.writer (row_for asked answer)) }
@@ -173,9 +207,28 @@ pub(crate) fn answer_if(draft: &Draft, asked: Asked, answer: Option<Answer>) -> 
     ))
 }
 
+/// A row of the script of the writer with this number.
+#[tactic(auto, unfolding(crate::specs::Built::answer_said))]
+pub(crate) fn answer_of_value(
+    text: &[u8],
+    draft: &Draft,
+    writer: u32,
+    row: Scripted,
+) -> Result<Entry, Cause>
+    requires draft { IsDraft text.now draft.now }
+    requires no_lane { draft.now.said.lanes ≡ [] }
+    ensures value { told result ≡ answer_said text.now draft.now.said writer row }
+    ensures kept { IfOk result (IsEntry text.now draft.now) }
+{
+    let writer = writer_field(text, draft, number(writer))?;
+    let order = row.order;
+    let nth = nth_field(text, draft, writer, order, number(row.nth))?;
+    answer_if(draft, Asked { writer, order, nth }, row.answer)
+}
+
 /// A lost answer.
-fn lost_if(text: &[u8], draft: &Draft, kind: Span, asked: Asked) -> Result<Entry, Cause>
-    requires part { IsPart (length text.now) kind }
+fn lost_if(text: &[u8], draft: &Draft, kind: Field, asked: Asked) -> Result<Entry, Cause>
+    requires part { IsField (length text.now) kind }
     requires draft { IsDraft text.now draft.now }
     requires known { asked.writer < length draft.now.said.writers }
     requires least { 0 < asked.nth }
@@ -192,9 +245,15 @@ fn lost_if(text: &[u8], draft: &Draft, kind: Span, asked: Asked) -> Result<Entry
 }
 
 /// A veto.
-fn veto_if(text: &[u8], draft: &Draft, kind: Span, code: Span, asked: Asked) -> Result<Entry, Cause>
-    requires kind { IsPart (length text.now) kind }
-    requires code { IsPart (length text.now) code }
+fn veto_if(
+    text: &[u8],
+    draft: &Draft,
+    kind: Field,
+    code: Field,
+    asked: Asked,
+) -> Result<Entry, Cause>
+    requires kind { IsField (length text.now) kind }
+    requires code { IsField (length text.now) code }
     requires draft { IsDraft text.now draft.now }
     requires known { asked.writer < length draft.now.said.writers }
     requires least { 0 < asked.nth }
@@ -214,7 +273,7 @@ fn veto_if(text: &[u8], draft: &Draft, kind: Span, code: Span, asked: Asked) -> 
 /// `answer writer order nth lost`, `answer writer order nth veto code`.
 #[tactic(auto, unfolding(crate::specs::Declarations::answer_of))]
 pub(crate) fn answer_of(text: &[u8], draft: &Draft, fields: Fields) -> Result<Entry, Cause>
-    requires parts { AreParts (length text.now) fields }
+    requires parts { AreFields (length text.now) fields }
     requires draft { IsDraft text.now draft.now }
     requires no_lane { draft.now.said.lanes ≡ [] }
     ensures value { told result ≡ answer_of text.now draft.now.said fields }
