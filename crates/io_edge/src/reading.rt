@@ -1,4 +1,4 @@
-ghost use Rattle.std.specs.Prelude.{◌≡◌, ◌<◌, ◌≤◌, ◌↔◌, ◌⊎◌, [], length, IfOk, IfSome, OnOk, IsErrOf, Some};
+ghost use Rattle.std.specs.Prelude.{◌≡◌, ◌<◌, ◌≤◌, ◌↔◌, ◌⊎◌, ◌++◌, [], length, IfOk, IfSome, OnOk, IsErrOf, Some};
 ghost use Rattle.io_edge.specs.Messages.{message_of};
 ghost use Rattle.io_edge.specs.Streams.{Gave, GaveSome, IfGave};
 ghost use Rattle.io_edge.specs.declared.reading.ReadError.TheVariants as error;
@@ -53,6 +53,18 @@ impl From<OutOfMemory> for ReadError {
 /// How many bytes one call of a source is asked for.
 const PIECE: usize = 16384;
 
+/// Appends a piece. Where it lacks room, the room is made an eighth larger than the bytes and the piece: twice as much would take
+/// the memory of the bytes again.
+fn append(bytes: &mut Vec<u8>, piece: &[u8]) -> Result<(), OutOfMemory>
+    ensures { OnOk result (bytes.new.items ≡ bytes.old.items ++ piece.now) }
+{
+    if bytes.capacity() - bytes.len() < piece.len() {
+        bytes.reserve_exact(piece.len() + bytes.len() / 8)?;
+    }
+    bytes.extend_from_slice(piece)?;
+    Ok(())
+}
+
 /// Reads a source to its end, if that comes within `limit` bytes. After an error the bytes that were read are
 /// gone; a source that is too long may have given a piece past the limit.
 pub fn read_all<S: Source>(alloc: Global, source: &mut S, limit: usize) -> Result<Text, ReadError>
@@ -67,16 +79,16 @@ pub fn read_all<S: Source>(alloc: Global, source: &mut S, limit: usize) -> Resul
     ensures unfailed { IsErrOf result ReadError.TooLong ⊎ IsErrOf result ReadError.OutOfMemory → S.count source.new ≡ S.count source.old }
     ensures failed { IsErrOf result ReadError.Failed → Rose (S.count source.old) (S.count source.new) }
 {
-    let mut text = Text::new(alloc);
+    let mut bytes = Vec::new(alloc);
     let mut buffer = [0u8; PIECE];
     'pieces: loop {
         let n = source.read(&mut buffer)?;
         if n == 0 {
-            return Ok(text);
+            return Ok(Text::of(bytes));
         }
-        if limit - text.len() < n {
+        if limit - bytes.len() < n {
             return Err(ReadError::TooLong);
         }
-        text.add(&buffer[..n])?;
+        append(&mut bytes, &buffer[..n])?;
     }
 }
