@@ -56,6 +56,7 @@ pub mod Evicted
 pub mod CutTimes
 pub mod Properties
 pub mod CalmCourses
+pub mod CalmStages
 pub mod SetFailures
 pub mod Turns
 pub mod LastResult
@@ -68,6 +69,6 @@ pub mod Refusals
 pub mod Scripts
 pub mod KeptCopies
 pub mod Documents
-pub mod Consents
+pub mod Owing
 pub mod Promises
 pub mod Headline

@@ -91,7 +91,7 @@ no_member_before : (test : ℕ → Bool) (k : ℕ) (rows : List WriterRow) (w : 
 no_member_before test k [] w l = refl
 no_member_before test k (r ∷ rows) w l = head_member test k r rows w ∙ skips (test k) (k == w) (is_member (members_from test (k + 1) rows) w) (beyond k w l) ∙ no_member_before test (k + 1) rows w (still_less k w l)
 
-members_from_are : (test : ℕ → Bool) (k : ℕ) (rows : List WriterRow) (w : ℕ) → k ≤ w → is_member (members_from test k rows) w ≡ (nat_lt w (k + length rows) && test w)
+pub members_from_are : (test : ℕ → Bool) (k : ℕ) (rows : List WriterRow) (w : ℕ) → k ≤ w → is_member (members_from test k rows) w ≡ (nat_lt w (k + length rows) && test w)
 members_from_are test k [] w l = sym (outside_is (nat_lt w (k + 0)) (test w) (none_from k w l))
 members_from_are test k (r ∷ rows) w l =
     head_member test k r rows w
