@@ -29,6 +29,7 @@ use Rattle.vss_model.specs.Laws.{IsKeptByChanges, IsKeptByWrites}
 use Rattle.vss_model.proofs.OrderlyActs.{kept_by_changes as orderly_kept, kept_by_writes as orderly_writes, orderly}
 use Rattle.vss_model.proofs.Rule.{on_after}
 use Rattle.vss_model.proofs.LogRule.{course-step_made}
+use Rattle.promises.proofs.Truth.{not_both}
 use Rattle.promises.proofs.BusyAgendas.{IsBusy, busy_set}
 use Rattle.promises.proofs.CalmCourses.{CalmOrBusy, calm_begun, calm_answered, calm_stepped, calm_timed}
 use Rattle.promises.proofs.SetFailures.{session_made}
@@ -73,11 +74,8 @@ module _ (st : State) (h : IsCalmOrderly st) where
       goes : (o n : SetOutcome) → st.course.outcome ≡ o → c.outcome ≡ n → has_failed n ≡ true → (has_failed o ≡ false → ⊥) ⊎ (o ≡ RunningSet)
       goes o n e f failed = by_calm calm
         where
-          differ : (b : Bool) → b ≡ true → b ≡ false → ⊥
-          differ b e f = cc
-
           by_calm : CalmOrBusy st.course c → (has_failed o ≡ false → ⊥) ⊎ (o ≡ RunningSet)
-          by_calm (inl k) = inl (λ g. differ (has_failed n) failed (sym (ap has_failed f) ∙ k (ap has_failed e ∙ g)))
+          by_calm (inl k) = inl (λ g. not_both (has_failed n) failed (sym (ap has_failed f) ∙ k (ap has_failed e ∙ g)))
           by_calm (inr k) = inr (busy_runs k o e)
 
       -- a set that has failed before

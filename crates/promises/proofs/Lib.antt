@@ -58,6 +58,7 @@ pub mod Properties
 pub mod CalmCourses
 pub mod CalmStages
 pub mod SetFailures
+pub mod Truth
 pub mod Turns
 pub mod LastResult
 pub mod Progress

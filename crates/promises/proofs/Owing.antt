@@ -64,15 +64,14 @@ use Rattle.promises.specs.Way.{Deed, Spoke, deeds_lost, is_pending}
 use Rattle.promises.specs.Owed.{Asking, ToIdentify, ForConsent, AtCompletion, order_for, asks, step_for, is_asked_of, counts, is_reply, owes_after, owes_if, owes_from, owes, NobodyOwes}
 use Rattle.promises.specs.InOrder.{Step, ByGather, ByPrepare, ByComplete, progress, is_step}
 use Rattle.promises.specs.Participants.{is_writer, choosing}
+use Rattle.promises.proofs.Truth.{and_true, both_are, both_parts, equal, false_of, left_part, not_false, not_true, right_part, same_number}
 use Rattle.promises.proofs.Scripts.{kept_test, kept_among}
 use Rattle.promises.proofs.Speaks.{deed_at, deed_in, said_at, Grows, made_now, lost_told, grows_answered, grows_stepped, grows_timed}
-use Rattle.promises.proofs.Stages.{left_part, right_part, both_are, false_of, both_parts, same_number, equal}
 use Rattle.promises.proofs.BusyAgendas.{course_followed}
 use Rattle.promises.proofs.ByEvent.{Covers, covered, after_enabled, after_not_enabled}
 use Rattle.promises.proofs.CalmCourses.{calm_begun}
 use Rattle.promises.proofs.Clock.{write_ticks}
-use Rattle.promises.proofs.Heard.{not_true}
-use Rattle.promises.proofs.Progress.{stage_of, StandsAt, stands_all, both_true, is_opened, is_started, is_done as is_done_stage, snapshots}
+use Rattle.promises.proofs.Progress.{stage_of, StandsAt, stands_all, is_opened, is_started, is_done as is_done_stage, snapshots}
 use Rattle.promises.proofs.Turns.{Turn, begun_turn, answer_turn, tick_turn, step_turn}
 use Rattle.promises.proofs.Members.{members_from_are}
 use Rattle.promises.proofs.CalmStages.{IsCalm, calm_kept, calm_always}
@@ -149,11 +148,7 @@ both b e f = absurd cc
 -- what is said at the open place counts, where it fails no set
 counts_at : (i : Asking) (g : Group) (said : Said) → g ≡ Orders (order_for i) → (fails_set (order_of g) && not (is_ok said)) ≡ false → counts i said ≡ true
 counts_at ToIdentify g said e f = refl
-counts_at ForConsent g said e f = by_ok (is_ok said) (ap (λ x. fails_set (order_of x) && not (is_ok said)) (sym e) ∙ f)
-  where
-    by_ok : (b : Bool) → not b ≡ false → b ≡ true
-    by_ok true e = refl
-    by_ok false e = absurd cc
+counts_at ForConsent g said e f = not_false (is_ok said) (ap (λ x. fails_set (order_of x) && not (is_ok said)) (sym e) ∙ f)
 counts_at AtCompletion g said e f = refl
 
 own_reply : (i : Asking) (g : Group) (said : Said) (now u w : ℕ) → g ≡ Orders (order_for i) → (fails_set (order_of g) && not (is_ok said)) ≡ false → (u == w) ≡ true
@@ -384,13 +379,13 @@ complete_not ForConsent e = (λ f. cc, λ f. cc)
 complete_not AtCompletion e = absurd cc
 
 opened_now : (q : Session) → (is_stage q.stage Opened && has_writers q.context) ≡ true → q.stage ≡ Opened
-opened_now q e = is_opened q.stage (both_true (is_stage q.stage Opened) (has_writers q.context) e).0
+opened_now q e = is_opened q.stage (both_parts (is_stage q.stage Opened) (has_writers q.context) e).0
 
 started_now : (q : Session) → (is_stage q.stage Started && has_writers q.context) ≡ true → (q.stage ≡ Started) × (has_writers q.context ≡ true)
-started_now q e = let parts = both_true (is_stage q.stage Started) (has_writers q.context) e in (is_started q.stage parts.0, parts.1)
+started_now q e = let parts = both_parts (is_stage q.stage Started) (has_writers q.context) e in (is_started q.stage parts.0, parts.1)
 
 done_now : (q : Session) → (is_stage q.stage Done && has_writers q.context) ≡ true → q.stage ≡ Done
-done_now q e = is_done_stage q.stage (both_true (is_stage q.stage Done) (has_writers q.context) e).0
+done_now q e = is_done_stage q.stage (both_parts (is_stage q.stage Done) (has_writers q.context) e).0
 
 not_snapshot : (i : Asking) → Snapshot ≡ kind_for i → ⊥
 not_snapshot ToIdentify e = cc
@@ -418,14 +413,10 @@ module _ (s : Plan) (so_far : List Act) (i : Asking) (w : ℕ) where
     abbrev Next : Event → Mark → Replied → Type 0
     Next event mark x = Stands i w x.1 (owes_after i w s so_far event x.0 x.1.clock c)
 
-    and_nothing : (b : Bool) → (b && true) ≡ b
-    and_nothing true = refl
-    and_nothing false = refl
-
     -- a line that tells nothing
     line_flag : (lane now : ℕ) (o : Op) (told : Reply) → line_ticks o ≡ None → (asks o i && is_pending told) ≡ false → c ≡ owes_after i w s so_far (Line lane o) told now c
     line_flag lane now o told e f =
-        sym (and_nothing c)
+        sym (and_true c)
         ∙ ap (λ b. (if b then is_asked_of w i s so_far else c) && true) (sym f)
         ∙ ap (λ x. (if asks o i && is_pending told then is_asked_of w i s so_far else c) && not
         (list_any (is_reply i w) (deeds_lost now (lost_order_if (lost_after x st) (order_now (left_now st))) (lost_after x st)))) (sym e)
