@@ -16,7 +16,7 @@ use Rattle.vss_play.specs.declared.play_fault.PlayFault.{PlayFault}
 use Rattle.vss_play.specs.declared.play_fault.PlayFault.TheVariants.{Failed, OutOfMemory}
 use Rattle.vss_play.specs.Played.{Played, IsFresh, IsKept, IsOnward, IsPlayedInTurn, IsEnded, AreInTurn, tells_in}
 use Rattle.vss_play.specs.Acting.{IsLedBy}
-use Rattle.vss_main.proofs.Ran.{complete_moved, fault-of}
+use Rattle.vss_play.proofs.MakerCount.{complete_moved}
 use Rattle.orders.specs.declared.entry.Entry.{Entry}
 use Rattle.orders.specs.declared.unplayed.Unplayed.{Unplayed}
 use Rattle.orders.specs.declared.why.Why.{Why}

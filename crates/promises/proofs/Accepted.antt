@@ -38,6 +38,7 @@ use Rattle.vss_model.proofs.OrderlyActs.{orderly}
 use Rattle.promises.specs.Accepted.{is_ordered, is_accepted, can_name_in, can_name, has_place, has_volume, has_its_wants, IsAccepting, is_context, AcceptsInOrder}
 use Rattle.promises.specs.InOrder.{Step, ByBegin, ByGather, ByStart, ByPrepare, BySnapshot, ByComplete, ByFailure, Progress, progress, step_code, is_step, asks_writers, comes_now}
 use Rattle.promises.specs.Participants.{is_fine}
+use Rattle.promises.proofs.Truth.{and_true, not_both}
 use Rattle.promises.proofs.Progress.{stage_of, StandsAt, stands_all}
 
 -- ## the checks
@@ -287,11 +288,8 @@ module _ (s : Plan) (so_far : List Act) (lane : ℕ) where
       → is_accepted (called c s lane o st).0 ≡ true → IsAccepting st o (called c s lane o st).0
   told_call c o same k e = by_session st.session refl
     where
-      both : (b : Bool) → b ≡ true → b ≡ false → ⊥
-      both b e f = cc
-
       by_session : (x : Option Session) → st.session ≡ x → IsAccepting st o (called c s lane o st).0
-      by_session None f = absurd (both (is_accepted (called c s lane o st).0) e (no_session s st lane is_accepted refl refl o c f same))
+      by_session None f = absurd (not_both (is_accepted (called c s lane o st).0) e (no_session s st lane is_accepted refl refl o c f same))
       by_session (Some q) f =
           let is = tells s st lane c o q f same e in
           subst (IsAccepting st o) (sym is) (k q (ap is_accepted (sym is) ∙ e))
@@ -376,10 +374,6 @@ module _ (s : Plan) (so_far : List Act) (lane : ℕ) where
           ∙ beside (q.owner == lane) may (runs st)
           ∙ ap (λ x. owns x lane && may) (sym e)
 
-  and_true : (b : Bool) → (b && true) ≡ b
-  and_true true = refl
-  and_true false = refl
-
   rows_told : owns st.session lane ≡ true → (called call.Status s lane op.Status st).0 ≡ StatusOf st.course.rows
   unfolding called
   rows_told e = by_session st.session refl
@@ -390,10 +384,7 @@ module _ (s : Plan) (so_far : List Act) (lane : ℕ) where
       by_verdict false busy x q e f = absurd cc
 
       by_session : (x : Option Session) → st.session ≡ x → (called call.Status s lane op.Status st).0 ≡ StatusOf st.course.rows
-      by_session None f = absurd (both (owns st.session lane) e (ap (λ x. owns x lane) f))
-        where
-          both : (b : Bool) → b ≡ true → b ≡ false → ⊥
-          both b e f = cc
+      by_session None f = absurd (not_both (owns st.session lane) e (ap (λ x. owns x lane) f))
       by_session (Some q) f =
           ap (λ x. (judged (check_other x (runs st) lane call.Status) s lane op.Status st).0) f ∙ by_verdict (q.owner == lane) (runs st) st.session q (ap (λ x. owns x lane) (sym f) ∙ e) f
           ∙ ap (λ x. (line_in s lane op.Status x st).0) f
@@ -411,5 +402,5 @@ accepts_in_order s so_far act =
       begins = λ lane n all e. ap is_fine (line_reply s st act (Line lane (op.Begin n all)) e) ∙ begin_line s so_far lane n all;
       aborts = λ lane e. ap is_fine (line_reply s st act (Line lane op.Abort) e) ∙ beside_call s so_far lane call.Abort op.Abort (is_some (in_progress st)) refl refl refl refl (λ q f. makes_its_set s so_far lane q f) (λ q. refl);
       tells_rows = λ lane e f. line_reply s st act (Line lane op.Status) e ∙ rows_told s so_far lane f;
-      ends = λ lane e. ap is_fine (line_reply s st act (Line lane op.End) e) ∙ beside_call s so_far lane call.End op.End true refl refl refl refl (λ q f. refl) (λ q. refl) ∙ and_true s so_far lane (owns st.session lane);
+      ends = λ lane e. ap is_fine (line_reply s st act (Line lane op.End) e) ∙ beside_call s so_far lane call.End op.End true refl refl refl refl (λ q f. refl) (λ q. refl) ∙ and_true (owns st.session lane);
     }

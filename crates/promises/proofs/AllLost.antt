@@ -14,8 +14,8 @@ use Rattle.set_agenda.specs.Advance.{others, others_if, asks_unfailed, unasked, 
 use Rattle.set_agenda.specs.Agenda.{Agenda, Entry, Open, places, is_orders, same_place, waited_for, with_group, left_from, groups_left, open_place, waits_now, is_among, at_place}
 use Rattle.set_agenda.specs.Limits.{last_time, opened_at, freeze_opened_at, first_hold, hold_runs, freeze_runs, answer_runs, runs_if, hold_running, running_at, spent_of}
 use Rattle.set_agenda.proofs.GroupsLeft.{groups_left-all_say}
+use Rattle.promises.proofs.Truth.{both_parts, not_both, not_true, right_part}
 use Rattle.promises.proofs.Speaks.{Speaks}
-use Rattle.promises.proofs.Stages.{both_parts}
 use Rattle.promises.proofs.NotSpent.{at_once, none_both, unspent_if, unspent_hold, is_mild}
 use Rattle.promises.proofs.OpenGroup.{speaks_some, last_new}
 use Rattle.promises.proofs.OneMore.{Ordered, InTime, more, ordered_more, mild_stays}
@@ -40,10 +40,6 @@ abbrev Apart : Place → List Open → Type 0
 Apart p [] = Unit {0}
 Apart p (o ∷ os) = (same_place p o.place ≡ false) × Apart p os
 
-not_so : (b : Bool) → not b ≡ true → b ≡ false
-not_so true e = absurd cc
-not_so false e = refl
-
 apart_group : (p q : Place) (ws : List ℕ) (later : List Open) → same_place p q ≡ false → Apart p later → Apart p (with_group q ws later)
 apart_group p q [] later e h = h
 apart_group p q (w ∷ ws) later e h = (e, h)
@@ -52,7 +48,7 @@ apart_left : (a : Agenda) (p : Place) (qs : List Place) → none_same p qs ≡ t
 apart_left a p [] e = tt
 apart_left a p (q ∷ qs) e =
     let parts = both_parts (not (same_place p q)) (none_same p qs) e in
-    apart_group p q (waited_for a q) (left_from a qs) (not_so (same_place p q) parts.0) (apart_left a p qs parts.1)
+    apart_group p q (waited_for a q) (left_from a qs) (not_true (same_place p q) parts.0) (apart_left a p qs parts.1)
 
 first_apart : (p : Place) (ws : List ℕ) (later : List Open) (o : Open) (os : List Open) → Apart p later → (later ≡ o ∷ os → Apart o.place os) → with_group p ws later ≡ o ∷ os → Apart o.place os
 first_apart p [] later o os h ih e = ih e
@@ -79,14 +75,10 @@ apart_unasked_if false p ws os h = h
 
 keeps_none : (ws xs : List ℕ) → ((x : ℕ) → is_among x xs ≡ true → is_among x ws ≡ true) → others ws xs ≡ []
 keeps_none ws [] h = refl
-keeps_none ws (x ∷ xs) h = by_among (is_among x ws) (h x (first x (is_among x xs))) (keeps_none ws xs (λ y e. h y (later (x == y) (is_among y xs) e)))
+keeps_none ws (x ∷ xs) h = by_among (is_among x ws) (h x (first x (is_among x xs))) (keeps_none ws xs (λ y e. h y (right_part (x == y) (is_among y xs) e)))
   where
     first : (a : ℕ) (b : Bool) → ((a == a) || b) ≡ true
     first a b = grind arith
-
-    later : (a b : Bool) → b ≡ true → (a || b) ≡ true
-    later true b e = refl
-    later false b e = e
 
     by_among : (b : Bool) → b ≡ true → others ws xs ≡ [] → (if not b then x ∷ others ws xs else others ws xs) ≡ []
     by_among true e ih = ih
@@ -138,13 +130,10 @@ module _ (now : ℕ) (a : Agenda) (asks : is_orders (open_place (groups_left a))
       let off = mild_alone x.place.group (mild_stays now Lost ws a who order a.kind refl mild x xs g) in
       none_both now (hold_running x.place.group (first_hold next.log) ++ runs_if (freeze_runs x.place.group) FreezeLimit (freeze_opened_at next) f) (runs_if (answer_runs x.place.group) AnswerLimit (opened_at next x) answer_limit)
       (none_both now (hold_running x.place.group (first_hold next.log)) (runs_if (freeze_runs x.place.group) FreezeLimit (freeze_opened_at next) f)
-      (unspent_hold now x.place.group (first_hold next.log) (λ since e i. absurd (both (hold_runs x.place.group) i off.0)))
-      (unspent_if (freeze_runs x.place.group) FreezeLimit (freeze_opened_at next) f now (λ i. absurd (both (freeze_runs x.place.group) i off.1))))
+      (unspent_hold now x.place.group (first_hold next.log) (λ since e i. absurd (not_both (hold_runs x.place.group) i off.0)))
+      (unspent_if (freeze_runs x.place.group) FreezeLimit (freeze_opened_at next) f now (λ i. absurd (not_both (freeze_runs x.place.group) i off.1))))
       (unspent_if (answer_runs x.place.group) AnswerLimit (opened_at next x) answer_limit now (λ i. at_once now (opened_at next x) answer_limit opened))
     where
-      both : (b : Bool) → b ≡ true → b ≡ false → ⊥
-      both b e f = cc
-
       opened : opened_at next x ≡ now
       opened =
           ap (λ us. last_time a.begun (filter (λ (y : Entry). not (same_place y.place x.place)) (a.log ++ map (at_place (open_place (groups_left a)) Lost now) us))) (speaks_some a ws who).is

@@ -25,6 +25,7 @@ use Rattle.vss_model.proofs.OneCut.{row_number, kept_point}
 use Rattle.vss_model.proofs.Volumes.{at}
 use Rattle.promises.specs.Clock.{ticks_if}
 use Rattle.promises.specs.Answers.{answer_of, AreGone, AnswersSay}
+use Rattle.promises.proofs.Truth.{second_both}
 use Rattle.promises.proofs.ByEvent.{after_enabled}
 use Rattle.promises.proofs.Clock.{clock_after}
 use Rattle.promises.proofs.Done.{dropped_gone}
@@ -134,10 +135,6 @@ one_lost n v (suc u) (h ∷ hs) e = by_case (has_image n h) (one_lost n (v + 1) 
 deleted_same : (j k : ℕ) → Deleted j ≡ Deleted k → j ≡ k
 deleted_same j k e = cc
 
-both_parts : (a b : Bool) → (a && b) ≡ true → b ≡ true
-both_parts true b e = e
-both_parts false b e = absurd cc
-
 module _ (st : State) where
   set_says : (n k : ℕ) → (delete_set n st).0 ≡ Deleted k → AreGone k n st (delete_set n st).1
   unfolding delete_set
@@ -151,7 +148,7 @@ module _ (st : State) where
           → AreGone k n st (if b then (Deleted (count_images n st.volumes), record st { volumes = map (dropped n) st.volumes }) else delete_kept 0 None st).1
       by_case true f e =
           let same = deleted_same (count_images n st.volumes) k e in
-          (subst (λ j. 0 < j) same (some (count_images n st.volumes) (both_parts (is_kept_set st n) (nat_lt 0 (count_images n st.volumes)) f)), sym same ∙ sym (all_lost n 0 st.volumes))
+          (subst (λ j. 0 < j) same (some (count_images n st.volumes) (second_both (is_kept_set st n) (nat_lt 0 (count_images n st.volumes)) f)), sym same ∙ sym (all_lost n 0 st.volumes))
       by_case false f e = absurd cc
 
   image_says : (n v k : ℕ) → (delete_image n v st).0 ≡ Deleted k → AreGone k n st (delete_image n v st).1

@@ -1,5 +1,5 @@
 -- Whoever has an order to answer is one whom it is for.
-use Rattle.std.proofs.Common.{◌≡◌, ◌∙◌, ℕ, ◌+◌, ◌==◌, List, [], ◌∷◌, Option, Some, None, refl, Bool, true, false, ap, sym, subst, map, filter, fold, arith}
+use Rattle.std.proofs.Common.{◌≡◌, ◌∙◌, ℕ, ◌+◌, ◌==◌, List, [], ◌∷◌, Option, Some, None, refl, Bool, true, false, ap, sym, subst, map, filter, fold}
 use Rattle.std.specs.Prelude.{◌&&◌, ◌||◌, not, is_some, if◌then◌else◌}
 use Rattle.std.specs.List.{list_any}
 use Rattle.std.proofs.lemmas.List.Folds.{list_any-append}
@@ -36,6 +36,7 @@ use Rattle.vss_model.proofs.HeldOfSet.{Follows, goes_answered, goes_stepped, goe
 use Rattle.vss_model.proofs.OrderlyActs.{orderly}
 use Rattle.promises.specs.Asked.{IsFor, AsksItsOwn}
 use Rattle.promises.specs.Participants.{choosing}
+use Rattle.promises.proofs.Truth.{equal, not_true, right_part, second_both}
 use Rattle.promises.proofs.BusyAgendas.{course_followed}
 use Rattle.promises.proofs.ByEvent.{Covers, covered, after_enabled, after_not_enabled}
 use Rattle.promises.proofs.OpenGroup.{every, in_kind}
@@ -61,17 +62,13 @@ member_filter : (test : Member → Bool) (ms : List Member) (w : ℕ) → is_mem
 member_filter test [] w e = absurd cc
 member_filter test (m ∷ ms) w e = by_test (test m) e (member_filter test ms w)
   where
-    or_right : (a b : Bool) → b ≡ true → (a || b) ≡ true
-    or_right true b e = refl
-    or_right false b e = e
-
     either : (a b c : Bool) → (b ≡ true → c ≡ true) → (a || b) ≡ true → (a || c) ≡ true
     either true b c f e = refl
     either false b c f e = f e
 
     by_test : (b : Bool) → is_member (if b then m ∷ filter test ms else filter test ms) w ≡ true → (is_member (filter test ms) w ≡ true → is_member ms w ≡ true) → ((m.writer == w) || is_member ms w) ≡ true
     by_test true e ih = either (m.writer == w) (is_member (filter test ms) w) (is_member ms w) ih e
-    by_test false e ih = or_right (m.writer == w) (is_member ms w) (ih e)
+    by_test false e ih = right_part (m.writer == w) (is_member ms w) (ih e)
 
 writers_are : (ms : List Member) (w : ℕ) → is_among w (map (λ (m : Member). m.writer) ms) ≡ is_member ms w
 writers_are [] w = refl
@@ -95,9 +92,6 @@ members_pass test k [] w e = absurd cc
 members_pass test k (r ∷ rows) w e =
     by_test (test k) refl (sym (list_any-append (λ (m : Member). m.writer == w) (member_if (test k) k r) (members_from test (k + 1) rows)) ∙ e) (members_pass test (k + 1) rows w)
   where
-    equal : (a b : ℕ) → (a == b) ≡ true → a ≡ b
-    equal a b e = grind arith
-
     by_head : (c : Bool) → (k == w) ≡ c → test k ≡ true → ((c || false) || is_member (members_from test (k + 1) rows) w) ≡ true → (is_member (members_from test (k + 1) rows) w ≡ true → test w ≡ true) → test w ≡ true
     by_head true f g e ih = ap test (sym (equal k w f)) ∙ g
     by_head false f g e ih = ih e
@@ -201,10 +195,6 @@ module _ (s : Plan) where
     either true x y h i = h
     either false x y h i = i
 
-    not_off : (b : Bool) → not b ≡ true → b ≡ false
-    not_off true e = absurd cc
-    not_off false e = refl
-
     asks_all : Covers Next s st
     asks_all = record {
       stays = λ lane o mark told e f. h;
@@ -215,7 +205,7 @@ module _ (s : Plan) where
       ticks = λ lane n mark. on_tick n;
       begins = λ lane n all c mark e ctx. h;
       disables = λ lane w q mark g. asks_none s st.course.agenda _ g.quiet;
-      gathers = λ lane q mark g. asks_followed true _ st (asks_begun kind.Gather _ [] st.clock (record st.course { rows = map row_gathered st.course.rows }) (λ w e. not_off (is_disabled s st w) (members_pass (λ x. not (is_disabled s st x)) 0 _ w e)));
+      gathers = λ lane q mark g. asks_followed true _ st (asks_begun kind.Gather _ [] st.clock (record st.course { rows = map row_gathered st.course.rows }) (λ w e. not_true (is_disabled s st w) (members_pass (λ x. not (is_disabled s st x)) 0 _ w e)));
       names = λ lane w full q explicit mark g named. h;
       starts = λ lane q mark g e. h;
       adds = λ lane v r q mark g e f. h;
@@ -273,10 +263,6 @@ module _ (s : Plan) (so_far : List Act) (w : ℕ) (order : Order) where
   now_open true x e = (refl, e)
   now_open false x e = absurd cc
 
-  both_true : (a b : Bool) → (a && b) ≡ true → b ≡ true
-  both_true true b e = e
-  both_true false b e = absurd cc
-
   same_order : (o p : Order) → Some o ≡ Some p → o ≡ p
   same_order o p e = cc
 
@@ -311,11 +297,7 @@ module _ (s : Plan) (so_far : List Act) (w : ℕ) (order : Order) where
 
   module _ (a : Agenda) (o : Open) (os : List Open) (runs_is : st.course.agenda ≡ Some a) (open_is : groups_left a ≡ o ∷ os) (order_is : order_of o.place.group ≡ Some order) where
     others : (k : Kind) → a.kind ≡ k → every (λ q. not (is_identify q.group)) (places k) ≡ true → is_member st.course.members w ≡ true → IsFor s so_far w order
-    others k e f m = for_other order (λ i. no_identify o.place.group (not_off (is_identify o.place.group) (in_kind (λ q. not (is_identify q.group)) k a o os e f open_is)) (order_is ∙ ap Some i)) m
-      where
-        not_off : (b : Bool) → not b ≡ true → b ≡ false
-        not_off true e = absurd cc
-        not_off false e = refl
+    others k e f m = for_other order (λ i. no_identify o.place.group (not_true (is_identify o.place.group) (in_kind (λ q. not (is_identify q.group)) k a o os e f open_is)) (order_is ∙ ap Some i)) m
 
     by_kind : (k : Kind) → a.kind ≡ k → IsOfKind s k st.course w → IsFor s so_far w order
     by_kind kind.Gather e m =
@@ -329,7 +311,7 @@ module _ (s : Plan) (so_far : List Act) (w : ℕ) (order : Order) where
   asked_now a [] e f h g = absurd cc
   asked_now a (o ∷ os) e f h g =
       let open_now = now_open (is_orders o.place.group && is_among w o.waits) (order_of o.place.group) g in
-      let waits = subst (λ ws. is_among w ws ≡ true) (waits_are a (places a.kind) o os f) (both_true (is_orders o.place.group) (is_among w o.waits) open_now.0) in
+      let waits = subst (λ ws. is_among w ws ≡ true) (waits_are a (places a.kind) o os f) (second_both (is_orders o.place.group) (is_among w o.waits) open_now.0) in
       by_kind a o os e f open_now.1 a.kind refl (h w (asked_in a o.place.group o.place.level waits open_now.1))
 
   asked_by : (x : Option Agenda) → st.course.agenda ≡ x → Asks s x st.course → open_order (left x) w ≡ Some order → IsFor s so_far w order

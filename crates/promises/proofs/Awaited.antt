@@ -15,6 +15,7 @@ use Rattle.vss_model.specs.Lines.{called}
 use Rattle.vss_model.specs.Acts.{Act, enabled, is_blocked, happens, state}
 use Rattle.promises.specs.Accepted.{Owns}
 use Rattle.promises.specs.Awaited.{result_told, AwaitTells}
+use Rattle.promises.proofs.Truth.{not_itself}
 use Rattle.promises.proofs.LastResult.{last_all}
 
 own_lane : (a b : ℕ) → a ≡ b → (a == b) ≡ true
@@ -35,11 +36,7 @@ module _ (s : Plan) (st : State) (lane : ℕ) (q : Session) (own : Owns st lane 
 
   await_reply : (b : Bool) → runs st ≡ b → not (is_blocked (check st.session (runs st) lane call.Await)) ≡ true → (called call.Await s lane op.Await st).0 ≡ result_told q.last
   unfolding called
-  await_reply true e f = absurd (both (is_blocked (check st.session (runs st) lane call.Await)) (ap is_blocked (await_check true e)) f)
-    where
-      both : (b : Bool) → b ≡ true → not b ≡ true → ⊥
-      both true e f = cc
-      both false e f = cc
+  await_reply true e f = absurd (not_itself (is_blocked (check st.session (runs st) lane call.Await)) (ap is_blocked (await_check true e)) f)
   await_reply false e f = ap (λ v. (judged v s lane op.Await st).0) (await_check false e) ∙ ap (λ p. (line_in s lane op.Await p st).0) own.stands ∙ await_told q.last st
 
 pub await_tells : (s : Plan) (so_far : List Act) (act : Act) → AwaitTells s so_far act

@@ -13,6 +13,7 @@ use Rattle.set_agenda.specs.Limits.{Running as RunningLimit, first_hold, opened_
 use Rattle.set_agenda.specs.Course.{Course, is_decisive, fails_set}
 use Rattle.tick_limits.specs.Time.{answer_limit, hold_limit}
 use Rattle.vss_model.specs.Facts.{IsOfSession, IsAgendaOf, WaitsFor, snapshot_stage}
+use Rattle.promises.proofs.Truth.{not_both, not_itself}
 use Rattle.promises.proofs.Limits.{limit_found, none_and_some}
 use Rattle.promises.proofs.OpenGroup.{every, in_kind}
 use Rattle.requestor.specs.Session.{Session, has_writers, makes_set}
@@ -27,16 +28,12 @@ makes_a_set Prepare = true
 makes_a_set Snapshot = true
 makes_a_set Complete = false
 
-pub not_both : (b : Bool) → b ≡ true → not b ≡ true → ⊥
-not_both true e f = cc
-not_both false e f = cc
-
 -- a group that no agenda beside those of a set has
 pub of_kind : (test : Group → Bool) (k : Kind) (a : Agenda) (o : Open) (os : List Open) → a.kind ≡ k → every (λ q. not (test q.group)) (places Gather) ≡ true → every (λ q. not (test q.group)) (places Complete) ≡ true → groups_left a ≡ o ∷ os → test o.place.group ≡ true → makes_a_set k ≡ true
-of_kind test Gather a o os e f g h i = absurd (not_both (test o.place.group) i (in_kind (λ q. not (test q.group)) Gather a o os e f h))
+of_kind test Gather a o os e f g h i = absurd (not_itself (test o.place.group) i (in_kind (λ q. not (test q.group)) Gather a o os e f h))
 of_kind test Prepare a o os e f g h i = refl
 of_kind test Snapshot a o os e f g h i = refl
-of_kind test Complete a o os e f g h i = absurd (not_both (test o.place.group) i (in_kind (λ q. not (test q.group)) Complete a o os e g h))
+of_kind test Complete a o os e f g h i = absurd (not_itself (test o.place.group) i (in_kind (λ q. not (test q.group)) Complete a o os e g h))
 
 abbrev pub IsBusy : Option Agenda → Type 0
 IsBusy None = ⊥
@@ -110,10 +107,7 @@ made_stage Complete q e h = absurd cc
 pub busy_set : (x : Option Agenda) (q : Option Session) (o : SetOutcome) (found : Option SetRow) → IsBusy x → IsAgendaOf x q → IsOfSession q o found → is_some found ≡ true
 busy_set None q o found b h i = absurd b
 busy_set (Some a) None o found b h i = absurd h
-busy_set (Some a) (Some q) o None b h i = absurd (both (makes_set q.stage) (made_stage a.kind q b h) i.0)
-  where
-    both : (c : Bool) → c ≡ true → c ≡ false → ⊥
-    both c e f = cc
+busy_set (Some a) (Some q) o None b h i = absurd (not_both (makes_set q.stage) (made_stage a.kind q b h) i.0)
 busy_set (Some a) (Some q) o (Some r) b h i = refl
 
 pub course_ended : (e : Ending) (x : State) → (concluded e x).course ≡ x.course

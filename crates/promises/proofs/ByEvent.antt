@@ -43,6 +43,7 @@ use Rattle.vss_model.proofs.GoingOn.{Goes, other_goes}
 use Rattle.promises.specs.InOrder.{is_numbered}
 use Rattle.promises.specs.Participants.{is_fine}
 use Rattle.promises.specs.Way.{is_pending_code, is_pending}
+use Rattle.promises.proofs.Truth.{first_both}
 
 -- ## what an act does, by its event
 
@@ -119,10 +120,6 @@ not_held : (held free : Bool) → (not held && free) ≡ true → held ≡ false
 not_held true free e = absurd cc
 not_held false free e = refl
 
-first_true : (a b : Bool) → (a && b) ≡ true → a ≡ true
-first_true true b e = refl
-first_true false b e = absurd cc
-
 -- a line that begins no agenda
 no_agenda : {X : Type 0} → false ≡ true → X
 no_agenda e = absurd cc
@@ -160,7 +157,7 @@ module _ (P : Event → Mark → Replied → Type 0) (s : Plan) (st : State) (k 
   unfolding delete_set
   on_delete_set lane n mark =
       if_so (Line lane (DeleteSet n)) mark (is_kept_set st n && nat_lt 0 (count_images n st.volumes)) _ _
-      (λ e. k.deletes_set lane n (count_images n st.volumes) mark (first_true (is_kept_set st n) (nat_lt 0 (count_images n st.volumes)) e))
+      (λ e. k.deletes_set lane n (count_images n st.volumes) mark (first_both (is_kept_set st n) (nat_lt 0 (count_images n st.volumes)) e))
       (k.stays lane (DeleteSet n) mark _ refl (other_line (DeleteSet n) _ refl refl refl))
 
   on_delete_kept : (lane n v : ℕ) (kept : Option Kept) (mark : Mark) → kept_image st n v ≡ kept → P (Line lane (DeleteImage n v)) mark (delete_kept v kept st)

@@ -24,6 +24,7 @@ use Rattle.vss_model.specs.Facts.{IsAgendaOf}
 use Rattle.vss_model.specs.Causes.{owns}
 use Rattle.vss_model.proofs.OrderlyActs.{orderly}
 use Rattle.promises.specs.Calls.{is_owners, CallsAreOwned, may_wait, WaitsAreFew, WaitsAreDue, StandsQuiet, FrozenDoNotWrite}
+use Rattle.promises.proofs.Truth.{first_both, not_false}
 use Rattle.promises.proofs.ByEvent.{after_enabled, after_not_enabled}
 
 -- ## a call of another lane
@@ -71,10 +72,6 @@ calls_are_owned s so_far act lane op e f g =
 
 -- ## what waits
 
-goes : (b : Bool) → not b ≡ false → b ≡ true
-goes true e = refl
-goes false e = absurd cc
-
 verdict_waits : (a b c d : Bool) → is_blocked (verdict_of a b c d) ≡ true → d ≡ true
 verdict_waits true b c d e = absurd cc
 verdict_waits false true c d e = absurd cc
@@ -86,33 +83,29 @@ owner_waits : (b : Bool) (v : Verdict) → is_blocked (owner_only b v) ≡ true 
 owner_waits true v e = e
 owner_waits false v e = absurd cc
 
-first_part : (a b : Bool) → (a && b) ≡ true → a ≡ true
-first_part true b e = refl
-first_part false b e = absurd cc
-
 other_waits : (q : Option Session) (running : Bool) (lane : ℕ) (c : SessionCall) → is_blocked (check_other q running lane c) ≡ true → awaits c ≡ true
 other_waits None running lane c e = absurd cc
 other_waits (Some q) running lane c e =
-    first_part (awaits c) running
+    first_both (awaits c) running
     (verdict_waits (is_start c && makes_set q.stage) (running && not (goes_beside_agenda c)) (allows q.stage (has_writers q.context) c) (awaits c && running) (owner_waits (q.owner == lane) (check_owner q running c) e))
 
 waits_for : (s : Plan) (st : State) (lane : ℕ) (op : Op) → enabled s st (Line lane op) ≡ false → may_wait op ≡ true
 waits_for s st lane (WriteFill v b x) e = refl
 waits_for s st lane (WriteStamp v b n) e = refl
 waits_for s st lane (Begin c all) e = refl
-waits_for s st lane (Disable w) e = other_waits st.session (runs st) lane call.Disable (goes _ e)
-waits_for s st lane Gather e = other_waits st.session (runs st) lane call.Gather (goes _ e)
-waits_for s st lane (Component w full) e = other_waits st.session (runs st) lane call.Component (goes _ e)
-waits_for s st lane Document e = other_waits st.session (runs st) lane call.Document (goes _ e)
-waits_for s st lane Start e = other_waits st.session (runs st) lane call.Start (goes _ e)
-waits_for s st lane (Add v) e = other_waits st.session (runs st) lane call.Add (goes _ e)
-waits_for s st lane Prepare e = other_waits st.session (runs st) lane call.Prepare (goes _ e)
-waits_for s st lane Snapshot e = other_waits st.session (runs st) lane call.Snapshot (goes _ e)
+waits_for s st lane (Disable w) e = other_waits st.session (runs st) lane call.Disable (not_false _ e)
+waits_for s st lane Gather e = other_waits st.session (runs st) lane call.Gather (not_false _ e)
+waits_for s st lane (Component w full) e = other_waits st.session (runs st) lane call.Component (not_false _ e)
+waits_for s st lane Document e = other_waits st.session (runs st) lane call.Document (not_false _ e)
+waits_for s st lane Start e = other_waits st.session (runs st) lane call.Start (not_false _ e)
+waits_for s st lane (Add v) e = other_waits st.session (runs st) lane call.Add (not_false _ e)
+waits_for s st lane Prepare e = other_waits st.session (runs st) lane call.Prepare (not_false _ e)
+waits_for s st lane Snapshot e = other_waits st.session (runs st) lane call.Snapshot (not_false _ e)
 waits_for s st lane Await e = refl
-waits_for s st lane Status e = other_waits st.session (runs st) lane call.Status (goes _ e)
-waits_for s st lane Complete e = other_waits st.session (runs st) lane call.Complete (goes _ e)
-waits_for s st lane Abort e = other_waits st.session (runs st) lane call.Abort (goes _ e)
-waits_for s st lane End e = other_waits st.session (runs st) lane call.End (goes _ e)
+waits_for s st lane Status e = other_waits st.session (runs st) lane call.Status (not_false _ e)
+waits_for s st lane Complete e = other_waits st.session (runs st) lane call.Complete (not_false _ e)
+waits_for s st lane Abort e = other_waits st.session (runs st) lane call.Abort (not_false _ e)
+waits_for s st lane End e = other_waits st.session (runs st) lane call.End (not_false _ e)
 waits_for s st lane _ e = absurd cc
 
 pub waits_are_few : (s : Plan) (so_far : List Act) → WaitsAreFew s so_far

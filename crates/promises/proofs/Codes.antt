@@ -45,6 +45,7 @@ use Rattle.vss_model.proofs.LogRule.{Running}
 use Rattle.promises.specs.Awaited.{set_failure}
 use Rattle.promises.specs.Way.{Rising}
 use Rattle.promises.specs.Codes.{late_code_at, late_code_in, late_code, IsAnswerCode, IsLineCode, IsCode, FailsByCode}
+use Rattle.promises.proofs.Truth.{false_of}
 use Rattle.promises.proofs.BusyAgendas.{course_followed}
 use Rattle.promises.proofs.ByEvent.{Covers, covered, after_enabled}
 use Rattle.promises.proofs.CalmCourses.{calm_begun}
@@ -52,7 +53,6 @@ use Rattle.promises.proofs.CourseRows.{calm_settled}
 use Rattle.promises.proofs.GoneImages.{none_stepped}
 use Rattle.promises.proofs.Limits.{held_since_first, none_found, first_found, later_found, limit_found, hold_found, held_finds, frozen_finds}
 use Rattle.promises.proofs.SetFailures.{failure_at}
-use Rattle.promises.proofs.Stages.{false_of}
 use Rattle.promises.proofs.Times.{times, held_is_first, logs_rise}
 use Rattle.promises.proofs.Turns.{Turn, no_failure, write_turn, revert_turn, begun_turn, answer_turn, tick_turn, step_turn, abort_turn, add_turn, none_started}
 

@@ -37,6 +37,7 @@ use Rattle.vss_model.specs.Acts.{Act, enabled, idle_now, after}
 use Rattle.vss_model.proofs.CourseCalls.{asked_if}
 use Rattle.vss_model.proofs.LogRule.{unspoken}
 use Rattle.promises.specs.Completing.{StandsWell, CompletesUnfailed}
+use Rattle.promises.proofs.Truth.{equal}
 use Rattle.promises.proofs.ByEvent.{Covers, covered, after_enabled, after_not_enabled}
 use Rattle.promises.proofs.LastOrder.{is_last_order, among_all, last_place, not_in_kind, still_open}
 use Rattle.promises.proofs.OpenGroup.{every}
@@ -153,12 +154,9 @@ unfailed_member : (rows : List WriterRow) (w : ℕ) (ms : List Member) → is_am
 unfailed_member rows w [] e = absurd cc
 unfailed_member rows w (m ∷ ms) e = by_test (has_row_failed rows m.writer) refl e (unfailed_member rows w ms)
   where
-    equal_number : (a b : ℕ) → (a == b) ≡ true → a ≡ b
-    equal_number a b e = grind arith
-
     by_head : (c : Bool) → (m.writer == w) ≡ c → has_row_failed rows m.writer ≡ false → (c || is_among w (writers_at (filter (λ (x : Member). not (has_row_failed rows x.writer)) ms) None)) ≡ true
         → (is_among w (writers_at (filter (λ (x : Member). not (has_row_failed rows x.writer)) ms) None) ≡ true → has_row_failed rows w ≡ false) → has_row_failed rows w ≡ false
-    by_head true f g e ih = subst (λ x. has_row_failed rows x ≡ false) (equal_number m.writer w f) g
+    by_head true f g e ih = subst (λ x. has_row_failed rows x ≡ false) (equal m.writer w f) g
     by_head false f g e ih = ih e
 
     by_test : (b : Bool) → has_row_failed rows m.writer ≡ b → is_among w (writers_at (if not b then m ∷ filter (λ (x : Member). not (has_row_failed rows x.writer)) ms else filter (λ (x : Member). not (has_row_failed rows x.writer)) ms) None) ≡ true

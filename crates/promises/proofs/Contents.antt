@@ -37,6 +37,7 @@ use Rattle.vss_model.specs.Acts.{Act, enabled, happens, idle_now, after, state}
 use Rattle.vss_model.proofs.FewerImages.{as_many_volumes}
 use Rattle.vss_model.proofs.Volumes.{at, change_other, as_many_map, as_many_gone}
 use Rattle.promises.specs.Contents.{block_now, is_clean, may_change, ContentsChange, changes_by}
+use Rattle.promises.proofs.Truth.{same_number}
 use Rattle.promises.proofs.ByEvent.{Covers, covered, after_enabled, after_not_enabled}
 use Rattle.promises.proofs.Restored.{some_restored}
 
@@ -142,9 +143,6 @@ module _ (s : Plan) (st : State) (v b : ℕ) where
   stay_put : (u : ℕ) (w : Write) (mark : Mark) (x : State) → (is_clean mark && (u == v) && (w.block == b)) ≡ false → Stays x.volumes → Stays (put u w mark x).volumes
   stay_put u w Clean x e h = by_volume (u == v) refl e ∙ h
     where
-      equal : (a c : ℕ) → (a == c) ≡ true → a ≡ c
-      equal a c e = grind arith
-
       written_at : (u : ℕ) (hs : List History) (v : ℕ) → (w.block == b) ≡ false → content (at (change_at u (written w) hs) v).writes (length (at (change_at u (written w) hs) v).writes) b ≡ content (at hs v).writes (length (at hs v).writes) b
       written_at u [] v e = refl
       written_at zero (x ∷ hs) zero e = other_block x.writes w b e
@@ -264,9 +262,6 @@ changed_here f (suc v) (h ∷ hs) l = changed_here f v hs (below v (length hs) l
 last_own : (b : ℕ) (before : List ℕ) (ws : List Write) (w : Write) → (w.block == b) ≡ true → last_bytes b before (ws ++ w ∷ []) ≡ w.bytes
 last_own b before [] w e = ap (λ t. if t then w.bytes else before) e
 last_own b before (x ∷ ws) w e = last_own b (if x.block == b then x.bytes else before) ws w e
-
-same_number : (a : ℕ) → (a == a) ≡ true
-same_number a = grind arith
 
 own_block : (ws : List Write) (w : Write) → content (ws ++ w ∷ []) (length (ws ++ w ∷ [])) w.block ≡ w.bytes
 own_block ws w = now_is (ws ++ w ∷ []) w.block ∙ last_own w.block zeros ws w (same_number w.block)

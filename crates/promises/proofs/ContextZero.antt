@@ -1,5 +1,5 @@
 -- An image of context 0 stands only while its session does.
-use Rattle.std.proofs.Common.{◌≡◌, ◌∙◌, ℕ, ◌+◌, ◌==◌, List, [], ◌∷◌, ◌++◌, Option, Some, None, refl, Bool, true, false, ap, sym, subst, fold, arith}
+use Rattle.std.proofs.Common.{◌≡◌, ◌∙◌, ℕ, ◌+◌, ◌==◌, List, [], ◌∷◌, ◌++◌, Option, Some, None, refl, Bool, true, false, ap, sym, subst, fold}
 use Rattle.std.specs.Prelude.{◌&&◌, option_map, if◌then◌else◌}
 use Rattle.vss_names.specs.declared.context.Context.{Context}
 use Rattle.vss_names.specs.declared.context.Context.TheVariants.{Backup, AppRollback, NasRollback}
@@ -40,9 +40,9 @@ use Rattle.vss_model.proofs.OrderlyActs.{orderly}
 use Rattle.vss_model.proofs.Volumes.{at}
 use Rattle.promises.specs.Gone.{stands}
 use Rattle.promises.specs.ContextZero.{BackupsEnd}
+use Rattle.promises.proofs.Truth.{both_parts, equal}
 use Rattle.promises.proofs.ByEvent.{Covers, covered, after_enabled, after_not_enabled}
 use Rattle.promises.proofs.Done.{kept_map, dropped_gone}
-use Rattle.promises.proofs.Stages.{both_parts}
 use Rattle.promises.proofs.Contexts.{context_in, context_map, changed_number, changed_context, context_other, context_new, HasMade, Owned, NoMore, Relates, relates_same, relates_over, relates_followed, relates_failed, relates_room, relates_put, owned_by, cut_contexts, owned_cut}
 
 -- ## a new set
@@ -70,9 +70,6 @@ owned_start q st g num h = record {
   early = λ p e f. absurd (not_early p e f);
 }
   where
-    equal : (a b : ℕ) → (a == b) ≡ true → a ≡ b
-    equal a b e = grind arith
-
     some_same : (x y : Session) → Some x ≡ Some y → x ≡ y
     some_same x y e = cc
 

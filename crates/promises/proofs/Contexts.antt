@@ -21,6 +21,7 @@ use Rattle.vss_model.specs.Steps.{cut_if, cut_each, with_cut, row_cut, cut_set}
 use Rattle.vss_model.specs.Facts.{NumberedFrom, IsOfSession as IsSessionOfSet, is_early}
 use Rattle.vss_model.proofs.Volumes.{at}
 use Rattle.promises.specs.Gone.{stands}
+use Rattle.promises.proofs.Truth.{equal, same_number}
 
 -- ## the context of a set
 
@@ -76,10 +77,7 @@ context_other (q ∷ rows) r n e = by_head (q.number == n) (context_other rows r
     by_head false ih = ih
 
 pub context_new : (k : ℕ) (rows : List SetRow) (r : SetRow) → NumberedFrom k rows → r.number ≡ length rows + k → context_in (rows ++ r ∷ []) r.number ≡ Some r.context
-context_new k [] r h e = ap (λ b. option_map (λ (x : SetRow). x.context) (if b then Some r else None)) (own r.number)
-  where
-    own : (a : ℕ) → (a == a) ≡ true
-    own a = grind arith
+context_new k [] r h e = ap (λ b. option_map (λ (x : SetRow). x.context) (if b then Some r else None)) (same_number r.number)
 context_new k (q ∷ rows) r h e = by_head (q.number == r.number) (less q.number k r.number (length rows) h.0 e) (context_new (k + 1) rows r h.1 (next r.number (length rows) k e))
   where
     less : (a k n len : ℕ) → a ≡ k → n ≡ suc len + k → (a == n) ≡ false
@@ -231,9 +229,6 @@ owned_cut (Some r) st e k h = record {
   early = h.early;
 }
   where
-    equal : (a b : ℕ) → (a == b) ≡ true → a ≡ b
-    equal a b e = grind arith
-
     by_number : (n v : ℕ) (b : Bool) → (r.number == n) ≡ b → context_in st.sets n ≡ Some Backup → stands (cut_set (Some r) st) n v ≡ true → HasMade st.session n
     by_number n v true i c g = subst (HasMade st.session) (equal r.number n i) (made_by st.session st.course.outcome r (subst (IsSessionOfSet st.session st.course.outcome) e k))
     by_number n v false i c g = h.own n v c (cut_images r.number n r.volumes 0 st.volumes v i g)

@@ -12,6 +12,7 @@ use Rattle.vss_model.proofs.OneCut.{image_shown, image_reads, images_in_time}
 use Rattle.vss_model.proofs.Volumes.{at}
 use Rattle.promises.specs.Copies.{place_from, HoldsTheCut, CopiesHold}
 use Rattle.promises.specs.Gone.{within}
+use Rattle.promises.proofs.Truth.{same_number}
 
 -- ## the copies of a volume
 
@@ -21,9 +22,6 @@ record IsOfImage (u : ℕ) (ws : List Write) (images : List Image) (c : Copy) : 
   point : ℕ
   is : point_in c.set images ≡ Some point
   holds : c.bytes ≡ content ws point c.block
-
-pub own_number : (a : ℕ) → (a == a) ≡ true
-own_number a = grind arith
 
 first_point : (b : Bool) (p : ℕ) (o : Option ℕ) → b ≡ true → (if b then Some p else o) ≡ Some p
 first_point true p o e = refl
@@ -49,7 +47,7 @@ own_copies : (u : ℕ) (ws : List Write) (i : Image) (newer : List Image) (bs : 
 own_copies u ws i newer [] = All-nil (IsOfImage u ws (i ∷ newer))
 own_copies u ws i newer (b ∷ bs) =
     All-cons (IsOfImage u ws (i ∷ newer)) (copy_of u ws i b) (map (copy_of u ws i) bs)
-    (record { volume = refl; point = i.point; is = first_point (i.set == i.set) i.point (point_in i.set newer) (own_number i.set); holds = refl })
+    (record { volume = refl; point = i.point; is = first_point (i.set == i.set) i.point (point_in i.set newer) (same_number i.set); holds = refl })
     (own_copies u ws i newer bs)
 
 all_along : (P Q : Copy → Type 0) (cs : List Copy) → ((c : Copy) → P c → Q c) → All P cs → All Q cs

@@ -32,6 +32,7 @@ use Rattle.vss_model.proofs.CutStep.{both, after_cut}
 use Rattle.vss_model.proofs.OneCut.{not_cut_yet}
 use Rattle.vss_model.proofs.OrderlyActs.{orderly}
 use Rattle.vss_model.proofs.Rows.{row_running}
+use Rattle.promises.proofs.Truth.{equal, not_both}
 use Rattle.promises.proofs.ByEvent.{Covers, covered, after_enabled, after_not_enabled}
 use Rattle.promises.proofs.Contexts.{settled_number, changed_number}
 
@@ -89,9 +90,6 @@ time_cut_other m now n rows e = time_map (row_cut m now) (λ r. changed_number m
   where
     equal : (a b c : ℕ) → (a == b) ≡ true → (a == c) ≡ true → (b == c) ≡ true
     equal a b c e f = grind arith
-
-    not_both : (b : Bool) → b ≡ true → b ≡ false → ⊥
-    not_both b e f = cc
 
     by_number : (r : SetRow) (b : Bool) → (r.number == m) ≡ b → (r.number == n) ≡ true → (if b then with_cut now r else r).cut_at ≡ r.cut_at
     by_number r true f g = absurd (not_both (m == n) (equal r.number m n f g) e)
@@ -234,9 +232,6 @@ module _ (s : Plan) (so_far : List Act) (act : Act) (n : ℕ) where
   parts c =
       let one = both (is_provider act.event && is_cut_group (open_group (left_now st))) (is_set n (in_progress st)) c in
       let two = both (is_provider act.event) (is_cut_group (open_group (left_now st))) one.0 in (two.0, (two.1, one.1))
-
-  equal : (a b : ℕ) → (a == b) ≡ true → a ≡ b
-  equal a b e = grind arith
 
   -- the Cut step of set n
   cut_now : (o : Option SetRow) → in_progress st ≡ o → is_set n o ≡ true → is_cut_group (open_group (left_now st)) ≡ true → is_provider act.event ≡ true → time_in (after s st act).sets n ≡ Some (Some st.clock)

@@ -37,6 +37,7 @@ use Rattle.promises.specs.Accepted.{is_accepted}
 use Rattle.promises.specs.Documented.{is_first, is_part, line_names, event_names, names_if, names_from, has_named, is_below, parts_listed, writer_listed, writers_listed, TellsDocument}
 use Rattle.promises.specs.InOrder.{progress}
 use Rattle.promises.specs.Participants.{is_chosen, is_unfit, choosing, is_writer}
+use Rattle.promises.proofs.Truth.{false_of, not_both}
 use Rattle.promises.proofs.Accepted.{tells, line_reply}
 use Rattle.promises.proofs.ByEvent.{ChangesNothing, Covers, covered, after_enabled, after_not_enabled}
 use Rattle.promises.proofs.Members.{is_selected, taker_is}
@@ -241,16 +242,9 @@ module _ (s : Plan) (so_far : List Act) (q : Session) (e : (state s so_far).sess
   not_picked : (w : ℕ) → is_known s st w ≡ false → picks w ≡ false
   not_picked w f = sym (selected_is w) ∙ by_mode q.mode
     where
-      both : (b : Bool) → b ≡ true → b ≡ false → ⊥
-      both b e f = cc
-
       by_mode : (m : Mode) → is_selected s st m w ≡ false
       by_mode All = f
-      by_mode Components = false_if (list_any (λ (p : Pair). p.writer == w) st.explicit) (λ g. both (is_known s st w) (named_is_known s st w (named_known_components s so_far) g) f)
-        where
-          false_if : (b : Bool) → (b ≡ true → ⊥) → b ≡ false
-          false_if true g = absurd (g refl)
-          false_if false g = refl
+      by_mode Components = false_of (list_any (λ (p : Pair). p.writer == w) st.explicit) (λ g. not_both (is_known s st w) (named_is_known s st w (named_known_components s so_far) g) f)
 
   writer_are : (w : ℕ) (p : WriterPlan) → is_writer s w ≡ true → choices_of (selected s q st) w (meta_if (is_known s st w) p.meta) ≡ writer_listed s so_far w p
   writer_are w p f = by_known (is_known s st w) refl

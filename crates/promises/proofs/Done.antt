@@ -17,12 +17,9 @@ use Rattle.vss_model.proofs.OneCut.{row_number, kept_point}
 use Rattle.vss_model.proofs.Volumes.{at}
 use Rattle.promises.specs.Done.{reverts, IsDone}
 use Rattle.promises.specs.Gone.{stands}
+use Rattle.promises.proofs.Truth.{false_of, not_itself, same_number}
 use Rattle.promises.proofs.ByEvent.{after_enabled}
 use Rattle.promises.proofs.GoneImages.{kept_by}
-
-false_of : (b : Bool) → (b ≡ true → ⊥) → b ≡ false
-false_of true f = absurd (f refl)
-false_of false f = refl
 
 -- ## on which volume
 
@@ -41,27 +38,16 @@ kept_change f n (h ∷ hs) zero e = e
 kept_change f n (h ∷ hs) (suc v) e = kept_change f n hs v e
 
 itself : (n : ℕ) → not (n == n) ≡ true → ⊥
-itself n e = differs (n == n) (own n) e
-  where
-    own : (a : ℕ) → (a == a) ≡ true
-    own a = grind arith
-
-    differs : (b : Bool) → b ≡ true → not b ≡ true → ⊥
-    differs true e f = cc
-    differs false e f = cc
+itself n e = not_itself (n == n) (same_number n) e
 
 pub dropped_gone : (n : ℕ) (h : History) → has_image n (dropped n h) ≡ true → ⊥
 dropped_gone n h e = itself n (kept_by (λ k. not (k == n)) n h.images e)
 
 newer_gone : (n m : ℕ) (images : List Image) → n < m → is_some (point_in m (up_to_set n images)) ≡ true → ⊥
-newer_gone n m images l e = after_it (nat_lt n m) (later n m l) (kept_by (λ k. not (nat_lt n k)) m images e)
+newer_gone n m images l e = not_itself (nat_lt n m) (later n m l) (kept_by (λ k. not (nat_lt n k)) m images e)
   where
     later : (a b : ℕ) → a < b → nat_lt a b ≡ true
     later a b l = grind arith
-
-    after_it : (b : Bool) → b ≡ true → not b ≡ true → ⊥
-    after_it true e f = cc
-    after_it false e f = cc
 
 -- where no image is counted, none stands
 none_counted : (n : ℕ) (hs : List History) (v : ℕ) → nat_lt 0 (count_images n hs) ≡ false → has_image n (at hs v) ≡ true → ⊥

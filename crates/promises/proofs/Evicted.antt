@@ -27,11 +27,9 @@ use Rattle.vss_model.proofs.Rows.{running_incomplete}
 use Rattle.vss_model.proofs.Volumes.{at, FewerIn, fewer_in_over, as_many_gone}
 use Rattle.promises.specs.Gone.{stands, Fails}
 use Rattle.promises.specs.Evicted.{is_write, is_told, goes_before, are_in_order, TellsEvicted}
+use Rattle.promises.proofs.Truth.{both_are, both_ways, equal, left_part, neither}
 use Rattle.promises.proofs.ByEvent.{after_enabled}
 use Rattle.promises.proofs.Images.{volumes_put, volumes_room, roomy, wants_or_fails}
-
-equal : (a b : ℕ) → (a == b) ≡ true → a ≡ b
-equal a b e = grind arith
 
 -- ## the volumes that lose an image
 
@@ -45,10 +43,6 @@ none_before n u v (h ∷ hs) (k ∷ ks) l = by_loss (has_image n h && not (has_i
 
     other : (a b : ℕ) → b < a → (a == b) ≡ false
     other a b l = grind arith
-
-    neither : (a b : Bool) → a ≡ false → b ≡ false → (a || b) ≡ false
-    neither true b e f = absurd cc
-    neither false b e f = f
 
     by_loss : (b : Bool) → is_among v (volumes_losing n (u + 1) hs ks) ≡ false → is_among v (if b then u ∷ volumes_losing n (u + 1) hs ks else volumes_losing n (u + 1) hs ks) ≡ false
     by_loss true ih = neither (u == v) (is_among v (volumes_losing n (u + 1) hs ks)) (other u v l) ih
@@ -66,12 +60,8 @@ among_losing n u zero v (h ∷ hs) (k ∷ ks) e f = by_loss (has_image n h && no
     same : (a b : ℕ) → b ≡ a + 0 → (a == b) ≡ true
     same a b e = grind arith
 
-    first : (a b : Bool) → a ≡ true → (a || b) ≡ true
-    first true b e = refl
-    first false b e = absurd cc
-
     by_loss : (b : Bool) → is_among v (volumes_losing n (u + 1) hs ks) ≡ false → is_among v (if b then u ∷ volumes_losing n (u + 1) hs ks else volumes_losing n (u + 1) hs ks) ≡ b
-    by_loss true ih = first (u == v) (is_among v (volumes_losing n (u + 1) hs ks)) (same u v f)
+    by_loss true ih = left_part (u == v) (is_among v (volumes_losing n (u + 1) hs ks)) (same u v f)
     by_loss false ih = ih
 among_losing n u (suc j) v (h ∷ hs) (k ∷ ks) e f = by_loss (has_image n h && not (has_image n k)) (among_losing n (u + 1) j v hs ks (one_less (length ks) (length hs) e) (shift u j v f))
   where
@@ -140,10 +130,6 @@ module _ (n v : ℕ) (hs ks : List History) where
 
 -- ## in order
 
-both : (a b : Bool) → a ≡ true → b ≡ true → (a && b) ≡ true
-both true b e f = f
-both false b e f = absurd cc
-
 all_of_both : (test : Evicted → Bool) (xs ys : List Evicted) → list_all test xs ≡ true → list_all test ys ≡ true → list_all test (xs ++ ys) ≡ true
 all_of_both test [] ys e f = f
 all_of_both test (x ∷ xs) ys e f = by_first (test x) e (all_of_both test xs ys)
@@ -169,7 +155,7 @@ after_volume m u w (h ∷ hs) (k ∷ ks) l = by_loss (has_image m h && not (has_
 
     by_loss : (b : Bool) → list_all (goes_before (record { set = m; volume = w })) (of_set m (u + 1) hs ks) ≡ true
         → list_all (goes_before (record { set = m; volume = w })) (evicted_of m (if b then u ∷ volumes_losing m (u + 1) hs ks else volumes_losing m (u + 1) hs ks)) ≡ true
-    by_loss true ih = both (goes_before (record { set = m; volume = w }) (record { set = m; volume = u })) (list_all (goes_before (record { set = m; volume = w })) (of_set m (u + 1) hs ks)) (before m u w l) ih
+    by_loss true ih = both_are (goes_before (record { set = m; volume = w }) (record { set = m; volume = u })) (list_all (goes_before (record { set = m; volume = w })) (of_set m (u + 1) hs ks)) (before m u w l) ih
     by_loss false ih = ih
 
 -- a list in order behind images of one set
@@ -192,13 +178,13 @@ in_order_on m u (h ∷ hs) (k ∷ ks) es e f = by_loss (has_image m h && not (ha
 
     by_loss : (b : Bool) → are_in_order (of_set m (u + 1) hs ks ++ es) ≡ true → are_in_order (evicted_of m (if b then u ∷ volumes_losing m (u + 1) hs ks else volumes_losing m (u + 1) hs ks) ++ es) ≡ true
     by_loss true ih =
-        both (list_all (goes_before (record { set = m; volume = u })) (of_set m (u + 1) hs ks ++ es)) (are_in_order (of_set m (u + 1) hs ks ++ es))
+        both_are (list_all (goes_before (record { set = m; volume = u })) (of_set m (u + 1) hs ks ++ es)) (are_in_order (of_set m (u + 1) hs ks ++ es))
         (all_of_both (goes_before (record { set = m; volume = u })) (of_set m (u + 1) hs ks) es (after_volume m (u + 1) u hs ks (next u)) (later_sets es f)) ih
     by_loss false ih = ih
 
 of_later_set : (m k : ℕ) (vs : List ℕ) → m < k → list_all (λ (f : Evicted). nat_lt m f.set) (evicted_of k vs) ≡ true
 of_later_set m k [] l = refl
-of_later_set m k (v ∷ vs) l = both (nat_lt m k) (list_all (λ (f : Evicted). nat_lt m f.set) (evicted_of k vs)) (less m k l) (of_later_set m k vs l)
+of_later_set m k (v ∷ vs) l = both_are (nat_lt m k) (list_all (λ (f : Evicted). nat_lt m f.set) (evicted_of k vs)) (less m k l) (of_later_set m k vs l)
   where
     less : (a b : ℕ) → a < b → nat_lt a b ≡ true
     less a b l = grind arith
@@ -236,11 +222,6 @@ module _ (hs ks : List History) where
 
 -- ## a write
 
-same_truth : (a b : Bool) → (a ≡ true → b ≡ true) → (b ≡ true → a ≡ true) → a ≡ b
-same_truth true b f g = sym (f refl)
-same_truth false true f g = g refl
-same_truth false false f g = refl
-
 true_if : (b : Bool) → (b ≡ false → ⊥) → b ≡ true
 true_if true f = refl
 true_if false f = absurd (f refl)
@@ -262,7 +243,7 @@ module _ (s : Plan) (st : State) (num : NumberedFrom 1 st.sets) (n v u : ℕ) (w
 
   -- of a kept image nothing else is taken
   stands_on : is_kept_set st n ≡ true → stands st n v ≡ true → stands written_to n v ≡ stands fits n v
-  stands_on e h = same_truth (stands written_to n v) (stands fits n v) ((fewer.each v).sets n) (λ g. true_if (stands written_to n v) (gone g))
+  stands_on e h = both_ways (stands written_to n v) (stands fits n v) ((fewer.each v).sets n) (λ g. true_if (stands written_to n v) (gone g))
     where
       gone : stands fits n v ≡ true → stands written_to n v ≡ false → ⊥
       gone g f = by_cases (wants_or_fails s st num n v u w mark (set_loses_image (in_progress st) st.volumes fits.volumes) (stands fits n v) refl h f)

@@ -44,9 +44,10 @@ use Rattle.vss_model.proofs.Causes.{fail_with_cause}
 use Rattle.vss_model.proofs.FlushFails.{outcome_is_running, flush_fails}
 use Rattle.vss_model.proofs.OrderlyActs.{orderly}
 use Rattle.promises.specs.Failing.{FailsForCause}
+use Rattle.promises.proofs.Truth.{both_parts}
 use Rattle.promises.proofs.ByEvent.{after_enabled}
 use Rattle.promises.proofs.GoneImages.{fails_as}
-use Rattle.promises.proofs.Limits.{is_due_in, posted_fails, timed_fails, both_parts}
+use Rattle.promises.proofs.Limits.{is_due_in, posted_fails, timed_fails}
 use Rattle.promises.proofs.Times.{late_is_due}
 
 -- ## a veto

@@ -23,6 +23,7 @@ use Rattle.vss_model.proofs.Orderly.{true_not_false}
 use Rattle.vss_model.proofs.Rows.{running_found, row_running, row_settles, result-settled}
 use Rattle.vss_model.proofs.Volumes.{at}
 use Rattle.promises.specs.Gone.{stands, Fails, within}
+use Rattle.promises.proofs.Truth.{equal, not_false}
 
 -- ## lists of images
 
@@ -30,9 +31,6 @@ pub gone_by : (test : ℕ → Bool) (n : ℕ) (images : List Image) → is_some 
 gone_by test n [] e f = absurd cc
 gone_by test n (i ∷ images) e f = by_head (i.set == n) (test i.set) refl refl e f (gone_by test n images)
   where
-    equal : (a b : ℕ) → (a == b) ≡ true → a ≡ b
-    equal a b e = grind arith
-
     found : (c : Bool) (o : Option ℕ) → c ≡ true → is_some (if c then Some i.point else o) ≡ true
     found true o e = refl
     found false o e = absurd cc
@@ -52,9 +50,6 @@ pub kept_by : (test : ℕ → Bool) (n : ℕ) (images : List Image) → is_some 
 kept_by test n [] e = absurd cc
 kept_by test n (i ∷ images) e = by_head (test i.set) (i.set == n) refl refl e (kept_by test n images)
   where
-    equal : (a b : ℕ) → (a == b) ≡ true → a ≡ b
-    equal a b e = grind arith
-
     skipped : (c : Bool) (o : Option ℕ) → c ≡ false → is_some (if c then Some i.point else o) ≡ true → is_some o ≡ true
     skipped true o e f = absurd cc
     skipped false o e f = f
@@ -74,13 +69,6 @@ still_after n (i ∷ images) m p e = by_head (i.set == n) e (still_after n image
     by_head true e ih = refl
     by_head false e ih = ih e
 
-not_of : (b : Bool) → not b ≡ false → b ≡ true
-not_of true e = refl
-not_of false e = absurd cc
-
-equal : (a b : ℕ) → (a == b) ≡ true → a ≡ b
-equal a b e = grind arith
-
 no_less : (a b : ℕ) → nat_lt a b ≡ false → b ≤ a
 no_less a b e = grind arith
 
@@ -88,10 +76,10 @@ is_less : (a b : ℕ) → nat_lt a b ≡ true → a < b
 is_less a b e = grind arith
 
 pub gone_dropped : (m n : ℕ) (h : History) → has_image n h ≡ true → has_image n (dropped m h) ≡ false → m ≡ n
-gone_dropped m n h e f = sym (equal n m (not_of (n == m) (gone_by (λ k. not (k == m)) n h.images e f)))
+gone_dropped m n h e f = sym (equal n m (not_false (n == m) (gone_by (λ k. not (k == m)) n h.images e f)))
 
 pub gone_reverted : (m n : ℕ) (images : List Image) → is_some (point_in n images) ≡ true → is_some (point_in n (up_to_set m images)) ≡ false → m < n
-gone_reverted m n images e f = is_less m n (not_of (nat_lt m n) (gone_by (λ k. not (nat_lt m k)) n images e f))
+gone_reverted m n images e f = is_less m n (not_false (nat_lt m n) (gone_by (λ k. not (nat_lt m k)) n images e f))
 
 -- ## on which volume
 
@@ -167,7 +155,7 @@ found_least test a (suc len) m l h = by_head (test a) (a == m) refl refl h (foun
     by_head false false g i h ih = ih (next a m l i) (subst (λ k. m < unwrap_or (find test (range_with_len (a + 1) len)) k) (one_more a len) h)
 
 pub least_sets : (sets slots : ℕ) (ps : List Placed) (v b : ℕ) (hs : List History) (m : ℕ) → m < evicted_up_to sets slots ps v b hs → lacks_slot slots ps v b (gone_up_to m ps hs) ≡ true
-least_sets sets slots ps v b hs m h = not_of _ (found_least (λ k. not (lacks_slot slots ps v b (gone_up_to k ps hs))) 0 sets m (omega arith) (subst (λ k. m < unwrap_or (find (λ k. not (lacks_slot slots ps v b (gone_up_to k ps hs))) (range_with_len 0 sets)) k) (from_none sets) h))
+least_sets sets slots ps v b hs m h = not_false _ (found_least (λ k. not (lacks_slot slots ps v b (gone_up_to k ps hs))) 0 sets m (omega arith) (subst (λ k. m < unwrap_or (find (λ k. not (lacks_slot slots ps v b (gone_up_to k ps hs))) (range_with_len 0 sets)) k) (from_none sets) h))
   where
     from_none : (n : ℕ) → n ≡ 0 + n
     from_none n = omega arith

@@ -9,7 +9,7 @@ use Rattle.vss_model.specs.State.{history_in}
 use Rattle.vss_model.proofs.NewestImage.{UpTo}
 use Rattle.vss_model.proofs.Volumes.{at}
 use Rattle.promises.specs.Gone.{within}
-use Rattle.promises.proofs.Named.{at_most_itself}
+use Rattle.promises.proofs.Truth.{no_less, not_true}
 use Rattle.promises.proofs.Shrinks.{used_in}
 
 -- ## what each volume uses
@@ -28,7 +28,7 @@ group_less (p ∷ ps) (h ∷ hs) (k ∷ ks) f e = by_group p.within (f 0 p.block
 
     by_group : (b : Bool) → used_in p.blocks k ≤ used_in p.blocks h → group_used ps ks ≤ group_used ps hs → (if b then used p.blocks k.writes k.images else 0) + group_used ps ks ≤ (if b then used p.blocks h.writes h.images else 0) + group_used ps hs
     by_group true l m = both (used_in p.blocks k) (used_in p.blocks h) (group_used ps ks) (group_used ps hs) l m
-    by_group false l m = both 0 0 (group_used ps ks) (group_used ps hs) (at_most_itself 0) m
+    by_group false l m = both 0 0 (group_used ps ks) (group_used ps hs) (no_less 0) m
 
 -- a volume that is not of the group
 pub group_other : (f : History → History) (u : ℕ) (ps : List Placed) (hs : List History) → within (slice_get ps u) ≡ false → group_used ps (change_at u f hs) ≡ group_used ps hs
@@ -60,10 +60,10 @@ group_more f (suc u) extra (p ∷ ps) (h ∷ hs) g = more (if p.within then used
 
 -- a change that makes its own volume use no more
 pub changed_uses : (f : History → History) (u : ℕ) (hs : List History) → ((n : ℕ) → used_in n (f (at hs u)) ≤ used_in n (at hs u)) → (v n : ℕ) → used_in n (at (change_at u f hs) v) ≤ used_in n (at hs v)
-changed_uses f u [] g v n = at_most_itself (used_in n (at [] v))
+changed_uses f u [] g v n = no_less (used_in n (at [] v))
 changed_uses f zero (h ∷ hs) g zero n = g n
-changed_uses f zero (h ∷ hs) g (suc v) n = at_most_itself (used_in n (at hs v))
-changed_uses f (suc u) (h ∷ hs) g zero n = at_most_itself (used_in n h)
+changed_uses f zero (h ∷ hs) g (suc v) n = no_less (used_in n (at hs v))
+changed_uses f (suc u) (h ∷ hs) g zero n = no_less (used_in n h)
 changed_uses f (suc u) (h ∷ hs) g (suc v) n = changed_uses f u hs g v n
 
 -- ## a slot for a write
@@ -109,10 +109,6 @@ needs_none m (suc v) b (p ∷ ps) (h ∷ hs) e up = needs_none m v b ps hs e up
 pub enough_goes : (sets slots : ℕ) (ps : List Placed) (v b : ℕ) (hs : List History) → within (slice_get ps v) ≡ true → UpTo sets (at hs v).images → lacks_slot slots ps v b (gone_up_to (evicted_up_to sets slots ps v b hs) ps hs) ≡ false
 enough_goes sets slots ps v b hs e up = by_found (find (λ m. not (lacks_slot slots ps v b (gone_up_to m ps hs))) (range_with_len 0 sets)) refl
   where
-    not_true : (t : Bool) → not t ≡ true → t ≡ false
-    not_true true f = absurd cc
-    not_true false f = refl
-
     off : (t u : Bool) → t ≡ false → (t && u) ≡ false
     off true u f = absurd cc
     off false u f = refl

@@ -18,9 +18,10 @@ use Rattle.vss_model.proofs.LogRule.{unspoken}
 use Rattle.vss_model.proofs.Orderly.{true_not_false}
 use Rattle.vss_model.proofs.Spoken.{among_filter, among_members}
 use Rattle.promises.specs.Way.{Deed, level_of, stage, Rising, same_volume, is_heard, is_made, AreOnce, heard, agreed, made}
+use Rattle.promises.proofs.Truth.{both_parts, equal, left_part, not_true, right_part}
 use Rattle.promises.proofs.Levels.{Ascends, MembersOf}
 use Rattle.promises.proofs.Speaks.{deed_at, deed_in}
-use Rattle.promises.proofs.Stages.{deeds_in, left_part, right_part, both_parts, equal, open_stage, Below}
+use Rattle.promises.proofs.Stages.{deeds_in, open_stage, Below}
 
 -- ## who was waited for has spoken
 
@@ -159,10 +160,6 @@ passes test x (y ∷ xs) e = by_head (test y) (y == x) refl refl e (passes test 
         other : (c : Bool) → c ≡ false → (c || is_among x (filter test xs)) ≡ true → is_among x (filter test xs) ≡ true
         other true h e = absurd cc
         other false h e = e
-
-pub not_true : (b : Bool) → not b ≡ true → b ≡ false
-not_true true e = absurd cc
-not_true false e = refl
 
 -- who is waited for has not spoken
 pub unsaid_filter : (log : List Entry) (p : Place) (x : ℕ) (xs : List ℕ) → is_among x (filter (λ who. not (has_said log p who)) xs) ≡ true → has_said log p x ≡ false

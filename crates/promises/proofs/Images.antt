@@ -36,6 +36,7 @@ use Rattle.vss_model.proofs.OrderlyActs.{orderly}
 use Rattle.vss_model.proofs.Volumes.{at, FewerIn, fewer_written, fewer_in_same, fewer_in_change, fewer_in_over}
 use Rattle.vss_model.proofs.FewerImages.{fewer_images_dropped}
 use Rattle.promises.specs.Gone.{stands, Fails, IsWanted, IsOfSession, Takes, TakesBy, ImagesGoForCause}
+use Rattle.promises.proofs.Truth.{false_of}
 use Rattle.promises.proofs.ByEvent.{Covers, covered, after_enabled, after_not_enabled}
 use Rattle.promises.proofs.GoneImages.{gone_dropped, gone_reverted, gone_map, gone_change, gone_group, left_in_group, least_sets, fails_as, gone_followed, gone_failed_in, none_stepped, course-made, made_keeps}
 
@@ -109,10 +110,6 @@ module _ (s : Plan) (st : State) (num : NumberedFrom 1 st.sets) (n v : ℕ) wher
 
         over : (g m n : ℕ) → g < m → m ≤ n → n ≤ g → ⊥
         over g m n l h i = omega arith
-
-        false_of : (b : Bool) → (b ≡ true → ⊥) → b ≡ false
-        false_of true f = absurd (f refl)
-        false_of false f = refl
 
     pub wants_or_fails : (b : Bool) (c : Bool) → stands roomy n v ≡ c → stands st n v ≡ true → stands (put u w mark (with_room_if b roomy)) n v ≡ false → Fails st (put u w mark (with_room_if b roomy)) n ⊎ (stands roomy n v ≡ false)
     wants_or_fails b false e h g = inr e

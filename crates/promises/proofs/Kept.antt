@@ -20,6 +20,7 @@ use Rattle.vss_model.proofs.Volumes.{at}
 use Rattle.promises.specs.Answers.{answer_of}
 use Rattle.promises.specs.Gone.{stands}
 use Rattle.promises.specs.Kept.{is_kept, is_of_backup, has_in_it, revert_answer, is_deleted, FindsTheKept}
+use Rattle.promises.proofs.Truth.{both_parts}
 
 -- ## the row of a set
 
@@ -134,11 +135,6 @@ module _ (s : Plan) (so_far : List Act) where
       same : (k : ℕ) → nat_lt 0 (0 + k) ≡ nat_lt 0 k
       same k = grind arith
 
-  both_true : (a b : Bool) → (a && b) ≡ true → (a ≡ true) × (b ≡ true)
-  both_true true true e = (refl, refl)
-  both_true true false e = absurd cc
-  both_true false b e = absurd cc
-
   abbrev goes : ℕ → Replied
   goes n = (Deleted (count_images n st.volumes), record st { volumes = map (dropped n) st.volumes })
 
@@ -148,7 +144,7 @@ module _ (s : Plan) (so_far : List Act) where
   set_goes : (n v : ℕ) → is_kept st n v ≡ true → is_deleted (delete_set n st).0 ≡ true
   unfolding delete_set
   set_goes n v e =
-      let parts = both_true (is_kept_set st n) (stands st n v) e in
+      let parts = both_parts (is_kept_set st n) (stands st n v) e in
       by_test (is_kept_set st n) (nat_lt 0 (count_images n st.volumes)) parts.0 (some_counted n v st.volumes parts.1)
     where
       by_test : (a b : Bool) → a ≡ true → b ≡ true → is_deleted (if a && b then goes n else none).0 ≡ true

@@ -13,9 +13,9 @@ use Rattle.vss_model.proofs.OneCut.{images_in_time}
 use Rattle.vss_model.proofs.Volumes.{at}
 use Rattle.promises.specs.Copies.{place_from, is_cut_by, is_overwritten, is_copy, are_once, KeepsCopies}
 use Rattle.promises.specs.Gone.{within}
-use Rattle.promises.proofs.Copies.{own_number, later_set, InTimeAll}
+use Rattle.promises.proofs.Truth.{both_are, both_parts, not_both, or_false, same_number}
+use Rattle.promises.proofs.Copies.{later_set, InTimeAll}
 use Rattle.promises.proofs.Members.{none_passes, range_passes}
-use Rattle.promises.proofs.Stages.{both_parts, both_are}
 
 -- ## the copies of one image
 
@@ -148,12 +148,9 @@ other_volume k u n b m ws (i ∷ newer) e =
 none_of_set : (i : Image) (images : List Image) (n : ℕ) → AreLater i images → (i.set == n) ≡ true → point_in n images ≡ None
 none_of_set i images n h e = by_point (point_in n images) refl
   where
-    both : (c : Bool) → c ≡ true → c ≡ false → ⊥
-    both c e f = cc
-
     by_point : (o : Option ℕ) → point_in n images ≡ o → point_in n images ≡ None
     by_point None f = f
-    by_point (Some p) f = absurd (both (i.set == n) e (later_set i n p images h f))
+    by_point (Some p) f = absurd (not_both (i.set == n) e (later_set i n p images h f))
 
 some_same : (a c : ℕ) → Some a ≡ Some c → a ≡ c
 some_same a c e = cc
@@ -198,10 +195,6 @@ exactly_of : (k n b m p : ℕ) (ws : List Write) (images : List Image) → AreIn
 exactly_of k n b m p ws [] t e l = absurd cc
 exactly_of k n b m p ws (i ∷ newer) t e l = by_set (i.set == n) refl e (λ f. exactly_of k n b m p ws newer t.2 f l)
   where
-    or_none : (c : Bool) → (c || false) ≡ c
-    or_none true = refl
-    or_none false = refl
-
     off : (c : Bool) → (c && false) ≡ false
     off true = refl
     off false = refl
@@ -212,8 +205,8 @@ exactly_of k n b m p ws (i ∷ newer) t e l = by_set (i.set == n) refl e (λ f. 
     by_set true f e ih =
         list_any-append (is_copy k n b) (map (copy_of k ws i) (named m ws i newer)) (copies_of k m ws newer)
         ∙ ap (λ c. list_any (is_copy k n b) (map (copy_of k ws i) (named m ws i newer)) || c) (no_image k k n b m ws newer (none_of_set i newer n t.1 f))
-        ∙ or_none (list_any (is_copy k n b) (map (copy_of k ws i) (named m ws i newer)))
-        ∙ any_own k k n b ws i (named m ws i newer) (own_number k) f
+        ∙ or_false (list_any (is_copy k n b) (map (copy_of k ws i) (named m ws i newer)))
+        ∙ any_own k k n b ws i (named m ws i newer) (same_number k) f
         ∙ among_named m b (writes_since ws i.point newer) l
         ∙ since_cut n b ws i newer t.1 t.2 f
         ∙ ap (λ q. is_overwritten n b (i ∷ newer) q (drop q ws)) (some_same i.point p e)
@@ -267,10 +260,6 @@ exactly_in k [] hs u n b p t e l f = absurd cc
 exactly_in k (x ∷ ps) [] u n b p t e l f = absurd cc
 exactly_in k (x ∷ ps) (h ∷ hs) zero n b p t e l f = by_group x.within e
   where
-    or_none : (c : Bool) → (c || false) ≡ c
-    or_none true = refl
-    or_none false = refl
-
     next : (k : ℕ) → k < k + 1
     next k = omega arith
 
@@ -279,7 +268,7 @@ exactly_in k (x ∷ ps) (h ∷ hs) zero n b p t e l f = by_group x.within e
     by_group true g =
         list_any-append (is_copy k n b) (copies_of k x.blocks h.writes h.images) (copies_from (k + 1) ps hs)
         ∙ ap (λ c. list_any (is_copy k n b) (copies_of k x.blocks h.writes h.images) || c) (none_below (k + 1) k n b ps hs (next k))
-        ∙ or_none (list_any (is_copy k n b) (copies_of k x.blocks h.writes h.images))
+        ∙ or_false (list_any (is_copy k n b) (copies_of k x.blocks h.writes h.images))
         ∙ exactly_of k n b x.blocks p h.writes h.images (t 0) f l
     by_group false g = absurd cc
 exactly_in k (x ∷ ps) (h ∷ hs) (suc u) n b p t e l f = by_group x.within (λ j. exactly_in j ps hs u n b p (λ v. t (suc v)) e l f)
@@ -324,13 +313,13 @@ once_range k ws i test a (suc n) = by_test (test a) (once_range k ws i test (a +
         → are_once (map (copy_of k ws i) (if c then a ∷ filter test (range_with_len (a + 1) n) else filter test (range_with_len (a + 1) n))) ≡ true
     by_test true ih =
         both_are (not (list_any (is_copy k i.set a) (map (copy_of k ws i) (filter test (range_with_len (a + 1) n))))) (are_once (map (copy_of k ws i) (filter test (range_with_len (a + 1) n))))
-        (ap not (any_own k k i.set a ws i (filter test (range_with_len (a + 1) n)) (own_number k) (own_number i.set) ∙ none_passes test (a + 1) n a (next a)))
+        (ap not (any_own k k i.set a ws i (filter test (range_with_len (a + 1) n)) (same_number k) (same_number i.set) ∙ none_passes test (a + 1) n a (next a)))
         ih
     by_test false ih = ih
 
 not_newer : (k m : ℕ) (ws : List Write) (i : Image) (newer : List Image) (bs : List ℕ) → AreLater i newer → NotAmong (copies_of k m ws newer) (map (copy_of k ws i) bs)
 not_newer k m ws i newer [] h = tt
-not_newer k m ws i newer (b ∷ bs) h = (no_image k k i.set b m ws newer (none_of_set i newer i.set h (own_number i.set)), not_newer k m ws i newer bs h)
+not_newer k m ws i newer (b ∷ bs) h = (no_image k k i.set b m ws newer (none_of_set i newer i.set h (same_number i.set)), not_newer k m ws i newer bs h)
 
 once_of : (k m most : ℕ) (ws : List Write) (images : List Image) → AreInTime most images → are_once (copies_of k m ws images) ≡ true
 once_of k m most ws [] t = refl

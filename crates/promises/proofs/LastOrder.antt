@@ -14,10 +14,11 @@ use Rattle.set_agenda.specs.Advance.{others, advance}
 use Rattle.set_agenda.specs.Agenda.{Agenda, Open, places, plain, is_orders, waited_for, with_group, left_from, groups_left, is_asked, is_among, order_now, order_if, open_order, all_say}
 use Rattle.set_agenda.proofs.GroupsLeft.{unasked_if-nil, groups_left-all_say}
 use Rattle.vss_model.proofs.CourseCalls.{asked_if}
-use Rattle.promises.proofs.Heard.{passes, not_true}
+use Rattle.promises.proofs.Truth.{both_are, both_parts, left_part, not_both, not_true, right_part}
+use Rattle.promises.proofs.Heard.{passes}
 use Rattle.promises.proofs.OpenGroup.{every, in_kind}
 use Rattle.promises.proofs.Speaks.{now_group}
-use Rattle.promises.proofs.Stages.{either_true, left_part, right_part, both_parts, both_are}
+use Rattle.promises.proofs.Stages.{either_true}
 
 -- ## one group alone
 
@@ -63,10 +64,7 @@ not_in_kind k a w e h o = at_list (groups_left a) refl (order_is (is_asked w (gr
     order_is false x e = absurd cc
 
     not_it : (g : Group) → g ≡ Orders BackupComplete → not (is_last_order g) ≡ true → ⊥
-    not_it g f i = is_false (not (is_last_order g)) i (ap (λ x. not (is_last_order x)) f)
-      where
-        is_false : (b : Bool) → b ≡ true → b ≡ false → ⊥
-        is_false b e f = cc
+    not_it g f i = not_both (not (is_last_order g)) i (ap (λ x. not (is_last_order x)) f)
 
     at_list : (os : List Open) → groups_left a ≡ os → order_now os ≡ Some BackupComplete → ⊥
     at_list [] g f = absurd cc

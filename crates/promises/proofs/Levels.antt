@@ -35,6 +35,7 @@ use Rattle.vss_model.specs.Laws.{IsKeptByChanges, IsKeptByWrites}
 use Rattle.vss_model.proofs.Rule.{on_after}
 use Rattle.promises.specs.Numbers.{timeout_in, timeout_of, HasItsNumbers}
 use Rattle.promises.specs.Way.{level_in, level_of}
+use Rattle.promises.proofs.Truth.{no_less}
 
 -- members in the order of their writers, from w on, each once
 abbrev pub Ascends : ℕ → List Member → Type 0
@@ -52,11 +53,8 @@ ascend_of_rows : (test : ℕ → Bool) (w : ℕ) (rs : List WriterRow) → Ascen
 ascend_of_rows test w [] = tt
 ascend_of_rows test w (r ∷ rs) = by_test (test w) (ascend_of_rows test (w + 1) rs)
   where
-    itself : (n : ℕ) → n ≤ n
-    itself n = omega arith
-
     by_test : (b : Bool) → Ascends (w + 1) (members_from test (w + 1) rs) → Ascends w (member_if b w r ++ members_from test (w + 1) rs)
-    by_test true h = (itself w, h)
+    by_test true h = (no_less w, h)
     by_test false h = ascends_from w (members_from test (w + 1) rs) h
 
 -- a change of a row that keeps its level and its time-out

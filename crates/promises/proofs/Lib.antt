@@ -56,7 +56,9 @@ pub mod Evicted
 pub mod CutTimes
 pub mod Properties
 pub mod CalmCourses
+pub mod CalmStages
 pub mod SetFailures
+pub mod Truth
 pub mod Turns
 pub mod LastResult
 pub mod Progress
@@ -68,6 +70,6 @@ pub mod Refusals
 pub mod Scripts
 pub mod KeptCopies
 pub mod Documents
-pub mod Consents
+pub mod Owing
 pub mod Promises
 pub mod Headline

@@ -17,6 +17,7 @@ use Rattle.set_agenda.specs.Course.{Course, posted, failed as course_failed, lim
 use Rattle.vss_model.specs.Facts.{has_failed}
 use Rattle.vss_model.specs.Causes.{has_passed, last_of, holds_volumes, is_hold_step, freezes_writers, prepares_snapshot, prepares_writers, is_elsewhere, frozen_too_long, unanswered_too_long}
 use Rattle.vss_model.proofs.Late.{Decides}
+use Rattle.promises.proofs.Truth.{both_parts}
 
 -- ## a limit has gone by
 
@@ -172,10 +173,6 @@ passed_spent now since limit e = over (nat_lt (since + limit) now) limit now sin
     over : (b : Bool) (l n t : ℕ) → nat_lt (t + l) n ≡ b → b ≡ true → nat_lt l (n - t) ≡ true
     over true l n t e f = grind arith
     over false l n t e f = absurd cc
-
-pub both_parts : (a b : Bool) → (a && b) ≡ true → (a ≡ true) × (b ≡ true)
-both_parts true b e = (refl, e)
-both_parts false b e = absurd cc
 
 -- ## which limit is spent
 

@@ -20,6 +20,7 @@ use Rattle.vss_model.specs.Acts.{Act, state}
 use Rattle.vss_model.specs.Causes.{has_passed, last_of, is_elsewhere}
 use Rattle.vss_model.specs.Effects.{ticks_of, lost_after, lost_order_if}
 use Rattle.promises.specs.Lost.{is_over, is_over_at, is_over_in, is_over_after, LosesTheLate}
+use Rattle.promises.proofs.Truth.{first_both}
 use Rattle.promises.proofs.BusyAgendas.{none_held}
 use Rattle.promises.proofs.Limits.{freeze_since, answer_since}
 
@@ -147,15 +148,11 @@ someone : (ws : List ℕ) (w : ℕ) (o : Option Order) → is_among w ws ≡ tru
 someone [] w o e = absurd cc
 someone (x ∷ ws) w o e = refl
 
-first_part : (a b : Bool) → (a && b) ≡ true → a ≡ true
-first_part true b e = refl
-first_part false b e = absurd cc
-
 pub loses_the_late : (s : Plan) (so_far : List Act) (act : Act) → LosesTheLate s so_far act
 loses_the_late s so_far act =
     let st = state s so_far in
     let n = ticks_of st act.event in
     record {
       told = λ w. told_after n st w;
-      order = λ w e. someone (lost_after n st) w (order_now (left_now st)) e ∙ owes (left_now st) w (first_part (is_some (open_order (left_now st) w)) (is_over_after n st) (sym (told_after n st w) ∙ e));
+      order = λ w e. someone (lost_after n st) w (order_now (left_now st)) e ∙ owes (left_now st) w (first_both (is_some (open_order (left_now st) w)) (is_over_after n st) (sym (told_after n st w) ∙ e));
     }

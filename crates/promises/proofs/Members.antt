@@ -15,11 +15,9 @@ use Rattle.component_doc.specs.Selection.{Pair}
 use Rattle.vss_model.specs.State.{State}
 use Rattle.vss_model.specs.Sessions.{is_known, meta_if, known_from, selected_in}
 use Rattle.promises.specs.Participants.{is_writer}
+use Rattle.promises.proofs.Truth.{equal, or_false}
 
 -- ## numbers in order
-
-equal : (a b : ℕ) → (a == b) ≡ true → a ≡ b
-equal a b e = grind arith
 
 beyond : (a w : ℕ) → w < a → (a == w) ≡ false
 beyond a w l = grind arith
@@ -79,19 +77,15 @@ one_more test a n w rest l own later = by_number (a == w) refl
 head_member : (test : ℕ → Bool) (k : ℕ) (r : WriterRow) (rows : List WriterRow) (w : ℕ) → is_member (members_from test k (r ∷ rows)) w ≡ ((test k && (k == w)) || is_member (members_from test (k + 1) rows) w)
 head_member test k r rows w = list_any-append (λ (m : Member). m.writer == w) (member_if (test k) k r) (members_from test (k + 1) rows) ∙ ap (λ b. b || is_member (members_from test (k + 1) rows) w) (by_test (test k))
   where
-    or_nothing : (b : Bool) → (b || false) ≡ b
-    or_nothing true = refl
-    or_nothing false = refl
-
     by_test : (b : Bool) → is_member (member_if b k r) w ≡ (b && (k == w))
-    by_test true = or_nothing (k == w)
+    by_test true = or_false (k == w)
     by_test false = refl
 
 no_member_before : (test : ℕ → Bool) (k : ℕ) (rows : List WriterRow) (w : ℕ) → w < k → is_member (members_from test k rows) w ≡ false
 no_member_before test k [] w l = refl
 no_member_before test k (r ∷ rows) w l = head_member test k r rows w ∙ skips (test k) (k == w) (is_member (members_from test (k + 1) rows) w) (beyond k w l) ∙ no_member_before test (k + 1) rows w (still_less k w l)
 
-members_from_are : (test : ℕ → Bool) (k : ℕ) (rows : List WriterRow) (w : ℕ) → k ≤ w → is_member (members_from test k rows) w ≡ (nat_lt w (k + length rows) && test w)
+pub members_from_are : (test : ℕ → Bool) (k : ℕ) (rows : List WriterRow) (w : ℕ) → k ≤ w → is_member (members_from test k rows) w ≡ (nat_lt w (k + length rows) && test w)
 members_from_are test k [] w l = sym (outside_is (nat_lt w (k + 0)) (test w) (none_from k w l))
 members_from_are test k (r ∷ rows) w l =
     head_member test k r rows w

@@ -5,15 +5,13 @@ use Rattle.std.specs.List.{range_with_len}
 use Rattle.std.proofs.lemmas.List.{drop-append-le, take-append-le, length-drop}
 use Rattle.std.proofs.lemmas.List.Folds.{list_any-append}
 use Rattle.write_history.specs.History.{Write, names, blocks_named, to_restore, restoring}
+use Rattle.promises.proofs.Truth.{chain, equal, right_part}
 
 -- whatever these writes name, those do
 abbrev pub NameNoMore : List Write → List Write → Type 0
 NameNoMore xs ys = (b : ℕ) → names xs b ≡ true → names ys b ≡ true
 
 -- ## counted
-
-pub at_most_itself : (n : ℕ) → n ≤ n
-at_most_itself n = omega arith
 
 fewer_pass : (f g : ℕ → Bool) → ((b : ℕ) → f b ≡ true → g b ≡ true) → (bs : List ℕ) → length (filter f bs) ≤ length (filter g bs)
 fewer_pass f g h [] = omega arith
@@ -114,14 +112,6 @@ pub either : (a b : Bool) → (a || b) ≡ true → (a ≡ true) ⊎ (b ≡ true
 either true b e = inl refl
 either false b e = inr e
 
-pub first_of : (a b : Bool) → a ≡ true → (a || b) ≡ true
-first_of true b e = refl
-first_of false b e = absurd cc
-
-pub second_of : (a b : Bool) → b ≡ true → (a || b) ≡ true
-second_of true b e = refl
-second_of false b e = e
-
 -- with one more write before both
 with_head : (w : Write) (xs ys : List Write) → NameNoMore xs ys → NameNoMore (w ∷ xs) (w ∷ ys)
 with_head w xs ys h b e = by_test (w.block == b) e
@@ -161,7 +151,7 @@ later_no_more (suc a) (suc p) (w ∷ ws) b e = later_no_more a p ws b e
 pub since_later : (a p : ℕ) (ws : List Write) → a ≤ p → NameNoMore (drop p ws) (drop a ws)
 since_later zero zero ws l b e = e
 since_later zero (suc p) [] l b e = e
-since_later zero (suc p) (w ∷ ws) l b e = second_of (w.block == b) (names ws b) (since_later zero p ws (omega arith) b e)
+since_later zero (suc p) (w ∷ ws) l b e = right_part (w.block == b) (names ws b) (since_later zero p ws (omega arith) b e)
 since_later (suc a) zero ws l b e = absurd (omega arith)
 since_later (suc a) (suc p) [] l b e = e
 since_later (suc a) (suc p) (w ∷ ws) l b e = since_later a p ws (omega arith) b e
@@ -169,12 +159,9 @@ since_later (suc a) (suc p) (w ∷ ws) l b e = since_later a p ws (omega arith) 
 -- further writes are not of a part before them
 pub inner_append : (a b : ℕ) (ws more : List Write) → a ≤ b → b ≤ length ws → slice_range (ws ++ more) a b ≡ slice_range ws a b
 inner_append a b ws more l h =
-    ap (take (b - a)) (drop-append-le a ws more (less a b (length ws) l h))
+    ap (take (b - a)) (drop-append-le a ws more (chain a b (length ws) l h))
     ∙ take-append-le (b - a) (drop a ws) more (subst (λ n. b - a ≤ n) (sym (length-drop a ws)) (less_both a b (length ws) l h))
   where
-    less : (a b c : ℕ) → a ≤ b → b ≤ c → a ≤ c
-    less a b c l h = omega arith
-
     less_both : (a b c : ℕ) → a ≤ b → b ≤ c → b - a ≤ c - a
     less_both a b c l h = omega arith
 
@@ -201,9 +188,6 @@ restored_named : (ws since : List Write) (p : ℕ) (bs : List ℕ) → AllNamed 
 restored_named ws since p [] h b e = no_names b _ e
 restored_named ws since p (c ∷ bs) h b e = by_test (c == b) refl e (restored_named ws since p bs h.1 b)
   where
-    equal : (a b : ℕ) → (a == b) ≡ true → a ≡ b
-    equal a b e = grind arith
-
     by_test : (t : Bool) → (c == b) ≡ t → (t || names (map (restoring ws p) bs) b) ≡ true → (names (map (restoring ws p) bs) b ≡ true → names since b ≡ true) → names since b ≡ true
     by_test true f g ih = subst (λ x. names since x ≡ true) (equal c b f) h.0
     by_test false f g ih = ih g
@@ -213,11 +197,8 @@ restored n p k ws = map (restoring ws p) (take k (to_restore n ws p))
 
 -- blocks that were named since a point, restored, are named no more since any point before it
 pub restored_no_more : (n p k a : ℕ) (ws : List Write) → a ≤ p → p ≤ length ws → NameNoMore (drop a (ws ++ map (restoring ws p) (take k (to_restore n ws p)))) (drop a ws)
-restored_no_more n p k a ws l h b e = by_part (either _ _ (sym (list_any-append (λ (w : Write). w.block == b) (drop a ws) (restored n p k ws)) ∙ ap (λ xs. names xs b) (sym (drop-append-le a ws (restored n p k ws) (less a p (length ws) l h))) ∙ e))
+restored_no_more n p k a ws l h b e = by_part (either _ _ (sym (list_any-append (λ (w : Write). w.block == b) (drop a ws) (restored n p k ws)) ∙ ap (λ xs. names xs b) (sym (drop-append-le a ws (restored n p k ws) (chain a p (length ws) l h))) ∙ e))
   where
-    less : (a b c : ℕ) → a ≤ b → b ≤ c → a ≤ c
-    less a b c l h = omega arith
-
     by_part : (names (drop a ws) b ≡ true) ⊎ (names (restored n p k ws) b ≡ true) → names (drop a ws) b ≡ true
     by_part (inl f) = f
     by_part (inr f) = since_later a p ws l b (restored_named ws (drop p ws) p (take k (to_restore n ws p)) (named_first (drop p ws) k (to_restore n ws p) (named_filter (drop p ws) (range_with_len 0 n))) b f)

@@ -12,8 +12,9 @@ use Rattle.set_agenda.specs.declared.limit.Limit.{Limit}
 use Rattle.set_agenda.specs.declared.limit.Limit.TheVariants.{Hold as HoldLimit}
 use Rattle.set_agenda.specs.Limits.{Running as RunningLimit, is_prepare_snapshot, is_hold, hold_runs, freeze_runs, runs_if, hold_running, spent_of}
 use Rattle.set_agenda.specs.Course.{is_decisive}
+use Rattle.promises.proofs.Truth.{chain}
 use Rattle.promises.proofs.Limits.{later_found}
-use Rattle.promises.proofs.Stages.{group_stage, less_both}
+use Rattle.promises.proofs.Stages.{group_stage}
 
 -- ## limits that are not spent
 
@@ -150,7 +151,7 @@ pub freeze_ten : (g : Group) (l : Option Level) → freeze_runs g ≡ true → g
 freeze_ten (Orders Identify) l e = absurd cc
 freeze_ten (Orders PrepareBackup) l e = absurd cc
 freeze_ten (Orders PrepareSnapshot) l e = absurd cc
-freeze_ten (Orders Freeze) l e = less_both (group_stage (Orders Freeze) l) 5 10 (freeze_at l) (omega arith)
+freeze_ten (Orders Freeze) l e = chain (group_stage (Orders Freeze) l) 5 10 (freeze_at l) (omega arith)
 freeze_ten (Orders Thaw) l e = absurd cc
 freeze_ten (Orders PostSnapshot) l e = absurd cc
 freeze_ten (Orders BackupComplete) l e = absurd cc

@@ -16,8 +16,9 @@ use Rattle.set_agenda.specs.Agenda.{Agenda, Open, places, same_order, has_failed
 use Rattle.vss_model.proofs.Orderly.{true_not_false}
 use Rattle.vss_model.proofs.Spoken.{among_filter}
 use Rattle.promises.specs.Way.{Deed, is_heard, is_again, AreOnce, heard, Spoke}
+use Rattle.promises.proofs.Truth.{equal, false_of, left_part, right_part, same_number}
 use Rattle.promises.proofs.Levels.{Ascends}
-use Rattle.promises.proofs.Stages.{left_part, right_part, false_of, equal, same_number, level_or, leveled}
+use Rattle.promises.proofs.Stages.{level_or, leveled}
 use Rattle.promises.proofs.Heard.{order_place}
 
 -- ## no step twice

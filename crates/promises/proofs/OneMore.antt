@@ -11,8 +11,9 @@ use Rattle.set_agenda.specs.declared.limit.Limit.TheVariants.{Hold as HoldLimit,
 use Rattle.set_agenda.specs.declared.place.Place.{Place}
 use Rattle.set_agenda.specs.Agenda.{Agenda, Entry, Open, places, group_code, level_code, same_place, left_from, groups_left, open_place, at_place, all_say}
 use Rattle.set_agenda.specs.Limits.{Running as RunningLimit, last_time, opened_at, is_prepare_snapshot, freeze_opened_at, is_hold, first_hold, hold_runs, freeze_runs, answer_runs, runs_if, hold_running, running_at, spent_of}
+use Rattle.promises.proofs.Truth.{both_parts, chain, equal, not_itself}
 use Rattle.promises.proofs.Speaks.{Speaks}
-use Rattle.promises.proofs.Stages.{both_parts, equal, group_stage, open_stage, less_both, closed_stays, goes_up, snapshot_from}
+use Rattle.promises.proofs.Stages.{group_stage, open_stage, closed_stays, goes_up, snapshot_from}
 use Rattle.promises.proofs.Heard.{same_group}
 use Rattle.promises.proofs.NotSpent.{at_once, none_both, none_first, none_second, unspent_if, is_unspent, unspent_hold, is_mild, hold_six, hold_nine, hold_between, freeze_ten, freeze_between, mild_high, is_backup_order, high_mild}
 use Rattle.promises.proofs.OpenGroup.{every, in_kind, IsOpen, IsSome, speaks_some, speaks_open, last_new, none_new, filter_along, has_hold, hold_there, hold_stays, hold_new, new_hold}
@@ -63,11 +64,11 @@ module _ (now : ℕ) (said : Said) (ws : List ℕ) (a : Agenda) (who : Speaks a 
   ordered_more k e = by_old (has_hold a.log) refl (sym (list_any-append (λ (x : Entry). is_hold x.place.group) a.log (map (at_place p said now) ws)) ∙ e)
     where
       by_old : (b : Bool) → has_hold a.log ≡ b → (has_hold a.log || has_hold (map (at_place p said now) ws)) ≡ true → 6 ≤ open_stage (groups_left more)
-      by_old true i j = less_both 6 (open_stage (groups_left a)) (open_stage (groups_left more)) (order k i) (up k)
+      by_old true i j = chain 6 (open_stage (groups_left a)) (open_stage (groups_left more)) (order k i) (up k)
       by_old false i j =
           let held = new_hold now p said ws (second (has_hold a.log) (has_hold (map (at_place p said now) ws)) i j) in
           let six = hold_six shown.place.group shown.place.level (ap (λ (q : Place). is_hold q.group) (sym p_is) ∙ held) in
-          less_both 6 (open_stage (groups_left a)) (open_stage (groups_left more)) (subst (λ n. 6 ≤ n) (sym stage_is) six) (up k)
+          chain 6 (open_stage (groups_left a)) (open_stage (groups_left more)) (subst (λ n. 6 ≤ n) (sym stage_is) six) (up k)
         where
           second : (b c : Bool) → b ≡ false → (b || c) ≡ true → c ≡ true
           second true c e f = absurd cc
@@ -78,14 +79,10 @@ module _ (now : ℕ) (said : Said) (ws : List ℕ) (a : Agenda) (who : Speaks a 
   mild_stays Gather e m x xs g = in_kind (λ q. is_mild q.group) Gather more x xs e refl g
   mild_stays Complete e m x xs g = in_kind (λ q. is_mild q.group) Complete more x xs e refl g
   mild_stays Prepare e m x xs g =
-      absurd (both (is_mild shown.place.group) (ap (λ (q : Place). is_mild q.group) (sym p_is) ∙ m) (in_kind (λ q. not (is_mild q.group)) Prepare a shown now_open.rest e refl now_open.is))
-    where
-      both : (b : Bool) → b ≡ true → not b ≡ true → ⊥
-      both true e f = cc
-      both false e f = cc
+      absurd (not_itself (is_mild shown.place.group) (ap (λ (q : Place). is_mild q.group) (sym p_is) ∙ m) (in_kind (λ q. not (is_mild q.group)) Prepare a shown now_open.rest e refl now_open.is))
   mild_stays Snapshot e m x xs g =
       let high = mild_high shown.place.group shown.place.level (ap (λ (q : Place). is_mild q.group) (sym p_is) ∙ m) in
-      let higher = less_both 11 (open_stage (groups_left a)) (open_stage (groups_left more)) (subst (λ n. 11 ≤ n) (sym stage_is) high) (up e) in
+      let higher = chain 11 (open_stage (groups_left a)) (open_stage (groups_left more)) (subst (λ n. 11 ≤ n) (sym stage_is) high) (up e) in
       high_mild x.place.group x.place.level (in_kind (λ q. not (is_backup_order q.group)) Snapshot more x xs e refl g) (subst (λ ys. 11 ≤ open_stage ys) g higher)
 
   module _ (f : ℕ) (old : Unspent now f a) (x : Open) (xs : List Open) (g : groups_left more ≡ x ∷ xs) where
@@ -102,11 +99,7 @@ module _ (now : ℕ) (said : Said) (ws : List ℕ) (a : Agenda) (who : Speaks a 
     before = subst (λ os. spent_of now (running_at f a os) ≡ None) now_open.is old
 
     not_in : (test : Group → Bool) (k : Kind) → a.kind ≡ k → every (λ q. not (test q.group)) (places k) ≡ true → test x.place.group ≡ true → ⊥
-    not_in test k e h i = both (test x.place.group) i (in_kind (λ q. not (test q.group)) k more x xs e h g)
-      where
-        both : (b : Bool) → b ≡ true → not b ≡ true → ⊥
-        both true e f = cc
-        both false e f = cc
+    not_in test k e h i = not_itself (test x.place.group) i (in_kind (λ q. not (test q.group)) k more x xs e h g)
 
     holds_kind : (k : Kind) → a.kind ≡ k → hold_runs x.place.group ≡ true → k ≡ Snapshot
     holds_kind Gather e i = absurd (not_in hold_runs Gather e refl i)
@@ -121,7 +114,7 @@ module _ (now : ℕ) (said : Said) (ws : List ℕ) (a : Agenda) (who : Speaks a 
     freezes_kind Complete e i = absurd (not_in freeze_runs Complete e refl i)
 
     under : (n : ℕ) → a.kind ≡ Snapshot → group_stage x.place.group x.place.level ≤ n → group_stage shown.place.group shown.place.level ≤ n
-    under n k h = subst (λ m. m ≤ n) stage_is (less_both (open_stage (groups_left a)) (open_stage (groups_left more)) n (up k) (subst (λ ys. open_stage ys ≤ n) (sym g) h))
+    under n k h = subst (λ m. m ≤ n) stage_is (chain (open_stage (groups_left a)) (open_stage (groups_left more)) n (up k) (subst (λ ys. open_stage ys ≤ n) (sym g) h))
 
     hold_part : spent_of now (hold_running x.place.group (first_hold more.log)) ≡ None
     hold_part = unspent_hold now x.place.group (first_hold more.log) (λ since e i. by_old (first_hold a.log) refl since e i)

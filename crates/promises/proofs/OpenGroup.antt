@@ -9,8 +9,8 @@ use Rattle.set_agenda.specs.Agenda.{Agenda, Entry, Open, places, is_orders, wait
 use Rattle.set_agenda.specs.Limits.{last_time, is_hold, first_time, first_hold}
 use Rattle.vss_model.specs.Acts.{after}
 use Rattle.vss_model.proofs.Waiting.{WaitsWell, waits-left_from}
+use Rattle.promises.proofs.Truth.{both_parts}
 use Rattle.promises.proofs.Speaks.{Speaks}
-use Rattle.promises.proofs.Stages.{both_parts}
 
 -- ## the open group
 

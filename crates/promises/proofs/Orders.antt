@@ -17,9 +17,10 @@ use Rattle.set_agenda.specs.Agenda.{Agenda, Entry, Open, places, same_order, ord
 use Rattle.set_agenda.specs.Course.{is_member, fails_set}
 use Rattle.scenario.specs.Plan.{Plan}
 use Rattle.promises.specs.Way.{level_of, is_heard, is_agreed, heard, agreed, failed}
+use Rattle.promises.proofs.Truth.{both_are, both_parts, equal, left_part, right_part, same_number}
 use Rattle.promises.proofs.Levels.{MembersOf}
 use Rattle.promises.proofs.Speaks.{deed_at, deed_in}
-use Rattle.promises.proofs.Stages.{deeds_in, left_part, right_part, both_parts, both_are, equal, same_number, level_or, leveled, Closed}
+use Rattle.promises.proofs.Stages.{deeds_in, level_or, leveled, Closed}
 use Rattle.promises.proofs.Heard.{said_all, same_group, said_deed}
 
 -- ## orders

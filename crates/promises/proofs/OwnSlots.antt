@@ -19,6 +19,7 @@ use Rattle.vss_model.proofs.OrderlyActs.{orderly}
 use Rattle.vss_model.proofs.Volumes.{at}
 use Rattle.promises.specs.Failing.{HasNoSlot, WritesFailForSlots}
 use Rattle.promises.specs.Gone.{within}
+use Rattle.promises.proofs.Truth.{false_of}
 use Rattle.promises.proofs.Failing.{fails_for_cause}
 use Rattle.promises.proofs.GoneImages.{gone_group, left_in_group, least_sets}
 
@@ -156,10 +157,6 @@ module _ (s : Plan) (st : State) (r : SetRow) (is : in_progress st ≡ Some r) (
 pub loses_none : (s : Plan) (st : State) (v b : ℕ) → ((r : SetRow) → in_progress st ≡ Some r → HasNoSlot s st r.number v b → ⊥) → loses_own_image s st v b ≡ false
 loses_none s st v b h = by_set (in_progress st) refl
   where
-    false_of : (c : Bool) → (c ≡ true → ⊥) → c ≡ false
-    false_of true f = absurd (f refl)
-    false_of false f = refl
-
     by_set : (o : Option SetRow) → in_progress st ≡ o → loses_own_image s st v b ≡ false
     by_set None e = ap (λ o. set_loses_image o st.volumes (cleared s v b st).volumes) e
     by_set (Some r) e = false_of (loses_own_image s st v b) (λ f. h r e (no_slot s st r e v b f))

@@ -32,6 +32,7 @@ use Rattle.vss_model.specs.Sessions.{is_disabled, known_metas, disable, pending,
 use Rattle.vss_model.specs.Acts.{Act, enabled, idle_now, after, state}
 use Rattle.promises.specs.Participants.{Choosing, unsaid, is_chosen, is_fine, line_says, event_says, is_unfit, choosing_if, choosing_from, choosing, is_writer, ChosenTakePart}
 use Rattle.promises.specs.Way.{is_pending}
+use Rattle.promises.proofs.Truth.{or_false}
 use Rattle.promises.proofs.ByEvent.{Covers, ChangesNothing, covered, after_enabled, after_not_enabled}
 use Rattle.promises.proofs.Members.{is_selected, selected_are}
 use Rattle.promises.proofs.SameChoice.{same_course, SameChoice, same_choice, same_beside, mode_in, on_begun, on_agenda_begun, on_followed, on_failed_in, on_answered, on_ticked, on_stepped, on_write, on_revert}
@@ -103,12 +104,8 @@ within : (b c d e : Bool) → d ≡ (c || e) → (b || d) ≡ ((b || c) || e)
 within true c d e f = refl
 within false c d e f = f
 
-or_nothing : (b : Bool) → (b || false) ≡ b
-or_nothing true = refl
-or_nothing false = refl
-
 pub pair_added : (test : Pair → Bool) (q : Pair) (ps : List Pair) → list_any test (with_pair q ps) ≡ (list_any test ps || test q)
-pair_added test q [] = or_nothing (test q)
+pair_added test q [] = or_false (test q)
 pair_added test q (p ∷ ps) = by_place (comes_before q p) (pair_added test q ps)
   where
     by_place : (b : Bool) → list_any test (with_pair q ps) ≡ (list_any test ps || test q) → list_any test (if b then q ∷ p ∷ ps else p ∷ with_pair q ps) ≡ ((test p || list_any test ps) || test q)
@@ -130,7 +127,7 @@ named_of w u name (Some (Some m)) ps new e =
     ]) e
 
 one_disabled : (f : ℕ → Bool) (ds : List ℕ) (u : ℕ) → list_any f (ds ++ u ∷ []) ≡ (list_any f ds || f u)
-one_disabled f ds u = list_any-append f ds (u ∷ []) ∙ ap (λ b. list_any f ds || b) (or_nothing (f u))
+one_disabled f ds u = list_any-append f ds (u ∷ []) ∙ ap (λ b. list_any f ds || b) (or_false (f u))
 
 off : (b : Bool) → false ≡ (b && false)
 off true = refl

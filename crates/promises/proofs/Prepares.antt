@@ -32,6 +32,7 @@ use Rattle.vss_model.proofs.Named.{AreOver}
 use Rattle.vss_model.proofs.OrderlyActs.{none_after}
 use Rattle.promises.specs.Participants.{Choosing, is_chosen, is_unfit, choosing, is_writer, is_prepare, TakesPart}
 use Rattle.promises.specs.Way.{is_pending}
+use Rattle.promises.proofs.Truth.{equal, first_both, not_true, second_both}
 use Rattle.promises.proofs.ByEvent.{Covers, ChangesNothing, covered, after_enabled, after_not_enabled}
 use Rattle.promises.proofs.SameChoice.{same_course, same_choice, on_begun, on_agenda_begun, on_followed, on_failed_in, on_answered, on_ticked, on_stepped, on_write, on_revert}
 use Rattle.promises.proofs.Participants.{Follows, standing, asked_by, asked_are, follows_all}
@@ -85,21 +86,6 @@ module _ (s : Plan) (st : State) where
 
 -- ## a writer that is named is known, so its class is not disabled
 
-equal : (a b : ℕ) → (a == b) ≡ true → a ≡ b
-equal a b e = grind arith
-
-and_left : (a b : Bool) → (a && b) ≡ true → a ≡ true
-and_left true b e = refl
-and_left false b e = absurd cc
-
-and_right : (a b : Bool) → (a && b) ≡ true → b ≡ true
-and_right true b e = e
-and_right false b e = absurd cc
-
-not_on : (b : Bool) → not b ≡ true → b ≡ false
-not_on true e = absurd cc
-not_on false e = refl
-
 known_if : (b : Bool) (m : Meta) → is_some (meta_if b m) ≡ true → b ≡ true
 known_if true m e = refl
 known_if false m e = absurd cc
@@ -122,21 +108,21 @@ selectable_known i (Some m) e = refl
 
 named_known : (ms : List (Option Meta)) (ps : List Pair) (w : ℕ) → list_all (names_selectable ms) ps ≡ true → list_any (λ (p : Pair). p.writer == w) ps ≡ true → is_some (meta_at (slice_get ms w)) ≡ true
 named_known ms [] w e f = absurd cc
-named_known ms (p ∷ ps) w e f = by_head (p.writer == w) refl f (named_known ms ps w (and_right (names_selectable ms p) (list_all (names_selectable ms) ps) e))
+named_known ms (p ∷ ps) w e f = by_head (p.writer == w) refl f (named_known ms ps w (second_both (names_selectable ms p) (list_all (names_selectable ms) ps) e))
   where
     by_head : (b : Bool) → (p.writer == w) ≡ b → (b || list_any (λ (x : Pair). x.writer == w) ps) ≡ true → (list_any (λ (x : Pair). x.writer == w) ps ≡ true → is_some (meta_at (slice_get ms w)) ≡ true) → is_some (meta_at (slice_get ms w)) ≡ true
-    by_head true g h ih = subst (λ x. is_some (meta_at (slice_get ms x)) ≡ true) (equal p.writer w g) (selectable_known p.component (meta_at (slice_get ms p.writer)) (and_left (names_selectable ms p) (list_all (names_selectable ms) ps) e))
+    by_head true g h ih = subst (λ x. is_some (meta_at (slice_get ms x)) ≡ true) (equal p.writer w g) (selectable_known p.component (meta_at (slice_get ms p.writer)) (first_both (names_selectable ms p) (list_all (names_selectable ms) ps) e))
     by_head false g h ih = ih h
 
 pub named_is_known : (s : Plan) (st : State) (w : ℕ) → AreOver (known_metas s st) st.explicit → list_any (λ (p : Pair). p.writer == w) st.explicit ≡ true → is_known s st w ≡ true
 named_is_known s st w over e =
-    subst (λ x. is_known s st x ≡ true) (zero_plus w) (known_at s st 0 s.writers w (named_known (known_metas s st) st.explicit w (and_left (list_all (names_selectable (known_metas s st)) st.explicit) (is_ascending st.explicit) over) e))
+    subst (λ x. is_known s st x ≡ true) (zero_plus w) (known_at s st 0 s.writers w (named_known (known_metas s st) st.explicit w (first_both (list_all (names_selectable (known_metas s st)) st.explicit) (is_ascending st.explicit) over) e))
   where
     zero_plus : (a : ℕ) → 0 + a ≡ a
     zero_plus a = omega arith
 
 named_enabled : (s : Plan) (st : State) (w : ℕ) → AreOver (known_metas s st) st.explicit → list_any (λ (p : Pair). p.writer == w) st.explicit ≡ true → is_disabled s st w ≡ false
-named_enabled s st w over e = not_on (is_disabled s st w) (and_left (not (is_disabled s st w)) (not (has_failed_identify (slice_get st.course.rows w))) (named_is_known s st w over e))
+named_enabled s st w over e = not_true (is_disabled s st w) (first_both (not (is_disabled s st w)) (not (has_failed_identify (slice_get st.course.rows w))) (named_is_known s st w over e))
 
 -- ## `prepare`
 
@@ -161,7 +147,7 @@ module _ (s : Plan) (w : ℕ) (st : State) (c : Choosing) (h : Follows s w st c)
 
   enabled_by : (m : Mode) (all : Bool) → m ≡ mode_of all → list_any (λ (p : Pair). p.writer == w) st.explicit ≡ c.named → is_disabled s st w ≡ c.disabled
       → (if all then not c.disabled && not (is_unfit st w) else c.named) ≡ true → c.disabled ≡ false
-  enabled_by m true e named off f = not_on c.disabled (and_left (not c.disabled) (not (is_unfit st w)) f)
+  enabled_by m true e named off f = not_true c.disabled (first_both (not c.disabled) (not (is_unfit st w)) f)
   enabled_by m false e named off f = sym off ∙ named_enabled s st w over (named ∙ f)
 
   members_fixed : (q : Session) → (followed true (course_prepared (takers (length s.writers) (selected s q st)) st.clock st.course) st).course.members ≡ asked_by s w st c h q
@@ -212,6 +198,6 @@ takes_part s so_far act =
       prepared = λ lane w e on told. (chosen_in s w st (choosing s w so_far) (follows_all s w so_far) over act lane e on told).0;
       none_disabled = λ lane w e on told f.
           let x = chosen_in s w st (choosing s w so_far) (follows_all s w so_far) over act lane e on told in
-          x.1 (and_right (is_writer s w) (is_chosen (is_unfit st w) (choosing s w so_far)) (sym x.0 ∙ f));
+          x.1 (second_both (is_writer s w) (is_chosen (is_unfit st w) (choosing s w so_far)) (sym x.0 ∙ f));
       stay = λ r e f. stay_if s st (enabled s st act.event) act r refl e f;
     }

@@ -1,6 +1,6 @@
 -- A session stands where its accepted lines have brought it.
 use Rattle.std.proofs.Common.{◌≡◌, ◌∙◌, ℕ, List, [], ◌∷◌, ◌++◌, Option, Some, None, refl, Bool, true, false, ap, sym, subst, inl, inr, fold}
-use Rattle.std.specs.Prelude.{◌&&◌, is_some, option_map, option_and_then, if◌then◌else◌, length}
+use Rattle.std.specs.Prelude.{is_some, option_map, option_and_then, if◌then◌else◌, length}
 use Rattle.vss_names.specs.declared.context.Context.{Context}
 use Rattle.vss_names.specs.declared.context.Context.TheVariants.{Backup, AppRollback, NasRollback}
 use Rattle.vss_names.specs.declared.set_outcome.SetOutcome.{SetOutcome}
@@ -40,6 +40,7 @@ use Rattle.vss_model.proofs.OrderlyActs.{orderly}
 use Rattle.promises.specs.Awaited.{failure_of, failure_in, set_failure}
 use Rattle.promises.specs.InOrder.{Step, ByBegin, ByGather, ByStart, ByPrepare, BySnapshot, ByComplete, ByFailure, Progress, line_brings, event_brings, lost_if, progress_after, progress_if, progress_from, progress, HasItsContext}
 use Rattle.promises.specs.Rows.{row_fails, set_fails}
+use Rattle.promises.proofs.Truth.{both_parts}
 use Rattle.promises.proofs.ByEvent.{Covers, ChangesNothing, covered, after_enabled, after_not_enabled}
 use Rattle.promises.proofs.CalmCourses.{calm_begun}
 use Rattle.promises.proofs.SetFailures.{failure_at}
@@ -113,11 +114,6 @@ write_brings : (o : Op) (t : Target) (told : Reply) (p : Progress) → target_of
 write_brings (op.WriteFill v b x) t told p e = refl
 write_brings (op.WriteStamp v b n) t told p e = refl
 write_brings o t told p e = absurd cc
-
-pub both_true : (a b : Bool) → (a && b) ≡ true → (a ≡ true) × (b ≡ true)
-both_true true true e = (refl, refl)
-both_true true false e = absurd cc
-both_true false b e = absurd cc
 
 pub is_opened : (t : Stage) → is_stage t Opened ≡ true → t ≡ Opened
 is_opened Opened e = refl
@@ -244,16 +240,16 @@ module _ (s : Plan) (so_far : List Act) (p : Progress) where
       ticks = λ lane n mark. goes (Line lane (op.Tick n)) Fine _ refl (tick_turn s so_far n);
       begins = λ lane n all c mark e f. on_opened lane n all c e f;
       disables = λ lane w q mark g. quiet (Line lane (op.Disable w)) Fine _ refl refl (λ m. refl) refl;
-      gathers = λ lane q mark g. on_begun lane op.Gather ByGather q _ refl g.stands (ap (stage_after q.context) (is_opened q.stage (both_true (is_stage q.stage Opened) (has_writers q.context) g.allowed).0)) (calm_begun kind.Gather _ [] st.clock _);
+      gathers = λ lane q mark g. on_begun lane op.Gather ByGather q _ refl g.stands (ap (stage_after q.context) (is_opened q.stage (both_parts (is_stage q.stage Opened) (has_writers q.context) g.allowed).0)) (calm_begun kind.Gather _ [] st.clock _);
       names = λ lane w full q explicit mark g named. quiet (Line lane (op.Component w full)) Fine _ refl refl (λ m. refl) refl;
       starts = λ lane q mark g e. on_start lane q g e;
       adds = λ lane v r q mark g e f. goes (Line lane (op.Add v)) Fine _ refl (add_turn s so_far v r);
-      prepares = λ lane q mark g. let may = both_true (is_stage q.stage Started) (has_writers q.context) g.allowed in
+      prepares = λ lane q mark g. let may = both_parts (is_stage q.stage Started) (has_writers q.context) g.allowed in
           begun_if (has_no_volume (in_progress st)) lane op.Prepare mark ByPrepare q (prepared (takers (length s.writers) (selected s q st)) st.clock st.course) refl refl g.stands
           (ap (stage_after q.context) (is_started q.stage may.0) ∙ prepares q.context may.1) (calm_begun kind.Prepare _ [] st.clock _);
       snapshots = λ lane q mark g. begun_if (has_no_volume (in_progress st)) lane op.Snapshot mark BySnapshot q (snapshot_begun (volumes_of (in_progress st)) st.clock st.course) refl refl g.stands (snapshots q.context q.stage g.allowed)
           (calm_begun kind.Snapshot st.course.members _ st.clock st.course);
-      completes = λ lane q mark g. on_begun lane op.Complete ByComplete q _ refl g.stands (ap (stage_after q.context) (is_done q.stage (both_true (is_stage q.stage Done) (has_writers q.context) g.allowed).0)) (calm_begun kind.Complete _ [] st.clock st.course);
+      completes = λ lane q mark g. on_begun lane op.Complete ByComplete q _ refl g.stands (ap (stage_after q.context) (is_done q.stage (both_parts (is_stage q.stage Done) (has_writers q.context) g.allowed).0)) (calm_begun kind.Complete _ [] st.clock st.course);
       aborts = λ lane q mark e. goes (Line lane op.Abort) Fine _ refl (abort_turn s so_far);
       ends = λ lane q mark e. on_close (Line lane op.End) Fine q (failed AsyncCancelled st);
       answers = λ w answer mark e. goes (AnswerEvent w answer) (answer_reply (order_of_writer st w) answer) _ refl (answer_turn s so_far w (said_of answer));

@@ -41,7 +41,7 @@ use Rattle.promises.proofs.Unanswered.{orders_end}
 use Rattle.promises.proofs.Whole.{complete_by_the_way}
 use Rattle.promises.proofs.Within.{stands_within_limits}
 use Rattle.promises.proofs.Documents.{tells_document}
-use Rattle.promises.proofs.Consents.{consents}
+use Rattle.promises.proofs.Owing.{nobody_owes}
 
 pub as_promised : (s : Plan) (trail : List Move) → IsAsPromised s trail
 as_promised s trail = record {
@@ -67,7 +67,6 @@ as_promised s trail = record {
     awaits = await_tells s so_far act;
     rows = rows_change s so_far act;
     loses = loses_the_late s so_far act;
-    consents = consents s so_far act;
     document = tells_document s so_far act;
     refused = refuses_for_cause s so_far act;
   };
@@ -79,6 +78,7 @@ as_promised s trail = record {
     context = has_its_context s so_far;
     chosen = chosen_take_part s so_far;
     asks = asks_its_own s so_far;
+    owes = nobody_owes s so_far;
     volumes = volumes_are_distinct s so_far;
     idles = idles_shortest s so_far;
     limits = stands_within_limits s so_far;

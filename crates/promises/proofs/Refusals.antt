@@ -30,6 +30,7 @@ use Rattle.promises.specs.Accepted.{is_ordered, is_accepted}
 use Rattle.promises.specs.InOrder.{ByBegin, ByGather, ByStart, BySnapshot, Progress, progress, is_step, asks_writers, comes_now}
 use Rattle.promises.specs.Participants.{is_fine}
 use Rattle.promises.specs.Refusing.{name_refusal_in, name_refusal, place_refusal, want_refusal, order_refusal, RefusesForCause}
+use Rattle.promises.proofs.Truth.{not_both}
 use Rattle.promises.proofs.Accepted.{allowed_in, same_stage, start_stage, either_stage, writers_asked, makes_its_set, line_reply}
 use Rattle.promises.proofs.Progress.{stage_of, StandsAt, stands_all}
 
@@ -90,10 +91,7 @@ module _ (s : Plan) (st : State) where
   -- a call that waits for nothing but a set with a volume
   volume_refused : (b : Bool) (x y : Replied) → x.0 ≡ Coded BadState → is_accepted y.0 ≡ true → is_accepted (if b then x else y).0 ≡ false → (if b then x else y).0 ≡ Coded BadState
   volume_refused true x y e f g = e
-  volume_refused false x y e f g = absurd (both (is_accepted y.0) f g)
-    where
-      both : (b : Bool) → b ≡ true → b ≡ false → ⊥
-      both b e f = cc
+  volume_refused false x y e f g = absurd (not_both (is_accepted y.0) f g)
 
 -- ## ordered calls
 

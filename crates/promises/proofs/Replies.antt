@@ -1,5 +1,5 @@
 -- Replies tell what stands.
-use Rattle.std.proofs.Common.{◌≡◌, ◌∙◌, ℕ, ◌==◌, List, [], ◌∷◌, Option, Some, None, refl, Bool, true, false, ap, sym, map, filter, arith}
+use Rattle.std.proofs.Common.{◌≡◌, ◌∙◌, ℕ, ◌==◌, List, [], ◌∷◌, Option, Some, None, refl, Bool, true, false, ap, sym, map, filter}
 use Rattle.std.specs.Prelude.{◌&&◌, ◌||◌, is_some, if◌then◌else◌}
 use Rattle.std.specs.List.{range_with_len}
 use Rattle.write_history.specs.declared.mark.Mark.{Mark}
@@ -20,6 +20,7 @@ use Rattle.vss_model.proofs.Headline.{keeps_promises}
 use Rattle.promises.specs.Contents.{block_now}
 use Rattle.vss_model.proofs.OneCut.{images_in_time}
 use Rattle.promises.specs.Replies.{IsBelow, AreRising, TellsTheCut, RepliesTell}
+use Rattle.promises.proofs.Truth.{equal}
 
 -- ## the point of a kept image
 
@@ -72,9 +73,6 @@ listed st n [] = none (is_kept_set st n)
     none false = refl
 listed st n (i ∷ images) = by_head (i.set == n) (is_kept_set st i.set) (is_kept_set st n) refl refl refl (listed st n images)
   where
-    equal : (a b : ℕ) → (a == b) ≡ true → a ≡ b
-    equal a b e = grind arith
-
     among : (c : Bool) (rest : List ℕ) → (i.set == n) ≡ c → is_among n (i.set ∷ rest) ≡ (c || is_among n rest)
     among c rest e = ap (λ x. x || is_among n rest) e
 

@@ -1,10 +1,11 @@
 -- What stands in a block after some blocks were brought back.
-use Rattle.std.proofs.Common.{◌≡◌, ◌∙◌, ℕ, ◌==◌, List, [], ◌∷◌, ◌++◌, refl, Bool, true, false, ap, sym, map, length, arith}
+use Rattle.std.proofs.Common.{◌≡◌, ◌∙◌, ℕ, ◌==◌, List, [], ◌∷◌, ◌++◌, refl, Bool, true, false, ap, sym, map, length}
 use Rattle.std.specs.Prelude.{◌||◌, if◌then◌else◌}
 use Rattle.std.proofs.Math.Seq.{take-length}
 use Rattle.block_data.specs.Runs.{zeros}
 use Rattle.write_history.specs.History.{Write, last_bytes, content, restoring}
 use Rattle.set_agenda.specs.Agenda.{is_among}
+use Rattle.promises.proofs.Truth.{equal}
 
 last_append : (b : ℕ) (before : List ℕ) (ws us : List Write) → last_bytes b before (ws ++ us) ≡ last_bytes b (last_bytes b before ws) us
 last_append b before [] us = refl
@@ -14,9 +15,6 @@ last_restored : (ws : List Write) (point b : ℕ) (bs : List ℕ) (before : List
 last_restored ws point b [] before = refl
 last_restored ws point b (c ∷ bs) before = last_restored ws point b bs (if c == b then content ws point c else before) ∙ by_block (c == b) (is_among b bs) refl
   where
-    equal : (a c : ℕ) → (a == c) ≡ true → a ≡ c
-    equal a c e = grind arith
-
     by_block : (d among : Bool) → (c == b) ≡ d → (if among then content ws point b else (if d then content ws point c else before)) ≡ (if d || among then content ws point b else before)
     by_block true true e = refl
     by_block true false e = ap (content ws point) (equal c b e)

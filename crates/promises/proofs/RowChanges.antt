@@ -1,6 +1,6 @@
 -- A writer's row changes by what is said, by its set's failure, by `gather` and by `end`, and by nothing else.
-use Rattle.std.proofs.Common.{◌≡◌, ◌∙◌, ℕ, ◌+◌, List, [], ◌∷◌, Option, Some, None, refl, Bool, true, false, ap, sym, subst, inl, inr, map, arith}
-use Rattle.std.specs.Prelude.{◌&&◌, ◌||◌, not, is_some, find, ◌==◌, if◌then◌else◌, slice_get}
+use Rattle.std.proofs.Common.{◌≡◌, ◌∙◌, ℕ, ◌+◌, List, [], ◌∷◌, Option, Some, None, refl, Bool, true, false, ap, sym, subst, inl, inr, map}
+use Rattle.std.specs.Prelude.{◌&&◌, not, is_some, find, ◌==◌, if◌then◌else◌, slice_get}
 use Rattle.vss_names.specs.declared.set_outcome.SetOutcome.{SetOutcome}
 use Rattle.vss_names.specs.declared.set_outcome.SetOutcome.TheVariants.{Running as RunningSet, Complete as CompleteSet, Failed as FailedSet}
 use Rattle.vss_names.specs.declared.vss_result.VssResult.{VssResult}
@@ -48,12 +48,12 @@ use Rattle.vss_model.proofs.FlushFails.{outcome_is_running}
 use Rattle.vss_model.proofs.OrderlyActs.{orderly}
 use Rattle.vss_model.proofs.Rows.{running_found, row_running}
 use Rattle.promises.specs.Rows.{row_fails, set_fails, row_said, at_rest, row_told, row_asked, row_over, state_at_ok, state_at_failure, speaks, said_by, asks_anew, ends_session, row_by, row_next, RowsChange}
+use Rattle.promises.proofs.Truth.{both_parts, equal, false_of, not_both, or_false}
 use Rattle.promises.proofs.CourseRows.{Becomes, as_it_is, and_told, same_rows, rows_map_are, rise_failed, stay_begun, say_to, refuses, comes_answered, Comes, stay_stepped, rise_stepped, lost_by, PassesOrFails, over_timed}
 use Rattle.promises.proofs.BusyAgendas.{IsBusy, busy_order, busy_step, busy_set, course_followed}
 use Rattle.promises.proofs.ByEvent.{Covers, ChangesNothing, covered, after_enabled}
 use Rattle.promises.proofs.Failing.{fails_for_cause, same_consent, same_veto, refused_fails, falls, followed_sets, failed_fails, write_fails}
 use Rattle.promises.proofs.Limits.{timed_fails}
-use Rattle.promises.proofs.Stages.{both_parts}
 use Rattle.promises.proofs.Times.{late_is_due}
 
 module _ (s : Plan) (so_far : List Act) where
@@ -79,13 +79,6 @@ module _ (s : Plan) (so_far : List Act) where
 
   told_all : (say : Says) (x : State) → falls_in x ≡ true → Becomes (and_told st.course.members say) rows x.course.rows → Told say x
   told_all say x e h w r f = h w r f ∙ ap (λ b. Some (row_if (b && is_member st.course.members w) row_aborted (say w r))) (sym e)
-
-  not_both : (b : Bool) → b ≡ true → b ≡ false → ⊥
-  not_both b e f = cc
-
-  false_of : (b : Bool) → (b ≡ true → ⊥) → b ≡ false
-  false_of true f = absurd (f refl)
-  false_of false f = refl
 
   is_busy : IsBusy st.course.agenda → is_some (in_progress st) ≡ true
   is_busy b = busy_set st.course.agenda st.session st.course.outcome (in_progress st) b (orderly s so_far).agenda (orderly s so_far).session
@@ -389,18 +382,11 @@ module _ (s : Plan) (so_far : List Act) where
       by_list (o ∷ os) = by_group o.place.group o.waits
 
   answer_said : (u w : ℕ) (said : Said) (r : WriterRow) → say_to (order_of_writer st u) said (u ∷ []) w r ≡ row_by (u == w) (row_said (order_of_writer st w) said) r
-  answer_said u w said r = own (order_of_writer st u) (u == w) (alone (u == w)) ∙ same_writer (u == w) refl
+  answer_said u w said r = own (order_of_writer st u) (u == w) (or_false (u == w)) ∙ same_writer (u == w) refl
     where
-      alone : (b : Bool) → (b || false) ≡ b
-      alone true = refl
-      alone false = refl
-
       own : (o : Option Order) (b : Bool) → is_among w (u ∷ []) ≡ b → say_to o said (u ∷ []) w r ≡ row_by b (row_said o said) r
       own None b e = nothing_said b said r
       own (Some p) b e = ap (λ c. row_if c (row_after p said) r) e ∙ said_if b p said r
-
-      equal : (a b : ℕ) → (a == b) ≡ true → a ≡ b
-      equal a b e = grind arith
 
       same_writer : (b : Bool) → (u == w) ≡ b → row_by b (row_said (order_of_writer st u) said) r ≡ row_by b (row_said (order_of_writer st w) said) r
       same_writer true e = ap (λ x. row_said (order_of_writer st x) said r) (equal u w e)

@@ -46,11 +46,12 @@ use Rattle.vss_model.proofs.CutLog.{said_stays}
 use Rattle.vss_model.proofs.Spoken.{among_filter}
 use Rattle.promises.specs.Scripted.{is_owed, is_asked_anew, asked_from, times_asked, written_in, AnswersByScript}
 use Rattle.promises.specs.Way.{Deed}
+use Rattle.promises.proofs.Truth.{both_are, both_parts, equal, left_part, not_itself, right_part, same_number}
 use Rattle.promises.proofs.BusyAgendas.{course_followed}
 use Rattle.promises.proofs.ByEvent.{Covers, covered, after_enabled, after_not_enabled}
 use Rattle.promises.proofs.Heard.{same_group}
 use Rattle.promises.proofs.Speaks.{Grows, grows_answered, grows_stepped, grows_timed}
-use Rattle.promises.proofs.Stages.{both_parts, both_are, equal, same_number, failed_stays, closed_stays, grown, new_log}
+use Rattle.promises.proofs.Stages.{failed_stays, closed_stays, grown, new_log}
 
 -- ## who waits at a place does not begin to wait there
 
@@ -85,11 +86,7 @@ kept_among f x (y ∷ xs) e g = by_head (y == x) refl g (kept_among f x xs e)
 
 -- a test that fails no longer did not before
 was_not : (b c : Bool) → (b ≡ true → c ≡ true) → not c ≡ true → not b ≡ true
-was_not true c f e = absurd (both c (f refl) e)
-  where
-    both : (c : Bool) → c ≡ true → not c ≡ true → ⊥
-    both true e f = cc
-    both false e f = cc
+was_not true c f e = absurd (not_itself c (f refl) e)
 was_not false c f e = refl
 
 module _ (said : Said) (now : ℕ) (ws : List ℕ) (a : Agenda) (w : ℕ) where
@@ -132,19 +129,11 @@ open_among : (b : Agenda) (w : ℕ) (p : Place) (qs : List Place) → is_among w
 open_among b w p [] e f = absurd cc
 open_among b w p (q ∷ qs) e f = at_group (waited_for b q) (open_among b w p qs) e f
   where
-    or_right : (c d : Bool) → d ≡ true → (c || d) ≡ true
-    or_right true d e = refl
-    or_right false d e = e
-
-    or_left : (c d : Bool) → c ≡ true → (c || d) ≡ true
-    or_left true d e = refl
-    or_left false d e = absurd cc
-
     at_group : (ws : List ℕ) → (is_among w (waits_now (left_from b qs)) ≡ true → same_place p (open_place (left_from b qs)) ≡ true → list_any (same_place p) qs ≡ true)
         → is_among w (waits_now (with_group q ws (left_from b qs))) ≡ true → same_place p (open_place (with_group q ws (left_from b qs))) ≡ true
         → (same_place p q || list_any (same_place p) qs) ≡ true
-    at_group [] ih e f = or_right (same_place p q) (list_any (same_place p) qs) (ih e f)
-    at_group (x ∷ ws) ih e f = or_left (same_place p q) (list_any (same_place p) qs) f
+    at_group [] ih e f = right_part (same_place p q) (list_any (same_place p) qs) (ih e f)
+    at_group (x ∷ ws) ih e f = left_part (same_place p q) (list_any (same_place p) qs) f
 
 left_shrinks : (a b : Agenda) (w : ℕ) → ((p : Place) → waited_for a p ≡ [] → waited_for b p ≡ [])
     → ((p : Place) → is_among w (waited_for b p) ≡ true → is_among w (waited_for a p) ≡ true) → (ps : List Place) → are_apart ps ≡ true
@@ -153,11 +142,7 @@ left_shrinks a b w closed fewer [] e = λ same i. i
 left_shrinks a b w closed fewer (p ∷ ps) e = by_waits (waited_for a p) (waited_for b p) (closed p) (fewer p) (left_shrinks a b w closed fewer ps (both_parts (not (list_any (same_place p) ps)) (are_apart ps) e).1)
   where
     elsewhere : same_place p (open_place (left_from b ps)) ≡ true → is_among w (waits_now (left_from b ps)) ≡ true → ⊥
-    elsewhere f g = both (list_any (same_place p) ps) (open_among b w p ps g f) (both_parts (not (list_any (same_place p) ps)) (are_apart ps) e).0
-      where
-        both : (c : Bool) → c ≡ true → not c ≡ true → ⊥
-        both true e f = cc
-        both false e f = cc
+    elsewhere f g = not_itself (list_any (same_place p) ps) (open_among b w p ps g f) (both_parts (not (list_any (same_place p) ps)) (are_apart ps) e).0
 
     by_waits : (xs ys : List ℕ) → (xs ≡ [] → ys ≡ []) → (is_among w ys ≡ true → is_among w xs ≡ true) → Shrinks w (left_from a ps) (left_from b ps)
         → Shrinks w (with_group p xs (left_from a ps)) (with_group p ys (left_from b ps))

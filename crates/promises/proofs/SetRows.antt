@@ -29,6 +29,7 @@ use Rattle.vss_model.proofs.Appending.{state-append}
 use Rattle.vss_model.proofs.OrderlyActs.{orderly}
 use Rattle.vss_model.proofs.Rows.{found_above}
 use Rattle.promises.specs.Ends.{IsLaterRow, HasLaterRow, KeepsRows}
+use Rattle.promises.proofs.Truth.{equal, left_part}
 use Rattle.promises.proofs.ByEvent.{Covers, covered, after_enabled, after_not_enabled}
 
 -- ## one row
@@ -49,15 +50,11 @@ settled_row p r = by_case (is_running r.result) refl
     by_case true e = record { number = refl; context = refl; volumes = λ v e. e; over = λ f. absurd cc }
     by_case false e = same_row r
 
-or_left : (a b : Bool) → a ≡ true → (a || b) ≡ true
-or_left true b e = refl
-or_left false b e = absurd cc
-
 more_volumes : (v : ℕ) (r : SetRow) → is_running r.result ≡ true → IsLaterRow r (with_volume v r)
 more_volumes v r e = record {
   number = refl;
   context = refl;
-  volumes = λ u f. list_any-append (λ (x : ℕ). x == u) r.volumes (v ∷ []) ∙ or_left (is_among u r.volumes) ((v == u) || false) f;
+  volumes = λ u f. list_any-append (λ (x : ℕ). x == u) r.volumes (v ∷ []) ∙ left_part (is_among u r.volumes) ((v == u) || false) f;
   over = λ f. absurd cc;
 }
 
@@ -267,9 +264,6 @@ own_number (q ∷ rows) n r e = by_head (q.number == n) refl e (own_number rows 
   where
     some_same : (a b : SetRow) → Some a ≡ Some b → a ≡ b
     some_same a b e = cc
-
-    equal : (a b : ℕ) → (a == b) ≡ true → a ≡ b
-    equal a b e = grind arith
 
     by_head : (b : Bool) → (q.number == n) ≡ b → (if b then Some q else find (λ (x : SetRow). x.number == n) rows) ≡ Some r → (find (λ (x : SetRow). x.number == n) rows ≡ Some r → r.number ≡ n) → r.number ≡ n
     by_head true f e ih = subst (λ (x : SetRow). x.number ≡ n) (some_same q r e) (equal q.number n f)

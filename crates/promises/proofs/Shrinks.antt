@@ -1,5 +1,5 @@
 -- Volumes with fewer images use no more slots, and no write needs a slot there that needed none before.
-use Rattle.std.proofs.Common.{◌≡◌, ◌∙◌, ℕ, ◌+◌, ◌==◌, ◌≤◌, zero, suc, List, [], ◌∷◌, Option, Some, None, refl, Bool, true, false, ap, sym, subst, map, filter, length, arith}
+use Rattle.std.proofs.Common.{◌≡◌, ◌∙◌, ℕ, ◌+◌, ◌==◌, ◌≤◌, zero, suc, List, [], ◌∷◌, Option, Some, None, refl, Bool, true, false, ap, sym, subst, map, filter, length}
 use Rattle.std.specs.Prelude.{not, nat_lt}
 use Rattle.vss_names.specs.declared.context.Context.{Context}
 use Rattle.vss_names.specs.declared.context.Context.TheVariants.{Backup, AppRollback, NasRollback}
@@ -12,7 +12,7 @@ use Rattle.vss_model.specs.Ending.{images_dropped}
 use Rattle.vss_model.specs.Sessions.{images_released}
 use Rattle.vss_model.specs.Steps.{cut_if, cut_each}
 use Rattle.vss_model.proofs.Volumes.{at, Each, each_map, each_change, each_gone, as_many_map, as_many_change, as_many_gone}
-use Rattle.promises.proofs.Named.{at_most_itself}
+use Rattle.promises.proofs.Truth.{chain, no_less}
 use Rattle.promises.proofs.Used.{Rising, rising_fewer, rising_cut, fewer_used, fewer_need, cut_used}
 
 -- ## a volume
@@ -32,16 +32,13 @@ abbrev pub Less : History → History → Type 0
 Less h k = InTime h → Shrinks h k
 
 pub less_same : (h : History) → Less h h
-less_same h t = record { in_time = t; uses = λ n. at_most_itself (used_in n h); needs = λ b e. e }
+less_same h t = record { in_time = t; uses = λ n. no_less (used_in n h); needs = λ b e. e }
 
 less_over : (h k l : History) → Less h k → Less k l → Less h l
 less_over h k l f g t =
     let x = f t in
     let y = g x.in_time in
     record { in_time = y.in_time; uses = λ n. chain (used_in n l) (used_in n k) (used_in n h) (y.uses n) (x.uses n); needs = λ b e. x.needs b (y.needs b e) }
-  where
-    chain : (a b c : ℕ) → a ≤ b → b ≤ c → a ≤ c
-    chain a b c i j = omega arith
 
 less_fewer : (test : Image → Bool) (h : History) → Less h (record { writes = h.writes; images = filter test h.images })
 less_fewer test h t = record {
@@ -103,9 +100,6 @@ uses_over hs ks ls h g = record {
   uses = λ v n t. chain (used_in n (at ls v)) (used_in n (at ks v)) (used_in n (at hs v)) (g.uses v n (h.in_time v t)) (h.uses v n t);
   as_many = g.as_many ∙ h.as_many;
 }
-  where
-    chain : (a b c : ℕ) → a ≤ b → b ≤ c → a ≤ c
-    chain a b c i j = omega arith
 
 -- the cut uses no slot
 cut_in_time : (m : ℕ) (b : Bool) (h : History) → InTime h → InTime (cut_if b m h)
@@ -113,8 +107,8 @@ cut_in_time m true h t = rising_cut m 0 (length h.writes) h.images t
 cut_in_time m false h t = t
 
 cut_uses : (m n : ℕ) (b : Bool) (h : History) → used_in n (cut_if b m h) ≤ used_in n h
-cut_uses m n true h = subst (λ k. k ≤ used_in n h) (sym (cut_used m n h.writes h.images)) (at_most_itself (used_in n h))
-cut_uses m n false h = at_most_itself (used_in n h)
+cut_uses m n true h = subst (λ k. k ≤ used_in n h) (sym (cut_used m n h.writes h.images)) (no_less (used_in n h))
+cut_uses m n false h = no_less (used_in n h)
 
 each_cut : (m : ℕ) (vs : List ℕ) (u : ℕ) (hs : List History) (v : ℕ) → InTime (at hs v) → InTime (at (cut_each m vs u hs) v)
 each_cut m vs u [] v t = t
@@ -122,7 +116,7 @@ each_cut m vs u (h ∷ hs) zero t = cut_in_time m (is_among u vs) h t
 each_cut m vs u (h ∷ hs) (suc v) t = each_cut m vs (u + 1) hs v t
 
 each_uses : (m : ℕ) (vs : List ℕ) (u : ℕ) (hs : List History) (v n : ℕ) → used_in n (at (cut_each m vs u hs) v) ≤ used_in n (at hs v)
-each_uses m vs u [] v n = at_most_itself (used_in n (at [] v))
+each_uses m vs u [] v n = no_less (used_in n (at [] v))
 each_uses m vs u (h ∷ hs) zero n = cut_uses m n (is_among u vs) h
 each_uses m vs u (h ∷ hs) (suc v) n = each_uses m vs (u + 1) hs v n
 

@@ -32,13 +32,11 @@ use Rattle.vss_model.proofs.OrderlyActs.{orderly}
 use Rattle.vss_model.proofs.Volumes.{at, as_many_change}
 use Rattle.promises.specs.Gone.{within}
 use Rattle.promises.specs.Slots.{SlotsSuffice}
+use Rattle.promises.proofs.Truth.{chain, equal, same_number}
 use Rattle.promises.proofs.ByEvent.{Covers, covered, after_enabled, after_not_enabled}
 use Rattle.promises.proofs.GroupUsed.{group_less, group_other, group_more, changed_uses, enough_goes, one_left}
 use Rattle.promises.proofs.Shrinks.{InTime, used_in, LessIn, less_in_same, less_in_over, less_in_map, less_in_change, less_in_gone, less_images_dropped, less_released, UsesNoMore, uses_less, uses_over, uses_cut}
 use Rattle.promises.proofs.Used.{rising, one_if, written_used, reverted_used, restored_used}
-
-chain : (a b c : ℕ) → a ≤ b → b ≤ c → a ≤ c
-chain a b c l h = omega arith
 
 -- ## the groups of a plan
 
@@ -139,10 +137,7 @@ module _ (s : Plan) (plan : IsPlan s) (st : State) (time : (v : ℕ) → AreInTi
           by_needs false f l = none_more _ _ _ (subst (λ u. group_used (group_of s v) (change_at v (written w) (with_room_if b roomy).volumes) ≤ group_used (group_of s v) (with_room_if b roomy).volumes + one_if u) f l) (fit_room b v)
 
       within_own : (q : VolumeRow) → slice_get s.volumes v ≡ Some q → within (slice_get (group_of s v) v) ≡ true
-      within_own q f = ap (λ o. within (slice_get (placed_in s.volumes o) v)) f ∙ within_placed q.group s.volumes v ∙ ap (λ o. within (option_map (placed q.group) o)) f ∙ own q.group
-        where
-          own : (a : ℕ) → (a == a) ≡ true
-          own a = grind arith
+      within_own q f = ap (λ o. within (slice_get (placed_in s.volumes o) v)) f ∙ within_placed q.group s.volumes v ∙ ap (λ o. within (option_map (placed q.group) o)) f ∙ same_number q.group
 
       -- in any group
       put_fits : (b t : Bool) (x : ℕ) (r q : VolumeRow) → slice_get s.volumes x ≡ Some r → slice_get s.volumes v ≡ Some q → (q.group == r.group) ≡ t → group_used (group_of s x) (change_at v (written w) (with_room_if b roomy).volumes) ≤ slots_of s x
@@ -151,9 +146,6 @@ module _ (s : Plan) (plan : IsPlan s) (st : State) (time : (v : ℕ) → AreInTi
           let here = own_fits b (needs_slot (at (with_room_if b roomy).volumes v).writes (at (with_room_if b roomy).volumes v).images w.block) (within_own q f) refl in
           subst (λ n. group_used (group_of s x) (change_at v (written w) (with_room_if b roomy).volumes) ≤ n) (same_slots s x v r q plan e f same)
           (subst (λ ps. group_used ps (change_at v (written w) (with_room_if b roomy).volumes) ≤ slots_of s v) (same_group s x v r q e f same) here)
-        where
-          equal : (a b : ℕ) → (a == b) ≡ true → a ≡ b
-          equal a b e = grind arith
       put_fits b false x r q e f g =
           subst (λ n. n ≤ slots_of s x) (sym (group_other (written w) v (group_of s x) (with_room_if b roomy).volumes
           (ap (λ o. within (slice_get (placed_in s.volumes o) v)) e ∙ within_placed r.group s.volumes v ∙ ap (λ o. within (option_map (placed r.group) o)) f ∙ g)))

@@ -19,6 +19,7 @@ use Rattle.vss_model.specs.Acts.{after}
 use Rattle.vss_model.proofs.CutLog.{said_stays}
 use Rattle.vss_model.proofs.Orderly.{true_not_false}
 use Rattle.promises.specs.Way.{Deed, level_of, order_stage, stage, Rising}
+use Rattle.promises.proofs.Truth.{chain, left_part, no_less, right_part, same_number}
 use Rattle.promises.proofs.Speaks.{deed_at, deed_in, said_at}
 
 abbrev pub deeds_in : Agenda → List Deed
@@ -29,32 +30,6 @@ deeds_in a = map deed_in a.log
 pub either_true : (a b c : Bool) → (a || b) ≡ true → (a ≡ true → c ≡ true) → (b ≡ true → c ≡ true) → c ≡ true
 either_true true b c e f g = f refl
 either_true false b c e f g = g e
-
-pub left_part : (a b : Bool) → a ≡ true → (a || b) ≡ true
-left_part true b e = refl
-left_part false b e = absurd cc
-
-pub right_part : (a b : Bool) → b ≡ true → (a || b) ≡ true
-right_part true b e = refl
-right_part false b e = e
-
-pub both_parts : (a b : Bool) → (a && b) ≡ true → (a ≡ true) × (b ≡ true)
-both_parts true b e = (refl, e)
-both_parts false b e = absurd cc
-
-pub both_are : (a b : Bool) → a ≡ true → b ≡ true → (a && b) ≡ true
-both_are true b e f = f
-both_are false b e f = absurd cc
-
-pub false_of : (b : Bool) → (b ≡ true → ⊥) → b ≡ false
-false_of true f = absurd (f refl)
-false_of false f = refl
-
-pub equal : (a b : ℕ) → (a == b) ≡ true → a ≡ b
-equal a b e = grind arith
-
-pub same_number : (a : ℕ) → (a == a) ≡ true
-same_number a = grind arith
 
 pub deeds_append : (xs ys : List Entry) → map deed_in (xs ++ ys) ≡ map deed_in xs ++ map deed_in ys
 deeds_append [] ys = refl
@@ -138,18 +113,12 @@ Below m (n ∷ ns) = (n ≤ m) × Below m ns
 
 pub below_more : (m n : ℕ) (ns : List ℕ) → m ≤ n → Below m ns → Below n ns
 below_more m n [] l h = tt
-below_more m n (x ∷ ns) l h = (trans x m n h.0 l, below_more m n ns l h.1)
-  where
-    trans : (a b c : ℕ) → a ≤ b → b ≤ c → a ≤ c
-    trans a b c l h = omega arith
+below_more m n (x ∷ ns) l h = (chain x m n h.0 l, below_more m n ns l h.1)
 
 pub below_append : (m : ℕ) (ns : List ℕ) (ws : List ℕ) (k : ℕ) → Below m ns → k ≤ m → Below m (ns ++ map (λ w. k) ws)
 below_append m [] [] k h l = tt
 below_append m [] (w ∷ ws) k h l = (l, below_append m [] ws k h l)
 below_append m (n ∷ ns) ws k h l = (h.0, below_append m ns ws k h.1 l)
-
-pub no_less : (n : ℕ) → n ≤ n
-no_less n = omega arith
 
 pub rising_same : (k : ℕ) (ws : List ℕ) → Rising (map (λ w. k) ws)
 rising_same k [] = tt
@@ -252,15 +221,12 @@ abbrev pub From : ℕ → List Place → Type 0
 From m [] = m ≤ 15
 From m (p ∷ ps) = (m ≤ place_stage p) × From (place_stage p) ps
 
-pub less_both : (a b c : ℕ) → a ≤ b → b ≤ c → a ≤ c
-less_both a b c l h = omega arith
-
 pub not_before : (a : Agenda) (m : ℕ) (ps : List Place) → From m ps → m ≤ open_stage (left_from a ps)
 not_before a m [] h = h
 not_before a m (p ∷ ps) h = at_group (waited_for a p) (left_from a ps) (not_before a (place_stage p) ps h.1)
   where
     at_group : (ws : List ℕ) (later : List Open) → place_stage p ≤ open_stage later → m ≤ open_stage (with_group p ws later)
-    at_group [] later l = less_both m (place_stage p) (open_stage later) h.0 l
+    at_group [] later l = chain m (place_stage p) (open_stage later) h.0 l
     at_group (w ∷ ws) later l = h.0
 
 pub goes_up : (a b : Agenda) (m : ℕ) (ps : List Place) → From m ps → ((p : Place) → waited_for a p ≡ [] → waited_for b p ≡ []) → open_stage (left_from a ps) ≤ open_stage (left_from b ps)
@@ -285,7 +251,7 @@ Closed a k (p ∷ ps) = (place_stage p < k → waited_for a p ≡ []) × Closed 
 pub none_below : (a : Agenda) (m k : ℕ) (ps : List Place) → From m ps → k ≤ m → Closed a k ps
 none_below a m k [] h l = tt
 none_below a m k (p ∷ ps) h l =
-    (λ i. absurd (over m (place_stage p) k h.0 l i), none_below a (place_stage p) k ps h.1 (less_both k m (place_stage p) l h.0))
+    (λ i. absurd (over m (place_stage p) k h.0 l i), none_below a (place_stage p) k ps h.1 (chain k m (place_stage p) l h.0))
   where
     over : (m g k : ℕ) → m ≤ g → k ≤ m → g < k → ⊥
     over m g k h l i = omega arith

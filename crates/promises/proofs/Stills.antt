@@ -23,6 +23,7 @@ use Rattle.vss_model.proofs.OrderlyActs.{orderly}
 use Rattle.promises.specs.InOrder.{BySnapshot, is_step, progress}
 use Rattle.promises.specs.Still.{StandsStill, takes_snapshot}
 use Rattle.promises.specs.Way.{Deed, is_agreed, is_heard, is_made, agreed, heard, made, way}
+use Rattle.promises.proofs.Truth.{both_ways}
 use Rattle.promises.proofs.Accepted.{same_stage}
 use Rattle.promises.proofs.Along.{along}
 use Rattle.promises.proofs.Heard.{Good, said_deed}
@@ -94,15 +95,9 @@ thawed_told (e ∷ log) w = ap (λ b. b || has_thawed log w) (by_group e.place.g
     by_group Release = refl
     by_group PostCommit = refl
 
--- two tests that are true together
-same_test : (a b : Bool) → (a ≡ true → b ≡ true) → (b ≡ true → a ≡ true) → a ≡ b
-same_test true b f g = sym (f refl)
-same_test false true f g = g refl
-same_test false false f g = refl
-
 step_told : (s : Plan) (a : Agenda) (g : Group) (v : ℕ) → ((said : Said) (now u : ℕ) → (u == v) ≡ true → is_made g (Some v) (deed_at g u said now) ≡ true) → Good s a
     → has_said a.log (plain g) v ≡ made g (Some v) (map deed_in a.log)
-step_told s a g v own h = same_test (has_said a.log (plain g) v) (made g (Some v) (map deed_in a.log)) (said_deed a.log (plain g) v (is_made g (Some v)) own) (λ e. h.logged g (Some v) e)
+step_told s a g v own h = both_ways (has_said a.log (plain g) v) (made g (Some v) (map deed_in a.log)) (said_deed a.log (plain g) v (is_made g (Some v)) own) (λ e. h.logged g (Some v) e)
 
 -- ## every state
 

@@ -23,9 +23,10 @@ use Rattle.vss_model.specs.Causes.{has_passed, holds_volumes, is_hold_step, held
 use Rattle.vss_model.proofs.LogRule.{Running}
 use Rattle.promises.specs.Clock.{ticks_if}
 use Rattle.promises.specs.Way.{Deed, Spoke, Made, steps_told, deeds_told, deeds_lost, deeds_if, deeds, begins_snapshot, Rising, way_after, way_from, way}
+use Rattle.promises.proofs.Truth.{both_are, both_parts, not_both}
 use Rattle.promises.proofs.Along.{along}
 use Rattle.promises.proofs.Clock.{clock_after}
-use Rattle.promises.proofs.Limits.{held_since_first, passed_since, is_due_at, is_due_in, both_parts}
+use Rattle.promises.proofs.Limits.{held_since_first, passed_since, is_due_at, is_due_in}
 use Rattle.promises.proofs.Speaks.{deed_at, deed_in}
 use Rattle.promises.proofs.Stages.{Below, below_more}
 use Rattle.promises.proofs.Heard.{Good}
@@ -178,13 +179,10 @@ first_passed now (x ∷ log) r e = by_head (is_hold_step x.place.group) (has_pas
 -- only a snapshot holds volumes
 no_hold : (p : Place) (ws : List ℕ) → holds_volumes p.group ≡ false → (o : Open) (os : List Open) → with_group p ws [] ≡ o ∷ os → holds_volumes o.place.group ≡ true → ⊥
 no_hold p [] f o os e h = absurd cc
-no_hold p (w ∷ ws) f o os e h = differ (holds_volumes o.place.group) h (ap (λ (x : Open). holds_volumes x.place.group) (sym (first_of_lists (record { place = p; waits = w ∷ ws }) o os e)) ∙ f)
+no_hold p (w ∷ ws) f o os e h = not_both (holds_volumes o.place.group) h (ap (λ (x : Open). holds_volumes x.place.group) (sym (first_of_lists (record { place = p; waits = w ∷ ws }) o os e)) ∙ f)
   where
     first_of_lists : (x o : Open) (os : List Open) → x ∷ [] ≡ o ∷ os → x ≡ o
     first_of_lists x o os e = cc
-
-    differ : (b : Bool) → b ≡ true → b ≡ false → ⊥
-    differ b e f = cc
 
 pub holds_in_snapshot : (k : Kind) (a : Agenda) (o : Open) (os : List Open) → left_from a (places k) ≡ o ∷ os → holds_volumes o.place.group ≡ true → k ≡ Snapshot
 holds_in_snapshot Snapshot a o os e h = refl
@@ -203,12 +201,8 @@ held_is_first now a o os e r h =
 due_at : (now : ℕ) (c : Course) (a : Agenda) (os : List Open) → groups_left a ≡ os → (a.kind ≡ Snapshot → Rising (times a.log)) → is_late_at now c a os ≡ true → is_due_at now c a os ≡ true
 due_at now c a [] e r h = absurd cc
 due_at now c a (o ∷ os) e r h =
-    by_parts (held_too_long now o.place.group a) (holds_volumes o.place.group && held_since_first now a) (frozen_too_long now o.place.group c a) (unanswered_too_long now o.place a) (λ g. let parts = held_is_first now a o os e r g in both_on (holds_volumes o.place.group) (held_since_first now a) parts.0 parts.1) h
+    by_parts (held_too_long now o.place.group a) (holds_volumes o.place.group && held_since_first now a) (frozen_too_long now o.place.group c a) (unanswered_too_long now o.place a) (λ g. let parts = held_is_first now a o os e r g in both_are (holds_volumes o.place.group) (held_since_first now a) parts.0 parts.1) h
   where
-    both_on : (b p : Bool) → b ≡ true → p ≡ true → (b && p) ≡ true
-    both_on true p e f = f
-    both_on false p e f = absurd cc
-
     by_parts : (x y f u : Bool) → (x ≡ true → y ≡ true) → (x || f || u) ≡ true → (y || f || u) ≡ true
     by_parts true true f u g i = refl
     by_parts true false f u g i = absurd (differ (g refl))

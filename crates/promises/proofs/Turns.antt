@@ -26,6 +26,7 @@ use Rattle.vss_model.proofs.LogRule.{course-step_made}
 use Rattle.vss_model.proofs.OrderlyActs.{Moves, MovesOn, moves_answered, moves_stepped, moves_timed, orderly}
 use Rattle.vss_model.proofs.Rows.{running_found, row_running, row_settles, result-settled}
 use Rattle.promises.specs.Awaited.{failure_of, failure_in, set_failure}
+use Rattle.promises.proofs.Truth.{not_both}
 use Rattle.promises.proofs.BusyAgendas.{IsBusy, busy_set, busy_step}
 use Rattle.promises.proofs.CalmCourses.{CalmOrBusy, calm_answered, calm_stepped, calm_timed}
 use Rattle.promises.proofs.Contexts.{settled_number, changed_number}
@@ -115,10 +116,7 @@ module _ (s : Plan) (so_far : List Act) where
     not_running o e f g = differ o f (sym e ∙ g)
       where
         differ : (p : SetOutcome) → is_running p ≡ false → p ≡ RunningSet → ⊥
-        differ p e f = absurd (both (is_running p) (ap is_running f) e)
-          where
-            both : (b : Bool) → b ≡ true → b ≡ false → ⊥
-            both b e f = cc
+        differ p e f = absurd (not_both (is_running p) (ap is_running f) e)
 
     over : c.agenda ≡ None → set_failure (in_progress st) (concluded AgendaEnds z) ≡ None → Turn st (concluded AgendaEnds z) true
     over e f = inr (inl (record { ran_is = refl; session = ap (option_map agenda_ended) session; failure = f; quiet = ap is_some e }))
@@ -218,10 +216,7 @@ module _ (s : Plan) (so_far : List Act) where
   step_calm e f = set_there (in_progress st) ⊥ (busy_calm (calm_stepped true st.clock st.course e)) (λ r i. differ (none_stepped st.clock st.course (ap has_failed (outcome_is_running s so_far r i))))
     where
       differ : has_failed (course_stepped true st.clock st.course).outcome ≡ false → ⊥
-      differ g = absurd (both (has_failed (course_stepped true st.clock st.course).outcome) f g)
-        where
-          both : (b : Bool) → b ≡ true → b ≡ false → ⊥
-          both b e f = cc
+      differ g = absurd (not_both (has_failed (course_stepped true st.clock st.course).outcome) f g)
 
       busy_calm : CalmOrBusy st.course (course_stepped true st.clock st.course) → is_some (in_progress st) ≡ true
       busy_calm (inr b) = busy_there b
@@ -248,14 +243,11 @@ module _ (s : Plan) (so_far : List Act) where
   pub none_started : (q : Session) (x : State) → st.session ≡ Some q → makes_set q.stage ≡ false → set_failure (in_progress st) x ≡ None
   none_started q x f g = by_set (in_progress st) refl (orderly s so_far).session
     where
-      both : (b : Bool) → b ≡ true → b ≡ false → ⊥
-      both b e f = cc
-
       by_set : (o : Option SetRow) → in_progress st ≡ o → IsOfSession st.session st.course.outcome (in_progress st) → set_failure o x ≡ None
       by_set None e i = refl
       by_set (Some r) e i =
           let own : IsOfSession (Some q) st.course.outcome (Some r) = subst (λ o. IsOfSession (Some q) st.course.outcome o) e (subst (λ p. IsOfSession p st.course.outcome (in_progress st)) f i) in
-          absurd (both (makes_set q.stage) own.0 g)
+          absurd (not_both (makes_set q.stage) own.0 g)
 
   pub add_turn : (v : ℕ) (r : SetRow) → Turn st (change_set r.number (with_volume v) st) (runs st)
   add_turn v r = quiet_turn _ refl (failure_map (row_changed r.number (with_volume v)) (λ x. changed_number r.number (with_volume v) x refl) (λ x. changed_result r.number (with_volume v) x refl) st.sets) refl

@@ -14,10 +14,10 @@ use Rattle.vss_model.specs.Causes.{has_passed, last_of, is_elsewhere}
 use Rattle.vss_model.proofs.LogRule.{Running}
 use Rattle.vss_model.proofs.Orderly.{true_not_false}
 use Rattle.promises.specs.Unanswered.{informs_writers, is_overdue_at, is_overdue_in, OrdersEnd}
+use Rattle.promises.proofs.Truth.{both_parts, false_of}
 use Rattle.promises.proofs.Limits.{passed_spent, answer_since}
 use Rattle.promises.proofs.NotSpent.{none_second, is_unspent}
 use Rattle.promises.proofs.OneMore.{InTime}
-use Rattle.promises.proofs.Stages.{both_parts, false_of}
 use Rattle.promises.proofs.Within.{none_spent}
 
 informing_runs : (g : Group) → informs_writers g ≡ true → answer_runs g ≡ true

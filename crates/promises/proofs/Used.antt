@@ -7,7 +7,8 @@ use Rattle.std.proofs.lemmas.List.{drop-append-le, take-append-drop, drop_all, t
 use Rattle.std.proofs.lemmas.List.Folds.{list_any-append}
 use Rattle.write_history.specs.History.{Write, Image, point_in, up_to_set, AreLater, AreInTime, names, blocks_named, to_restore, restoring}
 use Rattle.write_history.specs.Slots.{writes_since, used, needs_slot}
-use Rattle.promises.proofs.Named.{NameNoMore, at_most_itself, either, named_no_more, named_in_parts, named_by_none, named_by_one, inner_no_more, later_no_more, since_later, inner_append, restored_no_more}
+use Rattle.promises.proofs.Truth.{chain, no_less, not_both, not_true}
+use Rattle.promises.proofs.Named.{NameNoMore, either, named_no_more, named_in_parts, named_by_none, named_by_one, inner_no_more, later_no_more, since_later, inner_append, restored_no_more}
 
 -- ## points that rise
 
@@ -15,9 +16,6 @@ use Rattle.promises.proofs.Named.{NameNoMore, at_most_itself, either, named_no_m
 abbrev pub Rising : ℕ → ℕ → List Image → Type 0
 Rising from most [] = from ≤ most
 Rising from most (i ∷ images) = (from ≤ i.point) × Rising i.point most images
-
-chain : (a b c : ℕ) → a ≤ b → b ≤ c → a ≤ c
-chain a b c l h = omega arith
 
 pub rising_most : (from most : ℕ) (images : List Image) → Rising from most images → from ≤ most
 rising_most from most [] h = h
@@ -40,7 +38,7 @@ rising_fewer test from most (i ∷ images) h = by_test (test i) (rising_fewer te
     by_test false ih = rising_from from i.point most (filter test images) h.0 ih
 
 pub rising_cut : (n from most : ℕ) (images : List Image) → Rising from most images → Rising from most (images ++ record { set = n; point = most } ∷ [])
-rising_cut n from most [] h = (h, at_most_itself most)
+rising_cut n from most [] h = (h, no_less most)
 rising_cut n from most (i ∷ images) h = (h.0, rising_cut n i.point most images h.1)
 
 pub rising_later : (i : Image) (most : ℕ) (images : List Image) → i.point ≤ most → AreLater i images → AreInTime most images → Rising i.point most images
@@ -81,7 +79,7 @@ abbrev used_from : ℕ → List Write → ℕ → List Image → ℕ
 used_from n ws p newer = length (blocks_named n (writes_since ws p newer)) + used n ws newer
 
 fewer_from : (test : Image → Bool) (n : ℕ) (ws : List Write) (p : ℕ) (newer : List Image) → Rising p (length ws) newer → used_from n ws p (filter test newer) ≤ used_from n ws p newer
-fewer_from test n ws p [] h = at_most_itself (used_from n ws p [])
+fewer_from test n ws p [] h = no_less (used_from n ws p [])
 fewer_from test n ws p (i ∷ newer) h = by_test (test i) (fewer_from test n ws i.point newer h.1) (fewer_from test n ws p newer (rising_from p i.point (length ws) newer h.0 h.1))
   where
     add : (a x y : ℕ) → x ≤ y → a + x ≤ a + y
@@ -128,10 +126,6 @@ pub fewer_need : (test : Image → Bool) (b from : ℕ) (ws : List Write) (image
 fewer_need test b from ws [] h e = e
 fewer_need test b from ws (i ∷ images) h e = by_test (test i) e (fewer_need test b i.point ws images h.1)
   where
-    not_true : (t : Bool) → not t ≡ true → t ≡ false
-    not_true true f = absurd cc
-    not_true false f = refl
-
     with_one : (newer : List Image) → needs_slot ws newer b ≡ true → needs_slot ws (i ∷ newer) b ≡ true
     with_one [] f = absurd cc
     with_one (j ∷ newer) f = f
@@ -147,11 +141,11 @@ fewer_need test b from ws (i ∷ images) h e = by_test (test i) e (fewer_need te
 -- ## an image is cut
 
 up_to_end : (p : ℕ) (ws : List Write) → slice_range ws p (length ws) ≡ drop p ws
-up_to_end p ws = take_all (length ws - p) (drop p ws) (subst (λ n. n ≤ length ws - p) (sym (length-drop p ws)) (at_most_itself (length ws - p)))
+up_to_end p ws = take_all (length ws - p) (drop p ws) (subst (λ n. n ≤ length ws - p) (sym (length-drop p ws)) (no_less (length ws - p)))
 
 -- an image that is cut uses no slot
 pub cut_used : (m n : ℕ) (ws : List Write) (images : List Image) → used n ws (images ++ record { set = m; point = length ws } ∷ []) ≡ used n ws images
-cut_used m n ws [] = ap (λ xs. length (blocks_named n xs) + 0) (drop_all (length ws) ws (at_most_itself (length ws))) ∙ ap (λ k. k + 0) (named_by_none n)
+cut_used m n ws [] = ap (λ xs. length (blocks_named n xs) + 0) (drop_all (length ws) ws (no_less (length ws))) ∙ ap (λ k. k + 0) (named_by_none n)
 cut_used m n ws (i ∷ []) = ap (λ xs. length (blocks_named n xs) + used n ws (record { set = m; point = length ws } ∷ [])) (up_to_end i.point ws) ∙ ap (λ k. length (blocks_named n (drop i.point ws)) + k) (cut_used m n ws [])
 cut_used m n ws (i ∷ j ∷ images) = ap (λ k. length (blocks_named n (slice_range ws i.point j.point)) + k) (cut_used m n ws (j ∷ images))
 
@@ -232,12 +226,9 @@ rising_up_to m p most from (i ∷ images) h t e = by_test (i.set == m) (not (nat
     is_kept : (a m : ℕ) → (a == m) ≡ true → not (nat_lt m a) ≡ true
     is_kept a m e = grind arith
 
-    differ : (u : Bool) → u ≡ true → u ≡ false → ⊥
-    differ u e f = cc
-
     by_test : (t u : Bool) → (i.set == m) ≡ t → not (nat_lt m i.set) ≡ u → (if t then Some i.point else point_in m images) ≡ Some p → (point_in m images ≡ Some p → Rising i.point p (up_to_set m images)) → Rising from p (if u then i ∷ up_to_set m images else up_to_set m images)
-    by_test true true f g e ih = (h.0, subst (Rising i.point p) (sym (none_later images t.1 f)) (subst (λ q. i.point ≤ q) (some_same i.point p e) (at_most_itself i.point)))
-    by_test true false f g e ih = absurd (differ (not (nat_lt m i.set)) (is_kept i.set m f) g)
+    by_test true true f g e ih = (h.0, subst (Rising i.point p) (sym (none_later images t.1 f)) (subst (λ q. i.point ≤ q) (some_same i.point p e) (no_less i.point)))
+    by_test true false f g e ih = absurd (not_both (not (nat_lt m i.set)) (is_kept i.set m f) g)
     by_test false true f g e ih = (h.0, ih e)
     by_test false false f g e ih = rising_from from i.point p (up_to_set m images) h.0 (ih e)
 

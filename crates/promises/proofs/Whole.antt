@@ -22,11 +22,12 @@ use Rattle.vss_model.proofs.HeldOfSet.{IsOf, Tied, tied}
 use Rattle.vss_model.proofs.Orderly.{true_not_false}
 use Rattle.vss_model.proofs.Spoken.{waits_members}
 use Rattle.promises.specs.Way.{Deed, level_of, stage, Rising, is_heard, is_agreed, is_made, is_again, AreOnce, is_failure, heard, agreed, failed, made, IsWholeWay, CompletesByTheWay, Spoke}
+use Rattle.promises.proofs.Truth.{both_are, equal, false_of, left_part, not_true, right_part, same_number}
 use Rattle.promises.proofs.Along.{IsKeptAlong, last_stand}
 use Rattle.promises.proofs.Levels.{Ascends, MembersOf, levels_are, members_ascend}
 use Rattle.promises.proofs.Speaks.{deed_at, deed_in, said_at, Speaks, IsOne}
-use Rattle.promises.proofs.Stages.{deeds_in, either_true, left_part, right_part, both_are, false_of, equal, same_number, deeds_append, any_more, any_said, group_stage, place_stage, leveled, IsOfLevel, open_stage, Below, below_more, below_append, rising_append, stages_more, closed_stays, goes_up, Closed, closed_below, snapshot_from}
-use Rattle.promises.proofs.Heard.{said_all, said_deed, place_of, volume_number, Good, good_unspoken, steps_plain, open_plain, passes, not_true, unsaid, order_member, heard_writer, made_volume, alone, is_step}
+use Rattle.promises.proofs.Stages.{deeds_in, either_true, deeds_append, any_more, any_said, group_stage, place_stage, leveled, IsOfLevel, open_stage, Below, below_more, below_append, rising_append, stages_more, closed_stays, goes_up, Closed, closed_below, snapshot_from}
+use Rattle.promises.proofs.Heard.{said_all, said_deed, place_of, volume_number, Good, good_unspoken, steps_plain, open_plain, passes, unsaid, order_member, heard_writer, made_volume, alone, is_step}
 use Rattle.promises.proofs.Once.{once_one, Apart, once_spoken, waits_apart, none_given, open_unleveled, level_some, is_order_place}
 use Rattle.promises.proofs.Orders.{agreed_at, post_group, heard_group, heard_agreed, all_among, heard_at, prepare_heard, freeze_heard, thaw_heard, of_group_level, levels_given, open_leveled}
 

@@ -36,11 +36,11 @@ use Rattle.vss_model.specs.Causes.{is_late_in}
 use Rattle.vss_model.proofs.CourseCalls.{asked_if, asked_waits}
 use Rattle.vss_model.proofs.LogRule.{Running, unspoken}
 use Rattle.promises.specs.Within.{StandsWithinLimits}
+use Rattle.promises.proofs.Truth.{false_of}
 use Rattle.promises.proofs.ByEvent.{Covers, covered, after_enabled, after_not_enabled}
 use Rattle.promises.proofs.Clock.{clock-made}
 use Rattle.promises.proofs.Limits.{is_due_in, due_in, later_found, first_found, hold_found, limit_found, none_and_some}
 use Rattle.promises.proofs.Speaks.{Speaks, now_group, head_waits}
-use Rattle.promises.proofs.Stages.{false_of}
 use Rattle.promises.proofs.Times.{late_is_due}
 use Rattle.promises.proofs.NotSpent.{at_once, none_both, unspent_if, is_mild, mild_order}
 use Rattle.promises.proofs.AllLost.{lost_in_time}

@@ -33,6 +33,6 @@ pub mod Still
 pub mod Refusing
 pub mod Scripted
 pub mod Documented
-pub mod Consenting
+pub mod Owed
 pub mod Promises
 pub mod Headline

@@ -39,7 +39,7 @@ use Rattle.promises.specs.Unanswered.{OrdersEnd}
 use Rattle.promises.specs.Way.{CompletesByTheWay}
 use Rattle.promises.specs.Within.{StandsWithinLimits}
 use Rattle.promises.specs.Documented.{TellsDocument}
-use Rattle.promises.specs.Consenting.{Consents}
+use Rattle.promises.specs.Owed.{NobodyOwes}
 
 -- of an act that comes after these
 pub record IsActAsPromised (s : Plan) (so_far : List Act) (act : Act) : Type 0 where
@@ -66,7 +66,6 @@ pub record IsActAsPromised (s : Plan) (so_far : List Act) (act : Act) : Type 0 w
   pub loses : LosesTheLate s so_far act
   pub refused : RefusesForCause s so_far act
   pub document : TellsDocument s so_far act
-  pub consents : Consents s so_far act
 
 -- of the state after these acts
 pub record IsStateAsPromised (s : Plan) (so_far : List Act) : Type 0 where
@@ -77,6 +76,7 @@ pub record IsStateAsPromised (s : Plan) (so_far : List Act) : Type 0 where
   pub context : HasItsContext s so_far
   pub chosen : ChosenTakePart s so_far
   pub asks : AsksItsOwn s so_far
+  pub owes : NobodyOwes s so_far
   pub volumes : VolumesAreDistinct s so_far
   pub idles : IdlesShortest s so_far
   pub limits : StandsWithinLimits s so_far

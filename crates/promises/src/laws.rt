@@ -43,7 +43,7 @@ ghost use Rattle.promises.specs.Unanswered.{OrdersEnd};
 ghost use Rattle.promises.specs.Way.{CompletesByTheWay};
 ghost use Rattle.promises.specs.Within.{StandsWithinLimits};
 ghost use Rattle.promises.specs.Documented.{TellsDocument};
-ghost use Rattle.promises.specs.Consenting.{Consents};
+ghost use Rattle.promises.specs.Owed.{NobodyOwes};
 
 /// A set that completes has come the whole way since its `snapshot` line: PrepareSnapshot, Freeze, PreCommit, Flush, Hold, Cut,
 /// Commit, Release, PostCommit, Thaw, PostSnapshot, in this order and nothing twice.
@@ -258,9 +258,11 @@ pub fn the_document_lists_what_is_chosen()
     ensures { (s : Plan) (so_far : List Act) (act : Act) → TellsDocument s so_far act }
 {}
 
-/// An accepted `snapshot`, in a context with writers, comes only after each participant has said ok to PrepareBackup since `prepare`.
-pub fn participants_consent_before_the_snapshot()
-    ensures { (s : Plan) (so_far : List Act) (act : Act) → Consents s so_far act }
+/// Once its agenda has ended and the set has not failed, whoever `gather`, `prepare` or `complete` had to ask was heard, or its answer was
+/// lost: each writer of a class that is not disabled at Identify, each that takes part at PrepareBackup, by an ok, and each of these that had
+/// not failed at BackupComplete.
+pub fn writers_answer_before_the_session_comes_on()
+    ensures { (s : Plan) (so_far : List Act) → NobodyOwes s so_far }
 {}
 
 /// Every run is as promised: each act of a trail, and each state on its way.

@@ -29,9 +29,10 @@ use Rattle.vss_play.specs.declared.play_fault.PlayFault.{PlayFault}
 use Rattle.vss_play.specs.Closing.{history_after}
 use Rattle.vss_play.specs.Digested.{AreDigests, bytes_after}
 use Rattle.vss_play.specs.Played.{Played, AreNamed, device_names, IsFresh, IsPlayedOut, tells_in, AnyRose}
+use Rattle.vss_play.proofs.MakerCount.{rose-positive, rose-counted, member-le-sum, clean-counted, complete_moved}
 use Rattle.vss_main.specs.Generated.{IsOfNumber, AreEight, IsSummed, IsDigested}
 use Rattle.vss_main.specs.TopCall.{AreGivenBack}
-use Rattle.vss_main.proofs.Ran.{rose-positive, rose-counted, member-le-sum, clean-counted, complete_moved, as_many, take_all}
+use Rattle.vss_main.proofs.Ran.{as_many, take_all}
 
 length_map : {X Y : Type 0} (f : X → Y) (xs : List X) → length (map f xs) ≡ length xs
 length_map f [] = refl

@@ -1,5 +1,5 @@
 -- What each line of a lane is answered, and the state after it.
-use Rattle.std.specs.Prelude.{ℕ, Option, Some, None}
+use Rattle.std.specs.Prelude.{ℕ}
 use Rattle.block_data.specs.PayloadBytes.{payload_bytes}
 use Rattle.write_history.specs.declared.mark.Mark.{Mark}
 use Rattle.requestor.specs.declared.session_call.SessionCall.{SessionCall}
@@ -19,10 +19,6 @@ use Rattle.vss_model.specs.Steps.{ticked}
 -- a line that makes a session call, after the checks
 unfoldable pub called : SessionCall → Plan → ℕ → Op → State → Replied
 called call s lane op st = judged (check st.session (runs st) lane call) s lane op st
-
-abbrev pub called_if : Option SessionCall → Plan → ℕ → Op → State → Replied
-called_if None s lane op st = (Fine, st)
-called_if (Some call) s lane op st = called call s lane op st
 
 -- by what the line does; the words of a session call are those of the line
 abbrev pub does : Plan → ℕ → Op → Line → Mark → State → Replied

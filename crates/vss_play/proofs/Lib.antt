@@ -10,6 +10,7 @@ pub mod Finishing
 pub mod Idling
 pub mod InTurn
 pub mod GivingBack
+pub mod MakerCount
 pub mod NewDevices
 pub mod Sorting
 pub mod Areas

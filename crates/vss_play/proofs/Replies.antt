@@ -20,15 +20,17 @@ use Rattle.requestor.specs.Session.{Session, context_of}
 use Rattle.requestor.specs.Check.{check}
 use Rattle.component_doc.specs.Selection.{Naming, IsNotFound, IsNotSelectable, IsNamedAlready, Names}
 use Rattle.scenario.specs.declared.op.Op.{Op}
-use Rattle.scenario.specs.declared.op.Op.TheVariants.{WriteFill, WriteStamp, Read, ImageDigest, ImageBlock, Query, Properties, Revert, DeleteSet, DeleteImage, Tick, Begin, Disable, Gather, Component, Document, Start, Add, Prepare, Snapshot, Await, Status, Complete, Abort, End}
-use Rattle.scenario.specs.Calls.{call_of}
+use Rattle.scenario.specs.declared.line.Line.{Line as Does}
+use Rattle.scenario.specs.declared.line.Line.TheVariants.{Writes, Reads, ShowsImage, ShowsBlock, ShowsProperties, Reverts, DeletesSet, DeletesImage, Calls}
+use Rattle.scenario.specs.declared.op.Op.TheVariants.{Begin, Component, Add, Prepare, Snapshot, Await}
+use Rattle.scenario.specs.Calls.{line_of}
 use Rattle.scenario.specs.Plan.{Plan, token}
 use Rattle.vss_model.specs.declared.event.Event.{Event}
 use Rattle.vss_model.specs.declared.event.Event.TheVariants.{Line, Answer as AnswerEvent, Provider, Idle}
 use Rattle.vss_model.specs.Acts.{order_of_writer, answer_reply, step_reply, happens}
 use Rattle.vss_model.specs.Ending.{runs}
 use Rattle.vss_model.specs.Images.{Replied, refused, reply_of_mark, read_as, write, image_block, image_blocks, properties, delete_set, delete_kept, delete_image, reverted_as, revert_to, revert, revert_refusal, count_images}
-use Rattle.vss_model.specs.Lines.{called, called_if, line}
+use Rattle.vss_model.specs.Lines.{called, does}
 use Rattle.vss_model.specs.Reply.{Reply, Deleted, Stepped}
 use Rattle.vss_model.specs.Sessions.{begin_in, named_as, component_in, add_refusal, add_to, add, has_no_volume, await_last, session_line, line_without_session, line_in, judged}
 use Rattle.vss_model.specs.State.{State, SetRow, Kept, in_progress, left_now, kept_image, is_kept_set}
@@ -133,31 +135,12 @@ by_await n None st = tt
 by_await n (Some why) st = tt
 
 by_session : (n : ℕ) (s : Plan) (lane : ℕ) (op : Op) (q : Session) (st : State) → IsNoStep n (session_line s lane op q st)
-by_session n s lane (Begin c all) q st = tt
-by_session n s lane (Disable w) q st = tt
-by_session n s lane Gather q st = tt
 by_session n s lane (Component w full) q st = by_component n q.mode s w (token s full) st
-by_session n s lane Document q st = tt
-by_session n s lane Start q st = tt
 by_session n s lane (Add v) q st = by_add n v (in_progress st) st
 by_session n s lane Prepare q st = either (has_no_volume (in_progress st)) n _ _ tt tt
 by_session n s lane Snapshot q st = either (has_no_volume (in_progress st)) n _ _ tt tt
 by_session n s lane Await q st = by_await n q.last st
-by_session n s lane Status q st = tt
-by_session n s lane Complete q st = tt
-by_session n s lane Abort q st = tt
-by_session n s lane End q st = tt
-by_session n s lane (WriteFill v b x) q st = tt
-by_session n s lane (WriteStamp v b m) q st = tt
-by_session n s lane (Read v b) q st = tt
-by_session n s lane (ImageDigest m v) q st = tt
-by_session n s lane (ImageBlock m v b) q st = tt
-by_session n s lane (Query v) q st = tt
-by_session n s lane (Properties m v) q st = tt
-by_session n s lane (Revert m v) q st = tt
-by_session n s lane (DeleteSet m) q st = tt
-by_session n s lane (DeleteImage m v) q st = tt
-by_session n s lane (Tick m) q st = tt
+by_session n s lane _ q st = tt
 
 without_session : (n lane : ℕ) (op : Op) (st : State) → IsNoStep n (line_without_session lane op st)
 without_session n lane (Begin c all) st = by_begin n lane all (context_of c all) st
@@ -176,38 +159,19 @@ by_call : (n : ℕ) (c : SessionCall) (s : Plan) (lane : ℕ) (op : Op) (st : St
 unfolding called
 by_call n c s lane op st = by_verdict n (check st.session (runs st) lane c) s lane op st
 
-by_called : (n : ℕ) (c : Option SessionCall) (s : Plan) (lane : ℕ) (op : Op) (st : State) → IsNoStep n (called_if c s lane op st)
-by_called n None s lane op st = tt
-by_called n (Some c) s lane op st = by_call n c s lane op st
-
 -- ## every event
 
-by_line : (n : ℕ) (s : Plan) (lane : ℕ) (op : Op) (mark : Mark) (st : State) → IsNoStep n (line s lane op mark st)
-by_line n s lane (WriteFill v b x) mark st = written n s v _ mark st
-by_line n s lane (WriteStamp v b m) mark st = written n s v _ mark st
-by_line n s lane (Read v b) mark st = by_read n _ mark (λ m. tt)
-by_line n s lane (ImageDigest m v) mark st = by_images n s v (kept_image st m v) mark st
-by_line n s lane (ImageBlock m v b) mark st = by_image n v b (kept_image st m v) mark st
-by_line n s lane (Query v) mark st = tt
-by_line n s lane (Properties m v) mark st = by_properties n s v (kept_image st m v) st
-by_line n s lane (Revert m v) mark st = by_revert n s m v mark st
-by_line n s lane (DeleteSet m) mark st = by_deletion n m st
-by_line n s lane (DeleteImage m v) mark st = by_one_deletion n m v st
-by_line n s lane (Tick m) mark st = tt
-by_line n s lane (Begin c all) mark st = by_called n (call_of (Begin c all)) s lane (Begin c all) st
-by_line n s lane (Disable w) mark st = by_called n (call_of (Disable w)) s lane (Disable w) st
-by_line n s lane Gather mark st = by_called n (call_of Gather) s lane Gather st
-by_line n s lane (Component w full) mark st = by_called n (call_of (Component w full)) s lane (Component w full) st
-by_line n s lane Document mark st = by_called n (call_of Document) s lane Document st
-by_line n s lane Start mark st = by_called n (call_of Start) s lane Start st
-by_line n s lane (Add v) mark st = by_called n (call_of (Add v)) s lane (Add v) st
-by_line n s lane Prepare mark st = by_called n (call_of Prepare) s lane Prepare st
-by_line n s lane Snapshot mark st = by_called n (call_of Snapshot) s lane Snapshot st
-by_line n s lane Await mark st = by_called n (call_of Await) s lane Await st
-by_line n s lane Status mark st = by_called n (call_of Status) s lane Status st
-by_line n s lane Complete mark st = by_called n (call_of Complete) s lane Complete st
-by_line n s lane Abort mark st = by_called n (call_of Abort) s lane Abort st
-by_line n s lane End mark st = by_called n (call_of End) s lane End st
+by_line : (n : ℕ) (s : Plan) (lane : ℕ) (op : Op) (l : Does) (mark : Mark) (st : State) → IsNoStep n (does s lane op l mark st)
+by_line n s lane op (Writes v b payload) mark st = written n s v _ mark st
+by_line n s lane op (Reads v b) mark st = by_read n _ mark (λ m. tt)
+by_line n s lane op (ShowsImage m v) mark st = by_images n s v (kept_image st m v) mark st
+by_line n s lane op (ShowsBlock m v b) mark st = by_image n v b (kept_image st m v) mark st
+by_line n s lane op (ShowsProperties m v) mark st = by_properties n s v (kept_image st m v) st
+by_line n s lane op (Reverts m v) mark st = by_revert n s m v mark st
+by_line n s lane op (DeletesSet m) mark st = by_deletion n m st
+by_line n s lane op (DeletesImage m v) mark st = by_one_deletion n m v st
+by_line n s lane op (Calls c) mark st = by_call n c s lane op st
+by_line n s lane op _ mark st = tt
 
 by_answer : (n : ℕ) (o : Option Order) (a : Answer) → IsStepBelow n (answer_reply o a)
 by_answer n None a = tt
@@ -218,7 +182,7 @@ by_step n None v mark h = tt
 by_step n (Some g) v mark h = h
 
 pub step_in : (s : Plan) (st : State) (event : Event) (mark : Mark) → IsAgendaIn s st.course.agenda → IsStepBelow (length s.volumes) (happens s event mark st).0
-step_in s st (Line lane op) mark h = by_line (length s.volumes) s lane op mark st
+step_in s st (Line lane op) mark h = by_line (length s.volumes) s lane op (line_of op) mark st
 step_in s st (AnswerEvent w a) mark h = by_answer (length s.volumes) (order_of_writer st w) a
 step_in s st Provider mark h = by_step (length s.volumes) (open_group (left_now st)) (next_volume (left_now st)) mark (next_below s st.course.agenda h)
 step_in s st Idle mark h = tt

@@ -18,7 +18,7 @@ use vss_names::OutOfMemory;
 use write_history::Actor;
 
 /// Those who act in threads of their own: each lane, each writer and the provider.
-fn actors_of<D: Device>(alloc: Global, play: &Play<D>) -> Result<Vec<Actor>, OutOfMemory>
+pub fn actors_of<D: Device>(alloc: Global, play: &Play<D>) -> Result<Vec<Actor>, OutOfMemory>
     ensures each { IfOk result (λ actors. actors.items ≡ actors_in_threads play.now.plan) }
     ensures count { IfOk result (λ actors. (1 ≤ vec_len actors) × (vec_len actors ≤ 129)) }
 {

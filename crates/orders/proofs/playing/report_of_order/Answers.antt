@@ -1,7 +1,7 @@
 use Rattle.std.proofs.Common.{refl}
 use Rattle.std.specs.Prelude.{Err}
 use Rattle.vss_play.specs.declared.play_fault.PlayFault.TheVariants.{Failed}
-use Rattle.vss_main.proofs.Ran.{fault-of}
+use Rattle.vss_play.proofs.MakerCount.{fault-of}
 use Rattle.orders.proofs.Reporting.{ordered, halted}
 use Rattle.orders.proofs.playing.report_of_order.Goals as goal
 

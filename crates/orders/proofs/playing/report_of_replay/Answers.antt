@@ -1,4 +1,4 @@
-use Rattle.vss_main.proofs.Ran.{fault-of}
+use Rattle.vss_play.proofs.MakerCount.{fault-of}
 use Rattle.orders.proofs.Beside.{replayed_if}
 use Rattle.orders.proofs.playing.report_of_replay.Goals as goal
 

@@ -1,4 +1,4 @@
-use Rattle.vss_main.proofs.Ran.{fault-of}
+use Rattle.vss_play.proofs.MakerCount.{fault-of}
 use Rattle.orders.proofs.Reporting.{of_seed_if}
 use Rattle.orders.proofs.playing.report_of_seed.Goals as goal
 

@@ -1,0 +1,214 @@
+-- Where the set of a session has failed, the session says so: in every other stage the course's set has not failed.
+use Rattle.std.proofs.Common.{◌≡◌, ◌∙◌, ℕ, ◌+◌, List, [], ◌∷◌, ◌⊎◌, Option, Some, None, refl, Bool, true, false, ap, sym, subst, inl, inr, map, fold}
+use Rattle.std.specs.Prelude.{is_some, option_map, if◌then◌else◌}
+use Rattle.vss_names.specs.declared.context.Context.{Context}
+use Rattle.vss_names.specs.declared.set_outcome.SetOutcome.{SetOutcome}
+use Rattle.vss_names.specs.declared.set_outcome.SetOutcome.TheVariants.{Running as RunningSet, Complete as CompleteSet, Failed as FailedSet}
+use Rattle.vss_names.specs.declared.vss_result.VssResult.{VssResult}
+use Rattle.vss_names.specs.declared.vss_result.VssResult.TheVariants.{AsyncCancelled}
+use Rattle.writer_state.specs.declared.said.Said.{Said}
+use Rattle.writer_state.specs.WriterRow.{row_gathered}
+use Rattle.write_history.specs.declared.mark.Mark.{Mark}
+use Rattle.write_history.specs.declared.mark.Mark.TheVariants.{Clean, Fault, FaultAfter}
+use Rattle.write_history.specs.History.{Write}
+use Rattle.set_agenda.specs.declared.group.Group.{Group}
+use Rattle.set_agenda.specs.declared.kind.Kind.TheVariants.{Gather, Prepare, Snapshot, Complete}
+use Rattle.set_agenda.specs.Agenda.{Agenda, open_group, is_working}
+use Rattle.set_agenda.specs.Course.{Course, answered as course_answered, stepped as course_stepped, timed as course_timed}
+use Rattle.requestor.specs.declared.stage.Stage.TheVariants.{Started, Failed}
+use Rattle.requestor.specs.Session.{Session, stage_after, agenda_ended, set_failed}
+use Rattle.scenario.specs.Plan.{Plan}
+use Rattle.vss_model.specs.State.{State, SetRow, Kept, start, in_progress, left_now}
+use Rattle.vss_model.specs.Ending.{ending, concluded, followed, failed_in, failed, runs}
+use Rattle.vss_model.specs.Images.{Replied, put, reverted_as}
+use Rattle.vss_model.specs.Sessions.{begin_in, closed, has_no_volume, start_set}
+use Rattle.vss_model.specs.Steps.{answered, step_made, is_flush, is_failed_step, stepped_as, stepped, ticked, later}
+use Rattle.vss_model.specs.Facts.{has_failed, IsOfStage, IsOfSession, IsOrderly}
+use Rattle.vss_model.specs.Acts.{Act, after, state}
+use Rattle.vss_model.specs.Laws.{IsKeptByChanges, IsKeptByWrites}
+use Rattle.vss_model.proofs.OrderlyActs.{kept_by_changes as orderly_kept, kept_by_writes as orderly_writes, orderly}
+use Rattle.vss_model.proofs.Rule.{on_after}
+use Rattle.vss_model.proofs.LogRule.{course-step_made}
+use Rattle.promises.proofs.Truth.{not_both}
+use Rattle.promises.proofs.BusyAgendas.{IsBusy, busy_set}
+use Rattle.promises.proofs.CalmCourses.{CalmOrBusy, calm_begun, calm_answered, calm_stepped, calm_timed}
+use Rattle.promises.proofs.SetFailures.{session_made}
+
+abbrev pub IsCalm : State → Type 0
+IsCalm x = (q : Session) → x.session ≡ Some q → (q.stage ≡ Failed → ⊥) → has_failed x.course.outcome ≡ false
+
+abbrev pub IsCalmOrderly : State → Type 0
+IsCalmOrderly x = IsOrderly x × IsCalm x
+
+same_session : (a b : Session) → Some a ≡ Some b → a ≡ b
+same_session a b e = cc
+
+calm_failed : (why : VssResult) (o : Option Session) (n : SetOutcome) (q : Session) → option_map (set_failed why) o ≡ Some q → (q.stage ≡ Failed → ⊥) → has_failed n ≡ false
+calm_failed why None n q e f = absurd cc
+calm_failed why (Some p) n q e f = absurd (f (sym (ap (λ (y : Session). y.stage) (same_session (set_failed why p) q e))))
+
+-- ## the course goes on
+
+module _ (st : State) (h : IsCalmOrderly st) where
+  -- an agenda that makes a set has one that runs
+  busy_runs : IsBusy st.course.agenda → (o : SetOutcome) → st.course.outcome ≡ o → o ≡ RunningSet
+  busy_runs busy o e = by_set (in_progress st) st.session (busy_set st.course.agenda st.session st.course.outcome (in_progress st) busy h.0.agenda h.0.session) h.0.session
+    where
+      by_set : (r : Option SetRow) (q : Option Session) → is_some r ≡ true → IsOfSession q st.course.outcome r → o ≡ RunningSet
+      by_set None q f i = absurd cc
+      by_set (Some r) None f i = absurd i
+      by_set (Some r) (Some q) f i = sym e ∙ i.2
+
+  -- the session of a failed set before an agenda ended
+  was_failed : (o : Option Session) (q : Session) → st.session ≡ o → option_map agenda_ended o ≡ Some q → (q.stage ≡ Failed → ⊥) → has_failed st.course.outcome ≡ false
+  was_failed None q e f g = absurd cc
+  was_failed (Some p) q e f g = h.1 p e (λ k. g (sym (ap (λ (y : Session). y.stage) (same_session (agenda_ended p) q f)) ∙ ap (stage_after p.context) k))
+
+  calm_followed : (ran : Bool) (c : Course) (y : State) → y.session ≡ st.session → y.course.outcome ≡ st.course.outcome → CalmOrBusy st.course c → IsCalm (followed ran c y)
+  unfolding followed
+  calm_followed ran c y session same calm = subst (λ o. IsCalm (concluded (ending o c.outcome ran c.agenda) z)) (sym same) (by_outcomes st.course.outcome c.outcome ran c.agenda refl refl)
+    where
+      z : State
+      z = record y { course = c }
+
+      goes : (o n : SetOutcome) → st.course.outcome ≡ o → c.outcome ≡ n → has_failed n ≡ true → (has_failed o ≡ false → ⊥) ⊎ (o ≡ RunningSet)
+      goes o n e f failed = by_calm calm
+        where
+          by_calm : CalmOrBusy st.course c → (has_failed o ≡ false → ⊥) ⊎ (o ≡ RunningSet)
+          by_calm (inl k) = inl (λ g. not_both (has_failed n) failed (sym (ap has_failed f) ∙ k (ap has_failed e ∙ g)))
+          by_calm (inr k) = inr (busy_runs k o e)
+
+      -- a set that has failed before
+      again : (o n : SetOutcome) (q : Session) → st.course.outcome ≡ o → c.outcome ≡ n → (o ≡ RunningSet → ⊥) → has_failed st.course.outcome ≡ false → has_failed n ≡ false
+      again o n q e f other g = by_test (has_failed n) refl
+        where
+          by_test : (b : Bool) → has_failed n ≡ b → b ≡ false
+          by_test false k = refl
+          by_test true k = absurd (elim (goes o n e f k) [ inl i ↦ i (sym (ap has_failed e) ∙ g) | inr i ↦ other i ])
+
+      ended : (o n : SetOutcome) → st.course.outcome ≡ o → c.outcome ≡ n → (o ≡ RunningSet → ⊥) → (q : Session) → option_map agenda_ended y.session ≡ Some q → (q.stage ≡ Failed → ⊥)
+          → has_failed c.outcome ≡ false
+      ended o n e f other q g k = ap has_failed f ∙ again o n q e f other (was_failed st.session q refl (sym (ap (option_map agenda_ended) session) ∙ g) k)
+
+      stays : (o n : SetOutcome) → st.course.outcome ≡ o → c.outcome ≡ n → (o ≡ RunningSet → ⊥) → (q : Session) → y.session ≡ Some q → (q.stage ≡ Failed → ⊥) → has_failed c.outcome ≡ false
+      stays o n e f other q g k = ap has_failed f ∙ again o n q e f other (h.1 q (sym session ∙ g) k)
+
+      complete_not : CompleteSet ≡ RunningSet → ⊥
+      complete_not e = cc
+
+      failed_not : (why : VssResult) → FailedSet why ≡ RunningSet → ⊥
+      failed_not why e = cc
+
+      by_outcomes : (o n : SetOutcome) (ran : Bool) (a : Option Agenda) → st.course.outcome ≡ o → c.outcome ≡ n → IsCalm (concluded (ending o n ran a) z)
+      by_outcomes RunningSet (FailedSet why) ran a e f = λ q g k. calm_failed why y.session c.outcome q g k
+      by_outcomes RunningSet RunningSet true None e f = λ q g k. ap has_failed f
+      by_outcomes RunningSet RunningSet true (Some a) e f = λ q g k. ap has_failed f
+      by_outcomes RunningSet RunningSet false a e f = λ q g k. ap has_failed f
+      by_outcomes RunningSet CompleteSet true None e f = λ q g k. ap has_failed f
+      by_outcomes RunningSet CompleteSet true (Some a) e f = λ q g k. ap has_failed f
+      by_outcomes RunningSet CompleteSet false a e f = λ q g k. ap has_failed f
+      by_outcomes CompleteSet n true None e f = ended CompleteSet n e f complete_not
+      by_outcomes CompleteSet n true (Some a) e f = stays CompleteSet n e f complete_not
+      by_outcomes CompleteSet n false a e f = stays CompleteSet n e f complete_not
+      by_outcomes (FailedSet x) n true None e f = ended (FailedSet x) n e f (failed_not x)
+      by_outcomes (FailedSet x) n true (Some a) e f = stays (FailedSet x) n e f (failed_not x)
+      by_outcomes (FailedSet x) n false a e f = stays (FailedSet x) n e f (failed_not x)
+
+  on_answers : (w : ℕ) (said : Said) → IsCalm (answered w said st)
+  unfolding answered
+  on_answers w said = calm_followed (runs st) (course_answered w said st.clock st.course) st refl refl (calm_answered w said st.clock st.course)
+
+  on_ticks : (n : ℕ) → IsCalm (ticked n st)
+  unfolding ticked
+  on_ticks n = calm_followed (runs st) (course_timed (st.clock + n) st.course) (later n st) refl refl (calm_timed (st.clock + n) st.course)
+
+  on_step : (b : Bool) (g : Option Group) → is_working (left_now st) ≡ true → IsCalm (stepped_as b g st)
+  on_step true g e = calm_followed (runs st) (course_stepped false st.clock st.course) st refl refl (calm_stepped false st.clock st.course e)
+  on_step false g e =
+      calm_followed (runs st) (course_stepped true st.clock st.course) (step_made g st) (session_made g st) (ap (λ (c : Course). c.outcome) (course-step_made g st))
+      (calm_stepped true st.clock st.course e)
+
+  on_steps : (mark : Mark) → is_working (left_now st) ≡ true → IsCalm (stepped mark st)
+  unfolding stepped
+  on_steps mark e = on_step (is_failed_step (is_flush (open_group (left_now st))) mark) (open_group (left_now st)) e
+
+  on_failed : (o : Option SetRow) (why : VssResult) → IsCalm (failed_in o why st)
+  on_failed None why = h.1
+  on_failed (Some r) why = λ q e f. calm_failed why st.session _ q e f
+
+  on_begun : (c : Course) → (has_failed st.course.outcome ≡ false → has_failed c.outcome ≡ false) → IsCalm (followed true c st)
+  on_begun c calm = calm_followed true c st refl refl (inl calm)
+
+  on_begins : (lane : ℕ) (all : Bool) (c : Option Context) → st.session ≡ None → IsCalm (begin_in lane all c st).1
+  on_begins lane all None e = h.1
+  on_begins lane all (Some c) e = λ q f g. ap has_failed (none_runs (in_progress st) (subst (λ o. IsOfSession o st.course.outcome (in_progress st)) e h.0.session))
+    where
+      none_runs : (r : Option SetRow) → IsOfSession None st.course.outcome r → st.course.outcome ≡ RunningSet
+      none_runs None i = i
+      none_runs (Some r) i = absurd i
+
+  on_closed : (q : Session) (x : State) → IsCalm (closed q x)
+  unfolding closed
+  on_closed q x = λ p e f. absurd cc
+
+-- of a session whose set has just started
+on_started : (x : State) (q : Session) → IsOrderly x → x.session ≡ Some q → q.stage ≡ Started → IsCalm x
+on_started x q h e f = λ p g k. ap has_failed
+    (by_set (in_progress x) (subst (λ t. IsOfStage t q.set x.course.outcome (in_progress x)) f (subst (λ o. IsOfSession o x.course.outcome (in_progress x)) e h.session)))
+  where
+    by_set : (r : Option SetRow) → IsOfStage Started q.set x.course.outcome r → x.course.outcome ≡ RunningSet
+    by_set None i = absurd (differ i.0)
+      where
+        differ : true ≡ false → ⊥
+        differ e = cc
+    by_set (Some r) i = i.2
+
+either : (b : Bool) (x y : Replied) → IsCalm x.1 → IsCalm y.1 → IsCalm (if b then x else y).1
+either true x y h i = h
+either false x y h i = i
+
+pub calm_kept : IsKeptByChanges IsCalmOrderly
+calm_kept = record {
+  answers = λ w said st e h. (orderly_kept.answers w said st e h.0, on_answers st h w said);
+  steps = λ mark st e h. (orderly_kept.steps mark st e h.0, on_steps st h mark e);
+  ticks = λ n st h. (orderly_kept.ticks n st h.0, on_ticks st h n);
+  fails = λ why st h. (orderly_kept.fails why st h.0, on_failed st h (in_progress st) why);
+  gathers = λ s q st g h. (orderly_kept.gathers s q st g h.0, on_begun st h _ (calm_begun Gather _ [] st.clock (record st.course { rows = map row_gathered st.course.rows })));
+  prepares = λ s q st g h. (orderly_kept.prepares s q st g h.0, either (has_no_volume (in_progress st)) _ _ h.1 (on_begun st h _ (calm_begun Prepare _ [] st.clock _)));
+  snapshots = λ q st g h. (orderly_kept.snapshots q st g h.0, either (has_no_volume (in_progress st)) _ _ h.1 (on_begun st h _ (calm_begun Snapshot st.course.members _ st.clock st.course)));
+  completes = λ q st g h. (orderly_kept.completes q st g h.0, on_begun st h _ (calm_begun Complete _ [] st.clock st.course));
+  clears = λ s v b st h. (orderly_kept.clears s v b st h.0, h.1);
+  deletes_set = λ n st h. (orderly_kept.deletes_set n st h.0, h.1);
+  deletes_image = λ n v st h. (orderly_kept.deletes_image n v st h.0, h.1);
+  begins = λ lane all c st e h. (orderly_kept.begins lane all c st e h.0, on_begins st h lane all c e);
+  names = λ q explicit st g h. (orderly_kept.names q explicit st g h.0, h.1);
+  disables = λ w q st g h. (orderly_kept.disables w q st g h.0, h.1);
+  starts = λ q st g e h. let x = orderly_kept.starts q st g e h.0 in (x, on_started (start_set q st).1 _ x refl refl);
+  adds = λ v r q st g e f h. (orderly_kept.adds v r q st g e f h.0, h.1);
+  ends = λ q st e h. (orderly_kept.ends q st e h.0, on_closed st h q (failed AsyncCancelled st));
+}
+
+calm_put : (v : ℕ) (w : Write) (mark : Mark) (x : State) → IsCalm x → IsCalm (put v w mark x)
+calm_put v w Clean x h = h
+calm_put v w Fault x h = h
+calm_put v w (FaultAfter n) x h = h
+
+calm_revert : (s : Plan) (v : ℕ) (k : Kept) (mark : Mark) (st : State) → IsCalm st → IsCalm (reverted_as s v k mark st).1
+calm_revert s v k Clean st h = h
+calm_revert s v k Fault st h = h
+calm_revert s v k (FaultAfter n) st h = h
+
+calm_writes : (st : State) → IsKeptByWrites IsCalmOrderly st
+calm_writes st =
+    let own = orderly_writes st in
+    record {
+      puts = λ v e w mark x h. (own.puts v e w mark x h.0, calm_put v w mark x h.1);
+      reverts = λ s n v k mark e f h. (own.reverts s n v k mark e f h.0, calm_revert s v k mark st h.1);
+    }
+
+calm_fold : (s : Plan) (st : State) (acts : List Act) → IsCalmOrderly st → IsCalmOrderly (fold (after s) st acts)
+calm_fold s st [] h = h
+calm_fold s st (act ∷ acts) h = calm_fold s (after s st act) acts (on_after IsCalmOrderly calm_kept s st act (calm_writes st) h)
+
+pub calm_always : (s : Plan) (acts : List Act) → IsCalmOrderly (state s acts)
+calm_always s acts = calm_fold s (start s) acts (orderly s [], λ q e f. absurd cc)

@@ -1,0 +1,747 @@
+-- Nobody owes an answer once the agenda that asked for it is over: while it runs, whoever owes one is waited for; and it ends only where
+-- nobody is.
+use Rattle.std.proofs.Common.{◌≡◌, ◌∙◌, ℕ, ◌+◌, ◌==◌, List, [], ◌∷◌, ◌++◌, Option, Some, None, refl, Bool, true, false, ap, sym, subst, inl, inr, map, filter, length, arith}
+use Rattle.std.specs.Prelude.{◌&&◌, ◌||◌, not, is_some, option_map, if◌then◌else◌, nat_lt}
+use Rattle.std.specs.List.{list_any}
+use Rattle.std.proofs.lemmas.List.Folds.{list_any-append}
+use Rattle.vss_names.specs.declared.context.Context.{Context}
+use Rattle.vss_names.specs.declared.context.Context.TheVariants.{Backup, AppRollback, NasRollback}
+use Rattle.vss_names.specs.declared.order.Order.{Order}
+use Rattle.vss_names.specs.declared.set_outcome.SetOutcome.{SetOutcome}
+use Rattle.vss_names.specs.declared.vss_result.VssResult.{VssResult}
+use Rattle.vss_names.specs.declared.vss_result.VssResult.TheVariants.{AsyncCancelled, AsyncPending, BadState, InsufficientStorage}
+use Rattle.writer_state.specs.declared.said.Said.{Said}
+use Rattle.writer_state.specs.declared.said.Said.TheVariants.{Lost}
+use Rattle.writer_state.specs.WriterState.{is_ok}
+use Rattle.writer_state.specs.WriterRow.{row_gathered}
+use Rattle.writer_state.specs.declared.writer_row.WriterRow.{WriterRow}
+use Rattle.write_history.specs.declared.mark.Mark.{Mark}
+use Rattle.write_history.specs.declared.mark.Mark.TheVariants.{Clean, Fault, FaultAfter}
+use Rattle.write_history.specs.History.{Write}
+use Rattle.component_doc.specs.Selection.{takers}
+use Rattle.writer_calls.specs.declared.answer.Answer.{Answer}
+use Rattle.writer_calls.specs.Script.{said_of}
+use Rattle.set_agenda.specs.declared.group.Group.{Group}
+use Rattle.set_agenda.specs.declared.group.Group.TheVariants.{Orders}
+use Rattle.set_agenda.specs.declared.kind.Kind.{Kind}
+use Rattle.set_agenda.specs.declared.kind.Kind.TheVariants.{Gather, Prepare, Snapshot, Complete}
+use Rattle.set_agenda.specs.declared.member.Member.{Member}
+use Rattle.set_agenda.specs.declared.place.Place.{Place}
+use Rattle.set_agenda.specs.Agenda.{Agenda, Entry, Open, plain, places, order_of, has_said, same_place, writers_at, waited_for, with_group, left_from, groups_left, left, open_group, open_place}
+use Rattle.set_agenda.specs.Agenda.{is_among, is_working, is_done, at_place, all_say, order_now, same_order, waits_now, order_code}
+use Rattle.set_agenda.specs.Course.{Course, is_member, fails_set, begun, answered as course_answered, stepped as course_stepped, timed as course_timed, settled, settled_if, posted}
+use Rattle.set_agenda.specs.Course.{failed as course_failed, released, limits_now, lost_at, members_from, has_row_failed, prepared as course_prepared}
+use Rattle.set_agenda.specs.Limits.{spent_of}
+use Rattle.requestor.specs.declared.stage.Stage.{Stage}
+use Rattle.requestor.specs.declared.stage.Stage.TheVariants.{Opened, Gathered, Started, Prepared, Done, Finished, Failed}
+use Rattle.requestor.specs.Session.{Session, opened, started as session_started, has_writers, stage_after, agenda_ended, set_failed}
+use Rattle.requestor.specs.Check.{is_stage}
+use Rattle.requestor.specs.declared.session_call.SessionCall.TheVariants as call
+use Rattle.scenario.specs.declared.op.Op.{Op}
+use Rattle.scenario.specs.declared.op.Op.TheVariants as op
+use Rattle.scenario.specs.Bounds.{begins_agenda}
+use Rattle.scenario.specs.Calls.{Target, target_of}
+use Rattle.scenario.specs.Plan.{Plan}
+use Rattle.vss_model.specs.Ending.{runs, followed, failed_in, failed}
+use Rattle.vss_model.specs.State.{SetRow, State, Kept, in_progress, left_now}
+use Rattle.vss_model.specs.declared.event.Event.{Event}
+use Rattle.vss_model.specs.declared.event.Event.TheVariants.{Line, Answer as AnswerEvent, Provider}
+use Rattle.vss_model.specs.Reply.{Reply, Fine, Coded, Deleted}
+use Rattle.vss_model.specs.Images.{Replied, refused, cleared, set_loses_image, with_room_if, put, write, reverted_as}
+use Rattle.vss_model.specs.Sessions.{disable, new_number, start_set, has_no_volume, closed, is_disabled, selected, pending, gather, complete}
+use Rattle.vss_model.specs.Steps.{answered, step_made, is_flush, is_failed_step, stepped_as, stepped, ticked, later}
+use Rattle.vss_model.specs.Facts.{has_failed, WaitsFor, IsAgendaOf}
+use Rattle.vss_model.specs.Effects.{line_ticks, lost_after, lost_order_if}
+use Rattle.vss_model.specs.Acts.{Act, enabled, order_of_writer, idle_now, answer_reply, reply, after, state}
+use Rattle.vss_model.specs.Laws.{LetsGo}
+use Rattle.vss_model.proofs.CourseCalls.{Settles}
+use Rattle.vss_model.proofs.LogRule.{Running, unspoken}
+use Rattle.vss_model.proofs.Spoken.{among_filter}
+use Rattle.vss_model.proofs.Appending.{state-append}
+use Rattle.vss_model.proofs.CutAppend.{append_nothing}
+use Rattle.vss_model.proofs.OrderlyActs.{orderly}
+use Rattle.promises.specs.Way.{Deed, Spoke, deeds_lost, is_pending}
+use Rattle.promises.specs.Owed.{Asking, ToIdentify, ForConsent, AtCompletion, order_for, asks, step_for, is_asked_of, counts, is_reply, owes_after, owes_if, owes_from, owes, NobodyOwes}
+use Rattle.promises.specs.InOrder.{Step, ByGather, ByPrepare, ByComplete, progress, is_step}
+use Rattle.promises.specs.Participants.{is_writer, choosing}
+use Rattle.promises.proofs.Truth.{and_true, both_are, both_parts, equal, false_of, left_part, not_false, not_true, right_part, same_number}
+use Rattle.promises.proofs.Scripts.{kept_test, kept_among}
+use Rattle.promises.proofs.Speaks.{deed_at, deed_in, said_at, Grows, made_now, lost_told, grows_answered, grows_stepped, grows_timed}
+use Rattle.promises.proofs.BusyAgendas.{course_followed}
+use Rattle.promises.proofs.ByEvent.{Covers, covered, after_enabled, after_not_enabled}
+use Rattle.promises.proofs.CalmCourses.{calm_begun}
+use Rattle.promises.proofs.Clock.{write_ticks}
+use Rattle.promises.proofs.Progress.{stage_of, StandsAt, stands_all, is_opened, is_started, is_done as is_done_stage, snapshots}
+use Rattle.promises.proofs.Turns.{Turn, begun_turn, answer_turn, tick_turn, step_turn}
+use Rattle.promises.proofs.Members.{members_from_are}
+use Rattle.promises.proofs.CalmStages.{IsCalm, calm_kept, calm_always}
+use Rattle.promises.proofs.Participants.{Follows, follows_all, standing, asked_by, asked_are}
+
+abbrev p0 : Asking → Place
+p0 i = plain (Orders (order_for i))
+
+abbrev kind_for : Asking → Kind
+kind_for ToIdentify = Gather
+kind_for ForConsent = Prepare
+kind_for AtCompletion = Complete
+
+single : (i : Asking) → places (kind_for i) ≡ p0 i ∷ []
+single ToIdentify = refl
+single ForConsent = refl
+single AtCompletion = refl
+
+-- those of its one group that are not heard
+abbrev waiting : Asking → Agenda → List ℕ
+waiting i a = filter (λ who. not (has_said a.log (p0 i) who)) (writers_at a.members None)
+
+waiting_is : (i : Asking) (a : Agenda) → waited_for a (p0 i) ≡ waiting i a
+waiting_is ToIdentify a = refl
+waiting_is ForConsent a = refl
+waiting_is AtCompletion a = refl
+
+-- ## the agenda
+
+left_is : (i : Asking) (a : Agenda) → a.kind ≡ kind_for i → groups_left a ≡ with_group (p0 i) (waiting i a) []
+left_is i a k = ap (λ j. left_from a (places j)) k ∙ ap (λ ps. left_from a ps) (single i) ∙ ap (λ ws. with_group (p0 i) ws []) (waiting_is i a)
+
+-- whoever is waited for is so in the one group
+open_is : (i : Asking) (w : ℕ) (a : Agenda) → a.kind ≡ kind_for i → is_among w (waiting i a) ≡ true → open_place (groups_left a) ≡ p0 i
+open_is i w a k e = ap open_place (left_is i a k) ∙ by_waits (waiting i a) e
+  where
+    by_waits : (ws : List ℕ) → is_among w ws ≡ true → open_place (with_group (p0 i) ws []) ≡ p0 i
+    by_waits [] e = absurd cc
+    by_waits (x ∷ ws) e = refl
+
+none_waits : (i : Asking) (w : ℕ) (a : Agenda) → a.kind ≡ kind_for i → is_done (groups_left a) ≡ true → is_among w (waiting i a) ≡ false
+none_waits i w a k e = by_waits (waiting i a) (sym (ap is_done (left_is i a k)) ∙ e)
+  where
+    by_waits : (ws : List ℕ) → is_done (with_group (p0 i) ws []) ≡ true → is_among w ws ≡ false
+    by_waits [] e = refl
+    by_waits (x ∷ ws) e = absurd cc
+
+-- a new entry of a place is of one who speaks
+new_said : (p q : Place) (said : Said) (now : ℕ) (ws : List ℕ) (w : ℕ) → has_said (map (at_place p said now) ws) q w ≡ true → is_among w ws ≡ true
+new_said p q said now [] w e = absurd cc
+new_said p q said now (x ∷ ws) w e = by_head (same_place p q) (x == w) e (new_said p q said now ws w)
+  where
+    by_head : (b c : Bool) → ((b && c) || has_said (map (at_place p said now) ws) q w) ≡ true → (has_said (map (at_place p said now) ws) q w ≡ true → is_among w ws ≡ true)
+        → (c || is_among w ws) ≡ true
+    by_head b true e ih = refl
+    by_head true false e ih = ih e
+    by_head false false e ih = ih e
+
+-- and what is said is told
+new_told : (g : Group) (p : Place) (said : Said) (now : ℕ) (ws : List ℕ) (w : ℕ) (test : Deed → Bool) → ((u : ℕ) → (u == w) ≡ true → test (deed_at p.group u said now) ≡ true)
+    → is_among w ws ≡ true
+    → list_any test (map deed_in (map (at_place p said now) ws)) ≡ true
+new_told g p said now [] w test f e = absurd cc
+new_told g p said now (x ∷ ws) w test f e = by_head (x == w) refl e (new_told g p said now ws w test f)
+  where
+    by_head : (b : Bool) → (x == w) ≡ b → (b || is_among w ws) ≡ true → (is_among w ws ≡ true → list_any test (map deed_in (map (at_place p said now) ws)) ≡ true)
+        → (test (deed_at p.group x said now) || list_any test (map deed_in (map (at_place p said now) ws))) ≡ true
+    by_head true i e ih = left_part (test (deed_at p.group x said now)) _ (f x i)
+    by_head false i e ih = right_part (test (deed_at p.group x said now)) _ (ih e)
+
+both : {X : Type 0} (b : Bool) → b ≡ true → b ≡ false → X
+both b e f = absurd cc
+
+-- what is said at the open place counts, where it fails no set
+counts_at : (i : Asking) (g : Group) (said : Said) → g ≡ Orders (order_for i) → (fails_set (order_of g) && not (is_ok said)) ≡ false → counts i said ≡ true
+counts_at ToIdentify g said e f = refl
+counts_at ForConsent g said e f = not_false (is_ok said) (ap (λ x. fails_set (order_of x) && not (is_ok said)) (sym e) ∙ f)
+counts_at AtCompletion g said e f = refl
+
+own_reply : (i : Asking) (g : Group) (said : Said) (now u w : ℕ) → g ≡ Orders (order_for i) → (fails_set (order_of g) && not (is_ok said)) ≡ false → (u == w) ≡ true
+    → is_reply i w (deed_at g u said now) ≡ true
+own_reply i g said now u w e f same =
+    ap (λ x. is_reply i w (deed_at x u said now)) e
+    ∙ both_are (same_order (order_for i) (order_for i)) _ (same_number (order_code (order_for i))) (both_are (counts i said) (u == w) (counts_at i g said e f) same)
+
+-- who was not heard is waited for still
+still_waits : (i : Asking) (w : ℕ) (said : Said) (now : ℕ) (ws : List ℕ) (a : Agenda) → a.kind ≡ kind_for i
+    → (fails_set (order_of (open_place (groups_left a)).group) && not (is_ok said)) ≡ false
+    → list_any (is_reply i w) (map deed_in (said_at (groups_left a) said now ws)) ≡ false → is_among w (waiting i a) ≡ true → is_among w (waiting i (all_say said now ws a)) ≡ true
+still_waits i w said now ws a k mild untold waits =
+    kept_among (λ x. not (has_said (a.log ++ new) (p0 i) x)) w (writers_at a.members None) (ap not unsaid_now)
+    (among_filter (λ x. not (has_said a.log (p0 i) x)) w (writers_at a.members None) waits)
+  where
+    p : Place
+    p = open_place (groups_left a)
+
+    new : List Entry
+    new = said_at (groups_left a) said now ws
+
+    open_now : p.group ≡ Orders (order_for i)
+    open_now = ap (λ (q : Place). q.group) (open_is i w a k waits)
+
+    not_now : is_among w ws ≡ false
+    not_now = false_of (is_among w ws)
+        (λ f. both (list_any (is_reply i w) (map deed_in new)) (new_told p.group p said now ws w (is_reply i w) (λ u g. own_reply i p.group said now u w open_now mild g) f) untold)
+
+    unsaid_now : has_said (a.log ++ new) (p0 i) w ≡ false
+    unsaid_now =
+        list_any-append (λ (x : Entry). same_place x.place (p0 i) && (x.who == w)) a.log new
+        ∙ ap (λ b. b || has_said new (p0 i) w) (not_true (has_said a.log (p0 i) w) (kept_test (λ x. not (has_said a.log (p0 i) x)) w (writers_at a.members None) waits))
+        ∙ false_of (has_said new (p0 i) w) (λ f. both (is_among w ws) (new_said p (p0 i) said now ws w f) not_now)
+
+module _ (i : Asking) (w : ℕ) where
+  -- of a running agenda, by whether the writer owes an answer
+  abbrev pub Waits : Bool → Agenda → Type 0
+  Waits c a = a.kind ≡ kind_for i → c ≡ true → is_among w (waiting i a) ≡ true
+
+  module _ (c d : Bool) (keeps : d ≡ true → c ≡ true) where
+    rests_waits : (a : Agenda) → Waits c a → Waits d a
+    rests_waits a h k e = h k (keeps e)
+
+    says_waits : (said : Said) (now : ℕ) (ws : List ℕ) (a : Agenda) → (fails_set (order_of (open_place (groups_left a)).group) && not (is_ok said)) ≡ false
+        → (d ≡ true → list_any (is_reply i w) (map deed_in (said_at (groups_left a) said now ws)) ≡ false) → Waits c a → Waits d (all_say said now ws a)
+    says_waits said now ws a mild untold h k e = still_waits i w said now ws a k mild (untold e) (h k (keeps e))
+
+    abbrev pub Ends : Option Agenda → Option Agenda → SetOutcome → Type 0
+    Ends None b p = Unit {0}
+    Ends (Some a) b p = b ≡ None → has_failed p ≡ false → a.kind ≡ kind_for i → d ≡ false
+
+    settled_waits : (done : Bool) (a : Agenda) (o : SetOutcome) (b : Option Agenda) (p : SetOutcome) → (done ≡ true → is_done (groups_left a) ≡ true) → Settles done a o b p
+        → Waits d a
+        → Running (Waits d) b × (b ≡ None → a.kind ≡ kind_for i → d ≡ false)
+    settled_waits true a o b p done e h = (subst (Running (Waits d)) (sym e.0) tt, λ f k. false_of d (λ g. both (is_among w (waiting i a)) (h k g) (none_waits i w a k (done refl))))
+    settled_waits false a o b p done e h = (subst (Running (Waits d)) (sym e.0) h, λ f. absurd (differ (sym e.0 ∙ f)))
+      where
+        differ : Some a ≡ None → ⊥
+        differ e = cc
+
+    grows_waits : (a : Option Agenda) (o : SetOutcome) (b : Option Agenda) (p : SetOutcome) (news : List Deed) → Grows a o b p news
+        → (d ≡ true → list_any (is_reply i w) news ≡ false) → Running (Waits c) a → Running (Waits d) b × Ends a b p
+    grows_waits None o b p news h untold r = (subst (Running (Waits d)) (sym h.0) tt, tt)
+    grows_waits (Some a) o b p news (inl h) untold r = (subst (Running (Waits d)) (sym h.agenda) tt, λ f g. both (has_failed p) h.failed g)
+    grows_waits (Some a) o b p news (inr (inl h)) untold r =
+        let x = settled_waits h.done a o b p h.is_done h.settles (rests_waits a r) in (x.0, λ f g k. x.1 f k)
+    grows_waits (Some a) o b p news (inr (inr h)) untold r =
+        let more = all_say h.said h.now h.ws a in
+        let x = settled_waits (is_done (groups_left more)) more o b p (λ e. e) h.settles
+        (says_waits h.said h.now h.ws a h.mild (λ e. sym (ap (list_any (is_reply i w)) h.told) ∙ untold e) r) in (x.0, λ f g k. x.1 f k)
+
+-- ## where an agenda begins
+
+-- each of these members is waited for
+member_waits : (w : ℕ) (ms : List Member) → is_member ms w ≡ true → is_among w (filter (λ who. true) (map (λ (m : Member). m.writer) (filter (λ (m : Member). true) ms))) ≡ true
+member_waits w [] e = absurd cc
+member_waits w (m ∷ ms) e = by_head (m.writer == w) e (member_waits w ms)
+  where
+    by_head : (b : Bool) → (b || is_member ms w) ≡ true
+        → (is_member ms w ≡ true → is_among w (filter (λ who. true) (map (λ (x : Member). x.writer) (filter (λ (x : Member). true) ms))) ≡ true)
+        → (b || is_among w (filter (λ who. true) (map (λ (x : Member). x.writer) (filter (λ (x : Member). true) ms)))) ≡ true
+    by_head true e ih = refl
+    by_head false e ih = ih e
+
+begun_other : (i : Asking) (w : ℕ) (c : Bool) (k : Kind) (ms : List Member) (vs : List ℕ) (now : ℕ) (x : Course) → (k ≡ kind_for i → ⊥)
+    → Running (Waits i w c) (begun k ms vs now x).agenda
+unfolding begun posted settled
+begun_other i w c k ms vs now x other = by_done (is_done (groups_left (unspoken k ms vs now)))
+  where
+    by_done : (b : Bool) → Running (Waits i w c) (settled_if b k (record x { agenda = Some (unspoken k ms vs now) })).agenda
+    by_done true = tt
+    by_done false = λ e. absurd (other e)
+
+begun_own : (i : Asking) (w : ℕ) (d : Bool) (ms : List Member) (now : ℕ) (x : Course) → (d ≡ true → is_member ms w ≡ true)
+    → Running (Waits i w d) (begun (kind_for i) ms [] now x).agenda × ((begun (kind_for i) ms [] now x).agenda ≡ None → d ≡ false)
+unfolding begun posted settled
+begun_own i w d ms now x own = by_done (is_done (groups_left a)) refl
+  where
+    a : Agenda
+    a = unspoken (kind_for i) ms [] now
+
+    by_done : (b : Bool) → is_done (groups_left a) ≡ b
+        → Running (Waits i w d) (settled_if b (kind_for i) (record x { agenda = Some a })).agenda × ((settled_if b (kind_for i) (record x { agenda = Some a })).agenda ≡ None → d ≡ false)
+    by_done true e = (tt, λ f. false_of d (λ g. both (is_among w (waiting i a)) (member_waits w ms (own g)) (none_waits i w a refl e)))
+    by_done false e = (λ k g. member_waits w ms (own g), λ f. absurd (differ f))
+      where
+        differ : Some a ≡ None → ⊥
+        differ e = cc
+
+-- ## whom it asks
+
+member_kept : (rows : List WriterRow) (ms : List Member) (w : ℕ) → not (has_row_failed rows w) ≡ true → is_member ms w ≡ true
+    → is_member (filter (λ (m : Member). not (has_row_failed rows m.writer)) ms) w ≡ true
+member_kept rows [] w e f = absurd cc
+member_kept rows (m ∷ ms) w e f = by_head (m.writer == w) (not (has_row_failed rows m.writer)) refl refl f (member_kept rows ms w e)
+  where
+    by_head : (b c : Bool) → (m.writer == w) ≡ b → not (has_row_failed rows m.writer) ≡ c → (b || is_member ms w) ≡ true
+        → (is_member ms w ≡ true → is_member (filter (λ (x : Member). not (has_row_failed rows x.writer)) ms) w ≡ true)
+        → is_member (if c then m ∷ filter (λ (x : Member). not (has_row_failed rows x.writer)) ms else filter (λ (x : Member). not (has_row_failed rows x.writer)) ms) w ≡ true
+    by_head b true g h f ih = by_number b g f
+      where
+        by_number : (b : Bool) → (m.writer == w) ≡ b → (b || is_member ms w) ≡ true → is_member (m ∷ filter (λ (x : Member). not (has_row_failed rows x.writer)) ms) w ≡ true
+        by_number true g f = left_part (m.writer == w) _ g
+        by_number false g f = right_part (m.writer == w) _ (ih f)
+    by_head true false g h f ih = both (not (has_row_failed rows m.writer)) (ap (λ n. not (has_row_failed rows n)) (equal m.writer w g) ∙ e) h
+    by_head false false g h f ih = ih f
+
+-- ## what acts tell
+
+no_step : (i : Asking) (w now : ℕ) (os : List Open) (g : Option Group) → list_any (is_reply i w) (made_now os now g) ≡ false
+no_step i w now os None = refl
+no_step i w now os (Some g) = refl
+
+-- whenever it was lost
+lost_when : (i : Asking) (w m n : ℕ) (o : Option Order) (ws : List ℕ) → list_any (is_reply i w) (deeds_lost m o ws) ≡ list_any (is_reply i w) (deeds_lost n o ws)
+lost_when i w m n None ws = refl
+lost_when i w m n (Some o) [] = refl
+lost_when i w m n (Some o) (x ∷ ws) = ap (λ b. is_reply i w (Spoke o x Lost m) || b) (lost_when i w m n (Some o) ws)
+
+-- ## stages
+
+abbrev stage_for : Asking → Stage
+stage_for ToIdentify = Gathered
+stage_for ForConsent = Prepared
+stage_for AtCompletion = Finished
+
+prepares_to : (c : Context) (t : Stage) → (t ≡ Started) × (has_writers c ≡ true) → stage_after c t ≡ Prepared
+prepares_to Backup t e = ap (stage_after Backup) e.0
+prepares_to AppRollback t e = ap (stage_after AppRollback) e.0
+prepares_to NasRollback t e = absurd (differ e.1)
+  where
+    differ : false ≡ true → ⊥
+    differ e = cc
+
+-- the stage after an agenda
+waits_for : (i : Asking) (k : Kind) (c : Context) (t : Stage) → WaitsFor k c t → stage_after c t ≡ stage_for i → k ≡ kind_for i
+waits_for i k c t h e = only i k (sym (leads k c t h) ∙ e)
+  where
+    stage_of_kind : Kind → Stage
+    stage_of_kind Gather = Gathered
+    stage_of_kind Prepare = Prepared
+    stage_of_kind Snapshot = Done
+    stage_of_kind Complete = Finished
+
+    leads : (k : Kind) (c : Context) (t : Stage) → WaitsFor k c t → stage_after c t ≡ stage_of_kind k
+    leads Gather c t h = ap (stage_after c) h
+    leads Prepare c t h = prepares_to c t h
+    leads Snapshot Backup t h = ap (stage_after Backup) h
+    leads Snapshot AppRollback t h = ap (stage_after AppRollback) h
+    leads Snapshot NasRollback t h = ap (stage_after NasRollback) h
+    leads Complete c t h = ap (stage_after c) h
+
+    only : (i : Asking) (k : Kind) → stage_of_kind k ≡ stage_for i → k ≡ kind_for i
+    only ToIdentify Gather e = refl
+    only ForConsent Prepare e = refl
+    only AtCompletion Complete e = refl
+    only i k e = absurd cc
+
+not_failed : (i : Asking) → Failed ≡ stage_for i → ⊥
+not_failed ToIdentify e = cc
+not_failed ForConsent e = cc
+not_failed AtCompletion e = cc
+
+not_opened : (i : Asking) → Opened ≡ stage_for i → ⊥
+not_opened ToIdentify e = cc
+not_opened ForConsent e = cc
+not_opened AtCompletion e = cc
+
+not_started : (i : Asking) → Started ≡ stage_for i → ⊥
+not_started ToIdentify e = cc
+not_started ForConsent e = cc
+not_started AtCompletion e = cc
+
+not_done : (i : Asking) → Done ≡ stage_for i → ⊥
+not_done ToIdentify e = cc
+not_done ForConsent e = cc
+not_done AtCompletion e = cc
+
+gather_is : (i : Asking) → asks op.Gather i ≡ true → i ≡ ToIdentify
+gather_is ToIdentify e = refl
+gather_is ForConsent e = absurd cc
+gather_is AtCompletion e = absurd cc
+
+gather_not : (i : Asking) → asks op.Gather i ≡ false → (Gather ≡ kind_for i → ⊥) × (Gathered ≡ stage_for i → ⊥)
+gather_not ToIdentify e = absurd cc
+gather_not ForConsent e = (λ f. cc, λ f. cc)
+gather_not AtCompletion e = (λ f. cc, λ f. cc)
+
+prepare_is : (i : Asking) → asks op.Prepare i ≡ true → i ≡ ForConsent
+prepare_is ToIdentify e = absurd cc
+prepare_is ForConsent e = refl
+prepare_is AtCompletion e = absurd cc
+
+prepare_not : (i : Asking) → asks op.Prepare i ≡ false → (Prepare ≡ kind_for i → ⊥) × (Prepared ≡ stage_for i → ⊥)
+prepare_not ToIdentify e = (λ f. cc, λ f. cc)
+prepare_not ForConsent e = absurd cc
+prepare_not AtCompletion e = (λ f. cc, λ f. cc)
+
+complete_is : (i : Asking) → asks op.Complete i ≡ true → i ≡ AtCompletion
+complete_is ToIdentify e = absurd cc
+complete_is ForConsent e = absurd cc
+complete_is AtCompletion e = refl
+
+complete_not : (i : Asking) → asks op.Complete i ≡ false → (Complete ≡ kind_for i → ⊥) × (Finished ≡ stage_for i → ⊥)
+complete_not ToIdentify e = (λ f. cc, λ f. cc)
+complete_not ForConsent e = (λ f. cc, λ f. cc)
+complete_not AtCompletion e = absurd cc
+
+opened_now : (q : Session) → (is_stage q.stage Opened && has_writers q.context) ≡ true → q.stage ≡ Opened
+opened_now q e = is_opened q.stage (both_parts (is_stage q.stage Opened) (has_writers q.context) e).0
+
+started_now : (q : Session) → (is_stage q.stage Started && has_writers q.context) ≡ true → (q.stage ≡ Started) × (has_writers q.context ≡ true)
+started_now q e = let parts = both_parts (is_stage q.stage Started) (has_writers q.context) e in (is_started q.stage parts.0, parts.1)
+
+done_now : (q : Session) → (is_stage q.stage Done && has_writers q.context) ≡ true → q.stage ≡ Done
+done_now q e = is_done_stage q.stage (both_parts (is_stage q.stage Done) (has_writers q.context) e).0
+
+not_snapshot : (i : Asking) → Snapshot ≡ kind_for i → ⊥
+not_snapshot ToIdentify e = cc
+not_snapshot ForConsent e = cc
+not_snapshot AtCompletion e = cc
+
+same_session : (a b : Session) → Some a ≡ Some b → a ≡ b
+same_session a b e = cc
+
+failed_stage : {X : Type 0} (i : Asking) (why : VssResult) (o : Option Session) (q : Session) → option_map (set_failed why) o ≡ Some q → q.stage ≡ stage_for i → X
+failed_stage i why None q e f = absurd cc
+failed_stage i why (Some p) q e f = absurd (not_failed i (ap (λ (y : Session). y.stage) (same_session (set_failed why p) q e) ∙ f))
+
+-- ## every act
+
+pub record Stands (i : Asking) (w : ℕ) (x : State) (c : Bool) : Type 0 where
+  pub running : Running (Waits i w c) x.course.agenda
+  pub done : (q : Session) → x.session ≡ Some q → q.stage ≡ stage_for i → c ≡ false
+
+module _ (s : Plan) (so_far : List Act) (i : Asking) (w : ℕ) where
+  abbrev st : State
+  st = state s so_far
+
+  module _ (c : Bool) (h : Stands i w st c) where
+    abbrev Next : Event → Mark → Replied → Type 0
+    Next event mark x = Stands i w x.1 (owes_after i w s so_far event x.0 x.1.clock c)
+
+    -- a line that tells nothing
+    line_flag : (lane now : ℕ) (o : Op) (told : Reply) → line_ticks o ≡ None → (asks o i && is_pending told) ≡ false → c ≡ owes_after i w s so_far (Line lane o) told now c
+    line_flag lane now o told e f =
+        sym (and_true c)
+        ∙ ap (λ b. (if b then is_asked_of w i s so_far else c) && true) (sym f)
+        ∙ ap (λ x. (if asks o i && is_pending told then is_asked_of w i s so_far else c) && not
+        (list_any (is_reply i w) (deeds_lost now (lost_order_if (lost_after x st) (order_now (left_now st))) (lost_after x st)))) (sym e)
+
+    tells_none : (lane : ℕ) (o : Op) (mark : Mark) (told : Reply) (x : State) → line_ticks o ≡ None → (asks o i && is_pending told) ≡ false → Stands i w x c → Next (Line lane o) mark (told, x)
+    tells_none lane o mark told x e f k = subst (Stands i w x) (line_flag lane x.clock o told e f) k
+
+    beside : (x : State) → x.course ≡ st.course → ((q : Session) → x.session ≡ Some q → q.stage ≡ stage_for i → st.session ≡ Some q) → Stands i w x c
+    beside x e own = record {
+      running = subst (λ (k : Course). Running (Waits i w c) k.agenda) (sym e) h.running;
+      done = λ q f g. h.done q (own q f g) g;
+    }
+
+    same : (x : State) → x.course ≡ st.course → x.session ≡ st.session → Stands i w x c
+    same x e f = beside x e (λ q g k. sym f ∙ g)
+
+    on_failed : (o : Option SetRow) (why : VssResult) (x : State) → x.course ≡ st.course → x.session ≡ st.session → Stands i w (failed_in o why x) c
+    unfolding course_failed
+    on_failed None why x e f = same x e f
+    on_failed (Some r) why x e f = record { running = tt; done = λ q g k. failed_stage i why x.session q g k }
+
+    on_room : (b : Bool) (x : State) → x.course ≡ st.course → x.session ≡ st.session → Stands i w (with_room_if b x) c
+    on_room true x e f = on_failed (in_progress x) InsufficientStorage x e f
+    on_room false x e f = same x e f
+
+    on_put : (v : ℕ) (b : Write) (mark : Mark) (x : State) → Stands i w x c → Stands i w (put v b mark x) c
+    on_put v b Clean x k = record { running = k.running; done = k.done }
+    on_put v b Fault x k = k
+    on_put v b (FaultAfter n) x k = k
+
+    on_write : (v : ℕ) (b : Write) (mark : Mark) → Stands i w (write s v b mark st).1 c
+    unfolding write
+    on_write v b mark = on_put v b mark _ (on_room (set_loses_image (in_progress st) st.volumes (cleared s v b.block st).volumes) (cleared s v b.block st) refl refl)
+
+    on_reverts : (v : ℕ) (k : Kept) (mark : Mark) → Stands i w (reverted_as s v k mark st).1 c
+    on_reverts v k Clean = same _ refl refl
+    on_reverts v k Fault = h
+    on_reverts v k (FaultAfter n) = same _ refl refl
+
+    on_close : (q : Session) (x : State) → Stands i w (closed q x) c
+    unfolding closed released
+    on_close q x = record { running = tt; done = λ p f g. absurd cc }
+
+    -- the course goes on
+    quiet_none : (x : State) → runs x ≡ false → x.course.agenda ≡ None
+    quiet_none x e = by_agenda x.course.agenda e
+      where
+        by_agenda : (o : Option Agenda) → is_some o ≡ false → o ≡ None
+        by_agenda None e = refl
+        by_agenda (Some a) e = absurd cc
+
+    module _ (x : State) (d : Bool) (k : Course) (news : List Deed) (is : x.course ≡ k) (grows : Grows st.course.agenda st.course.outcome k.agenda k.outcome news) (turn : Turn st x (runs st))
+        (calm : IsCalm x)
+        (keeps : d ≡ true → c ≡ true) (untold : d ≡ true → list_any (is_reply i w) news ≡ false) where
+      abbrev goes_on : Running (Waits i w d) k.agenda × Ends i w c d keeps st.course.agenda k.agenda k.outcome
+      goes_on = grows_waits i w c d keeps st.course.agenda st.course.outcome k.agenda k.outcome news grows untold h.running
+
+      over_by : (q : Session) (a : Option Agenda) (p : Option Session) → st.course.agenda ≡ a → st.session ≡ p → is_some a ≡ true → option_map agenda_ended p ≡ Some q
+          → q.stage ≡ stage_for i → IsAgendaOf a p
+          → Ends i w c d keeps a k.agenda k.outcome → x.session ≡ Some q → runs x ≡ false → d ≡ false
+      over_by q None p e f ran ended stage waits ends own quiet = absurd cc
+      over_by q (Some a) None e f ran ended stage waits ends own quiet = absurd cc
+      over_by q (Some a) (Some p) e f ran ended stage waits ends own quiet =
+          ends (ap (λ (y : Course). y.agenda) (sym is) ∙ quiet_none x quiet) (ap (λ (y : Course). has_failed y.outcome) (sym is) ∙ calm q own (λ f. not_failed i (sym f ∙ stage)))
+          (waits_for i a.kind p.context p.stage waits (ap (λ (y : Session). y.stage) (same_session (agenda_ended p) q ended) ∙ stage))
+
+      done_by : (q : Session) → x.session ≡ Some q → q.stage ≡ stage_for i → Turn st x (runs st) → d ≡ false
+      done_by q f g (inl t) = failed_stage i t.why st.session q (sym t.session ∙ f) g
+      done_by q f g (inr (inl t)) = over_by q st.course.agenda st.session refl refl t.ran_is (sym t.session ∙ f) g (orderly s so_far).agenda goes_on.1 f t.quiet
+      done_by q f g (inr (inr t)) = false_of d (λ e. both c (keeps e) (h.done q (sym t.session ∙ f) g))
+
+      goes : Stands i w x d
+      goes = record {
+        running = subst (λ (y : Course). Running (Waits i w d) y.agenda) (sym is) goes_on.0;
+        done = λ q f g. done_by q f g turn;
+      }
+
+    -- time
+    on_ticks : (n m : ℕ) → Stands i w (ticked n st) (c && not (list_any (is_reply i w) (lost_told m (spent_of (st.clock + n) (limits_now st.course)) (left st.course.agenda))))
+    unfolding ticked
+    on_ticks n m =
+        let now = st.clock + n in
+        let l = spent_of now (limits_now st.course) in
+        let os = left st.course.agenda in
+        let d = c && not (list_any (is_reply i w) (lost_told m l os)) in
+        goes (ticked n st) d (course_timed now st.course) (lost_told now l os) (course_followed (runs st) (course_timed now st.course) (later n st))
+        (grows_timed now st.course) (tick_turn s so_far n) (calm_kept.ticks n st (calm_always s so_far)).1 (λ e. (both_parts c _ e).0)
+        (λ e. lost_when i w now m (lost_order_if (lost_at l (order_now os) (waits_now os)) (order_now os)) (lost_at l (order_now os) (waits_now os))
+        ∙ not_true (list_any (is_reply i w) (lost_told m l os)) (both_parts c _ e).1)
+
+    on_answers : (o : Option Order) (u : ℕ) (answer : Answer) (mark : Mark) → order_of_writer st u ≡ o → is_some o ≡ true
+        → Next (AnswerEvent u answer) mark (answer_reply o answer, answered u (said_of answer) st)
+    unfolding answered
+    on_answers None u answer mark e f = absurd cc
+    on_answers (Some o) u answer mark e f =
+        let k = course_answered u (said_of answer) st.clock st.course in
+        goes (answered u (said_of answer) st) _ k (Spoke o u (said_of answer) st.clock ∷ []) (course_followed (runs st) k st)
+        (grows_answered u o (said_of answer) st.clock st.course e) (answer_turn s so_far u (said_of answer)) (calm_kept.answers u (said_of answer) st (ap is_some e) (calm_always s so_far)).1
+        (λ e. (both_parts c _ e).0) (λ e. not_true _ (both_parts c _ e).1)
+
+    step_course : (b : Bool) (g : Option Group) → (stepped_as b g st).course ≡ course_stepped (not b) st.clock st.course
+    step_course true g = course_followed (runs st) (course_stepped false st.clock st.course) st
+    step_course false g = course_followed (runs st) (course_stepped true st.clock st.course) (step_made g st)
+
+    on_steps : (mark : Mark) (told : Reply) → is_working (left_now st) ≡ true → Next Provider mark (told, stepped mark st)
+    unfolding stepped
+    on_steps mark told e =
+        let b = is_failed_step (is_flush (open_group (left_now st))) mark in
+        let k = course_stepped (not b) st.clock st.course in
+        goes (stepped mark st) _ k (made_now (left st.course.agenda) st.clock (open_group (left st.course.agenda))) (step_course b (open_group (left_now st)))
+        (grows_stepped (not b) st.clock st.course e) (step_turn s so_far mark e) (calm_kept.steps mark st e (calm_always s so_far)).1
+        (λ e. (both_parts c _ e).0) (λ e. no_step i w st.clock (left st.course.agenda) (open_group (left st.course.agenda)))
+
+    -- an agenda of another kind begins
+    begins_other : (lane : ℕ) (o : Op) (mark : Mark) (k : Kind) (ms : List Member) (vs : List ℕ) (y : Course) → line_ticks o ≡ None → asks o i ≡ false → (k ≡ kind_for i → ⊥)
+        → Turn st (followed true (begun k ms vs st.clock y) st) true → ((q : Session) → st.session ≡ Some q → stage_after q.context q.stage ≡ stage_for i → ⊥)
+        → Next (Line lane o) mark (Coded AsyncPending, followed true (begun k ms vs st.clock y) st)
+    begins_other lane o mark k ms vs y e f other turn never =
+        tells_none lane o mark (Coded AsyncPending) x e (ap (λ b. b && true) f) (record {
+          running = subst (λ (z : Course). Running (Waits i w c) z.agenda) (sym (course_followed true (begun k ms vs st.clock y) st)) (begun_other i w c k ms vs st.clock y other);
+          done = λ q g stage. done_by q g stage turn;
+        })
+      where
+        x : State
+        x = followed true (begun k ms vs st.clock y) st
+
+        over_by : (q : Session) (p : Option Session) → st.session ≡ p → option_map agenda_ended p ≡ Some q → q.stage ≡ stage_for i → c ≡ false
+        over_by q None e f g = absurd cc
+        over_by q (Some p) e f g = absurd (never p e (ap (λ (z : Session). z.stage) (same_session (agenda_ended p) q f) ∙ g))
+
+        done_by : (q : Session) → x.session ≡ Some q → q.stage ≡ stage_for i → Turn st x true → c ≡ false
+        done_by q g stage (inl t) = failed_stage i t.why st.session q (sym t.session ∙ g) stage
+        done_by q g stage (inr (inl t)) = over_by q st.session refl (sym t.session ∙ g) stage
+        done_by q g stage (inr (inr t)) = h.done q (sym t.session ∙ g) stage
+
+    -- the agenda that asks begins
+    begins_own : (lane : ℕ) (o : Op) (mark : Mark) (ms : List Member) (y : Course) → asks o i ≡ true → (is_asked_of w i s so_far ≡ true → is_member ms w ≡ true)
+        → ((q : Session) → st.session ≡ Some q → q.stage ≡ stage_for i → ⊥) → Turn st (followed true (begun (kind_for i) ms [] st.clock y) st) true
+        → Next (Line lane o) mark (Coded AsyncPending, followed true (begun (kind_for i) ms [] st.clock y) st)
+    begins_own lane o mark ms y f member never turn = record {
+      running = subst (λ (z : Course). Running (Waits i w d) z.agenda) (sym is) own.0;
+      done = λ q g stage. done_by q g stage turn;
+    }
+      where
+        x : State
+        x = followed true (begun (kind_for i) ms [] st.clock y) st
+
+        d : Bool
+        d = owes_after i w s so_far (Line lane o) (Coded AsyncPending) x.clock c
+
+        is : x.course ≡ begun (kind_for i) ms [] st.clock y
+        is = course_followed true (begun (kind_for i) ms [] st.clock y) st
+
+        asked_now : (b l : Bool) → b ≡ true → ((if b && true then is_asked_of w i s so_far else c) && l) ≡ true → is_asked_of w i s so_far ≡ true
+        asked_now true l e g = (both_parts (is_asked_of w i s so_far) l g).0
+        asked_now false l e g = absurd cc
+
+        own : Running (Waits i w d) (begun (kind_for i) ms [] st.clock y).agenda × ((begun (kind_for i) ms [] st.clock y).agenda ≡ None → d ≡ false)
+        own = begun_own i w d ms st.clock y (λ e. member (asked_now (asks o i) _ f e))
+
+        done_by : (q : Session) → x.session ≡ Some q → q.stage ≡ stage_for i → Turn st x true → d ≡ false
+        done_by q g stage (inl t) = failed_stage i t.why st.session q (sym t.session ∙ g) stage
+        done_by q g stage (inr (inl t)) = own.1 (ap (λ (z : Course). z.agenda) (sym is) ∙ quiet_none x t.quiet)
+        done_by q g stage (inr (inr t)) = absurd (never q (sym t.session ∙ g) stage)
+
+    either : (event : Event) (mark : Mark) (b : Bool) (x y : Replied) → Next event mark x → Next event mark y → Next event mark (if b then x else y)
+    either event mark true x y k j = k
+    either event mark false x y k j = j
+
+    -- the session's stage
+    at_stage : (q : Session) (t : Stage) → st.session ≡ Some q → q.stage ≡ t → (t ≡ stage_for i → ⊥) → (p : Session) → st.session ≡ Some p → p.stage ≡ stage_for i → ⊥
+    at_stage q t e f never p g k = never (sym f ∙ ap (λ (z : Session). z.stage) (same_session q p (sym e ∙ g)) ∙ k)
+
+    to_stage : (q : Session) (t : Stage) → st.session ≡ Some q → stage_after q.context q.stage ≡ t → (t ≡ stage_for i → ⊥) → (p : Session) → st.session ≡ Some p
+        → stage_after p.context p.stage ≡ stage_for i → ⊥
+    to_stage q t e f never p g k = never (sym f ∙ ap (λ (z : Session). stage_after z.context z.stage) (same_session q p (sym e ∙ g)) ∙ k)
+
+    in_stage : {X : Type 0} (p q : Session) (t : Stage) → Some p ≡ Some q → p.stage ≡ t → (t ≡ stage_for i → ⊥) → q.stage ≡ stage_for i → X
+    in_stage p q t e f never g = absurd (never (sym f ∙ ap (λ (z : Session). z.stage) (same_session p q e) ∙ g))
+
+    and_false : (b : Bool) → (b && false) ≡ false
+    and_false true = refl
+    and_false false = refl
+
+    not_asked : (o : Op) (told : Reply) → (begins_agenda o ≡ true → is_pending told ≡ false) → (asks o i && is_pending told) ≡ false
+    not_asked op.Gather told f = ap (λ b. asks op.Gather i && b) (f refl) ∙ and_false (asks op.Gather i)
+    not_asked op.Prepare told f = ap (λ b. asks op.Prepare i && b) (f refl) ∙ and_false (asks op.Prepare i)
+    not_asked op.Complete told f = ap (λ b. asks op.Complete i && b) (f refl) ∙ and_false (asks op.Complete i)
+    not_asked o told f = refl
+
+    write_not_asked : (o : Op) (t : Target) (told : Reply) → target_of o ≡ Some t → (asks o i && is_pending told) ≡ false
+    write_not_asked (op.WriteFill v b x) t told e = refl
+    write_not_asked (op.WriteStamp v b x) t told e = refl
+    write_not_asked o t told e = absurd cc
+
+    -- ## the lines that ask
+
+    follows : Follows s w st (choosing s w so_far)
+    follows = follows_all s w so_far
+
+    on_gathers : (lane : ℕ) (q : Session) (mark : Mark) → LetsGo call.Gather q st → (b : Bool) → asks op.Gather i ≡ b → Next (Line lane op.Gather) mark (gather s st)
+    on_gathers lane q mark g true e =
+        subst (λ k. Next (Line lane op.Gather) mark (Coded AsyncPending, followed true (begun k ms [] st.clock y) st)) (ap kind_for same)
+        (begins_own lane op.Gather mark ms y e member (at_stage q Opened g.stands (opened_now q g.allowed) (not_opened i)) (begun_turn s so_far _ (calm_begun (kind_for i) ms [] st.clock y)))
+      where
+        same : i ≡ ToIdentify
+        same = gather_is i e
+
+        ms : List Member
+        ms = members_from (λ u. not (is_disabled s st u)) 0 st.course.rows
+
+        y : Course
+        y = record st.course { rows = map row_gathered st.course.rows }
+
+        zero_plus : (n : ℕ) → 0 + n ≡ n
+        zero_plus n = omega arith
+
+        member : is_asked_of w i s so_far ≡ true → is_member ms w ≡ true
+        member a =
+            members_from_are (λ u. not (is_disabled s st u)) 0 st.course.rows w (omega arith)
+            ∙ ap (λ n. nat_lt w n && not (is_disabled s st w)) (zero_plus (length st.course.rows) ∙ follows.rows)
+            ∙ ap (λ b. is_writer s w && not b) (standing s w st (choosing s w so_far) follows q g.stands).disabled
+            ∙ subst (λ k. is_asked_of w k s so_far ≡ true) same a
+    on_gathers lane q mark g false e =
+        begins_other lane op.Gather mark Gather _ [] (record st.course { rows = map row_gathered st.course.rows }) refl e (gather_not i e).0 (begun_turn s so_far _ (calm_begun Gather _ [] st.clock _))
+        (to_stage q Gathered g.stands (ap (stage_after q.context) (opened_now q g.allowed)) (gather_not i e).1)
+
+    on_prepares : (lane : ℕ) (q : Session) (mark : Mark) → LetsGo call.Prepare q st → (b : Bool) → asks op.Prepare i ≡ b
+        → Next (Line lane op.Prepare) mark (pending (course_prepared (takers (length s.writers) (selected s q st)) st.clock st.course) st)
+    on_prepares lane q mark g true e =
+        subst (λ k. Next (Line lane op.Prepare) mark (Coded AsyncPending, followed true (begun k ms [] st.clock y) st)) (ap kind_for same)
+        (begins_own lane op.Prepare mark ms y e (λ a. asked_are s w st (choosing s w so_far) follows q g.stands ∙ subst (λ k. is_asked_of w k s so_far ≡ true) same a)
+        (at_stage q Started g.stands (started_now q g.allowed).0 (not_started i)) (begun_turn s so_far _ (calm_begun (kind_for i) ms [] st.clock y)))
+      where
+        same : i ≡ ForConsent
+        same = prepare_is i e
+
+        ms : List Member
+        ms = asked_by s w st (choosing s w so_far) follows q
+
+        y : Course
+        y = record st.course { members = ms }
+    on_prepares lane q mark g false e =
+        begins_other lane op.Prepare mark Prepare _ [] _ refl e (prepare_not i e).0 (begun_turn s so_far _ (calm_begun Prepare _ [] st.clock _))
+        (to_stage q Prepared g.stands (prepares_to q.context q.stage (started_now q g.allowed)) (prepare_not i e).1)
+
+    on_completes : (lane : ℕ) (q : Session) (mark : Mark) → LetsGo call.Complete q st → (b : Bool) → asks op.Complete i ≡ b → Next (Line lane op.Complete) mark (complete st)
+    on_completes lane q mark g true e =
+        subst (λ k. Next (Line lane op.Complete) mark (Coded AsyncPending, followed true (begun k ms [] st.clock st.course) st)) (ap kind_for same)
+        (begins_own lane op.Complete mark ms st.course e member (at_stage q Done g.stands (done_now q g.allowed) (not_done i))
+        (begun_turn s so_far _ (calm_begun (kind_for i) ms [] st.clock st.course)))
+      where
+        same : i ≡ AtCompletion
+        same = complete_is i e
+
+        ms : List Member
+        ms = filter (λ (m : Member). not (has_row_failed st.course.rows m.writer)) st.course.members
+
+        member : is_asked_of w i s so_far ≡ true → is_member ms w ≡ true
+        member a =
+            let parts = both_parts (is_member st.course.members w) _ (subst (λ k. is_asked_of w k s so_far ≡ true) same a) in
+            member_kept st.course.rows st.course.members w parts.1 parts.0
+    on_completes lane q mark g false e =
+        begins_other lane op.Complete mark Complete _ [] st.course refl e (complete_not i e).0 (begun_turn s so_far _ (calm_begun Complete _ [] st.clock st.course))
+        (to_stage q Finished g.stands (ap (stage_after q.context) (done_now q g.allowed)) (complete_not i e).1)
+
+    every_act : Covers Next s st
+    every_act = record {
+      stays = λ lane o mark told e f. tells_none lane o mark told st e (not_asked o told f.agenda) h;
+      writes = λ lane o v b mark e f. tells_none lane o mark (write s v b mark st).0 (write s v b mark st).1 (write_ticks o _ e) (write_not_asked o _ (write s v b mark st).0 e) (on_write v b mark);
+      reverts = λ lane n v k mark e f. tells_none lane (op.Revert n v) mark (reverted_as s v k mark st).0 (reverted_as s v k mark st).1 refl refl (on_reverts v k mark);
+      deletes_set = λ lane n k mark e. tells_none lane (op.DeleteSet n) mark (Deleted k) _ refl refl (same _ refl refl);
+      deletes_image = λ lane n v k mark e. tells_none lane (op.DeleteImage n v) mark (Deleted 1) _ refl refl (same _ refl refl);
+      ticks = λ lane n mark. on_ticks n (ticked n st).clock;
+      begins = λ lane n all k mark e ctx. tells_none lane (op.Begin n all) mark Fine _ refl refl
+          (beside (record st { session = Some (opened lane k all); explicit = [] }) refl (λ q f g. in_stage (opened lane k all) q Opened f refl (not_opened i) g));
+      disables = λ lane u q mark g. tells_none lane (op.Disable u) mark Fine (disable u st).1 refl refl (record { running = h.running; done = h.done });
+      gathers = λ lane q mark g. on_gathers lane q mark g (asks op.Gather i) refl;
+      names = λ lane u full q explicit mark g named. tells_none lane (op.Component u full) mark Fine _ refl refl (same _ refl refl);
+      starts = λ lane q mark g e. tells_none lane op.Start mark (start_set q st).0 (start_set q st).1 refl refl
+          (beside (start_set q st).1 refl (λ p f k. in_stage (session_started (new_number st) q) p Started f refl (not_started i) k));
+      adds = λ lane v r q mark g e f. tells_none lane (op.Add v) mark Fine _ refl refl (same _ refl refl);
+      prepares = λ lane q mark g. either (Line lane op.Prepare) mark (has_no_volume (in_progress st)) (refused BadState st) _
+          (tells_none lane op.Prepare mark (Coded BadState) st refl (not_asked op.Prepare (Coded BadState) (λ e. refl)) h) (on_prepares lane q mark g (asks op.Prepare i) refl);
+      snapshots = λ lane q mark g. either (Line lane op.Snapshot) mark (has_no_volume (in_progress st)) (refused BadState st) _ (tells_none lane op.Snapshot mark (Coded BadState) st refl refl h)
+          (begins_other lane op.Snapshot mark Snapshot st.course.members _ st.course refl refl (λ e. not_snapshot i e)
+          (begun_turn s so_far _ (calm_begun Snapshot st.course.members _ st.clock st.course))
+          (to_stage q Done g.stands (snapshots q.context q.stage g.allowed) (not_done i)));
+      completes = λ lane q mark g. on_completes lane q mark g (asks op.Complete i) refl;
+      aborts = λ lane q mark e. tells_none lane op.Abort mark Fine (failed AsyncCancelled st) refl refl (on_failed (in_progress st) AsyncCancelled st refl refl);
+      ends = λ lane q mark e. tells_none lane op.End mark Fine (closed q (failed AsyncCancelled st)) refl refl (on_close q (failed AsyncCancelled st));
+      answers = λ u answer mark e. on_answers (order_of_writer st u) u answer mark refl e;
+      steps = λ mark e. on_steps mark _ e;
+      idles = λ mark e. on_ticks (idle_now st) (ticked (idle_now st) st).clock;
+    }
+
+    stands_if : (b : Bool) (act : Act) → enabled s st act.event ≡ b → Stands i w (after s st act) (owes_if b i w s so_far act c)
+    stands_if true act e = let is = after_enabled s st act e in subst (λ (x : State). Stands i w x (owes_after i w s so_far act.event (reply s st act) x.clock c)) (sym is)
+        (covered Next s st every_act act.event act.mark e)
+    stands_if false act e = subst (λ (x : State). Stands i w x c) (sym (after_not_enabled s st act e)) h
+
+-- ## every list of acts
+
+module _ (s : Plan) (i : Asking) (w : ℕ) where
+  regrouped : (xs ys : List Act) (act : Act) → (xs ++ act ∷ []) ++ ys ≡ xs ++ act ∷ ys
+  regrouped [] ys act = refl
+  regrouped (x ∷ xs) ys act = ap (λ zs. x ∷ zs) (regrouped xs ys act)
+
+  stands_from : (so_far : List Act) (c : Bool) (acts : List Act) → Stands i w (state s so_far) c → Stands i w (state s (so_far ++ acts)) (owes_from i w s so_far c acts)
+  stands_from so_far c [] h = subst (λ xs. Stands i w (state s xs) c) (sym (append_nothing so_far)) h
+  stands_from so_far c (act ∷ acts) h =
+      let d = owes_if (enabled s (state s so_far) act.event) i w s so_far act c in
+      subst (λ xs. Stands i w (state s xs) (owes_from i w s (so_far ++ act ∷ []) d acts)) (regrouped so_far acts act)
+      (stands_from (so_far ++ act ∷ []) d acts (subst (λ (x : State). Stands i w x d) (sym (state-append s so_far act)) (stands_if s so_far i w c h (enabled s (state s so_far) act.event) act refl)))
+
+  stands_always : (acts : List Act) → Stands i w (state s acts) (owes i w s acts)
+  stands_always acts = stands_from [] false acts (record { running = tt; done = λ q e f. refl })
+
+pub nobody_owes : (s : Plan) (so_far : List Act) → NobodyOwes s so_far
+nobody_owes s so_far asking w q e quiet step =
+    let at : StandsAt q false (progress s so_far) = subst (λ b. StandsAt q b (progress s so_far)) quiet (stands_all s so_far q e) in
+    (stands_always s asking w so_far).done q e (at.stage ∙ stage_is asking (progress s so_far).step step)
+  where
+    stage_is : (i : Asking) (t : Step) → is_step t (step_for i) ≡ true → stage_of t ≡ stage_for i
+    stage_is ToIdentify ByGather e = refl
+    stage_is ForConsent ByPrepare e = refl
+    stage_is AtCompletion ByComplete e = refl
+    stage_is i t e = absurd cc

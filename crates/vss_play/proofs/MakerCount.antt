@@ -1,0 +1,68 @@
+-- The end of a run: the faults of its devices in the count of the maker that gets them back.
+use Rattle.std.proofs.Common.{◌≡◌, ℕ, zero, suc, ◌+◌, ◌<◌, ◌≤◌, List, [], ◌∷◌, ◌∙◌, refl, ap, sym, arith, Bool, true, false, Option, Some, subst, inl, inr, add-zero}
+use Rattle.std.specs.Prelude.{map, sum, slice_get, ◌⊎◌, nat_le, Result, Err, IsErrOf}
+use Rattle.std.proofs.lemmas.Bool.Decides.{nat_tests}
+use Rattle.std.proofs.lemmas.List.Sums.{sum_by-cons}
+use Rattle.vss_names.specs.Faults.{Rose, most, counted, all_counted}
+use Rattle.vss_names.specs.TextValue.{TextValue}
+use Rattle.write_history.specs.declared.move_item.Move.{Move}
+use Rattle.scenario.specs.Plan.{Plan}
+use Rattle.vss_model.specs.Trail.{is_complete}
+use Rattle.vss_play.specs.declared.play_fault.PlayFault.{PlayFault}
+use Rattle.vss_play.specs.declared.play_fault.PlayFault.TheVariants.{Failed}
+use Rattle.vss_play.specs.Played.{IsEnded, Played, IsQuietPlay}
+use Rattle.vss_play.proofs.GivingBack.{all_most}
+
+-- ## counts that are added up
+
+counted-cases : (a b : ℕ) (t : Bool) → nat_le (a + b) 18446744073709551615 ≡ t → (counted a b ≡ a + b) ⊎ (counted a b ≡ most)
+counted-cases a b true e = let l : a + b ≤ 18446744073709551615 = grind (arith, nat_tests) in inl (omega arith)
+counted-cases a b false e = let l : 18446744073709551615 < a + b = grind (arith, nat_tests) in inr (omega arith)
+
+counted-more : (a b : ℕ) → (counted a b ≡ a + b) ⊎ (counted a b ≡ most)
+counted-more a b = counted-cases a b (nat_le (a + b) 18446744073709551615) refl
+
+all_counted-sum : (a : ℕ) (ns : List ℕ) → (all_counted a ns ≡ a + sum ns) ⊎ (all_counted a ns ≡ most)
+all_counted-sum a [] = inl (sym (add-zero a))
+all_counted-sum a (n ∷ ns) = elim (counted-more a n) [
+  | inl e ↦ elim (all_counted-sum (counted a n) ns) [ inl f ↦ inl (let all = sum_by-cons (λ (m : ℕ). m) n ns in f ∙ omega arith) | inr f ↦ inr f ]
+  | inr e ↦ inr (ap (λ m. all_counted m ns) e ∙ all_most ns)
+]
+
+pub faults-counted : (n first made last : ℕ) (ns : List ℕ) → n ≤ sum ns → first ≤ made → last ≡ all_counted made ns → (n + first ≤ last) ⊎ (last ≡ most)
+faults-counted n first made last ns below later counts = elim (all_counted-sum made ns) [ inl e ↦ inl (omega arith) | inr e ↦ inr (counts ∙ e) ]
+
+pub clean-counted : (first made last : ℕ) (ns : List ℕ) → sum ns ≡ 0 → made ≡ first → last ≡ all_counted made ns → (last ≡ first) ⊎ (last ≡ most)
+clean-counted first made last ns none same counts = elim (all_counted-sum made ns) [ inl e ↦ inl (omega arith) | inr e ↦ inr (counts ∙ e) ]
+
+pub member-le-sum : (xs : List ℕ) (i x : ℕ) → slice_get xs i ≡ Some x → x ≤ sum xs
+member-le-sum [] i x h = cc
+member-le-sum (y ∷ ys) zero x h = let same : y ≡ x = cc in let all = sum_by-cons (λ (n : ℕ). n) y ys in omega arith
+member-le-sum (y ∷ ys) (suc i) x h = let below = member-le-sum ys i x h in let all = sum_by-cons (λ (n : ℕ). n) y ys in omega arith
+
+pub rose-positive : (a b : ℕ) → Rose a b → 0 < b
+rose-positive a b (inl h) = omega arith
+rose-positive a b (inr h) = omega arith
+
+pub rose-counted : (first made last : ℕ) (ns : List ℕ) (n : ℕ) → 0 < n → n ≤ sum ns → first ≤ made → last ≡ all_counted made ns → Rose first last
+rose-counted first made last ns n some below later counts = elim (all_counted-sum made ns) [ inl e ↦ inl (omega arith) | inr e ↦ inr (counts ∙ e) ]
+
+-- ## the end
+
+pub complete_moved : {D : Type 0} → (told : D → Option (List (List ℕ))) (count : D → ℕ) (q r : Played D) → IsQuietPlay told count q r
+    → is_complete q.plan q.trail ≡ true → is_complete r.plan r.trail ≡ true
+complete_moved told count q r quiet h =
+    subst (λ (ms : List Move). is_complete r.plan ms ≡ true) (sym quiet.trail) (subst (λ (x : Plan). is_complete x q.trail ≡ true) (sym quiet.plan) h)
+
+-- a device's fault is a fault of the maker that gets it back
+fault-by : {D : Type 0} → (told : D → Option (List (List ℕ))) (count : D → ℕ) (q : Played D) (places first made last : ℕ) (kept_first kept_last : Option (List D)) → first ≤ made
+    → IsEnded told count q places kept_first kept_last made last (Err Failed) → Rose first last
+fault-by told count q places first made last kept_first kept_last later ended =
+    let any = ended.ends in
+    rose-counted first made last (map count ended.new.devices) any.now
+    (rose-positive any.before any.now any.rose) (member-le-sum (map count ended.new.devices) any.at any.now any.is) later ended.count_is
+
+pub fault-of : {D : Type 0} → (told : D → Option (List (List ℕ))) (count : D → ℕ) (q : Played D) (places first made last : ℕ) (kept_first kept_last : Option (List D))
+    (result : Result TextValue PlayFault) → first ≤ made → IsEnded told count q places kept_first kept_last made last result → IsErrOf result Failed → Rose first last
+fault-of told count q places first made last kept_first kept_last result later ended e =
+    fault-by told count q places first made last kept_first kept_last later (subst (λ (r : Result TextValue PlayFault). IsEnded told count q places kept_first kept_last made last r) e ended)
