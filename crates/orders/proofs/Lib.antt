@@ -1,4 +1,3 @@
-pub mod Parted
 pub mod Led
 pub mod Reporting
 pub mod Goers
@@ -7,3 +6,4 @@ pub mod OtherLines
 pub mod Quiet
 pub mod Replay
 pub mod Beside
+pub mod Endings
