@@ -6,4 +6,3 @@ pub mod OtherLines
 pub mod Quiet
 pub mod Replay
 pub mod Beside
-pub mod Endings

@@ -23,7 +23,7 @@ use Rattle.vss_report.proofs.Telling.{is_told_report}
 use Rattle.vss_play.specs.Played.{Played, run_of, Stays, IsKept, AreInTurn, actors_in_turn}
 use Rattle.vss_play.proofs.Sorting.{nothing as nothing_at}
 use Rattle.orders.specs.Again.{AreTold, AreFirst, IsReplayed}
-use Rattle.orders.specs.Runs.{NeverFails, movers_of, IsReported}
+use Rattle.orders.specs.Runs.{NeverFails, movers_of}
 use Rattle.orders.proofs.OneDrawn.{parts, same_move, none_found}
 use Rattle.orders.proofs.Quiet.{lane_rests, nobody_may}
 

@@ -1,31 +1,27 @@
 -- A run that was played to its end has the report of its trail.
-use Rattle.std.proofs.Common.{◌≡◌, ℕ, zero, ◌+◌, ◌≤◌, List, [], ◌∷◌, ◌++◌, length, take, refl, ap, sym, ◌∙◌, arith, Bool, true, Option, Some, subst}
-use Rattle.std.specs.Prelude.{map, sum, slice_get, IsTrue, Result, Ok, Err, IfOk, IfErr, IsErrOf}
+use Rattle.std.proofs.Common.{◌≡◌, ℕ, List, [], ◌∷◌, ◌++◌, refl, ap, sym, ◌∙◌, arith, Bool, true, Option, subst}
+use Rattle.std.specs.Prelude.{map, sum, IsTrue, Result, Ok, Err, IfOk}
 use Rattle.std.proofs.lemmas.List.Sums.{sum_by-cons}
-use Rattle.vss_names.specs.Faults.{Rose}
 use Rattle.vss_names.specs.TextValue.{TextValue}
-use Rattle.write_history.specs.declared.actor.Actor.{Actor}
 use Rattle.write_history.specs.declared.move_item.Move.{Move}
 use Rattle.scenario.specs.Plan.{Plan}
-use Rattle.vss_model.specs.Trail.{is_legal, is_complete, faults}
+use Rattle.vss_model.specs.Trail.{is_complete, faults}
 use Rattle.vss_report.specs.Report.{IsReport}
-use Rattle.vss_report.specs.ToldReport.{all_tell, told_report}
+use Rattle.vss_report.specs.ToldReport.{all_tell}
 use Rattle.vss_report.proofs.Telling.{only_told_report}
 use Rattle.vss_world.specs.Devices.{tells_of}
 use Rattle.vss_play.specs.declared.play_fault.PlayFault.{PlayFault}
-use Rattle.vss_play.specs.declared.play_fault.PlayFault.TheVariants.{Failed, OutOfMemory}
 use Rattle.vss_play.specs.Played.{Played, IsFresh, IsKept, IsOnward, IsPlayedInTurn, IsEnded, AreInTurn, tells_in}
 use Rattle.vss_play.specs.Acting.{IsLedBy}
 use Rattle.vss_play.proofs.MakerCount.{complete_moved}
 use Rattle.orders.specs.declared.entry.Entry.{Entry}
-use Rattle.orders.specs.declared.unplayed.Unplayed.{Unplayed}
 use Rattle.orders.specs.declared.halted.Halted.{Halted}
 use Rattle.orders.specs.declared.halted.Halted.TheVariants.{At}
 use Rattle.orders.specs.declared.halted.Halted.TheVariants as halt
 use Rattle.orders.specs.declared.why.Why.{Why}
 use Rattle.orders.specs.Drawn.{AreDrawn, IsPlayedAsDrawn}
 use Rattle.orders.specs.Followed.{actors_of, IsFollowed, IsHaltedAt, IsEndedInTurn}
-use Rattle.orders.specs.Runs.{NeverFails, IsReported, IsOrdered, IsOfSeed, IsHalted, IsUnplayed, unplayed_at, unplayed_by}
+use Rattle.orders.specs.Runs.{NeverFails, IsReported, IsOrdered, IsOfSeed, IsHalted, IsUnplayed, unplayed_at}
 
 none_counted : {D : Type 0} (count : D → ℕ) → NeverFails count → (ds : List D) → sum (map count ds) ≡ 0
 none_counted count never [] = refl
@@ -131,11 +127,6 @@ pub unplayed_so : {D : Type 0} (told : D → Option (List (List ℕ))) (count : 
     → IsFresh told count tells s p → IsFollowed told count p q entries (Err halted_by) → IsKept told count q → IsUnplayed count s entries first last (unplayed_at halted_by)
 unplayed_so told count tells s entries p q first last (At entry why) fresh h kept = halted told count tells s entries p q entry why fresh h kept
 unplayed_so told count tells s entries p q first last halt.OutOfMemory fresh h kept = tt
-
-pub unplayed_since : {D : Type 0} (count : D → ℕ) (s : Plan) (entries : List Entry) (first last : ℕ) (fault : PlayFault) → (fault ≡ Failed → Rose first last)
-    → IsUnplayed count s entries first last (unplayed_by fault)
-unplayed_since count s entries first last Failed rose = rose refl
-unplayed_since count s entries first last OutOfMemory rose = tt
 
 -- ## by draws
 

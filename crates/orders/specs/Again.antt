@@ -1,10 +1,8 @@
 -- What a replay of a report promises. (This project's own.)
 use Rattle.std.specs.Prelude.{ℕ, ◌≡◌, ◌++◌, ◌⊎◌, Bool, true, false, IsTrue, List, take, Option, Some, None, slice_get, Ok}
 use Rattle.vss_names.specs.Faults.{Rose}
-use Rattle.vss_names.specs.TextValue.{TextValue}
 use Rattle.write_history.specs.declared.actor.Actor.{Actor}
 use Rattle.write_history.specs.declared.move_item.Move.{Move}
-use Rattle.scenario.specs.declared.reason.Reason.{Reason}
 use Rattle.scenario.specs.Bounds.{IsPlan}
 use Rattle.scenario.specs.Named.{HasNames}
 use Rattle.scenario.specs.Plan.{Plan}
@@ -18,7 +16,7 @@ use Rattle.vss_play.specs.Acting.{IsLedBy}
 use Rattle.orders.specs.declared.replayed.Replayed.{Replayed}
 use Rattle.orders.specs.declared.replayed.Replayed.TheVariants.{Same, Differs, ScenarioRefused, DeviceFault, OutOfMemory}
 use Rattle.orders.specs.Runs.{NeverFails, movers_of, IsReported}
-use Rattle.orders.specs.Told.{OtherLine, first_other}
+use Rattle.orders.specs.Told.{first_other}
 
 -- ## the moves of a text
 

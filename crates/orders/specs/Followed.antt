@@ -1,5 +1,5 @@
 -- A run whose moves are made in an order, as far as they may come. (This project's own.)
-use Rattle.std.specs.Prelude.{ℕ, ◌≡◌, true, false, List, length, map, take, Some, slice_get, Option, Result, Ok, Err}
+use Rattle.std.specs.Prelude.{ℕ, ◌≡◌, true, false, List, map, take, Some, slice_get, Option, Result, Ok, Err}
 use Rattle.vss_names.specs.TextValue.{TextValue}
 use Rattle.write_history.specs.declared.actor.Actor.{Actor}
 use Rattle.write_history.specs.declared.move_item.Move.{Move}

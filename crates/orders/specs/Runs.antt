@@ -1,5 +1,5 @@
 -- A run by an order, from its beginning to its report, over devices in memory. (This project's own.)
-use Rattle.std.specs.Prelude.{ℕ, ◌≡◌, ◌++◌, Bool, true, IsTrue, List, [], length, map, take, Some, slice_get}
+use Rattle.std.specs.Prelude.{ℕ, ◌≡◌, ◌++◌, Bool, true, IsTrue, List, [], map, take, Some, slice_get}
 use Rattle.vss_names.specs.Faults.{Rose}
 use Rattle.write_history.specs.declared.actor.Actor.{Actor}
 use Rattle.write_history.specs.declared.move_item.Move.{Move}

@@ -1,4 +1,4 @@
-use Rattle.std.proofs.Common.{get_or, subst, true, false}
+use Rattle.std.proofs.Common.{get_or, subst}
 use Rattle.std.specs.Prelude.{Ok}
 use Rattle.write_history.specs.declared.actor.Actor.TheVariants.{Lane}
 use Rattle.write_history.specs.declared.mark.Mark.TheVariants.{Clean}
