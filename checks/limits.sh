@@ -1,6 +1,6 @@
 #!/usr/bin/env bash
 # Limits and a day's use. What is at a limit of docs/FORMATS.md is run to its end; what is one more is refused: lanes, writers, volumes, areas, lines and
-# answers of a scenario, volumes of a set, images of a volume, components of a document. Past the bounds of 4,096 blocks and slots. And eight lanes of
+# answers of a scenario, volumes of a set, components of a document. Past the bounds of 4,096 blocks and slots. And eight lanes of
 # writes as two writers while two sets are made over three volumes.
 . "$(dirname "${BASH_SOURCE[0]}")/prelude.sh" || exit 70
 vss="$(program vss)" || exit 1
@@ -119,13 +119,6 @@ has 1 '^= set 1 complete$'
 has 64 '^image 1 v[0-9]+ '
 has 64 '^[0-9]+ lane a [0-9]+ data 0000000000000000 4fe7b59af6de3b665b67788cc2f99892ab827efae3a467342b3bb4e3bc8e5bfe$'
 has 64 '^volume v[0-9]+ used 1 of 128 '
-
-runs "images of a volume" < <(
-  printf '%s\n' "scenario 1" "volume C 1 1" "lane a" && lines 512 $'begin 25\nstart\nadd C\nsnapshot\nawait\nend'
-  printf '%s\n' "begin 25" start "add C" end)
-has 512 '^= set [0-9]+ complete$'
-has 512 '^image [0-9]+ C '
-has 1 ' 3078 VSS_E_MAXIMUM_NUMBER_OF_SNAPSHOTS_REACHED$'
 
 runs "4,097 blocks and slots" < <(
   printf '%s\n' "scenario 1" "volume C 4097 4097" "lane a" "begin 25" start "add C" snapshot await end

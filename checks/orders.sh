@@ -1,8 +1,9 @@
 #!/usr/bin/env bash
 # `vss_orders` plays each example of examples/orders in its order, byte for byte, over devices of which calls fail if NAME.with says so, makes the
-# report of each example again from that report as its order, and replays it, also over devices that lend no block. A number draws the same bytes at each run, and several numbers draw
-# several orders; the outcomes of many are counted. What is no order and no report, and words that ask for nothing, are reported by the file, the
-# line and what was expected, with nothing on standard output. It runs the program as LLVM and, where that is there, as Rattle's own compiler builds it.
+# report of each example again from that report as its order, also over devices that lend no block, and replays it, where its fault marks alone say
+# what failed. A number draws the same bytes at each run, and several numbers draw several orders; the outcomes of many are counted. What is no order
+# and no report, and words that ask for nothing, are reported by the file, the line and what was expected, with nothing on standard output. It runs
+# the program as LLVM and, where that is there, as Rattle's own compiler builds it.
 . "$(dirname "${BASH_SOURCE[0]}")/prelude.sh" || exit 70
 builds="$(programs vss_orders)" || exit 1
 mapfile -t builds <<< "$builds"
@@ -16,8 +17,7 @@ plays() {
   # shellcheck disable=SC2046
   "$program" $(with_of "$1") order "$1" "$2" > "$room/report" 2> "$room/err" || wrong "$1 by $2: status $?, $(cat "$room/err")"
   cmp -s "$room/report" "$3" || wrong "$1 by $2: another report than $3"
-  # shellcheck disable=SC2046
-  "$program" $(with_of "$1") again "$1" "$3" > "$room/out" 2>&1 || wrong "$3, replayed: status $?, $(cat "$room/out")"
+  "$program" again "$1" "$3" > "$room/out" 2>&1 || wrong "$3, replayed: status $?, $(cat "$room/out")"
   [ ! -s "$room/out" ] || wrong "$3, replayed: $(cat "$room/out")"
 }
 
@@ -50,11 +50,19 @@ waits() {
   refuses 3 "$room/text: line $(($2 + 1)): this move may not come here: its actor has to wait" order "$1.scenario" "$room/text"
 }
 
+# a revert of three blocks that is said to have failed behind so many, and the first line that is then another
+restored() {
+  sed "s/ fault 1$/ fault $1/" "$revert.report" > "$room/text"
+  refuses 3 "$room/text: line $2: expected \`$3\`" again "$revert.scenario" "$room/text"
+}
+
 form="expected \`lane NAME\`, \`writer NAME\`, \`provider\` or \`idle\`, and before it \`N times\` or nothing"
 names="expected one name behind \`lane\` or \`writer\`, and nothing behind \`provider\` or \`idle\`"
 usage="usage: orders [with DEVICE read|write|flush N|N..M].. order SCENARIO ORDER | again SCENARIO REPORT | seed N SCENARIO | many COUNT SCENARIO"
 first=examples/first
 held=examples/orders/held_write
+flush=examples/orders/failed_flush
+revert=examples/orders/failed_revert
 for program in "${builds[@]}"; do
   for order in examples/orders/*.order; do
     plays "${order%.order}.scenario" "$order" "${order%.order}.report"
@@ -106,13 +114,19 @@ for program in "${builds[@]}"; do
   answers 3 "line 1: expected \`report 1\`" again "report 2\n"
   answers 3 "line 1: expected \`report 1\`" again "report 1"
   answers 3 "line 2: expected \`1 lane backup 6 ok\`" again "report 1\n1 lane nobody 6 ok\n"
-  answers 3 "line 2: expected \`1 lane app 14 ok\`" again "report 1\n1 lane app 14 fault\n2 lane nobody 15 ok\n"
+  answers 3 "line 3: expected \`2 lane backup 6 ok\`" again "report 1\n1 lane app 14 fault\n2 lane nobody 15 ok\n"
+  answers 3 "line 2: expected \`1 lane backup 6 ok\`" again "report 1\n1 lane backup 6 fault\n"
   answers 3 "line 2: expected \`1 lane backup 6 ok\`" again "report 1\n1 provider precommit\n"
   answers 3 "line 3: expected \`2 lane backup 7 set 1\`" again "report 1\n1 lane backup 6 ok\n"
   answers 3 "line 22: expected no more lines" again "$(sed 's/$/\\n/' $held.report | tr -d '\n')more\n"
   answers 3 "line 21: expected \`$(tail -n 1 $held.report)\`" again "$(sed 's/$/\\n/' $held.report | tr -d '\n' | sed 's/\\n$//')"
   refuses 3 "examples/revert.report: line 16: expected \`$(sed -n 16p $first.report)\`" again $first.scenario examples/revert.report
-  refuses 3 "examples/orders/failed_flush.report: line 7: expected \`6 provider flush C\`" again examples/orders/failed_flush.scenario examples/orders/failed_flush.report
+  refuses 3 "$flush.report: line 7: expected \`6 provider flush C\`" with C.vol flush 9 again $flush.scenario $flush.report
+  refuses 6 "device fault" with C.vol flush 2 again $flush.scenario $flush.report
+  "$program" with C.vol flush 1 again $flush.scenario $flush.report || wrong "$flush.report, replayed over the same failing call"
+  restored 0 21 "19 lane app 17 data 0101010101010101 111ce3c2a38d83a2e4706bde4abddd509d7f8248116c6832b06745bdc349e09f"
+  restored 2 22 "20 lane app 18 data 0000000000000000 4fe7b59af6de3b665b67788cc2f99892ab827efae3a467342b3bb4e3bc8e5bfe"
+  restored 3 19 "17 lane app 15 ok"
 
   refuses 2 "$usage"
   refuses 2 "$usage" order $first.scenario

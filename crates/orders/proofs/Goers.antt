@@ -1,7 +1,7 @@
 -- A run whose moves are drawn.
-use Rattle.std.proofs.Common.{drop-cons, ◌≡◌, ℕ, zero, suc, ◌+◌, ◌<◌, ◌≤◌, ◌%◌, List, [], ◌∷◌, ◌++◌, append_assoc, length, take, drop, get_or, refl, ap, sym, ◌∙◌, arith, Bool, true, false, Option}
+use Rattle.std.proofs.Common.{drop-cons, ◌≡◌, ℕ, zero, suc, ◌+◌, ◌<◌, List, [], ◌∷◌, ◌++◌, append_assoc, length, take, drop, get_or, refl, ap, sym, ◌∙◌, arith, Bool, true, false, Option}
 use Rattle.std.proofs.Common.{Some, None, subst, inl, inr}
-use Rattle.std.specs.Prelude.{find, map, not, ◌&&◌, ◌||◌, ◌⊎◌, nat_le, if◌then◌else◌, Result, Ok, Err}
+use Rattle.std.specs.Prelude.{find, map, not, ◌&&◌, ◌⊎◌, if◌then◌else◌, Result, Ok, Err}
 use Rattle.std.specs.Option.{option_or}
 use Rattle.std.specs.List.{range_with_len}
 use Rattle.std.proofs.lemmas.List.{append-nil, take_more, take-append-drop}
@@ -11,8 +11,8 @@ use Rattle.write_history.specs.declared.actor.Actor.{Actor}
 use Rattle.write_history.specs.declared.actor.Actor.TheVariants.{Lane, Writer, Advance, Idle}
 use Rattle.write_history.specs.declared.move_item.Move.{Move}
 use Rattle.scenario.specs.Plan.{Plan}
-use Rattle.vss_model.specs.Trail.{run, event_of, may_move, allows, is_legal_move, is_complete}
-use Rattle.vss_play.specs.Played.{Played, run_of, is_finished, Stays, IsKept, IsTurnOf, IsMovedOn, IsOnward}
+use Rattle.vss_model.specs.Trail.{event_of, may_move, allows, is_complete}
+use Rattle.vss_play.specs.Played.{Played, run_of, is_finished, Stays, IsKept, IsMovedOn}
 use Rattle.vss_play.specs.Acting.{actors_in_threads}
 use Rattle.vss_play.proofs.ClosingLines.{longer_same}
 use Rattle.vss_play.proofs.FaultMarks.{later-refl}

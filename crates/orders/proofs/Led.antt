@@ -1,6 +1,6 @@
 -- A run that makes the moves of an order one by one.
-use Rattle.std.proofs.Common.{append_assoc, ◌≤◌, ◌≡◌, ℕ, ◌+◌, ◌<◌, List, [], ◌∷◌, ◌++◌, take, drop, get_or, length, refl, ap, sym, ◌∙◌, Option, subst, arith}
-use Rattle.std.specs.Prelude.{map, slice_get}
+use Rattle.std.proofs.Common.{append_assoc, ◌≤◌, ◌≡◌, ℕ, ◌+◌, ◌<◌, List, [], ◌∷◌, ◌++◌, take, get_or, length, refl, ap, sym, ◌∙◌, Option, subst}
+use Rattle.std.specs.Prelude.{map}
 use Rattle.std.proofs.lemmas.Option.{slice_get-get_or}
 use Rattle.std.proofs.lemmas.List.{map-append, append-nil, take_more, take_all}
 use Rattle.write_history.specs.declared.actor.Actor.{Actor}
@@ -44,18 +44,18 @@ led_more told count p q r actors actor led one = record {
   by = map-append (λ (m : Move). m.actor) led.onward.rest (record { actor = actor; mark = one.mark } ∷ []) ∙ ap (λ (xs : List Actor). xs ++ actor ∷ []) led.by;
 }
 
--- the move of the next entry
-pub led_next : {D : Type 0} (told : D → Option (List (List ℕ))) (count : D → ℕ) (p q r : Played D) (entries : List Entry) (i : ℕ) (d : Entry) → i < length entries
-    → IsLedBy told count p (actors_of (take i entries)) q
-    → IsMovedOn told count q r (get_or entries i d).actor → IsLedBy told count p (actors_of (take (i + 1) entries)) r
-led_next told count p q r entries i d l led one =
-    let more : actors_of (take (i + 1) entries) ≡ actors_of (take i entries) ++ (get_or entries i d).actor ∷ [] =
-    ap actors_of (take_more entries i d l) ∙ map-append (λ (e : Entry). e.actor) (take i entries) (get_or entries i d ∷ []) in
-    subst (λ (xs : List Actor). IsLedBy told count p xs r) (sym more) (led_more told count p q r (actors_of (take i entries)) (get_or entries i d).actor led one)
+-- the move of the next of these, each of which has an actor
+pub led_next : {D X : Type 0} (told : D → Option (List (List ℕ))) (count : D → ℕ) (p q r : Played D) (actor : X → Actor) (xs : List X) (i : ℕ) (d : X) → i < length xs
+    → IsLedBy told count p (map actor (take i xs)) q
+    → IsMovedOn told count q r (actor (get_or xs i d)) → IsLedBy told count p (map actor (take (i + 1) xs)) r
+led_next told count p q r actor xs i d l led one =
+    let more : map actor (take (i + 1) xs) ≡ map actor (take i xs) ++ actor (get_or xs i d) ∷ [] =
+    ap (map actor) (take_more xs i d l) ∙ map-append actor (take i xs) (get_or xs i d ∷ []) in
+    subst (λ (names : List Actor). IsLedBy told count p names r) (sym more) (led_more told count p q r (map actor (take i xs)) (actor (get_or xs i d)) led one)
 
-pub led_all : {D : Type 0} (told : D → Option (List (List ℕ))) (count : D → ℕ) (p q : Played D) (entries : List Entry) (i : ℕ) → length entries ≤ i
-    → IsLedBy told count p (actors_of (take i entries)) q → IsLedBy told count p (actors_of entries) q
-led_all told count p q entries i l led = subst (λ (es : List Entry). IsLedBy told count p (actors_of es) q) (take_all i entries l) led
+pub led_all : {D X : Type 0} (told : D → Option (List (List ℕ))) (count : D → ℕ) (p q : Played D) (actor : X → Actor) (xs : List X) (i : ℕ) → length xs ≤ i
+    → IsLedBy told count p (map actor (take i xs)) q → IsLedBy told count p (map actor xs) q
+led_all {D} {X} told count p q actor xs i l led = subst (λ (ys : List X). IsLedBy told count p (map actor ys) q) (take_all i xs l) led
 
 -- the move of an entry may not come
 pub halted_at : {D : Type 0} (told : D → Option (List (List ℕ))) (count : D → ℕ) (p q r : Played D) (entries : List Entry) (i : ℕ) (d : Entry) (why : Why) → i < length entries

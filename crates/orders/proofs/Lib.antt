@@ -1,4 +1,3 @@
-pub mod Parted
 pub mod Led
 pub mod Reporting
 pub mod Goers

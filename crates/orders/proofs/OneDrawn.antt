@@ -11,7 +11,7 @@ use Rattle.write_history.specs.declared.mark.Mark.TheVariants.{Clean, Fault, Fau
 use Rattle.write_history.specs.declared.move_item.Move.{Move}
 use Rattle.scenario.specs.Plan.{Plan, LaneLine}
 use Rattle.vss_model.specs.Ending.{runs}
-use Rattle.vss_model.specs.Trail.{Run, run, cursor, next_line, may_move, is_used_up, is_complete, is_fault, faults}
+use Rattle.vss_model.specs.Trail.{run, cursor, next_line, may_move, is_used_up, is_complete, is_fault, faults}
 use Rattle.vss_play.specs.Played.{is_finished}
 use Rattle.vss_play.proofs.LaneLines.{lane_in}
 use Rattle.orders.specs.Drawn.{goes, drawn_actor, asked_from, place_of, generator_after, AreDrawn}

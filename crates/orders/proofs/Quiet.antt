@@ -1,5 +1,5 @@
 -- Where a trail is complete nobody's move may come.
-use Rattle.std.proofs.Common.{◌≡◌, ℕ, List, [], ◌∷◌, length, refl, ap, sym, ◌∙◌, Bool, true, false, Option, Some, None}
+use Rattle.std.proofs.Common.{◌≡◌, ℕ, List, [], length, refl, ap, sym, ◌∙◌, Bool, true, false, Option, Some, None}
 use Rattle.std.specs.Prelude.{◌&&◌, not, is_some, is_none}
 use Rattle.std.specs.List.{list_all, range_with_len}
 use Rattle.write_history.specs.declared.actor.Actor.{Actor}
@@ -8,7 +8,7 @@ use Rattle.write_history.specs.declared.move_item.Move.{Move}
 use Rattle.set_agenda.specs.Agenda.{Agenda, Open, left, open_order, is_asking, is_working}
 use Rattle.scenario.specs.Plan.{Plan, LaneLine}
 use Rattle.vss_model.specs.Ending.{runs}
-use Rattle.vss_model.specs.State.{State, left_now}
+use Rattle.vss_model.specs.State.{left_now}
 use Rattle.vss_model.specs.Trail.{Run, run, next_line, line_event, script_event, event_enabled, none_can_act, may_move, is_used_up, is_complete}
 use Rattle.orders.proofs.OneDrawn.{used_up}
 

@@ -1,6 +1,6 @@
 -- The replay of the report of a legal and complete trail makes that trail again.
 use Rattle.std.proofs.Common.{◌≡◌, ℕ, zero, suc, ◌+◌, ◌≤◌, List, [], ◌∷◌, ◌++◌, length, take, refl, ap, sym, ◌∙◌, arith, Bool, true, false, Option, Some, None, subst, cond, inl, inr}
-use Rattle.std.specs.Prelude.{map, find, slice_get, ◌&&◌, ◌||◌, ◌⊎◌, nat_le, is_none, IsTrue, Ok}
+use Rattle.std.specs.Prelude.{map, slice_get, ◌&&◌, ◌||◌, ◌⊎◌, nat_le, IsTrue, Ok}
 use Rattle.std.proofs.lemmas.Bool.Decides.{nat_tests}
 use Rattle.std.proofs.lemmas.List.{append-nil}
 use Rattle.std.proofs.lemmas.List.Sums.{sum_by-cons}
@@ -12,7 +12,6 @@ use Rattle.write_history.specs.declared.move_item.Move.{Move}
 use Rattle.scenario.specs.Bounds.{IsPlan}
 use Rattle.scenario.specs.Named.{HasNames}
 use Rattle.scenario.specs.Plan.{Plan}
-use Rattle.scenario.specs.Grammar.{reading_of, IsScenario}
 use Rattle.vss_model.specs.Trail.{Run, run, begin, moved, run_from, event_of, next_line, may_move, allows, is_legal_move, is_legal_from, is_legal, is_complete, is_fault, faults}
 use Rattle.vss_report.specs.Legible.{IsLegibleTrail}
 use Rattle.vss_report.specs.ReadBack.{reading_back}
@@ -21,14 +20,10 @@ use Rattle.vss_report.specs.ToldReport.{all_tell, told_report}
 use Rattle.vss_report.proofs.ReadTrail.{report_back}
 use Rattle.vss_report.proofs.ScenarioNames.{named_legible}
 use Rattle.vss_report.proofs.Telling.{is_told_report}
-use Rattle.vss_play.specs.Played.{Played, run_of, is_finished, IsKept, AreInTurn, first_actor, actors_in_turn}
+use Rattle.vss_play.specs.Played.{Played, run_of, Stays, IsKept, AreInTurn, actors_in_turn}
 use Rattle.vss_play.proofs.Sorting.{nothing as nothing_at}
-use Rattle.orders.specs.declared.entry.Entry.{Entry}
-use Rattle.orders.specs.declared.why.Why.{Why}
-use Rattle.orders.specs.declared.why.Why.TheVariants.{Blocked, Finished}
-use Rattle.orders.specs.Again.{AreTold, AreFirst, AreStopped, IsReplayed, IsFollowedFar, IsCompared, IsAgain}
-use Rattle.orders.specs.Followed.{actors_of, MayNotCome}
-use Rattle.orders.specs.Runs.{NeverFails, movers_of, IsReported}
+use Rattle.orders.specs.Again.{AreTold, AreFirst, IsReplayed}
+use Rattle.orders.specs.Runs.{NeverFails, movers_of}
 use Rattle.orders.proofs.OneDrawn.{parts, same_move, none_found}
 use Rattle.orders.proofs.Quiet.{lane_rests, nobody_may}
 
@@ -82,11 +77,6 @@ clean_take zero ms e = refl
 clean_take (suc k) [] e = refl
 clean_take (suc k) (m ∷ ms) e = let all = parts m ms e in clean_more m (take k ms) all.0 (clean_take k ms all.1)
 
-map_take : {X Y : Type 0} (f : X → Y) (k : ℕ) (xs : List X) → map f (take k xs) ≡ take k (map f xs)
-map_take f zero xs = refl
-map_take f (suc k) [] = refl
-map_take f (suc k) (x ∷ xs) = ap (λ ys. f x ∷ ys) (map_take f k xs)
-
 map_at : {X Y : Type 0} (f : X → Y) (xs : List X) (k : ℕ) (x : X) → slice_get xs k ≡ Some x → slice_get (map f xs) k ≡ Some (f x)
 map_at f [] k x e = absurd (nothing_at k x e)
 map_at f (y ∷ xs) zero x e = let same : y ≡ x = cc in ap (λ z. Some (f z)) same
@@ -112,31 +102,27 @@ either_way false b e = inr e
 past : (n w : ℕ) → nat_le n w ≡ true → n ≤ w
 past n w e = grind (arith, nat_tests)
 
-pub may_never : {D : Type 0} (told : D → Option (List (List ℕ))) (count : D → ℕ) (p : Played D) (actor : Actor) (why : Why) → IsKept told count p → MayNotCome p.plan p.trail actor why
-    → may_move p.plan (run_of p) actor ≡ false
-may_never told count p actor Blocked kept h = h.0
-may_never told count p (Lane i) Finished kept h = lane_rests p.plan (run_of p) i (next_line p.plan (run_of p) i) refl h
-may_never told count p (Writer w) Finished kept h = by_end (either_way (nat_le (length p.plan.writers) w) (is_complete p.plan p.trail) h)
+pub may_never : {D : Type 0} (told : D → Option (List (List ℕ))) (count : D → ℕ) (p : Played D) (actor : Actor) → IsKept told count p → Stays p actor → may_move p.plan (run_of p) actor ≡ false
+may_never told count p actor kept (inl h) = h
+may_never told count p (Lane i) kept (inr h) = lane_rests p.plan (run_of p) i (next_line p.plan (run_of p) i) refl h
+may_never told count p (Writer w) kept (inr h) = by_end (either_way (nat_le (length p.plan.writers) w) (is_complete p.plan p.trail) h)
   where
     by_end : (nat_le (length p.plan.writers) w ≡ true) ⊎ (is_complete p.plan p.trail ≡ true) → may_move p.plan (run_of p) (Writer w) ≡ false
     by_end (inl f) = kept.writers w (past (length p.plan.writers) w f)
     by_end (inr f) = nobody_may p.plan p.trail (Writer w) f
-may_never told count p Advance Finished kept h = nobody_may p.plan p.trail Advance h
-may_never told count p Idle Finished kept h = nobody_may p.plan p.trail Idle h
+may_never told count p Advance kept (inr h) = nobody_may p.plan p.trail Advance h
+may_never told count p Idle kept (inr h) = nobody_may p.plan p.trail Idle h
 
 -- ## the replay
 
-begins_so : (s : Plan) (entries : List Entry) (first trail : List Move) → AreFirst s first entries (movers_of first) → actors_of entries ≡ movers_of trail
-    → is_legal s trail ≡ true → faults first ≡ 0 → faults trail ≡ 0 → first ≡ trail
-begins_so s entries first trail (inl e) told legal clean unmarked = same_moves first trail (e ∙ told) clean unmarked
-begins_so s entries first trail (inr stop) told legal clean unmarked =
+begins_so : (s : Plan) (first trail : List Move) → AreFirst s first trail (movers_of first) → is_legal s trail ≡ true → faults first ≡ 0 → faults trail ≡ 0 → first ≡ trail
+begins_so s first trail (inl e) legal clean unmarked = same_moves first trail e clean unmarked
+begins_so s first trail (inr stop) legal clean unmarked =
     let k = stop.place in
-    let movers : movers_of first ≡ movers_of (take k trail) =
-    stop.begins ∙ map_take (λ (e : Entry). e.actor) k entries ∙ ap (take k) told ∙ sym (map_take (λ (m : Move). m.actor) k trail) in
-    let same : first ≡ take k trail = same_moves first (take k trail) movers clean (clean_take k trail unmarked) in
-    let next : slice_get (movers_of trail) k ≡ Some stop.entry.actor = ap (λ xs. slice_get xs k) (sym told) ∙ map_at (λ (e : Entry). e.actor) entries k stop.entry stop.is_entry in
-    absurd (clash (may_move s (run s (take k trail)) stop.entry.actor) (next_may s (begin s) trail k stop.entry.actor next legal)
-    (subst (λ (ms : List Move). may_move s (run s ms) stop.entry.actor ≡ false) same stop.may_not))
+    let same : first ≡ take k trail = same_moves first (take k trail) stop.begins clean (clean_take k trail unmarked) in
+    absurd (clash (may_move s (run s (take k trail)) stop.stop.actor)
+    (next_may s (begin s) trail k stop.stop.actor (map_at (λ (m : Move). m.actor) trail k stop.stop stop.is_stop) legal)
+    (subst (λ (ms : List Move). may_move s (run s ms) stop.stop.actor ≡ false) same stop.may_not))
 
 nothing_more : (s : Plan) (trail rest : List Move) → is_complete s trail ≡ true → AreInTurn s trail rest → rest ≡ []
 nothing_more s trail [] complete h = refl
@@ -145,19 +131,22 @@ nothing_more s trail (m ∷ ms) complete h = absurd (moves (sym (none_found (λ 
     moves : None ≡ Some m.actor → ⊥
     moves e = cc
 
-replay_is : {D : Type 0} (count : D → ℕ) (tells : Bool) (s : Plan) (entries : List Entry) (text : List ℕ) (trail : List Move) → IsReplayed count tells s entries text → NeverFails count → IsTrue tells
-    → actors_of entries ≡ movers_of trail → is_legal s trail ≡ true → is_complete s trail ≡ true → faults trail ≡ 0 → text ≡ told_report s trail
-replay_is count tells s entries text trail h never tell told legal complete unmarked =
+replay_is : {D : Type 0} (count : D → ℕ) (tells : Bool) (s : Plan) (text : List ℕ) (trail : List Move) → IsReplayed count tells s trail text → NeverFails count → IsTrue tells
+    → is_legal s trail ≡ true → is_complete s trail ≡ true → faults trail ≡ 0 → text ≡ told_report s trail
+replay_is count tells s text trail h never tell legal complete unmarked =
     let clean = clean_left h.first h.rest (h.reported.unmarked never) in
-    let first : h.first ≡ trail = begins_so s entries h.first trail h.begins told legal clean unmarked in
+    let first : h.first ≡ trail = begins_so s h.first trail h.begins legal clean unmarked in
     let rest : h.rest ≡ [] = nothing_more s trail h.rest complete (subst (λ (ms : List Move). AreInTurn s ms h.rest) first h.in_turn) in
     h.reported.only tell ∙ ap (told_report s) (ap (λ (ms : List Move). ms ++ h.rest) first ∙ ap (λ (ms : List Move). trail ++ ms) rest ∙ append-nil trail)
 
+pub reads_back : (s : Plan) (given : List ℕ) (trail : List Move) → IsPlan s → HasNames s → IsLegibleTrail s (all_tell s) trail → given ≡ told_report s trail → reading_back s given ≡ Ok trail
+reads_back s given trail plan names legible is =
+    report_back s (all_tell s) trail given (named_legible s plan names) legible (subst (λ xs. IsReport s (all_tell s) trail xs) (sym is) (is_told_report s trail))
+
 -- a text that is the report of a legal and complete trail is what its replay reports
-pub replays_it : {D : Type 0} (count : D → ℕ) (tells : Bool) (s : Plan) (entries : List Entry) (given text : List ℕ) (trail : List Move) → IsPlan s → HasNames s → AreTold s given entries
-    → IsReplayed count tells s entries text
+pub replays_it : {D : Type 0} (count : D → ℕ) (tells : Bool) (s : Plan) (moves : List Move) (given text : List ℕ) (trail : List Move) → IsPlan s → HasNames s → AreTold s given moves
+    → IsReplayed count tells s moves text
     → NeverFails count → IsTrue tells → is_legal s trail ≡ true → is_complete s trail ≡ true → faults trail ≡ 0 → IsLegibleTrail s (all_tell s) trail → given ≡ told_report s trail → given ≡ text
-replays_it count tells s entries given text trail plan names told h never tell legal complete unmarked legible is =
-    let back : reading_back s given ≡ Ok trail =
-    report_back s (all_tell s) trail given (named_legible s plan names) legible (subst (λ xs. IsReport s (all_tell s) trail xs) (sym is) (is_told_report s trail)) in
-    is ∙ sym (replay_is count tells s entries text trail h never tell (told trail back) legal complete unmarked)
+replays_it count tells s moves given text trail plan names told h never tell legal complete unmarked legible is =
+    let same : moves ≡ trail = told trail (reads_back s given trail plan names legible is) in
+    is ∙ sym (replay_is count tells s text trail (subst (λ (ms : List Move). IsReplayed count tells s ms text) same h) never tell legal complete unmarked)

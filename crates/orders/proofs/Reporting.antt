@@ -1,28 +1,27 @@
 -- A run that was played to its end has the report of its trail.
-use Rattle.std.proofs.Common.{◌≡◌, ℕ, zero, ◌+◌, ◌≤◌, List, [], ◌∷◌, ◌++◌, length, take, refl, ap, sym, ◌∙◌, arith, Bool, true, Option, Some, subst}
-use Rattle.std.specs.Prelude.{map, sum, slice_get, IsTrue, Result, Ok, Err, IfOk, IfErr, IsErrOf}
+use Rattle.std.proofs.Common.{◌≡◌, ℕ, List, [], ◌∷◌, ◌++◌, refl, ap, sym, ◌∙◌, arith, Bool, true, Option, subst}
+use Rattle.std.specs.Prelude.{map, sum, IsTrue, Result, Ok, Err, IfOk}
 use Rattle.std.proofs.lemmas.List.Sums.{sum_by-cons}
-use Rattle.vss_names.specs.Faults.{Rose}
 use Rattle.vss_names.specs.TextValue.{TextValue}
-use Rattle.write_history.specs.declared.actor.Actor.{Actor}
 use Rattle.write_history.specs.declared.move_item.Move.{Move}
 use Rattle.scenario.specs.Plan.{Plan}
-use Rattle.vss_model.specs.Trail.{is_legal, is_complete, faults}
+use Rattle.vss_model.specs.Trail.{is_complete, faults}
 use Rattle.vss_report.specs.Report.{IsReport}
-use Rattle.vss_report.specs.ToldReport.{all_tell, told_report}
+use Rattle.vss_report.specs.ToldReport.{all_tell}
 use Rattle.vss_report.proofs.Telling.{only_told_report}
 use Rattle.vss_world.specs.Devices.{tells_of}
 use Rattle.vss_play.specs.declared.play_fault.PlayFault.{PlayFault}
-use Rattle.vss_play.specs.declared.play_fault.PlayFault.TheVariants.{Failed, OutOfMemory}
 use Rattle.vss_play.specs.Played.{Played, IsFresh, IsKept, IsOnward, IsPlayedInTurn, IsEnded, AreInTurn, tells_in}
 use Rattle.vss_play.specs.Acting.{IsLedBy}
 use Rattle.vss_play.proofs.MakerCount.{complete_moved}
 use Rattle.orders.specs.declared.entry.Entry.{Entry}
-use Rattle.orders.specs.declared.unplayed.Unplayed.{Unplayed}
+use Rattle.orders.specs.declared.halted.Halted.{Halted}
+use Rattle.orders.specs.declared.halted.Halted.TheVariants.{At}
+use Rattle.orders.specs.declared.halted.Halted.TheVariants as halt
 use Rattle.orders.specs.declared.why.Why.{Why}
 use Rattle.orders.specs.Drawn.{AreDrawn, IsPlayedAsDrawn}
-use Rattle.orders.specs.Followed.{actors_of, IsHaltedAt}
-use Rattle.orders.specs.Runs.{NeverFails, IsReported, IsOrdered, IsOfSeed, IsHalted}
+use Rattle.orders.specs.Followed.{actors_of, IsFollowed, IsHaltedAt, IsEndedInTurn}
+use Rattle.orders.specs.Runs.{NeverFails, IsReported, IsOrdered, IsOfSeed, IsHalted, IsUnplayed, unplayed_at}
 
 none_counted : {D : Type 0} (count : D → ℕ) → NeverFails count → (ds : List D) → sum (map count ds) ≡ 0
 none_counted count never [] = refl
@@ -81,20 +80,31 @@ pub in_turn_as : {D : Type 0} (told : D → Option (List (List ℕ))) (tells : B
     → AreInTurn q.plan q.trail rest → AreInTurn s trail rest
 in_turn_as told tells s trail q rest at h = subst (λ (ms : List Move). AreInTurn s ms rest) at.trail_is (subst (λ (x : Plan). AreInTurn x q.trail rest) at.plan h)
 
-pub ordered : {D : Type 0} (told : D → Option (List (List ℕ))) (count : D → ℕ) (tells : Bool) (s : Plan) (entries : List Entry) (p q r : Played D) (places : ℕ)
-    (kept_first kept_last : Option (List D)) (first last : ℕ) (text : TextValue)
-    → IsFresh told count tells s p → IsLedBy told count p (actors_of entries) q → IsPlayedInTurn told count q r → IsEnded told count r places kept_first kept_last first last (Ok text)
-    → IsOrdered count tells s entries text.bytes
+pub ended_in_turn : {D : Type 0} (told : D → Option (List (List ℕ))) (count : D → ℕ) (p q : Played D) (places : ℕ) (kept_first kept_last : Option (List D)) (first last : ℕ)
+    (result : Result TextValue PlayFault)
+    → IsPlayedInTurn told count p q → IsEnded told count q places kept_first kept_last first last result → IfOk result (IsEndedInTurn told count p)
+ended_in_turn told count p q places kept_first kept_last first last (Ok text) turned ended =
+    record { last = q; turned = turned; places = places; kept_before = kept_first; kept_now = kept_last; count_before = first; count_now = last; ended = ended }
+ended_in_turn told count p q places kept_first kept_last first last (Err e) turned ended = tt
+
+-- the report of what was made first and of what came in turn
+pub reported_in_turn : {D : Type 0} (told : D → Option (List (List ℕ))) (count : D → ℕ) (tells : Bool) (s : Plan) (first : List Move) (q : Played D) (text : TextValue)
+    → StandsAt told tells s first q → (h : IsEndedInTurn told count q text) → IsReported count tells s (first ++ h.turned.played.onward.rest) text.bytes
+reported_in_turn told count tells s first q text at h =
+    reported told count tells s _ h.last h.places h.kept_before h.kept_now h.count_before h.count_now text (stands_on told count tells s first q h.last at h.turned.played.onward)
+    h.turned.played.complete h.ended
+
+pub ordered : {D : Type 0} (told : D → Option (List (List ℕ))) (count : D → ℕ) (tells : Bool) (s : Plan) (entries : List Entry) (p q : Played D) (text : TextValue)
+    → IsFresh told count tells s p → IsLedBy told count p (actors_of entries) q → IsEndedInTurn told count q text → IsOrdered count tells s entries text.bytes
 unfolding onward_stands
-ordered told count tells s entries p q r places kept_first kept_last first last text fresh led turned ended =
+ordered told count tells s entries p q text fresh led h =
     let begun = onward_stands told count tells s p q fresh led.onward in
-    let whole = stands_on told count tells s led.onward.rest q r begun turned.played.onward in
     record {
       first = led.onward.rest;
-      rest = turned.played.onward.rest;
+      rest = h.turned.played.onward.rest;
       begins = led.by;
-      in_turn = in_turn_as told tells s led.onward.rest q turned.played.onward.rest begun turned.in_turn;
-      reported = reported told count tells s _ r places kept_first kept_last first last text whole turned.played.complete ended;
+      in_turn = in_turn_as told tells s led.onward.rest q h.turned.played.onward.rest begun h.turned.in_turn;
+      reported = reported_in_turn told count tells s led.onward.rest q text begun h;
     }
 
 -- the moves before an entry that may not come
@@ -112,6 +122,11 @@ halted {D} told count tells s entries p q entry why fresh h kept =
       may_not = h.may_not;
       unmarked = none_marked told count q kept;
     })
+
+pub unplayed_so : {D : Type 0} (told : D → Option (List (List ℕ))) (count : D → ℕ) (tells : Bool) (s : Plan) (entries : List Entry) (p q : Played D) (first last : ℕ) (halted_by : Halted)
+    → IsFresh told count tells s p → IsFollowed told count p q entries (Err halted_by) → IsKept told count q → IsUnplayed count s entries first last (unplayed_at halted_by)
+unplayed_so told count tells s entries p q first last (At entry why) fresh h kept = halted told count tells s entries p q entry why fresh h kept
+unplayed_so told count tells s entries p q first last halt.OutOfMemory fresh h kept = tt
 
 -- ## by draws
 

@@ -8,8 +8,12 @@ use Rattle.scenario.specs.Grammar.{reading_of, IsScenario, IsBad}
 use Rattle.orders.specs.declared.entry.Entry.{Entry}
 use Rattle.orders.specs.declared.order_fault.OrderFault.{OrderFault}
 use Rattle.orders.specs.declared.order_fault.OrderFault.TheVariants.{Line, NoReport}
+use Rattle.orders.specs.declared.order_fault.OrderFault.TheVariants as fault
 use Rattle.orders.specs.declared.status.Status.{Status}
 use Rattle.orders.specs.declared.status.Status.TheVariants.{Done, ScenarioRefused, OrderRefused, NoReport as NoReportOf, MayNotCome, WriteFault, DeviceFault, OutOfMemory}
+use Rattle.orders.specs.declared.unplayed.Unplayed.{Unplayed}
+use Rattle.orders.specs.declared.unplayed.Unplayed.TheVariants.{Halted, Failed}
+use Rattle.orders.specs.declared.unplayed.Unplayed.TheVariants as missing
 use Rattle.orders.specs.declared.why.Why.{Why}
 use Rattle.orders.specs.Order.{order_in}
 use Rattle.orders.specs.Runs.{IsOrdered, IsOfSeed, IsHalted}
@@ -79,6 +83,17 @@ pub record IsHaltedCall {D : Type 0} (count : D → ℕ) (text order : List ℕ)
   pub given : IsOrderOf text order plan entries
   pub halted : IsHalted count plan entries entry why
   pub unwritten : IsUnwritten a
+
+-- how a call ends without an order, or without its report
+abbrev pub status_of_fault : OrderFault → Status
+status_of_fault (Line line reason) = OrderRefused line reason
+status_of_fault (NoReport line) = NoReportOf line
+status_of_fault fault.OutOfMemory = OutOfMemory
+
+abbrev pub status_of_cause : Unplayed → Status
+status_of_cause (Halted entry why) = MayNotCome entry why
+status_of_cause Failed = DeviceFault
+status_of_cause missing.OutOfMemory = OutOfMemory
 
 abbrev pub IsOrderCall : {D : Type 0} → (D → ℕ) → Bool → List ℕ → List ℕ → Around → Status → Type 0
 IsOrderCall count tells text order a Done = IsWritten (IsReportOfOrder count tells text order) a

@@ -1,10 +1,11 @@
 -- A run whose moves are made in an order, as far as they may come. (This project's own.)
-use Rattle.std.specs.Prelude.{ℕ, ◌≡◌, true, false, List, length, map, take, Some, slice_get, Option, Result, Ok, Err}
+use Rattle.std.specs.Prelude.{ℕ, ◌≡◌, true, false, List, map, take, Some, slice_get, Option, Result, Ok, Err}
+use Rattle.vss_names.specs.TextValue.{TextValue}
 use Rattle.write_history.specs.declared.actor.Actor.{Actor}
 use Rattle.write_history.specs.declared.move_item.Move.{Move}
 use Rattle.scenario.specs.Plan.{Plan}
 use Rattle.vss_model.specs.Trail.{run, may_move}
-use Rattle.vss_play.specs.Played.{Played, is_finished}
+use Rattle.vss_play.specs.Played.{Played, is_finished, IsPlayedInTurn, IsEnded}
 use Rattle.vss_play.specs.Acting.{IsLedBy}
 use Rattle.orders.specs.declared.entry.Entry.{Entry}
 use Rattle.orders.specs.declared.halted.Halted.{Halted}
@@ -32,3 +33,14 @@ abbrev pub IsFollowed : {D : Type 0} → (D → Option (List (List ℕ))) → (D
 IsFollowed told count old new entries (Ok u) = IsLedBy told count old (actors_of entries) new
 IsFollowed told count old new entries (Err (At entry why)) = IsHaltedAt told count old new entries entry why
 IsFollowed told count old new entries (Err OutOfMemory) = Unit {0}
+
+-- the run went on in turn to its end, was closed with this report, and gave its devices back
+pub record IsEndedInTurn {D : Type 0} (told : D → Option (List (List ℕ))) (count : D → ℕ) (old : Played D) (text : TextValue) : Type 0 where
+  pub last : Played D
+  pub turned : IsPlayedInTurn told count old last
+  pub places : ℕ
+  pub kept_before : Option (List D)
+  pub kept_now : Option (List D)
+  pub count_before : ℕ
+  pub count_now : ℕ
+  pub ended : IsEnded told count last places kept_before kept_now count_before count_now (Ok text)

@@ -1,5 +1,5 @@
 -- A run by an order, from its beginning to its report, over devices in memory. (This project's own.)
-use Rattle.std.specs.Prelude.{ℕ, ◌≡◌, ◌++◌, Bool, true, IsTrue, List, [], length, map, take, Some, slice_get}
+use Rattle.std.specs.Prelude.{ℕ, ◌≡◌, ◌++◌, Bool, true, IsTrue, List, [], map, take, Some, slice_get}
 use Rattle.vss_names.specs.Faults.{Rose}
 use Rattle.write_history.specs.declared.actor.Actor.{Actor}
 use Rattle.write_history.specs.declared.move_item.Move.{Move}
@@ -8,6 +8,10 @@ use Rattle.vss_model.specs.Trail.{is_legal, is_complete, faults}
 use Rattle.vss_report.specs.ToldReport.{told_report}
 use Rattle.vss_play.specs.Played.{AreInTurn}
 use Rattle.orders.specs.declared.entry.Entry.{Entry}
+use Rattle.vss_play.specs.declared.play_fault.PlayFault.{PlayFault}
+use Rattle.vss_play.specs.declared.play_fault.PlayFault.TheVariants as fault
+use Rattle.orders.specs.declared.halted.Halted.{Halted as Halt}
+use Rattle.orders.specs.declared.halted.Halted.TheVariants as halt
 use Rattle.orders.specs.declared.unplayed.Unplayed.{Unplayed}
 use Rattle.orders.specs.declared.unplayed.Unplayed.TheVariants.{Halted, Failed, OutOfMemory}
 use Rattle.orders.specs.declared.why.Why.{Why}
@@ -53,6 +57,15 @@ pub record IsHalted {D : Type 0} (count : D → ℕ) (s : Plan) (entries : List 
   pub begins : movers_of trail ≡ actors_of (take place entries)
   pub may_not : MayNotCome s trail entry.actor why
   pub unmarked : NeverFails count → faults trail ≡ 0
+
+-- the cause, by what stopped the moves of an order, or the run
+abbrev pub unplayed_at : Halt → Unplayed
+unplayed_at (halt.At entry why) = Halted entry why
+unplayed_at halt.OutOfMemory = OutOfMemory
+
+abbrev pub unplayed_by : PlayFault → Unplayed
+unplayed_by fault.Failed = Failed
+unplayed_by fault.OutOfMemory = OutOfMemory
 
 -- why there is no report of an order
 abbrev pub IsUnplayed : {D : Type 0} → (D → ℕ) → Plan → List Entry → ℕ → ℕ → Unplayed → Type 0

@@ -6,7 +6,7 @@ ghost use Rattle.orders.specs.declared.telling.TheConstants.{MOST_BYTES};
 ghost use Rattle.orders.specs.Told.{first_other, end_both};
 
 use crate::other::Other;
-use crate::pieces::{is_over, piece_at};
+use vss_report::pieces::{is_over, piece_at};
 
 /// Whether the pieces of two texts from these places on are both over, or both not.
 fn end_both(text: &[u8], report: &[u8], next: usize) -> bool

@@ -1,8 +1,7 @@
 //! Runs whose order is drawn by a number.
 
-ghost use Rattle.std.specs.Prelude.{◌≡◌, ◌<◌, ◌≤◌, ◌^◌, length, vec_len, IfOk};
+ghost use Rattle.std.specs.Prelude.{◌≡◌, ◌<◌, length, IfOk};
 ghost use Rattle.vss_play.specs.Acting.{actors_in_threads};
-ghost use Rattle.vss_play.specs.Played.{IsTurnOf};
 ghost use Rattle.orders.specs.Drawn.{word_of, generator_after, place_of, asked_from, IsFirstToGo, IsDrawnMove, IsPlayedAsDrawn};
 
 use rand_core::SeedableRng;
@@ -11,7 +10,8 @@ use rand_xoshiro::SplitMix64;
 use std::alloc::Global;
 use volume_device::Device;
 use vss_names::OutOfMemory;
-use vss_play::{Moved, Play};
+use vss_play::in_turn::turn;
+use vss_play::{Play, actors_of};
 use write_history::Actor;
 
 /// The generator's next word.
@@ -31,35 +31,6 @@ fn draw(generator: &mut SplitMix64, count: usize) -> usize
     ensures after { generator.new ≡ generator_after generator.old }
 {
     (next_word(generator) % count as u64) as usize
-}
-
-/// The lanes, the writers and the provider.
-fn actors_of<D: Device>(alloc: Global, play: &Play<D>) -> Result<Vec<Actor>, OutOfMemory>
-    ensures each { IfOk result (λ actors. actors.items ≡ actors_in_threads play.now.plan) }
-    ensures some { IfOk result (λ actors. 0 < vec_len actors) }
-{
-    let (lanes, writers) = (play.lanes(), play.writers());
-    let mut actors = Vec::with_capacity(alloc, (lanes + writers + 1) as usize)?;
-    for lane in 0..lanes {
-        actors.push(Actor::Lane(lane))?;
-    }
-    for writer in 0..writers {
-        actors.push(Actor::Writer(writer))?;
-    }
-    actors.push(Actor::Advance)?;
-    Ok(actors)
-}
-
-/// Whether an actor moved.
-fn turn<D: Device>(alloc: Global, play: &mut Play<D>, actor: Actor) -> Result<bool, OutOfMemory>
-    ensures { IsTurnOf D.told D.count play.old play.new actor result }
-{
-    match play.step(alloc, actor) {
-        Ok(Moved::Moved) => Ok(true),
-        Ok(Moved::Blocked) => Ok(false),
-        Ok(Moved::Finished) => Ok(false),
-        Err(_) => Err(OutOfMemory),
-    }
 }
 
 /// Makes the move of the first of these actors that goes, or answers false where none does.

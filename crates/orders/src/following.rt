@@ -1,4 +1,4 @@
-//! The moves of an order, made one after another.
+//! The moves of an order or of a report, made one after another.
 
 ghost use Rattle.std.specs.Prelude.{OnOk};
 ghost use Rattle.orders.specs.Again.{IsFollowedFar};
@@ -6,11 +6,14 @@ ghost use Rattle.orders.specs.Followed.{IsFollowed};
 
 use crate::entry::Entry;
 use crate::halted::Halted;
+use crate::next_fault::NextFault;
 use crate::why::Why;
 use std::alloc::Global;
 use volume_device::Device;
 use vss_names::OutOfMemory;
+use vss_play::in_turn::turn;
 use vss_play::{Moved, Play};
+use write_history::{Mark, Move};
 
 /// Makes the moves that are asked for, in order, up to the first that may not come. Want of memory leaves the moves that were made.
 pub fn follow<D: Device>(alloc: Global, play: &mut Play<D>, entries: &[Entry]) -> Result<(), Halted>
@@ -37,25 +40,23 @@ pub fn follow<D: Device>(alloc: Global, play: &mut Play<D>, entries: &[Entry]) -
     Ok(())
 }
 
-/// Makes the moves that are asked for, in order, as far as they may come.
+/// Makes these moves, in order, as far as they may come. A call of a device is planned to fail in each that has a fault mark.
 pub fn follow_far<D: Device>(
     alloc: Global,
     play: &mut Play<D>,
-    entries: &[Entry],
+    moves: &[Move],
+    next: &NextFault,
 ) -> Result<(), OutOfMemory>
-    ensures { OnOk result (IsFollowedFar D.told D.count play.old play.new entries.now) }
+    ensures { OnOk result (IsFollowedFar D.told D.count play.old play.new moves.now) }
 {
-    match follow(alloc, play, entries) {
-        Ok(()) => Ok(()),
-        Err(
-            Halted::At {
-                entry: _entry,
-                why: _why,
-            },
-        ) => {
+    for item in moves {
+        next.plan(item.mark);
+        let has_moved = turn(alloc, play, item.actor)?;
+        next.plan(Mark::Clean);
+        if !has_moved {
             let _facts = play.lanes();
-            Ok(())
+            return Ok(());
         }
-        Err(Halted::OutOfMemory) => Err(OutOfMemory),
     }
+    Ok(())
 }

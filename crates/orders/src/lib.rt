@@ -2,9 +2,10 @@
 //!
 //! `run_order` takes the bytes of a scenario and of an order, and `run_seed` a number in place of the order; at `Done` they have written
 //! the report of a legal and complete trail that begins with the order, or that the number draws. `run_again` takes a report, makes its
-//! moves and compares: the text is `Same` exactly where it is such a report, over devices of which no call fails. Every other status has
-//! its cause in the texts or in a count of faults that rose; want of memory alone has none. `specs/Calls.antt` and `specs/Again.antt` have
-//! what they promise, `specs/Lines.antt` and `specs/Order.antt` which text is which order, `specs/Drawn.antt` which order a number draws.
+//! moves over devices that fail in those with a fault mark, and compares: the text is `Same` only where it is such a report, and wherever it
+//! is one without fault marks. Every other status has its cause in the texts or in a count of faults that rose; want of memory alone has
+//! none. `specs/Calls.antt` and `specs/Again.antt` have what they promise, `specs/Lines.antt` and `specs/Order.antt` which text is which
+//! order, `specs/Drawn.antt` which order a number draws.
 //!
 //! A run may be over devices of any maker: over those of `SureMaker`, of which no call ever fails, no move has a fault mark.
 #![tactic(auto)]
@@ -16,11 +17,12 @@ mod entry;
 mod following;
 mod halted;
 pub mod laws;
-mod names;
+mod marked_device;
+mod marked_maker;
+mod next_fault;
 mod order_fault;
 mod order_lines;
 mod other;
-mod pieces;
 mod playing;
 mod reading;
 mod replayed;
@@ -36,7 +38,7 @@ mod why;
 pub use entry::Entry;
 pub use playing::report_of_seed;
 pub use replayed::Replayed;
-pub use replaying::run_again;
+pub use replaying::{run_again, run_again_over};
 pub use running::{run_order, run_seed};
 pub use status::Status;
 pub use sure_device::SureDevice;

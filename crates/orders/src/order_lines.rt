@@ -7,10 +7,10 @@ ghost use Rattle.vss_report.specs.Pieces.{pieces_at};
 ghost use Rattle.orders.specs.Lines as lines;
 
 use crate::asked::Asked;
-use crate::names::{lane_named, writer_named};
-use crate::pieces::{is, is_over, word_at};
 use scenario::numbers::number_in;
 use scenario::{Reason, Scenario};
+use vss_report::pieces::{is_over, word_at};
+use vss_report::shapes::{is, lane_named, writer_named};
 use write_history::{Actor, MOST_MOVES};
 
 /// The lane whose name is left, and no more.

@@ -1,21 +1,63 @@
 //! A run by an order, from its beginning to its report. Its devices are in memory, and are given back to their maker.
 
-ghost use Rattle.std.specs.Prelude.{◌≡◌, ◌≤◌, IfOk, IfErr, IsErrOf};
+ghost use Rattle.std.specs.Prelude.{◌≡◌, IfOk, IfErr, IsErrOf};
 ghost use Rattle.vss_names.specs.Faults.{Rose};
+ghost use Rattle.vss_play.specs.Played.{IsKept};
 ghost use Rattle.orders.specs.Again.{IsReplayed};
-ghost use Rattle.orders.specs.Runs.{IsOrdered, IsOfSeed, IsUnplayed};
+ghost use Rattle.orders.specs.Followed.{IsEndedInTurn};
+ghost use Rattle.orders.specs.Runs.{IsOrdered, IsOfSeed, IsUnplayed, unplayed_at, unplayed_by};
 
 use crate::drawing::play_drawn;
 use crate::entry::Entry;
 use crate::following::{follow, follow_far};
 use crate::halted::Halted;
+use crate::next_fault::NextFault;
 use crate::unplayed::Unplayed;
 use scenario::Scenario;
 use std::alloc::Global;
 use std::thread::Threads;
-use volume_device::{Maker, Store};
+use volume_device::{Device, Maker, Store};
 use vss_names::Text;
 use vss_play::{Play, PlayFault, play_in_turn};
+use write_history::Move;
+
+/// The report of a run that goes on in turn to its end.
+fn report_in_turn<R: Threads + Sync, M: Maker>(
+    rt: &R,
+    alloc: Global,
+    play: Play<M::Made>,
+    maker: &mut M,
+) -> Result<Text, PlayFault>
+    ensures ended { IfOk result (IsEndedInTurn M.Made.told M.Made.count play) }
+    ensures rose { IsErrOf result PlayFault.Failed → Rose (M.count maker.old) (M.count maker.new) }
+{
+    let Ok(played) = play_in_turn(alloc, play) else {
+        return Err(PlayFault::OutOfMemory);
+    };
+    played.finish(rt, maker)
+}
+
+/// Lets a run go that has no report, and says why it has none.
+fn let_go<D: Device>(play: Play<D>, halted: Halted) -> Unplayed
+    ensures why { result ≡ unplayed_at halted }
+    ensures kept { IsKept D.told D.count play }
+{
+    let _facts = play.lanes();
+    match halted {
+        Halted::At { entry, why } => Unplayed::Halted { entry, why },
+        Halted::OutOfMemory => Unplayed::OutOfMemory,
+    }
+}
+
+/// Why a run has no report that did not halt.
+fn unplayed(fault: PlayFault) -> Unplayed
+    ensures { result ≡ unplayed_by fault }
+{
+    match fault {
+        PlayFault::Failed => Unplayed::Failed,
+        PlayFault::OutOfMemory => Unplayed::OutOfMemory,
+    }
+}
 
 /// The report of a run that makes the moves of an order, and then goes on in turn to its end.
 pub fn report_of_order<R: Threads + Sync, M: Maker>(
@@ -30,24 +72,15 @@ pub fn report_of_order<R: Threads + Sync, M: Maker>(
 {
     let mut play = match Play::new(alloc, scenario, &Store::Memory, maker) {
         Ok(play) => play,
-        Err(PlayFault::Failed) => return Err(Unplayed::Failed),
-        Err(PlayFault::OutOfMemory) => return Err(Unplayed::OutOfMemory),
+        Err(fault) => return Err(unplayed(fault)),
     };
     match follow(alloc, &mut play, entries) {
         Ok(()) => {}
-        Err(Halted::At { entry, why }) => {
-            let _facts = play.lanes();
-            return Err(Unplayed::Halted { entry, why });
-        }
-        Err(Halted::OutOfMemory) => return Err(Unplayed::OutOfMemory),
+        Err(halted) => return Err(let_go(play, halted)),
     }
-    let Ok(played) = play_in_turn(alloc, play) else {
-        return Err(Unplayed::OutOfMemory);
-    };
-    match played.finish(rt, maker) {
+    match report_in_turn(rt, alloc, play, maker) {
         Ok(report) => Ok(report),
-        Err(PlayFault::Failed) => Err(Unplayed::Failed),
-        Err(PlayFault::OutOfMemory) => Err(Unplayed::OutOfMemory),
+        Err(fault) => Err(unplayed(fault)),
     }
 }
 
@@ -74,18 +107,20 @@ pub fn report_of_replay<R: Threads + Sync, M: Maker>(
     rt: &R,
     alloc: Global,
     scenario: Scenario,
-    entries: &[Entry],
+    moves: &[Move],
+    next: &NextFault,
     maker: &mut M,
 ) -> Result<Text, PlayFault>
-    ensures ran { IfOk result (λ report. IsReplayed M.Made.count (M.tells maker.old Store.Memory) scenario entries.now report.bytes) }
+    ensures ran { IfOk result (λ report. IsReplayed M.Made.count (M.tells maker.old Store.Memory) scenario moves.now report.bytes) }
     ensures rose { IsErrOf result PlayFault.Failed → Rose (M.count maker.old) (M.count maker.new) }
 {
     let mut play = Play::new(alloc, scenario, &Store::Memory, maker)?;
-    let Ok(()) = follow_far(alloc, &mut play, entries) else {
-        return Err(PlayFault::OutOfMemory);
-    };
-    let Ok(played) = play_in_turn(alloc, play) else {
-        return Err(PlayFault::OutOfMemory);
-    };
-    played.finish(rt, maker)
+    match follow_far(alloc, &mut play, moves, next) {
+        Ok(()) => {}
+        Err(_) => {
+            let _ = let_go(play, Halted::OutOfMemory);
+            return Err(PlayFault::OutOfMemory);
+        }
+    }
+    report_in_turn(rt, alloc, play, maker)
 }

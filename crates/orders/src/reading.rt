@@ -10,9 +10,10 @@ use crate::asked::Asked;
 use crate::entry::Entry;
 use crate::order_fault::OrderFault;
 use crate::order_lines::asked_by;
-use crate::pieces::{is, is_over, piece_at};
 use scenario::{Reason, Scenario};
 use std::alloc::Global;
+use vss_report::pieces::{is_over, piece_at};
+use vss_report::shapes::is;
 use vss_report::{ReportFault, trail_of};
 use write_history::{MOST_MOVES, Move};
 

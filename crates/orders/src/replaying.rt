@@ -1,19 +1,51 @@
 //! A report that is replayed: whether a text is the report of a run.
 
-ghost use Rattle.std.specs.Prelude.{◌≡◌, ◌<◌, ◌≤◌, length};
-ghost use Rattle.orders.specs.Again.{IsAgain, IsCompared};
+ghost use Rattle.std.specs.Prelude.{◌<◌, ◌≤◌, List, ℕ, length, IfOk, IfErr};
+ghost use Rattle.orders.specs.Again.{IsAgain, IsAgainOver, IsCompared, IsRead, IsUnread};
 ghost use Rattle.orders.specs.declared.telling.TheConstants.{MOST_BYTES};
 
 use crate::comparing::first_other;
+use crate::marked_maker::MarkedMaker;
+use crate::next_fault::NextFault;
 use crate::playing::report_of_replay;
 use crate::replayed::Replayed;
-use crate::telling::{MOST_BYTES, told_moves};
-use scenario::{Refused, parse};
+use crate::sure_maker::SureMaker;
+use crate::telling::{MOST_BYTES, has_fault, told_moves};
+use scenario::{Refused, Scenario, parse};
 use std::alloc::Global;
 use std::thread::Threads;
 use volume_device::{Maker, Store};
 use vss_names::Text;
 use vss_play::PlayFault;
+use write_history::{Move, Trail};
+
+/// A scenario, and the moves that a text tells as a report of it.
+#[derive(Drop)]
+struct Told {
+    scenario: Scenario,
+    trail: Trail,
+}
+
+/// The scenario of a text, and the moves that a report of it tells.
+fn read(alloc: Global, text: &[u8], report: &[u8]) -> Result<Told, Replayed>
+    requires text { length text.now < 4294967295 }
+    requires report { length report.now ≤ MOST_BYTES }
+    ensures read { IfOk result (λ told. IsRead text.now report.now told.scenario told.trail.moves) }
+    ensures unread { IfErr result (IsUnread text.now) }
+{
+    let scenario = match parse(alloc, text) {
+        Ok(scenario) => scenario,
+        Err(Refused::Line { line, reason }) => {
+            return Err(Replayed::ScenarioRefused { line, reason });
+        }
+        Err(Refused::OutOfMemory) => return Err(Replayed::OutOfMemory),
+    };
+    let _facts = scenario.volumes();
+    match told_moves(alloc, &scenario, report) {
+        Ok(trail) => Ok(Told { scenario, trail }),
+        Err(_) => Err(Replayed::OutOfMemory),
+    }
+}
 
 /// The first line of a text that is another than the report's.
 fn compared(alloc: Global, text: &[u8], report: &Text) -> Replayed
@@ -32,9 +64,29 @@ fn compared(alloc: Global, text: &[u8], report: &Text) -> Replayed
     }
 }
 
-/// Replays a report: makes the moves that it tells over devices in memory, as far as they may come, goes on in turn, and compares the
-/// report of that run with it. It is the same exactly where it is the report of a legal and complete trail of the scenario.
-pub fn run_again<R: Threads + Sync, M: Maker>(
+/// Makes these moves over the devices of a maker, as far as they may come, goes on in turn, and compares the report of that run.
+fn replay<R: Threads + Sync, M: Maker>(
+    rt: &R,
+    alloc: Global,
+    scenario: Scenario,
+    moves: &[Move],
+    next: &NextFault,
+    report: &[u8],
+    maker: &mut M,
+) -> Replayed
+    requires { length report.now ≤ MOST_BYTES }
+    ensures { (text : List ℕ) → IsRead text report.now scenario moves.now → IsAgainOver M.Made.count (M.tells maker.old Store.Memory) text report.now (M.count maker.old) (M.count maker.new) result }
+{
+    match report_of_replay(rt, alloc, scenario, moves, next, maker) {
+        Ok(replayed) => compared(alloc, report, &replayed),
+        Err(PlayFault::Failed) => Replayed::DeviceFault,
+        Err(PlayFault::OutOfMemory) => Replayed::OutOfMemory,
+    }
+}
+
+/// Replays a report over devices in memory of a maker, which fail as it plans. The text is the same only where it is the report of a legal
+/// and complete trail of the scenario.
+pub fn run_again_over<R: Threads + Sync, M: Maker>(
     rt: &R,
     alloc: Global,
     text: &[u8],
@@ -43,20 +95,48 @@ pub fn run_again<R: Threads + Sync, M: Maker>(
 ) -> Replayed
     requires text { length text.now < 4294967295 }
     requires report { length report.now ≤ MOST_BYTES }
-    ensures { IsAgain M.Made.count (M.tells maker.old Store.Memory) text.now report.now (M.count maker.old) (M.count maker.new) result }
+    ensures { IsAgainOver M.Made.count (M.tells maker.old Store.Memory) text.now report.now (M.count maker.old) (M.count maker.new) result }
 {
-    let scenario = match parse(alloc, text) {
-        Ok(scenario) => scenario,
-        Err(Refused::Line { line, reason }) => return Replayed::ScenarioRefused { line, reason },
-        Err(Refused::OutOfMemory) => return Replayed::OutOfMemory,
+    let told = match read(alloc, text, report) {
+        Ok(told) => told,
+        Err(ended) => return ended,
     };
-    let _facts = scenario.volumes();
-    let Ok(moves) = told_moves(alloc, &scenario, report) else {
+    let Ok(next) = NextFault::new(alloc) else {
         return Replayed::OutOfMemory;
     };
-    match report_of_replay(rt, alloc, scenario, &moves, maker) {
-        Ok(replayed) => compared(alloc, report, &replayed),
-        Err(PlayFault::Failed) => Replayed::DeviceFault,
-        Err(PlayFault::OutOfMemory) => Replayed::OutOfMemory,
+    let Told { scenario, trail } = told;
+    replay(rt, alloc, scenario, trail.moves(), &next, report, maker)
+}
+
+/// Replays a report over devices in memory, of which a call fails in each move with a fault mark and no other call does: in a revert that
+/// behind as many blocks as its mark says, else the first. A text without fault marks is the same exactly where it is the report of a legal
+/// and complete trail of the scenario; one with fault marks only where it is.
+pub fn run_again<R: Threads + Sync>(
+    rt: &R,
+    alloc: Global,
+    text: &[u8],
+    report: &[u8],
+) -> Replayed
+    requires text { length text.now < 4294967295 }
+    requires report { length report.now ≤ MOST_BYTES }
+    ensures { IsAgain text.now report.now result }
+{
+    let told = match read(alloc, text, report) {
+        Ok(told) => told,
+        Err(ended) => return ended,
+    };
+    let Ok(next) = NextFault::new(alloc) else {
+        return Replayed::OutOfMemory;
+    };
+    let Told { scenario, trail } = told;
+    let moves = trail.moves();
+    if !has_fault(moves) {
+        let mut maker = SureMaker::new(alloc);
+        return replay(rt, alloc, scenario, moves, &next, report, &mut maker);
     }
+    let Ok(shared) = next.share() else {
+        return Replayed::OutOfMemory;
+    };
+    let mut maker = MarkedMaker::new(alloc, shared);
+    replay(rt, alloc, scenario, moves, &next, report, &mut maker)
 }

@@ -1,7 +1,7 @@
 //! The calls of this crate: from the bytes of a scenario and of an order, or a number, to the bytes of a report.
 
 ghost use Rattle.std.specs.Prelude.{◌≡◌, ◌<◌, ◌≤◌, List, ℕ, length};
-ghost use Rattle.orders.specs.Calls.{IsWritten, IsWrittenInPart, IsOrderCall, IsSeedCall};
+ghost use Rattle.orders.specs.Calls.{IsOrderCall, IsSeedCall, status_of_fault, status_of_cause};
 
 use crate::order_fault::OrderFault;
 use crate::playing::{report_of_order, report_of_seed};
@@ -14,6 +14,28 @@ use std::alloc::Global;
 use std::thread::Threads;
 use volume_device::{Maker, Store};
 use vss_play::PlayFault;
+
+/// How a call ends with a text that is no order.
+fn refused(fault: OrderFault) -> Status
+    ensures { result ≡ status_of_fault fault }
+{
+    match fault {
+        OrderFault::Line { line, reason } => Status::OrderRefused { line, reason },
+        OrderFault::NoReport { line } => Status::NoReport { line },
+        OrderFault::OutOfMemory => Status::OutOfMemory,
+    }
+}
+
+/// How a call ends with an order that has no report.
+fn unplayed(why: Unplayed) -> Status
+    ensures { result ≡ status_of_cause why }
+{
+    match why {
+        Unplayed::Halted { entry, why } => Status::MayNotCome { entry, why },
+        Unplayed::Failed => Status::DeviceFault,
+        Unplayed::OutOfMemory => Status::OutOfMemory,
+    }
+}
 
 /// Plays a scenario over devices in memory with its moves in an order, what the order leaves in turn, and writes the report.
 pub fn run_order<R: Threads + Sync, K: Sink, M: Maker>(
@@ -42,15 +64,11 @@ pub fn run_order<R: Threads + Sync, K: Sink, M: Maker>(
     };
     let entries = match order_of(alloc, &scenario, order) {
         Ok(entries) => entries,
-        Err(OrderFault::Line { line, reason }) => return Status::OrderRefused { line, reason },
-        Err(OrderFault::NoReport { line }) => return Status::NoReport { line },
-        Err(OrderFault::OutOfMemory) => return Status::OutOfMemory,
+        Err(fault) => return refused(fault),
     };
     let report = match report_of_order(rt, alloc, scenario, &entries, maker) {
         Ok(report) => report,
-        Err(Unplayed::Halted { entry, why }) => return Status::MayNotCome { entry, why },
-        Err(Unplayed::Failed) => return Status::DeviceFault,
-        Err(Unplayed::OutOfMemory) => return Status::OutOfMemory,
+        Err(why) => return unplayed(why),
     };
     match write_all(sink, report.bytes()) {
         Ok(()) => Status::Done,

@@ -1,32 +1,20 @@
 //! The moves that a report tells.
 
 ghost use Rattle.std.specs.Prelude.{◌≡◌, ◌≤◌, ◌<◌, length, IfOk};
+ghost use Rattle.std.specs.List.{list_any};
+ghost use Rattle.vss_model.specs.Trail.{is_fault};
 ghost use Rattle.orders.specs.Again.{AreTold};
-ghost use Rattle.orders.specs.Order as order;
 ghost use Rattle.orders.specs.declared.telling.TheConstants.{MOST_BYTES};
 
-use crate::entry::Entry;
-use crate::pieces::piece_at;
-use crate::reading::entries_of;
 use scenario::Scenario;
 use std::alloc::Global;
 use vss_names::{OutOfMemory, Text};
+use vss_report::pieces::piece_at;
 use vss_report::{ReportFault, trail_of};
-use write_history::Trail;
+use write_history::{Mark, Move, Trail};
 
 /// The most bytes of an order, and of a report that is replayed.
 pub const MOST_BYTES: usize = 1_073_741_824;
-
-/// The moves of a trail.
-fn moves_of(alloc: Global, trail: &Trail) -> Result<Vec<Entry>, OutOfMemory>
-    ensures { IfOk result (λ entries. entries.items ≡ order.entries_from 1 trail.now.moves) }
-{
-    let _few = trail.len();
-    match entries_of(alloc, trail.moves()) {
-        Ok(entries) => Ok(entries),
-        Err(_) => Err(OutOfMemory),
-    }
-}
 
 /// The text before a line.
 fn before_line(text: &[u8], line: u32) -> &[u8]
@@ -48,14 +36,14 @@ fn moves_before(
     scenario: &Scenario,
     text: &[u8],
     line: u32,
-) -> Result<Vec<Entry>, OutOfMemory>
+) -> Result<Trail, OutOfMemory>
     requires { length text.now ≤ MOST_BYTES }
 {
     let mut part = Text::copy(alloc, before_line(text, line))?;
     part.add(b"end moves 0 clock 0\n")?;
     match trail_of(alloc, scenario, part.bytes()) {
-        Ok(trail) => moves_of(alloc, &trail),
-        Err(ReportFault::BadLine(_)) => Ok(Vec::new(alloc)),
+        Ok(trail) => Ok(trail),
+        Err(ReportFault::BadLine(_)) => Ok(Trail::new(alloc)),
         Err(ReportFault::OutOfMemory) => Err(OutOfMemory),
     }
 }
@@ -66,13 +54,30 @@ pub fn told_moves(
     alloc: Global,
     scenario: &Scenario,
     text: &[u8],
-) -> Result<Vec<Entry>, OutOfMemory>
+) -> Result<Trail, OutOfMemory>
     requires { length text.now ≤ MOST_BYTES }
-    ensures { IfOk result (λ entries. AreTold scenario.now text.now entries.items) }
+    ensures { IfOk result (λ trail. AreTold scenario.now text.now trail.moves) }
 {
     match trail_of(alloc, scenario, text) {
-        Ok(trail) => moves_of(alloc, &trail),
+        Ok(trail) => Ok(trail),
         Err(ReportFault::BadLine(line)) => moves_before(alloc, scenario, text, line),
         Err(ReportFault::OutOfMemory) => Err(OutOfMemory),
     }
+}
+
+/// Whether a device failed in a move with this mark.
+fn is_fault(mark: Mark) -> bool
+    ensures { result ≡ is_fault mark }
+{
+    match mark {
+        Mark::Clean => false,
+        Mark::Fault | Mark::FaultAfter(_) => true,
+    }
+}
+
+/// Whether a device failed in one of these moves.
+pub fn has_fault(moves: &[Move]) -> bool
+    ensures { result ≡ list_any (λ (m : _). is_fault m.mark) moves.now }
+{
+    moves.iter().any(|item| is_fault(item.mark))
 }

@@ -28,15 +28,17 @@ use ended::Ended;
 use failing::{Failing, plan_of};
 use io_edge::OutSink;
 use many::outcomes_of;
-use orders::{MOST_BYTES, Status, SureMaker, run_again, run_order, run_seed};
+use orders::{MOST_BYTES, Status, SureMaker, run_again, run_again_over, run_order, run_seed};
 use request::{Request, failing_in};
 use scenario::{Refused, parse};
 use std::process::ExitCode;
 use std::thread::Threads;
 use std::{env, fs, io};
 use volume_device::{Maker, MemMaker};
-use vss_main::MOST_BYTES as MOST_SCENARIO_BYTES;
 use vss_play::PlayFault;
+
+/// The most bytes of a scenario, as `vss` takes them.
+const MOST_SCENARIO_BYTES: usize = 16_777_216;
 
 /// The words after the program's name.
 fn words_given(rt: &HostRuntime) -> io::Result<Vec<String>> {
@@ -108,8 +110,13 @@ fn play<'a, R: Threads + Sync, M: Maker>(
     match request {
         Request::Again { .. } => {
             let report = bytes_of(rt, order, MOST_BYTES)?;
+            let replayed = if failing.is_empty() {
+                run_again(threads, alloc, &text, &report)
+            } else {
+                run_again_over(threads, alloc, &text, &report, maker)
+            };
             Ok(Ended::Again {
-                replayed: run_again(threads, alloc, &text, &report, maker),
+                replayed,
                 scenario,
                 report: order,
             })

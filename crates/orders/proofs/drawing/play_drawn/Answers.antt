@@ -1,6 +1,4 @@
-use Rattle.std.proofs.Common.{Ok, ap, sym, ◌∙◌, subst, true, false}
-use Rattle.scenario.specs.Plan.{Plan}
-use Rattle.vss_play.specs.Acting.{actors_in_threads}
+use Rattle.std.proofs.Common.{Ok, sym, subst}
 use Rattle.orders.specs.Drawn.{IsDrawing, IsDrawnMove}
 use Rattle.orders.proofs.Goers.{drawing_none, drawing_more, drawing_ends}
 use Rattle.orders.proofs.drawing.play_drawn.Goals as goal

@@ -1,4 +1,5 @@
 use Rattle.write_history.specs.declared.actor.Actor.TheVariants.{Lane}
+use Rattle.orders.specs.declared.entry.Entry.{Entry}
 use Rattle.orders.specs.declared.why.Why.TheVariants.{Blocked, Finished}
 use Rattle.orders.proofs.Led.{led_none, led_next, led_all, halted_at}
 use Rattle.orders.proofs.following.follow.Goals as goal
@@ -22,9 +23,9 @@ returns-in-Ok-Finished g c =
 
 pub loop-entry-preserved : goal.loop-entry-preserved
 loop-entry-preserved g c =
-    led_next g.D.Device.told g.D.Device.count c.args.play.now c.loop-entry.play c.step.new.self c.args.entries.now c.loop-entry.entry-index
+    led_next g.D.Device.told g.D.Device.count c.args.play.now c.loop-entry.play c.step.new.self (λ (e : Entry). e.actor) c.args.entries.now c.loop-entry.entry-index
     (record { actor = Lane 0; place = 0 }) c.loop-entry-test.true c.loop-entry.invariant
     (rw c.in-Ok-Moved.field-0-is at c.in-Ok-Moved.ensures)
 
 pub returns : goal.returns
-returns g c = led_all g.D.Device.told g.D.Device.count c.args.play.now c.loop-entry.play c.args.entries.now c.loop-entry.entry-index c.loop-entry-test.false c.loop-entry.invariant
+returns g c = led_all g.D.Device.told g.D.Device.count c.args.play.now c.loop-entry.play (λ (e : Entry). e.actor) c.args.entries.now c.loop-entry.entry-index c.loop-entry-test.false c.loop-entry.invariant
