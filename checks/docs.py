@@ -1,4 +1,4 @@
-"""Holds the pages of the repository against what is there: links, files, identifiers, commands and counts. Prints what is wrong.
+"""Holds the pages of the repository against what is there: links, files, identifiers, commands, lines of code and counts. Prints what is wrong.
 
 Pages are README.md, docs/*.md, examples/README.md and crates/*/README.md. A name in backquotes is looked for in the sources, the definitions,
 the scripts and the examples; a path, from the top, from the page's own folder, from crates/, and from the crate that the page is of. A word
@@ -99,6 +99,15 @@ def commands(page, text):
             wrong.append(f"{page}: there is no `{path}`")
 
 
+def samples():
+    """Each line of code of docs/LIBRARY.md on devices, but for the comment behind it, is one of the example, which is compiled and proved."""
+    code = {line.strip() for path in glob.glob("crates/example_device/src/*.rt") for line in text_of(path).splitlines()}
+    for line in re.findall(r"^ {4}(.*)$", text_of("docs/LIBRARY.md").split("## Your own writers")[0], re.M):
+        shown = re.sub(r" +// .*$", "", line).strip()
+        if shown not in code:
+            wrong.append(f"docs/LIBRARY.md: no example has the line `{shown}`")
+
+
 def counts():
     """Numbers that pages say, each as a form of words and as it is."""
     rows = [line for line in text_of("crates.txt").splitlines() if ":" in line and not line.startswith("#")]
@@ -159,6 +168,7 @@ def main():
         spans(page, text, words)
         definitions(page, text)
         commands(page, text)
+    samples()
     counts()
     laws()
     crate_pages()

@@ -263,6 +263,11 @@ wait "$!"
 [ "$?" = 5 ] || wrong "a pipe that nobody reads: $(cat "$room/err")"
 exec 7>&-
 said "vss: write fault" "or a pipe closed?"
+# a reader that takes the first line alone of more than a pipe holds
+{ printf 'scenario 1\nvolume C 4 4\nlane a\n'; printf 'query C\n%.0s' {1..20000}; } > "$room/many.scenario"
+"$top/vss" run < "$room/many.scenario" 2> "$room/err" | head -n 1 > "$room/out"
+[ "${PIPESTATUS[0]}" = 5 ] && [ "$(cat "$room/out")" = "report 1" ] || wrong "a pipe that is read to its first line: $(cat "$room/out" "$room/err")"
+said "vss: write fault" "or a pipe closed?"
 timeout 60 "$top/vss" run < "$top/examples/first.scenario" >&- 2> "$room/err"
 [ "$?" = 5 ] || wrong "a closed output: $(cat "$room/err")"
 said "vss: write fault"
@@ -277,6 +282,10 @@ said "vss: input too long" "16,777,216 bytes at most"
 ran 8 run < <(cat "$room/long")
 said "vss: input too long"
 if ! { [ -f "$vss.sources" ] && is_slow "$vss"; }; then
+  ran 8 inspect < /dev/zero
+  said "vss: input too long" "an area 1,074,806,784"
+  (ulimit -v 400000 && ran 7 inspect < /dev/zero; exit "$failed") || failed=1
+  said "vss: out of memory" "an area is read whole, up to 1 GiB of it"
   printf 'scenario 1\nvolume C 65536 1\nlane a\nread C 0\n' > "$room/large.scenario"
   (ulimit -v 400000 && ran 7 run < "$room/large.scenario"; exit "$failed") || failed=1
   said "vss: out of memory" "a run takes up to 2 GiB for its volumes and areas"

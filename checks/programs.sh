@@ -107,6 +107,7 @@ for lane in 1 2; do
   [ "$(cat "$room/out.$lane")" = "lane $lane"$'\n0' ] && grep -q "an unproved build" "$room/err.$lane" || wrong "two at once: $(cat "$room/out.$lane" "$room/err.$lane")"
 done
 [ "$(wc -l < "$small/built")" = 1 ] || wrong "two at once built $(wc -l < "$small/built") times"
+cat "$room/err.1" "$room/err.2" | grep -qE "building vss without a proof \(about [0-9]+ seconds, once\)" || wrong "that a build begins is not said"
 timeout 600 "$small/vss" run <&- > "$room/out" 2> "$room/err"
 [ "$?" = 4 ] || wrong "a closed input: $(cat "$room/err")"
 timeout 600 "$small/vss" run < "$small/crates.txt" >&- 2> "$room/err"
@@ -122,7 +123,21 @@ make_builder "echo 'it is refused' >&2; exit 1"
 make_builder "[ \"\$1\" = --slow ] || exit 3; cp '$room/cat' \"\$3\""
 "$small/vss" run < /dev/null > "$room/out" 2> "$room/err"
 [ "$?" = 0 ] && grep -q "a slow one" "$room/err" || wrong "a slow build: $(cat "$room/err")"
+printf '#!/bin/bash\nkill -ABRT $$\n' > "$room/aborts"
+chmod +x "$room/aborts"
+echo six > "$small/crates/vss/src/main.rt"
+make_builder "[ \"\$1\" = --slow ] || exit 3; cp '$room/aborts' \"\$3\""
+(ulimit -v 4000000 && exec "$small/vss" run < /dev/null > "$room/out" 2> "$room/err")
+[ "$?" = 134 ] && grep -q "a slow build reserves more addresses than \`ulimit -v\` allows here" "$room/err" || wrong "a slow build without its addresses: $(cat "$room/err")"
 make_builder "echo five > '$small/crates/vss/src/main.rt'; cp '$room/cat' \"\$2\""
 "$small/vss" run < /dev/null > "$room/out" 2> "$room/err"
 [ "$?" = 70 ] && grep -q "changed while it was built" "$room/err" || wrong "sources that change meanwhile: $(cat "$room/err")"
+
+# how far a build is, on a terminal
+mkdir "$room/terminal"
+printf '#!/bin/sh\nsleep 3\nexit 1\n' > "$room/terminal/rt"
+chmod +x "$room/terminal/rt"
+PATH="$room/terminal:$PATH" python3 -c 'import pty, sys; pty.spawn(sys.argv[1:])' "$top/tools/fast-build" --slow vss "$room/terminal/vss" \
+  < /dev/null > "$room/out" 2>&1
+grep -qE "vss: [0-9]+ seconds so far" "$room/out" || wrong "on a terminal it is said of a build: $(cat "$room/out")"
 ends "a program is called proved of its own sources alone, is built once, and what is missing is named"

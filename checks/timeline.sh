@@ -1,12 +1,12 @@
 #!/usr/bin/env bash
-# `vss_timeline` draws each example: as a drawing with one element for each line of the report but the first, in bands of at most 40, and as
-# lines of at most 100 bytes. Those in docs/pictures are drawn again byte for byte. A long report is drawn in 5 seconds of a processor
-# and 500 MB of addresses. What is no report, what is another scenario's, and words that ask for nothing, have their status, and a line that names
-# file and line. It is drawn by the program as LLVM and, where that is there, as Rattle's own compiler builds it.
+# `vss_timeline` draws each example: as a drawing with one element for each line of the report but the first, in bands of at most 40, whose words
+# do not lie on one another, and as lines of at most 100 bytes. Those in docs/pictures are drawn again byte for byte. A long report is drawn in
+# 5 seconds of a processor and 500 MB of addresses. What is no report, what is another scenario's, and words that ask for nothing, have their
+# status, and a line that names file and line. It is drawn by the program as LLVM and, where that is there, as Rattle's own compiler builds it.
 . "$(dirname "${BASH_SOURCE[0]}")/prelude.sh" || exit 70
 builds="$(programs vss_timeline)" || exit 1
 mapfile -t builds <<< "$builds"
-scenarios=(examples/*.scenario)
+scenarios=(examples/*.scenario examples/orders/*.scenario)
 usage="vss_timeline: usage: vss_timeline [--text] [--from N] [--to N] [SCENARIO REPORT]"
 
 # the elements of marks in the last drawing
@@ -20,11 +20,28 @@ draws() {
   [ "$(marks)" = "$lines" ] || wrong "$report: a line is not drawn once where it is alone"
   "$program" "$scenario" "$report" > "$room/out" || wrong "$report is not drawn"
   [ "$(marks)" = "$lines" ] || wrong "$report: a line is not drawn once"
+  python3 "$room/apart.py" < "$room/out" 2> "$room/err" || wrong "$report: $(cat "$room/err")"
   grep -q '<script' "$room/out" && wrong "$report: a script is drawn"
   awk -F"[(,]" '/><title>/ && $2 > 960 { exit 1 }' "$room/out" || wrong "$report: a band is wider than 40 marks"
   "$program" --text "$scenario" "$report" > "$room/out" || wrong "$report has no lines"
   LC_ALL=C awk 'length > 100 { exit 1 }' "$room/out" || wrong "$report: a line is longer than 100 bytes"
 }
+
+# no words of bars lie on one another, where a letter of them is 6 pixels wide
+cat > "$room/apart.py" << 'END'
+import re, sys
+of = {}
+for line in sys.stdin:
+    if line.startswith("<g transform='translate(") and "<title>" not in line:
+        of = {}
+    found = re.match(r"<text class='(?:small|light|used|loss)' x='(\d+)' y='(\d+)'>([^<]*)</text>", line)
+    if found:
+        begin, end = int(found[1]), int(found[1]) + 6 * len(found[3])
+        for other_begin, other_end, words in of.get(found[2], []):
+            if other_begin < end and begin < other_end:
+                sys.exit(f"\"{found[3]}\" lies on \"{words}\"")
+        of.setdefault(found[2], []).append((begin, end, found[3]))
+END
 
 # answers a report with a status, and with this line
 answers() {

@@ -1,5 +1,3 @@
-//! Blocks in memory, as a device of the caller's own.
-
 ghost use Rattle.std.specs.Prelude.{◌≡◌, ◌<◌, ◌^◌, true, Some, All, IfOk, length, replicate};
 ghost use Rattle.block_data.specs.Runs.{zeros};
 ghost use Rattle.block_data.specs.declared.block_buf.TheConstants.{BLOCK};
@@ -46,14 +44,12 @@ impl Device for RamDisk {
     }
 
     fn read_into(&mut self, index: u32, out: &mut [u8]) -> Result<(), Failed> {
-        out.copy_from_slice(self.blocks[index as usize].bytes());
-        Ok(())
+        Ok(out.copy_from_slice(self.blocks[index as usize].bytes()))
     }
 
     fn write(&mut self, index: u32, block: &[u8]) -> Result<(), Failed> {
         let place = &mut self.blocks[index as usize];
-        place.bytes_mut().copy_from_slice(block);
-        Ok(())
+        Ok(place.bytes_mut().copy_from_slice(block))
     }
 
     fn flush(&mut self) -> Result<(), Failed> {

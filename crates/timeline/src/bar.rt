@@ -32,16 +32,69 @@ impl Bar<'_> {
         matches!(self.kind, BarKind::Making | BarKind::Image)
     }
 
+    /// How many pixels the words take that say what it is.
+    fn name_width(&self) -> u64 {
+        let digits = if self.kind.has_number() {
+            digits_of(self.number)
+        } else {
+            0
+        };
+        let letters = (self.kind.words().len() as u64).saturating_add(digits);
+        letters.saturating_mul(LETTER)
+    }
+
+    /// Where these words begin: in it, or behind the sign at its end where they have no room before that.
+    pub fn name_at(&self) -> u64 {
+        let within = self.from.saturating_add(LETTER);
+        let has_room = within.saturating_add(self.name_width()) < self.to;
+        if self.ending.sign().is_none() || has_room {
+            within
+        } else {
+            self.to.saturating_add(8)
+        }
+    }
+
+    /// The first place on its right that is free of them.
+    fn end_of_name(&self) -> u64 {
+        self.name_at()
+            .saturating_add(self.name_width())
+            .saturating_add(LETTER)
+    }
+
+    /// Whether what is written in it is left out: it has no room, and the image that goes on behind it has the same words.
+    pub fn is_mute(&self) -> bool {
+        self.kind == BarKind::Making
+            && matches!(self.ending, Ending::Done)
+            && self.to < self.end_of_name()
+    }
+
+    /// Where it is written how it ends: behind its end and what is written in it.
+    pub fn ending_at(&self) -> u64 {
+        self.to.saturating_add(8).max(self.end_of_name())
+    }
+
     /// The first place on its right that is free of its words.
     pub fn end_of_words(&self) -> u64 {
         let words = self.ending.words().len();
         let words = words.saturating_add(self.ending.result().len());
-        let end = (words as u64)
-            .saturating_mul(LETTER)
-            .saturating_add(2 * LETTER);
-        let own = self.from.saturating_add(14 * LETTER);
-        own.max(self.to.saturating_add(end))
+        let width = (words as u64).saturating_mul(LETTER);
+        self.ending_at()
+            .saturating_add(width)
+            .saturating_add(LETTER)
     }
+}
+
+/// How many digits a number has.
+fn digits_of(number: u64) -> u64 {
+    let mut left = number;
+    let mut digits = 1u64;
+    for _place in 0..19 {
+        left /= 10;
+        if left > 0 {
+            digits = digits.saturating_add(1);
+        }
+    }
+    digits
 }
 
 /// How many pixels a letter of a bar's words takes.

@@ -40,6 +40,25 @@ impl BarKind {
         }
     }
 
+    /// What is written in it, before its number if that is written.
+    pub fn words(self) -> &'static str {
+        match self {
+            BarKind::Session => "session, context ",
+            BarKind::Set => "set ",
+            BarKind::Frozen => "frozen",
+            BarKind::Held => "held",
+            BarKind::Making | BarKind::Image => "image of set ",
+            BarKind::Used => "used ",
+            BarKind::More => "images that are not drawn: ",
+            BarKind::Write | BarKind::Copy => "",
+        }
+    }
+
+    /// Whether its number is written.
+    pub fn has_number(self) -> bool {
+        !self.is_sign() && !matches!(self, BarKind::Frozen | BarKind::Held)
+    }
+
     /// Whether it is a sign on the line of its row, and no bar.
     pub fn is_sign(self) -> bool {
         matches!(self, BarKind::Write | BarKind::Copy)

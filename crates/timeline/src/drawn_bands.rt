@@ -108,19 +108,20 @@ fn add_bar(frame: &mut Frame<'_>, bar: &Bar<'_>, y: u64) -> Result<(), OutOfMemo
 
 /// Adds what a bar is.
 fn add_name(frame: &mut Frame<'_>, bar: &Bar<'_>, y: u64) -> Result<(), OutOfMemory> {
-    let number = Part::Number(bar.number);
-    let (class, fixed, more) = match bar.kind {
-        BarKind::Session => ("small", "session, context ", number),
-        BarKind::Set => ("small", "set ", number),
-        BarKind::Frozen => ("small", "frozen", NOTHING),
-        BarKind::Held => ("small", "held", NOTHING),
-        BarKind::Making => ("small", "image of set ", number),
-        BarKind::Image => ("light", "image of set ", number),
-        BarKind::Used => ("used", "used ", number),
-        BarKind::More => ("small", "images that are not drawn: ", number),
-        BarKind::Write | BarKind::Copy => return Ok(()),
+    if bar.kind.is_sign() || bar.is_mute() {
+        return Ok(());
+    }
+    let class = match bar.kind {
+        BarKind::Image => "light",
+        BarKind::Used => "used",
+        _ => "small",
     };
-    frame.words(class, bar.from.saturating_add(6), y, fixed, more)
+    let more = if bar.kind.has_number() {
+        Part::Number(bar.number)
+    } else {
+        NOTHING
+    };
+    frame.words(class, bar.name_at(), y, bar.kind.words(), more)
 }
 
 /// Adds how a bar ends, where it is not as it should or goes on.
@@ -129,14 +130,12 @@ fn add_ending<'a>(frame: &mut Frame<'a>, bar: &Bar<'a>, y: u64) -> Result<(), Ou
         return Ok(());
     };
     frame.sign(sign, bar.to, y.saturating_sub(4))?;
-    let result = Part::Words(bar.ending.result().as_bytes());
-    frame.words(
-        class,
-        bar.to.saturating_add(8),
-        y,
-        bar.ending.words(),
-        result,
-    )
+    let (words, result) = (bar.ending.words(), bar.ending.result());
+    if words.is_empty() && result.is_empty() {
+        return Ok(());
+    }
+    let result = Part::Words(result.as_bytes());
+    frame.words(class, bar.ending_at(), y, words, result)
 }
 
 /// Adds what lasts in a band, and then its words, so that no bar hides the words of another.
