@@ -111,12 +111,7 @@ pub fn run_again_over<R: Threads + Sync, M: Maker>(
 /// Replays a report over devices in memory, of which a call fails in each move with a fault mark and no other call does: in a revert that
 /// behind as many blocks as its mark says, else the first. A text without fault marks is the same exactly where it is the report of a legal
 /// and complete trail of the scenario; one with fault marks only where it is.
-pub fn run_again<R: Threads + Sync>(
-    rt: &R,
-    alloc: Global,
-    text: &[u8],
-    report: &[u8],
-) -> Replayed
+pub fn run_again<R: Threads + Sync>(rt: &R, alloc: Global, text: &[u8], report: &[u8]) -> Replayed
     requires text { length text.now < 4294967295 }
     requires report { length report.now ≤ MOST_BYTES }
     ensures { IsAgain text.now report.now result }

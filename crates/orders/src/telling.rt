@@ -50,11 +50,7 @@ fn moves_before(
 
 /// The moves that a text tells before its first line that is none of a report of the scenario.
 #[tactic(auto, using(crate::proofs::Beside::told_of_trail, crate::proofs::Beside::told_of_bad))]
-pub fn told_moves(
-    alloc: Global,
-    scenario: &Scenario,
-    text: &[u8],
-) -> Result<Trail, OutOfMemory>
+pub fn told_moves(alloc: Global, scenario: &Scenario, text: &[u8]) -> Result<Trail, OutOfMemory>
     requires { length text.now ≤ MOST_BYTES }
     ensures { IfOk result (λ trail. AreTold scenario.now text.now trail.moves) }
 {
