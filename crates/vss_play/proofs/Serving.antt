@@ -4,12 +4,15 @@ use Rattle.std.specs.Prelude.{slice_get}
 use Rattle.scenario.specs.Plan.{Plan, LaneLine, lines_of}
 use Rattle.scenario.specs.Bounds.{IsPlan}
 use Rattle.vss_model.specs.declared.event.Event.{Event}
-use Rattle.vss_model.specs.declared.event.Event.TheVariants.{Line}
+use Rattle.vss_model.specs.declared.event.Event.TheVariants.{Line, Answer, Provider, Idle}
 use Rattle.vss_model.specs.declared.outcome.Outcome.{Outcome}
 use Rattle.vss_model.specs.Outcome.{told_act}
-use Rattle.vss_world.specs.Stands.{WorldValue, IsOf, Stands}
+use Rattle.vss_report.specs.ToldLines.{IsActor}
+use Rattle.vss_world.specs.Stands.{WorldValue, IsOf, IsStanding, Stands}
 use Rattle.vss_world.specs.Moves.{IsMoved, IsEvent}
-use Rattle.vss_play.specs.Serving.{IsServing}
+use Rattle.vss_play.specs.Running.{AreInPlan}
+use Rattle.vss_play.specs.Serving.{IsServing, actor_by}
+use Rattle.vss_play.proofs.OneMove.{numbers_by}
 use Rattle.vss_play.proofs.LaneLines.{lane_in, line_is_op}
 
 -- at first
@@ -38,3 +41,16 @@ serving_on told count s old new n m event o few next k moves =
 -- a lane's line is an event of the scenario
 pub line_in : (s : Plan) (i k : ℕ) (l : LaneLine) → IsPlan s → slice_get (lines_of s i) k ≡ Some l → IsEvent s (Line i l.op)
 line_in s i k l plan e = (lane_in s i k l e, line_is_op s i k l plan e)
+
+-- who makes an event is in the scenario
+actor_of : (s : Plan) (event : Event) → IsEvent s event → IsActor s (actor_by event)
+actor_of s (Line lane op) h = h.0
+actor_of s (Answer w answer) h = h
+actor_of s Provider h = tt
+actor_of s Idle h = tt
+
+-- the numbers of its outcome are in the scenario's range
+pub numbers_of : {D : Type 0} (told : D → Option (List (List ℕ))) (count : D → ℕ) (s : Plan) (old new : WorldValue D) (event : Event) (o : Outcome)
+    → IsEvent s event → IsStanding told old s → IsMoved told count old new s event o → AreInPlan s (actor_by event) o new.evicted
+numbers_of told count s old new event o is standing moves =
+    numbers_by told count s old new standing.acts (actor_by event) event o (actor_of s event is) standing.stands moves

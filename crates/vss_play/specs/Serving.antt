@@ -1,7 +1,15 @@
 -- A core that its caller drives: what contracts see of it, and what it keeps between calls. (This project's own.)
-use Rattle.std.specs.Prelude.{ℕ, ◌≤◌, List, length, Option}
+use Rattle.std.specs.Prelude.{ℕ, ◌≡◌, ◌≤◌, List, length, Option}
+use Rattle.write_history.specs.declared.actor.Actor.{Actor}
+use Rattle.write_history.specs.declared.actor.Actor.TheVariants.{Lane, Writer, Advance, Idle as IdleActor}
 use Rattle.scenario.specs.Plan.{Plan}
+use Rattle.vss_model.specs.declared.event.Event.{Event}
+use Rattle.vss_model.specs.declared.event.Event.TheVariants.{Line, Answer, Provider, Idle}
+use Rattle.vss_model.specs.Told.{mark_of}
+use Rattle.vss_world.specs.declared.reply.Reply.{Reply}
+use Rattle.vss_world.specs.declared.reply.Reply.TheVariants.{Blocked, Moved}
 use Rattle.vss_world.specs.Stands.{WorldValue, IsOf, IsStanding}
+use Rattle.vss_play.specs.Running.{AreWritten}
 
 pub record ServiceValue (D : Type 0) : Type 0 where
   pub plan : Plan
@@ -14,3 +22,16 @@ pub record IsServing {D : Type 0} (told : D → Option (List (List ℕ))) (s : P
   pub standing : IsStanding told w s
   pub many : length standing.acts ≤ moves
   pub most : moves ≤ 2097151
+
+-- who makes an event
+abbrev pub actor_by : Event → Actor
+actor_by (Line lane op) = Lane lane
+actor_by (Answer w answer) = Writer w
+actor_by Provider = Advance
+actor_by Idle = IdleActor
+
+-- the lines of the move that an event came to were appended, and none where it had to wait
+abbrev pub AreToldOf : {D : Type 0} → (D → Option (List (List ℕ))) → Plan → WorldValue D → (number line : ℕ) → Event → Reply → (before after : List ℕ) → Type 0
+AreToldOf told s w number line event Blocked before after = after ≡ before
+AreToldOf told s w number line event (Moved o) before after =
+    AreWritten told s w number line (record { actor = actor_by event; mark = mark_of o.told }) o before after

@@ -4,22 +4,42 @@ ghost use Rattle.coordinator.specs.OpenOrders.{standing_in};
 ghost use Rattle.vss_model.specs.Acts.{enabled};
 ghost use Rattle.vss_world.specs.Moves.{IsEvent, IsStepped, AreListed, takes_memory};
 ghost use Rattle.vss_world.specs.Stands.{IsOf, Stands, IsStanding, IfStands};
+ghost use Rattle.vss_world.specs.declared.reply.Reply.TheVariants.{Moved};
+ghost use Rattle.vss_report.specs.declared.lines.TheConstants.{MOST_BYTES};
+ghost use Rattle.vss_play.specs.Running.{AreInPlan};
+ghost use Rattle.vss_play.specs.Serving.{AreToldOf, actor_by};
 
+use crate::asking::{Given, first_answer, none_given, tell_aborts};
 use crate::new_groups::open_new;
 use crate::play_fault::PlayFault;
 use crate::step_fault::StepFault;
+use crate::turn::{mark_of, write_lines};
 use scenario::Scenario;
 use std::alloc::Global;
 use std::marker::Model;
 use volume_device::{Device, Maker, Store};
-use vss_model::Event;
-use vss_names::OutOfMemory;
+use vss_model::{Event, Outcome};
+use vss_names::{OutOfMemory, Text};
+use vss_report::MOST_BYTES;
 use vss_world::{Reply, World};
-use writer_calls::Standing;
+use write_history::{Actor, Move};
+use writer_calls::{Standing, VssWriter};
 use writer_state::WriterRow;
 
 /// The most moves of a service.
 pub const MOST_MOVES: u32 = 2_097_151;
+
+/// Who makes an event.
+fn actor_of(event: Event) -> Actor
+    ensures { result ≡ actor_by event }
+{
+    match event {
+        Event::Line { lane, .. } => Actor::Lane(lane),
+        Event::Answer { writer, .. } => Actor::Writer(writer),
+        Event::Provider => Actor::Advance,
+        Event::Idle => Actor::Idle,
+    }
+}
 
 /// The core with its scenario, for callers who make the events and whose writers are their own. It writes no report.
 /// Contracts see the scenario, the core and how many moves it made.
@@ -28,6 +48,8 @@ pub struct Service<D: Device> {
     scenario: Scenario,
     world: World<D>,
     moves: u32,
+    /// What each writer of the caller's was given by `ask`.
+    given: Vec<Given>,
 }
 
 impl<D: Device> Model for Service<D> {
@@ -57,12 +79,14 @@ impl<D: Device> Service<D> {
         ensures rose { IsErrOf result PlayFault.Failed → Rose (M.count maker.old) (M.count maker.new) }
     {
         let _facts = scenario.lanes();
+        let given = none_given(alloc, scenario.writers())?;
         let groups = open_new(alloc, &scenario, store, maker)?;
         match World::new(alloc, &scenario, groups) {
             Ok(world) => Ok(Service {
                 scenario,
                 world,
                 moves: 0,
+                given,
             }),
             Err(_) => Err(PlayFault::OutOfMemory),
         }
@@ -108,6 +132,16 @@ impl<D: Device> Service<D> {
         self.world.rows(&self.scenario)
     }
 
+    /// Asks writers of the caller's own, which are in the order of their numbers. Tells each of the aborts that it was not told of, and gives the
+    /// first of them its open order, and then the next, until one answers. A writer is given an order once; none where no writer answers.
+    pub fn ask(&mut self, writers: &mut [Box<dyn VssWriter>]) -> Option<Event>
+        ensures same { self.new ≡ self.old }
+        ensures event { IfSome result (IsEvent self.old.plan) }
+    {
+        tell_aborts(self.world.rows(&self.scenario), &mut self.given, writers);
+        first_answer(&self.scenario, &self.world, &mut self.given, writers)
+    }
+
     /// The event of a line of a lane, counted from 0, with the line's number in the text; none where the lane has no such line.
     #[tactic(auto, using(crate::proofs::Serving::line_in))]
     pub fn line(&self, lane: u32, at: u32) -> Option<(Event, u32)>
@@ -141,6 +175,55 @@ impl<D: Device> Service<D> {
                 Ok(Reply::Moved(outcome))
             }
         }
+    }
+
+    /// Makes an event, as `step` does, and appends the lines that the report of a run has for such a move. `line` is the number of the
+    /// lane's line in the text, and is not used for another event. Where it makes no move, it appends nothing.
+    pub fn step_into(
+        &mut self,
+        alloc: Global,
+        event: Event,
+        line: u32,
+        out: &mut Text,
+    ) -> Result<Reply, StepFault>
+        requires { IsEvent self.old.plan event }
+        ensures same { OnErr result (self.new ≡ self.old) }
+        ensures untold { OnErr result (out.new.bytes ≡ out.old.bytes) }
+        ensures plan { self.new.plan ≡ self.old.plan }
+        ensures full { IsErrOf result StepFault.TrailFull → self.old.moves ≡ 2097151 }
+        ensures stepped { IfOk result (IsStepped D.told D.count self.old.world self.new.world self.old.plan event) }
+        ensures lines { IfOk result (λ reply. AreToldOf D.told self.new.plan self.new.world self.new.moves line event reply out.old.bytes out.new.bytes) }
+    {
+        if out.reserve(MOST_BYTES).is_err() {
+            return Err(StepFault::OutOfMemory);
+        }
+        let _kept = self.world();
+        let Reply::Moved(outcome) = self.step(alloc, event)? else {
+            return Ok(Reply::Blocked);
+        };
+        self.add_lines(event, line, &outcome, out);
+        Ok(Reply::Moved(outcome))
+    }
+
+    /// Appends the lines of the last move, for which there is room.
+    fn add_lines(&self, event: Event, line: u32, outcome: &Outcome, out: &mut Text)
+        requires numbers { AreInPlan self.now.plan (actor_by event) outcome.now self.now.world.evicted }
+        requires room { MOST_BYTES ≤ out.old.spare }
+        ensures { AreToldOf D.told self.now.plan self.now.world self.now.moves line event (Moved outcome.now) out.old.bytes out.new.bytes }
+    {
+        let item = Move {
+            actor: actor_of(event),
+            mark: mark_of(outcome.told),
+        };
+        write_lines(
+            &self.scenario,
+            &self.world,
+            self.moves,
+            line,
+            item,
+            outcome,
+            out,
+        );
     }
 
     /// The scenario and the core, as they are: from the core come the groups with their areas and devices, which can be synced and
