@@ -1,26 +1,17 @@
 #!/usr/bin/env bash
-# The service over streams and devices in memory: runs in a given order of moves have their reports; both volumes of a set are cut at one moment
-# in each of 126 orders; each call of the source, the sink and the devices that fails, alone or with all that follow, leads to a status
-# that it may have; and each first part of a text is read or refused at its last line.
+# The service over streams and devices in memory: both volumes of a set are cut at one moment in each of 126 orders; each call of the source,
+# the sink and the devices that fails, alone or with all that follow, leads to a status that it may have; and each first part of a text is read
+# or refused at its last line.
 . "$(dirname "${BASH_SOURCE[0]}")/prelude.sh" || exit 70
 trial="$(program service_trial)" || exit 1
-cd checks/trials || exit 70
+orders="$(program vss_orders)" || exit 1
 
 # ## a given order of moves
-
-rows=0
-while read -r name words; do
-  case "$name" in "" | "#"*) continue ;; esac
-  rows=$((rows + 1))
-  # the words are parted
-  # shellcheck disable=SC2086
-  "$trial" $words < "$name.scenario" 2>&1 | cmp -s - "$name.report" || wrong "$name: another report"
-done < rows
 
 # The letters of a set over two volumes with four writes at these places: each after so many of the other moves. Prints how many of
 # them come before the cut, whether one has to wait, and the letters. Writes 1 and 3 are of the first volume, which is held from move
 # 9 on; the others are of the second, held one move later; each for four moves.
-orders() {
+letters() {
   awk 'BEGIN {
     others = "aaaaapppppppppppaa"; split("0 9 10 11 14 15", places, " ")
     for (i = 1; i <= 6; i++) for (j = i; j <= 6; j++) for (k = j; k <= 6; k++) for (l = k; l <= 6; l++) {
@@ -40,6 +31,15 @@ orders() {
   }'
 }
 
+# Plays an order of letters: `a` makes the set and `b` the writes, `p` is the provider.
+plays() {
+  local at
+  for ((at = 0; at < ${#1}; at++)); do
+    case "${1:at:1}" in a) echo "lane r" ;; [bB]) echo "lane w" ;; p) echo provider ;; esac
+  done > "$room/order"
+  "$orders" order checks/trials/one_cut.scenario "$room/order" 2>&1
+}
+
 # what the images of both volumes have by the number of writes before the cut: blocks 0 and 1 of each
 zeros=c35020473aed1b4642cd726cad727b63fff2824ad68cedd7ffb73c7cbd890479
 ones=d8dad37662ab2d109722504101f1984d316ea6ab1bf239264f56258389f66f80
@@ -51,15 +51,14 @@ of_d=("$zeros" "$zeros" "$twos" "$twos" "$all_of_d")
 count=0
 while read -r before waits letters; do
   count=$((count + 1))
+  said="$(plays "$letters")"
   if [ "$waits" = 1 ]; then
-    # the run ends where the write waits: its lanes have lines left, which the closing does not mind
-    "$trial" moves "$letters" < one_cut.scenario > /dev/null 2>&1 || wrong "one cut: $letters"
+    [ "$said" = "orders: $room/order: line ${#letters}: this move may not come here: its actor has to wait" ] || wrong "one cut: $letters: $said"
   else
-    images="$("$trial" moves "$letters" < one_cut.scenario | grep '^image ')"
-    [ "$images" = "image 1 C ${of_c[before]}
-image 1 D ${of_d[before]}" ] || wrong "one cut: $letters: $images"
+    [ "$(grep '^image ' <<< "$said")" = "image 1 C ${of_c[before]}
+image 1 D ${of_d[before]}" ] || wrong "one cut: $letters: $said"
   fi
-done < <(orders)
+done < <(letters)
 [ "$count" = 126 ] || wrong "one cut: $count orders"
 
 # ## failing calls
@@ -126,4 +125,4 @@ for ((n = 0; n < size; n++)); do
   case "$said" in "$wanted"*) ;; *) wrong "the first $n bytes: \"$said\" and not \"$wanted\"" ;; esac
 done
 
-ends "$rows given orders, $count orders of one cut, ${statuses[*]} runs with failing calls, $size first parts"
+ends "$count orders of one cut, ${statuses[*]} runs with failing calls, $size first parts"

@@ -8,6 +8,7 @@ import tempfile
 TOP = os.path.dirname(os.path.dirname(os.path.dirname(os.path.realpath(__file__))))
 PROVED = f"{TOP}/crates/vss/out/vss"
 TRIAL = f"{TOP}/crates/service_trial/out/service_trial"
+ORDERS = f"{TOP}/crates/vss_orders/out/vss_orders"
 
 
 class Hung(Exception):
@@ -121,19 +122,13 @@ def lane_numbers(report):
     return None
 
 
-def letters_of(report, lanes, writers):
-    """Returns the letters of the moves of a report, or of its first lines, as service_trial takes them."""
-    letters = []
+def order_of(report):
+    """Returns the moves of a report, or of its first lines, as the order that vss_orders takes."""
+    order = []
     for line in report.split(b"\n")[1:]:
         words = line.split(b" ")
         if words[0] == b"end":
             break
-        if words[0] in (b"=", b""):
-            continue
-        if words[1] == b"lane":
-            letters.append("abcdefgh"[lanes.index(words[2])])
-        elif words[1] == b"writer":
-            letters.append("0123456789"[writers.index(words[2])])
-        else:
-            letters.append("p" if words[1] == b"provider" else "i")
-    return "".join(letters)
+        if words[0] not in (b"=", b""):
+            order.append(b" ".join(words[1:3] if words[1] in (b"lane", b"writer") else words[1:2]))
+    return b"".join(move + b"\n" for move in order)

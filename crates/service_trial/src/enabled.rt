@@ -11,15 +11,18 @@ pub struct Enabled {
 }
 
 /// A letter where it may come, else a dot.
-fn letter(may_come: bool, letter: &'static str) -> &'static str {
-    if may_come { letter } else { "." }
+fn letter(may_come: bool, letter: char) -> char {
+    if may_come { letter } else { '.' }
 }
 
 impl fmt::Display for Enabled {
     fn fmt<W: fmt::Write>(&self, f: &mut fmt::Formatter<W>) -> fmt::Result {
-        f.write_str(letter(self.lane, "l"))?;
-        f.write_str(letter(self.provider, "p"))?;
-        f.write_str(letter(self.idle, "i"))?;
-        write!(f, "{}", self.writers)
+        let (lane, provider) = (letter(self.lane, 'l'), letter(self.provider, 'p'));
+        write!(
+            f,
+            "{lane}{provider}{}{}",
+            letter(self.idle, 'i'),
+            self.writers
+        )
     }
 }

@@ -4,11 +4,8 @@ ghost use Rattle.std.specs.Prelude.{◌≡◌, ◌<◌, vec_len};
 ghost use Rattle.std.specs.List.{All};
 ghost use Rattle.turn_cell.specs.Callers.{Calls};
 
-use crate::came::Came;
 use crate::counting_gate::CountingGate;
-use crate::letters::actor_of;
 use crate::trial_error::TrialError;
-use std::alloc::Global;
 use std::sync::Wait;
 use turn_cell::{Caller, Turn};
 use volume_device::Device;
@@ -16,14 +13,14 @@ use vss_names::OutOfMemory;
 use vss_play::{Play, take_turns};
 use write_history::Actor;
 
-/// The seat of an actor: those of the lanes come first, then those of the writers, and the last one is the provider's.
-fn seat_of(actor: Actor, lanes: u32, last: u32) -> Option<u32> {
-    match actor {
-        Actor::Lane(lane) if lane < lanes => Some(lane),
-        Actor::Writer(writer) if lanes.saturating_add(writer) < last => {
-            Some(lanes.saturating_add(writer))
+/// The actor of a letter, and its seat: those of the lanes come first, then those of the writers, and the last one is the provider's.
+fn seated(letter: u8, lanes: u32, last: u32) -> Option<(Actor, u32)> {
+    match letter {
+        b'a'..=b'h' if ((letter - b'a') as u32) < lanes => {
+            let lane = (letter - b'a') as u32;
+            Some((Actor::Lane(lane), lane))
         }
-        Actor::Advance => Some(last),
+        b'p' => Some((Actor::Advance, last)),
         _ => None,
     }
 }
@@ -74,10 +71,7 @@ fn one_comes<R: Wait, D: Device>(
     ensures many { vec_len callers.new ≡ vec_len callers.old }
 {
     let (lanes, last) = seats;
-    let Some(actor) = actor_of(letter) else {
-        return Err(TrialError::Words);
-    };
-    let Some(seat) = seat_of(actor, lanes, last) else {
+    let Some((actor, seat)) = seated(letter, lanes, last) else {
         return Err(TrialError::Words);
     };
     if (seat as usize) < callers.len() {
@@ -86,22 +80,23 @@ fn one_comes<R: Wait, D: Device>(
     Err(TrialError::Words)
 }
 
-/// The actors of the letters come to the turn, one after another.
+/// The actors of the letters come to the turn, one after another. Writes how many entries the turn has as each leaves.
 fn come_all<R: Wait, D: Device>(
-    rt: &R,
+    rt: &HostRuntime,
+    threads: &R,
     turn: &Turn<Play<D>>,
     callers: &mut Vec<Caller<Play<D>>>,
     seats: (u32, u32),
     letters: &[u8],
-    came: &mut Came,
+    gate: &CountingGate,
 ) -> Result<(), TrialError>
     requires { All (λ caller. Calls caller turn.now) callers.old.items }
     ensures own { All (λ caller. Calls caller turn.now) callers.new.items }
     ensures many { vec_len callers.new ≡ vec_len callers.old }
 {
     for letter in letters {
-        let front = one_comes(rt, turn, callers, seats, *letter, &came.gate)?;
-        came.fronts.push(front)?;
+        let front = one_comes(threads, turn, callers, seats, *letter, gate)?;
+        println!(rt; "front {front}")?;
     }
     Ok(())
 }
@@ -117,15 +112,23 @@ fn where_all_came<D: Device>(
 
 /// The actors of the letters come to a turn over a run. The run as they left it.
 pub fn share_turn<R: Wait, D: Device>(
-    rt: &R,
-    alloc: Global,
+    rt: &HostRuntime,
+    threads: &R,
     play: Play<D>,
     letters: &[u8],
-    came: &mut Came,
+    gate: &CountingGate,
 ) -> Result<Play<D>, TrialError> {
     let lanes = play.lanes();
     let last = lanes + play.writers();
-    let (turn, mut callers) = Turn::new(alloc, play, last + 1)?;
-    let ended = come_all(rt, &turn, &mut callers, (lanes, last), letters, came);
+    let (turn, mut callers) = Turn::new(rt.alloc(), play, last + 1)?;
+    let ended = come_all(
+        rt,
+        threads,
+        &turn,
+        &mut callers,
+        (lanes, last),
+        letters,
+        gate,
+    );
     where_all_came(turn.close(callers), ended)
 }

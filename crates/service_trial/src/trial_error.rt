@@ -15,8 +15,6 @@ pub enum TrialError {
     Scenario,
     /// A device was refused, or failed outside the moves.
     Device,
-    /// A move, counted from 1, was not made, or was made where it had to wait.
-    Untold(u32),
     /// A move of the core was not made where it might come, or was made where it might not, or too many were.
     Move,
     OutOfMemory,
@@ -29,7 +27,6 @@ impl fmt::Display for TrialError {
             TrialError::Streams => f.write_str("the input or the output failed"),
             TrialError::Scenario => f.write_str("no scenario"),
             TrialError::Device => f.write_str("device fault"),
-            TrialError::Untold(number) => write!(f, "move {number} is not as it is told"),
             TrialError::Move => f.write_str("a move is not as it may come"),
             TrialError::OutOfMemory => f.write_str("out of memory"),
         }
