@@ -10,7 +10,6 @@
 
 mod acting;
 mod actor_loop;
-mod asking;
 mod closing;
 mod devices;
 mod digests;
