@@ -1,5 +1,6 @@
 use crate::bar_kind::BarKind;
 use crate::ending::Ending;
+use crate::row_bars::MOST_TRACKS;
 
 /// What lasts from one move to another within a band, or is noted at a move. Places from left to right are in pixels.
 #[derive(Clone, Copy)]
@@ -61,8 +62,12 @@ impl Bar<'_> {
             .saturating_add(LETTER)
     }
 
-    /// Whether what is written in it is left out: it has no room, and the image that goes on behind it has the same words.
+    /// Whether what is written in it is left out: it shares its place with others, since too many last at once; or it has no room, and
+    /// the image that goes on behind it has the same words.
     pub fn is_mute(&self) -> bool {
+        if MOST_TRACKS <= self.track {
+            return self.kind != BarKind::More;
+        }
         self.kind == BarKind::Making
             && matches!(self.ending, Ending::Done)
             && self.to < self.end_of_name()
