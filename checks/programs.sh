@@ -140,4 +140,10 @@ chmod +x "$room/terminal/rt"
 PATH="$room/terminal:$PATH" python3 -c 'import pty, sys; pty.spawn(sys.argv[1:])' "$top/tools/fast-build" --slow vss "$room/terminal/vss" \
   < /dev/null > "$room/out" 2>&1
 grep -qE "vss: [0-9]+ seconds so far" "$room/out" || wrong "on a terminal it is said of a build: $(cat "$room/out")"
+
+# another line of the kit is named before it proves anything
+printf '#!/bin/sh\necho "rattle-kit-0 logic 0"\n' > "$room/terminal/rt"
+PATH="$room/terminal:$PATH" "$top/prove" no_such_crate < /dev/null > "$room/out" 2> "$room/err"
+[ "$?" = 64 ] && grep -q "this is rattle-kit-0; these sources were proved with rattle-kit-13b and rattle-kit-13f alone" "$room/err" ||
+  wrong "./prove by another line of the kit: $(cat "$room/err")"
 ends "a program is called proved of its own sources alone, is built once, and what is missing is named"
