@@ -100,9 +100,9 @@ def commands(page, text):
 
 
 def samples():
-    """Each line of code of docs/LIBRARY.md on devices, but for the comment behind it, is one of the example, which is compiled and proved."""
-    code = {line.strip() for path in glob.glob("crates/example_device/src/*.rt") for line in text_of(path).splitlines()}
-    for line in re.findall(r"^ {4}(.*)$", text_of("docs/LIBRARY.md").split("## Your own writers")[0], re.M):
+    """Each line of code of docs/LIBRARY.md, but for the comment behind it, is one of the examples, which are compiled and proved."""
+    code = {line.strip() for path in glob.glob("crates/example_*/src/*.rt") for line in text_of(path).splitlines()}
+    for line in re.findall(r"^ {4}(.*)$", text_of("docs/LIBRARY.md"), re.M):
         shown = re.sub(r" +// .*$", "", line).strip()
         if shown not in code:
             wrong.append(f"docs/LIBRARY.md: no example has the line `{shown}`")

@@ -1,97 +1,91 @@
-//! Your own writers: the service in memory, with two writers that this crate makes. A backup is tried three times: the first
-//! writer vetoes its first freeze, the second hangs in its second, and the third try completes. `stdout` has what it prints.
+//! Your own writers: the service in memory, with a writer of this crate's own type and a ready one. A backup is tried three times: the
+//! first writer vetoes its first freeze, the second hangs in its second, and the third try completes. `stdout` has the report.
 #![tactic(auto)]
 
-mod driving;
-mod ledger;
-mod mail;
-mod seat;
+ghost use Rattle.vss_world.specs.Moves.{IsEvent};
 
-use driving::back_up;
+mod ledger;
+
+use io_edge::{OutSink, write_all};
 use ledger::Ledger;
-use mail::Mail;
 use scenario::{Op, Scenario, ScenarioBuilder};
-use seat::Seat;
 use std::alloc::Global;
-use std::process::ExitCode;
 use volume_device::{MemDevice, MemMaker, Store};
+use vss_model::Event;
+use vss_names::{Order, Text};
 use vss_play::Service;
+use writer_calls::{Scripted, ScriptedWriter, VssWriter};
 use writer_meta::Metadata;
 
-/// The documents that the writers show of themselves.
-const LEDGER: &[u8] =
-    b"{\"class\":\"11111111-1111-4111-8111-111111111111\",\"components\":[{\"name\":\"main\",\"selectable\":true,\"type\":1}],\"level\":2,\"name\":\"Ledger\",\"source\":1,\"usage\":3}";
+/// The document that each writer shows of itself.
+const DOCUMENT: &[u8] =
+    b"{\"class\":\"11111111-1111-4111-8111-111111111111\",\"components\":[{\"name\":\"main\",\"selectable\":true,\"type\":1}],\"level\":2,\"name\":\"App\",\"source\":1,\"usage\":3}";
 
-const MAIL: &[u8] =
-    b"{\"class\":\"22222222-2222-4222-8222-222222222222\",\"components\":[{\"name\":\"main\",\"selectable\":true,\"type\":1}],\"level\":2,\"name\":\"Mail\",\"source\":1,\"usage\":3}";
-
-/// The lines of a backup of all writers.
-const BACKUP: [Op; 10] = [
-    Op::Begin {
+/// One volume, two writers, and a lane that tries three times to back up all of them.
+fn scenario_of(alloc: Global) -> anyhow::Result<Scenario> {
+    let begin = Op::Begin {
         context: 9,
         all: true,
-    },
-    Op::Gather,
-    Op::Await,
-    Op::Start,
-    Op::Add { volume: 0 },
-    Op::Prepare,
-    Op::Await,
-    Op::Snapshot,
-    Op::Await,
-    Op::End,
-];
-
-/// One volume, two writers, and a lane with the lines of a backup.
-fn scenario_of(alloc: Global) -> Option<Scenario> {
-    let Ok(ledger) = Metadata::from_json(alloc, LEDGER) else {
-        return None;
-    };
-    let Ok(mail) = Metadata::from_json(alloc, MAIL) else {
-        return None;
     };
     let mut builder = ScenarioBuilder::new(alloc)
-        .volume(alloc, b"C", 4, 4)
-        .ok()?
-        .writer(alloc, b"ledger", ledger)
-        .ok()?
-        .writer(alloc, b"mail", mail)
-        .ok()?
-        .lane(alloc, b"backup", None)
-        .ok()?;
-    for op in BACKUP {
-        builder = builder.line(alloc, op).ok()?;
+        .volume(alloc, b"C", 4, 4)?
+        .writer(alloc, b"ledger", Metadata::from_json(alloc, DOCUMENT)?)?
+        .writer(alloc, b"mail", Metadata::from_json(alloc, DOCUMENT)?)?
+        .lane(alloc, b"backup", None)?;
+    for _try in 0..3 {
+        builder = builder.line(alloc, begin)?;
+        for op in [Op::Gather, Op::Await, Op::Start, Op::Add { volume: 0 }] {
+            builder = builder.line(alloc, op)?;
+        }
+        for op in [Op::Prepare, Op::Await, Op::Snapshot, Op::Await, Op::End] {
+            builder = builder.line(alloc, op)?;
+        }
     }
-    builder.finish(alloc).ok()
+    Ok(builder.finish(alloc)?)
 }
 
-/// Tries the backup three times.
-fn try_all(rt: &HostRuntime, service: &mut Service<MemDevice>, seats: &mut [Seat]) -> Option<()> {
-    for number in 1..4 {
-        println!(rt; "try {number}").ok()?;
-        back_up(rt, service, seats)?;
+/// What comes if the lane has to wait: a writer's answer, else the provider's step, else time goes by.
+fn next<W: VssWriter>(service: &mut Service<MemDevice>, writers: &mut [W]) -> Event
+    ensures { IsEvent service.new.plan result }
+{
+    match service.ask(writers) {
+        Some(answer) => answer,
+        None if service.may(Event::Provider) => Event::Provider,
+        None => Event::Idle,
     }
-    Some(())
 }
 
-/// The service of the scenario, over devices in memory.
-fn service_of(alloc: Global) -> Option<Service<MemDevice>> {
+/// Makes all lines of the lane, each as soon as it may come, and writes the report of all moves.
+fn back_up<W: VssWriter>(
+    rt: &HostRuntime,
+    service: &mut Service<MemDevice>,
+    writers: &mut [W],
+) -> anyhow::Result<()> {
+    let mut report = Text::new(rt.alloc());
+    let mut at = 0;
+    for _move in 0..1_000 {
+        let Some((line, number)) = service.line(0, at) else {
+            return Ok(write_all(&mut OutSink::new(rt.stdout()), report.bytes())?);
+        };
+        let goes = service.may(line);
+        let event = if goes { line } else { next(service, writers) };
+        let _moved = service.step_into(rt.alloc(), event, number, &mut report)?;
+        at = at.saturating_add(u32::from(goes));
+    }
+    anyhow::bail!("the backup does not end")
+}
+
+fn main(rt: HostRuntime) -> anyhow::Result<()> {
+    let alloc = rt.alloc();
+    let hangs = Scripted {
+        order: Order::Freeze,
+        nth: 2,
+        answer: None,
+    };
+    let ledger: Box<dyn VssWriter> = Box::new(alloc, Ledger { aborts: 0 })?;
+    let mail: Box<dyn VssWriter> = Box::new(alloc, ScriptedWriter::new(vec![in alloc; hangs]?))?;
     let scenario = scenario_of(alloc)?;
     let mut maker = MemMaker::new(alloc, Vec::new(alloc));
-    Service::new(alloc, scenario, &Store::Memory, &mut maker).ok()
-}
-
-/// Makes the two writers and the service, and has them try.
-fn run(rt: &HostRuntime) -> Option<()> {
-    let ledger = Box::new(rt.alloc(), Ledger { aborts: 0 }).ok()?;
-    let mail = Box::new(rt.alloc(), Mail { aborts: 0 }).ok()?;
-    let mut service = service_of(rt.alloc())?;
-    try_all(rt, &mut service, &mut [Seat::of(ledger), Seat::of(mail)])
-}
-
-fn main(rt: HostRuntime) -> ExitCode {
-    match run(&rt) {
-        Some(()) => ExitCode::SUCCESS,
-        None => ExitCode::FAILURE,
-    }
+    let mut service = Service::new(alloc, scenario, &Store::Memory, &mut maker)?;
+    back_up(&rt, &mut service, &mut [ledger, mail])
 }

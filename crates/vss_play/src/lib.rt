@@ -10,6 +10,7 @@
 
 mod acting;
 mod actor_loop;
+mod asking;
 mod closing;
 mod devices;
 mod digests;

@@ -9,6 +9,7 @@ ghost use Rattle.vss_report.specs.declared.lines.TheConstants.{MOST_BYTES};
 ghost use Rattle.vss_play.specs.Running.{AreInPlan};
 ghost use Rattle.vss_play.specs.Serving.{AreToldOf, actor_by};
 
+use crate::asking::{Given, first_answer, none_given, tell_aborts};
 use crate::new_groups::open_new;
 use crate::play_fault::PlayFault;
 use crate::step_fault::StepFault;
@@ -22,7 +23,7 @@ use vss_names::{OutOfMemory, Text};
 use vss_report::MOST_BYTES;
 use vss_world::{Reply, World};
 use write_history::{Actor, Move};
-use writer_calls::Standing;
+use writer_calls::{Standing, VssWriter};
 use writer_state::WriterRow;
 
 /// The most moves of a service.
@@ -47,6 +48,8 @@ pub struct Service<D: Device> {
     scenario: Scenario,
     world: World<D>,
     moves: u32,
+    /// What each writer of the caller's was given by `ask`.
+    given: Vec<Given>,
 }
 
 impl<D: Device> Model for Service<D> {
@@ -76,12 +79,14 @@ impl<D: Device> Service<D> {
         ensures rose { IsErrOf result PlayFault.Failed → Rose (M.count maker.old) (M.count maker.new) }
     {
         let _facts = scenario.lanes();
+        let given = none_given(alloc, scenario.writers())?;
         let groups = open_new(alloc, &scenario, store, maker)?;
         match World::new(alloc, &scenario, groups) {
             Ok(world) => Ok(Service {
                 scenario,
                 world,
                 moves: 0,
+                given,
             }),
             Err(_) => Err(PlayFault::OutOfMemory),
         }
@@ -125,6 +130,17 @@ impl<D: Device> Service<D> {
         ensures rows { IfStands D.told self.now.world self.now.plan (λ st. result.now ≡ st.course.rows) }
     {
         self.world.rows(&self.scenario)
+    }
+
+    /// Asks writers of the caller's own, of one type (`Box<dyn VssWriter>` is one) and in the order of their numbers. Tells each of the aborts
+    /// that it was not told of, and gives the first of them its open order, and then the next, until one answers. A writer is given an order
+    /// once; none where no writer answers.
+    pub fn ask<W: VssWriter>(&mut self, writers: &mut [W]) -> Option<Event>
+        ensures same { self.new ≡ self.old }
+        ensures event { IfSome result (IsEvent self.old.plan) }
+    {
+        tell_aborts(self.world.rows(&self.scenario), &mut self.given, writers);
+        first_answer(&self.scenario, &self.world, &mut self.given, writers)
     }
 
     /// The event of a line of a lane, counted from 0, with the line's number in the text; none where the lane has no such line.

@@ -5,11 +5,12 @@
 //! order's number is one more than that of the order before, that its nth counts the orders of its kind alone, and
 //! that an answer is taken exactly where it names the open order. No call after `new` takes memory.
 //!
-//! `VssWriter` is a writer of one's own, and `ScriptedWriter` one that answers by a script, seen as its rows and the
+//! `VssWriter` is a writer of one's own, in a box too, and `ScriptedWriter` one that answers by a script, seen as its rows and the
 //! number of aborts that it was told of. It answers what the definition of a script says.
 #![tactic(auto)]
 
 mod answer;
+mod boxed_writer;
 mod mailbox;
 mod mailboxes;
 mod order_counts;
