@@ -1,170 +1,274 @@
--- What follows from a step of the course.
-use Rattle.std.proofs.Common.{◌≡◌, List, refl, ap, sym, ◌∙◌, subst, Bool, true, false, Option, Some, None, map}
-use Rattle.std.specs.Prelude.{◌&&◌, ◌||◌, not, is_some, find, option_map}
+-- What follows from a step of the course: an agenda ends, or the set in progress fails.
+use Rattle.std.proofs.Common.{◌≡◌, ℕ, ◌+◌, ◌<◌, ◌==◌, List, [], ◌∷◌, refl, ap, sym, ◌∙◌, subst, arith, Bool, true, false, Option, Some, None, map}
+use Rattle.std.specs.Prelude.{All, ◌&&◌, ◌||◌, not, is_some, find, option_map, if◌then◌else◌}
+use Rattle.std.proofs.lemmas.Bool.{and_left, and_right, cond-false, cond-true, eq-eqb}
 use Rattle.std.proofs.lemmas.List.{length-map}
+use Rattle.vss_names.specs.declared.order.Order.{Order}
 use Rattle.vss_names.specs.declared.vss_result.VssResult.{VssResult}
 use Rattle.vss_names.specs.declared.set_outcome.SetOutcome.{SetOutcome}
 use Rattle.vss_names.specs.declared.set_outcome.SetOutcome.TheVariants.{Running, Complete, Failed}
+use Rattle.write_history.specs.History.{History}
 use Rattle.set_agenda.specs.Agenda.{Agenda}
+use Rattle.set_agenda.specs.WriterSet.{writers, writers_of}
 use Rattle.set_agenda.specs.Course.{Course, failed as course_failed}
-use Rattle.requestor.specs.Session.{Session, agenda_ended, set_failed}
-use Rattle.requestor.specs.Requestor.{ended}
-use Rattle.coordinator.specs.Effects.{outcome_told}
+use Rattle.requestor.specs.Session.{Session}
+use Rattle.requestor.specs.Requestor.{after_agenda, ended}
+use Rattle.coordinator.specs.declared.effects.Effects.{Effects}
+use Rattle.coordinator.specs.Coordinator.{CoordinatorState, KeepsWriters, Stands, IsOnTime, failed_if_running, writer_count}
+use Rattle.coordinator.specs.Effects.{Tells, outcome_told}
+use Rattle.vss_model.specs.declared.told.Told.{Told}
+use Rattle.vss_model.specs.declared.told.Told.TheVariants as told
 use Rattle.vss_model.specs.State.{State, SetRow, is_running, in_progress}
-use Rattle.vss_model.specs.Ending.{Ending, AgendaEnds, NothingEnds, SetFails, ending, row_settled, followed, concluded, failed_in}
-use Rattle.vss_model.specs.Facts.{IsOfSession, has_failed}
+use Rattle.vss_model.specs.Effects.{ended_of}
+use Rattle.vss_model.specs.Outcome.{EndsAs}
+use Rattle.vss_model.specs.Ending.{Ending, AgendaEnds, NothingEnds, SetFails, ending, row_settled, followed, concluded, failed_in, images_dropped}
+use Rattle.vss_model.specs.Facts.{IsOfSession, NumberedFrom, OverButNewest, has_failed}
+use Rattle.vss_model.proofs.OneCut.{newest_number}
+use Rattle.vss_model.proofs.Rows.{found_above}
+use Rattle.sessions.specs.declared.ended.Ended.{Ended}
+use Rattle.sessions.specs.declared.session_move.SessionMove.{SessionMove}
 use Rattle.sessions.specs.Sets.{bare, current_of}
 use Rattle.sessions.specs.Keeps.{SessionsValue, Keeps, IsInOrder}
-use Rattle.sessions.specs.Concluded.{IsConcluded, ended_so}
-use Rattle.sessions.proofs.Newest.{changed_none, current_bare, settled_bare}
+use Rattle.sessions.specs.Concluded.{ended_so, ends_as, failed_set, nothing_ends, told_alone, told_of, without_images}
+use Rattle.sessions.specs.Moves.{CameTo, Concludes, HasCome}
+use Rattle.sessions.proofs.Newest.{apart, changed_none, current_bare, head_found, rest_found, settled_bare, unchanged}
+use Rattle.sessions.proofs.Keeping.{keeps_course, keeps_rows}
+use Rattle.sessions.proofs.Disabled.{disabled_failed}
+
+pub nobody : writers_of 0 ≡ []
+unfolding writers
+nobody = refl
 
 -- ## rows
 
 pub current_kept : (x : SessionsValue) (st : State) → Keeps x st → current_of x.sets ≡ current_of st.sets
 current_kept x st kept = ap current_of kept.sets ∙ current_bare st.sets
 
--- ## the end of an agenda
-
 -- a set is in progress only where the course's outcome is Running
-pub over_stage : (q : Option Session) (o : SetOutcome) (found : Option SetRow) → is_running o ≡ false → IsOfSession q o found → found ≡ None
+over_stage : (q : Option Session) (o : SetOutcome) (found : Option SetRow) → is_running o ≡ false → IsOfSession q o found → found ≡ None
 over_stage None o None e h = refl
 over_stage None o (Some r) e h = absurd h
 over_stage (Some q) o None e h = refl
 over_stage (Some q) o (Some r) e h = let is : o ≡ Running = h.2 in cc
 
-pub rows_as_told : (before after : SetOutcome) (rows : List SetRow) → (is_running before ≡ false → find (λ r. is_running r.result) rows ≡ None) → map (row_settled (outcome_told before after)) rows ≡ map (row_settled after) rows
+rows_as_told : (before after : SetOutcome) (rows : List SetRow) → (is_running before ≡ false → find (λ r. is_running r.result) rows ≡ None)
+    → map (row_settled (outcome_told before after)) rows ≡ map (row_settled after) rows
 rows_as_told Running after rows h = refl
-rows_as_told Complete after rows h = changed_none (λ (r : SetRow). record r { result = Running }) rows (h refl) ∙ sym (changed_none (λ (r : SetRow). record r { result = after }) rows (h refl))
-rows_as_told (Failed why) after rows h = changed_none (λ (r : SetRow). record r { result = Running }) rows (h refl) ∙ sym (changed_none (λ (r : SetRow). record r { result = after }) rows (h refl))
+rows_as_told _ after rows h = changed_none (λ (r : SetRow). record r { result = Running }) rows (h refl) ∙ sym (changed_none (λ (r : SetRow). record r { result = after }) rows (h refl))
 
-pub end_if : Bool → Option Agenda → Ending
-end_if true None = AgendaEnds
-end_if true (Some a) = NothingEnds
-end_if false a = NothingEnds
+-- ## the row of the set that ends
 
-pub ending_other : (before after : SetOutcome) (ran : Bool) (a : Option Agenda) → has_failed (outcome_told before after) ≡ false → ending before after ran a ≡ end_if ran a
-unfolding end_if
-ending_other Running Running true None e = refl
-ending_other Running Running true (Some a) e = refl
-ending_other Running Running false a e = refl
-ending_other Running Complete true None e = refl
-ending_other Running Complete true (Some a) e = refl
-ending_other Running Complete false a e = refl
-ending_other Running (Failed why) ran a e = cc
-ending_other Complete after true None e = refl
-ending_other Complete after true (Some a) e = refl
-ending_other Complete after false a e = refl
-ending_other (Failed why) after true None e = refl
-ending_other (Failed why) after true (Some a) e = refl
-ending_other (Failed why) after false a e = refl
+abbrev pub is_over_row : ℕ → SetRow → Bool
+is_over_row n q = (q.number == n) && not (is_running q.result)
 
-pub record Fails (before after : SetOutcome) (ran : Bool) (a : Option Agenda) : Type 0 where
-  pub why : VssResult
-  pub is_told : outcome_told before after ≡ Failed why
-  pub is_after : after ≡ Failed why
-  pub is_ending : ending before after ran a ≡ SetFails why
+settled_now : (o : SetOutcome) (r : SetRow) → is_running r.result ≡ true → row_settled o r ≡ record r { result = o }
+settled_now o r e = cond-true (is_running r.result) _ _ e
 
-pub fails : (before after : SetOutcome) (ran : Bool) (a : Option Agenda) → has_failed (outcome_told before after) ≡ true → Fails before after ran a
-fails Running Running ran a e = cc
-fails Running Complete ran a e = cc
-fails Running (Failed why) ran a e = record { why = why; is_told = refl; is_after = refl; is_ending = refl }
-fails Complete after ran a e = cc
-fails (Failed why) after ran a e = cc
+ended_row : (o : SetOutcome) → is_running o ≡ false → (m : ℕ) (rows : List SetRow) (r : SetRow) → NumberedFrom m rows → OverButNewest rows → find (λ q. is_running q.result) rows ≡ Some r
+    → find (is_over_row r.number) (map (row_settled o) rows) ≡ Some (record r { result = o })
+ended_row o over m [] r n h e = cc
+ended_row o over m (q ∷ []) r n h e =
+    let f = head_found (is_running q.result) q r refl e in
+    let is : row_settled o q ≡ record r { result = o } = settled_now o q f.running ∙ ap (λ (x : SetRow). record x { result = o }) f.same in
+    ap (λ (x : SetRow). if is_over_row r.number x then Some x else None) is
+    ∙ cond-true (is_over_row r.number (record r { result = o })) _ _ (ap (λ (t : Bool). t && not (is_running o)) (eq-eqb r.number r.number refl) ∙ ap not over)
+ended_row o over m (q ∷ p ∷ rows) r n h e =
+    let rest = rest_found (is_running q.result) q r (find (λ x. is_running x.result) (p ∷ rows)) h.0 e in
+    let number = newest_number (m + 1) (p ∷ rows) r n.1 h.1 rest in
+    let less : q.number < r.number = let first = n.0 in omega (arith, first, number) in
+    ap (λ (x : SetRow). if is_over_row r.number x then Some x else find (is_over_row r.number) (map (row_settled o) (p ∷ rows))) (unchanged (λ (x : SetRow). record x { result = o }) q h.0)
+    ∙ cond-false (is_over_row r.number q) _ _ (and_left (q.number == r.number) _ (apart q.number r.number less)) ∙ ended_row o over (m + 1) (p ∷ rows) r n.1 h.1 rest
 
-pub ends_if : (ran : Bool) (a : Option Agenda) → (ran && not (is_some a)) ≡ true → end_if ran a ≡ AgendaEnds
-unfolding end_if
-ends_if true None e = refl
-ends_if true (Some a) e = cc
-ends_if false a e = cc
+-- none has ended that is in progress
+none_ended : (m : ℕ) (rows : List SetRow) (r : SetRow) → NumberedFrom m rows → OverButNewest rows → find (λ q. is_running q.result) rows ≡ Some r → find (is_over_row r.number) rows ≡ None
+none_ended m [] r n h e = cc
+none_ended m (q ∷ []) r n h e =
+    let f = head_found (is_running q.result) q r refl e in
+    cond-false (is_over_row r.number q) _ _ (and_right (q.number == r.number) _ (ap not f.running))
+none_ended m (q ∷ p ∷ rows) r n h e =
+    let rest = rest_found (is_running q.result) q r (find (λ x. is_running x.result) (p ∷ rows)) h.0 e in
+    let number = newest_number (m + 1) (p ∷ rows) r n.1 h.1 rest in
+    let less : q.number < r.number = let first = n.0 in omega (arith, first, number) in
+    cond-false (is_over_row r.number q) _ _ (and_left (q.number == r.number) _ (apart q.number r.number less)) ∙ none_ended (m + 1) (p ∷ rows) r n.1 h.1 rest
 
-pub goes_if : (ran : Bool) (a : Option Agenda) → (ran && not (is_some a)) ≡ false → end_if ran a ≡ NothingEnds
-unfolding end_if
-goes_if true None e = cc
-goes_if true (Some a) e = refl
-goes_if false a e = refl
+-- ## which set ends
 
-session_ended : (o : SetOutcome) (q : Option Session) → has_failed o ≡ false → option_map (ended o) q ≡ option_map agenda_ended q
-session_ended Running q e = refl
-session_ended Complete q e = refl
-session_ended (Failed why) q e = cc
+result_is : (o : SetOutcome) → is_running o ≡ true → o ≡ Running
+result_is Running e = refl
+result_is _ e = cc
 
-pub either : (a b : Bool) → (a || b) ≡ true → a ≡ false → b ≡ true
-either true b e f = cc
-either false b e f = e
+same_if : (b : Bool) (r : SetRow) → is_running r.result ≡ b → row_settled Running r ≡ r
+same_if true r e = settled_now Running r e ∙ ap (λ (o : SetOutcome). record r { result = o }) (sym (result_is r.result e))
+same_if false r e = unchanged (λ (x : SetRow). record x { result = Running }) r e
 
-pub neither : (a b : Bool) → (a || b) ≡ false → (a ≡ false) × (b ≡ false)
-neither true b e = absurd cc
-neither false b e = (refl, e)
+settled_same : (rows : List SetRow) → map (row_settled Running) rows ≡ rows
+settled_same [] = refl
+settled_same (r ∷ rows) = ap (λ (x : SetRow). x ∷ map (row_settled Running) rows) (same_if (is_running r.result) r refl) ∙ ap (λ (xs : List SetRow). r ∷ xs) (settled_same rows)
 
-module _ (old : SessionsValue) (st : State) (c : Course) (ran : Bool) (order : IsInOrder st) (kept : Keeps old (record st { course = c })) where
-  keeps_failed : (why : VssResult) → c.outcome ≡ Failed why → Keeps (ended_so (Failed why) old) (concluded (SetFails why) (record st { course = c }))
-  keeps_failed why e = record {
-    session = ap (option_map (set_failed why)) kept.session;
-    made = kept.made ∙ sym (length-map st.sets (row_settled c.outcome));
-    course = kept.course;
-    sets = ap (map (row_settled (Failed why))) kept.sets ∙ settled_bare (Failed why) st.sets ∙ ap (λ (o : SetOutcome). map bare (map (row_settled o) st.sets)) (sym e);
-    clock = kept.clock;
-    explicit = kept.explicit;
-    over = kept.over;
-    on_time = kept.on_time;
-    disabled = kept.disabled;
+above_zero : (rows : List SetRow) (r : SetRow) → NumberedFrom 1 rows → find (λ q. is_running q.result) rows ≡ Some r → 0 < r.number
+above_zero rows r n e = let l = found_above 1 rows r n e in omega (arith, l)
+
+ends_after : (rows : List SetRow) (found : Option SetRow) (o : SetOutcome) → NumberedFrom 1 rows → OverButNewest rows → find (λ q. is_running q.result) rows ≡ found
+    → EndsAs (ended_of found (map (row_settled o) rows)) (ends_as (option_map (λ (r : SetRow). r.number) found) o).set (ends_as (option_map (λ (r : SetRow). r.number) found) o).result
+ends_after rows None o n h e = refl
+ends_after rows (Some r) Running n h e = subst (λ (x : Option SetRow). EndsAs x 0 Running) (sym (ap (find (is_over_row r.number)) (settled_same rows) ∙ none_ended 1 rows r n h e)) refl
+ends_after rows (Some r) Complete n h e = subst (λ (x : Option SetRow). EndsAs x r.number Complete) (sym (ended_row Complete refl 1 rows r n h e)) (refl, refl, above_zero rows r n e)
+ends_after rows (Some r) (Failed why) n h e = subst (λ (x : Option SetRow). EndsAs x r.number (Failed why)) (sym (ended_row (Failed why) refl 1 rows r n h e)) (refl, refl, above_zero rows r n e)
+
+pub no_end : (st : State) → IsInOrder st → EndsAs (ended_of (in_progress st) st.sets) 0 Running
+no_end st order = by_found (in_progress st) refl
+  where
+    by_found : (found : Option SetRow) → in_progress st ≡ found → EndsAs (ended_of found st.sets) 0 Running
+    by_found None e = refl
+    by_found (Some r) e = subst (λ (x : Option SetRow). EndsAs x 0 Running) (sym (none_ended 1 st.sets r order.numbered order.newest e)) refl
+
+-- ## whose images go
+
+-- the images of what ends go, where it failed
+abbrev volumes_after : Ended → List History → List History
+volumes_after e hs = without_images (failed_set e.result e.set) hs
+
+volumes_failed : (found : Option SetRow) (why : VssResult) (hs : List History) → images_dropped found hs ≡ volumes_after (ends_as (option_map (λ (r : SetRow). r.number) found) (Failed why)) hs
+volumes_failed None why hs = refl
+volumes_failed (Some r) why hs = refl
+
+volumes_kept : (found : Option SetRow) (o : SetOutcome) (hs : List History) → has_failed o ≡ false → hs ≡ volumes_after (ends_as (option_map (λ (r : SetRow). r.number) found) o) hs
+volumes_kept None o hs e = refl
+volumes_kept (Some r) (Failed why) hs e = cc
+volumes_kept (Some r) _ hs e = refl
+
+-- ## the set or the agenda ends
+
+-- what ends, by what is told
+abbrev ending_told : SetOutcome → Bool → Ending
+ending_told (Failed why) over = SetFails why
+ending_told _ true = AgendaEnds
+ending_told _ false = NothingEnds
+
+ending_is : (before after : SetOutcome) (ran : Bool) (a : Option Agenda) → ending before after ran a ≡ ending_told (outcome_told before after) (ran && not (is_some a))
+ending_is Running (Failed why) ran a = refl
+ending_is _ _ true None = refl
+ending_is _ _ true (Some a) = refl
+ending_is _ _ false a = refl
+
+module _ (old : SessionsValue) (st : State) (c : Course) (order : IsInOrder st) (kept : Keeps old (record st { course = c })) where
+  -- the session, the row of the set in progress and the images come to this outcome
+  settles : (o : SetOutcome) (q : Option Session) (hs : List History) (t : Told) (lost : ℕ) (at : Option Order) → option_map (ended o) st.session ≡ q
+      → map (row_settled o) st.sets ≡ map (row_settled c.outcome) st.sets → hs ≡ volumes_after (ends_as (current_of st.sets) o) st.volumes
+      → HasCome t (writers_of lost) at (in_progress st) st.volumes (record st { course = c; session = q; sets = map (row_settled c.outcome) st.sets; volumes = hs })
+      (ended_so o old) (told_of t lost at (ends_as (current_of st.sets) o))
+  settles o q hs t lost at session rows images = record {
+    told = refl;
+    lost = refl;
+    order = refl;
+    ends = subst (λ (rs : List SetRow). EndsAs (ended_of (in_progress st) rs) (ends_as (current_of st.sets) o).set (ends_as (current_of st.sets) o).result) rows
+        (ends_after st.sets (in_progress st) o order.numbered order.newest refl);
+    volumes = images;
+    keeps = keeps_rows old (record st { course = c }) (after_agenda o old.requestor) q _ _ hs kept (ap (option_map (ended o)) kept.session ∙ session)
+        (kept.made ∙ sym (length-map st.sets (row_settled c.outcome))) (ap (map (row_settled o)) kept.sets ∙ settled_bare o st.sets ∙ ap (map bare) rows);
   }
 
-  keeps_ended : (o : SetOutcome) → has_failed o ≡ false → map (row_settled o) st.sets ≡ map (row_settled c.outcome) st.sets → Keeps (ended_so o old) (concluded AgendaEnds (record st { course = c }))
-  keeps_ended o e rows = record {
-    session = ap (option_map (ended o)) kept.session ∙ session_ended o st.session e;
-    made = kept.made ∙ sym (length-map st.sets (row_settled c.outcome));
-    course = kept.course;
-    sets = ap (map (row_settled o)) kept.sets ∙ settled_bare o st.sets ∙ ap (map bare) rows;
-    clock = kept.clock;
-    explicit = kept.explicit;
-    over = kept.over;
-    on_time = kept.on_time;
-    disabled = kept.disabled;
-  }
+  -- these effects tell of the course
+  module _ (t : Told) (e : Effects) (ran : Bool) (outcome : e.outcome ≡ outcome_told st.course.outcome c.outcome) (over : e.agenda_ended ≡ (ran && not (is_some c.agenda))) where
+    ending_now : ending_told e.outcome e.agenda_ended ≡ ending st.course.outcome c.outcome ran c.agenda
+    ending_now = ap (λ (o : SetOutcome). ending_told o e.agenda_ended) outcome ∙ ap (ending_told (outcome_told st.course.outcome c.outcome)) over
+        ∙ sym (ending_is st.course.outcome c.outcome ran c.agenda)
 
-  told : SetOutcome
-  told = outcome_told st.course.outcome c.outcome
+    rows_now : map (row_settled e.outcome) st.sets ≡ map (row_settled c.outcome) st.sets
+    rows_now = ap (λ (o : SetOutcome). map (row_settled o) st.sets) outcome
+        ∙ rows_as_told st.course.outcome c.outcome st.sets (λ f. over_stage st.session st.course.outcome (in_progress st) f order.session)
 
-  told_rows : map (row_settled (outcome_told st.course.outcome c.outcome)) st.sets ≡ map (row_settled c.outcome) st.sets
-  told_rows = rows_as_told st.course.outcome c.outcome st.sets (λ e. over_stage st.session st.course.outcome (in_progress st) e order.session)
+    abbrev Ends : SetOutcome → Ending → Type 0
+    Ends o x = HasCome t (writers_of e.lost) e.lost_order (in_progress st) st.volumes (concluded x (record st { course = c })) (ended_so o old)
+        (told_of t e.lost e.lost_order (ends_as (current_of st.sets) o))
 
-  pub ended_keeps : (has_failed (outcome_told st.course.outcome c.outcome) || (ran && not (is_some c.agenda))) ≡ true → Keeps (ended_so (outcome_told st.course.outcome c.outcome) old) (followed ran c st)
-  unfolding followed
-  ended_keeps h = by_failed (has_failed (outcome_told st.course.outcome c.outcome)) refl
-    where
-      y : State
-      y = record st { course = c }
+    then_ends : (has_failed e.outcome || e.agenda_ended) ≡ true
+        → HasCome t (writers_of e.lost) e.lost_order (in_progress st) st.volumes (followed ran c st) (ended_so e.outcome old) (told_of t e.lost e.lost_order (ends_as (current_of st.sets) e.outcome))
+    unfolding followed
+    then_ends h = subst (λ (x : Ending). Ends e.outcome x) ending_now (by_told e.outcome e.agenda_ended h rows_now)
+      where
+        by_told : (o : SetOutcome) (b : Bool) → (has_failed o || b) ≡ true → map (row_settled o) st.sets ≡ map (row_settled c.outcome) st.sets → Ends o (ending_told o b)
+        by_told (Failed why) b f rows = settles (Failed why) _ _ t e.lost e.lost_order refl rows (volumes_failed (in_progress st) why st.volumes)
+        by_told Running true f rows = settles Running _ _ t e.lost e.lost_order refl rows (volumes_kept (in_progress st) Running st.volumes refl)
+        by_told Complete true f rows = settles Complete _ _ t e.lost e.lost_order refl rows (volumes_kept (in_progress st) Complete st.volumes refl)
+        by_told _ false f rows = cc
 
-      by_failed : (b : Bool) → has_failed (outcome_told st.course.outcome c.outcome) ≡ b → Keeps (ended_so (outcome_told st.course.outcome c.outcome) old) (concluded (ending st.course.outcome c.outcome ran c.agenda) (record st { course = c }))
-      by_failed true e =
-          let f = fails st.course.outcome c.outcome ran c.agenda e in
-          subst (λ (x : Ending). Keeps (ended_so (outcome_told st.course.outcome c.outcome) old) (concluded x (record st { course = c }))) (sym f.is_ending)
-          (subst (λ (o : SetOutcome). Keeps (ended_so o old) (concluded (SetFails f.why) (record st { course = c }))) (sym f.is_told) (keeps_failed f.why f.is_after))
-      by_failed false e =
-          subst (λ (x : Ending). Keeps (ended_so (outcome_told st.course.outcome c.outcome) old) (concluded x (record st { course = c })))
-          (sym (ending_other st.course.outcome c.outcome ran c.agenda e ∙ ends_if ran c.agenda (either (has_failed (outcome_told st.course.outcome c.outcome)) (ran && not (is_some c.agenda)) h e)))
-          (keeps_ended (outcome_told st.course.outcome c.outcome) e told_rows)
+    abbrev GoesOn : Ending → Type 0
+    GoesOn x = HasCome t (writers_of e.lost) e.lost_order (in_progress st) st.volumes (concluded x (record st { course = c })) old (told_of t e.lost e.lost_order nothing_ends)
 
-  pub going_keeps : (has_failed (outcome_told st.course.outcome c.outcome) || (ran && not (is_some c.agenda))) ≡ false → Keeps old (followed ran c st)
-  unfolding followed
-  going_keeps h =
-      let n = neither (has_failed (outcome_told st.course.outcome c.outcome)) (ran && not (is_some c.agenda)) h in
-      subst (λ (x : Ending). Keeps old (concluded x (record st { course = c }))) (sym (ending_other st.course.outcome c.outcome ran c.agenda n.0 ∙ goes_if ran c.agenda n.1)) kept
+    then_goes_on : (has_failed e.outcome || e.agenda_ended) ≡ false
+        → HasCome t (writers_of e.lost) e.lost_order (in_progress st) st.volumes (followed ran c st) old (told_of t e.lost e.lost_order nothing_ends)
+    unfolding followed
+    then_goes_on h = subst (λ (x : Ending). GoesOn x) ending_now (by_told e.outcome e.agenda_ended h)
+      where
+        by_told : (o : SetOutcome) (b : Bool) → (has_failed o || b) ≡ false → GoesOn (ending_told o b)
+        by_told (Failed why) b f = cc
+        by_told _ true f = cc
+        by_told _ false f = record { told = refl; lost = refl; order = refl; ends = no_end st order; volumes = refl; keeps = kept }
 
-pub concluded_then : (old new : SessionsValue) (outcome : SetOutcome) (over : Bool) → (has_failed outcome || over) ≡ true → new ≡ ended_so outcome old → IsConcluded old new outcome over
-concluded_then old new outcome over h is st c ran order kept eo ee =
-    let t : (has_failed (outcome_told st.course.outcome c.outcome) || (ran && not (is_some c.agenda))) ≡ true = ap (λ (o : SetOutcome). has_failed o || (ran && not (is_some c.agenda))) (sym eo) ∙ ap (λ (b : Bool). has_failed outcome || b) (sym ee) ∙ h in
-    subst (λ (x : SessionsValue). Keeps x (followed ran c st)) (sym (is ∙ ap (λ (o : SetOutcome). ended_so o old) eo)) (ended_keeps old st c ran order kept t)
+-- with the names that the effects have for what was lost
+lost_as : (t : Told) (e : Effects) (ran : Bool) (gone : List ℕ) (at : Option Order) (c d : Course) (found : Option SetRow) (hs : List History) (after : State) (new : SessionsValue) (m : SessionMove)
+    → Tells e ran gone at c d
+    → HasCome t (writers_of e.lost) e.lost_order found hs after new m → HasCome t gone at found hs after new m
+lost_as t e ran gone at c d found hs after new m tells h =
+    record { told = h.told; lost = h.lost ∙ tells.lost; order = h.order ∙ tells.lost_order; ends = h.ends; volumes = h.volumes; keeps = h.keeps }
 
-pub concluded_else : (old : SessionsValue) (outcome : SetOutcome) (over : Bool) → (has_failed outcome || over) ≡ false → IsConcluded old old outcome over
-concluded_else old outcome over h st c ran order kept eo ee =
-    let t : (has_failed (outcome_told st.course.outcome c.outcome) || (ran && not (is_some c.agenda))) ≡ false = ap (λ (o : SetOutcome). has_failed o || (ran && not (is_some c.agenda))) (sym eo) ∙ ap (λ (b : Bool). has_failed outcome || b) (sym ee) ∙ h in
-    going_keeps old st c ran order kept t
+pub concluded_then : (old new : SessionsValue) (t : Told) (e : Effects) (current : Option ℕ) (m : SessionMove) → (has_failed e.outcome || e.agenda_ended) ≡ true → new ≡ ended_so e.outcome old
+    → current ≡ current_of old.sets → m ≡ told_of t e.lost e.lost_order (ends_as current e.outcome) → Concludes t e old new m
+concluded_then old new t e current m h is at moved st c ran gone order_of order kept tells =
+    lost_as t e ran gone order_of st.course c _ _ _ new m tells
+    (subst (λ (x : SessionsValue). HasCome t (writers_of e.lost) e.lost_order (in_progress st) st.volumes (followed ran c st) x m) (sym is)
+    (subst (λ (x : SessionMove). HasCome t (writers_of e.lost) e.lost_order (in_progress st) st.volumes (followed ran c st) (ended_so e.outcome old) x)
+    (sym (moved ∙ ap (λ (n : Option ℕ). told_of t e.lost e.lost_order (ends_as n e.outcome)) (at ∙ current_kept old (record st { course = c }) kept)))
+    (then_ends old st c order kept t e ran tells.outcome tells.agenda_ended h)))
+
+pub concluded_else : (old : SessionsValue) (t : Told) (e : Effects) (m : SessionMove) → (has_failed e.outcome || e.agenda_ended) ≡ false → m ≡ told_of t e.lost e.lost_order nothing_ends
+    → Concludes t e old old m
+concluded_else old t e m h moved st c ran gone order_of order kept tells =
+    lost_as t e ran gone order_of st.course c _ _ _ old m tells
+    (subst (λ (x : SessionMove). HasCome t (writers_of e.lost) e.lost_order (in_progress st) st.volumes (followed ran c st) old x) (sym moved)
+    (then_goes_on old st c order kept t e ran tells.outcome tells.agenda_ended h))
+
+-- ## the set in progress fails
+
+running_outcome : (q : Option Session) (o : SetOutcome) (r : SetRow) → IsOfSession q o (Some r) → o ≡ Running
+running_outcome None o r h = absurd h
+running_outcome (Some q) o r h = h.2
+
+pub no_row : (o : Option SetRow) → None ≡ option_map (λ (r : SetRow). r.number) o → o ≡ None
+no_row None e = refl
+no_row (Some r) e = cc
 
 outcome_failed : (why : VssResult) (c : Course) → (course_failed why c).outcome ≡ Failed why
 unfolding course_failed
 outcome_failed why c = refl
 
-pub failed_keeps : (old : SessionsValue) (st : State) (r : SetRow) (why : VssResult) → IsInOrder st → Keeps old (record st { course = course_failed why st.course }) → Keeps (ended_so (Failed why) old) (failed_in (Some r) why st)
-failed_keeps old st r why order kept = keeps_failed old st (course_failed why st.course) true order kept why (outcome_failed why st.course)
+pub fails_so : (old new : SessionsValue) (k : CoordinatorState) (st : State) (why : VssResult) (n : ℕ) (m : SessionMove) → IsInOrder st → Keeps old st → Some n ≡ current_of old.sets
+    → Stands k (failed_if_running st.course.outcome why st.course) → KeepsWriters old.coordinator k → IsOnTime old.clock k → new ≡ ended_so (Failed why) (record old { coordinator = k })
+    → m ≡ told_of told.Ok 0 None (ends_as (Some n) (Failed why)) → CameTo told.Ok st (failed_in (in_progress st) why st) new m
+fails_so old new k st why n m order kept current stands writers times is moved = by_found (in_progress st) refl
+  where
+    known : Some n ≡ current_of st.sets
+    known = current ∙ current_kept old st kept
+
+    by_found : (found : Option SetRow) → in_progress st ≡ found → CameTo told.Ok st (failed_in found why st) new m
+    by_found None e = absurd (let none : Some n ≡ None = known ∙ ap (option_map (λ (r : SetRow). r.number)) e in cc)
+    by_found (Some r) e =
+        let running = running_outcome st.session st.course.outcome r (subst (IsOfSession st.session st.course.outcome) e order.session) in
+        let fails : Stands k (course_failed why st.course) = subst (λ (o : SetOutcome). Stands k (failed_if_running o why st.course)) running stands in
+        let mid = keeps_course old k st (course_failed why st.course) kept fails writers.count times
+        (subst (λ (ds : List ℕ). All (λ w. w < writer_count old.coordinator) ds) (sym (disabled_failed why st.course)) kept.disabled) in
+        let came = settles (record old { coordinator = k }) st (course_failed why st.course) order mid (Failed why) _ _ told.Ok 0 None refl
+        (ap (λ (o : SetOutcome). map (row_settled o) st.sets) (sym (outcome_failed why st.course))) (volumes_failed (in_progress st) why st.volumes) in
+        let told_so = subst (λ (x : SessionMove). HasCome told.Ok (writers_of 0) None (in_progress st) st.volumes (failed_in (Some r) why st)
+        (ended_so (Failed why) (record old { coordinator = k })) x)
+        (sym (moved ∙ ap (λ (x : Option ℕ). told_of told.Ok 0 None (ends_as x (Failed why))) known)) came in
+        subst (λ (ws : List ℕ). HasCome told.Ok ws None (in_progress st) st.volumes (failed_in (Some r) why st) new m) nobody
+        (subst (λ (x : SessionsValue). HasCome told.Ok (writers_of 0) None (in_progress st) st.volumes (failed_in (Some r) why st) x m) (sym is) told_so)
+
+-- no set is in progress
+pub fails_not : (x : SessionsValue) (st : State) (why : VssResult) (m : SessionMove) → IsInOrder st → Keeps x st → None ≡ current_of x.sets → m ≡ told_alone told.Ok
+    → CameTo told.Ok st (failed_in (in_progress st) why st) x m
+fails_not x st why m order kept current is =
+    subst (λ (o : Option SetRow). CameTo told.Ok st (failed_in o why st) x m) (sym (no_row (in_progress st) (current ∙ current_kept x st kept)))
+    (subst (λ (y : SessionMove). CameTo told.Ok st st x y) (sym is) (record { told = refl; lost = nobody; order = refl; ends = no_end st order; volumes = refl; keeps = kept }))

@@ -13,7 +13,8 @@ use Rattle.set_agenda.specs.declared.limit.Limit.TheVariants.{Hold as HoldLimit,
 use Rattle.set_agenda.specs.declared.member.Member.{Member}
 use Rattle.set_agenda.specs.Agenda.{left, open_order, order_now, waits_now}
 use Rattle.set_agenda.specs.Limits.{Running as RunningLimit, spent_of}
-use Rattle.set_agenda.specs.Course.{Course, posted, begun, told, is_decisive, decided, answered_to, answered, stepped, limits_now, lost_to, lost, fails_set, lost_decided, treated_as, treated, timed, failed}
+use Rattle.set_agenda.specs.Course.{Course, posted, begun, told, is_decisive, decided, answered_to, answered, stepped, limits_now, lost_to, lost, fails_set, lost_decided, treated_as, treated, timed}
+use Rattle.set_agenda.specs.Course.{failed}
 use Rattle.component_doc.specs.Held.{Held}
 use Rattle.coordinator.specs.Coordinator.{Registered}
 use Rattle.coordinator.specs.Beginning.{begun_as}

@@ -1,8 +1,8 @@
 -- Whom the session knows, and what it takes: from what is kept, as the definitions say.
-use Rattle.std.proofs.Common.{◌≡◌, ℕ, zero, suc, ◌+◌, ◌<◌, ◌≤◌, ◌==◌, List, [], ◌∷◌, ◌++◌, drop, length, refl, ap, sym, ◌∙◌, subst, arith, append_assoc, add-one, Bool, true, false, Option, Some, None, slice_get}
+use Rattle.std.proofs.Common.{◌≡◌, ℕ, zero, suc, ◌+◌, ◌<◌, ◌==◌, List, [], ◌∷◌, ◌++◌, drop, length, refl, ap, sym, ◌∙◌, subst, arith, append_assoc, add-one, Bool, true, false, Option, Some, None}
+use Rattle.std.proofs.Common.{slice_get}
 use Rattle.std.specs.Prelude.{All, filter, nat_le, is_some, option_map, not, ◌&&◌, ◌||◌, if◌then◌else◌, Result, Ok, Err, OnOk, OnErr, IfErr}
 use Rattle.std.specs.List.{list_all, list_any, range_with_len}
-use Rattle.std.proofs.lemmas.Bool.Decides.{nat_tests}
 use Rattle.vss_names.specs.declared.vss_result.VssResult.TheVariants.{BadState, ObjectNotFound, ObjectAlreadyExists}
 use Rattle.block_data.specs.Digest.{sha256}
 use Rattle.write_history.specs.declared.mark.Mark.TheVariants.{Clean}
@@ -23,35 +23,38 @@ use Rattle.set_agenda.specs.Course.{prepared}
 use Rattle.requestor.specs.declared.mode.Mode.{Mode}
 use Rattle.requestor.specs.declared.mode.Mode.TheVariants.{Components, All as AllMode}
 use Rattle.requestor.specs.declared.session_call.SessionCall.TheVariants as call
-use Rattle.requestor.specs.declared.verdict.Verdict.TheVariants.{Go}
 use Rattle.requestor.specs.Session.{Session}
-use Rattle.requestor.specs.Check.{check_other}
 use Rattle.component_doc.specs.Held.{Held, all_have_few, pairs_of, is_named}
 use Rattle.component_doc.specs.Selection.{Naming, Names, naming, Pair, Selected, Named, AllOf, all_of, is_taker, takers, known_from as known_writers_from}
 use Rattle.component_doc.specs.Over.{AreAllowed, IsSelectedOver, meta_at, names_selectable, is_ascending, is_selectable_of}
 use Rattle.coordinator.specs.Beginning.{begun_as, enabled}
-use Rattle.coordinator.specs.Coordinator.{is_disabled as is_disabled_kept, writer_count}
+use Rattle.coordinator.specs.Coordinator.{is_disabled as is_disabled_kept, writer_count, named}
 use Rattle.scenario.specs.declared.op.Op.TheVariants as op
 use Rattle.scenario.specs.Plan.{Plan, WriterPlan, token}
 use Rattle.scenario.specs.Bounds.{IsWriter}
 use Rattle.vss_model.specs.declared.told.Told.TheVariants as told
 use Rattle.vss_model.specs.State.{State, in_progress}
 use Rattle.vss_model.specs.Ending.{runs}
-use Rattle.vss_model.specs.Sessions.{line_in, component_in, named_as, is_disabled, has_failed_identify, is_identify_failure, is_known, meta_if, known_from, known_metas, selected, selected_in, has_no_volume}
+use Rattle.vss_model.specs.Sessions.{line_in, component_in, named_as, is_disabled, has_failed_identify, is_identify_failure, is_known, meta_if, known_from, known_metas, selected, selected_in}
+use Rattle.vss_model.specs.Sessions.{has_no_volume}
 use Rattle.sessions.specs.declared.session_move.SessionMove.{SessionMove}
-use Rattle.sessions.specs.Keeps.{SessionsValue, Keeps, IsInOrder, IsOf, IsAt}
-use Rattle.sessions.specs.Told.{told_alone, told_named}
-use Rattle.sessions.specs.Moves.{ComesTo, HasBegun, IsDocumentIn, is_all, takes_all_of}
-use Rattle.sessions.proofs.Lines.{alone, owners, line_of, refuses}
-use Rattle.sessions.proofs.Telling.{ends_none}
-use Rattle.sessions.proofs.AgendaLines.{pends, is_disabled_same, if_pending, if_refused}
+use Rattle.sessions.specs.Keeps.{SessionsValue, Keeps, IsOf, IsAt}
+use Rattle.sessions.specs.Moves.{ComesTo, HasBegun, IsDocumentIn, is_all, takes_all_of, IsAtOver}
+use Rattle.sessions.proofs.Lines.{alone, line_of, refuses}
+use Rattle.sessions.proofs.AgendaLines.{pends, is_disabled_same, volume_test}
+use Rattle.sessions.proofs.Concluding.{no_end}
+use Rattle.sessions.proofs.Keeping.{keeps_named}
+use Rattle.sessions.specs.Concluded.{told_alone, told_named}
+use Rattle.std.proofs.lemmas.Bool.{and_from, and_parts, cond-false, cond-true, eqb-true, le-leb}
+use Rattle.vss_model.proofs.GoingOn.{Goes}
 
 -- ## whom the session knows
 
 pub unknown_is : (s : Plan) (st : State) (w : ℕ) (b : Bool) → b ≡ is_disabled s st w → b ≡ true → false ≡ is_known s st w
 unknown_is s st w b e f = ap (λ (d : Bool). not d && not (has_failed_identify (slice_get st.course.rows w))) (sym f ∙ e)
 
-pub known_is : (s : Plan) (st : State) (w : ℕ) (b : Bool) (r : WriterRow) → b ≡ is_disabled s st w → b ≡ false → Some r ≡ slice_get st.course.rows w → not (is_identify_failure r.state) ≡ is_known s st w
+pub known_is : (s : Plan) (st : State) (w : ℕ) (b : Bool) (r : WriterRow) → b ≡ is_disabled s st w → b ≡ false → Some r ≡ slice_get st.course.rows w
+    → not (is_identify_failure r.state) ≡ is_known s st w
 known_is s st w b r e f row =
     ap (λ (o : Option WriterRow). not (has_failed_identify o)) row
     ∙ ap (λ (d : Bool). not d && not (has_failed_identify (slice_get st.course.rows w))) (sym f ∙ e)
@@ -66,7 +69,8 @@ next_at [] w m e = cc
 next_at (p ∷ ps) zero m e = record { writer = p; is = refl; meta = cc }
 next_at (p ∷ ps) (suc w) m e = let h = next_at ps w m e in record { writer = h.writer; is = h.is; meta = h.meta }
 
-pub known_step : (s : Plan) (st : State) (w : ℕ) (xs ys total : List (Option Meta)) (b : Bool) (m : Meta) → b ≡ is_known s st w → option_map (λ (p : WriterPlan). p.meta) (slice_get s.writers w) ≡ Some m
+pub known_step : (s : Plan) (st : State) (w : ℕ) (xs ys total : List (Option Meta)) (b : Bool) (m : Meta) → b ≡ is_known s st w
+    → option_map (λ (p : WriterPlan). p.meta) (slice_get s.writers w) ≡ Some m
     → xs ++ known_from s st w (drop w s.writers) ≡ total → ys ≡ xs ++ meta_if b m ∷ [] → ys ++ known_from s st (w + 1) (drop (w + 1) s.writers) ≡ total
 known_step s st w xs ys total b m knows at so_far is =
     let h = next_at s.writers w m at in
@@ -94,22 +98,17 @@ some_if_selectable : (i : ℕ) (m : Option Meta) → is_selectable_of i m ≡ tr
 some_if_selectable i None e = cc
 some_if_selectable i (Some m) e = refl
 
-and_parts : (a b : Bool) → (a && b) ≡ true → (a ≡ true) × (b ≡ true)
-and_parts true b e = (refl, e)
-and_parts false b e = absurd cc
-
-is_number : (a b : ℕ) → (a == b) ≡ true → a ≡ b
-is_number a b e = grind (arith, nat_tests)
-
-named_taker : (ms : List (Option Meta)) (ps : List Pair) (w : ℕ) → list_all (names_selectable ms) ps ≡ true → list_any (λ (p : Pair). p.writer == w) ps ≡ true → is_some (meta_at (slice_get ms w)) ≡ true
+named_taker : (ms : List (Option Meta)) (ps : List Pair) (w : ℕ) → list_all (names_selectable ms) ps ≡ true → list_any (λ (p : Pair). p.writer == w) ps ≡ true
+    → is_some (meta_at (slice_get ms w)) ≡ true
 named_taker ms [] w e f = cc
 named_taker ms (p ∷ ps) w e f = by_test (named_taker ms ps w h.1) (p.writer == w) refl f
   where
     h : (names_selectable ms p ≡ true) × (list_all (names_selectable ms) ps ≡ true)
     h = and_parts (names_selectable ms p) (list_all (names_selectable ms) ps) e
 
-    by_test : (list_any (λ (q : Pair). q.writer == w) ps ≡ true → is_some (meta_at (slice_get ms w)) ≡ true) → (b : Bool) → (p.writer == w) ≡ b → (b || list_any (λ (q : Pair). q.writer == w) ps) ≡ true → is_some (meta_at (slice_get ms w)) ≡ true
-    by_test rest true g f = ap (λ (n : ℕ). is_some (meta_at (slice_get ms n))) (sym (is_number p.writer w g)) ∙ some_if_selectable p.component (meta_at (slice_get ms p.writer)) h.0
+    by_test : (list_any (λ (q : Pair). q.writer == w) ps ≡ true → is_some (meta_at (slice_get ms w)) ≡ true) → (b : Bool) → (p.writer == w) ≡ b
+        → (b || list_any (λ (q : Pair). q.writer == w) ps) ≡ true → is_some (meta_at (slice_get ms w)) ≡ true
+    by_test rest true g f = ap (λ (n : ℕ). is_some (meta_at (slice_get ms n))) (sym (eqb-true p.writer w g)) ∙ some_if_selectable p.component (meta_at (slice_get ms p.writer)) h.0
     by_test rest false g f = rest f
 
 all_taker : (ms : List (Option Meta)) (k j : ℕ) (w : ℕ) → list_any (λ x. x == w) (known_writers_from k ms) ≡ true → (i : ℕ) × (w ≡ k + i) × (is_some (meta_at (slice_get ms i)) ≡ true)
@@ -119,7 +118,7 @@ all_taker (Some m ∷ ms) k j w e = by_test (all_taker ms (k + 1) j w) (k == w) 
   where
     by_test : (list_any (λ x. x == w) (known_writers_from (k + 1) ms) ≡ true → (i : ℕ) × (w ≡ (k + 1) + i) × (is_some (meta_at (slice_get ms i)) ≡ true))
         → (b : Bool) → (k == w) ≡ b → (b || list_any (λ x. x == w) (known_writers_from (k + 1) ms)) ≡ true → (i : ℕ) × (w ≡ k + i) × (is_some (meta_at (slice_get (Some m ∷ ms) i)) ≡ true)
-    by_test rest true g f = (zero, let same = is_number k w g in omega (arith, same), refl)
+    by_test rest true g f = (zero, let same = eqb-true k w g in omega (arith, same), refl)
     by_test rest false g f = let h = rest f in (suc h.0, let l = h.1 in omega (arith, l), h.2)
 
 taker_known : (ms : List (Option Meta)) (sel : Selected) (w : ℕ) → IsSelectedOver ms sel → is_taker sel w ≡ true → is_some (meta_at (slice_get ms w)) ≡ true
@@ -129,10 +128,6 @@ taker_known ms (AllOf ws) w over e =
     let same : w ≡ h.0 = let g = h.1 in omega (arith, g) in
     ap (λ (n : ℕ). is_some (meta_at (slice_get ms n))) same ∙ h.2
 
-not_first : (a b : Bool) → (not a && b) ≡ true → a ≡ false
-not_first true b e = cc
-not_first false b e = refl
-
 filter_same : (p q : ℕ → Bool) (xs : List ℕ) → ((w : ℕ) → q w ≡ true → p w ≡ true) → filter p (filter q xs) ≡ filter q xs
 filter_same p q [] h = refl
 filter_same p q (x ∷ xs) h = by_test (filter_same p q xs h) (q x) refl
@@ -141,11 +136,12 @@ filter_same p q (x ∷ xs) h = by_test (filter_same p q xs h) (q x) refl
     by_test rest true e = ap (λ (c : Bool). if c then x ∷ filter p (filter q xs) else filter p (filter q xs)) (h x e) ∙ ap (λ (ys : List ℕ). x ∷ ys) rest
     by_test rest false e = rest
 
-pub enabled_takers : (x : SessionsValue) (s : Plan) (st : State) (sel : Selected) (n : ℕ) → Keeps x st → IsOf x s → IsSelectedOver (known_metas s st) sel → enabled x.coordinator.writers st.course.disabled (takers n sel) ≡ takers n sel
+pub enabled_takers : (x : SessionsValue) (s : Plan) (st : State) (sel : Selected) (n : ℕ) → Keeps x st → IsOf x s → IsSelectedOver (known_metas s st) sel
+    → enabled x.coordinator.writers st.course.disabled (takers n sel) ≡ takers n sel
 enabled_takers x s st sel n kept of over = filter_same (λ w. not (is_disabled_kept x.coordinator.writers st.course.disabled w)) (is_taker sel) (range_with_len 0 n) (λ w e.
     let known = known_at s st 0 s.writers w w (omega arith) (taker_known (known_metas s st) sel w over e) in
     let within : w < writer_count x.coordinator = let l = known.1 in let c = of.count in omega (arith, l, c) in
-    ap not (is_disabled_same x s st w kept of within ∙ not_first (is_disabled s st w) (not (has_failed_identify (slice_get st.course.rows w))) known.0))
+    ap not (is_disabled_same x s st w kept of within) ∙ (and_parts (not (is_disabled s st w)) (not (has_failed_identify (slice_get st.course.rows w))) known.0).0)
 
 -- ## prepare
 
@@ -160,23 +156,24 @@ takes_known AllMode s st e = refl
 pub mode_at : (x : SessionsValue) (st : State) (q : Session) (b c : Bool) → Keeps x st → st.session ≡ Some q → b ≡ takes_all_of x.requestor.session → b ≡ c → is_all q.mode ≡ c
 mode_at x st q b c kept is e f = ap takes_all_of (sym (kept.session ∙ is)) ∙ sym e ∙ f
 
-pub prepares : (s : Plan) (lane : ℕ) (old new : SessionsValue) (h : Held) (sel : Selected) (st : State) (m : SessionMove) → check_other st.session (runs st) lane call.Prepare ≡ Go → IsAt old s st
-    → has_no_volume (in_progress st) ≡ false → h.writers ≡ writer_count old.coordinator → h.selected ≡ sel → IsSelectedOver (known_metas s st) sel
-    → ((q : Session) → st.session ≡ Some q → selected s q st ≡ sel) → (vs : List ℕ) → HasBegun kind.Prepare h vs old new m → ComesTo s lane op.Prepare st new m
-prepares s lane old new h sel st m goes at some writers is over takes vs has =
-    let owner = owners st.session (runs st) lane call.Prepare goes in
-    let same : prepared (takers (length s.writers) (selected s owner.session st)) st.clock st.course ≡ begun_as kind.Prepare old.coordinator.writers h vs st.clock st.course =
-    ap (λ (x : Selected). prepared (takers (length s.writers) x) st.clock st.course) (takes owner.session owner.is)
+pub prepares : {s : Plan} {lane : ℕ} {st : State} {old new : SessionsValue} {m : SessionMove} (h : Held) (vs : List ℕ) (sel : Selected) → Goes st.session (runs st) call.Prepare → IsAtOver vs old s st
+    → (length vs == 0) ≡ false
+    → h.writers ≡ writer_count old.coordinator → h.selected ≡ sel → IsSelectedOver (known_metas s st) sel → ((q : Session) → st.session ≡ Some q → selected s q st ≡ sel)
+    → HasBegun kind.Prepare h vs old new m → ComesTo s lane op.Prepare st new m
+prepares {s = s} {lane = lane} {st = st} {old = old} h vs sel owner found some writers is over takes has =
+    let at = found.at in
+    let same : prepared (takers (length s.writers) (selected s owner.own st)) st.clock st.course ≡ begun_as kind.Prepare old.coordinator.writers h vs st.clock st.course =
+    ap (λ (x : Selected). prepared (takers (length s.writers) x) st.clock st.course) (takes owner.own owner.is)
     ∙ ap (λ (ts : List ℕ). prepared ts st.clock st.course) (sym (enabled_takers old s st sel (length s.writers) at.keeps at.of over))
     ∙ ap (λ (n : ℕ). prepared (enabled old.coordinator.writers st.course.disabled (takers n sel)) st.clock st.course) (sym at.of.count ∙ sym writers)
     ∙ ap (λ (x : Selected). prepared (enabled old.coordinator.writers st.course.disabled (takers h.writers x)) st.clock st.course) (sym is) in
-    pends s lane op.Prepare st new m _ (line_of s lane op.Prepare st owner.session owner.is ∙ if_pending (has_no_volume (in_progress st)) _ _ some) (has st _ at.order at.keeps same)
+    pends _ (line_of s lane op.Prepare st owner.own owner.is ∙ cond-false (has_no_volume (in_progress st)) _ _ (sym (volume_test (in_progress st) vs found.volumes) ∙ some))
+    (has st _ at.order at.keeps same)
 
-pub prepares_not : (s : Plan) (lane : ℕ) (x : SessionsValue) (st : State) (m : SessionMove) → check_other st.session (runs st) lane call.Prepare ≡ Go → IsInOrder st → Keeps x st → has_no_volume (in_progress st) ≡ true
+pub prepares_not : {s : Plan} {lane : ℕ} {st : State} {x : SessionsValue} {m : SessionMove} (vs : List ℕ) → Goes st.session (runs st) call.Prepare → IsAtOver vs x s st → (length vs == 0) ≡ true
     → m ≡ told_alone (told.Result BadState) → ComesTo s lane op.Prepare st x m
-prepares_not s lane x st m goes order kept none is =
-    let owner = owners st.session (runs st) lane call.Prepare goes in
-    refuses s lane op.Prepare st x m BadState is (line_of s lane op.Prepare st owner.session owner.is ∙ if_refused (has_no_volume (in_progress st)) _ _ none) order kept
+prepares_not {s = s} {lane = lane} {st = st} vs owner at none is =
+    refuses BadState is (line_of s lane op.Prepare st owner.own owner.is ∙ cond-true (has_no_volume (in_progress st)) _ _ (sym (volume_test (in_progress st) vs at.volumes) ∙ none)) at.at
 
 -- ## what is known is as its format allows
 
@@ -186,17 +183,11 @@ allowed_if false m ms h rest = rest
 
 pub known_allowed : (s : Plan) (st : State) (k : ℕ) (ps : List WriterPlan) → All (IsWriter s) ps → AreAllowed (known_from s st k ps)
 known_allowed s st k [] h = tt
-known_allowed s st k (p ∷ ps) h = allowed_if (is_known s st k) p.meta (known_from s st (k + 1) ps) (h 0 p (omega arith)).allowed (known_allowed s st (k + 1) ps (λ i d l. h (suc i) d (omega (arith, l))))
+known_allowed s st k (p ∷ ps) h = allowed_if (is_known s st k) p.meta (known_from s st (k + 1) ps) (h 0 p (omega arith)).allowed
+    (known_allowed s st (k + 1) ps (λ i d l. h (suc i) d (omega (arith, l))))
 
 few_if : (b : Bool) (m : Meta) (ms : List (Option Meta)) → IsAllowed m → all_have_few ms ≡ true → all_have_few (meta_if b m ∷ ms) ≡ true
-few_if true m ms h rest = and_true (nat_le (length m.parts) 1024) (all_have_few ms) (most (length m.parts) h.few) rest
-  where
-    and_true : (a b : Bool) → a ≡ true → b ≡ true → (a && b) ≡ true
-    and_true true b e f = f
-    and_true false b e f = cc
-
-    most : (n : ℕ) → n ≤ 1024 → nat_le n 1024 ≡ true
-    most n l = grind (arith, nat_tests)
+few_if true m ms h rest = and_from (nat_le (length m.parts) 1024) (all_have_few ms) (le-leb _ _ h.few) rest
 few_if false m ms h rest = rest
 
 pub known_few : (s : Plan) (st : State) (k : ℕ) (ps : List WriterPlan) → All (IsWriter s) ps → all_have_few (known_from s st k ps) ≡ true
@@ -213,82 +204,60 @@ named_in : (m : Mode) (s : Plan) (w : ℕ) (name : List ℕ) (st : State) → is
 named_in Components s w name st e = refl
 named_in AllMode s w name st e = cc
 
-pub names_not : (s : Plan) (lane w : ℕ) (full : Span) (st : State) (x : SessionsValue) (m : SessionMove) (b : Bool) → check_other st.session (runs st) lane call.Component ≡ Go → IsInOrder st → Keeps x st
-    → b ≡ takes_all_of x.requestor.session → b ≡ true → m ≡ told_alone (told.Result BadState) → ComesTo s lane (op.Component w full) st x m
-names_not s lane w full st x m b goes order kept takes all is =
-    let owner = owners st.session (runs st) lane call.Component goes in
-    refuses s lane (op.Component w full) st x m BadState is
-    (line_of s lane (op.Component w full) st owner.session owner.is ∙ all_refused owner.session.mode s w (token s full) st (mode_at x st owner.session b true kept owner.is takes all)) order kept
+pub names_not : {s : Plan} {lane w : ℕ} {full : Span} {st : State} {x : SessionsValue} {m : SessionMove} (b : Bool) → Goes st.session (runs st) call.Component → IsAt x s st
+    → b ≡ takes_all_of x.requestor.session → b ≡ true
+    → m ≡ told_alone (told.Result BadState) → ComesTo s lane (op.Component w full) st x m
+names_not {s = s} {lane = lane} {w = w} {full = full} {st = st} {x = x} b owner at takes all is =
+    refuses BadState is (line_of s lane (op.Component w full) st owner.own owner.is ∙ all_refused owner.own.mode s w (token s full) st (mode_at x st owner.own b true at.keeps owner.is takes all)) at
 
 named_pairs : (x : Selected) → is_named x ≡ true → x ≡ Named (pairs_of x)
 named_pairs (Named ps) e = refl
 named_pairs (AllOf ws) e = cc
 
--- another selection, the rest stays
-abbrev pub with_selection : Held → SessionsValue → SessionsValue
-with_selection h x = record { requestor = x.requestor; coordinator = x.coordinator; sets = x.sets; clock = x.clock; selection = h }
-
-module _ (s : Plan) (lane w : ℕ) (full : Span) (st : State) (x : SessionsValue) (h : Held) (m : SessionMove) (t : Told) (q : Session) (at : IsAt x s st) (is : m ≡ told_alone t) (owner : st.session ≡ Some q) (components : is_all q.mode ≡ false) where
-  does : line_in s lane (op.Component w full) st.session st ≡ named_as (naming (known_metas s st) w (token s full) st.explicit) st
-  does = line_of s lane (op.Component w full) st q owner ∙ named_in q.mode s w (token s full) st components
-
-  -- the refusals leave all as it was
-  stays : (r : Reply) → h ≡ x.selection → named_as (naming (known_metas s st) w (token s full) st.explicit) st ≡ (r, st) → ((tells : List Bool) → Fits tells r t) → ((listed : List ℕ) (rows : List WriterRow) → HasLists r listed rows) → mark_of t ≡ Clean
-      → ComesTo s lane (op.Component w full) st (with_selection h x) m
-  stays r same e fits lists clean = subst (λ (z : Held). ComesTo s lane (op.Component w full) st (with_selection z x) m) (sym same)
-      (alone s lane (op.Component w full) st x m t r st is (does ∙ e) fits (λ listed rows g. lists listed rows) clean at.keeps (ends_none st.sets (in_progress st) at.order.numbered at.order.newest refl) refl)
-
-  names : naming (known_metas s st) w (token s full) st.explicit ≡ Names (pairs_of h.selected) → h.writers ≡ x.selection.writers → is_named h.selected ≡ true → t ≡ told.Ok → ComesTo s lane (op.Component w full) st (with_selection h x) m
-  names e writers named ok =
-      alone s lane (op.Component w full) st (with_selection h x) m t Fine (record st { explicit = pairs_of h.selected }) is (does ∙ ap (λ (n : Naming). named_as n st) e) (λ tells. ok) (λ listed rows g. tt) (ap mark_of ok)
-      (record {
-        session = at.keeps.session;
-        made = at.keeps.made;
-        course = at.keeps.course;
-        sets = at.keeps.sets;
-        clock = at.keeps.clock;
-        explicit = named_pairs h.selected named;
-        over = writers ∙ at.keeps.over;
-        on_time = at.keeps.on_time;
-        disabled = at.keeps.disabled;
-      })
-      (ends_none st.sets (in_progress st) at.order.numbered at.order.newest refl) refl
-
-  naming_same : (ms : List (Option Meta)) → ms ≡ known_metas s st → naming ms w (token s full) (pairs_of x.selection.selected) ≡ naming (known_metas s st) w (token s full) st.explicit
-  naming_same ms known = ap (λ (ys : List (Option Meta)). naming ys w (token s full) (pairs_of x.selection.selected)) known ∙ ap (λ (z : Selected). naming (known_metas s st) w (token s full) (pairs_of z)) at.keeps.explicit
-
-  comes : (added : Result (Unit {0}) AddFault) (ms : List (Option Meta)) → ms ≡ known_metas s st
-      → OnOk added (naming ms w (token s full) (pairs_of x.selection.selected) ≡ Names (pairs_of h.selected)) → IfErr added (λ fault. Tells fault (naming ms w (token s full) (pairs_of x.selection.selected)))
-      → OnErr added (h ≡ x.selection) → h.writers ≡ x.selection.writers → is_named h.selected ≡ true → told_named added ≡ Some t → ComesTo s lane (op.Component w full) st (with_selection h x) m
-  comes (Ok u) ms known ok refused unchanged writers named tells = names (sym (naming_same ms known) ∙ ok) writers named (let e : told.Ok ≡ t = cc in sym e)
-  comes (Err fault.NotFound) ms known ok refused unchanged writers named tells =
-      let e : told.Result ObjectNotFound ≡ t = cc in
-      stays (Coded ObjectNotFound) unchanged (ap (λ (n : Naming). named_as n st) (sym (naming_same ms known) ∙ refused)) (λ tells. sym e) (λ listed rows. tt) (ap mark_of (sym e))
-  comes (Err fault.NotSelectable) ms known ok refused unchanged writers named tells =
-      let e : told.NotSelectable ≡ t = cc in
-      stays NotSelectable unchanged (ap (λ (n : Naming). named_as n st) (sym (naming_same ms known) ∙ refused)) (λ tells. sym e) (λ listed rows. tt) (ap mark_of (sym e))
-  comes (Err fault.AlreadyExists) ms known ok refused unchanged writers named tells =
-      let e : told.Result ObjectAlreadyExists ≡ t = cc in
-      stays (Coded ObjectAlreadyExists) unchanged (ap (λ (n : Naming). named_as n st) (sym (naming_same ms known) ∙ refused)) (λ tells. sym e) (λ listed rows. tt) (ap mark_of (sym e))
-  comes (Err fault.OutOfMemory) ms known ok refused unchanged writers named tells = cc
-
-pub names_component : (s : Plan) (lane w : ℕ) (full : Span) (st : State) (x : SessionsValue) (h : Held) (m : SessionMove) (t : Told) (b : Bool) (added : Result (Unit {0}) AddFault) (ms : List (Option Meta)) (name : List ℕ)
-    → check_other st.session (runs st) lane call.Component ≡ Go → IsAt x s st → m ≡ told_alone t → b ≡ takes_all_of x.requestor.session → b ≡ false → ms ≡ known_metas s st → name ≡ token s full
+pub names_component : {s : Plan} {lane w : ℕ} {full : Span} {st : State} {x : SessionsValue} {m : SessionMove} (h : Held) (t : Told) (b : Bool) (added : Result (Unit {0}) AddFault)
+    (ms : List (Option Meta)) (name : List ℕ)
+    → Goes st.session (runs st) call.Component → IsAt x s st → m ≡ told_alone t → b ≡ takes_all_of x.requestor.session → b ≡ false → ms ≡ known_metas s st → name ≡ token s full
     → OnOk added (naming ms w name (pairs_of x.selection.selected) ≡ Names (pairs_of h.selected)) → IfErr added (λ fault. Tells fault (naming ms w name (pairs_of x.selection.selected)))
-    → OnErr added (h ≡ x.selection) → h.writers ≡ x.selection.writers → is_named h.selected ≡ true → told_named added ≡ Some t → ComesTo s lane (op.Component w full) st (with_selection h x) m
-names_component s lane w full st x h m t b added ms name goes at is takes not_all known token_is ok refused unchanged writers named tells =
-    let owner = owners st.session (runs st) lane call.Component goes in
-    comes s lane w full st x h m t owner.session at is owner.is (mode_at x st owner.session b false at.keeps owner.is takes not_all) added ms known
-    (subst (λ (n : List ℕ). OnOk added (naming ms w n (pairs_of x.selection.selected) ≡ Names (pairs_of h.selected))) token_is ok)
-    (subst (λ (n : List ℕ). IfErr added (λ fault. Tells fault (naming ms w n (pairs_of x.selection.selected)))) token_is refused)
-    unchanged writers named tells
+    → OnErr added (h ≡ x.selection) → h.writers ≡ x.selection.writers → is_named h.selected ≡ true → told_named added ≡ Some t → ComesTo s lane (op.Component w full) st (record x { selection = h }) m
+names_component {s = s} {lane = lane} {w = w} {full = full} {st = st} {x = x} {m = m} h t b added ms name owner at is takes not_all known token_is ok refused unchanged writers named tells =
+    by_added added ok refused unchanged tells
+  where
+    same : naming ms w name (pairs_of x.selection.selected) ≡ naming (known_metas s st) w (token s full) st.explicit
+    same = ap (λ (ys : List (Option Meta)). naming ys w name (pairs_of x.selection.selected)) known ∙ ap (λ (n : List ℕ). naming (known_metas s st) w n (pairs_of x.selection.selected)) token_is
+        ∙ ap (λ (z : Selected). naming (known_metas s st) w (token s full) (pairs_of z)) at.keeps.explicit
+
+    does : (n : Naming) → naming ms w name (pairs_of x.selection.selected) ≡ n → line_in s lane (op.Component w full) st.session st ≡ named_as n st
+    does n e = line_of s lane (op.Component w full) st owner.own owner.is ∙ named_in owner.own.mode s w (token s full) st (mode_at x st owner.own b false at.keeps owner.is takes not_all)
+        ∙ ap (λ (z : Naming). named_as z st) (sym same ∙ e)
+
+    -- the refusals leave all as it was
+    stays : (u : Told) (r : Reply) (n : Naming) → h ≡ x.selection → Some u ≡ Some t → naming ms w name (pairs_of x.selection.selected) ≡ n → named_as n st ≡ (r, st)
+        → ((tells : List Bool) → Fits tells r u) → ((listed : List ℕ) (rows : List WriterRow) → HasLists r listed rows)
+        → mark_of u ≡ Clean → ComesTo s lane (op.Component w full) st (record x { selection = h }) m
+    stays u r n unchanged told_so e comes fits lists clean =
+        let so : u ≡ t = cc in
+        subst (λ (z : Held). ComesTo s lane (op.Component w full) st (record x { selection = z }) m) (sym unchanged)
+        (alone u r st (is ∙ ap told_alone (sym so)) (does n e ∙ comes) fits (λ listed rows g. lists listed rows) clean (no_end st at.order) refl at.keeps)
+
+    by_added : (a : Result (Unit {0}) AddFault) → OnOk a (naming ms w name (pairs_of x.selection.selected) ≡ Names (pairs_of h.selected))
+        → IfErr a (λ fault. Tells fault (naming ms w name (pairs_of x.selection.selected)))
+        → OnErr a (h ≡ x.selection) → told_named a ≡ Some t → ComesTo s lane (op.Component w full) st (record x { selection = h }) m
+    by_added (Ok u) e refused unchanged tells =
+        let so : told.Ok ≡ t = cc in
+        alone told.Ok Fine (record st { explicit = pairs_of h.selected }) (is ∙ ap told_alone (sym so)) (does (Names (pairs_of h.selected)) e) (λ tells. refl) (λ listed rows g. tt) refl
+        (no_end st at.order) refl
+        (keeps_named x st x.requestor st.session h _ at.keeps at.keeps.session refl (named_pairs h.selected named) (writers ∙ at.keeps.over))
+    by_added (Err fault.NotFound) ok e unchanged tells = stays (told.Result ObjectNotFound) (Coded ObjectNotFound) _ unchanged tells e refl (λ tells. refl) (λ listed rows. tt) refl
+    by_added (Err fault.NotSelectable) ok e unchanged tells = stays told.NotSelectable NotSelectable _ unchanged tells e refl (λ tells. refl) (λ listed rows. tt) refl
+    by_added (Err fault.AlreadyExists) ok e unchanged tells = stays (told.Result ObjectAlreadyExists) (Coded ObjectAlreadyExists) _ unchanged tells e refl (λ tells. refl) (λ listed rows. tt) refl
+    by_added (Err fault.OutOfMemory) ok e unchanged tells = cc
 
 -- ## document
 
-pub documents : (s : Plan) (lane : ℕ) (st : State) (x : SessionsValue) (m : SessionMove) (t : Told) (bytes : List ℕ) → check_other st.session (runs st) lane call.Document ≡ Go → IsAt x s st → IsDocumentIn s x bytes
-    → t ≡ told.Document (length bytes) (sha256 bytes) → m ≡ told_alone t → ComesTo s lane op.Document st x m
-documents s lane st x m t bytes goes at written tells is =
-    let owner = owners st.session (runs st) lane call.Document goes in
-    let same = written st owner.session at owner.is in
-    alone s lane op.Document st x m t (DocumentOf (document_text (known_metas s st) (selected s owner.session st) owner.session.context)) st is (line_of s lane op.Document st owner.session owner.is)
-    (λ z. tells ∙ ap (λ (bs : List ℕ). told.Document (length bs) (sha256 bs)) same) (λ listed rows e. tt) (ap mark_of tells) at.keeps (ends_none st.sets (in_progress st) at.order.numbered at.order.newest refl) refl
+pub documents : {s : Plan} {lane : ℕ} {st : State} {x : SessionsValue} {m : SessionMove} (t : Told) (bytes : List ℕ) → Goes st.session (runs st) call.Document → IsAt x s st → IsDocumentIn s x bytes
+    → t ≡ told.Document (length bytes) (sha256 bytes)
+    → m ≡ told_alone t → ComesTo s lane op.Document st x m
+documents {s = s} {lane = lane} {st = st} t bytes owner at written tells is =
+    let same = written st owner.own at owner.is in
+    alone t (DocumentOf (document_text (known_metas s st) (selected s owner.own st) owner.own.context)) st is (line_of s lane op.Document st owner.own owner.is)
+    (λ z. tells ∙ ap (λ (bs : List ℕ). told.Document (length bs) (sha256 bs)) same) (λ listed rows e. tt) (ap mark_of tells) (no_end st at.order) refl at.keeps

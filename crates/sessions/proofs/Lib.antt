@@ -1,11 +1,9 @@
 pub mod Newest
+pub mod Keeping
 pub mod Concluding
-pub mod Telling
 pub mod Moving
 pub mod Disabled
-pub mod Failing
 pub mod CourseSteps
-pub mod Beginning
 pub mod Lines
 pub mod AgendaLines
 pub mod Adding

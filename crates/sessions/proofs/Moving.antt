@@ -1,20 +1,18 @@
 -- From what an event comes to at a state, what is promised of it.
 use Rattle.std.proofs.Common.{◌≡◌, ◌⊎◌, inl, inr, ℕ, List, [], refl, ap, sym, ◌∙◌, subst, Bool, true, false, Option, Some, None}
-use Rattle.std.specs.Prelude.{not, is_some}
+use Rattle.std.specs.Prelude.{not}
 use Rattle.write_history.specs.declared.mark.Mark.{Mark}
 use Rattle.write_history.specs.declared.mark.Mark.TheVariants.{Clean}
 use Rattle.writer_state.specs.declared.writer_row.WriterRow.{WriterRow}
 use Rattle.vss_names.specs.declared.vss_result.VssResult.{VssResult}
-use Rattle.set_agenda.specs.Agenda.{Agenda, is_working, order_now}
-use Rattle.set_agenda.specs.WriterSet.{writers, writers_of}
+use Rattle.set_agenda.specs.Agenda.{is_working, order_now}
 use Rattle.requestor.specs.declared.verdict.Verdict.{Verdict}
 use Rattle.requestor.specs.declared.verdict.Verdict.TheVariants.{Go, Blocked, Refused}
 use Rattle.requestor.specs.declared.session_call.SessionCall.{SessionCall}
-use Rattle.requestor.specs.Check.{check}
-use Rattle.coordinator.specs.declared.running_agenda.RunningAgenda.{RunningAgenda}
+use Rattle.requestor.specs.Check.{check, check_other}
 use Rattle.coordinator.specs.Coordinator.{CoordinatorState, Stands, runs as runs_kept, works}
-use Rattle.coordinator.specs.KeptCourse.{FitsRun}
 use Rattle.coordinator.proofs.Following.{left-is}
+use Rattle.coordinator.proofs.Telling.{runs-is}
 use Rattle.scenario.specs.declared.op.Op.{Op}
 use Rattle.scenario.specs.declared.line.Line.{Line as Does}
 use Rattle.scenario.specs.declared.line.Line.TheVariants.{Calls}
@@ -33,76 +31,79 @@ use Rattle.vss_model.specs.Lines.{called, does, line}
 use Rattle.vss_model.specs.Acts.{Act, enabled, event_allows, happens, after, after_if, line_enabled, line_allows, may_call, may_do, is_blocked}
 use Rattle.vss_model.specs.Effects.{evicted, evicted_at, line_ticks, ticks_by, lost, lost_after, lost_order, lost_order_if, ended_of}
 use Rattle.vss_model.specs.Told.{Fits, mark_of}
-use Rattle.vss_model.specs.Outcome.{HasLists, EndsAs, told_act}
+use Rattle.vss_model.specs.Outcome.{HasLists, EndsAs, IsOutcome, told_act}
+use Rattle.vss_model.proofs.GoingOn.{Goes, other_goes}
 use Rattle.sessions.specs.declared.session_move.SessionMove.{SessionMove}
-use Rattle.sessions.specs.Told.{told_alone}
+use Rattle.sessions.specs.Concluded.{told_alone}
 use Rattle.sessions.specs.Keeps.{SessionsValue, Keeps, IsInOrder}
-use Rattle.sessions.specs.Moves.{IsMove, CameFrom, CameTo, ComesTo, LosesNobody, after_move, event_volumes}
-use Rattle.sessions.proofs.Telling.{ends_none}
+use Rattle.sessions.specs.Moves.{IsMove, CameTo, ComesTo, HasCome, after_move, event_volumes, images_after}
+use Rattle.sessions.proofs.Concluding.{no_end, nobody}
 
 -- ## an event
 
 -- what an enabled event comes to at a state
 pub record Happens (s : Plan) (st : State) (event : Event) (new : SessionsValue) (m : SessionMove) : Type 0 where
+  pub told : Told
   pub on : enabled s st event ≡ true
-  pub allowed : event_allows s st event (mark_of m.outcome.told) ≡ true
+  pub allowed : event_allows s st event (mark_of told) ≡ true
   pub reply : Reply
   pub after : State
-  pub does : happens s event (mark_of m.outcome.told) st ≡ (reply, after)
-  pub fits : (tells : List Bool) → Fits tells reply m.outcome.told
+  pub does : happens s event (mark_of told) st ≡ (reply, after)
+  pub fits : (tells : List Bool) → Fits tells reply told
   pub lists : (listed : List ℕ) (rows : List WriterRow) → rows ≡ after.course.rows → HasLists reply listed rows
   pub evicts : [] ≡ evicted s st event
-  pub loses : writers_of m.outcome.lost ≡ lost st event
-  pub order : m.outcome.lost_order ≡ lost_order st event
-  pub came : CameFrom (event_volumes event m.outcome.told st) st after new m
+  pub came : HasCome told (lost st event) (lost_order st event) (in_progress st) (event_volumes event told st) after new m
 
 after_enabled : (s : Plan) (st : State) (act : Act) → enabled s st act.event ≡ true → after s st act ≡ (happens s act.event act.mark st).1
 unfolding after
 after_enabled s st act e = ap (λ b. after_if b s st act) e
 
-after_is : (s : Plan) (st : State) (event : Event) (new : SessionsValue) (m : SessionMove) (h : Happens s st event new m) → after_move s st event m ≡ h.after
-after_is s st event new m h = after_enabled s st (told_act event m.outcome.told) h.on ∙ ap (λ (z : Replied). z.1) h.does
+module _ (s : Plan) (st : State) (event : Event) (new : SessionsValue) (m : SessionMove) (h : Happens s st event new m) where
+  does_so : happens s event (mark_of m.outcome.told) st ≡ (h.reply, h.after)
+  does_so = ap (λ (t : Told). happens s event (mark_of t) st) h.came.told ∙ h.does
+
+  after_is : after_move s st event m ≡ h.after
+  after_is = after_enabled s st (told_act event m.outcome.told) h.on ∙ ap (λ (z : Replied). z.1) does_so
+
+  outcome_is : (tells : List Bool) (listed : List ℕ) (rows : List WriterRow) → rows ≡ (after_move s st event m).course.rows → IsOutcome tells s st event m.outcome listed [] rows
+  outcome_is tells listed rows e =
+      let replied : (happens s event (mark_of m.outcome.told) st).0 ≡ h.reply = ap (λ (z : Replied). z.0) does_so in
+      record {
+        fits = subst (λ (r : Reply). Fits tells r m.outcome.told) (sym replied) (subst (Fits tells h.reply) (sym h.came.told) (h.fits tells));
+        lists = subst (λ (r : Reply). HasLists r listed rows) (sym replied) (h.lists listed rows (e ∙ ap (λ (z : State). z.course.rows) after_is));
+        evicts = h.evicts;
+        loses = h.came.lost;
+        order = h.came.order;
+        ends = subst (λ (z : State). EndsAs (ended_of (in_progress st) z.sets) m.outcome.set m.outcome.result) (sym after_is) h.came.ends;
+      }
 
 pub happens_moves : (P : State → Type 0) (s : Plan) (new : SessionsValue) (event : Event) (m : SessionMove) → ((st : State) → P st → Happens s st event new m) → IsMove P s new event m
 happens_moves P s new event m all = record {
   is_enabled = λ st p. (all st p).on;
-  is_allowed = λ st p. (all st p).allowed;
-  outcome = λ st tells listed rows p e.
-      let h = all st p in
-      let is = after_is s st event new m h in
-      let replied : (happens s event (mark_of m.outcome.told) st).0 ≡ h.reply = ap (λ (z : Replied). z.0) h.does in
-      record {
-        fits = subst (λ (r : Reply). Fits tells r m.outcome.told) (sym replied) (h.fits tells);
-        lists = subst (λ (r : Reply). HasLists r listed rows) (sym replied) (h.lists listed rows (e ∙ ap (λ (z : State). z.course.rows) is));
-        evicts = h.evicts;
-        loses = h.loses;
-        order = h.order;
-        ends = subst (λ (z : State). EndsAs (ended_of (in_progress st) z.sets) m.outcome.set m.outcome.result) (sym is) h.came.ends;
-      };
+  is_allowed = λ st p. let h = all st p in ap (λ (t : Told). event_allows s st event (mark_of t)) h.came.told ∙ h.allowed;
+  outcome = λ st tells listed rows p e. outcome_is s st event new m (all st p) tells listed rows e;
   keeps = λ st p. subst (Keeps new) (sym (after_is s st event new m (all st p))) (all st p).came.keeps;
-  volumes = λ st p. ap (λ (z : State). z.volumes) (after_is s st event new m (all st p)) ∙ (all st p).came.volumes;
+  volumes = λ st p.
+      let h = all st p in
+      ap (λ (z : State). z.volumes) (after_is s st event new m h) ∙ h.came.volumes ∙ ap (λ (t : Told). images_after m (event_volumes event t st)) (sym h.came.told);
 }
-
-pub nobody : writers_of 0 ≡ []
-unfolding writers
-nobody = refl
 
 -- ## a coordinator that stands for a course
 
-runs_fit : (a : Option RunningAgenda) (b : Option Agenda) → FitsRun a b → is_some a ≡ is_some b
-runs_fit None None h = refl
-runs_fit None (Some b) h = absurd h
-runs_fit (Some a) None h = absurd h
-runs_fit (Some a) (Some b) h = refl
-
 pub runs_same : (x : CoordinatorState) (st : State) → Stands x st.course → runs_kept x ≡ runs st
-runs_same x st h = runs_fit x.kept.running st.course.agenda h.follows.agenda
+runs_same x st h = runs-is x.kept.running st.course.agenda h.follows.agenda
 
 pub works_same : (x : CoordinatorState) (st : State) → Stands x st.course → works x ≡ is_working (left_now st)
 works_same x st h = ap is_working (left-is x.kept st.course h.follows)
 
 pub checked_same : (x : SessionsValue) (st : State) (lane : ℕ) (c : SessionCall) → Keeps x st → check x.requestor.session (runs_kept x.coordinator) lane c ≡ check st.session (runs st) lane c
 checked_same x st lane c h = ap (λ q. check q (runs_kept x.coordinator) lane c) h.session ∙ ap (λ b. check st.session b lane c) (runs_same x.coordinator st h.course)
+
+-- the call is the owner's
+pub owner_at : {x : SessionsValue} {st : State} {c : SessionCall} (lane : ℕ) → Keeps x st → check_other x.requestor.session (runs_kept x.coordinator) lane c ≡ Go → Goes st.session (runs st) c
+owner_at {x = x} {st = st} {c = c} lane kept goes =
+    other_goes st.session (runs st) lane c
+    (sym (ap (λ q. check_other q (runs_kept x.coordinator) lane c) kept.session ∙ ap (λ b. check_other st.session b lane c) (runs_same x.coordinator st kept.course)) ∙ goes)
 
 -- ## a line that is a session call
 
@@ -132,44 +133,40 @@ called_as : (c : SessionCall) (s : Plan) (lane : ℕ) (op : Op) (st : State) (v 
 unfolding called
 called_as c s lane op st v e = ap (λ v. judged v s lane op st) e
 
-allows_clean : (s : Plan) (st : State) (op : Op) → line_allows s st op Clean ≡ true
-allows_clean s st op = refl
-
 module _ (s : Plan) (st : State) (lane : ℕ) (op : Op) (c : SessionCall) (is : call_of op ≡ Some c) (new : SessionsValue) (m : SessionMove) where
   -- what it comes to, from the verdict of the checks
-  judged_happens : (v : Verdict) (reply : Reply) (after : State) → check st.session (runs st) lane c ≡ v → is_blocked v ≡ false → judged v s lane op st ≡ (reply, after)
-      → ((tells : List Bool) → Fits tells reply m.outcome.told) → ((listed : List ℕ) (rows : List WriterRow) → rows ≡ after.course.rows → HasLists reply listed rows)
-      → mark_of m.outcome.told ≡ Clean → LosesNobody m → CameTo st after new m → Happens s st (Line lane op) new m
-  judged_happens v reply after verdict free does fits lists clean loses came =
+  judged_happens : (v : Verdict) (t : Told) (reply : Reply) (after : State) → check st.session (runs st) lane c ≡ v → is_blocked v ≡ false → judged v s lane op st ≡ (reply, after)
+      → ((tells : List Bool) → Fits tells reply t) → ((listed : List ℕ) (rows : List WriterRow) → rows ≡ after.course.rows → HasLists reply listed rows)
+      → mark_of t ≡ Clean → CameTo t st after new m → Happens s st (Line lane op) new m
+  judged_happens v t reply after verdict free does fits lists clean came =
       let h : IsCallLine op c = call_line op c is in
       record {
+        told = t;
         on = h.goes s st lane ∙ ap (λ v. not (is_blocked v)) verdict ∙ ap not free;
-        allowed = ap (line_allows s st op) clean ∙ allows_clean s st op;
+        allowed = ap (line_allows s st op) clean;
         reply = reply;
         after = after;
-        does = h.does s st lane (mark_of m.outcome.told) ∙ called_as c s lane op st v verdict ∙ does;
+        does = h.does s st lane (mark_of t) ∙ called_as c s lane op st v verdict ∙ does;
         fits = fits;
         lists = lists;
         evicts = ap (evicted_at s st) (sym h.target);
-        loses = ap writers_of loses.lost ∙ nobody ∙ ap (λ k. lost_after k st) (sym h.ticks);
-        order = loses.order ∙ ap (λ k. lost_order_if (lost_after k st) (order_now (left_now st))) (sym h.ticks);
-        came = came;
+        came = subst (λ (k : Option ℕ). HasCome t (lost_after k st) (lost_order_if (lost_after k st) (order_now (left_now st))) (in_progress st) st.volumes after new m) (sym h.ticks) came;
       }
 
   pub line_happens : check st.session (runs st) lane c ≡ Go → ComesTo s lane op st new m → Happens s st (Line lane op) new m
-  line_happens verdict h = judged_happens Go h.reply h.after verdict refl h.does h.fits h.lists h.clean h.loses h.came
+  line_happens verdict h = judged_happens Go h.told h.reply h.after verdict refl h.does h.fits h.lists h.clean h.came
 
   pub line_waits : check st.session (runs st) lane c ≡ Blocked → enabled s st (Line lane op) ≡ false
   line_waits verdict = (call_line op c is).goes s st lane ∙ ap (λ v. not (is_blocked v)) verdict
 
 -- nothing changes, and nothing is dropped
-pub came_to_itself : (x : SessionsValue) (st : State) (t : Told) → IsInOrder st → Keeps x st → CameTo st st x (told_alone t)
-came_to_itself x st t order kept = record { keeps = kept; ends = ends_none st.sets (in_progress st) order.numbered order.newest refl; volumes = refl }
+pub came_to_itself : (x : SessionsValue) (st : State) (t : Told) → IsInOrder st → Keeps x st → CameTo t st st x (told_alone t)
+came_to_itself x st t order kept = record { told = refl; lost = nobody; order = refl; ends = no_end st order; volumes = refl; keeps = kept }
 
 pub refused_happens : (s : Plan) (st : State) (lane : ℕ) (op : Op) (c : SessionCall) (is : call_of op ≡ Some c) (x : SessionsValue) (why : VssResult)
     → check st.session (runs st) lane c ≡ Refused why → IsInOrder st → Keeps x st → Happens s st (Line lane op) x (told_alone (told.Result why))
 refused_happens s st lane op c is x why verdict order kept =
-    judged_happens s st lane op c is x (told_alone (told.Result why)) (Refused why) (Coded why) st verdict refl refl (λ tells. refl) (λ listed rows e. tt) refl (record { lost = refl; order = refl })
+    judged_happens s st lane op c is x (told_alone (told.Result why)) (Refused why) (told.Result why) (Coded why) st verdict refl refl (λ tells. refl) (λ listed rows e. tt) refl
     (came_to_itself x st (told.Result why) order kept)
 
 pub not_blocked : (v : Verdict) → (v ≡ Go) ⊎ ((x : VssResult) × (v ≡ Refused x)) → not (is_blocked v) ≡ true

@@ -11,14 +11,16 @@ use Rattle.vss_model.proofs.Orderly.{numbered-map, newest-map, numbered-settled,
 use Rattle.vss_model.proofs.OneCut.{newest_number}
 use Rattle.sessions.specs.declared.set_facts.SetFacts.{SetFacts}
 use Rattle.sessions.specs.Sets.{AreSets, bare, current_of, facts_of, is_complete_in, running_in, running_changed}
+use Rattle.std.proofs.lemmas.Bool.{and_left, cond-false, cond-true, eq-eqb, eqb-true, ne_eqb, or_from}
 
 -- ## the newest alone changes
 
 pub unchanged : (f : SetRow → SetRow) (r : SetRow) → is_running r.result ≡ false → running_changed f r ≡ r
-unchanged f r e = ap (λ (t : Bool). if t then f r else r) e
+unchanged f r e = cond-false (is_running r.result) _ _ e
 
 -- where the newest alone may be in progress, the others stay as they are
-pub changed_last : (f : SetRow → SetRow) (rows : List SetRow) (n : ℕ) (r : SetRow) → OverButNewest rows → slice_get rows n ≡ Some r → length rows ≡ suc n → map (running_changed f) rows ≡ slice_set rows n (running_changed f r)
+pub changed_last : (f : SetRow → SetRow) (rows : List SetRow) (n : ℕ) (r : SetRow) → OverButNewest rows → slice_get rows n ≡ Some r → length rows ≡ suc n
+    → map (running_changed f) rows ≡ slice_set rows n (running_changed f r)
 changed_last f [] n r h e long = cc
 changed_last f (q ∷ []) zero r h e long = let same : q ≡ r = cc in ap (λ (x : SetRow). running_changed f x ∷ []) same
 changed_last f (q ∷ []) (suc n) r h e long = cc
@@ -42,10 +44,6 @@ changed_none f (r ∷ rows) e =
     rest_none true x other e = cc
     rest_none false x other e = e
 
-pub found_if : (b : Bool) (r : SetRow) (found : Option SetRow) → b ≡ false → (if b then Some r else found) ≡ found
-found_if true r found e = cc
-found_if false r found e = refl
-
 -- the set in progress is the last, if that is in progress
 pub running_last : (rows : List SetRow) (n : ℕ) (r : SetRow) → OverButNewest rows → slice_get rows n ≡ Some r → length rows ≡ suc n → running_in rows ≡ running_in (r ∷ [])
 running_last [] n r h e long = cc
@@ -54,15 +52,9 @@ running_last (q ∷ []) (suc n) r h e long = cc
 running_last (q ∷ p ∷ rows) zero r h e long = absurd (omega (arith, long))
 running_last (q ∷ p ∷ rows) (suc n) r h e long =
     let rest : length (p ∷ rows) ≡ suc n = cc in
-    found_if (is_running q.result) q (running_in (p ∷ rows)) h.0 ∙ running_last (p ∷ rows) n r h.1 e rest
+    cond-false (is_running q.result) _ _ h.0 ∙ running_last (p ∷ rows) n r h.1 e rest
 
 -- ## a change by number
-
-pick : (b : Bool) (f : SetRow → SetRow) (r : SetRow) → (r.number == r.number) ≡ b → b ≡ true → row_changed r.number f r ≡ f r
-pick b f r e g = ap (λ (t : Bool). if t then f r else r) (e ∙ g)
-
-pub own : (a : ℕ) → (a == a) ≡ true
-own a = grind (arith, nat_tests)
 
 pub apart : (a b : ℕ) → a < b → (a == b) ≡ false
 apart a b l = grind (arith, nat_tests)
@@ -80,18 +72,18 @@ rest_found true q r found e f = cc
 rest_found false q r found e f = f
 
 -- the set in progress is changed, whether it is found by its number or by being in progress
-pub changed_by_number : (f : SetRow → SetRow) (m : ℕ) (rows : List SetRow) (r : SetRow) → NumberedFrom m rows → OverButNewest rows → running_in rows ≡ Some r → map (running_changed f) rows ≡ map (row_changed r.number f) rows
+pub changed_by_number : (f : SetRow → SetRow) (m : ℕ) (rows : List SetRow) (r : SetRow) → NumberedFrom m rows → OverButNewest rows → running_in rows ≡ Some r
+    → map (running_changed f) rows ≡ map (row_changed r.number f) rows
 changed_by_number f m [] r n h e = cc
 changed_by_number f m (q ∷ []) r n h e =
     let g = head_found (is_running q.result) q r refl e in
-    let is : running_changed f q ≡ f q = ap (λ (t : Bool). if t then f q else q) g.running in
-    let named : row_changed r.number f q ≡ f q = ap (λ (x : SetRow). row_changed x.number f q) (sym g.same) ∙ pick true f q (own q.number) refl in
-    ap (λ (x : SetRow). x ∷ []) (is ∙ sym named)
+    let named : row_changed r.number f q ≡ f q = cond-true (q.number == r.number) _ _ (eq-eqb _ _ (ap (λ (x : SetRow). x.number) g.same)) in
+    ap (λ (x : SetRow). x ∷ []) (cond-true (is_running q.result) _ _ g.running ∙ sym named)
 changed_by_number f m (q ∷ p ∷ rows) r n h e =
     let rest = rest_found (is_running q.result) q r (running_in (p ∷ rows)) h.0 e in
     let number = newest_number (m + 1) (p ∷ rows) r n.1 h.1 rest in
     let less : q.number < r.number = let first = n.0 in omega (arith, first, number) in
-    let named : row_changed r.number f q ≡ q = ap (λ (t : Bool). if t then f q else q) (apart q.number r.number less) in
+    let named : row_changed r.number f q ≡ q = cond-false (q.number == r.number) _ _ (apart q.number r.number less) in
     ap (λ (x : SetRow). x ∷ map (running_changed f) (p ∷ rows)) (unchanged f q h.0 ∙ sym named)
     ∙ ap (λ (xs : List SetRow). row_changed r.number f q ∷ xs) (changed_by_number f (m + 1) (p ∷ rows) r n.1 h.1 rest)
 
@@ -127,25 +119,16 @@ sets_started rows r h e n = record { numbered = numbered-append 1 rows r h.numbe
 
 -- ## a set by its number
 
-pub look_if : (b : Bool) (r : SetRow) (found : Option SetRow) → b ≡ true → (if b then Some r else found) ≡ Some r
-look_if true r found e = refl
-look_if false r found e = cc
-
 -- of rows numbered from m on, the one at place i has number m + i
 pub found_at : (m : ℕ) (rows : List SetRow) (i n : ℕ) → NumberedFrom m rows → n ≡ m + i → find (λ (r : SetRow). r.number == n) rows ≡ slice_get rows i
 found_at m [] zero n h e = refl
 found_at m [] (suc i) n h e = refl
-found_at m (r ∷ rows) zero n h e = look_if (r.number == n) r _ (let first = h.0 in let same : r.number ≡ n = omega (arith, first, e) in ap (λ (k : ℕ). r.number == k) (sym same) ∙ own r.number)
-found_at m (r ∷ rows) (suc i) n h e =
-    found_if (r.number == n) r _ (let first = h.0 in apart r.number n (omega (arith, first, e)))
-    ∙ found_at (m + 1) rows i n h.1 (omega (arith, e))
+found_at m (r ∷ rows) zero n h e = cond-true (r.number == n) _ _ (let first = h.0 in eq-eqb _ _ (omega (arith, first, e)))
+found_at m (r ∷ rows) (suc i) n h e = cond-false (r.number == n) _ _ (let first = h.0 in apart r.number n (omega (arith, first, e))) ∙ found_at (m + 1) rows i n h.1 (omega (arith, e))
 
 pub none_at_zero : (m : ℕ) (rows : List SetRow) → NumberedFrom m rows → 0 < m → find (λ (r : SetRow). r.number == 0) rows ≡ None
 none_at_zero m [] h l = refl
-none_at_zero m (r ∷ rows) h l = found_if (r.number == 0) r _ (let first = h.0 in more r.number (omega (arith, first, l))) ∙ none_at_zero (m + 1) rows h.1 (omega (arith, l))
-  where
-    more : (a : ℕ) → 0 < a → (a == 0) ≡ false
-    more a l = grind (arith, nat_tests)
+none_at_zero m (r ∷ rows) h l = cond-false (r.number == 0) _ _ (let first = h.0 in ne_eqb _ _ (λ e. omega (arith, first, l, e))) ∙ none_at_zero (m + 1) rows h.1 (omega (arith, l))
 
 pub running_is : (b : Bool) (r : SetRow) → is_running r.result ≡ b → running_in (r ∷ []) ≡ (if b then Some r else None)
 running_is b r e = ap (λ (t : Bool). if t then Some r else None) e
@@ -154,9 +137,6 @@ pub past_end : (rows : List SetRow) (i : ℕ) → length rows ≤ i → slice_ge
 past_end [] i l = refl
 past_end (r ∷ rows) zero l = absurd (omega (arith, l))
 past_end (r ∷ rows) (suc i) l = past_end rows i (omega (arith, l))
-
-is_number : (a b : ℕ) → (a == b) ≡ true → a ≡ b
-is_number a b e = grind (arith, nat_tests)
 
 abbrev pub is_complete_told : Option SetFacts → Bool
 is_complete_told None = false
@@ -169,14 +149,8 @@ complete_of (Some r) = is_complete r.result
 later_none : (m : ℕ) (rows : List SetRow) (n : ℕ) → NumberedFrom m rows → n < m → is_complete_in rows n ≡ false
 later_none m [] n h l = refl
 later_none m (r ∷ rows) n h l =
-    no_more (r.number == n) (is_complete r.result) (is_complete_in rows n) (let first = h.0 in above r.number n (omega (arith, first, l))) (later_none (m + 1) rows n h.1 (omega (arith, l)))
-  where
-    above : (a b : ℕ) → b < a → (a == b) ≡ false
-    above a b l = grind (arith, nat_tests)
-
-    no_more : (a b c : Bool) → a ≡ false → c ≡ false → ((a && b) || c) ≡ false
-    no_more true b c e f = cc
-    no_more false b c e f = f
+    or_from ((r.number == n) && is_complete r.result) (is_complete_in rows n) (and_left (r.number == n) _ (let first = h.0 in ne_eqb _ _ (λ e. omega (arith, first, l, e))))
+    (later_none (m + 1) rows n h.1 (omega (arith, l)))
 
 -- a set is complete where the one of its number is
 complete_found : (m : ℕ) (rows : List SetRow) (n : ℕ) → NumberedFrom m rows → is_complete_in rows n ≡ complete_of (find (λ (r : SetRow). r.number == n) rows)
@@ -187,11 +161,13 @@ complete_found m (r ∷ rows) n h = by_number (complete_found (m + 1) rows n h.1
     or_none true c e = refl
     or_none false c e = e
 
-    by_number : is_complete_in rows n ≡ complete_of (find (λ (q : SetRow). q.number == n) rows) → (b : Bool) → (r.number == n) ≡ b → ((b && is_complete r.result) || is_complete_in rows n) ≡ complete_of (if b then Some r else find (λ (q : SetRow). q.number == n) rows)
-    by_number rest true e = or_none (is_complete r.result) (is_complete_in rows n) (later_none (m + 1) rows n h.1 (let first = h.0 in let same = is_number r.number n e in omega (arith, first, same)))
+    by_number : is_complete_in rows n ≡ complete_of (find (λ (q : SetRow). q.number == n) rows) → (b : Bool) → (r.number == n) ≡ b
+        → ((b && is_complete r.result) || is_complete_in rows n) ≡ complete_of (if b then Some r else find (λ (q : SetRow). q.number == n) rows)
+    by_number rest true e = or_none (is_complete r.result) (is_complete_in rows n) (later_none (m + 1) rows n h.1 (let first = h.0 in let same = eqb-true r.number n e in omega (arith, first, same)))
     by_number rest false e = rest
 
-pub complete_by_facts : (rows : List SetRow) (n : ℕ) (o : Option SetFacts) → AreSets rows → o ≡ option_map facts_of (find (λ (r : SetRow). r.number == n) rows) → is_complete_in rows n ≡ is_complete_told o
+pub complete_by_facts : (rows : List SetRow) (n : ℕ) (o : Option SetFacts) → AreSets rows → o ≡ option_map facts_of (find (λ (r : SetRow). r.number == n) rows)
+    → is_complete_in rows n ≡ is_complete_told o
 complete_by_facts rows n o h e = complete_found 1 rows n h.numbered ∙ told (find (λ (r : SetRow). r.number == n) rows) ∙ ap is_complete_told (sym e)
   where
     told : (x : Option SetRow) → complete_of x ≡ is_complete_told (option_map facts_of x)

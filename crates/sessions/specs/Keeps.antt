@@ -9,8 +9,9 @@ use Rattle.coordinator.specs.Coordinator.{CoordinatorState, Registered, Stands, 
 use Rattle.scenario.specs.Plan.{Plan, WriterPlan}
 use Rattle.vss_model.specs.State.{State, SetRow, in_progress}
 use Rattle.vss_model.specs.Facts.{IsOfSession, NumberedFrom, OverButNewest}
-use Rattle.vss_model.specs.Sessions.{known_metas}
+use Rattle.vss_model.specs.Sessions.{known_metas, selected}
 use Rattle.sessions.specs.Sets.{bare}
+use Rattle.sessions.specs.declared.sessions.Sessions.TheInside.{Inside}
 
 pub record SessionsValue : Type 0 where
   pub requestor : Requestor
@@ -20,15 +21,14 @@ pub record SessionsValue : Type 0 where
   -- the components that the session has named
   pub selection : Held
 
+-- what contracts see of the sessions: their parts
+abbrev pub value_of : Inside → SessionsValue
+value_of a =
+    record { requestor = a.requestor; coordinator = a.coordinator; sets = a.sets; clock = a.clock; selection = a.selection }
+
 -- the same, but that nothing is named
 abbrev pub nothing_named_in : SessionsValue → SessionsValue
-nothing_named_in x = record {
-  requestor = x.requestor;
-  coordinator = x.coordinator;
-  sets = x.sets;
-  clock = x.clock;
-  selection = record { writers = writer_count x.coordinator; selected = Named [] };
-}
+nothing_named_in x = record x { selection = record { writers = writer_count x.coordinator; selected = Named [] } }
 
 -- This stands for all of a state but the volumes, and which of them are in a set.
 pub record Keeps (x : SessionsValue) (st : State) : Type 0 where
@@ -72,22 +72,19 @@ pub record IsAt (x : SessionsValue) (s : Plan) (st : State) : Type 0 where
   pub order : IsInOrder st
   pub named : IsSelectedOver (known_metas s st) (Named st.explicit)
 
--- It stands for some such state, so early in a run that no count is near its end. Calls ask for this.
-pub record IsStanding (x : SessionsValue) : Type 0 where
-  pub plan : Plan
-  pub state : State
-  pub at : IsAt x plan state
-  pub posts : MayPost x.coordinator
-  pub sets : length state.sets < 2 ^ 32 - 1
-  pub early : x.clock < 2 ^ 62
-
--- the same, for a state of this scenario
+-- It stands for such a state, so early in a run that no count is near its end.
 pub record IsStandingIn (s : Plan) (x : SessionsValue) : Type 0 where
   pub state : State
   pub at : IsAt x s state
   pub posts : MayPost x.coordinator
   pub sets : length state.sets < 2 ^ 32 - 1
   pub early : x.clock < 2 ^ 62
+
+-- the same, for some scenario
+pub record IsStanding (x : SessionsValue) : Type 0 where
+  pub plan : Plan
+  pub standing : IsStandingIn plan x
+  pub open standing use *
 
 -- ## what each call leaves
 
@@ -113,7 +110,7 @@ owner_of x = option_map (λ session. session.owner) x.requestor.session
 
 -- the same, so many ticks later
 abbrev pub later_by : ℕ → SessionsValue → SessionsValue
-later_by n x = record { requestor = x.requestor; coordinator = x.coordinator; sets = x.sets; clock = x.clock + n; selection = x.selection }
+later_by n x = record x { clock = x.clock + n }
 
 -- at most so many ticks went by
 pub record LeavesWithin (most : ℕ) (old new : SessionsValue) : Type 0 where

@@ -2,14 +2,13 @@
 -- reply and effects are those of the definitions, and after which what is kept stands for the state after it. (This
 -- project's own.)
 use Rattle.std.specs.Prelude.{ℕ, ◌≡◌, Bool, true, false, List, [], Option, Some, None}
+use Rattle.vss_names.specs.declared.order.Order.{Order}
 use Rattle.vss_names.specs.declared.vss_result.VssResult.{VssResult}
 use Rattle.vss_names.specs.declared.vss_result.VssResult.TheVariants.{AsyncPending}
 use Rattle.write_history.specs.History.{History}
 use Rattle.write_history.specs.declared.mark.Mark.TheVariants.{Clean}
 use Rattle.writer_state.specs.declared.writer_row.WriterRow.{WriterRow}
 use Rattle.set_agenda.specs.declared.group.Group.{Group}
-use Rattle.set_agenda.specs.declared.group.Group.TheVariants.{Orders, PreCommit, Flush, Hold, Commit, Release, PostCommit}
-use Rattle.set_agenda.specs.declared.group.Group.TheVariants as group
 use Rattle.set_agenda.specs.declared.kind.Kind.{Kind}
 use Rattle.set_agenda.specs.Agenda.{next_volume, open_group, order_now}
 use Rattle.set_agenda.specs.WriterSet.{writers_of}
@@ -17,6 +16,8 @@ use Rattle.set_agenda.specs.Course.{Course, released}
 use Rattle.component_doc.specs.Held.{Held}
 use Rattle.coordinator.specs.Beginning.{begun_as}
 use Rattle.coordinator.specs.Coordinator.{runs, works}
+use Rattle.coordinator.specs.Effects.{Tells}
+use Rattle.coordinator.specs.declared.effects.Effects.{Effects}
 use Rattle.requestor.specs.declared.mode.Mode.{Mode}
 use Rattle.requestor.specs.declared.mode.Mode.TheVariants.{Components, All}
 use Rattle.requestor.specs.declared.session_call.SessionCall.{SessionCall}
@@ -28,7 +29,7 @@ use Rattle.scenario.specs.declared.op.Op.{Op}
 use Rattle.scenario.specs.declared.op.Op.TheVariants.{Add, Component, Document, Start, Gather, Prepare, Snapshot, Complete}
 use Rattle.scenario.specs.Plan.{Plan}
 use Rattle.vss_model.specs.declared.event.Event.{Event}
-use Rattle.vss_model.specs.declared.event.Event.TheVariants.{Line, Answer, Provider, Idle}
+use Rattle.vss_model.specs.declared.event.Event.TheVariants.{Provider}
 use Rattle.vss_model.specs.declared.told.Told.{Told}
 use Rattle.vss_model.specs.declared.told.Told.TheVariants as told
 use Rattle.vss_model.specs.State.{State, SetRow, in_progress, left_now}
@@ -45,6 +46,7 @@ use Rattle.sessions.specs.declared.called.Called.TheVariants.{Waits, Moves}
 use Rattle.sessions.specs.declared.session_move.SessionMove.{SessionMove}
 use Rattle.sessions.specs.Keeps.{SessionsValue, Keeps, IsInOrder, IsAt}
 use Rattle.sessions.specs.Concluded.{failed_set, without_images}
+use Rattle.set_agenda.specs.declared.kind.Kind.TheVariants as kind
 
 -- The images after a move, of those after what its event does itself: a set that fails in it loses its images, and so
 -- does the set that is released with its session.
@@ -62,10 +64,8 @@ volumes_by_step _ st = st.volumes
 
 -- what an event does itself to the volumes: a step of the provider alone does something
 abbrev pub event_volumes : Event → Told → State → List History
-event_volumes (Line lane op) t st = st.volumes
-event_volumes (Answer w a) t st = st.volumes
 event_volumes Provider t st = volumes_by_step t st
-event_volumes Idle t st = st.volumes
+event_volumes _ t st = st.volumes
 
 abbrev pub after_move : Plan → State → Event → SessionMove → State
 after_move s st event m = after s st (told_act event m.outcome.told)
@@ -91,21 +91,25 @@ IsCall P s old new event (Moves m) = IsMove P s new event m
 
 -- ## what follows, whatever the event
 
--- The state went on from st to this one, after its event made these volumes: what is kept stands for it, and the move
--- tells which set ended and whose images go.
-pub record CameFrom (made : List History) (st after : State) (new : SessionsValue) (m : SessionMove) : Type 0 where
-  pub keeps : Keeps new after
-  pub ends : EndsAs (ended_of (in_progress st) after.sets) m.outcome.set m.outcome.result
+-- The state went on to this one, after its event made these volumes and where this set was in progress: what is kept
+-- stands for it, and the move tells the reply, the writers that were lost at an order, which set ended, and whose images
+-- go.
+pub record HasCome (t : Told) (gone : List ℕ) (at : Option Order) (found : Option SetRow) (made : List History) (after : State) (new : SessionsValue) (m : SessionMove) : Type 0 where
+  pub told : m.outcome.told ≡ t
+  pub lost : writers_of m.outcome.lost ≡ gone
+  pub order : m.outcome.lost_order ≡ at
+  pub ends : EndsAs (ended_of found after.sets) m.outcome.set m.outcome.result
   pub volumes : after.volumes ≡ images_after m made
+  pub keeps : Keeps new after
 
--- the event did nothing to the volumes
-abbrev pub CameTo : State → State → SessionsValue → SessionMove → Type 0
-CameTo st after new m = CameFrom st.volumes st after new m
+-- no writer was lost, and the event did nothing to the volumes
+abbrev pub CameTo : Told → State → State → SessionsValue → SessionMove → Type 0
+CameTo t st after new m = HasCome t [] None (in_progress st) st.volumes after new m
 
--- it tells no lost writer
-pub record LosesNobody (m : SessionMove) : Type 0 where
-  pub lost : m.outcome.lost ≡ 0
-  pub order : m.outcome.lost_order ≡ None
+-- The course went on from that of st to c, as these effects tell, and what follows from it was done.
+abbrev pub Concludes : Told → Effects → SessionsValue → SessionsValue → SessionMove → Type 0
+Concludes t e old new m = (st : State) (c : Course) (ran : Bool) (gone : List ℕ) (at : Option Order) → IsInOrder st
+    → Keeps old (record st { course = c }) → Tells e ran gone at st.course c → HasCome t gone at (in_progress st) st.volumes (followed ran c st) new m
 
 -- ## the states of a call
 
@@ -128,30 +132,22 @@ LetsGo x lane c = check x.requestor.session (runs x.coordinator) lane c ≡ Go
 abbrev pub LetsGoAtRest : SessionsValue → ℕ → SessionCall → Type 0
 LetsGoAtRest x lane c = check x.requestor.session false lane c ≡ Go
 
--- What the line comes to at a state, once the checks let it go: this reply, and the state afterwards.
+-- What the line comes to at a state, once the checks let it go: this reply, which is told so, and the state afterwards.
 pub record ComesTo (s : Plan) (lane : ℕ) (op : Op) (st : State) (new : SessionsValue) (m : SessionMove) : Type 0 where
+  pub told : Told
   pub reply : Reply
   pub after : State
   pub does : line_in s lane op st.session st ≡ (reply, after)
-  pub fits : (tells : List Bool) → Fits tells reply m.outcome.told
+  pub fits : (tells : List Bool) → Fits tells reply told
   pub lists : (listed : List ℕ) (rows : List WriterRow) → rows ≡ after.course.rows → HasLists reply listed rows
-  pub clean : mark_of m.outcome.told ≡ Clean
-  pub loses : LosesNobody m
-  pub came : CameTo st after new m
+  pub clean : mark_of told ≡ Clean
+  pub came : CameTo told st after new m
 
 -- at each state at which what was kept before is
-abbrev pub IsGone : SessionsValue → SessionsValue → ℕ → Op → SessionMove → Type 0
-IsGone old new lane op m = (s : Plan) (st : State) → IsAt old s st → ComesTo s lane op st new m
-
--- of this scenario alone
 abbrev pub IsGoneIn : Plan → SessionsValue → SessionsValue → ℕ → Op → SessionMove → Type 0
 IsGoneIn s old new lane op m = (st : State) → IsAt old s st → ComesTo s lane op st new m
 
 -- where these are the volumes of the set in progress
-abbrev pub IsGoneOver : List ℕ → SessionsValue → SessionsValue → ℕ → Op → SessionMove → Type 0
-IsGoneOver vs old new lane op m = (s : Plan) (st : State) → IsAtOver vs old s st → ComesTo s lane op st new m
-
--- what every line promises, once the checks let it go
 abbrev pub IsGoneAs : Plan → List ℕ → SessionsValue → SessionsValue → ℕ → Op → SessionMove → Type 0
 IsGoneAs s vs old new lane op m = (st : State) → IsAtOver vs old s st → ComesTo s lane op st new m
 
@@ -163,7 +159,7 @@ IsClosed old new = (st : State) (hs : List History) → Keeps old st
 -- An agenda of this kind began, over this selection and these volumes, with what follows.
 abbrev pub HasBegun : Kind → Held → List ℕ → SessionsValue → SessionsValue → SessionMove → Type 0
 HasBegun kind h vs old new m = (st : State) (c : Course) → IsInOrder st → Keeps old st → c ≡ begun_as kind old.coordinator.writers h vs st.clock st.course
-    → (m.outcome.told ≡ told.Result AsyncPending) × LosesNobody m × CameTo st (followed true c st) new m
+    → CameTo (told.Result AsyncPending) st (followed true c st) new m
 
 -- a volume may join the set in progress: there is one, and no agenda runs
 pub record MayAdd (st : State) : Type 0 where
@@ -179,16 +175,6 @@ pub record IsNextStep (x : SessionsValue) (g : Group) (v : Option ℕ) : Type 0 
   pub group : (st : State) → Keeps x st → open_group (left_now st) ≡ Some g
   pub volume : (st : State) → Keeps x st → next_volume (left_now st) ≡ v
 
-abbrev pub is_cut : Group → Bool
-is_cut (Orders o) = false
-is_cut PreCommit = false
-is_cut Flush = false
-is_cut Hold = false
-is_cut group.Cut = true
-is_cut Commit = false
-is_cut Release = false
-is_cut PostCommit = false
-
 -- what a step of this group does beside its entry in the log was done
 abbrev pub HasCut : Group → SessionsValue → SessionsValue → Type 0
 HasCut g old new = (st : State) → IsInOrder st → Keeps old st → Keeps new (step_made (Some g) st)
@@ -196,15 +182,14 @@ HasCut g old new = (st : State) → IsInOrder st → Keeps old st → Keeps new 
 -- the provider made its step, or a device failed it
 abbrev pub HasStepped : Bool → Group → Option ℕ → SessionsValue → SessionsValue → SessionMove → Type 0
 HasStepped fails g v old new m = (st : State) → IsInOrder st → Keeps old st → open_group (left_now st) ≡ Some g
-    → (m.outcome.told ≡ told.Step g v fails) × LosesNobody m × CameFrom (stepped_volumes fails g st) st (stepped_as fails (Some g) st) new m
+    → HasCome (told.Step g v fails) [] None (in_progress st) (stepped_volumes fails g st) (stepped_as fails (Some g) st) new m
 
 -- ## time
 
 -- so many ticks went by, with what follows, and this is told
 abbrev pub HasGoneOn : Told → ℕ → SessionsValue → SessionsValue → SessionMove → Type 0
-HasGoneOn t ticks old new m = (st : State) → IsInOrder st → Keeps old st
-    → (m.outcome.told ≡ t) × (writers_of m.outcome.lost ≡ lost_after (Some ticks) st)
-    × (m.outcome.lost_order ≡ lost_order_if (lost_after (Some ticks) st) (order_now (left_now st))) × CameTo st (ticked ticks st) new m
+HasGoneOn t ticks old new m = (st : State) → IsInOrder st → Keeps old st → HasCome t (lost_after (Some ticks) st)
+    (lost_order_if (lost_after (Some ticks) st) (order_now (left_now st))) (in_progress st) st.volumes (ticked ticks st) new m
 
 -- ## what the session selects
 
@@ -239,3 +224,7 @@ takes_memory _ = false
 -- the set in progress failed, for this reason
 abbrev pub IsFailed : SessionsValue → SessionsValue → VssResult → Type 0
 IsFailed old new why = (st : State) → IsInOrder st → Keeps old st → Keeps new (failed_in (in_progress st) why st)
+
+-- and this is the move in which it did
+abbrev pub IsFailedSo : SessionsValue → SessionsValue → VssResult → SessionMove → Type 0
+IsFailedSo old new why m = (st : State) → IsInOrder st → Keeps old st → CameTo told.Ok st (failed_in (in_progress st) why st) new m

@@ -1,9 +1,10 @@
 ghost use Rattle.std.specs.Prelude.{◌≡◌, false, true, IfOk, OnErr};
 ghost use Rattle.coordinator.specs.Coordinator.{MayPost, writer_count};
 ghost use Rattle.set_agenda.specs.Begin.{are_distinct};
+ghost use Rattle.scenario.specs.Plan.{Plan};
 ghost use Rattle.scenario.specs.declared.op.Op.TheVariants as op;
 ghost use Rattle.sessions.specs.Keeps.{Leaves};
-ghost use Rattle.sessions.specs.Moves.{IsGone, IsGoneOver, LetsGo};
+ghost use Rattle.sessions.specs.Moves.{IsGoneAs, IsGoneIn, LetsGo};
 
 use crate::session_move::SessionMove;
 use crate::sessions::Sessions;
@@ -19,7 +20,7 @@ impl Sessions {
         requires room { MayPost self.old.coordinator }
         requires over { self.old.selection.writers ≡ writer_count self.old.coordinator }
         requires goes { LetsGo self.old lane SessionCall.Gather }
-        ensures gone { IfOk result (IsGone self.old self.new lane op.Gather) }
+        ensures gone { IfOk result (λ m. (s : Plan) → IsGoneIn s self.old self.new lane op.Gather m) }
         ensures unchanged { OnErr result (self.new ≡ self.old) }
         ensures leaves { Leaves self.old self.new }
     {
@@ -32,7 +33,7 @@ impl Sessions {
         requires room { MayPost self.old.coordinator }
         requires over { self.old.selection.writers ≡ writer_count self.old.coordinator }
         requires goes { LetsGo self.old lane SessionCall.Complete }
-        ensures gone { IfOk result (IsGone self.old self.new lane op.Complete) }
+        ensures gone { IfOk result (λ m. (s : Plan) → IsGoneIn s self.old self.new lane op.Complete m) }
         ensures unchanged { OnErr result (self.new ≡ self.old) }
         ensures leaves { Leaves self.old self.new }
     {
@@ -51,7 +52,7 @@ impl Sessions {
         requires room { MayPost self.old.coordinator }
         requires over { self.old.selection.writers ≡ writer_count self.old.coordinator }
         requires goes { LetsGo self.old lane SessionCall.Snapshot }
-        ensures gone { IfOk result (IsGoneOver volumes.now self.old self.new lane op.Snapshot) }
+        ensures gone { IfOk result (λ m. (s : Plan) → IsGoneAs s volumes.now self.old self.new lane op.Snapshot m) }
         ensures unchanged { OnErr result (self.new ≡ self.old) }
         ensures leaves { Leaves self.old self.new }
     {

@@ -16,7 +16,7 @@ use component_doc::Selection;
 use set_agenda::Kind;
 use std::alloc::Global;
 use tick_limits::Clock;
-use vss_model::{Outcome, Told};
+use vss_model::Told;
 use vss_names::{OutOfMemory, VssResult};
 
 impl Sessions {
@@ -41,9 +41,7 @@ impl Sessions {
         let effects = self
             .coordinator
             .begin_agenda(alloc, kind, 0, volumes, selection, now)?;
-        let ended = self.conclude(effects.outcome, effects.agenda_ended);
-        let told = Told::Result(VssResult::AsyncPending);
-        Ok(SessionMove::with(told, ended))
+        Ok(self.conclude(Told::Result(VssResult::AsyncPending), effects))
     }
 
     /// The clock goes on by so many ticks: the line `tick`. A limit that is spent is treated in the same move.
@@ -83,17 +81,7 @@ impl Sessions {
         go_on_by(&mut self.clock, ticks);
         let now = self.clock.now();
         let effects = self.coordinator.time(now);
-        let ended = self.conclude(effects.outcome, effects.agenda_ended);
-        SessionMove {
-            outcome: Outcome {
-                told,
-                lost: effects.lost,
-                lost_order: effects.lost_order,
-                set: ended.set,
-                result: ended.result,
-            },
-            released: None,
-        }
+        self.conclude(told, effects)
     }
 }
 

@@ -1,10 +1,11 @@
 ghost use Rattle.std.specs.Prelude.{◌≡◌, ◌<◌, ◌&&◌, Some, length, not, false, true};
 ghost use Rattle.coordinator.specs.Coordinator.{MayPost, works, writer_count};
 ghost use Rattle.scenario.specs.Plan.{Plan};
+ghost use Rattle.vss_model.specs.Cut.{is_cut_group};
 ghost use Rattle.vss_model.specs.Steps.{is_flush};
 ghost use Rattle.vss_model.specs.declared.event.Event.TheVariants.{Answer as AnswerEvent, Provider};
 ghost use Rattle.sessions.specs.Keeps.{IsAt, IsStanding, Leaves};
-ghost use Rattle.sessions.specs.Moves.{HasCut, HasStepped, IsCall, IsMove, IsNextStep, is_cut};
+ghost use Rattle.sessions.specs.Moves.{HasCut, HasStepped, IsCall, IsMove, IsNextStep};
 
 use crate::called::Called;
 use crate::session_move::SessionMove;
@@ -31,12 +32,11 @@ impl Sessions {
         {
             Err(_) => Called::Waits,
             Ok(effects) => {
-                let ended = self.conclude(effects.outcome, effects.agenda_ended);
                 let told = Told::Answered {
                     order: standing.order,
                     answer,
                 };
-                Called::Moves(SessionMove::with(told, ended))
+                Called::Moves(self.conclude(told, effects))
             }
         }
     }
@@ -67,13 +67,12 @@ impl Sessions {
     {
         let now = self.clock.now();
         let effects = self.coordinator.stepped(false, now);
-        let ended = self.conclude(effects.outcome, effects.agenda_ended);
         let told = Told::Step {
             group,
             volume,
             fault: true,
         };
-        SessionMove::with(told, ended)
+        self.conclude(told, effects)
     }
 
     /// The step is made. At the Cut step the set in progress gets the time of its cut.
@@ -87,13 +86,12 @@ impl Sessions {
         let now = self.clock.now();
         self.cut_at(group, now);
         let effects = self.coordinator.stepped(true, now);
-        let ended = self.conclude(effects.outcome, effects.agenda_ended);
         let told = Told::Step {
             group,
             volume,
             fault: false,
         };
-        SessionMove::with(told, ended)
+        self.conclude(told, effects)
     }
 
     /// At the Cut step the set in progress gets the time of its cut.
@@ -128,7 +126,7 @@ fn fails_at(group: Group, ok: bool) -> bool
 }
 
 fn is_cut(group: Group) -> bool
-    ensures { result ≡ is_cut group }
+    ensures { result ≡ is_cut_group (Some group) }
 {
     match group {
         Group::Cut => true,

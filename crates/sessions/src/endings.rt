@@ -1,12 +1,15 @@
-ghost use Rattle.std.specs.Prelude.{◌≡◌, ◌||◌, length, option_map, false};
+ghost use Rattle.std.specs.Prelude.{◌≡◌, ◌||◌, length, None, false};
 ghost use Rattle.vss_model.specs.Facts.{has_failed};
-ghost use Rattle.sessions.specs.Concluded.{IsConcluded, IsConcludedTold, IsFailedTold, ended_so, ends_as, nothing_ends};
+ghost use Rattle.sessions.specs.Concluded.{ended_so, ends_as, nothing_ends};
 ghost use Rattle.sessions.specs.Keeps.{KeepsCounts, Leaves, owner_of};
-ghost use Rattle.sessions.specs.Moves.{IsFailed};
+ghost use Rattle.sessions.specs.Moves.{Concludes, IsFailed, IsFailedSo};
 ghost use Rattle.sessions.specs.Sets.{current_of};
 
 use crate::ended::Ended;
+use crate::session_move::SessionMove;
 use crate::sessions::Sessions;
+use coordinator::Effects;
+use vss_model::Told;
 use vss_names::{SetOutcome, VssResult};
 
 impl Sessions {
@@ -20,20 +23,21 @@ impl Sessions {
         self.sets.settle(outcome);
     }
 
-    /// What follows from a step of the course.
-    pub(crate) fn conclude(&mut self, outcome: SetOutcome, agenda_ended: bool) -> Ended
-        ensures keeps { IsConcluded self.old self.new outcome agenda_ended }
-        ensures told { IsConcludedTold self.old outcome agenda_ended result }
+    /// What follows from a step of the course, of which the coordinator told these effects.
+    pub(crate) fn conclude(&mut self, told: Told, effects: Effects) -> SessionMove
+        ensures concludes { Concludes told effects self.old self.new result }
+        ensures told { result.outcome.told ≡ told }
         ensures coordinator { self.new.coordinator ≡ self.old.coordinator }
         ensures clock { self.new.clock ≡ self.old.clock }
         ensures sets { length self.new.sets ≡ length self.old.sets }
     {
-        if !ends(outcome, agenda_ended) {
-            return nothing_ends();
+        if !ends(effects.outcome, effects.agenda_ended) {
+            return SessionMove::of(told, effects.lost, effects.lost_order, nothing_ends());
         }
         let current = self.sets.current();
-        self.end_so(outcome);
-        ends_as(current, outcome)
+        self.end_so(effects.outcome);
+        let ended = ends_as(current, effects.outcome);
+        SessionMove::of(told, effects.lost, effects.lost_order, ended)
     }
 
     /// The set in progress fails; its number, where there was one. Its images are the caller's to drop.
@@ -44,21 +48,25 @@ impl Sessions {
         ensures counts { KeepsCounts self.old self.new }
         ensures leaves { Leaves self.old self.new }
     {
-        let set = self.sets.current()?;
-        let _effects = self.coordinator.fail(why);
-        self.end_so(SetOutcome::Failed(why));
-        Some(set)
+        let set = self.sets.current();
+        let _move = self.fail_so(why);
+        set
     }
 
-    /// The same; what ends by it.
-    pub(crate) fn fail_so(&mut self, why: VssResult) -> Ended
-        ensures failed { IsFailed self.old self.new why }
-        ensures told { IsFailedTold self.old why result }
+    /// The same, as the move of a line.
+    pub(crate) fn fail_so(&mut self, why: VssResult) -> SessionMove
+        ensures failed { IsFailedSo self.old self.new why result }
+        ensures kept { result.released ≡ None }
         ensures owner { owner_of self.new ≡ owner_of self.old }
         ensures counts { KeepsCounts self.old self.new }
     {
-        let set = self.fail(why);
-        ends_as(set, SetOutcome::Failed(why))
+        let Some(set) = self.sets.current() else {
+            return SessionMove::alone(Told::Ok);
+        };
+        let _effects = self.coordinator.fail(why);
+        let failed = SetOutcome::Failed(why);
+        self.end_so(failed);
+        SessionMove::of(Told::Ok, 0, None, ends_as(Some(set), failed))
     }
 }
 

@@ -6,7 +6,7 @@ ghost use Rattle.scenario.specs.declared.op.Op.TheVariants as op;
 ghost use Rattle.sessions.specs.Keeps.{IsStandingIn, Leaves};
 ghost use Rattle.block_data.specs.Digest.{sha256};
 ghost use Rattle.sessions.specs.Moves.{IsDocumentIn, IsGoneAs, IsGoneIn, LetsGo, takes_all_of};
-ghost use Rattle.sessions.specs.Told.{told_named};
+ghost use Rattle.sessions.specs.Concluded.{told_named};
 
 use crate::session_move::SessionMove;
 use crate::sessions::Sessions;

@@ -1,9 +1,10 @@
 ghost use Rattle.std.specs.Prelude.{◌≡◌, ◌<◌, ◌^◌, ◌-◌, ◌+◌, false, IfOk, OnErr, length};
 ghost use Rattle.coordinator.specs.Coordinator.{writer_count};
+ghost use Rattle.scenario.specs.Plan.{Plan};
 ghost use Rattle.scenario.specs.declared.op.Op.TheVariants as op;
 ghost use Rattle.sessions.specs.Keeps.{KeepsCounts, IsStanding, Leaves, nothing_named_in};
-ghost use Rattle.sessions.specs.Moves.{IsClosed, IsGone, LetsGo, LetsGoAtRest};
-ghost use Rattle.sessions.specs.Told.{released_by};
+ghost use Rattle.sessions.specs.Moves.{IsClosed, IsGoneIn, LetsGo, LetsGoAtRest};
+ghost use Rattle.sessions.specs.Concluded.{released_by};
 
 use crate::session_move::SessionMove;
 use crate::sessions::{Sessions, nothing_named};
@@ -16,7 +17,7 @@ impl Sessions {
     /// A session begins, in which nothing is named.
     pub(crate) fn begin(&mut self, alloc: Global, lane: u32, context: u32, all: bool) -> SessionMove
         requires goes { LetsGo self.old lane (SessionCall.Begin context all) }
-        ensures gone { IsGone self.old self.new lane (op.Begin context all) result }
+        ensures gone { (s : Plan) → IsGoneIn s self.old self.new lane (op.Begin context all) result }
         ensures leaves { Leaves self.old self.new }
     {
         if context_of(context, all).is_none() {
@@ -40,7 +41,7 @@ impl Sessions {
         requires standing { IsStanding self.old }
         requires goes { LetsGo self.old lane SessionCall.Start }
         requires at_rest { LetsGoAtRest self.old lane SessionCall.Start }
-        ensures gone { IfOk result (IsGone self.old self.new lane op.Start) }
+        ensures gone { IfOk result (λ m. (s : Plan) → IsGoneIn s self.old self.new lane op.Start m) }
         ensures unchanged { OnErr result (self.new ≡ self.old) }
         ensures leaves { Leaves self.old self.new }
     {
@@ -57,7 +58,7 @@ impl Sessions {
     /// The result of the last agenda, or of the set's failure.
     pub(crate) fn await_last(&mut self, lane: u32) -> SessionMove
         requires goes { LetsGo self.old lane SessionCall.Await }
-        ensures gone { IsGone self.old self.new lane op.Await result }
+        ensures gone { (s : Plan) → IsGoneIn s self.old self.new lane op.Await result }
         ensures leaves { Leaves self.old self.new }
     {
         let _lane = lane;
@@ -68,7 +69,7 @@ impl Sessions {
     /// The writers' rows are shown; they are lent by `rows`.
     pub(crate) fn status(&mut self, lane: u32) -> SessionMove
         requires goes { LetsGo self.old lane SessionCall.Status }
-        ensures gone { IsGone self.old self.new lane op.Status result }
+        ensures gone { (s : Plan) → IsGoneIn s self.old self.new lane op.Status result }
         ensures leaves { Leaves self.old self.new }
     {
         let _lane = lane;
@@ -79,7 +80,7 @@ impl Sessions {
     pub(crate) fn disable(&mut self, lane: u32, writer: u32) -> SessionMove
         requires known { writer < writer_count self.old.coordinator }
         requires goes { LetsGo self.old lane SessionCall.Disable }
-        ensures gone { IsGone self.old self.new lane (op.Disable writer) result }
+        ensures gone { (s : Plan) → IsGoneIn s self.old self.new lane (op.Disable writer) result }
         ensures leaves { Leaves self.old self.new }
     {
         let _lane = lane;
@@ -90,27 +91,23 @@ impl Sessions {
     /// The set in progress fails.
     pub(crate) fn abort(&mut self, lane: u32) -> SessionMove
         requires goes { LetsGo self.old lane SessionCall.Abort }
-        ensures gone { IsGone self.old self.new lane op.Abort result }
+        ensures gone { (s : Plan) → IsGoneIn s self.old self.new lane op.Abort result }
         ensures leaves { Leaves self.old self.new }
     {
         let _lane = lane;
-        let ended = self.fail_so(VssResult::AsyncCancelled);
-        SessionMove::with(Told::Ok, ended)
+        self.fail_so(VssResult::AsyncCancelled)
     }
 
     /// The session ends. A set in progress fails. In a context whose images go with the session, its set is released.
     pub(crate) fn end(&mut self, alloc: Global, lane: u32) -> SessionMove
         requires goes { LetsGo self.old lane SessionCall.End }
-        ensures gone { IsGone self.old self.new lane op.End result }
+        ensures gone { (s : Plan) → IsGoneIn s self.old self.new lane op.End result }
         ensures leaves { Leaves self.old self.new }
     {
         let released = released_by(self.requestor.context(), self.requestor.set());
-        let ended = self.fail_so(VssResult::AsyncCancelled);
+        let moved = self.fail_so(VssResult::AsyncCancelled);
         self.close(alloc, lane);
-        SessionMove {
-            released,
-            ..SessionMove::with(Told::Ok, ended)
-        }
+        SessionMove { released, ..moved }
     }
 
     /// The session is over: no writer is disabled any more, and nothing is named.

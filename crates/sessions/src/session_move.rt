@@ -1,9 +1,10 @@
 ghost use Rattle.std.specs.Prelude.{◌≡◌};
-ghost use Rattle.sessions.specs.Told.{told_alone, told_with};
+ghost use Rattle.sessions.specs.Concluded.{told_alone, told_of};
 
 use crate::ended::Ended;
 use crate::endings::nothing_ends;
 use vss_model::{Outcome, Told};
+use vss_names::Order;
 
 /// What a move of a session, of a writer, of the provider or of time comes to. The images of a set that fails in it go.
 #[derive(Clone, Copy)]
@@ -14,22 +15,22 @@ pub struct SessionMove {
 }
 
 impl SessionMove {
-    /// A move in which nothing ends.
+    /// A move in which nothing ends and no writer is lost.
     pub(crate) fn alone(told: Told) -> SessionMove
         ensures { result ≡ told_alone told }
     {
-        SessionMove::with(told, nothing_ends())
+        SessionMove::of(told, 0, None, nothing_ends())
     }
 
-    /// A move in which this ends.
-    pub(crate) fn with(told: Told, ended: Ended) -> SessionMove
-        ensures { result ≡ told_with told ended }
+    /// A move in which these writers, as bits, are lost at this order, and this ends.
+    pub(crate) fn of(told: Told, lost: u64, lost_order: Option<Order>, ended: Ended) -> SessionMove
+        ensures { result ≡ told_of told lost lost_order ended }
     {
         SessionMove {
             outcome: Outcome {
                 told,
-                lost: 0,
-                lost_order: None,
+                lost,
+                lost_order,
                 set: ended.set,
                 result: ended.result,
             },

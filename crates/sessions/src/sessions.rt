@@ -40,7 +40,7 @@ impl Model for Sessions {
 
     ghost Value = { SessionsValue };
 
-    ghost use Rattle.sessions.specs.Views.{value_of};
+    ghost use Rattle.sessions.specs.Keeps.{value_of};
 
     ghost view = { value_of };
 }

@@ -34,9 +34,10 @@ use Rattle.provider.specs.Preparing.{ProviderValue, refusal, refused_as}
 use Rattle.provider.proofs.Kept.{kept_same}
 use Rattle.sessions.specs.Keeps.{SessionsValue, Keeps, IsAt, IsInOrder}
 use Rattle.sessions.specs.Moves.{IsMove, MayAdd}
-use Rattle.sessions.specs.Told.{told_alone}
+use Rattle.sessions.specs.Concluded.{told_alone}
 use Rattle.sessions.proofs.Adding.{adds, adds_not}
-use Rattle.sessions.proofs.Lines.{line_of, owners}
+use Rattle.sessions.proofs.Lines.{line_of}
+use Rattle.vss_model.proofs.GoingOn.{other_goes}
 use Rattle.sessions.proofs.Moving.{happens_moves, refused_happens}
 use Rattle.vss_world.specs.Stands.{IsOf, IsInPlan, number_prepared, IfStands}
 use Rattle.vss_world.specs.Moves.{IsMoved, simple_outcome}
@@ -80,8 +81,8 @@ add_line : (s : Plan) (lane v : ℕ) (mark : Mark) (st : State) (r : SetRow) →
     → line s lane (op.Add v) mark st ≡ add_to v r (add_refusal v r st) st
 unfolding called
 add_line s lane v mark st r goes here =
-    let owner = owners st.session (runs st) lane call.Add goes in
-    ap (λ (t : Verdict). judged t s lane (op.Add v) st) goes ∙ line_of s lane (op.Add v) st owner.session owner.is ∙ ap (λ (o : Option SetRow). add v o st) here
+    let owner = other_goes st.session (runs st) lane call.Add goes in
+    ap (λ (t : Verdict). judged t s lane (op.Add v) st) goes ∙ line_of s lane (op.Add v) st owner.own owner.is ∙ ap (λ (o : Option SetRow). add v o st) here
 
 not_among : (v : ℕ) (vs : List ℕ) (n : ℕ) → None ≡ refusal v vs n → is_among v vs ≡ false
 not_among v vs n e = by_test (is_among v vs) e

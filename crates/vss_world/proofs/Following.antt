@@ -64,7 +64,7 @@ standing_in {s = s} {x = x} of standing =
 
 pub standing_of : {D : Type 0} {blocks_told : D → Option (List (List ℕ))} {s : Plan} {p : ProviderValue D} {x : SessionsValue} {l : List ℕ} {e : List Evicted}
     → IsOf (world_of p x l e) s → IsStanding blocks_told (world_of p x l e) s → IsSessionsStanding x
-standing_of {s = s} of standing = let h = standing_in of standing in record { plan = s; state = h.state; at = h.at; posts = h.posts; sets = h.sets; early = h.early }
+standing_of {s = s} of standing = let h = standing_in of standing in record { plan = s; standing = h }
 
 pub rows_long : (s : Plan) (x : SessionsValue) (st : State) → Keeps x st → IsSessionsOf x s → length st.course.rows ≡ length s.writers
 rows_long s x st keeps of = sym (ap length keeps.course.follows.rows) ∙ of.count

@@ -67,7 +67,7 @@ use Rattle.vss_world.proofs.SetGoesOn.{runs_snapshot}
 use Rattle.vss_world.proofs.ToCome.{all_unnamed, gone_provided, change_provided, dropped_provided}
 use Rattle.vss_world.proofs.WithoutImages.{written_apart}
 use Rattle.vss_world.proofs.Prepared.{prepared_same, prepared_none, runs_number}
-use Rattle.sessions.proofs.Failing.{no_row as none_current}
+use Rattle.sessions.proofs.Concluding.{no_row as none_current}
 
 -- ## facts of every list of acts
 

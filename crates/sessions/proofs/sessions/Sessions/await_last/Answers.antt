@@ -1,13 +1,9 @@
-use Rattle.std.proofs.Common.{sym, ◌∙◌}
-use Rattle.requestor.specs.declared.session_call.SessionCall.TheVariants as call
-use Rattle.sessions.specs.Keeps.{Keeps}
-use Rattle.sessions.specs.Views.{value_of}
-use Rattle.sessions.proofs.Moving.{checked_same}
 use Rattle.sessions.proofs.Lines.{awaits}
 use Rattle.sessions.proofs.sessions.Sessions.await_last.Goals as goal
+use Rattle.sessions.proofs.Moving.{owner_at}
+use Rattle.sessions.specs.Keeps.{IsAt, value_of}
 
 pub returns-clause-gone : goal.returns-clause-gone
 returns-clause-gone c s st found =
-    let x = value_of c.self.inside in
-    let kept : Keeps x st = rw (← c.self.view_is) at found.keeps in
-    rw (← c.self.view_is) (awaits s c.args.lane st x c.alone.result c.last.result c.unwrap_or-why.result (sym (checked_same c.args.self.now st c.args.lane call.Await found.keeps) ∙ c.requires.goes) found.order kept c.last.ensures c.unwrap_or-why.ensures c.alone.ensures)
+    let at : IsAt (value_of c.self.inside) s st = rw (← c.self.view_is) at found in
+    rw (← c.self.view_is) (awaits c.last.result c.unwrap_or-why.result (owner_at c.args.lane found.keeps c.requires.goes) at c.last.ensures c.unwrap_or-why.ensures c.alone.ensures)

@@ -1,16 +1,13 @@
-use Rattle.std.proofs.Common.{[], sym, ◌∙◌, refl}
-use Rattle.set_agenda.specs.declared.kind.Kind.TheVariants as kind
+use Rattle.std.proofs.Common.{refl}
 use Rattle.requestor.specs.declared.session_call.SessionCall.TheVariants as call
-use Rattle.scenario.specs.declared.op.Op.TheVariants as op
 use Rattle.coordinator.specs.Coordinator.{runs}
-use Rattle.sessions.specs.Moves.{HasBegun, IsGone}
-use Rattle.sessions.proofs.Moving.{checked_same}
-use Rattle.sessions.proofs.AgendaLines.{quiet, then_ok, completes}
+use Rattle.sessions.proofs.AgendaLines.{then_ok, completes}
 use Rattle.sessions.proofs.sessions.Sessions.complete.Goals as goal
+use Rattle.sessions.proofs.Moving.{owner_at}
+use Rattle.vss_model.proofs.GoingOn.{other_goes}
 
 pub begin_agenda-requires-clause-idle : goal.begin_agenda-requires-clause-idle
-begin_agenda-requires-clause-idle c = quiet c.args.self.now.requestor.session (runs c.args.self.now.coordinator) c.args.lane call.Complete c.requires.goes refl
+begin_agenda-requires-clause-idle c = (other_goes c.args.self.now.requestor.session (runs c.args.self.now.coordinator) c.args.lane call.Complete c.requires.goes).quiet refl
 
 pub returns-clause-gone : goal.returns-clause-gone
-returns-clause-gone c = then_ok c.begin_agenda.result (HasBegun kind.Complete c.args.self.now.selection [] c.args.self.now c.begin_agenda.new.self) (IsGone c.args.self.now c.begin_agenda.new.self c.args.lane op.Complete)
-    (λ m has s st found. completes s c.args.lane c.args.self.now c.begin_agenda.new.self c.args.self.now.selection st m (sym (checked_same c.args.self.now st c.args.lane call.Complete found.keeps) ∙ c.requires.goes) found.order found.keeps has) c.begin_agenda.ensures.begun
+returns-clause-gone c = then_ok c.begin_agenda.result (λ m has s st at. completes c.args.self.now.selection (owner_at c.args.lane at.keeps c.requires.goes) at has) c.begin_agenda.ensures.begun

@@ -1,8 +1,7 @@
 use Rattle.std.proofs.Common.{◌≡◌, sym, ◌∙◌, subst, List, Some}
 use Rattle.vss_model.specs.State.{SetRow}
 use Rattle.vss_model.specs.Steps.{step_made}
-use Rattle.sessions.specs.Keeps.{Keeps}
-use Rattle.sessions.specs.Views.{value_of}
+use Rattle.sessions.specs.Keeps.{Keeps, value_of}
 use Rattle.sessions.proofs.CourseSteps.{is_cut_now}
 use Rattle.sessions.proofs.sessions.Sessions.cut_at.Goals as goal
 
@@ -11,5 +10,5 @@ returns-clause-cut c st order kept0 =
     let x = value_of c.self.inside in
     let kept : Keeps x st = rw (← c.self.view_is) at kept0 in
     let now : c.args.now ≡ c.self.inside.clock = rw (← c.self.view_is) at c.requires in
-    subst (λ (rows : List SetRow). Keeps (record { requestor = c.self.inside.requestor; coordinator = c.self.inside.coordinator; sets = rows; clock = c.self.inside.clock; selection = c.self.inside.selection }) (step_made (Some c.args.group) st)) (sym c.cut.ensures)
-    (is_cut_now x st c.args.group c.args.now (sym c.is_cut.ensures ∙ c.if-not-is_cut.false) (now ∙ kept.clock) order kept)
+    subst (λ (rows : List SetRow). Keeps (record x { sets = rows }) (step_made (Some c.args.group) st)) (sym c.cut.ensures)
+    (is_cut_now x st c.args.group c.args.now (sym c.is_cut.ensures ∙ c.if-not-is_cut.false) now order kept)

@@ -1,7 +1,6 @@
 use Rattle.std.proofs.Common.{List, ap, ◌∙◌}
 use Rattle.vss_model.specs.State.{SetRow}
-use Rattle.sessions.specs.Keeps.{Keeps}
-use Rattle.sessions.specs.Views.{value_of}
+use Rattle.sessions.specs.Keeps.{Keeps, value_of}
 use Rattle.sessions.specs.Sets.{is_complete_in}
 use Rattle.sessions.proofs.Newest.{complete_bare}
 use Rattle.sessions.proofs.sessions.Sessions.is_complete.Goals as goal

@@ -1,8 +1,6 @@
-use Rattle.std.proofs.Common.{sym, ◌∙◌}
-use Rattle.requestor.specs.declared.session_call.SessionCall.TheVariants as call
-use Rattle.sessions.proofs.Moving.{checked_same}
 use Rattle.sessions.proofs.Lines.{shows}
 use Rattle.sessions.proofs.sessions.Sessions.status.Goals as goal
+use Rattle.sessions.proofs.Moving.{owner_at}
 
 pub returns-clause-gone : goal.returns-clause-gone
-returns-clause-gone c s st found = shows s c.args.lane st c.args.self.now c.alone.result (sym (checked_same c.args.self.now st c.args.lane call.Status found.keeps) ∙ c.requires.goes) found.order found.keeps c.alone.ensures
+returns-clause-gone c s st at = shows (owner_at c.args.lane at.keeps c.requires.goes) at c.alone.ensures

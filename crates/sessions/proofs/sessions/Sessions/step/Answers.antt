@@ -1,26 +1,25 @@
-use Rattle.std.proofs.Common.{◌≡◌, sym, ◌∙◌, Bool, true, false, Some}
-use Rattle.std.specs.Prelude.{not, ◌&&◌}
+use Rattle.std.proofs.Common.{sym, ◌∙◌, true, false, Some}
+use Rattle.std.specs.Prelude.{not}
 use Rattle.vss_model.specs.declared.event.Event.TheVariants.{Provider}
 use Rattle.vss_model.specs.Steps.{is_flush}
 use Rattle.sessions.specs.Keeps.{IsAt}
 use Rattle.sessions.proofs.Moving.{happens_moves, works_same}
 use Rattle.sessions.proofs.CourseSteps.{step_happens}
 use Rattle.sessions.proofs.sessions.Sessions.step.Goals as goal
-
-second : (a b : Bool) → (a && b) ≡ true → b ≡ true
-second true b e = e
-second false b e = cc
+use Rattle.std.proofs.lemmas.Bool.{and_parts}
 
 pub returns-then-fails_at-clause-moves : goal.returns-then-fails_at-clause-moves
 returns-then-fails_at-clause-moves c s =
     happens_moves (IsAt c.args.self.now s) s c.step_fails.new.self Provider c.step_fails.result (λ st found.
     let opens = c.requires.next.group st found.keeps in
-    step_happens s c.step_fails.new.self st c.args.group c.args.volume true c.step_fails.result (sym (works_same c.args.self.now.coordinator st found.keeps.course) ∙ c.requires.next.working) opens (c.requires.next.volume st found.keeps)
-    (λ e. second (not c.args.ok) (is_flush (Some c.args.group)) (sym c.fails_at.ensures ∙ c.if-fails_at.true)) (c.step_fails.ensures.stepped st found.order found.keeps opens))
+    step_happens s c.step_fails.new.self st c.args.group c.args.volume true c.step_fails.result (sym (works_same c.args.self.now.coordinator st found.keeps.course) ∙ c.requires.next.working) opens
+    (c.requires.next.volume st found.keeps)
+    (λ e. (and_parts (not c.args.ok) (is_flush (Some c.args.group)) (sym c.fails_at.ensures ∙ c.if-fails_at.true)).1) (c.step_fails.ensures.stepped st found.order found.keeps opens))
 
 pub returns-else-fails_at-clause-moves : goal.returns-else-fails_at-clause-moves
 returns-else-fails_at-clause-moves c s =
     happens_moves (IsAt c.args.self.now s) s c.step_made.new.self Provider c.step_made.result (λ st found.
     let opens = c.requires.next.group st found.keeps in
-    step_happens s c.step_made.new.self st c.args.group c.args.volume false c.step_made.result (sym (works_same c.args.self.now.coordinator st found.keeps.course) ∙ c.requires.next.working) opens (c.requires.next.volume st found.keeps)
+    step_happens s c.step_made.new.self st c.args.group c.args.volume false c.step_made.result (sym (works_same c.args.self.now.coordinator st found.keeps.course) ∙ c.requires.next.working) opens
+    (c.requires.next.volume st found.keeps)
     (λ e. cc) (c.step_made.ensures.stepped st found.order found.keeps opens))

@@ -2,8 +2,9 @@ use Rattle.scenario.specs.declared.op.Op.TheVariants.{Tick}
 use Rattle.vss_model.specs.declared.event.Event.TheVariants.{Line}
 use Rattle.sessions.specs.Keeps.{IsAt}
 use Rattle.sessions.proofs.Moving.{happens_moves}
-use Rattle.sessions.proofs.Beginning.{tick_happens}
 use Rattle.sessions.proofs.sessions.Sessions.time.Goals as goal
+use Rattle.sessions.proofs.CourseSteps.{tick_happens}
 
 pub returns-clause-moves : goal.returns-clause-moves
-returns-clause-moves c s lane = happens_moves (IsAt c.args.self.now s) s c.go_on.new.self (Line lane (Tick c.args.ticks)) c.go_on.result (λ st found. tick_happens s c.go_on.new.self st lane c.args.ticks c.go_on.result (c.go_on.ensures.gone st found.order found.keeps))
+returns-clause-moves c s lane = happens_moves (IsAt c.args.self.now s) s c.go_on.new.self (Line lane (Tick c.args.ticks)) c.go_on.result
+    (λ st found. tick_happens s c.go_on.new.self st lane c.args.ticks c.go_on.result (c.go_on.ensures.gone st found.order found.keeps))

@@ -10,11 +10,13 @@ invariant_of-self c =
     let rows = c.self.inside.rows.items in
     let long : length rows ≡ suc (c.len-count.result - 1) = omega (arith, c.len-count.ensures, c.if-count-gt0.true) in
     let at = slice_get_read rows (length rows) (c.len-count.result - 1) c.index_mut-newest.result.now refl (omega (arith, long)) c.index_mut-newest.ensures.value in
-    subst AreSets (changed_last (with_cut c.args.now) rows (c.len-count.result - 1) c.index_mut-newest.result.now c.self.invariant.newest at long ∙ sym (ap (slice_set rows (c.len-count.result - 1)) c.cut.ensures)) (sets_changed (with_cut c.args.now) rows (record { number = λ r. refl; result = λ r. refl }) c.self.invariant)
+    subst AreSets (changed_last (with_cut c.args.now) rows (c.len-count.result - 1) c.index_mut-newest.result.now c.self.invariant.newest at long
+    ∙ sym (ap (slice_set rows (c.len-count.result - 1)) c.cut.ensures)) (sets_changed (with_cut c.args.now) rows (record { number = λ r. refl; result = λ r. refl }) c.self.invariant)
 
 pub returns-then-count-gt0 : goal.returns-then-count-gt0
 returns-then-count-gt0 c =
     let rows = c.self.inside.rows.items in
     let long : length rows ≡ suc (c.len-count.result - 1) = omega (arith, c.len-count.ensures, c.if-count-gt0.true) in
     let at = slice_get_read rows (length rows) (c.len-count.result - 1) c.index_mut-newest.result.now refl (omega (arith, long)) c.index_mut-newest.ensures.value in
-    rw (← c.self.view_is) (ap (slice_set rows (c.len-count.result - 1)) c.cut.ensures ∙ sym (changed_last (with_cut c.args.now) rows (c.len-count.result - 1) c.index_mut-newest.result.now c.self.invariant.newest at long))
+    rw (← c.self.view_is)
+    (ap (slice_set rows (c.len-count.result - 1)) c.cut.ensures ∙ sym (changed_last (with_cut c.args.now) rows (c.len-count.result - 1) c.index_mut-newest.result.now c.self.invariant.newest at long))

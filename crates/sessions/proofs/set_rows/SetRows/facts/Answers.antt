@@ -9,13 +9,15 @@ use Rattle.sessions.proofs.set_rows.SetRows.facts.Goals as goal
 pub returns-then-set-eq0 : goal.returns-then-set-eq0
 returns-then-set-eq0 c =
     let rows = c.self.inside.rows.items in
-    rw (← c.self.view_is) (sym (ap (λ (n : ℕ). option_map facts_of (find (λ (r : SetRow). r.number == n) rows)) c.if-set-eq0.true ∙ ap (option_map facts_of) (none_at_zero 1 rows c.self.invariant.numbered (omega arith))))
+    rw (← c.self.view_is)
+    (sym (ap (λ (n : ℕ). option_map facts_of (find (λ (r : SetRow). r.number == n) rows)) c.if-set-eq0.true ∙ ap (option_map facts_of) (none_at_zero 1 rows c.self.invariant.numbered (omega arith))))
 
 pub returns-then-at-count : goal.returns-then-at-count
 returns-then-at-count c =
     let rows = c.self.inside.rows.items in
     let past : length rows ≤ c.args.set - 1 = omega (arith, c.len-count.ensures, c.if-at-count.true) in
-    rw (← c.self.view_is) (sym (ap (option_map facts_of) (found_at 1 rows (c.args.set - 1) c.args.set c.self.invariant.numbered (omega (arith, c.if-set-eq0.false)) ∙ past_end rows (c.args.set - 1) past)))
+    rw (← c.self.view_is)
+    (sym (ap (option_map facts_of) (found_at 1 rows (c.args.set - 1) c.args.set c.self.invariant.numbered (omega (arith, c.if-set-eq0.false)) ∙ past_end rows (c.args.set - 1) past)))
 
 pub returns : goal.returns
 returns c =
