@@ -34,10 +34,10 @@ use Rattle.vss_model.specs.Lines.{called}
 use Rattle.vss_model.specs.Acts.{Act, happens, reply, state}
 use Rattle.vss_model.specs.Facts.{IsOfSession}
 use Rattle.vss_model.specs.Causes.{owns}
+use Rattle.vss_model.specs.Replies.{is_fine}
 use Rattle.vss_model.proofs.OrderlyActs.{orderly}
 use Rattle.promises.specs.Accepted.{is_ordered, is_accepted, can_name_in, can_name, has_place, has_volume, has_its_wants, IsAccepting, is_context, AcceptsInOrder}
 use Rattle.promises.specs.InOrder.{Step, ByBegin, ByGather, ByStart, ByPrepare, BySnapshot, ByComplete, ByFailure, Progress, progress, step_code, is_step, asks_writers, comes_now}
-use Rattle.promises.specs.Participants.{is_fine}
 use Rattle.promises.proofs.Truth.{and_true, not_both}
 use Rattle.promises.proofs.Progress.{stage_of, StandsAt, stands_all}
 

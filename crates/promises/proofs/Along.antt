@@ -40,6 +40,7 @@ use Rattle.vss_model.specs.Steps.{answered, step_made, is_flush, is_failed_step,
 use Rattle.vss_model.specs.Facts.{has_failed}
 use Rattle.vss_model.specs.Effects.{line_ticks, lost, lost_after, lost_order, lost_order_if}
 use Rattle.vss_model.specs.Acts.{Act, enabled, order_of_writer, answer_reply, step_reply, idle_now, happens, reply, after, state}
+use Rattle.vss_model.specs.Replies.{is_pending}
 use Rattle.vss_model.proofs.CourseCalls.{Settles}
 use Rattle.vss_model.proofs.FlushFails.{outcome_is_running}
 use Rattle.vss_model.proofs.Freed.{agenda-concluded}
@@ -48,8 +49,8 @@ use Rattle.vss_model.proofs.OneCut.{changed_number, changed_result}
 use Rattle.vss_model.proofs.Orderly.{true_not_false}
 use Rattle.vss_model.proofs.OrderlyActs.{orderly}
 use Rattle.vss_model.proofs.Rows.{has_complete, running_incomplete, incomplete_map, incomplete_append, complete_found}
-use Rattle.promises.specs.Way.{Deed, Spoke, Made, deeds_lost, deeds_of, deeds_if, is_pending, is_snapshot_line, way_after, way_from, way}
-use Rattle.promises.proofs.ByEvent.{Covers, covered, after_enabled, after_not_enabled}
+use Rattle.promises.specs.Way.{Deed, Spoke, Made, deeds_lost, deeds_of, deeds_if, is_snapshot_line, way_after, way_from, way}
+use Rattle.vss_model.proofs.ByEvent.{Covers, covered, after_enabled, after_not_enabled}
 use Rattle.promises.proofs.Clock.{clock-answered, clock-stepped_as, clock-ticked, write_ticks}
 use Rattle.promises.proofs.Incomplete.{begun_incomplete, completes_snapshot, done_followed, incomplete_closed, incomplete_failed, incomplete_made, incomplete_revert, incomplete_write}
 use Rattle.promises.proofs.Speaks.{deed_in, said_at, Speaks, Grows, made_now, lost_told, grows_answered, grows_stepped, grows_timed}

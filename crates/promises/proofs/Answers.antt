@@ -26,7 +26,7 @@ use Rattle.vss_model.proofs.Volumes.{at}
 use Rattle.promises.specs.Clock.{ticks_if}
 use Rattle.promises.specs.Answers.{answer_of, AreGone, AnswersSay}
 use Rattle.promises.proofs.Truth.{second_both}
-use Rattle.promises.proofs.ByEvent.{after_enabled}
+use Rattle.vss_model.proofs.ByEvent.{after_enabled}
 use Rattle.promises.proofs.Clock.{clock_after}
 use Rattle.promises.proofs.Done.{dropped_gone}
 

@@ -38,7 +38,7 @@ use Rattle.promises.specs.Asked.{IsFor, AsksItsOwn}
 use Rattle.promises.specs.Participants.{choosing}
 use Rattle.promises.proofs.Truth.{equal, not_true, right_part, second_both}
 use Rattle.promises.proofs.BusyAgendas.{course_followed}
-use Rattle.promises.proofs.ByEvent.{Covers, covered, after_enabled, after_not_enabled}
+use Rattle.vss_model.proofs.ByEvent.{Covers, covered, after_enabled, after_not_enabled}
 use Rattle.promises.proofs.OpenGroup.{every, in_kind}
 use Rattle.promises.proofs.Participants.{ChosenIn, StandsChosen, follows_all}
 use Rattle.promises.proofs.SameChoice.{SameCourse, mode_in, on_course_answered, on_course_stepped, on_course_timed}

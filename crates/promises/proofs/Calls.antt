@@ -25,7 +25,7 @@ use Rattle.vss_model.specs.Causes.{owns}
 use Rattle.vss_model.proofs.OrderlyActs.{orderly}
 use Rattle.promises.specs.Calls.{is_owners, CallsAreOwned, may_wait, WaitsAreFew, WaitsAreDue, StandsQuiet, FrozenDoNotWrite}
 use Rattle.promises.proofs.Truth.{first_both, not_false}
-use Rattle.promises.proofs.ByEvent.{after_enabled, after_not_enabled}
+use Rattle.vss_model.proofs.ByEvent.{after_enabled, after_not_enabled}
 
 -- ## a call of another lane
 

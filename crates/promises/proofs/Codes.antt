@@ -47,7 +47,7 @@ use Rattle.promises.specs.Way.{Rising}
 use Rattle.promises.specs.Codes.{late_code_at, late_code_in, late_code, IsAnswerCode, IsLineCode, IsCode, FailsByCode}
 use Rattle.promises.proofs.Truth.{false_of}
 use Rattle.promises.proofs.BusyAgendas.{course_followed}
-use Rattle.promises.proofs.ByEvent.{Covers, covered, after_enabled}
+use Rattle.vss_model.proofs.ByEvent.{Covers, covered, after_enabled}
 use Rattle.promises.proofs.CalmCourses.{calm_begun}
 use Rattle.promises.proofs.CourseRows.{calm_settled}
 use Rattle.promises.proofs.GoneImages.{none_stepped}

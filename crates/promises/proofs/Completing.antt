@@ -38,7 +38,7 @@ use Rattle.vss_model.proofs.CourseCalls.{asked_if}
 use Rattle.vss_model.proofs.LogRule.{unspoken}
 use Rattle.promises.specs.Completing.{StandsWell, CompletesUnfailed}
 use Rattle.promises.proofs.Truth.{equal}
-use Rattle.promises.proofs.ByEvent.{Covers, covered, after_enabled, after_not_enabled}
+use Rattle.vss_model.proofs.ByEvent.{Covers, covered, after_enabled, after_not_enabled}
 use Rattle.promises.proofs.LastOrder.{is_last_order, among_all, last_place, not_in_kind, still_open}
 use Rattle.promises.proofs.OpenGroup.{every}
 

@@ -38,7 +38,7 @@ use Rattle.vss_model.proofs.FewerImages.{as_many_volumes}
 use Rattle.vss_model.proofs.Volumes.{at, change_other, as_many_map, as_many_gone}
 use Rattle.promises.specs.Contents.{block_now, is_clean, may_change, ContentsChange, changes_by}
 use Rattle.promises.proofs.Truth.{same_number}
-use Rattle.promises.proofs.ByEvent.{Covers, covered, after_enabled, after_not_enabled}
+use Rattle.vss_model.proofs.ByEvent.{Covers, covered, after_enabled, after_not_enabled}
 use Rattle.promises.proofs.Restored.{some_restored}
 
 -- ## writes of a volume

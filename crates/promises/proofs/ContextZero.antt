@@ -41,7 +41,7 @@ use Rattle.vss_model.proofs.Volumes.{at}
 use Rattle.promises.specs.Gone.{stands}
 use Rattle.promises.specs.ContextZero.{BackupsEnd}
 use Rattle.promises.proofs.Truth.{both_parts, equal}
-use Rattle.promises.proofs.ByEvent.{Covers, covered, after_enabled, after_not_enabled}
+use Rattle.vss_model.proofs.ByEvent.{Covers, covered, after_enabled, after_not_enabled}
 use Rattle.promises.proofs.Done.{kept_map, dropped_gone}
 use Rattle.promises.proofs.Contexts.{context_in, context_map, changed_number, changed_context, context_other, context_new, HasMade, Owned, NoMore, Relates, relates_same, relates_over, relates_followed, relates_failed, relates_room, relates_put, owned_by, cut_contexts, owned_cut}
 

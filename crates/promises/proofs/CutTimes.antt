@@ -33,7 +33,7 @@ use Rattle.vss_model.proofs.OneCut.{not_cut_yet}
 use Rattle.vss_model.proofs.OrderlyActs.{orderly}
 use Rattle.vss_model.proofs.Rows.{row_running}
 use Rattle.promises.proofs.Truth.{equal, not_both}
-use Rattle.promises.proofs.ByEvent.{Covers, covered, after_enabled, after_not_enabled}
+use Rattle.vss_model.proofs.ByEvent.{Covers, covered, after_enabled, after_not_enabled}
 use Rattle.promises.proofs.Contexts.{settled_number, changed_number}
 
 -- ## the time of a set

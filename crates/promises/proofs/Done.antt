@@ -18,7 +18,7 @@ use Rattle.vss_model.proofs.Volumes.{at}
 use Rattle.promises.specs.Done.{reverts, IsDone}
 use Rattle.promises.specs.Gone.{stands}
 use Rattle.promises.proofs.Truth.{false_of, not_itself, same_number}
-use Rattle.promises.proofs.ByEvent.{after_enabled}
+use Rattle.vss_model.proofs.ByEvent.{after_enabled}
 use Rattle.promises.proofs.GoneImages.{kept_by}
 
 -- ## on which volume

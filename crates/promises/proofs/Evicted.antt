@@ -28,7 +28,7 @@ use Rattle.vss_model.proofs.Volumes.{at, FewerIn, fewer_in_over, as_many_gone}
 use Rattle.promises.specs.Gone.{stands, Fails}
 use Rattle.promises.specs.Evicted.{is_write, is_told, goes_before, are_in_order, TellsEvicted}
 use Rattle.promises.proofs.Truth.{both_are, both_ways, equal, left_part, neither}
-use Rattle.promises.proofs.ByEvent.{after_enabled}
+use Rattle.vss_model.proofs.ByEvent.{after_enabled}
 use Rattle.promises.proofs.Images.{volumes_put, volumes_room, roomy, wants_or_fails}
 
 -- ## the volumes that lose an image

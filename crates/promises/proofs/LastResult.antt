@@ -27,12 +27,11 @@ use Rattle.vss_model.specs.Images.{Replied, refused, write, reverted_as}
 use Rattle.vss_model.specs.Sessions.{selected, start_set, has_no_volume, volumes_of, pending, new_number, closed}
 use Rattle.vss_model.specs.Facts.{has_failed}
 use Rattle.vss_model.specs.Acts.{Act, order_of_writer, enabled, answer_reply, step_reply, reply, idle_now, after, state}
+use Rattle.vss_model.specs.Replies.{is_fine, is_pending}
 use Rattle.vss_model.proofs.Appending.{state-append}
 use Rattle.promises.specs.Awaited.{set_failure, begins_session, begins, result_by, result_after, result_if, result_from, last_result}
-use Rattle.promises.specs.Participants.{is_fine}
 use Rattle.promises.proofs.Turns.{Turn, quiet_turn, write_turn, revert_turn, begun_turn, answer_turn, tick_turn, step_turn, abort_turn, add_turn, none_started}
-use Rattle.promises.specs.Way.{is_pending}
-use Rattle.promises.proofs.ByEvent.{Covers, ChangesNothing, changes_session, covered, after_enabled, after_not_enabled}
+use Rattle.vss_model.proofs.ByEvent.{Covers, ChangesNothing, changes_session, covered, after_enabled, after_not_enabled}
 use Rattle.promises.proofs.CalmCourses.{calm_begun}
 use Rattle.promises.proofs.SetFailures.{failure_at}
 

@@ -54,13 +54,14 @@ use Rattle.vss_model.specs.Facts.{has_failed, WaitsFor, IsAgendaOf}
 use Rattle.vss_model.specs.Effects.{line_ticks, lost_after, lost_order_if}
 use Rattle.vss_model.specs.Acts.{Act, enabled, order_of_writer, idle_now, answer_reply, reply, after, state}
 use Rattle.vss_model.specs.Laws.{LetsGo}
+use Rattle.vss_model.specs.Replies.{is_pending}
 use Rattle.vss_model.proofs.CourseCalls.{Settles}
 use Rattle.vss_model.proofs.LogRule.{Running, unspoken}
 use Rattle.vss_model.proofs.Spoken.{among_filter}
 use Rattle.vss_model.proofs.Appending.{state-append}
 use Rattle.vss_model.proofs.CutAppend.{append_nothing}
 use Rattle.vss_model.proofs.OrderlyActs.{orderly}
-use Rattle.promises.specs.Way.{Deed, Spoke, deeds_lost, is_pending}
+use Rattle.promises.specs.Way.{Deed, Spoke, deeds_lost}
 use Rattle.promises.specs.Owed.{Asking, ToIdentify, ForConsent, AtCompletion, order_for, asks, step_for, is_asked_of, counts, is_reply, owes_after, owes_if, owes_from, owes, NobodyOwes}
 use Rattle.promises.specs.InOrder.{Step, ByGather, ByPrepare, ByComplete, progress, is_step}
 use Rattle.promises.specs.Participants.{is_writer, choosing}
@@ -68,7 +69,7 @@ use Rattle.promises.proofs.Truth.{and_true, both_are, both_parts, equal, false_o
 use Rattle.promises.proofs.Scripts.{kept_test, kept_among}
 use Rattle.promises.proofs.Speaks.{deed_at, deed_in, said_at, Grows, made_now, lost_told, grows_answered, grows_stepped, grows_timed}
 use Rattle.promises.proofs.BusyAgendas.{course_followed}
-use Rattle.promises.proofs.ByEvent.{Covers, covered, after_enabled, after_not_enabled}
+use Rattle.vss_model.proofs.ByEvent.{Covers, covered, after_enabled, after_not_enabled}
 use Rattle.promises.proofs.CalmCourses.{calm_begun}
 use Rattle.promises.proofs.Clock.{write_ticks}
 use Rattle.promises.proofs.Progress.{stage_of, StandsAt, stands_all, is_opened, is_started, is_done as is_done_stage, snapshots}

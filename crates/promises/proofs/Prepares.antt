@@ -27,13 +27,13 @@ use Rattle.vss_model.specs.Ending.{followed, failed}
 use Rattle.vss_model.specs.Images.{Replied, refused}
 use Rattle.vss_model.specs.Sessions.{is_disabled, is_known, meta_if, known_from, known_metas, has_failed_identify, pending, selected, has_no_volume, volumes_of, closed}
 use Rattle.vss_model.specs.Acts.{Act, enabled, reply, idle_now, after, state}
+use Rattle.vss_model.specs.Replies.{is_pending}
 use Rattle.vss_model.proofs.Gathered.{named_known_components}
 use Rattle.vss_model.proofs.Named.{AreOver}
 use Rattle.vss_model.proofs.OrderlyActs.{none_after}
 use Rattle.promises.specs.Participants.{Choosing, is_chosen, is_unfit, choosing, is_writer, is_prepare, TakesPart}
-use Rattle.promises.specs.Way.{is_pending}
 use Rattle.promises.proofs.Truth.{equal, first_both, not_true, second_both}
-use Rattle.promises.proofs.ByEvent.{Covers, ChangesNothing, covered, after_enabled, after_not_enabled}
+use Rattle.vss_model.proofs.ByEvent.{Covers, ChangesNothing, covered, after_enabled, after_not_enabled}
 use Rattle.promises.proofs.SameChoice.{same_course, same_choice, on_begun, on_agenda_begun, on_followed, on_failed_in, on_answered, on_ticked, on_stepped, on_write, on_revert}
 use Rattle.promises.proofs.Participants.{Follows, standing, asked_by, asked_are, follows_all}
 

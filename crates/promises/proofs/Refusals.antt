@@ -26,9 +26,9 @@ use Rattle.vss_model.specs.Sessions.{begin_in, known_metas, named_as, component_
 use Rattle.vss_model.specs.Lines.{called}
 use Rattle.vss_model.specs.Acts.{Act, happens, state}
 use Rattle.vss_model.specs.Causes.{owns}
+use Rattle.vss_model.specs.Replies.{is_fine}
 use Rattle.promises.specs.Accepted.{is_ordered, is_accepted}
 use Rattle.promises.specs.InOrder.{ByBegin, ByGather, ByStart, BySnapshot, Progress, progress, is_step, asks_writers, comes_now}
-use Rattle.promises.specs.Participants.{is_fine}
 use Rattle.promises.specs.Refusing.{name_refusal_in, name_refusal, place_refusal, want_refusal, order_refusal, RefusesForCause}
 use Rattle.promises.proofs.Truth.{not_both}
 use Rattle.promises.proofs.Accepted.{allowed_in, same_stage, start_stage, either_stage, writers_asked, makes_its_set, line_reply}

@@ -16,7 +16,7 @@ use Rattle.vss_model.specs.Images.{image_block, image_blocks}
 use Rattle.vss_model.specs.Lines.{line}
 use Rattle.vss_model.specs.Acts.{Act, happens, reply, state}
 use Rattle.vss_model.specs.Headline.{ReadsAsAtTheCut}
-use Rattle.vss_model.proofs.Headline.{keeps_promises}
+use Rattle.vss_model.proofs.Headline.{reads_as_at_cut}
 use Rattle.promises.specs.Contents.{block_now}
 use Rattle.vss_model.proofs.OneCut.{images_in_time}
 use Rattle.promises.specs.Replies.{IsBelow, AreRising, TellsTheCut, RepliesTell}
@@ -41,7 +41,7 @@ point_of (Some r) o k e = point_if (is_complete r.result) r o k e
 
 -- a kept image reads as the volume at the cut
 pub at_the_cut : (s : Plan) (so_far : List Act) (n v : ℕ) (k : Kept) → kept_image (state s so_far) n v ≡ Some k → ReadsAsAtTheCut s so_far n v k.point
-at_the_cut s so_far n v k e = (keeps_promises s so_far).images n v k.point (point_of (row_of (state s so_far) n) (point_in n (history_of (state s so_far) v).images) k e)
+at_the_cut s so_far n v k e = reads_as_at_cut s so_far n v k.point (point_of (row_of (state s so_far) n) (point_in n (history_of (state s so_far) v).images) k e)
 
 map_along : {X : Type 0} (f g : ℕ → X) → ((n : ℕ) → f n ≡ g n) → (ns : List ℕ) → map f ns ≡ map g ns
 map_along f g e [] = refl

@@ -48,7 +48,7 @@ use Rattle.promises.specs.Scripted.{is_owed, is_asked_anew, asked_from, times_as
 use Rattle.promises.specs.Way.{Deed}
 use Rattle.promises.proofs.Truth.{both_are, both_parts, equal, left_part, not_itself, right_part, same_number}
 use Rattle.promises.proofs.BusyAgendas.{course_followed}
-use Rattle.promises.proofs.ByEvent.{Covers, covered, after_enabled, after_not_enabled}
+use Rattle.vss_model.proofs.ByEvent.{Covers, covered, after_enabled, after_not_enabled}
 use Rattle.promises.proofs.Heard.{same_group}
 use Rattle.promises.proofs.Speaks.{Grows, grows_answered, grows_stepped, grows_timed}
 use Rattle.promises.proofs.Stages.{failed_stays, closed_stays, grown, new_log}

@@ -30,7 +30,7 @@ use Rattle.vss_model.proofs.OrderlyActs.{orderly}
 use Rattle.vss_model.proofs.Rows.{found_above}
 use Rattle.promises.specs.Ends.{IsLaterRow, HasLaterRow, KeepsRows}
 use Rattle.promises.proofs.Truth.{equal, left_part}
-use Rattle.promises.proofs.ByEvent.{Covers, covered, after_enabled, after_not_enabled}
+use Rattle.vss_model.proofs.ByEvent.{Covers, covered, after_enabled, after_not_enabled}
 
 -- ## one row
 

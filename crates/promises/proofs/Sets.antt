@@ -29,7 +29,7 @@ use Rattle.vss_model.proofs.Appending.{state-append}
 use Rattle.vss_model.proofs.OrderlyActs.{orderly}
 use Rattle.vss_model.proofs.Rows.{row_running}
 use Rattle.promises.specs.Sets.{VolumesAreDistinct}
-use Rattle.promises.proofs.ByEvent.{Covers, covered, after_enabled, after_not_enabled}
+use Rattle.vss_model.proofs.ByEvent.{Covers, covered, after_enabled, after_not_enabled}
 
 abbrev AllDistinct : List SetRow → Type 0
 AllDistinct [] = Unit {0}

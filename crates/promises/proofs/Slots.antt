@@ -33,7 +33,7 @@ use Rattle.vss_model.proofs.Volumes.{at, as_many_change}
 use Rattle.promises.specs.Gone.{within}
 use Rattle.promises.specs.Slots.{SlotsSuffice}
 use Rattle.promises.proofs.Truth.{chain, equal, same_number}
-use Rattle.promises.proofs.ByEvent.{Covers, covered, after_enabled, after_not_enabled}
+use Rattle.vss_model.proofs.ByEvent.{Covers, covered, after_enabled, after_not_enabled}
 use Rattle.promises.proofs.GroupUsed.{group_less, group_other, group_more, changed_uses, enough_goes, one_left}
 use Rattle.promises.proofs.Shrinks.{InTime, used_in, LessIn, less_in_same, less_in_over, less_in_map, less_in_change, less_in_gone, less_images_dropped, less_released, UsesNoMore, uses_less, uses_over, uses_cut}
 use Rattle.promises.proofs.Used.{rising, one_if, written_used, reverted_used, restored_used}
