@@ -129,7 +129,7 @@ named_of w u name (Some (Some m)) ps new e =
 one_disabled : (f : ℕ → Bool) (ds : List ℕ) (u : ℕ) → list_any f (ds ++ u ∷ []) ≡ (list_any f ds || f u)
 one_disabled f ds u = list_any-append f ds (u ∷ []) ∙ ap (λ b. list_any f ds || b) (or_false (f u))
 
-off : (b : Bool) → false ≡ (b && false)
+pub off : (b : Bool) → false ≡ (b && false)
 off true = refl
 off false = refl
 

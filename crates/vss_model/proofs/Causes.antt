@@ -63,7 +63,7 @@ none_posted : (before c : Course) → Fails c ≡ false → Fails (posted before
 unfolding posted
 none_posted before c h = h
 
-none_outcome : (k : Kind) (o : SetOutcome) → has_failed o ≡ false → has_failed (outcome_after k o) ≡ false
+pub none_outcome : (k : Kind) (o : SetOutcome) → has_failed o ≡ false → has_failed (outcome_after k o) ≡ false
 none_outcome Gather o h = h
 none_outcome Prepare o h = h
 none_outcome Snapshot o h = refl

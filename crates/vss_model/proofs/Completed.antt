@@ -77,7 +77,7 @@ made_back said now ws a e f =
         absurd (true_not_false (is_cut_group (open_group (groups_left a))) (cut_open (groups_left a) parts.0) e)
 
 -- where nothing is left of a snapshot's agenda, its Cut step is made
-past_group : (p : Place) (ws : List ℕ) (later : List Open) → is_done (with_group p ws later) ≡ true → is_done later ≡ true
+pub past_group : (p : Place) (ws : List ℕ) (later : List Open) → is_done (with_group p ws later) ≡ true → is_done later ≡ true
 past_group p [] later e = e
 past_group p (w ∷ ws) later e = absurd cc
 
@@ -109,7 +109,7 @@ running_made true a o b p d e f s =
     let k = completes_snapshot a.kind o p e s.1 f in
     done_made a (subst (λ x. is_done (left_from a (places x)) ≡ true) k (d refl))
 
-not_complete : (o : SetOutcome) → has_failed o ≡ true → is_complete o ≡ false
+pub not_complete : (o : SetOutcome) → has_failed o ≡ true → is_complete o ≡ false
 not_complete RunningSet e = absurd cc
 not_complete CompleteSet e = absurd cc
 not_complete (FailedSet why) e = refl

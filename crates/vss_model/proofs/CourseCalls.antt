@@ -93,13 +93,13 @@ mild false decides ok f e = refl
 mild true true ok f e = e
 mild true false ok f e = absurd (true_not_false false (f refl) refl)
 
-not_ok_of_ok : (b : Bool) → (b && not true) ≡ false
+pub not_ok_of_ok : (b : Bool) → (b && not true) ≡ false
 not_ok_of_ok true = refl
 not_ok_of_ok false = refl
 
 -- ## who is waited for
 
-first_among : (w : ℕ) (ws : List ℕ) → is_among w (w ∷ ws) ≡ true
+pub first_among : (w : ℕ) (ws : List ℕ) → is_among w (w ∷ ws) ≡ true
 first_among w ws = own w (is_among w ws)
   where
     own : (a : ℕ) (b : Bool) → ((a == a) || b) ≡ true

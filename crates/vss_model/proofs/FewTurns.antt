@@ -40,7 +40,7 @@ pub record FewWriters (c : Course) : Type 0 where
   pub rows : length c.rows ≤ 64
   pub members : length c.members ≤ 64
 
-length-rows_where : (f : WriterRow → WriterRow) (test : ℕ → Bool) (w : ℕ) (rows : List WriterRow) → length (rows_where f test w rows) ≡ length rows
+pub length-rows_where : (f : WriterRow → WriterRow) (test : ℕ → Bool) (w : ℕ) (rows : List WriterRow) → length (rows_where f test w rows) ≡ length rows
 length-rows_where f test w [] = refl
 length-rows_where f test w (r ∷ rs) = ap suc (length-rows_where f test (w + 1) rs)
 

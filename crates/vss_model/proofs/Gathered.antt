@@ -311,7 +311,7 @@ filter_passes test w (x ∷ xs) e = by_test (test x) refl e (filter_passes test 
     by_test true g h ih = by_head (x == w) refl g h ih
     by_test false g h ih = ih h
 
-member_passes : (test : ℕ → Bool) (k : ℕ) (rows : List WriterRow) (w : ℕ) → is_member (members_from test k rows) w ≡ true → test w ≡ true
+pub member_passes : (test : ℕ → Bool) (k : ℕ) (rows : List WriterRow) (w : ℕ) → is_member (members_from test k rows) w ≡ true → test w ≡ true
 member_passes test k [] w e = absurd cc
 member_passes test k (r ∷ rows) w e = by_test (test k) refl e (member_passes test (k + 1) rows w)
   where
@@ -558,7 +558,7 @@ on_prepare s q st g (inl h) = inr (gathered_prepared s q.mode st.clock st (over_
 on_prepare s q st g (inr h) = inr (gathered_prepared s q.mode st.clock st h.over h.late)
 
 -- an agenda of some of the participants
-filter_member : (test : Member → Bool) (ms : List Member) (w : ℕ) → is_member (filter test ms) w ≡ true → is_member ms w ≡ true
+pub filter_member : (test : Member → Bool) (ms : List Member) (w : ℕ) → is_member (filter test ms) w ≡ true → is_member ms w ≡ true
 filter_member test [] w e = e
 filter_member test (m ∷ ms) w e = by_test (test m) e (filter_member test ms w)
   where

@@ -55,7 +55,7 @@ same_freeze Commit = refl
 same_freeze Release = refl
 same_freeze PostCommit = refl
 
-same_prepare : (g : Group) → is_prepare_snapshot g ≡ prepares_snapshot g
+pub same_prepare : (g : Group) → is_prepare_snapshot g ≡ prepares_snapshot g
 same_prepare (Orders Identify) = refl
 same_prepare (Orders PrepareBackup) = refl
 same_prepare (Orders PrepareSnapshot) = refl

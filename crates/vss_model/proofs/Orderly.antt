@@ -235,7 +235,7 @@ pub all_live-append : (rows : List SetRow) (r : SetRow) (hs : List History) → 
 all_live-append rows r hs h = all_live_along rows (rows ++ r ∷ []) (λ n g. live_append rows r n g) hs h
 
 -- the set in progress is live
-running_is_live : (o : SetOutcome) → is_running o ≡ true → has_failed o ≡ false
+pub running_is_live : (o : SetOutcome) → is_running o ≡ true → has_failed o ≡ false
 running_is_live Running e = refl
 running_is_live CompleteSet e = absurd cc
 running_is_live (FailedSet why) e = absurd cc
