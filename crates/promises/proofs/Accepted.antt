@@ -2,6 +2,7 @@
 use Rattle.std.proofs.Common.{◌≡◌, ◌∙◌, ℕ, ◌+◌, ◌==◌, suc, List, [], ◌∷◌, Option, Some, None, refl, Bool, true, false, ap, sym, subst, length, arith}
 use Rattle.std.specs.Prelude.{◌&&◌, ◌||◌, not, nat_le, nat_lt, nat_eq, is_some, is_none, option_and_then, slice_get, if◌then◌else◌}
 use Rattle.std.specs.Str.{bytes_eq}
+use Rattle.std.proofs.lemmas.Bool.{both_ways}
 use Rattle.vss_names.specs.declared.context.Context.{Context}
 use Rattle.vss_names.specs.declared.context.Context.TheVariants.{Backup, AppRollback, NasRollback}
 use Rattle.vss_names.specs.declared.vss_result.VssResult.TheVariants.{AsyncPending, BadState, SnapshotSetInProgress, ObjectAlreadyExists, MaximumNumberOfVolumesReached, MaximumNumberOfSnapshotsReached}
@@ -34,10 +35,10 @@ use Rattle.vss_model.specs.Lines.{called}
 use Rattle.vss_model.specs.Acts.{Act, happens, reply, state}
 use Rattle.vss_model.specs.Facts.{IsOfSession}
 use Rattle.vss_model.specs.Causes.{owns}
+use Rattle.vss_model.specs.Replies.{is_fine}
 use Rattle.vss_model.proofs.OrderlyActs.{orderly}
 use Rattle.promises.specs.Accepted.{is_ordered, is_accepted, can_name_in, can_name, has_place, has_volume, has_its_wants, IsAccepting, is_context, AcceptsInOrder}
 use Rattle.promises.specs.InOrder.{Step, ByBegin, ByGather, ByStart, ByPrepare, BySnapshot, ByComplete, ByFailure, Progress, progress, step_code, is_step, asks_writers, comes_now}
-use Rattle.promises.specs.Participants.{is_fine}
 use Rattle.promises.proofs.Truth.{and_true, not_both}
 use Rattle.promises.proofs.Progress.{stage_of, StandsAt, stands_all}
 
@@ -220,10 +221,7 @@ module _ (s : Plan) (st : State) where
   pending_if false x y e f = f
 
   pending_told : (b : Bool) (x y : Replied) → is_accepted x.0 ≡ false → y.0 ≡ Coded AsyncPending → is_accepted (if b then x else y).0 ≡ true → (if b then x else y).0 ≡ Coded AsyncPending
-  pending_told true x y e f g = absurd (both (is_accepted x.0) e g)
-    where
-      both : (b : Bool) → b ≡ false → b ≡ true → ⊥
-      both b e f = cc
+  pending_told true x y e f g = absurd (both_ways (is_accepted x.0) e g)
   pending_told false x y e f g = f
 
 -- ## ordered calls

@@ -5,7 +5,7 @@ use Rattle.std.proofs.Common.{◌≡◌, ◌∙◌, ℕ, ◌+◌, ◌==◌, List
 use Rattle.std.specs.Prelude.{is_some, ◌&&◌, not, if◌then◌else◌, length}
 use Rattle.vss_names.specs.declared.order.Order.{Order}
 use Rattle.vss_names.specs.declared.set_outcome.SetOutcome.{SetOutcome}
-use Rattle.vss_names.specs.declared.set_outcome.SetOutcome.TheVariants.{Running as RunningSet, Complete as CompleteSet, Failed as FailedSet}
+use Rattle.vss_names.specs.declared.set_outcome.SetOutcome.TheVariants.{Running as RunningSet}
 use Rattle.vss_names.specs.declared.vss_result.VssResult.{VssResult}
 use Rattle.vss_names.specs.declared.vss_result.VssResult.TheVariants.{BadState, InsufficientStorage, AsyncPending, AsyncCancelled}
 use Rattle.writer_state.specs.declared.said.Said.{Said}
@@ -19,7 +19,7 @@ use Rattle.set_agenda.specs.declared.group.Group.{Group}
 use Rattle.set_agenda.specs.declared.kind.Kind.{Kind}
 use Rattle.set_agenda.specs.declared.kind.Kind.TheVariants.{Gather, Prepare, Snapshot, Complete}
 use Rattle.set_agenda.specs.declared.member.Member.{Member}
-use Rattle.set_agenda.specs.Agenda.{Agenda, Entry, Open, order_of, groups_left, left, open_group, next_volume, open_place, open_order, order_now, is_done, is_working, is_snapshot, all_say}
+use Rattle.set_agenda.specs.Agenda.{Agenda, Open, order_of, groups_left, left, open_group, next_volume, open_place, open_order, order_now, is_done, is_working, all_say}
 use Rattle.set_agenda.specs.Limits.{spent_of}
 use Rattle.set_agenda.specs.Course.{Course, posted, failed as course_failed, settled_if, settled_in, settled, begun, gathered, prepared, snapshot_begun, completing, change_at, stepped as course_stepped, limits_now, lost_writers, fails_set, released}
 use Rattle.component_doc.specs.Selection.{takers}
@@ -37,9 +37,9 @@ use Rattle.vss_model.specs.Ending.{ending, followed, runs, failed_in, failed}
 use Rattle.vss_model.specs.Images.{Replied, refused, cleared, set_loses_image, with_room_if, put, write, reverted_as}
 use Rattle.vss_model.specs.Sessions.{new_set, new_number, with_volume, has_no_volume, volumes_of, start_set, change_set, disable, is_disabled, selected, closed}
 use Rattle.vss_model.specs.Steps.{answered, step_made, is_flush, is_failed_step, stepped_as, stepped, ticked, later}
-use Rattle.vss_model.specs.Facts.{has_failed}
 use Rattle.vss_model.specs.Effects.{line_ticks, lost, lost_after, lost_order, lost_order_if}
 use Rattle.vss_model.specs.Acts.{Act, enabled, order_of_writer, answer_reply, step_reply, idle_now, happens, reply, after, state}
+use Rattle.vss_model.specs.Replies.{is_pending}
 use Rattle.vss_model.proofs.CourseCalls.{Settles}
 use Rattle.vss_model.proofs.FlushFails.{outcome_is_running}
 use Rattle.vss_model.proofs.Freed.{agenda-concluded}
@@ -48,11 +48,13 @@ use Rattle.vss_model.proofs.OneCut.{changed_number, changed_result}
 use Rattle.vss_model.proofs.Orderly.{true_not_false}
 use Rattle.vss_model.proofs.OrderlyActs.{orderly}
 use Rattle.vss_model.proofs.Rows.{has_complete, running_incomplete, incomplete_map, incomplete_append, complete_found}
-use Rattle.promises.specs.Way.{Deed, Spoke, Made, deeds_lost, deeds_of, deeds_if, is_pending, is_snapshot_line, way_after, way_from, way}
-use Rattle.promises.proofs.ByEvent.{Covers, covered, after_enabled, after_not_enabled}
+use Rattle.promises.specs.Way.{Deed, Spoke, Made, deeds_lost, deeds_of, deeds_if, is_snapshot_line, way_after, way_from, way}
+use Rattle.vss_model.proofs.ByEvent.{Covers, covered, after_enabled, after_not_enabled}
 use Rattle.promises.proofs.Clock.{clock-answered, clock-stepped_as, clock-ticked, write_ticks}
 use Rattle.promises.proofs.Incomplete.{begun_incomplete, completes_snapshot, done_followed, incomplete_closed, incomplete_failed, incomplete_made, incomplete_revert, incomplete_write}
 use Rattle.promises.proofs.Speaks.{deed_in, said_at, Speaks, Grows, made_now, lost_told, grows_answered, grows_stepped, grows_timed}
+use Rattle.vss_model.proofs.Completed.{not_complete}
+use Rattle.promises.proofs.Stages.{deeds_append}
 
 pub record IsKeptAlong (G : Agenda → Type 0) : Type 0 where
   pub begins : (ms : List Member) (vs : List ℕ) (now : ℕ) → G (unspoken Snapshot ms vs now)
@@ -62,21 +64,6 @@ pub record IsKeptAlong (G : Agenda → Type 0) : Type 0 where
 append_nothing : (xs : List Deed) → xs ≡ xs ++ []
 append_nothing [] = refl
 append_nothing (x ∷ xs) = ap (λ ys. x ∷ ys) (append_nothing xs)
-
-map_append : (xs ys : List Entry) → map deed_in (xs ++ ys) ≡ map deed_in xs ++ map deed_in ys
-map_append [] ys = refl
-map_append (x ∷ xs) ys = ap (λ zs. deed_in x ∷ zs) (map_append xs ys)
-
-kind_of : (k : Kind) → is_snapshot k ≡ true → k ≡ Snapshot
-kind_of Gather e = absurd cc
-kind_of Prepare e = absurd cc
-kind_of Snapshot e = refl
-kind_of Complete e = absurd cc
-
-not_complete : (o : SetOutcome) → has_failed o ≡ true → is_complete o ≡ false
-not_complete RunningSet e = absurd cc
-not_complete CompleteSet e = absurd cc
-not_complete (FailedSet why) e = refl
 
 -- the last stand of a snapshot agenda: what was said is the whole way
 pub record IsLast (G : Agenda → Type 0) (so_far : List Deed) (running : Option Agenda) : Type 0 where
@@ -100,7 +87,7 @@ module _ (G : Agenda → Type 0) (k : IsKeptAlong G) where
   tells_on : (so_far news : List Deed) (said : Said) (now : ℕ) (ws : List ℕ) (a : Agenda) → Speaks a ws → (fails_set (order_of (open_place (groups_left a)).group) && not (is_ok said)) ≡ false
       → news ≡ map deed_in (said_at (groups_left a) said now ws) → Tells so_far a → Tells (so_far ++ news) (all_say said now ws a)
   tells_on so_far news said now ws a who mild told h e = (
-    map_append a.log (said_at (groups_left a) said now ws) ∙ ap (λ ds. ds ++ map deed_in (said_at (groups_left a) said now ws)) (h e).0 ∙ ap (λ ds. so_far ++ ds) (sym told),
+    deeds_append a.log (said_at (groups_left a) said now ws) ∙ ap (λ ds. ds ++ map deed_in (said_at (groups_left a) said now ws)) (h e).0 ∙ ap (λ ds. so_far ++ ds) (sym told),
     k.says said now ws a e who mild (h e).1,
   )
 

@@ -18,7 +18,7 @@ use Rattle.vss_model.specs.Reply.{Fine, Deleted, Stepped, Idled}
 use Rattle.vss_model.specs.State.{State, Kept, has_image, history_of, is_kept_set, kept_image, row_of, left_now}
 use Rattle.vss_model.specs.Images.{reply_of_mark, write, count_images, delete_set, delete_kept, delete_image}
 use Rattle.vss_model.specs.Steps.{is_flush, is_failed_step}
-use Rattle.vss_model.specs.Acts.{Act, enabled, happens, reply, step_reply, after, state, idle_now}
+use Rattle.vss_model.specs.Acts.{Act, enabled, happens, step_reply, after, state, idle_now}
 use Rattle.vss_model.specs.Causes.{is_fault, is_flush_step}
 use Rattle.vss_model.specs.Effects.{volumes_losing}
 use Rattle.vss_model.proofs.OneCut.{row_number, kept_point}
@@ -26,9 +26,10 @@ use Rattle.vss_model.proofs.Volumes.{at}
 use Rattle.promises.specs.Clock.{ticks_if}
 use Rattle.promises.specs.Answers.{answer_of, AreGone, AnswersSay}
 use Rattle.promises.proofs.Truth.{second_both}
-use Rattle.promises.proofs.ByEvent.{after_enabled}
+use Rattle.vss_model.proofs.ByEvent.{after_enabled}
 use Rattle.promises.proofs.Clock.{clock_after}
 use Rattle.promises.proofs.Done.{dropped_gone}
+use Rattle.promises.proofs.Accepted.{line_reply}
 
 -- ## writes
 
@@ -45,9 +46,6 @@ line_says : (s : Plan) (st : State) (lane : ℕ) (op : Op) (t : Target) (mark : 
 line_says s st lane (WriteFill v b x) t mark e = write_says s v _ mark st
 line_says s st lane (WriteStamp v b n) t mark e = write_says s v _ mark st
 line_says s st lane op t mark e = absurd cc
-
-reply_is : (s : Plan) (st : State) (act : Act) (event : Event) → act.event ≡ event → reply s st act ≡ (happens s event act.mark st).0
-reply_is s st act event e = ap (λ x. (happens s x act.mark st).0) e
 
 -- ## steps
 
@@ -181,12 +179,12 @@ pub answers_say : (s : Plan) (so_far : List Act) (act : Act) → AnswersSay s so
 answers_say s so_far act =
     let st = state s so_far in
     record {
-      written = λ lane op t e f. reply_is s st act (Line lane op) e ∙ line_says s st lane op t act.mark f;
-      ticked = λ lane n e. reply_is s st act (Line lane (Tick n)) e;
+      written = λ lane op t e f. line_reply s st act (Line lane op) e ∙ line_says s st lane op t act.mark f;
+      ticked = λ lane n e. line_reply s st act (Line lane (Tick n)) e;
       idled = λ n e on f.
           clock_after s st act ∙ ap (λ b. st.clock + ticks_if b st act.event) on ∙ ap (λ x. st.clock + ticks_if true st x) e
-          ∙ ap (λ k. st.clock + k) (idled_same (idle_now st) n (sym (reply_is s st act Idle e) ∙ f));
-      stepped = λ g v fault e f. step_says (open_group (left_now st)) (next_volume (left_now st)) act.mark g v fault (sym (reply_is s st act Provider e) ∙ f);
-      deleted_set = λ lane n k e f. after_line s so_far act (Line lane (DeleteSet n)) (AreGone k n st) e refl (set_says st n k (sym (reply_is s st act (Line lane (DeleteSet n)) e) ∙ f));
-      deleted_image = λ lane n v k e f. after_line s so_far act (Line lane (DeleteImage n v)) (AreGone k n st) e refl (image_says st n v k (sym (reply_is s st act (Line lane (DeleteImage n v)) e) ∙ f));
+          ∙ ap (λ k. st.clock + k) (idled_same (idle_now st) n (sym (line_reply s st act Idle e) ∙ f));
+      stepped = λ g v fault e f. step_says (open_group (left_now st)) (next_volume (left_now st)) act.mark g v fault (sym (line_reply s st act Provider e) ∙ f);
+      deleted_set = λ lane n k e f. after_line s so_far act (Line lane (DeleteSet n)) (AreGone k n st) e refl (set_says st n k (sym (line_reply s st act (Line lane (DeleteSet n)) e) ∙ f));
+      deleted_image = λ lane n v k e f. after_line s so_far act (Line lane (DeleteImage n v)) (AreGone k n st) e refl (image_says st n v k (sym (line_reply s st act (Line lane (DeleteImage n v)) e) ∙ f));
     }

@@ -2,13 +2,11 @@
 use Rattle.std.proofs.Common.{◌≡◌, ◌∙◌, ℕ, ◌+◌, ◌==◌, List, [], ◌∷◌, Option, Some, None, refl, Bool, true, false, ap, sym, subst, map, filter, fold}
 use Rattle.std.specs.Prelude.{◌&&◌, ◌||◌, not, is_some, if◌then◌else◌}
 use Rattle.std.specs.List.{list_any}
-use Rattle.std.proofs.lemmas.List.Folds.{list_any-append}
 use Rattle.vss_names.specs.declared.order.Order.{Order}
 use Rattle.vss_names.specs.declared.order.Order.TheVariants.{Identify, PrepareBackup, PrepareSnapshot, Freeze, Thaw, PostSnapshot, BackupComplete}
 use Rattle.vss_names.specs.declared.vss_result.VssResult.{VssResult}
 use Rattle.vss_names.specs.declared.vss_result.VssResult.TheVariants.{AsyncCancelled, InsufficientStorage}
 use Rattle.writer_state.specs.declared.said.Said.{Said}
-use Rattle.writer_state.specs.declared.writer_row.WriterRow.{WriterRow}
 use Rattle.writer_state.specs.WriterRow.{row_gathered}
 use Rattle.write_history.specs.declared.mark.Mark.{Mark}
 use Rattle.write_history.specs.declared.mark.Mark.TheVariants.{Clean, Fault, FaultAfter}
@@ -21,7 +19,7 @@ use Rattle.set_agenda.specs.declared.kind.Kind.TheVariants as kind
 use Rattle.set_agenda.specs.declared.member.Member.{Member}
 use Rattle.set_agenda.specs.declared.place.Place.{Place}
 use Rattle.set_agenda.specs.Agenda.{Agenda, Open, places, has_failed, has_said, is_at, writers_at, members_of, waited_for, with_group, left_from, groups_left, left, is_among, is_orders, order_of, order_if, open_order, open_group, is_done}
-use Rattle.set_agenda.specs.Course.{Course, member_if, members_from, is_member, has_row_failed, posted, failed as course_failed, settled_if, settled, begun, released}
+use Rattle.set_agenda.specs.Course.{Course, is_member, has_row_failed, posted, failed as course_failed, settled_if, settled, begun, released}
 use Rattle.requestor.specs.Session.{Session}
 use Rattle.scenario.specs.Plan.{Plan, class_of}
 use Rattle.vss_model.specs.declared.event.Event.{Event}
@@ -36,12 +34,13 @@ use Rattle.vss_model.proofs.HeldOfSet.{Follows, goes_answered, goes_stepped, goe
 use Rattle.vss_model.proofs.OrderlyActs.{orderly}
 use Rattle.promises.specs.Asked.{IsFor, AsksItsOwn}
 use Rattle.promises.specs.Participants.{choosing}
-use Rattle.promises.proofs.Truth.{equal, not_true, right_part, second_both}
+use Rattle.promises.proofs.Truth.{not_true, second_both}
 use Rattle.promises.proofs.BusyAgendas.{course_followed}
-use Rattle.promises.proofs.ByEvent.{Covers, covered, after_enabled, after_not_enabled}
+use Rattle.vss_model.proofs.ByEvent.{Covers, covered, after_enabled, after_not_enabled}
 use Rattle.promises.proofs.OpenGroup.{every, in_kind}
 use Rattle.promises.proofs.Participants.{ChosenIn, StandsChosen, follows_all}
 use Rattle.promises.proofs.SameChoice.{SameCourse, mode_in, on_course_answered, on_course_stepped, on_course_timed}
+use Rattle.vss_model.proofs.Gathered.{filter_member, member_passes}
 
 -- ## lists of writers
 
@@ -58,24 +57,12 @@ among_filter test (x ∷ xs) w e = by_parts (test x) (x == w) refl e (among_filt
     by_parts true c f e ih = by_test true (x == w) e ih
     by_parts false c f e ih = by_test false (x == w) e ih
 
-member_filter : (test : Member → Bool) (ms : List Member) (w : ℕ) → is_member (filter test ms) w ≡ true → is_member ms w ≡ true
-member_filter test [] w e = absurd cc
-member_filter test (m ∷ ms) w e = by_test (test m) e (member_filter test ms w)
-  where
-    either : (a b c : Bool) → (b ≡ true → c ≡ true) → (a || b) ≡ true → (a || c) ≡ true
-    either true b c f e = refl
-    either false b c f e = f e
-
-    by_test : (b : Bool) → is_member (if b then m ∷ filter test ms else filter test ms) w ≡ true → (is_member (filter test ms) w ≡ true → is_member ms w ≡ true) → ((m.writer == w) || is_member ms w) ≡ true
-    by_test true e ih = either (m.writer == w) (is_member (filter test ms) w) (is_member ms w) ih e
-    by_test false e ih = right_part (m.writer == w) (is_member ms w) (ih e)
-
 writers_are : (ms : List Member) (w : ℕ) → is_among w (map (λ (m : Member). m.writer) ms) ≡ is_member ms w
 writers_are [] w = refl
 writers_are (m ∷ ms) w = ap (λ b. (m.writer == w) || b) (writers_are ms w)
 
 at_level_are : (ms : List Member) (l : Option _) (w : ℕ) → is_among w (writers_at ms l) ≡ true → is_member ms w ≡ true
-at_level_are ms l w e = member_filter (λ (m : Member). is_at l m.level) ms w (sym (writers_are (filter (λ (m : Member). is_at l m.level) ms) w) ∙ e)
+at_level_are ms l w e = filter_member (λ (m : Member). is_at l m.level) ms w (sym (writers_are (filter (λ (m : Member). is_at l m.level) ms) w) ∙ e)
 
 -- those of a group of orders are members
 group_members : (a : Agenda) (o : Order) (l : Option _) (w : ℕ) → is_among w (members_of a (Orders o) l) ≡ true → is_member a.members w ≡ true
@@ -86,19 +73,6 @@ group_members a Freeze l w e = at_level_are a.members l w e
 group_members a Thaw l w e = at_level_are a.members l w e
 group_members a PostSnapshot l w e = at_level_are a.members l w (among_filter (λ x. not (has_failed a.log x)) (writers_at a.members l) w e)
 group_members a BackupComplete l w e = at_level_are a.members l w e
-
-members_pass : (test : ℕ → Bool) (k : ℕ) (rows : List WriterRow) (w : ℕ) → is_member (members_from test k rows) w ≡ true → test w ≡ true
-members_pass test k [] w e = absurd cc
-members_pass test k (r ∷ rows) w e =
-    by_test (test k) refl (sym (list_any-append (λ (m : Member). m.writer == w) (member_if (test k) k r) (members_from test (k + 1) rows)) ∙ e) (members_pass test (k + 1) rows w)
-  where
-    by_head : (c : Bool) → (k == w) ≡ c → test k ≡ true → ((c || false) || is_member (members_from test (k + 1) rows) w) ≡ true → (is_member (members_from test (k + 1) rows) w ≡ true → test w ≡ true) → test w ≡ true
-    by_head true f g e ih = ap test (sym (equal k w f)) ∙ g
-    by_head false f g e ih = ih e
-
-    by_test : (b : Bool) → test k ≡ b → (is_member (member_if b k r) w || is_member (members_from test (k + 1) rows) w) ≡ true → (is_member (members_from test (k + 1) rows) w ≡ true → test w ≡ true) → test w ≡ true
-    by_test true g e ih = by_head (k == w) refl g e ih
-    by_test false g e ih = ih e
 
 -- ## the fact
 
@@ -205,13 +179,13 @@ module _ (s : Plan) where
       ticks = λ lane n mark. on_tick n;
       begins = λ lane n all c mark e ctx. h;
       disables = λ lane w q mark g. asks_none s st.course.agenda _ g.quiet;
-      gathers = λ lane q mark g. asks_followed true _ st (asks_begun kind.Gather _ [] st.clock (record st.course { rows = map row_gathered st.course.rows }) (λ w e. not_true (is_disabled s st w) (members_pass (λ x. not (is_disabled s st x)) 0 _ w e)));
+      gathers = λ lane q mark g. asks_followed true _ st (asks_begun kind.Gather _ [] st.clock (record st.course { rows = map row_gathered st.course.rows }) (λ w e. not_true (is_disabled s st w) (member_passes (λ x. not (is_disabled s st x)) 0 _ w e)));
       names = λ lane w full q explicit mark g named. h;
       starts = λ lane q mark g e. h;
       adds = λ lane v r q mark g e f. h;
       prepares = λ lane q mark g. either (has_no_volume (in_progress st)) _ _ h (asks_followed true _ st (asks_begun kind.Prepare _ [] st.clock _ (λ w e. e)));
       snapshots = λ lane q mark g. either (has_no_volume (in_progress st)) _ _ h (asks_followed true _ st (asks_begun kind.Snapshot st.course.members _ st.clock st.course (λ w e. e)));
-      completes = λ lane q mark g. asks_followed true _ st (asks_begun kind.Complete _ [] st.clock st.course (λ w e. member_filter (λ (m : Member). not (has_row_failed st.course.rows m.writer)) st.course.members w e));
+      completes = λ lane q mark g. asks_followed true _ st (asks_begun kind.Complete _ [] st.clock st.course (λ w e. filter_member (λ (m : Member). not (has_row_failed st.course.rows m.writer)) st.course.members w e));
       aborts = λ lane q mark e. asks_failed (in_progress st) AsyncCancelled st h;
       ends = λ lane q mark e. asks_closed q (failed AsyncCancelled st);
       answers = λ w answer mark e. on_answer w (said_of answer);

@@ -1,6 +1,7 @@
 -- `await` tells the last result.
-use Rattle.std.proofs.Common.{◌≡◌, ◌∙◌, ℕ, ◌==◌, List, Option, Some, None, refl, Bool, true, false, ap, sym, arith}
+use Rattle.std.proofs.Common.{◌≡◌, ◌∙◌, ℕ, ◌==◌, List, Option, Some, None, refl, Bool, true, false, ap, sym}
 use Rattle.std.specs.Prelude.{◌&&◌, not, if◌then◌else◌}
+use Rattle.std.proofs.lemmas.Bool.{eq-eqb}
 use Rattle.vss_names.specs.declared.vss_result.VssResult.{VssResult}
 use Rattle.requestor.specs.declared.verdict.Verdict.TheVariants.{Go, Blocked}
 use Rattle.requestor.specs.declared.session_call.SessionCall.TheVariants as call
@@ -18,16 +19,13 @@ use Rattle.promises.specs.Awaited.{result_told, AwaitTells}
 use Rattle.promises.proofs.Truth.{not_itself}
 use Rattle.promises.proofs.LastResult.{last_all}
 
-own_lane : (a b : ℕ) → a ≡ b → (a == b) ≡ true
-own_lane a b e = grind arith
-
 await_told : (last : Option VssResult) (x : State) → (await_last last x).0 ≡ result_told last
 await_told None x = refl
 await_told (Some why) x = refl
 
 module _ (s : Plan) (st : State) (lane : ℕ) (q : Session) (own : Owns st lane q) where
   await_check : (b : Bool) → runs st ≡ b → check st.session (runs st) lane call.Await ≡ (if b then Blocked else Go)
-  await_check b e = ap (λ p. check p (runs st) lane call.Await) own.stands ∙ ap (λ r. check (Some q) r lane call.Await) e ∙ by_owner (q.owner == lane) (own_lane q.owner lane own.owner) b
+  await_check b e = ap (λ p. check p (runs st) lane call.Await) own.stands ∙ ap (λ r. check (Some q) r lane call.Await) e ∙ by_owner (q.owner == lane) (eq-eqb q.owner lane own.owner) b
     where
       by_owner : (c : Bool) → c ≡ true → (b : Bool) → owner_only c (verdict_of false (b && false) true b) ≡ (if b then Blocked else Go)
       by_owner true f true = refl

@@ -25,7 +25,7 @@ use Rattle.vss_model.specs.Causes.{owns}
 use Rattle.vss_model.proofs.OrderlyActs.{orderly}
 use Rattle.promises.specs.Calls.{is_owners, CallsAreOwned, may_wait, WaitsAreFew, WaitsAreDue, StandsQuiet, FrozenDoNotWrite}
 use Rattle.promises.proofs.Truth.{first_both, not_false}
-use Rattle.promises.proofs.ByEvent.{after_enabled, after_not_enabled}
+use Rattle.vss_model.proofs.ByEvent.{after_enabled, after_not_enabled, some_same}
 
 -- ## a call of another lane
 
@@ -159,10 +159,7 @@ free_goes s st lane op t e f g = absurd cc
 
 begin_waits : (q : Option Session) (lane : ℕ) (p : Session) → q ≡ Some p → (p.owner == lane) ≡ false → not (is_blocked (check_begin q lane)) ≡ false
 begin_waits None lane p e f = absurd cc
-begin_waits (Some x) lane p e f = ap (λ b. not (is_blocked (begin_verdict b))) (ap (λ (y : Session). y.owner == lane) (same x p e) ∙ f)
-  where
-    same : (x p : Session) → Some x ≡ Some p → x ≡ p
-    same x p e = cc
+begin_waits (Some x) lane p e f = ap (λ b. not (is_blocked (begin_verdict b))) (ap (λ (y : Session). y.owner == lane) (some_same x p e) ∙ f)
 
 begin_goes : (q : Option Session) (lane : ℕ) → q ≡ None → not (is_blocked (check_begin q lane)) ≡ true
 begin_goes None lane e = refl

@@ -6,12 +6,13 @@ use Rattle.writer_state.specs.declared.said.Said.{Said}
 use Rattle.writer_state.specs.WriterState.{is_ok}
 use Rattle.set_agenda.specs.declared.kind.Kind.{Kind}
 use Rattle.set_agenda.specs.declared.member.Member.{Member}
-use Rattle.set_agenda.specs.Agenda.{left, is_asked, is_working, open_order, order_if, order_now}
+use Rattle.set_agenda.specs.Agenda.{left, is_asked, is_working, open_order, order_now}
 use Rattle.set_agenda.specs.Course.{Course, posted, begun, is_decisive, told, decided, answered_to, answered as course_answered, stepped as course_stepped, timed as course_timed}
 use Rattle.vss_model.specs.Facts.{has_failed}
 use Rattle.promises.proofs.Truth.{both_parts}
 use Rattle.promises.proofs.CourseRows.{PassesOrFails, over_timed, calm_settled}
 use Rattle.promises.proofs.BusyAgendas.{IsBusy, busy_order, busy_step}
+use Rattle.set_agenda.proofs.CourseRule.{now_if}
 
 abbrev pub CalmOrBusy : Course → Course → Type 0
 CalmOrBusy c d = (has_failed c.outcome ≡ false → has_failed d.outcome ≡ false) ⊎ IsBusy c.agenda
@@ -24,16 +25,12 @@ told_outcome : (o : Order) (said : Said) (now : ℕ) (ws : List ℕ) (c : Course
 unfolding told
 told_outcome o said now ws c = refl
 
-now_open : (b : Bool) (x : Option Order) (o : Order) → order_if b x ≡ Some o → x ≡ Some o
-now_open true x o e = e
-now_open false x o e = absurd cc
-
 calm_answered_to : (x : Option Order) (w : ℕ) (said : Said) (now : ℕ) (c : Course) → open_order (left c.agenda) w ≡ x → CalmOrBusy c (answered_to x w said now c)
 calm_answered_to None w said now c e = inl (λ f. f)
 calm_answered_to (Some o) w said now c e = by_decision (is_decisive o && not (is_ok said)) refl
   where
     by_decision : (b : Bool) → (is_decisive o && not (is_ok said)) ≡ b → CalmOrBusy c (decided b said (told o said now (w ∷ []) c))
-    by_decision true f = inr (busy_order c.agenda o (now_open (is_asked w (left c.agenda)) (order_now (left c.agenda)) o e) (both_parts (is_decisive o) (not (is_ok said)) f).0)
+    by_decision true f = inr (busy_order c.agenda o (now_if (is_asked w (left c.agenda)) (order_now (left c.agenda)) o e) (both_parts (is_decisive o) (not (is_ok said)) f).0)
     by_decision false f = inl (λ g. calm_settled (told o said now (w ∷ []) c) (ap has_failed (told_outcome o said now (w ∷ []) c) ∙ g))
 
 pub calm_answered : (w : ℕ) (said : Said) (now : ℕ) (c : Course) → CalmOrBusy c (course_answered w said now c)

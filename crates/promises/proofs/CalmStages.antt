@@ -33,6 +33,7 @@ use Rattle.promises.proofs.Truth.{not_both}
 use Rattle.promises.proofs.BusyAgendas.{IsBusy, busy_set}
 use Rattle.promises.proofs.CalmCourses.{CalmOrBusy, calm_begun, calm_answered, calm_stepped, calm_timed}
 use Rattle.promises.proofs.SetFailures.{session_made}
+use Rattle.vss_model.proofs.ByEvent.{some_same}
 
 abbrev pub IsCalm : State → Type 0
 IsCalm x = (q : Session) → x.session ≡ Some q → (q.stage ≡ Failed → ⊥) → has_failed x.course.outcome ≡ false
@@ -40,12 +41,9 @@ IsCalm x = (q : Session) → x.session ≡ Some q → (q.stage ≡ Failed → �
 abbrev pub IsCalmOrderly : State → Type 0
 IsCalmOrderly x = IsOrderly x × IsCalm x
 
-same_session : (a b : Session) → Some a ≡ Some b → a ≡ b
-same_session a b e = cc
-
 calm_failed : (why : VssResult) (o : Option Session) (n : SetOutcome) (q : Session) → option_map (set_failed why) o ≡ Some q → (q.stage ≡ Failed → ⊥) → has_failed n ≡ false
 calm_failed why None n q e f = absurd cc
-calm_failed why (Some p) n q e f = absurd (f (sym (ap (λ (y : Session). y.stage) (same_session (set_failed why p) q e))))
+calm_failed why (Some p) n q e f = absurd (f (sym (ap (λ (y : Session). y.stage) (some_same (set_failed why p) q e))))
 
 -- ## the course goes on
 
@@ -62,7 +60,7 @@ module _ (st : State) (h : IsCalmOrderly st) where
   -- the session of a failed set before an agenda ended
   was_failed : (o : Option Session) (q : Session) → st.session ≡ o → option_map agenda_ended o ≡ Some q → (q.stage ≡ Failed → ⊥) → has_failed st.course.outcome ≡ false
   was_failed None q e f g = absurd cc
-  was_failed (Some p) q e f g = h.1 p e (λ k. g (sym (ap (λ (y : Session). y.stage) (same_session (agenda_ended p) q f)) ∙ ap (stage_after p.context) k))
+  was_failed (Some p) q e f g = h.1 p e (λ k. g (sym (ap (λ (y : Session). y.stage) (some_same (agenda_ended p) q f)) ∙ ap (stage_after p.context) k))
 
   calm_followed : (ran : Bool) (c : Course) (y : State) → y.session ≡ st.session → y.course.outcome ≡ st.course.outcome → CalmOrBusy st.course c → IsCalm (followed ran c y)
   unfolding followed

@@ -26,7 +26,7 @@ use Rattle.vss_model.specs.Steps.{answered, cut_set, step_made, is_flush, is_fai
 use Rattle.vss_model.specs.Effects.{line_ticks, ticks_of}
 use Rattle.vss_model.specs.Acts.{Act, enabled, idle_now, after, state}
 use Rattle.promises.specs.Clock.{ticks_if, ClockMoves}
-use Rattle.promises.proofs.ByEvent.{Covers, covered, after_enabled, after_not_enabled}
+use Rattle.vss_model.proofs.ByEvent.{Covers, covered, after_enabled, after_not_enabled}
 
 clock-concluded : (e : Ending) (st : State) → (concluded e st).clock ≡ st.clock
 clock-concluded NothingEnds st = refl

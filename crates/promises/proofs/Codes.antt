@@ -1,6 +1,7 @@
 -- A set that fails has the code of its cause.
 use Rattle.std.proofs.Common.{◌≡◌, ◌∙◌, ℕ, ◌+◌, List, [], ◌∷◌, ◌++◌, Option, Some, None, refl, Bool, true, false, ap, sym, subst, inl, inr}
 use Rattle.std.specs.Prelude.{◌&&◌, not, if◌then◌else◌}
+use Rattle.std.proofs.lemmas.Bool.{both_ways}
 use Rattle.vss_names.specs.declared.order.Order.{Order}
 use Rattle.vss_names.specs.declared.set_outcome.SetOutcome.{SetOutcome}
 use Rattle.vss_names.specs.declared.set_outcome.SetOutcome.TheVariants.{Failed as FailedSet}
@@ -47,7 +48,7 @@ use Rattle.promises.specs.Way.{Rising}
 use Rattle.promises.specs.Codes.{late_code_at, late_code_in, late_code, IsAnswerCode, IsLineCode, IsCode, FailsByCode}
 use Rattle.promises.proofs.Truth.{false_of}
 use Rattle.promises.proofs.BusyAgendas.{course_followed}
-use Rattle.promises.proofs.ByEvent.{Covers, covered, after_enabled}
+use Rattle.vss_model.proofs.ByEvent.{Covers, covered, after_enabled, some_same}
 use Rattle.promises.proofs.CalmCourses.{calm_begun}
 use Rattle.promises.proofs.CourseRows.{calm_settled}
 use Rattle.promises.proofs.GoneImages.{none_stepped}
@@ -61,10 +62,7 @@ same_reason x y e = cc
 
 -- an outcome that is no failure
 calm_reason : {X : Type 0} (o : SetOutcome) (why : VssResult) → has_failed o ≡ false → o ≡ FailedSet why → X
-calm_reason o why e f = absurd (both (has_failed o) e (ap has_failed f))
-  where
-    both : (b : Bool) → b ≡ false → b ≡ true → ⊥
-    both b e f = cc
+calm_reason o why e f = absurd (both_ways (has_failed o) e (ap has_failed f))
 
 posted_outcome : (prior c : Course) → (posted prior c).outcome ≡ c.outcome
 unfolding posted
@@ -157,11 +155,8 @@ module _ (why : VssResult) (c : Course) (run : has_failed c.outcome ≡ false) w
 
   time_reason : (l : Option RunningLimit) (now : ℕ) → (treated l now c).outcome ≡ FailedSet why → (m : RunningLimit) → l ≡ Some m → why ≡ code_of_limit m.limit
   time_reason None now e m f = absurd cc
-  time_reason (Some l) now e m f = subst (λ (x : RunningLimit). why ≡ code_of_limit x.limit) (some_limit l m f) (by_limit l.limit e)
+  time_reason (Some l) now e m f = subst (λ (x : RunningLimit). why ≡ code_of_limit x.limit) (some_same l m f) (by_limit l.limit e)
     where
-      some_limit : (x y : RunningLimit) → Some x ≡ Some y → x ≡ y
-      some_limit x y e = cc
-
       by_order : (b : Bool) → (lost_decided b (lost now c)).outcome ≡ FailedSet why → why ≡ WriterNotResponding
       by_order true e = same_reason why WriterNotResponding (sym e ∙ failed_outcome WriterNotResponding (lost now c))
       by_order false e = settled_reason (lost now c) (lost_outcome (order_now (left c.agenda)) now) e
@@ -185,9 +180,6 @@ module _ (why : VssResult) (c : Course) (run : has_failed c.outcome ≡ false) w
 module _ (s : Plan) (so_far : List Act) (why : VssResult) where
   abbrev st : State
   st = state s so_far
-
-  some_same : (a b : VssResult) → Some a ≡ Some b → a ≡ b
-  some_same a b e = cc
 
   not_none : {X : Type 0} (o : Option VssResult) → o ≡ None → o ≡ Some why → X
   not_none o e f = absurd (both o e f)

@@ -38,9 +38,10 @@ use Rattle.vss_model.proofs.CourseCalls.{asked_if}
 use Rattle.vss_model.proofs.LogRule.{unspoken}
 use Rattle.promises.specs.Completing.{StandsWell, CompletesUnfailed}
 use Rattle.promises.proofs.Truth.{equal}
-use Rattle.promises.proofs.ByEvent.{Covers, covered, after_enabled, after_not_enabled}
+use Rattle.vss_model.proofs.ByEvent.{Covers, covered, after_enabled, after_not_enabled}
 use Rattle.promises.proofs.LastOrder.{is_last_order, among_all, last_place, not_in_kind, still_open}
 use Rattle.promises.proofs.OpenGroup.{every}
+use Rattle.promises.proofs.Members.{one_on}
 
 -- ## the course
 
@@ -80,10 +81,7 @@ row_stays f test k (r ∷ rows) zero e = ap (λ b. Some (row_if b f r)) (ap test
   where
     none_more : (n : ℕ) → n ≡ n + 0
     none_more n = omega arith
-row_stays f test k (r ∷ rows) (suc w) e = row_stays f test (k + 1) rows w (ap test (shift k w) ∙ e)
-  where
-    shift : (a b : ℕ) → a + 1 + b ≡ a + suc b
-    shift a b = omega arith
+row_stays f test k (r ∷ rows) (suc w) e = row_stays f test (k + 1) rows w (ap test (one_on k w) ∙ e)
 
 well_said : (o : Order) (said : Said) (now : ℕ) (ws : List ℕ) (rows : List WriterRow) (x : Option Agenda) → Unfailed rows x → Unfailed (rows_where (row_after o said) (λ w. is_among w ws) 0 rows) (option_map (all_say said now ws) x)
 well_said o said now ws rows None h w e = nobody (rows_where (row_after o said) (λ w. is_among w ws) 0 rows) w e

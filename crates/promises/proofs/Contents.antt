@@ -1,7 +1,6 @@
 -- What changes the contents of a volume.
 use Rattle.std.proofs.Common.{◌≡◌, ◌∙◌, ℕ, ◌+◌, ◌==◌, zero, suc, List, [], ◌∷◌, ◌++◌, Option, Some, None, refl, Bool, true, false, ◌<◌, ap, sym, subst, map, length, take, arith}
 use Rattle.std.specs.Prelude.{◌&&◌, if◌then◌else◌}
-use Rattle.std.proofs.Math.Seq.{take-length}
 use Rattle.block_data.specs.PayloadBytes.{payload_bytes}
 use Rattle.block_data.specs.Runs.{zeros}
 use Rattle.vss_names.specs.declared.context.Context.{Context}
@@ -38,8 +37,9 @@ use Rattle.vss_model.proofs.FewerImages.{as_many_volumes}
 use Rattle.vss_model.proofs.Volumes.{at, change_other, as_many_map, as_many_gone}
 use Rattle.promises.specs.Contents.{block_now, is_clean, may_change, ContentsChange, changes_by}
 use Rattle.promises.proofs.Truth.{same_number}
-use Rattle.promises.proofs.ByEvent.{Covers, covered, after_enabled, after_not_enabled}
+use Rattle.vss_model.proofs.ByEvent.{Covers, covered, after_enabled, after_not_enabled}
 use Rattle.promises.proofs.Restored.{some_restored}
+use Rattle.vss_model.proofs.OneCut.{all_taken}
 
 -- ## writes of a volume
 
@@ -98,11 +98,8 @@ last_other : (b : ℕ) (before : List ℕ) (ws : List Write) (w : Write) → (w.
 last_other b before [] w e = ap (λ t. if t then w.bytes else before) e
 last_other b before (x ∷ ws) w e = last_other b (if x.block == b then x.bytes else before) ws w e
 
-take_whole : (ws : List Write) → take (length ws) ws ≡ ws
-take_whole ws = take-length ws
-
 now_is : (ws : List Write) (b : ℕ) → content ws (length ws) b ≡ last_bytes b zeros ws
-now_is ws b = ap (last_bytes b zeros) (take_whole ws)
+now_is ws b = ap (last_bytes b zeros) (all_taken ws)
 
 other_block : (ws : List Write) (w : Write) (b : ℕ) → (w.block == b) ≡ false → content (ws ++ w ∷ []) (length (ws ++ w ∷ [])) b ≡ content ws (length ws) b
 other_block ws w b e = now_is (ws ++ w ∷ []) b ∙ last_other b zeros ws w e ∙ sym (now_is ws b)

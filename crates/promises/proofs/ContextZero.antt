@@ -41,7 +41,7 @@ use Rattle.vss_model.proofs.Volumes.{at}
 use Rattle.promises.specs.Gone.{stands}
 use Rattle.promises.specs.ContextZero.{BackupsEnd}
 use Rattle.promises.proofs.Truth.{both_parts, equal}
-use Rattle.promises.proofs.ByEvent.{Covers, covered, after_enabled, after_not_enabled}
+use Rattle.vss_model.proofs.ByEvent.{Covers, covered, after_enabled, after_not_enabled, some_same}
 use Rattle.promises.proofs.Done.{kept_map, dropped_gone}
 use Rattle.promises.proofs.Contexts.{context_in, context_map, changed_number, changed_context, context_other, context_new, HasMade, Owned, NoMore, Relates, relates_same, relates_over, relates_followed, relates_failed, relates_room, relates_put, owned_by, cut_contexts, owned_cut}
 
@@ -70,17 +70,11 @@ owned_start q st g num h = record {
   early = λ p e f. absurd (not_early p e f);
 }
   where
-    some_same : (x y : Session) → Some x ≡ Some y → x ≡ y
-    some_same x y e = cc
-
-    some_number : (x y : ℕ) → Some x ≡ Some y → x ≡ y
-    some_number x y e = cc
-
     none_some : {X : Type 0} (o : Option ℕ) (n : ℕ) → o ≡ None → o ≡ Some n → X
     none_some o n e f = absurd cc
 
     of_new : (p : Session) (n : ℕ) → Some (started (new_number st) q) ≡ Some p → p.set ≡ Some n → (new_number st ≡ n) × (q.context ≡ p.context)
-    of_new p n e f = (some_number (new_number st) n (ap (λ (y : Session). y.set) (some_same (started (new_number st) q) p e) ∙ f), ap (λ (y : Session). y.context) (some_same (started (new_number st) q) p e))
+    of_new p n e f = (some_same (new_number st) n (ap (λ (y : Session). y.set) (some_same (started (new_number st) q) p e) ∙ f), ap (λ (y : Session). y.context) (some_same (started (new_number st) q) p e))
 
     not_early : (p : Session) → Some (started (new_number st) q) ≡ Some p → is_early p.stage ≡ true → ⊥
     not_early p e f = true_not_false (is_early p.stage) f (ap (λ (y : Session). is_early y.stage) (sym (some_same (started (new_number st) q) p e)))
@@ -178,9 +172,6 @@ module _ (s : Plan) (st : State) (num : NumberedFrom 1 st.sets) (h : Owned st) w
       none_some : {X : Type 0} (o : Option Session) (p : Session) → o ≡ None → o ≡ Some p → X
       none_some o p e f = absurd cc
 
-      some_same : (x y : Session) → Some x ≡ Some y → x ≡ y
-      some_same x y e = cc
-
       some_context : (x y : Context) → Some x ≡ Some y → y ≡ x
       some_context x y e = cc
 
@@ -203,9 +194,6 @@ module _ (s : Plan) (st : State) (num : NumberedFrom 1 st.sets) (h : Owned st) w
 
       none_set : {X : Type 0} (p : Session) (n : ℕ) → p.set ≡ None → p.set ≡ Some n → X
       none_set p n e f = absurd cc
-
-      some_same : (x y : Session) → Some x ≡ Some y → x ≡ y
-      some_same x y e = cc
 
   either : (event : Event) (mark : Mark) (b : Bool) (x y : Replied) → Next event mark x → Next event mark y → Next event mark (if b then x else y)
   either event mark true x y d e = d

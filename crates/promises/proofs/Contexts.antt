@@ -22,6 +22,7 @@ use Rattle.vss_model.specs.Facts.{NumberedFrom, IsOfSession as IsSessionOfSet, i
 use Rattle.vss_model.proofs.Volumes.{at}
 use Rattle.promises.specs.Gone.{stands}
 use Rattle.promises.proofs.Truth.{equal, same_number}
+use Rattle.vss_model.proofs.ByEvent.{some_same}
 
 -- ## the context of a set
 
@@ -114,9 +115,6 @@ pub record Keeps (f : Session → Session) : Type 0 where
 pub session_was : (f : Session → Session) (o : Option Session) (q : Session) (X : Type 0) → option_map f o ≡ Some q → ((p : Session) → o ≡ Some p → f p ≡ q → X) → X
 session_was f None q X e g = absurd cc
 session_was f (Some p) q X e g = g p refl (some_same (f p) q e)
-  where
-    some_same : (x y : Session) → Some x ≡ Some y → x ≡ y
-    some_same x y e = cc
 
 pub owned_still : (f : Session → Session) → Keeps f → (x next : State) → ((n : ℕ) → context_in next.sets n ≡ context_in x.sets n) → next.session ≡ option_map f x.session → NoMore x next → Owned x → Owned next
 owned_still f k x next con ses img h = record {

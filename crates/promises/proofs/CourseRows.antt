@@ -2,7 +2,6 @@
 use Rattle.std.proofs.Common.{◌≡◌, ◌∙◌, ℕ, ◌+◌, zero, suc, List, [], ◌∷◌, ◌++◌, ◌⊎◌, Option, Some, None, refl, Bool, true, false, ap, sym, subst, inl, inr, map, arith}
 use Rattle.std.specs.Prelude.{◌&&◌, not, slice_get}
 use Rattle.vss_names.specs.declared.order.Order.{Order}
-use Rattle.vss_names.specs.declared.set_outcome.SetOutcome.{SetOutcome}
 use Rattle.vss_names.specs.declared.vss_result.VssResult.{VssResult}
 use Rattle.writer_state.specs.declared.said.Said.{Said}
 use Rattle.writer_state.specs.declared.said.Said.TheVariants.{Lost}
@@ -13,16 +12,18 @@ use Rattle.tick_limits.specs.Time.{answer_limit, hold_limit}
 use Rattle.set_agenda.specs.declared.group.Group.{Group}
 use Rattle.set_agenda.specs.declared.group.Group.TheVariants.{Orders, PreCommit, Flush, Hold, Cut, Commit, Release, PostCommit}
 use Rattle.set_agenda.specs.declared.kind.Kind.{Kind}
-use Rattle.set_agenda.specs.declared.kind.Kind.TheVariants.{Gather, Prepare, Snapshot, Complete}
 use Rattle.set_agenda.specs.declared.limit.Limit.{Limit}
 use Rattle.set_agenda.specs.declared.limit.Limit.TheVariants.{Hold as HoldLimit, Freeze as FreezeLimit, Answer as AnswerLimit}
 use Rattle.set_agenda.specs.declared.member.Member.{Member}
 use Rattle.set_agenda.specs.Agenda.{Agenda, Open, order_of, order_now, open_order, is_among, is_done, groups_left, left, waits_now}
 use Rattle.set_agenda.specs.Limits.{Running as RunningLimit, first_hold, opened_at, freeze_opened_at, hold_runs, freeze_runs, answer_runs, runs_if, hold_running, running_at, running_limits, spent_of}
-use Rattle.set_agenda.specs.Course.{Course, posted, failed as course_failed, rows_where, row_if, is_member, outcome_after, settled_if, settled_in, settled, begun, told, is_decisive, decided, answered_to, answered as course_answered, worked, stepped as course_stepped, freeze_limit, limits_now, lost_to, lost, fails_set, lost_decided, treated_as, treated, timed as course_timed}
+use Rattle.set_agenda.specs.Course.{Course, posted, failed as course_failed, rows_where, row_if, is_member, settled_if, settled_in, settled, begun, told, is_decisive, decided, answered_to, answered as course_answered, worked, stepped as course_stepped, freeze_limit, limits_now, lost_to, lost, fails_set, lost_decided, treated_as, treated, timed as course_timed}
 use Rattle.vss_model.specs.Facts.{has_failed}
 use Rattle.promises.proofs.BusyAgendas.{IsBusy, busy_order, busy_limit}
 use Rattle.promises.proofs.Limits.{later_found, first_found, limit_found, none_and_some}
+use Rattle.vss_model.proofs.Causes.{none_outcome}
+use Rattle.vss_model.proofs.ByEvent.{some_same}
+use Rattle.promises.proofs.Members.{one_on}
 
 row_where : (f : WriterRow → WriterRow) (test : ℕ → Bool) (k : ℕ) (rows : List WriterRow) (w : ℕ) (r : WriterRow) → slice_get rows w ≡ Some r → slice_get (rows_where f test k rows) w ≡ Some (row_if (test (k + w)) f r)
 row_where f test k [] w r e = absurd cc
@@ -30,13 +31,7 @@ row_where f test k (x ∷ rows) zero r e = ap (λ n. Some (row_if (test n) f x))
   where
     none_more : (n : ℕ) → n ≡ n + 0
     none_more n = omega arith
-
-    some_same : (x y : WriterRow) → Some x ≡ Some y → x ≡ y
-    some_same x y e = cc
-row_where f test k (x ∷ rows) (suc w) r e = row_where f test (k + 1) rows w r e ∙ ap (λ n. Some (row_if (test n) f r)) (shift k w)
-  where
-    shift : (a b : ℕ) → a + 1 + b ≡ a + suc b
-    shift a b = omega arith
+row_where f test k (x ∷ rows) (suc w) r e = row_where f test (k + 1) rows w r e ∙ ap (λ n. Some (row_if (test n) f r)) (one_on k w)
 
 -- ## rows
 
@@ -66,9 +61,6 @@ rows_map_are f say rows more h w r e = mapped more w (say w r) (h w r e)
     mapped : (ys : List WriterRow) (n : ℕ) (y : WriterRow) → slice_get ys n ≡ Some y → slice_get (map f ys) n ≡ Some (f y)
     mapped [] n y e = absurd cc
     mapped (x ∷ ys) zero y e = ap (λ z. Some (f z)) (some_same x y e)
-      where
-        some_same : (a b : WriterRow) → Some a ≡ Some b → a ≡ b
-        some_same a b e = cc
     mapped (x ∷ ys) (suc n) y e = mapped ys n y e
 
 -- ## a call that fails the set, and one that does not
@@ -181,9 +173,6 @@ holds_work now f a o os l e k =
     (spent_of now (hold_running o.place.group (first_hold a.log))) (spent_of now (runs_if (freeze_runs o.place.group) FreezeLimit (freeze_opened_at a) f)) refl refl
     (at_hold (first_hold a.log)) (λ x i. limit_found now (freeze_runs o.place.group) FreezeLimit (freeze_opened_at a) f x i) (λ x i. limit_found now (answer_runs o.place.group) AnswerLimit (opened_at a o) answer_limit x i) e
   where
-    some_same : (x y : RunningLimit) → Some x ≡ Some y → x ≡ y
-    some_same x y e = cc
-
     not_freeze : FreezeLimit ≡ HoldLimit → ⊥
     not_freeze e = cc
 
@@ -224,14 +213,8 @@ no_hold_asks now f (Some a) l o e k i = at_list (groups_left a) e i
     at_list [] e i = none_and_some None l refl e
     at_list (x ∷ os) e i = steps_ask_nobody x.place.group o (holds_work now f a x os l e k) i
 
-calm_after : (k : Kind) (o : SetOutcome) → has_failed o ≡ false → has_failed (outcome_after k o) ≡ false
-calm_after Gather o e = e
-calm_after Prepare o e = e
-calm_after Snapshot o e = refl
-calm_after Complete o e = e
-
 calm_settled_if : (b : Bool) (k : Kind) (d : Course) → has_failed d.outcome ≡ false → has_failed (settled_if b k d).outcome ≡ false
-calm_settled_if true k d e = calm_after k d.outcome e
+calm_settled_if true k d e = none_outcome k d.outcome e
 calm_settled_if false k d e = e
 
 calm_settled_in : (x : Option Agenda) (d : Course) → has_failed d.outcome ≡ false → has_failed (settled_in x d).outcome ≡ false

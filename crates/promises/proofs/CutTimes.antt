@@ -27,13 +27,13 @@ use Rattle.vss_model.specs.Cut.{is_provider, is_cut_group, is_set, is_cut_of, cu
 use Rattle.vss_model.specs.Acts.{Act, enabled, idle_now, after, state}
 use Rattle.vss_model.proofs.Appending.{state-append}
 use Rattle.vss_model.proofs.AtCut.{cuts}
-use Rattle.vss_model.proofs.CutAppend.{or_cut, cut-append}
+use Rattle.vss_model.proofs.CutAppend.{or_cut, cut-append, append_nothing}
 use Rattle.vss_model.proofs.CutStep.{both, after_cut}
 use Rattle.vss_model.proofs.OneCut.{not_cut_yet}
 use Rattle.vss_model.proofs.OrderlyActs.{orderly}
 use Rattle.vss_model.proofs.Rows.{row_running}
 use Rattle.promises.proofs.Truth.{equal, not_both}
-use Rattle.promises.proofs.ByEvent.{Covers, covered, after_enabled, after_not_enabled}
+use Rattle.vss_model.proofs.ByEvent.{Covers, covered, after_enabled, after_not_enabled}
 use Rattle.promises.proofs.Contexts.{settled_number, changed_number}
 
 -- ## the time of a set
@@ -269,11 +269,7 @@ timed_next s so_far act h n before e =
     ∙ time_next s so_far act n (cut s n so_far) (is_cut_of n (state s so_far) act) before refl refl (sym (cut-append s n so_far act) ∙ e) (h n)
 
 timed_from : (s : Plan) (so_far acts : List Act) → Timed s so_far → Timed s (so_far ++ acts)
-timed_from s so_far [] h = subst (Timed s) (sym (append_none so_far)) h
-  where
-    append_none : (xs : List Act) → xs ++ [] ≡ xs
-    append_none [] = refl
-    append_none (x ∷ xs) = ap (λ ys. x ∷ ys) (append_none xs)
+timed_from s so_far [] h = subst (Timed s) (sym (append_nothing so_far)) h
 timed_from s so_far (act ∷ acts) h = subst (Timed s) (regrouped so_far acts) (timed_from s (so_far ++ act ∷ []) acts (timed_next s so_far act h))
   where
     regrouped : (xs ys : List Act) → (xs ++ act ∷ []) ++ ys ≡ xs ++ act ∷ ys

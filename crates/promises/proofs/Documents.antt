@@ -39,7 +39,7 @@ use Rattle.promises.specs.InOrder.{progress}
 use Rattle.promises.specs.Participants.{is_chosen, is_unfit, choosing, is_writer}
 use Rattle.promises.proofs.Truth.{false_of, not_both}
 use Rattle.promises.proofs.Accepted.{tells, line_reply}
-use Rattle.promises.proofs.ByEvent.{ChangesNothing, Covers, covered, after_enabled, after_not_enabled}
+use Rattle.vss_model.proofs.ByEvent.{ChangesNothing, Covers, covered, after_enabled, after_not_enabled}
 use Rattle.promises.proofs.Members.{is_selected, taker_is}
 use Rattle.promises.proofs.Participants.{chosen_by, follows_all, standing, pair_added}
 use Rattle.promises.proofs.Prepares.{named_is_known}

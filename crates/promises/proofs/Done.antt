@@ -1,6 +1,7 @@
 -- What was asked for is done.
 use Rattle.std.proofs.Common.{◌≡◌, ◌∙◌, ℕ, ◌+◌, ◌==◌, ◌<◌, zero, suc, List, [], ◌∷◌, Option, Some, None, refl, Bool, true, false, ap, sym, subst, map, arith}
 use Rattle.std.specs.Prelude.{◌&&◌, not, nat_lt, is_some, if◌then◌else◌}
+use Rattle.std.proofs.lemmas.Bool.{lt-ltb}
 use Rattle.vss_names.specs.declared.vss_result.VssResult.{VssResult}
 use Rattle.write_history.specs.declared.mark.Mark.{Mark}
 use Rattle.write_history.specs.declared.mark.Mark.TheVariants.{Clean, Fault, FaultAfter}
@@ -18,7 +19,7 @@ use Rattle.vss_model.proofs.Volumes.{at}
 use Rattle.promises.specs.Done.{reverts, IsDone}
 use Rattle.promises.specs.Gone.{stands}
 use Rattle.promises.proofs.Truth.{false_of, not_itself, same_number}
-use Rattle.promises.proofs.ByEvent.{after_enabled}
+use Rattle.vss_model.proofs.ByEvent.{after_enabled, some_same}
 use Rattle.promises.proofs.GoneImages.{kept_by}
 
 -- ## on which volume
@@ -44,10 +45,7 @@ pub dropped_gone : (n : ℕ) (h : History) → has_image n (dropped n h) ≡ tru
 dropped_gone n h e = itself n (kept_by (λ k. not (k == n)) n h.images e)
 
 newer_gone : (n m : ℕ) (images : List Image) → n < m → is_some (point_in m (up_to_set n images)) ≡ true → ⊥
-newer_gone n m images l e = not_itself (nat_lt n m) (later n m l) (kept_by (λ k. not (nat_lt n k)) m images e)
-  where
-    later : (a b : ℕ) → a < b → nat_lt a b ≡ true
-    later a b l = grind arith
+newer_gone n m images l e = not_itself (nat_lt n m) (lt-ltb n m l) (kept_by (λ k. not (nat_lt n k)) m images e)
 
 -- where no image is counted, none stands
 none_counted : (n : ℕ) (hs : List History) (v : ℕ) → nat_lt 0 (count_images n hs) ≡ false → has_image n (at hs v) ≡ true → ⊥
@@ -93,9 +91,6 @@ module _ (s : Plan) (st : State) where
       by_kept (Some x) g h =
           let same : x.row.number ≡ n = ap (λ (y : Kept). y.row.number) (some_same x k g) ∙ row_is n v k e in
           dropped_gone n (at st.volumes v) (subst (λ m. has_image n (dropped m (at st.volumes v)) ≡ true) same (kept_change (dropped x.row.number) n st.volumes v h))
-        where
-          some_same : (a b : Kept) → Some a ≡ Some b → a ≡ b
-          some_same a b e = cc
 
   reverted_gone : (n v m : ℕ) (k : Kept) (mark : Mark) → k.row.number ≡ n → reverts mark ≡ true → n < m → stands (reverted_as s v k mark st).1 m v ≡ true → ⊥
   reverted_gone n v m k Clean e r l f = newer_gone k.row.number m (at st.volumes v).images (subst (λ x. x < m) (sym e) l) (kept_change (reverted k.row.number k.point) m st.volumes v f)

@@ -2,6 +2,7 @@
 use Rattle.std.proofs.Common.{◌≡◌, ◌∙◌, ℕ, ◌==◌, List, [], ◌∷◌, ◌++◌, Some, None, refl, Bool, true, false, ap, sym, subst, find}
 use Rattle.std.specs.Prelude.{◌&&◌, if◌then◌else◌}
 use Rattle.std.proofs.lemmas.List.{append_assoc}
+use Rattle.std.proofs.lemmas.Bool.{both_ways}
 use Rattle.vss_names.specs.declared.set_outcome.SetOutcome.{SetOutcome}
 use Rattle.vss_names.specs.declared.set_outcome.SetOutcome.TheVariants.{Running as RunningSet, Complete as CompleteSet, Failed as FailedSet}
 use Rattle.write_history.specs.declared.move_item.Move.{Move}
@@ -26,6 +27,8 @@ use Rattle.promises.specs.Ends.{IsLaterRow, HasLaterRow, HasEnded, EndsEachSet, 
 use Rattle.promises.proofs.Failing.{fails_for_cause}
 use Rattle.promises.proofs.OwnSlots.{loses_none}
 use Rattle.promises.proofs.SetRows.{later_again, later_row, keeps_rows, go_on_from}
+use Rattle.vss_model.proofs.CutAppend.{append_nothing}
+use Rattle.vss_model.proofs.ByEvent.{some_same}
 
 -- ## every set ends
 
@@ -33,9 +36,6 @@ none_runs : (rows : List SetRow) (n : ℕ) (r : SetRow) → find (λ (q : SetRow
 none_runs [] n r e f = absurd cc
 none_runs (q ∷ rows) n r e f = by_heads (is_running q.result) (q.number == n) refl e f (none_runs rows n r)
   where
-    some_same : (a b : SetRow) → Some a ≡ Some b → a ≡ b
-    some_same a b e = cc
-
     by_heads : (b c : Bool) → is_running q.result ≡ b → (if b then Some q else find (λ (x : SetRow). is_running x.result) rows) ≡ None → (if c then Some q else find (λ (x : SetRow). x.number == n) rows) ≡ Some r
         → (find (λ (x : SetRow). is_running x.result) rows ≡ None → find (λ (x : SetRow). x.number == n) rows ≡ Some r → is_running r.result ≡ false) → is_running r.result ≡ false
     by_heads true c g e f ih = absurd cc
@@ -78,9 +78,6 @@ runs_found : (k n : ℕ) (rows : List SetRow) (r : SetRow) → OverButNewest row
 runs_found k n [] r h e f = absurd cc
 runs_found k n (q ∷ []) r h e f = alone (q.number == n) e
   where
-    some_same : (a b : SetRow) → Some a ≡ Some b → a ≡ b
-    some_same a b e = cc
-
     running : (b : Bool) → b ≡ true → q ≡ r → (if b then Some q else None) ≡ Some r
     running true e g = ap (λ x. Some x) g
     running false e g = absurd cc
@@ -90,9 +87,6 @@ runs_found k n (q ∷ []) r h e f = alone (q.number == n) e
     alone false e = absurd cc
 runs_found k n (q ∷ p ∷ rows) r h e f = by_head (q.number == n) e (runs_found k n (p ∷ rows) r h.1)
   where
-    some_same : (a b : SetRow) → Some a ≡ Some b → a ≡ b
-    some_same a b e = cc
-
     skip : (b : Bool) → b ≡ false → find (λ (x : SetRow). is_running x.result) (p ∷ rows) ≡ Some r → (if b then Some q else find (λ (x : SetRow). is_running x.result) (p ∷ rows)) ≡ Some r
     skip true e g = absurd cc
     skip false e g = g
@@ -118,14 +112,6 @@ stays_complete st r q e num h k = record {
   has = record { row = k.row; is_row = ap (λ n. row_of st n) (sym num) ∙ k.is_row; later = later_again r q k.row h k.later };
   complete = subst (λ (x : SetRow). is_complete x.result ≡ true) (sym (k.later.over (complete_over q.result e))) e;
 }
-
-append_nothing : (xs : List Act) → xs ++ [] ≡ xs
-append_nothing [] = refl
-append_nothing (x ∷ xs) = ap (λ ys. x ∷ ys) (append_nothing xs)
-
-no_true : (b : Bool) → b ≡ false → b ≡ true → ⊥
-no_true true e f = absurd cc
-no_true false e f = absurd cc
 
 none_some : (st : State) (r : SetRow) (X : Type 0) → in_progress st ≡ None → in_progress st ≡ Some r → X
 none_some st r X e f = absurd cc
@@ -174,7 +160,7 @@ module _ (s : Plan) (so_far rest : List Act) (act : Act) (r : SetRow) (over : in
       (go_on here.row (subst (λ acts. in_progress (state s acts) ≡ None) (sym next_acts) over) (goes_on here (ap is_running f)) (calm_next here.row here.later.number)))
   by_result CompleteSet here f go_on = stays_complete (state s (so_far ++ act ∷ rest)) r here.row (ap is_complete f) here.later.number here.later (later_on here)
   by_result (FailedSet why) here f go_on =
-      absurd (no_true (gives_cause s (state s so_far) act.event act.mark) (no_cause s (state s so_far) act calm_act act.event refl) ((fails_for_cause s so_far act).only r here.row e here.is_row (ap has_failed f)))
+      absurd (both_ways (gives_cause s (state s so_far) act.event act.mark) (no_cause s (state s so_far) act calm_act act.event refl) ((fails_for_cause s so_far act).only r here.row e here.is_row (ap has_failed f)))
 
   now : HasLaterRow (after s (state s so_far) act) r
   now = keeps_rows s so_far act r.number r (row_running 1 (state s so_far).sets r (orderly s so_far).numbered e)

@@ -3,6 +3,7 @@ use Rattle.std.proofs.Common.{◌≡◌, ◌∙◌, ℕ, ◌+◌, ◌==◌, ◌<
 use Rattle.std.specs.Prelude.{is_some, ◌&&◌, ◌||◌, not, nat_lt, if◌then◌else◌}
 use Rattle.std.specs.List.{list_any, list_all, flat_map}
 use Rattle.std.proofs.lemmas.List.Folds.{list_any-append}
+use Rattle.std.proofs.lemmas.Bool.{lt-ltb}
 use Rattle.block_data.specs.declared.payload.Payload.TheVariants.{Fill, Stamp}
 use Rattle.block_data.specs.PayloadBytes.{payload_bytes}
 use Rattle.write_history.specs.declared.evicted.Evicted.{Evicted}
@@ -28,24 +29,21 @@ use Rattle.vss_model.proofs.Volumes.{at, FewerIn, fewer_in_over, as_many_gone}
 use Rattle.promises.specs.Gone.{stands, Fails}
 use Rattle.promises.specs.Evicted.{is_write, is_told, goes_before, are_in_order, TellsEvicted}
 use Rattle.promises.proofs.Truth.{both_are, both_ways, equal, left_part, neither}
-use Rattle.promises.proofs.ByEvent.{after_enabled}
+use Rattle.vss_model.proofs.ByEvent.{after_enabled}
 use Rattle.promises.proofs.Images.{volumes_put, volumes_room, roomy, wants_or_fails}
+use Rattle.promises.proofs.Participants.{off}
+use Rattle.promises.proofs.Members.{beyond, still_less}
+use Rattle.set_agenda.proofs.WriterSets.{and-false}
 
 -- ## the volumes that lose an image
 
 none_before : (n u v : ℕ) (hs ks : List History) → v < u → is_among v (volumes_losing n u hs ks) ≡ false
 none_before n u v [] ks l = refl
 none_before n u v (h ∷ hs) [] l = refl
-none_before n u v (h ∷ hs) (k ∷ ks) l = by_loss (has_image n h && not (has_image n k)) (none_before n (u + 1) v hs ks (still u v l))
+none_before n u v (h ∷ hs) (k ∷ ks) l = by_loss (has_image n h && not (has_image n k)) (none_before n (u + 1) v hs ks (still_less u v l))
   where
-    still : (a b : ℕ) → b < a → b < a + 1
-    still a b l = omega arith
-
-    other : (a b : ℕ) → b < a → (a == b) ≡ false
-    other a b l = grind arith
-
     by_loss : (b : Bool) → is_among v (volumes_losing n (u + 1) hs ks) ≡ false → is_among v (if b then u ∷ volumes_losing n (u + 1) hs ks else volumes_losing n (u + 1) hs ks) ≡ false
-    by_loss true ih = neither (u == v) (is_among v (volumes_losing n (u + 1) hs ks)) (other u v l) ih
+    by_loss true ih = neither (u == v) (is_among v (volumes_losing n (u + 1) hs ks)) (beyond u v l) ih
     by_loss false ih = ih
 
 among_losing : (n u k v : ℕ) (hs ks : List History) → length ks ≡ length hs → v ≡ u + k → is_among v (volumes_losing n u hs ks) ≡ (has_image n (at hs k) && not (has_image n (at ks k)))
@@ -87,10 +85,6 @@ among_losing n u (suc j) v (h ∷ hs) (k ∷ ks) e f = by_loss (has_image n h &&
 
 told_of : (m n v : ℕ) (vs : List ℕ) → is_told n v (evicted_of m vs) ≡ ((m == n) && is_among v vs)
 told_of m n v [] = off (m == n)
-  where
-    off : (b : Bool) → false ≡ (b && false)
-    off true = refl
-    off false = refl
 told_of m n v (u ∷ vs) = ap (λ b. ((m == n) && (u == v)) || b) (told_of m n v vs) ∙ joined (m == n) (u == v) (is_among v vs)
   where
     joined : (a b c : Bool) → ((a && b) || (a && c)) ≡ (a && (b || c))
@@ -111,11 +105,7 @@ module _ (n v : ℕ) (hs ks : List History) where
 
       either_is : (a b c d e : Bool) → d ≡ (b && c) → (a ≡ true → e ≡ c) → ((a && e) || d) ≡ (((a && true) || b) && c)
       either_is true b true d e f g = ap (λ x. x || d) (g refl)
-      either_is true b false d e f g = ap (λ x. x || d) (g refl) ∙ f ∙ none b
-        where
-          none : (x : Bool) → (x && false) ≡ false
-          none true = refl
-          none false = refl
+      either_is true b false d e f g = ap (λ x. x || d) (g refl) ∙ f ∙ and-false b
       either_is false b c d e f g = f
 
       by_result : (b : Bool) → is_told n v (flat_map told_row (filter (λ q. is_complete q.result) rows)) ≡ (list_any (λ (q : SetRow). (q.number == n) && is_complete q.result) rows && is_among v (volumes_losing n 0 hs ks))
@@ -145,11 +135,8 @@ of_set m u hs ks = evicted_of m (volumes_losing m u hs ks)
 after_volume : (m u w : ℕ) (hs ks : List History) → w < u → list_all (goes_before (record { set = m; volume = w })) (of_set m u hs ks) ≡ true
 after_volume m u w [] ks l = refl
 after_volume m u w (h ∷ hs) [] l = refl
-after_volume m u w (h ∷ hs) (k ∷ ks) l = by_loss (has_image m h && not (has_image m k)) (after_volume m (u + 1) w hs ks (still u w l))
+after_volume m u w (h ∷ hs) (k ∷ ks) l = by_loss (has_image m h && not (has_image m k)) (after_volume m (u + 1) w hs ks (still_less u w l))
   where
-    still : (a b : ℕ) → b < a → b < a + 1
-    still a b l = omega arith
-
     before : (m a b : ℕ) → b < a → (nat_lt m m || ((m == m) && nat_lt b a)) ≡ true
     before m a b l = grind arith
 
@@ -184,10 +171,7 @@ in_order_on m u (h ∷ hs) (k ∷ ks) es e f = by_loss (has_image m h && not (ha
 
 of_later_set : (m k : ℕ) (vs : List ℕ) → m < k → list_all (λ (f : Evicted). nat_lt m f.set) (evicted_of k vs) ≡ true
 of_later_set m k [] l = refl
-of_later_set m k (v ∷ vs) l = both_are (nat_lt m k) (list_all (λ (f : Evicted). nat_lt m f.set) (evicted_of k vs)) (less m k l) (of_later_set m k vs l)
-  where
-    less : (a b : ℕ) → a < b → nat_lt a b ≡ true
-    less a b l = grind arith
+of_later_set m k (v ∷ vs) l = both_are (nat_lt m k) (list_all (λ (f : Evicted). nat_lt m f.set) (evicted_of k vs)) (lt-ltb m k l) (of_later_set m k vs l)
 
 module _ (hs ks : List History) where
   later_rows : (m k : ℕ) (rows : List SetRow) → NumberedFrom k rows → m < k → list_all (λ (f : Evicted). nat_lt m f.set) (flat_map (told_row 0 0 hs ks) (filter (λ r. is_complete r.result) rows)) ≡ true

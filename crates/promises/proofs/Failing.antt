@@ -1,5 +1,5 @@
 -- Each cause fails the set in progress in the act that gives it.
-use Rattle.std.proofs.Common.{◌≡◌, ◌∙◌, ℕ, ◌+◌, ◌==◌, List, [], ◌∷◌, ◌++◌, Option, Some, None, refl, Bool, true, false, ap, sym, subst, map, find}
+use Rattle.std.proofs.Common.{◌≡◌, ◌∙◌, ℕ, ◌+◌, ◌==◌, List, Option, Some, None, refl, Bool, true, false, ap, sym, subst, map, find}
 use Rattle.std.specs.Prelude.{◌&&◌, not}
 use Rattle.block_data.specs.declared.payload.Payload.TheVariants.{Fill, Stamp}
 use Rattle.block_data.specs.PayloadBytes.{payload_bytes}
@@ -40,12 +40,12 @@ use Rattle.vss_model.specs.Acts.{Act, enabled, happens, order_of_writer, idle_no
 use Rattle.vss_model.specs.Facts.{NumberedFrom, IsOfSession, IsOrderly, has_failed}
 use Rattle.vss_model.specs.Causes.{needs_consent, is_veto, is_refused, is_late_in, is_late, is_fault, is_flush_step, loses_own_image, owns, line_gives_cause, gives_cause}
 use Rattle.vss_model.specs.Headline.{IsFailed}
-use Rattle.vss_model.proofs.Causes.{fail_with_cause}
+use Rattle.vss_model.proofs.Causes.{fails_with_cause}
 use Rattle.vss_model.proofs.FlushFails.{outcome_is_running, flush_fails}
 use Rattle.vss_model.proofs.OrderlyActs.{orderly}
 use Rattle.promises.specs.Failing.{FailsForCause}
 use Rattle.promises.proofs.Truth.{both_parts}
-use Rattle.promises.proofs.ByEvent.{after_enabled}
+use Rattle.vss_model.proofs.ByEvent.{after_enabled}
 use Rattle.promises.proofs.GoneImages.{fails_as}
 use Rattle.promises.proofs.Limits.{is_due_in, posted_fails, timed_fails}
 use Rattle.promises.proofs.Times.{late_is_due}
@@ -222,5 +222,5 @@ happens_fails Idle s so_far act r f e on g =
 pub fails_for_cause : (s : Plan) (so_far : List Act) (act : Act) → FailsForCause s so_far act
 fails_for_cause s so_far act = record {
   fails = λ r e on g. happens_fails act.event s so_far act r refl e on g;
-  only = λ r q e f g. fail_with_cause s (so_far ++ act ∷ []) so_far [] act r q refl e f g;
+  only = λ r q e f g. fails_with_cause s so_far act r q e f g;
 }

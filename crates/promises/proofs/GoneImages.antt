@@ -2,6 +2,7 @@
 use Rattle.std.proofs.Common.{◌≡◌, ◌∙◌, ℕ, ◌+◌, ◌==◌, ◌≤◌, ◌<◌, zero, suc, List, [], ◌∷◌, ◌++◌, Option, Some, None, refl, Bool, true, false, ap, sym, subst, map, filter, find, length, arith}
 use Rattle.std.specs.Prelude.{not, nat_lt, is_some, unwrap_or, option_map, if◌then◌else◌, slice_get}
 use Rattle.std.specs.List.{range_with_len}
+use Rattle.std.proofs.lemmas.Bool.{ltb-false, ltb-true}
 use Rattle.vss_names.specs.declared.set_outcome.SetOutcome.{SetOutcome}
 use Rattle.vss_names.specs.declared.set_outcome.SetOutcome.TheVariants.{Running as RunningSet, Complete as CompleteSet, Failed as FailedSet}
 use Rattle.vss_names.specs.declared.vss_result.VssResult.{VssResult}
@@ -10,9 +11,8 @@ use Rattle.write_history.specs.Slots.{Placed, lacks_slot, gone_up_to, evicted_up
 use Rattle.set_agenda.specs.declared.group.Group.{Group}
 use Rattle.set_agenda.specs.declared.group.Group.TheVariants.{Orders, PreCommit, Flush, Hold, Cut, Commit, Release, PostCommit}
 use Rattle.set_agenda.specs.declared.kind.Kind.{Kind}
-use Rattle.set_agenda.specs.declared.kind.Kind.TheVariants.{Gather, Prepare, Snapshot, Complete}
 use Rattle.set_agenda.specs.Agenda.{Agenda, groups_left, is_among, is_done}
-use Rattle.set_agenda.specs.Course.{Course, posted, failed as course_failed, outcome_after, settled_if, settled_in, settled, worked, stepped as course_stepped, change_at}
+use Rattle.set_agenda.specs.Course.{Course, posted, failed as course_failed, settled_if, settled_in, settled, worked, stepped as course_stepped, change_at}
 use Rattle.vss_model.specs.State.{State, SetRow, is_running, in_progress, has_image}
 use Rattle.vss_model.specs.Ending.{Ending, NothingEnds, AgendaEnds, SetFails, ending, row_settled, images_dropped, concluded, followed, failed_in}
 use Rattle.vss_model.specs.Steps.{cut_if, cut_each, cut_set, step_made}
@@ -24,6 +24,8 @@ use Rattle.vss_model.proofs.Rows.{running_found, row_running, row_settles, resul
 use Rattle.vss_model.proofs.Volumes.{at}
 use Rattle.promises.specs.Gone.{stands, Fails, within}
 use Rattle.promises.proofs.Truth.{equal, not_false}
+use Rattle.vss_model.proofs.Causes.{none_outcome}
+use Rattle.promises.proofs.Members.{next_up}
 
 -- ## lists of images
 
@@ -69,17 +71,11 @@ still_after n (i ∷ images) m p e = by_head (i.set == n) e (still_after n image
     by_head true e ih = refl
     by_head false e ih = ih e
 
-no_less : (a b : ℕ) → nat_lt a b ≡ false → b ≤ a
-no_less a b e = grind arith
-
-is_less : (a b : ℕ) → nat_lt a b ≡ true → a < b
-is_less a b e = grind arith
-
 pub gone_dropped : (m n : ℕ) (h : History) → has_image n h ≡ true → has_image n (dropped m h) ≡ false → m ≡ n
 gone_dropped m n h e f = sym (equal n m (not_false (n == m) (gone_by (λ k. not (k == m)) n h.images e f)))
 
 pub gone_reverted : (m n : ℕ) (images : List Image) → is_some (point_in n images) ≡ true → is_some (point_in n (up_to_set m images)) ≡ false → m < n
-gone_reverted m n images e f = is_less m n (not_false (nat_lt m n) (gone_by (λ k. not (nat_lt m k)) n images e f))
+gone_reverted m n images e f = ltb-true m n (not_false (nat_lt m n) (gone_by (λ k. not (nat_lt m k)) n images e f))
 
 -- ## on which volume
 
@@ -102,7 +98,7 @@ gone_group m n (p ∷ ps) [] v e g = absurd (true_not_false (has_image n (at [] 
 gone_group m n (p ∷ ps) (h ∷ hs) zero e g = by_group p.within refl g
   where
     by_group : (b : Bool) → p.within ≡ b → has_image n (if b then record { writes = h.writes; images = after_set m h.images } else h) ≡ false → (p.within ≡ true) × (n ≤ m)
-    by_group true i g = (i, no_less m n (gone_by (λ k. nat_lt m k) n h.images e g))
+    by_group true i g = (i, ltb-false m n (gone_by (λ k. nat_lt m k) n h.images e g))
     by_group false i g = absurd (true_not_false (has_image n h) e g)
 gone_group m n (p ∷ ps) (h ∷ hs) (suc v) e g = gone_group m n ps hs v e g
 
@@ -117,7 +113,7 @@ left_in_group m n (p ∷ ps) [] v w e = absurd (no_image v e)
 left_in_group m n (p ∷ ps) (h ∷ hs) zero w e = by_group p.within w e
   where
     by_group : (b : Bool) → b ≡ true → has_image n (if b then record { writes = h.writes; images = after_set m h.images } else h) ≡ true → m < n
-    by_group true i e = is_less m n (kept_by (λ k. nat_lt m k) n h.images e)
+    by_group true i e = ltb-true m n (kept_by (λ k. nat_lt m k) n h.images e)
     by_group false i e = absurd cc
 left_in_group m n (p ∷ ps) (h ∷ hs) (suc v) w e = left_in_group m n ps hs v w e
 
@@ -145,14 +141,11 @@ found_least test a (suc len) m l h = by_head (test a) (a == m) refl refl h (foun
     itself : (a m : ℕ) → a ≤ m → m < a → ⊥
     itself a m l h = omega arith
 
-    next : (a m : ℕ) → a ≤ m → (a == m) ≡ false → a + 1 ≤ m
-    next a m l e = grind arith
-
     by_head : (b c : Bool) → test a ≡ b → (a == m) ≡ c → m < unwrap_or (if b then Some a else find test (range_with_len (a + 1) len)) (a + suc len)
         → (a + 1 ≤ m → m < unwrap_or (find test (range_with_len (a + 1) len)) (a + 1 + len) → test m ≡ false) → test m ≡ false
     by_head true c g i h ih = absurd (itself a m l h)
     by_head false true g i h ih = subst (λ k. test k ≡ false) (equal a m i) g
-    by_head false false g i h ih = ih (next a m l i) (subst (λ k. m < unwrap_or (find test (range_with_len (a + 1) len)) k) (one_more a len) h)
+    by_head false false g i h ih = ih (next_up a m l i) (subst (λ k. m < unwrap_or (find test (range_with_len (a + 1) len)) k) (one_more a len) h)
 
 pub least_sets : (sets slots : ℕ) (ps : List Placed) (v b : ℕ) (hs : List History) (m : ℕ) → m < evicted_up_to sets slots ps v b hs → lacks_slot slots ps v b (gone_up_to m ps hs) ≡ true
 least_sets sets slots ps v b hs m h = not_false _ (found_least (λ k. not (lacks_slot slots ps v b (gone_up_to k ps hs))) 0 sets m (omega arith) (subst (λ k. m < unwrap_or (find (λ k. not (lacks_slot slots ps v b (gone_up_to k ps hs))) (range_with_len 0 sets)) k) (from_none sets) h))
@@ -216,12 +209,6 @@ module _ (n v : ℕ) where
   gone_failed_in (Some q) why x X h g f = gone_of_set (in_progress x) n x.volumes v X h g (λ r e s. f r e s refl)
 
 -- ## a step that is made fails nothing
-
-none_outcome : (k : Kind) (o : SetOutcome) → has_failed o ≡ false → has_failed (outcome_after k o) ≡ false
-none_outcome Gather o h = h
-none_outcome Prepare o h = h
-none_outcome Snapshot o h = refl
-none_outcome Complete o h = h
 
 none_settled_if : (b : Bool) (k : Kind) (c : Course) → has_failed c.outcome ≡ false → has_failed (settled_if b k c).outcome ≡ false
 none_settled_if true k c h = none_outcome k c.outcome h

@@ -2,6 +2,7 @@
 use Rattle.std.proofs.Common.{◌≡◌, ◌∙◌, ℕ, ◌+◌, ◌==◌, ◌≤◌, ◌<◌, zero, suc, List, [], ◌∷◌, Option, Some, None, refl, Bool, true, false, ap, subst, find, length, arith}
 use Rattle.std.specs.Prelude.{◌&&◌, not, nat_lt, if◌then◌else◌, unwrap_or, slice_get}
 use Rattle.std.specs.List.{range_with_len}
+use Rattle.std.proofs.lemmas.Bool.{and_left}
 use Rattle.write_history.specs.History.{Image, History, after_set}
 use Rattle.write_history.specs.Slots.{Placed, group_used, used, needs_slot, needs_slot_in, gone_up_to, lacks_slot, evicted_up_to}
 use Rattle.set_agenda.specs.Course.{change_at}
@@ -11,6 +12,7 @@ use Rattle.vss_model.proofs.Volumes.{at}
 use Rattle.promises.specs.Gone.{within}
 use Rattle.promises.proofs.Truth.{no_less, not_true}
 use Rattle.promises.proofs.Shrinks.{used_in}
+use Rattle.vss_model.proofs.ByEvent.{some_same}
 
 -- ## what each volume uses
 
@@ -76,9 +78,6 @@ find_passes : (test : ℕ → Bool) (xs : List ℕ) (m : ℕ) → find test xs �
 find_passes test [] m e = absurd cc
 find_passes test (x ∷ xs) m e = by_test (test x) refl e (find_passes test xs m)
   where
-    some_same : (a b : ℕ) → Some a ≡ Some b → a ≡ b
-    some_same a b e = cc
-
     by_test : (t : Bool) → test x ≡ t → (if t then Some x else find test xs) ≡ Some m → (find test xs ≡ Some m → test m ≡ true) → test m ≡ true
     by_test true f g ih = subst (λ y. test y ≡ true) (some_same x m g) f
     by_test false f g ih = ih g
@@ -109,13 +108,9 @@ needs_none m (suc v) b (p ∷ ps) (h ∷ hs) e up = needs_none m v b ps hs e up
 pub enough_goes : (sets slots : ℕ) (ps : List Placed) (v b : ℕ) (hs : List History) → within (slice_get ps v) ≡ true → UpTo sets (at hs v).images → lacks_slot slots ps v b (gone_up_to (evicted_up_to sets slots ps v b hs) ps hs) ≡ false
 enough_goes sets slots ps v b hs e up = by_found (find (λ m. not (lacks_slot slots ps v b (gone_up_to m ps hs))) (range_with_len 0 sets)) refl
   where
-    off : (t u : Bool) → t ≡ false → (t && u) ≡ false
-    off true u f = absurd cc
-    off false u f = refl
-
     by_found : (o : Option ℕ) → find (λ m. not (lacks_slot slots ps v b (gone_up_to m ps hs))) (range_with_len 0 sets) ≡ o → lacks_slot slots ps v b (gone_up_to (unwrap_or o sets) ps hs) ≡ false
     by_found (Some m) f = not_true (lacks_slot slots ps v b (gone_up_to m ps hs)) (find_passes (λ m. not (lacks_slot slots ps v b (gone_up_to m ps hs))) (range_with_len 0 sets) m f)
-    by_found None f = off (needs_slot_in (slice_get (gone_up_to sets ps hs) v) b) (group_used ps (gone_up_to sets ps hs) == slots) (needs_none sets v b ps hs e up)
+    by_found None f = and_left (needs_slot_in (slice_get (gone_up_to sets ps hs) v) b) (group_used ps (gone_up_to sets ps hs) == slots) (needs_none sets v b ps hs e up)
 
 -- where a write needs a slot and does not lack it, one is left
 pub one_left : (slots : ℕ) (ps : List Placed) (v b : ℕ) (hs : List History) → lacks_slot slots ps v b hs ≡ false → group_used ps hs ≤ slots → needs_slot (at hs v).writes (at hs v).images b ≡ true → group_used ps hs < slots

@@ -37,7 +37,7 @@ use Rattle.vss_model.proofs.Volumes.{at, FewerIn, fewer_written, fewer_in_same, 
 use Rattle.vss_model.proofs.FewerImages.{fewer_images_dropped}
 use Rattle.promises.specs.Gone.{stands, Fails, IsWanted, IsOfSession, Takes, TakesBy, ImagesGoForCause}
 use Rattle.promises.proofs.Truth.{false_of}
-use Rattle.promises.proofs.ByEvent.{Covers, covered, after_enabled, after_not_enabled}
+use Rattle.vss_model.proofs.ByEvent.{Covers, covered, after_enabled, after_not_enabled}
 use Rattle.promises.proofs.GoneImages.{gone_dropped, gone_reverted, gone_map, gone_change, gone_group, left_in_group, least_sets, fails_as, gone_followed, gone_failed_in, none_stepped, course-made, made_keeps}
 
 -- ## every act

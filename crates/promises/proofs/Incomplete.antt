@@ -14,7 +14,6 @@ use Rattle.set_agenda.specs.declared.group.Group.TheVariants.{Orders, PreCommit,
 use Rattle.set_agenda.specs.declared.kind.Kind.{Kind}
 use Rattle.set_agenda.specs.declared.kind.Kind.TheVariants.{Gather, Prepare, Snapshot, Complete}
 use Rattle.set_agenda.specs.declared.member.Member.{Member}
-use Rattle.set_agenda.specs.declared.place.Place.{Place}
 use Rattle.set_agenda.specs.Agenda.{Agenda, Open, plain, at_level, places, waited_for, with_group, left_from, groups_left, is_done}
 use Rattle.set_agenda.specs.Course.{Course, posted, failed as course_failed, outcome_after, settled_if, settled, begun}
 use Rattle.requestor.specs.Session.{Session}
@@ -28,6 +27,7 @@ use Rattle.vss_model.proofs.LogRule.{unspoken}
 use Rattle.vss_model.proofs.OneCut.{changed_number, changed_result}
 use Rattle.vss_model.proofs.Orderly.{true_not_false}
 use Rattle.vss_model.proofs.Rows.{has_complete, incomplete_settled, incomplete_map}
+use Rattle.vss_model.proofs.Completed.{past_group}
 
 -- an agenda that completes the set is a snapshot's
 pub completes_snapshot : (k : Kind) (o p : SetOutcome) → o ≡ RunningSet → p ≡ outcome_after k o → is_complete p ≡ true → k ≡ Snapshot
@@ -94,10 +94,6 @@ module _ (n : ℕ) where
   incomplete_made (Some PostCommit) st h = h
 
 -- an agenda that begins does not complete a set: there is a PreCommit step to make
-past_group : (p : Place) (ws : List ℕ) (later : List Open) → is_done (with_group p ws later) ≡ true → is_done later ≡ true
-past_group p [] later e = e
-past_group p (w ∷ ws) later e = absurd cc
-
 never_done : (a : Agenda) → waited_for a (plain PreCommit) ≡ 0 ∷ [] → is_done (left_from a (places Snapshot)) ≡ true → ⊥
 never_done a e d =
     open_step (waited_for a (plain PreCommit)) _ e

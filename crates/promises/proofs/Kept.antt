@@ -7,13 +7,12 @@ use Rattle.write_history.specs.declared.mark.Mark.TheVariants.{Clean, Fault, Fau
 use Rattle.write_history.specs.History.{History, dropped, point_in}
 use Rattle.scenario.specs.declared.op.Op.TheVariants.{Revert, DeleteSet, DeleteImage}
 use Rattle.scenario.specs.Plan.{Plan}
-use Rattle.vss_model.specs.declared.event.Event.{Event}
 use Rattle.vss_model.specs.declared.event.Event.TheVariants.{Line}
 use Rattle.vss_model.specs.Reply.{Coded, Deleted}
 use Rattle.vss_model.specs.State.{State, SetRow, Kept, is_complete, in_progress, row_of, is_kept_set, history_of, has_image, kept_if, kept_of, kept_image}
 use Rattle.vss_model.specs.Images.{Replied, is_backup, is_in_set, reverted_as, revert_refusal, revert_to, revert, count_images, delete_set, delete_kept, delete_image}
 use Rattle.vss_model.specs.Facts.{NumberedFrom}
-use Rattle.vss_model.specs.Acts.{Act, happens, reply, state}
+use Rattle.vss_model.specs.Acts.{Act, state}
 use Rattle.vss_model.proofs.OrderlyActs.{orderly}
 use Rattle.vss_model.proofs.Rows.{has_complete}
 use Rattle.vss_model.proofs.Volumes.{at}
@@ -21,6 +20,8 @@ use Rattle.promises.specs.Answers.{answer_of}
 use Rattle.promises.specs.Gone.{stands}
 use Rattle.promises.specs.Kept.{is_kept, is_of_backup, has_in_it, revert_answer, is_deleted, FindsTheKept}
 use Rattle.promises.proofs.Truth.{both_parts}
+use Rattle.vss_model.proofs.ByEvent.{some_same}
+use Rattle.promises.proofs.Accepted.{line_reply}
 
 -- ## the row of a set
 
@@ -91,12 +92,9 @@ module _ (s : Plan) (so_far : List Act) where
   row_kept None p k e = absurd cc
   row_kept (Some r) p k e = by_row (is_complete r.result) p e
     where
-      some_kept : (a b : Kept) → Some a ≡ Some b → a ≡ b
-      some_kept a b e = cc
-
       by_row : (b : Bool) (p : Option ℕ) → kept_if b r p ≡ Some k → is_backup k.row.context ≡ is_backup r.context
       by_row true None e = absurd cc
-      by_row true (Some x) e = ap (λ (y : Kept). is_backup y.row.context) (sym (some_kept (record { row = r; point = x }) k e))
+      by_row true (Some x) e = ap (λ (y : Kept). is_backup y.row.context) (sym (some_same (record { row = r; point = x }) k e))
       by_row false p e = absurd cc
 
   revert_says : (n v : ℕ) (mark : Mark) → (revert s n v mark st).0 ≡ revert_answer (is_kept st n v) (is_of_backup (row_of st n)) (has_in_it v (in_progress st)) mark
@@ -170,16 +168,13 @@ module _ (s : Plan) (so_far : List Act) where
       by_kept None = refl
       by_kept (Some k) = refl
 
-reply_is : (s : Plan) (st : State) (act : Act) (event : Event) → act.event ≡ event → reply s st act ≡ (happens s event act.mark st).0
-reply_is s st act event e = ap (λ x. (happens s x act.mark st).0) e
-
 pub finds_the_kept : (s : Plan) (so_far : List Act) (act : Act) → FindsTheKept s so_far act
 finds_the_kept s so_far act =
     let st = state s so_far in
     record {
       found = λ n v. found s so_far n v;
-      reverts = λ lane n v e. reply_is s st act (Line lane (Revert n v)) e ∙ revert_says s so_far n v act.mark;
-      set_goes = λ lane n v e f. ap is_deleted (reply_is s st act (Line lane (DeleteSet n)) e) ∙ set_goes s so_far n v f;
-      no_set = λ lane n e f. reply_is s st act (Line lane (DeleteSet n)) e ∙ no_set s so_far n f;
-      image = λ lane n v e. reply_is s st act (Line lane (DeleteImage n v)) e ∙ image_says s so_far n v;
+      reverts = λ lane n v e. line_reply s st act (Line lane (Revert n v)) e ∙ revert_says s so_far n v act.mark;
+      set_goes = λ lane n v e f. ap is_deleted (line_reply s st act (Line lane (DeleteSet n)) e) ∙ set_goes s so_far n v f;
+      no_set = λ lane n e f. line_reply s st act (Line lane (DeleteSet n)) e ∙ no_set s so_far n f;
+      image = λ lane n v e. line_reply s st act (Line lane (DeleteImage n v)) e ∙ image_says s so_far n v;
     }

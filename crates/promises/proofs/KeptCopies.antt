@@ -15,7 +15,9 @@ use Rattle.promises.specs.Copies.{place_from, is_cut_by, is_overwritten, is_copy
 use Rattle.promises.specs.Gone.{within}
 use Rattle.promises.proofs.Truth.{both_are, both_parts, not_both, or_false, same_number}
 use Rattle.promises.proofs.Copies.{later_set, InTimeAll}
-use Rattle.promises.proofs.Members.{none_passes, range_passes}
+use Rattle.promises.proofs.Members.{none_passes, range_passes, beyond, still_less}
+use Rattle.set_agenda.proofs.WriterSets.{and-false}
+use Rattle.vss_model.proofs.ByEvent.{some_same}
 
 -- ## the copies of one image
 
@@ -125,16 +127,12 @@ no_image : (k u n b m : ℕ) (ws : List Write) (images : List Image) → point_i
 no_image k u n b m ws [] e = refl
 no_image k u n b m ws (i ∷ newer) e = by_set (i.set == n) refl e (no_image k u n b m ws newer)
   where
-    off : (c : Bool) → (c && false) ≡ false
-    off true = refl
-    off false = refl
-
     by_set : (c : Bool) → (i.set == n) ≡ c → (if c then Some i.point else point_in n newer) ≡ None
         → (point_in n newer ≡ None → list_any (is_copy u n b) (copies_of k m ws newer) ≡ false) → list_any (is_copy u n b) (copies_of k m ws (i ∷ newer)) ≡ false
     by_set true f e ih = absurd cc
     by_set false f e ih =
         list_any-append (is_copy u n b) (map (copy_of k ws i) (named m ws i newer)) (copies_of k m ws newer)
-        ∙ ap (λ c. c || list_any (is_copy u n b) (copies_of k m ws newer)) (any_other k u n b ws i (named m ws i newer) (ap (λ c. (k == u) && c) f ∙ off (k == u)))
+        ∙ ap (λ c. c || list_any (is_copy u n b) (copies_of k m ws newer)) (any_other k u n b ws i (named m ws i newer) (ap (λ c. (k == u) && c) f ∙ and-false (k == u)))
         ∙ ih e
 
 other_volume : (k u n b m : ℕ) (ws : List Write) (images : List Image) → (k == u) ≡ false → list_any (is_copy u n b) (copies_of k m ws images) ≡ false
@@ -151,9 +149,6 @@ none_of_set i images n h e = by_point (point_in n images) refl
     by_point : (o : Option ℕ) → point_in n images ≡ o → point_in n images ≡ None
     by_point None f = f
     by_point (Some p) f = absurd (not_both (i.set == n) e (later_set i n p images h f))
-
-some_same : (a c : ℕ) → Some a ≡ Some c → a ≡ c
-some_same a c e = cc
 
 not_later : (n : ℕ) (i : Image) → (i.set == n) ≡ true → nat_lt n i.set ≡ false
 not_later n i e = over n i.set e
@@ -195,10 +190,6 @@ exactly_of : (k n b m p : ℕ) (ws : List Write) (images : List Image) → AreIn
 exactly_of k n b m p ws [] t e l = absurd cc
 exactly_of k n b m p ws (i ∷ newer) t e l = by_set (i.set == n) refl e (λ f. exactly_of k n b m p ws newer t.2 f l)
   where
-    off : (c : Bool) → (c && false) ≡ false
-    off true = refl
-    off false = refl
-
     by_set : (c : Bool) → (i.set == n) ≡ c → (if c then Some i.point else point_in n newer) ≡ Some p
         → (point_in n newer ≡ Some p → list_any (is_copy k n b) (copies_of k m ws newer) ≡ is_overwritten n b newer p (drop p ws))
         → list_any (is_copy k n b) (copies_of k m ws (i ∷ newer)) ≡ is_overwritten n b (i ∷ newer) p (drop p ws)
@@ -212,7 +203,7 @@ exactly_of k n b m p ws (i ∷ newer) t e l = by_set (i.set == n) refl e (λ f. 
         ∙ ap (λ q. is_overwritten n b (i ∷ newer) q (drop q ws)) (some_same i.point p e)
     by_set false f e ih =
         list_any-append (is_copy k n b) (map (copy_of k ws i) (named m ws i newer)) (copies_of k m ws newer)
-        ∙ ap (λ c. c || list_any (is_copy k n b) (copies_of k m ws newer)) (any_other k k n b ws i (named m ws i newer) (ap (λ c. (k == k) && c) f ∙ off (k == k)))
+        ∙ ap (λ c. c || list_any (is_copy k n b) (copies_of k m ws newer)) (any_other k k n b ws i (named m ws i newer) (ap (λ c. (k == k) && c) f ∙ and-false (k == k)))
         ∙ ih e
         ∙ overwritten_along n b i newer p (drop p ws) (earlier n p i newer t.1 e)
 
@@ -234,23 +225,17 @@ place_least k (p ∷ ps) (suc u) = by_group p.within (λ j. place_least j ps u)
     by_group true ih = next k (place_from (k + 1) ps u) (ih (k + 1))
     by_group false ih = ih k
 
-apart : (j k : ℕ) → k < j → (j == k) ≡ false
-apart j k l = grind arith
-
 none_below : (j k n b : ℕ) (ps : List Placed) (hs : List History) → k < j → list_any (is_copy k n b) (copies_from j ps hs) ≡ false
 none_below j k n b [] hs l = refl
 none_below j k n b (p ∷ ps) [] l = refl
 none_below j k n b (p ∷ ps) (h ∷ hs) l = by_group p.within (λ i g. none_below i k n b ps hs g)
   where
-    later : (j k : ℕ) → k < j → k < j + 1
-    later j k l = omega arith
-
     by_group : (c : Bool) → ((i : ℕ) → k < i → list_any (is_copy k n b) (copies_from i ps hs) ≡ false)
         → list_any (is_copy k n b) (if c then copies_of j p.blocks h.writes h.images ++ copies_from (j + 1) ps hs else copies_from j ps hs) ≡ false
     by_group true ih =
         list_any-append (is_copy k n b) (copies_of j p.blocks h.writes h.images) (copies_from (j + 1) ps hs)
-        ∙ ap (λ c. c || list_any (is_copy k n b) (copies_from (j + 1) ps hs)) (other_volume j k n b p.blocks h.writes h.images (apart j k l))
-        ∙ ih (j + 1) (later j k l)
+        ∙ ap (λ c. c || list_any (is_copy k n b) (copies_from (j + 1) ps hs)) (other_volume j k n b p.blocks h.writes h.images (beyond j k l))
+        ∙ ih (j + 1) (still_less j k l)
     by_group false ih = ih j l
 
 exactly_in : (k : ℕ) (ps : List Placed) (hs : List History) (u n b p : ℕ) → InTimeAll hs → within (slice_get ps u) ≡ true → b < blocks_at (slice_get ps u)

@@ -1,6 +1,7 @@
 -- The last result of a session is what the acts have made of it.
 use Rattle.std.proofs.Common.{◌≡◌, ◌∙◌, ℕ, List, [], ◌∷◌, ◌++◌, Option, Some, None, refl, Bool, true, false, ap, sym, subst, inl, inr, fold}
 use Rattle.std.specs.Prelude.{◌&&◌, ◌||◌, not, option_map, if◌then◌else◌, length}
+use Rattle.std.proofs.lemmas.Bool.{and_left}
 use Rattle.vss_names.specs.declared.context.Context.{Context}
 use Rattle.vss_names.specs.declared.vss_result.VssResult.{VssResult}
 use Rattle.vss_names.specs.declared.vss_result.VssResult.TheVariants.{AsyncFinished, AsyncPending, AsyncCancelled, BadState}
@@ -27,14 +28,15 @@ use Rattle.vss_model.specs.Images.{Replied, refused, write, reverted_as}
 use Rattle.vss_model.specs.Sessions.{selected, start_set, has_no_volume, volumes_of, pending, new_number, closed}
 use Rattle.vss_model.specs.Facts.{has_failed}
 use Rattle.vss_model.specs.Acts.{Act, order_of_writer, enabled, answer_reply, step_reply, reply, idle_now, after, state}
+use Rattle.vss_model.specs.Replies.{is_fine, is_pending}
 use Rattle.vss_model.proofs.Appending.{state-append}
 use Rattle.promises.specs.Awaited.{set_failure, begins_session, begins, result_by, result_after, result_if, result_from, last_result}
-use Rattle.promises.specs.Participants.{is_fine}
 use Rattle.promises.proofs.Turns.{Turn, quiet_turn, write_turn, revert_turn, begun_turn, answer_turn, tick_turn, step_turn, abort_turn, add_turn, none_started}
-use Rattle.promises.specs.Way.{is_pending}
-use Rattle.promises.proofs.ByEvent.{Covers, ChangesNothing, changes_session, covered, after_enabled, after_not_enabled}
+use Rattle.vss_model.proofs.ByEvent.{Covers, ChangesNothing, changes_session, covered, after_enabled, after_not_enabled, some_same}
 use Rattle.promises.proofs.CalmCourses.{calm_begun}
 use Rattle.promises.proofs.SetFailures.{failure_at}
+use Rattle.vss_model.proofs.CutAppend.{append_nothing}
+use Rattle.set_agenda.proofs.WriterSets.{and-false}
 
 -- ## lines that end nothing
 
@@ -61,10 +63,6 @@ write_begins (op.WriteFill v b x) t e = (refl, refl)
 write_begins (op.WriteStamp v b n) t e = (refl, refl)
 write_begins o t e = absurd cc
 
-off : (a b : Bool) → a ≡ false → (a && b) ≡ false
-off true b e = absurd cc
-off false b e = refl
-
 same_running : (b : Bool) → (b && not b) ≡ false
 same_running true = refl
 same_running false = refl
@@ -82,16 +80,10 @@ module _ (s : Plan) (so_far : List Act) (last : Option VssResult) where
   failed_last : (why : VssResult) (o : Option Session) (q : Session) → option_map (set_failed why) o ≡ Some q → q.last ≡ Some why
   failed_last why None q e = absurd cc
   failed_last why (Some p) q e = sym (ap (λ (x : Session). x.last) (some_same (set_failed why p) q e))
-    where
-      some_same : (a b : Session) → Some a ≡ Some b → a ≡ b
-      some_same a b e = cc
 
   ended_last : (o : Option Session) (q : Session) → option_map agenda_ended o ≡ Some q → q.last ≡ Some AsyncFinished
   ended_last None q e = absurd cc
   ended_last (Some p) q e = sym (ap (λ (x : Session). x.last) (some_same (agenda_ended p) q e))
-    where
-      some_same : (a b : Session) → Some a ≡ Some b → a ≡ b
-      some_same a b e = cc
 
   -- what an act comes to, by its parts
   comes_to : (event : Event) (told : Reply) (x : State) (ran : Bool) (why : Option VssResult) (ended : Bool) → begins_session event told ≡ false → (runs st || begins event told) ≡ ran → set_failure (in_progress st) x ≡ why → (ran && not (runs x)) ≡ ended
@@ -130,33 +122,23 @@ module _ (s : Plan) (so_far : List Act) (last : Option VssResult) where
     quiet event told x e f g i l = goes event told x e f (quiet_turn s so_far x g i l)
 
     on_write : (lane : ℕ) (o : Op) (t : Target) (v : ℕ) (w : Write) (mark : Mark) → target_of o ≡ Some t → Next (Line lane o) mark (write s v w mark st)
-    on_write lane o t v w mark e = let no = write_begins o t e in goes (Line lane o) _ _ (off (is_begin o) _ no.0) (off (begins_agenda o) _ no.1) (write_turn s so_far v w mark)
+    on_write lane o t v w mark e = let no = write_begins o t e in goes (Line lane o) _ _ (and_left (is_begin o) _ no.0) (and_left (begins_agenda o) _ no.1) (write_turn s so_far v w mark)
 
     on_close : (event : Event) (told : Reply) (q : Session) (x : State) → IsLast (closed q x) (result_after st event told (closed q x) last)
     unfolding closed
     on_close event told q x p e = absurd cc
 
     begun_if : (b : Bool) (lane : ℕ) (o : Op) (mark : Mark) (c : Course) → is_begin o ≡ false → begins_agenda o ≡ true → (has_failed st.course.outcome ≡ false → has_failed c.outcome ≡ false) → Next (Line lane o) mark (if b then refused BadState st else pending c st)
-    begun_if true lane o mark c e f calm = quiet (Line lane o) (Coded BadState) st (off (is_begin o) _ e) (not_pending (begins_agenda o)) refl (λ n. refl) refl
-      where
-        not_pending : (b : Bool) → (b && false) ≡ false
-        not_pending true = refl
-        not_pending false = refl
-    begun_if false lane o mark c e f calm = by_turn (Line lane o) (Coded AsyncPending) _ true (off (is_begin o) _ e) (ap (λ b. runs st || (b && true)) f ∙ or_true (runs st)) (begun_turn s so_far c calm)
+    begun_if true lane o mark c e f calm = quiet (Line lane o) (Coded BadState) st (and_left (is_begin o) _ e) (and-false (begins_agenda o)) refl (λ n. refl) refl
+    begun_if false lane o mark c e f calm = by_turn (Line lane o) (Coded AsyncPending) _ true (and_left (is_begin o) _ e) (ap (λ b. runs st || (b && true)) f ∙ or_true (runs st)) (begun_turn s so_far c calm)
 
     on_start : (lane : ℕ) (q : Session) → st.session ≡ Some q → makes_set q.stage ≡ false → IsLast (start_set q st).1 (result_after st (Line lane op.Start) (start_set q st).0 (start_set q st).1 last)
     on_start lane q e f p g =
         sym (ap (λ (x : Session). x.last) (some_same (session_started (new_number st) q) p g)) ∙ h q e
         ∙ sym (comes_to (Line lane op.Start) (start_set q st).0 (start_set q st).1 (runs st) None false refl (or_false (runs st) false refl) (none_started s so_far q (start_set q st).1 e f) (same_running (runs st)))
-      where
-        some_same : (a b : Session) → Some a ≡ Some b → a ≡ b
-        some_same a b e = cc
 
     on_opened : (lane n : ℕ) (all : Bool) (x : Context) → Next (Line lane (op.Begin n all)) Clean (Fine, record st { session = Some (opened lane x all); explicit = [] })
     on_opened lane n all x q e = sym (ap (λ (y : Session). y.last) (some_same (opened lane x all) q e))
-      where
-        some_same : (a b : Session) → Some a ≡ Some b → a ≡ b
-        some_same a b e = cc
 
     lasts : Covers Next s st
     lasts = record {
@@ -202,11 +184,7 @@ last_next s so_far act h q e =
     ∙ sym (result_from-append s (start s) None so_far act)
 
 last_from : (s : Plan) (so_far acts : List Act) → StandsLast s so_far → StandsLast s (so_far ++ acts)
-last_from s so_far [] h = subst (StandsLast s) (sym (append_none so_far)) h
-  where
-    append_none : (xs : List Act) → xs ++ [] ≡ xs
-    append_none [] = refl
-    append_none (x ∷ xs) = ap (λ ys. x ∷ ys) (append_none xs)
+last_from s so_far [] h = subst (StandsLast s) (sym (append_nothing so_far)) h
 last_from s so_far (act ∷ acts) h = subst (StandsLast s) (regrouped so_far acts) (last_from s (so_far ++ act ∷ []) acts (last_next s so_far act h))
   where
     regrouped : (xs ys : List Act) → (xs ++ act ∷ []) ++ ys ≡ xs ++ act ∷ ys

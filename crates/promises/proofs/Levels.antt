@@ -36,6 +36,7 @@ use Rattle.vss_model.proofs.Rule.{on_after}
 use Rattle.promises.specs.Numbers.{timeout_in, timeout_of, HasItsNumbers}
 use Rattle.promises.specs.Way.{level_in, level_of}
 use Rattle.promises.proofs.Truth.{no_less}
+use Rattle.promises.proofs.Members.{one_on}
 
 -- members in the order of their writers, from w on, each once
 abbrev pub Ascends : ℕ → List Member → Type 0
@@ -307,10 +308,7 @@ row_at s (q ∷ rows) k zero r h e = let same : q ≡ r = cc in ap (λ (x : Writ
   where
     none_after : (k : ℕ) → k ≡ k + 0
     none_after k = omega arith
-row_at s (q ∷ rows) k (suc w) r h e = row_at s rows (k + 1) w r h.1 e ∙ ap (timeout_of s) (one_more k w)
-  where
-    one_more : (k j : ℕ) → k + 1 + j ≡ k + suc j
-    one_more k j = omega arith
+row_at s (q ∷ rows) k (suc w) r h e = row_at s rows (k + 1) w r h.1 e ∙ ap (timeout_of s) (one_on k w)
 
 pub has_its_numbers : (s : Plan) (so_far : List Act) → HasItsNumbers s so_far
 has_its_numbers s so_far = record {

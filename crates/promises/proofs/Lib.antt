@@ -1,4 +1,3 @@
-pub mod ByEvent
 pub mod Clock
 pub mod Idle
 pub mod Speaks

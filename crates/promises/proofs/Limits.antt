@@ -16,8 +16,9 @@ use Rattle.set_agenda.specs.Limits.{Running, last_time, opened_at, is_prepare_sn
 use Rattle.set_agenda.specs.Course.{Course, posted, failed as course_failed, limit_of, freeze_limit, limits_now, fails_set as decides, lost, lost_decided, treated_as, treated, timed as course_timed}
 use Rattle.vss_model.specs.Facts.{has_failed}
 use Rattle.vss_model.specs.Causes.{has_passed, last_of, holds_volumes, is_hold_step, freezes_writers, prepares_snapshot, prepares_writers, is_elsewhere, frozen_too_long, unanswered_too_long}
-use Rattle.vss_model.proofs.Late.{Decides}
+use Rattle.vss_model.proofs.Late.{Decides, same_prepare}
 use Rattle.promises.proofs.Truth.{both_parts}
+use Rattle.vss_model.proofs.ByEvent.{some_same}
 
 -- ## a limit has gone by
 
@@ -89,22 +90,6 @@ same_freeze Cut = refl
 same_freeze Commit = refl
 same_freeze Release = refl
 same_freeze PostCommit = refl
-
-same_prepare : (g : Group) → is_prepare_snapshot g ≡ prepares_snapshot g
-same_prepare (Orders Identify) = refl
-same_prepare (Orders PrepareBackup) = refl
-same_prepare (Orders PrepareSnapshot) = refl
-same_prepare (Orders Freeze) = refl
-same_prepare (Orders Thaw) = refl
-same_prepare (Orders PostSnapshot) = refl
-same_prepare (Orders BackupComplete) = refl
-same_prepare PreCommit = refl
-same_prepare Flush = refl
-same_prepare Hold = refl
-same_prepare Cut = refl
-same_prepare Commit = refl
-same_prepare Release = refl
-same_prepare PostCommit = refl
 
 consent_runs : (g : Group) → prepares_writers g ≡ true → answer_runs g ≡ true
 consent_runs (Orders Identify) e = absurd cc
@@ -211,9 +196,6 @@ pub limit_found : (now : ℕ) (b : Bool) (x : Limit) (since ticks : ℕ) (l : Ru
 limit_found now false x since ticks l e = absurd cc
 limit_found now true x since ticks l e = by_test (is_spent now since ticks) e
   where
-    some_same : (y z : Running) → Some y ≡ Some z → y ≡ z
-    some_same y z e = cc
-
     by_test : (b : Bool) → (if b then Some (record { limit = x; since = since; ticks = ticks }) else None) ≡ Some l → l.limit ≡ x
     by_test true f = ap (λ (y : Running). y.limit) (sym (some_same (record { limit = x; since = since; ticks = ticks }) l f))
     by_test false f = absurd cc
@@ -338,9 +320,6 @@ due_in now c (Some a) e = due_left now c a (groups_left a) e
 treats : (o : Option Running) (l : Running) (now : ℕ) (c : Course) → o ≡ Some l → Decides l.limit (order_now (left c.agenda)) → has_failed (treated o now c).outcome ≡ true
 treats None l now c e d = absurd cc
 treats (Some x) l now c e d = treated_fails x.limit now c (subst (λ (y : Running). Decides y.limit (order_now (left c.agenda))) (sym (some_same x l e)) d)
-  where
-    some_same : (y z : Running) → Some y ≡ Some z → y ≡ z
-    some_same y z e = cc
 
 pub timed_fails : (now : ℕ) (c : Course) → is_due_in now c c.agenda ≡ true → has_failed (course_timed now c).outcome ≡ true
 timed_fails now c e =

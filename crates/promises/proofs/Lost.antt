@@ -23,6 +23,7 @@ use Rattle.promises.specs.Lost.{is_over, is_over_at, is_over_in, is_over_after, 
 use Rattle.promises.proofs.Truth.{first_both}
 use Rattle.promises.proofs.BusyAgendas.{none_held}
 use Rattle.promises.proofs.Limits.{freeze_since, answer_since}
+use Rattle.promises.proofs.Participants.{off}
 
 -- ## the limit of the open order is spent
 
@@ -129,10 +130,6 @@ told_in now c (Some a) w = told_left now c a w (groups_left a)
 
 told_after : (n : Option ℕ) (st : State) (w : ℕ) → is_among w (lost_after n st) ≡ (is_some (open_order (left_now st) w) && is_over_after n st)
 told_after None st w = off (is_some (open_order (left_now st) w))
-  where
-    off : (b : Bool) → false ≡ (b && false)
-    off true = refl
-    off false = refl
 told_after (Some n) st w = told_in (st.clock + n) st.course st.course.agenda w
 
 -- ## by which order

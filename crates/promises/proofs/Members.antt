@@ -3,6 +3,7 @@ use Rattle.std.proofs.Common.{◌≡◌, ◌∙◌, ℕ, ◌+◌, ◌==◌, ◌<
 use Rattle.std.specs.Prelude.{◌&&◌, ◌||◌, if◌then◌else◌, nat_lt}
 use Rattle.std.specs.List.{list_any, range_with_len}
 use Rattle.std.proofs.lemmas.List.Folds.{list_any-append}
+use Rattle.std.proofs.lemmas.Bool.{and_left}
 use Rattle.writer_state.specs.declared.writer_row.WriterRow.{WriterRow}
 use Rattle.set_agenda.specs.declared.member.Member.{Member}
 use Rattle.set_agenda.specs.Agenda.{is_among}
@@ -19,16 +20,16 @@ use Rattle.promises.proofs.Truth.{equal, or_false}
 
 -- ## numbers in order
 
-beyond : (a w : ℕ) → w < a → (a == w) ≡ false
+pub beyond : (a w : ℕ) → w < a → (a == w) ≡ false
 beyond a w l = grind arith
 
-next_up : (a w : ℕ) → a ≤ w → (a == w) ≡ false → a + 1 ≤ w
+pub next_up : (a w : ℕ) → a ≤ w → (a == w) ≡ false → a + 1 ≤ w
 next_up a w l e = grind arith
 
 before_next : (a w : ℕ) → (a == w) ≡ true → w < a + 1
 before_next a w e = grind arith
 
-still_less : (a w : ℕ) → w < a → w < a + 1
+pub still_less : (a w : ℕ) → w < a → w < a + 1
 still_less a w l = omega arith
 
 none_from : (a w : ℕ) → a ≤ w → nat_lt w (a + 0) ≡ false
@@ -37,7 +38,7 @@ none_from a w l = grind arith
 own_within : (a n w : ℕ) → (a == w) ≡ true → nat_lt w (a + suc n) ≡ true
 own_within a n w e = grind arith
 
-one_on : (a n : ℕ) → a + 1 + n ≡ a + suc n
+pub one_on : (a n : ℕ) → a + 1 + n ≡ a + suc n
 one_on a n = omega arith
 
 -- ## a list of numbers that pass: the first, and those behind it
@@ -58,10 +59,6 @@ skips false c rest e = refl
 within_is : (b c : Bool) → b ≡ true → (b && c) ≡ c
 within_is true c e = refl
 within_is false c e = absurd cc
-
-outside_is : (b c : Bool) → b ≡ false → (b && c) ≡ false
-outside_is true c e = absurd cc
-outside_is false c e = refl
 
 -- what passes of the numbers from a on, where the first passes or not
 one_more : (test : ℕ → Bool) (a n w : ℕ) (rest : Bool) → a ≤ w → ((a == w) ≡ true → rest ≡ false) → ((a == w) ≡ false → rest ≡ (nat_lt w (a + 1 + n) && test w))
@@ -86,7 +83,7 @@ no_member_before test k [] w l = refl
 no_member_before test k (r ∷ rows) w l = head_member test k r rows w ∙ skips (test k) (k == w) (is_member (members_from test (k + 1) rows) w) (beyond k w l) ∙ no_member_before test (k + 1) rows w (still_less k w l)
 
 pub members_from_are : (test : ℕ → Bool) (k : ℕ) (rows : List WriterRow) (w : ℕ) → k ≤ w → is_member (members_from test k rows) w ≡ (nat_lt w (k + length rows) && test w)
-members_from_are test k [] w l = sym (outside_is (nat_lt w (k + 0)) (test w) (none_from k w l))
+members_from_are test k [] w l = sym (and_left (nat_lt w (k + 0)) (test w) (none_from k w l))
 members_from_are test k (r ∷ rows) w l =
     head_member test k r rows w
     ∙ one_more test k (length rows) w (is_member (members_from test (k + 1) rows) w) l (λ e. no_member_before test (k + 1) rows w (before_next k w e)) (λ e. members_from_are test (k + 1) rows w (next_up k w l e))
@@ -105,7 +102,7 @@ none_passes test a zero w l = refl
 none_passes test a (suc n) w l = head_passes test a w (range_with_len (a + 1) n) ∙ skips (test a) (a == w) (is_among w (filter test (range_with_len (a + 1) n))) (beyond a w l) ∙ none_passes test (a + 1) n w (still_less a w l)
 
 pub range_passes : (test : ℕ → Bool) (a n w : ℕ) → a ≤ w → is_among w (filter test (range_with_len a n)) ≡ (nat_lt w (a + n) && test w)
-range_passes test a zero w l = sym (outside_is (nat_lt w (a + 0)) (test w) (none_from a w l))
+range_passes test a zero w l = sym (and_left (nat_lt w (a + 0)) (test w) (none_from a w l))
 range_passes test a (suc n) w l =
     head_passes test a w (range_with_len (a + 1) n)
     ∙ one_more test a n w (is_among w (filter test (range_with_len (a + 1) n))) l (λ e. none_passes test (a + 1) n w (before_next a w e)) (λ e. range_passes test (a + 1) n w (next_up a w l e))
@@ -128,7 +125,7 @@ module _ (s : Plan) (st : State) where
   none_known k w (p ∷ ps) l = head_known k w p ps ∙ skips (is_known s st k) (k == w) (knows w (k + 1) ps) (beyond k w l) ∙ none_known (k + 1) w ps (still_less k w l)
 
   known_are : (k w : ℕ) (ps : List WriterPlan) → k ≤ w → knows w k ps ≡ (nat_lt w (k + length ps) && is_known s st w)
-  known_are k w [] l = sym (outside_is (nat_lt w (k + 0)) (is_known s st w) (none_from k w l))
+  known_are k w [] l = sym (and_left (nat_lt w (k + 0)) (is_known s st w) (none_from k w l))
   known_are k w (p ∷ ps) l =
       head_known k w p ps
       ∙ one_more (is_known s st) k (length ps) w (knows w (k + 1) ps) l (λ e. none_known (k + 1) w ps (before_next k w e)) (λ e. known_are (k + 1) w ps (next_up k w l e))

@@ -3,6 +3,7 @@ use Rattle.std.proofs.Common.{◌≡◌, ◌∙◌, ℕ, ◌==◌, ◌≤◌, �
 use Rattle.std.specs.Prelude.{◌&&◌, ◌||◌, not, is_some, if◌then◌else◌}
 use Rattle.std.specs.List.{list_any}
 use Rattle.std.proofs.lemmas.List.Folds.{list_any-append}
+use Rattle.std.proofs.lemmas.Bool.{or_parts}
 use Rattle.vss_names.specs.declared.level.Level.{Level}
 use Rattle.vss_names.specs.declared.order.Order.{Order}
 use Rattle.vss_names.specs.declared.order.Order.TheVariants.{Identify, PrepareBackup, PrepareSnapshot, Freeze, Thaw, PostSnapshot, BackupComplete}
@@ -26,13 +27,9 @@ use Rattle.promises.proofs.Heard.{order_place}
 pub once_one : (ds : List Deed) (d : Deed) → AreOnce ds → list_any (λ x. is_again d x) ds ≡ false → AreOnce (ds ++ d ∷ [])
 once_one [] d h e = (refl, tt)
 once_one (x ∷ ds) d h e =
-    let parts = neither (is_again d x) (list_any (λ y. is_again d y) ds) e in
+    let parts = or_parts (is_again d x) (list_any (λ y. is_again d y) ds) e in
     (list_any-append (λ y. is_again y x) ds (d ∷ []) ∙ none (list_any (λ y. is_again y x) ds) (is_again d x) h.0 parts.0, once_one ds d h.1 parts.1)
   where
-    neither : (a b : Bool) → (a || b) ≡ false → (a ≡ false) × (b ≡ false)
-    neither true b e = absurd cc
-    neither false b e = (refl, e)
-
     none : (a b : Bool) → a ≡ false → b ≡ false → (a || (b || false)) ≡ false
     none true b e f = absurd cc
     none false true e f = absurd cc
@@ -67,17 +64,9 @@ once_spoken [] o said now (w ∷ ws) h p f =
     (unheard o said now ws (Spoke o w said now) (other_writer o w said now ws p.0), once_spoken [] o said now ws h p.1 (λ u e. refl))
 once_spoken (x ∷ ds) o said now ws h p f = (
   list_any-append (λ y. is_again y x) ds (map (λ u. Spoke o u said now) ws)
-      ∙ both_false (list_any (λ y. is_again y x) ds) _ h.0 (unheard o said now ws x (λ u e. first_off (is_heard o u x) (heard o u ds) (f u e))),
-  once_spoken ds o said now ws h.1 p (λ u e. rest_off (is_heard o u x) (heard o u ds) (f u e)),
+      ∙ both_false (list_any (λ y. is_again y x) ds) _ h.0 (unheard o said now ws x (λ u e. (or_parts (is_heard o u x) (heard o u ds) (f u e)).0)),
+  once_spoken ds o said now ws h.1 p (λ u e. (or_parts (is_heard o u x) (heard o u ds) (f u e)).1),
 )
-  where
-    first_off : (a b : Bool) → (a || b) ≡ false → a ≡ false
-    first_off true b e = absurd cc
-    first_off false b e = refl
-
-    rest_off : (a b : Bool) → (a || b) ≡ false → b ≡ false
-    rest_off true b e = absurd cc
-    rest_off false b e = e
 
 -- who is waited for is waited for once
 pub among_none : (test : ℕ → Bool) (x : ℕ) (xs : List ℕ) → is_among x xs ≡ false → is_among x (filter test xs) ≡ false

@@ -54,13 +54,14 @@ use Rattle.vss_model.specs.Facts.{has_failed, WaitsFor, IsAgendaOf}
 use Rattle.vss_model.specs.Effects.{line_ticks, lost_after, lost_order_if}
 use Rattle.vss_model.specs.Acts.{Act, enabled, order_of_writer, idle_now, answer_reply, reply, after, state}
 use Rattle.vss_model.specs.Laws.{LetsGo}
+use Rattle.vss_model.specs.Replies.{is_pending}
 use Rattle.vss_model.proofs.CourseCalls.{Settles}
 use Rattle.vss_model.proofs.LogRule.{Running, unspoken}
 use Rattle.vss_model.proofs.Spoken.{among_filter}
 use Rattle.vss_model.proofs.Appending.{state-append}
 use Rattle.vss_model.proofs.CutAppend.{append_nothing}
 use Rattle.vss_model.proofs.OrderlyActs.{orderly}
-use Rattle.promises.specs.Way.{Deed, Spoke, deeds_lost, is_pending}
+use Rattle.promises.specs.Way.{Deed, Spoke, deeds_lost}
 use Rattle.promises.specs.Owed.{Asking, ToIdentify, ForConsent, AtCompletion, order_for, asks, step_for, is_asked_of, counts, is_reply, owes_after, owes_if, owes_from, owes, NobodyOwes}
 use Rattle.promises.specs.InOrder.{Step, ByGather, ByPrepare, ByComplete, progress, is_step}
 use Rattle.promises.specs.Participants.{is_writer, choosing}
@@ -68,7 +69,7 @@ use Rattle.promises.proofs.Truth.{and_true, both_are, both_parts, equal, false_o
 use Rattle.promises.proofs.Scripts.{kept_test, kept_among}
 use Rattle.promises.proofs.Speaks.{deed_at, deed_in, said_at, Grows, made_now, lost_told, grows_answered, grows_stepped, grows_timed}
 use Rattle.promises.proofs.BusyAgendas.{course_followed}
-use Rattle.promises.proofs.ByEvent.{Covers, covered, after_enabled, after_not_enabled}
+use Rattle.vss_model.proofs.ByEvent.{Covers, covered, after_enabled, after_not_enabled, some_same}
 use Rattle.promises.proofs.CalmCourses.{calm_begun}
 use Rattle.promises.proofs.Clock.{write_ticks}
 use Rattle.promises.proofs.Progress.{stage_of, StandsAt, stands_all, is_opened, is_started, is_done as is_done_stage, snapshots}
@@ -76,6 +77,7 @@ use Rattle.promises.proofs.Turns.{Turn, begun_turn, answer_turn, tick_turn, step
 use Rattle.promises.proofs.Members.{members_from_are}
 use Rattle.promises.proofs.CalmStages.{IsCalm, calm_kept, calm_always}
 use Rattle.promises.proofs.Participants.{Follows, follows_all, standing, asked_by, asked_are}
+use Rattle.vss_model.proofs.Rows.{none_runs}
 
 abbrev p0 : Asking → Place
 p0 i = plain (Orders (order_for i))
@@ -392,12 +394,9 @@ not_snapshot ToIdentify e = cc
 not_snapshot ForConsent e = cc
 not_snapshot AtCompletion e = cc
 
-same_session : (a b : Session) → Some a ≡ Some b → a ≡ b
-same_session a b e = cc
-
 failed_stage : {X : Type 0} (i : Asking) (why : VssResult) (o : Option Session) (q : Session) → option_map (set_failed why) o ≡ Some q → q.stage ≡ stage_for i → X
 failed_stage i why None q e f = absurd cc
-failed_stage i why (Some p) q e f = absurd (not_failed i (ap (λ (y : Session). y.stage) (same_session (set_failed why p) q e) ∙ f))
+failed_stage i why (Some p) q e f = absurd (not_failed i (ap (λ (y : Session). y.stage) (some_same (set_failed why p) q e) ∙ f))
 
 -- ## every act
 
@@ -462,11 +461,7 @@ module _ (s : Plan) (so_far : List Act) (i : Asking) (w : ℕ) where
 
     -- the course goes on
     quiet_none : (x : State) → runs x ≡ false → x.course.agenda ≡ None
-    quiet_none x e = by_agenda x.course.agenda e
-      where
-        by_agenda : (o : Option Agenda) → is_some o ≡ false → o ≡ None
-        by_agenda None e = refl
-        by_agenda (Some a) e = absurd cc
+    quiet_none x e = none_runs x.course.agenda e
 
     module _ (x : State) (d : Bool) (k : Course) (news : List Deed) (is : x.course ≡ k) (grows : Grows st.course.agenda st.course.outcome k.agenda k.outcome news) (turn : Turn st x (runs st))
         (calm : IsCalm x)
@@ -481,7 +476,7 @@ module _ (s : Plan) (so_far : List Act) (i : Asking) (w : ℕ) where
       over_by q (Some a) None e f ran ended stage waits ends own quiet = absurd cc
       over_by q (Some a) (Some p) e f ran ended stage waits ends own quiet =
           ends (ap (λ (y : Course). y.agenda) (sym is) ∙ quiet_none x quiet) (ap (λ (y : Course). has_failed y.outcome) (sym is) ∙ calm q own (λ f. not_failed i (sym f ∙ stage)))
-          (waits_for i a.kind p.context p.stage waits (ap (λ (y : Session). y.stage) (same_session (agenda_ended p) q ended) ∙ stage))
+          (waits_for i a.kind p.context p.stage waits (ap (λ (y : Session). y.stage) (some_same (agenda_ended p) q ended) ∙ stage))
 
       done_by : (q : Session) → x.session ≡ Some q → q.stage ≡ stage_for i → Turn st x (runs st) → d ≡ false
       done_by q f g (inl t) = failed_stage i t.why st.session q (sym t.session ∙ f) g
@@ -545,7 +540,7 @@ module _ (s : Plan) (so_far : List Act) (i : Asking) (w : ℕ) where
 
         over_by : (q : Session) (p : Option Session) → st.session ≡ p → option_map agenda_ended p ≡ Some q → q.stage ≡ stage_for i → c ≡ false
         over_by q None e f g = absurd cc
-        over_by q (Some p) e f g = absurd (never p e (ap (λ (z : Session). z.stage) (same_session (agenda_ended p) q f) ∙ g))
+        over_by q (Some p) e f g = absurd (never p e (ap (λ (z : Session). z.stage) (some_same (agenda_ended p) q f) ∙ g))
 
         done_by : (q : Session) → x.session ≡ Some q → q.stage ≡ stage_for i → Turn st x true → c ≡ false
         done_by q g stage (inl t) = failed_stage i t.why st.session q (sym t.session ∙ g) stage
@@ -588,14 +583,14 @@ module _ (s : Plan) (so_far : List Act) (i : Asking) (w : ℕ) where
 
     -- the session's stage
     at_stage : (q : Session) (t : Stage) → st.session ≡ Some q → q.stage ≡ t → (t ≡ stage_for i → ⊥) → (p : Session) → st.session ≡ Some p → p.stage ≡ stage_for i → ⊥
-    at_stage q t e f never p g k = never (sym f ∙ ap (λ (z : Session). z.stage) (same_session q p (sym e ∙ g)) ∙ k)
+    at_stage q t e f never p g k = never (sym f ∙ ap (λ (z : Session). z.stage) (some_same q p (sym e ∙ g)) ∙ k)
 
     to_stage : (q : Session) (t : Stage) → st.session ≡ Some q → stage_after q.context q.stage ≡ t → (t ≡ stage_for i → ⊥) → (p : Session) → st.session ≡ Some p
         → stage_after p.context p.stage ≡ stage_for i → ⊥
-    to_stage q t e f never p g k = never (sym f ∙ ap (λ (z : Session). stage_after z.context z.stage) (same_session q p (sym e ∙ g)) ∙ k)
+    to_stage q t e f never p g k = never (sym f ∙ ap (λ (z : Session). stage_after z.context z.stage) (some_same q p (sym e ∙ g)) ∙ k)
 
     in_stage : {X : Type 0} (p q : Session) (t : Stage) → Some p ≡ Some q → p.stage ≡ t → (t ≡ stage_for i → ⊥) → q.stage ≡ stage_for i → X
-    in_stage p q t e f never g = absurd (never (sym f ∙ ap (λ (z : Session). z.stage) (same_session p q e) ∙ g))
+    in_stage p q t e f never g = absurd (never (sym f ∙ ap (λ (z : Session). z.stage) (some_same p q e) ∙ g))
 
     and_false : (b : Bool) → (b && false) ≡ false
     and_false true = refl

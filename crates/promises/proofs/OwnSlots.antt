@@ -2,6 +2,7 @@
 use Rattle.std.proofs.Common.{◌≡◌, ◌∙◌, ℕ, ◌+◌, ◌<◌, ◌≤◌, zero, suc, List, [], ◌∷◌, Option, Some, None, refl, Bool, true, false, ap, sym, subst, find, length, arith}
 use Rattle.std.specs.Prelude.{◌&&◌, ◌||◌, not, nat_lt, unwrap_or, if◌then◌else◌, slice_get}
 use Rattle.std.specs.List.{range_with_len}
+use Rattle.std.proofs.lemmas.Bool.{ltb-false, ltb-true, or_right}
 use Rattle.write_history.specs.History.{History}
 use Rattle.write_history.specs.Slots.{Placed, lacks_slot, gone_up_to, evicted_up_to}
 use Rattle.scenario.specs.declared.op.Op.{Op}
@@ -22,6 +23,7 @@ use Rattle.promises.specs.Gone.{within}
 use Rattle.promises.proofs.Truth.{false_of}
 use Rattle.promises.proofs.Failing.{fails_for_cause}
 use Rattle.promises.proofs.GoneImages.{gone_group, left_in_group, least_sets}
+use Rattle.vss_model.proofs.ByEvent.{some_same}
 
 -- ## an image that goes
 
@@ -61,11 +63,7 @@ lost_in_group m n (p ∷ ps) (h ∷ hs) zero w e l = by_parts (has_image n h) (h
     by_parts true true f g = absurd (over m n (left_in_group m n (p ∷ ps) (h ∷ hs) 0 w g) l)
     by_parts true false f g = refl
     by_parts false b f g = absurd cc
-lost_in_group m n (p ∷ ps) (h ∷ hs) (suc v) w e l = or_right _ (lost_in_group m n ps hs v w e l)
-  where
-    or_right : (a : Bool) {b : Bool} → b ≡ true → (a || b) ≡ true
-    or_right true e = refl
-    or_right false e = e
+lost_in_group m n (p ∷ ps) (h ∷ hs) (suc v) w e l = or_right _ _ (lost_in_group m n ps hs v w e l)
 
 -- ## how many sets go
 
@@ -82,16 +80,10 @@ reaches test a (suc len) bound l h = by_head (test a) (nat_lt a bound) refl refl
     itself : (a : ℕ) → a ≤ a
     itself a = omega arith
 
-    is_less : (a b : ℕ) → nat_lt a b ≡ true → a < b
-    is_less a b e = grind arith
-
-    no_less : (a b : ℕ) → nat_lt a b ≡ false → b ≤ a
-    no_less a b e = grind arith
-
     by_head : (b c : Bool) → test a ≡ b → nat_lt a bound ≡ c → bound ≤ unwrap_or (find test (range_with_len (a + 1) len)) (a + 1 + len)
         → bound ≤ unwrap_or (if b then Some a else find test (range_with_len (a + 1) len)) (a + suc len)
-    by_head true true e f i = absurd (true_not_false (test a) e (h a (itself a) (is_less a bound f)))
-    by_head true false e f i = no_less a bound f
+    by_head true true e f i = absurd (true_not_false (test a) e (h a (itself a) (ltb-true a bound f)))
+    by_head true false e f i = ltb-false a bound f
     by_head false c e f i = subst (λ k. bound ≤ unwrap_or (find test (range_with_len (a + 1) len)) k) (sym (one_more a len)) i
 
 -- as many go, at least, as leave no slot
@@ -108,9 +100,6 @@ numbered_within : (k : ℕ) (rows : List SetRow) (test : SetRow → Bool) (r : S
 numbered_within k [] test r num e = absurd cc
 numbered_within k (q ∷ rows) test r num e = by_head (test q) e (numbered_within (k + 1) rows test r num.1)
   where
-    some_same : (a b : SetRow) → Some a ≡ Some b → a ≡ b
-    some_same a b e = cc
-
     here : (a n : ℕ) → a ≡ k → a + 1 ≤ k + suc n
     here a n e = omega (arith, e)
 

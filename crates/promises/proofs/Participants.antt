@@ -30,10 +30,10 @@ use Rattle.vss_model.specs.Ending.{followed, failed}
 use Rattle.vss_model.specs.Images.{Replied, refused, write}
 use Rattle.vss_model.specs.Sessions.{is_disabled, known_metas, disable, pending, selected, has_no_volume, volumes_of, closed}
 use Rattle.vss_model.specs.Acts.{Act, enabled, idle_now, after, state}
-use Rattle.promises.specs.Participants.{Choosing, unsaid, is_chosen, is_fine, line_says, event_says, is_unfit, choosing_if, choosing_from, choosing, is_writer, ChosenTakePart}
-use Rattle.promises.specs.Way.{is_pending}
+use Rattle.vss_model.specs.Replies.{is_fine, is_pending}
+use Rattle.promises.specs.Participants.{Choosing, unsaid, is_chosen, line_says, event_says, is_unfit, choosing_if, choosing_from, choosing, is_writer, ChosenTakePart}
 use Rattle.promises.proofs.Truth.{or_false}
-use Rattle.promises.proofs.ByEvent.{Covers, ChangesNothing, covered, after_enabled, after_not_enabled}
+use Rattle.vss_model.proofs.ByEvent.{Covers, ChangesNothing, covered, after_enabled, after_not_enabled}
 use Rattle.promises.proofs.Members.{is_selected, selected_are}
 use Rattle.promises.proofs.SameChoice.{same_course, SameChoice, same_choice, same_beside, mode_in, on_begun, on_agenda_begun, on_followed, on_failed_in, on_answered, on_ticked, on_stepped, on_write, on_revert}
 
@@ -129,7 +129,7 @@ named_of w u name (Some (Some m)) ps new e =
 one_disabled : (f : ℕ → Bool) (ds : List ℕ) (u : ℕ) → list_any f (ds ++ u ∷ []) ≡ (list_any f ds || f u)
 one_disabled f ds u = list_any-append f ds (u ∷ []) ∙ ap (λ b. list_any f ds || b) (or_false (f u))
 
-off : (b : Bool) → false ≡ (b && false)
+pub off : (b : Bool) → false ≡ (b && false)
 off true = refl
 off false = refl
 

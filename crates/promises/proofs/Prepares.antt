@@ -1,16 +1,15 @@
 -- An accepted `prepare` makes the chosen writers take part, none of a disabled class; and nothing else changes who does.
-use Rattle.std.proofs.Common.{◌≡◌, ◌∙◌, ℕ, ◌+◌, ◌==◌, zero, suc, List, [], ◌∷◌, Option, Some, None, refl, Bool, true, false, ap, sym, subst, map, length, arith}
-use Rattle.std.specs.Prelude.{◌&&◌, ◌||◌, not, is_some, if◌then◌else◌, slice_get}
+use Rattle.std.proofs.Common.{◌≡◌, ◌∙◌, ℕ, ◌+◌, ◌==◌, List, [], Option, Some, None, refl, Bool, true, false, ap, sym, subst, map, length, arith}
+use Rattle.std.specs.Prelude.{◌&&◌, not, if◌then◌else◌, slice_get}
 use Rattle.std.specs.List.{list_any, list_all}
 use Rattle.std.proofs.lemmas.List.{length-map}
 use Rattle.vss_names.specs.declared.vss_result.VssResult.TheVariants.{AsyncPending, BadState, AsyncCancelled}
 use Rattle.writer_state.specs.WriterRow.{row_gathered}
 use Rattle.write_history.specs.declared.mark.Mark.{Mark}
 use Rattle.writer_calls.specs.Script.{said_of}
-use Rattle.writer_meta.specs.Metadata.{Meta}
 use Rattle.set_agenda.specs.declared.kind.Kind.TheVariants as kind
 use Rattle.set_agenda.specs.Course.{Course, begun, is_member, prepared as course_prepared, snapshot_begun}
-use Rattle.component_doc.specs.Over.{meta_at, is_selectable_of, names_selectable, is_ascending}
+use Rattle.component_doc.specs.Over.{names_selectable, is_ascending}
 use Rattle.component_doc.specs.Selection.{Pair, takers}
 use Rattle.requestor.specs.declared.mode.Mode.{Mode}
 use Rattle.requestor.specs.Session.{Session, mode_of}
@@ -18,22 +17,22 @@ use Rattle.scenario.specs.declared.op.Op.{Op}
 use Rattle.scenario.specs.declared.op.Op.TheVariants.{Prepare}
 use Rattle.scenario.specs.Bounds.{begins_agenda}
 use Rattle.scenario.specs.Calls.{Target, target_of}
-use Rattle.scenario.specs.Plan.{Plan, WriterPlan}
+use Rattle.scenario.specs.Plan.{Plan}
 use Rattle.vss_model.specs.declared.event.Event.{Event}
 use Rattle.vss_model.specs.declared.event.Event.TheVariants.{Line}
 use Rattle.vss_model.specs.Reply.{Reply, Coded}
 use Rattle.vss_model.specs.State.{State, SetRow, in_progress}
 use Rattle.vss_model.specs.Ending.{followed, failed}
 use Rattle.vss_model.specs.Images.{Replied, refused}
-use Rattle.vss_model.specs.Sessions.{is_disabled, is_known, meta_if, known_from, known_metas, has_failed_identify, pending, selected, has_no_volume, volumes_of, closed}
+use Rattle.vss_model.specs.Sessions.{is_disabled, is_known, known_metas, has_failed_identify, pending, selected, has_no_volume, volumes_of, closed}
 use Rattle.vss_model.specs.Acts.{Act, enabled, reply, idle_now, after, state}
-use Rattle.vss_model.proofs.Gathered.{named_known_components}
+use Rattle.vss_model.specs.Replies.{is_pending}
+use Rattle.vss_model.proofs.Gathered.{named_known_components, known_at, named_known}
 use Rattle.vss_model.proofs.Named.{AreOver}
 use Rattle.vss_model.proofs.OrderlyActs.{none_after}
 use Rattle.promises.specs.Participants.{Choosing, is_chosen, is_unfit, choosing, is_writer, is_prepare, TakesPart}
-use Rattle.promises.specs.Way.{is_pending}
-use Rattle.promises.proofs.Truth.{equal, first_both, not_true, second_both}
-use Rattle.promises.proofs.ByEvent.{Covers, ChangesNothing, covered, after_enabled, after_not_enabled}
+use Rattle.promises.proofs.Truth.{first_both, not_true, second_both}
+use Rattle.vss_model.proofs.ByEvent.{Covers, ChangesNothing, covered, after_enabled, after_not_enabled}
 use Rattle.promises.proofs.SameChoice.{same_course, same_choice, on_begun, on_agenda_begun, on_followed, on_failed_in, on_answered, on_ticked, on_stepped, on_write, on_revert}
 use Rattle.promises.proofs.Participants.{Follows, standing, asked_by, asked_are, follows_all}
 
@@ -85,34 +84,6 @@ module _ (s : Plan) (st : State) where
   stay_if false act r e f g = ap (λ (x : State). x.course.members) (after_not_enabled s st act e)
 
 -- ## a writer that is named is known, so its class is not disabled
-
-known_if : (b : Bool) (m : Meta) → is_some (meta_if b m) ≡ true → b ≡ true
-known_if true m e = refl
-known_if false m e = absurd cc
-
-known_at : (s : Plan) (st : State) (k : ℕ) (ps : List WriterPlan) (w : ℕ) → is_some (meta_at (slice_get (known_from s st k ps) w)) ≡ true → is_known s st (k + w) ≡ true
-known_at s st k [] zero e = absurd cc
-known_at s st k [] (suc w) e = absurd cc
-known_at s st k (p ∷ ps) zero e = ap (is_known s st) (plus k) ∙ known_if (is_known s st k) p.meta e
-  where
-    plus : (a : ℕ) → a + zero ≡ a
-    plus a = omega arith
-known_at s st k (p ∷ ps) (suc w) e = ap (is_known s st) (shift k w) ∙ known_at s st (k + 1) ps w e
-  where
-    shift : (a b : ℕ) → a + suc b ≡ (a + 1) + b
-    shift a b = omega arith
-
-selectable_known : (i : ℕ) (o : Option Meta) → is_selectable_of i o ≡ true → is_some o ≡ true
-selectable_known i None e = absurd cc
-selectable_known i (Some m) e = refl
-
-named_known : (ms : List (Option Meta)) (ps : List Pair) (w : ℕ) → list_all (names_selectable ms) ps ≡ true → list_any (λ (p : Pair). p.writer == w) ps ≡ true → is_some (meta_at (slice_get ms w)) ≡ true
-named_known ms [] w e f = absurd cc
-named_known ms (p ∷ ps) w e f = by_head (p.writer == w) refl f (named_known ms ps w (second_both (names_selectable ms p) (list_all (names_selectable ms) ps) e))
-  where
-    by_head : (b : Bool) → (p.writer == w) ≡ b → (b || list_any (λ (x : Pair). x.writer == w) ps) ≡ true → (list_any (λ (x : Pair). x.writer == w) ps ≡ true → is_some (meta_at (slice_get ms w)) ≡ true) → is_some (meta_at (slice_get ms w)) ≡ true
-    by_head true g h ih = subst (λ x. is_some (meta_at (slice_get ms x)) ≡ true) (equal p.writer w g) (selectable_known p.component (meta_at (slice_get ms p.writer)) (first_both (names_selectable ms p) (list_all (names_selectable ms) ps) e))
-    by_head false g h ih = ih h
 
 pub named_is_known : (s : Plan) (st : State) (w : ℕ) → AreOver (known_metas s st) st.explicit → list_any (λ (p : Pair). p.writer == w) st.explicit ≡ true → is_known s st w ≡ true
 named_is_known s st w over e =

@@ -41,10 +41,11 @@ use Rattle.promises.specs.Awaited.{failure_of, failure_in, set_failure}
 use Rattle.promises.specs.InOrder.{Step, ByBegin, ByGather, ByStart, ByPrepare, BySnapshot, ByComplete, ByFailure, Progress, line_brings, event_brings, lost_if, progress_after, progress_if, progress_from, progress, HasItsContext}
 use Rattle.promises.specs.Rows.{row_fails, set_fails}
 use Rattle.promises.proofs.Truth.{both_parts}
-use Rattle.promises.proofs.ByEvent.{Covers, ChangesNothing, covered, after_enabled, after_not_enabled}
+use Rattle.vss_model.proofs.ByEvent.{Covers, ChangesNothing, covered, after_enabled, after_not_enabled, some_same}
 use Rattle.promises.proofs.CalmCourses.{calm_begun}
 use Rattle.promises.proofs.SetFailures.{failure_at}
 use Rattle.promises.proofs.Turns.{Turn, quiet_turn, write_turn, revert_turn, begun_turn, answer_turn, tick_turn, step_turn, abort_turn, add_turn, none_started}
+use Rattle.vss_model.proofs.CutAppend.{append_nothing}
 
 -- ## where a session stands
 
@@ -86,16 +87,13 @@ set_so (Some r) x = row_so (row_of x r.number)
 context_is : (n : ℕ) (all : Bool) (c : Context) → context_of n all ≡ Some c → number_of c ≡ n
 context_is n all c e = by_number (context_of_number n) refl e
   where
-    same_context : (a b : Context) → Some a ≡ Some b → a ≡ b
-    same_context a b e = cc
-
     named : (b : Bool) (a : Context) → context_if b a ≡ Some c → a ≡ c
-    named true a e = same_context a c e
+    named true a e = some_same a c e
     named false a e = absurd cc
 
     by_mode : (b : Bool) (a : Context) → without_all b a ≡ Some c → a ≡ c
     by_mode true a e = named (has_writers a) a e
-    by_mode false a e = same_context a c e
+    by_mode false a e = some_same a c e
 
     by_number : (o : Option Context) → context_of_number n ≡ o → option_and_then (without_all all) o ≡ Some c → number_of c ≡ n
     by_number None f e = absurd cc
@@ -149,9 +147,6 @@ module _ (s : Plan) (so_far : List Act) (p : Progress) where
 
   abbrev pub Stands : State → Progress → Type 0
   Stands x q = (own : Session) → x.session ≡ Some own → StandsAt own (runs x) q
-
-  some_same : (a b : Session) → Some a ≡ Some b → a ≡ b
-  some_same a b e = cc
 
   come_failed : (b : Bool) (why : VssResult) (q : Session) → stage_to_come b (set_failed why q) ≡ Failed
   come_failed true why q = refl
@@ -278,11 +273,7 @@ stands_next s so_far act h =
     (stands_if s so_far (progress s so_far) h (enabled s (state s so_far) act.event) act refl))
 
 stands_from : (s : Plan) (so_far acts : List Act) → StandsSo s so_far → StandsSo s (so_far ++ acts)
-stands_from s so_far [] h = subst (StandsSo s) (sym (append_none so_far)) h
-  where
-    append_none : (xs : List Act) → xs ++ [] ≡ xs
-    append_none [] = refl
-    append_none (x ∷ xs) = ap (λ ys. x ∷ ys) (append_none xs)
+stands_from s so_far [] h = subst (StandsSo s) (sym (append_nothing so_far)) h
 stands_from s so_far (act ∷ acts) h = subst (StandsSo s) (regrouped so_far acts) (stands_from s (so_far ++ act ∷ []) acts (stands_next s so_far act h))
   where
     regrouped : (xs ys : List Act) → (xs ++ act ∷ []) ++ ys ≡ xs ++ act ∷ ys

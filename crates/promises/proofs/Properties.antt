@@ -14,15 +14,13 @@ use Rattle.vss_model.proofs.OneCut.{row_number}
 use Rattle.promises.specs.Properties.{TellsTheImage, PropertiesTell}
 use Rattle.promises.proofs.CutTimes.{cut_time}
 use Rattle.promises.proofs.Replies.{point_of, at_the_cut}
+use Rattle.vss_model.proofs.ByEvent.{some_same}
 
 -- ## the row of a kept image
 
 row_at : (r : SetRow) (o : Option ℕ) (k : Kept) → kept_at r o ≡ Some k → r ≡ k.row
 row_at r None k e = absurd cc
 row_at r (Some p) k e = ap (λ (x : Kept). x.row) (some_same (record { row = r; point = p }) k e)
-  where
-    some_same : (x y : Kept) → Some x ≡ Some y → x ≡ y
-    some_same x y e = cc
 
 row_if : (b : Bool) (r : SetRow) (o : Option ℕ) (k : Kept) → kept_if b r o ≡ Some k → r ≡ k.row
 row_if true r o k e = row_at r o k e
@@ -50,9 +48,6 @@ uses_some n ws (i ∷ newer) set p e = by_head (i.set == set) refl e (uses_some 
 
 time_of : (o : Option SetRow) (r : SetRow) (t : Option ℕ) → o ≡ Some r → option_map (λ (x : SetRow). x.cut_at) o ≡ Some t → r.cut_at ≡ t
 time_of o r t e f = some_same r.cut_at t (sym (ap (option_map (λ (x : SetRow). x.cut_at)) e) ∙ f)
-  where
-    some_same : (a b : Option ℕ) → Some a ≡ Some b → a ≡ b
-    some_same a b e = cc
 
 module _ (s : Plan) (so_far : List Act) (act : Act) (lane n v : ℕ) (e : act.event ≡ Line lane (op.Properties n v)) where
   abbrev st : State

@@ -26,13 +26,14 @@ use Rattle.vss_model.specs.Sessions.{begin_in, known_metas, named_as, component_
 use Rattle.vss_model.specs.Lines.{called}
 use Rattle.vss_model.specs.Acts.{Act, happens, state}
 use Rattle.vss_model.specs.Causes.{owns}
+use Rattle.vss_model.specs.Replies.{is_fine}
 use Rattle.promises.specs.Accepted.{is_ordered, is_accepted}
 use Rattle.promises.specs.InOrder.{ByBegin, ByGather, ByStart, BySnapshot, Progress, progress, is_step, asks_writers, comes_now}
-use Rattle.promises.specs.Participants.{is_fine}
 use Rattle.promises.specs.Refusing.{name_refusal_in, name_refusal, place_refusal, want_refusal, order_refusal, RefusesForCause}
 use Rattle.promises.proofs.Truth.{not_both}
 use Rattle.promises.proofs.Accepted.{allowed_in, same_stage, start_stage, either_stage, writers_asked, makes_its_set, line_reply}
 use Rattle.promises.proofs.Progress.{stage_of, StandsAt, stands_all}
+use Rattle.vss_model.proofs.Orderly.{true_not_false}
 
 -- ## what a call wants
 
@@ -260,15 +261,12 @@ module _ (s : Plan) (so_far : List Act) (lane : ℕ) where
   unfolding called
   beside_refused c o same start on waits fine e = by_session st.session refl
     where
-      both : (b : Bool) → b ≡ true → b ≡ false → ⊥
-      both b e f = cc
-
       by_parts : (own busy may : Bool) → is_fine (line_in s lane o st.session st).0 ≡ true
           → is_fine (judged (owner_only own (verdict_of false (busy && false) may false)) s lane o st).0 ≡ false
           → (judged (owner_only own (verdict_of false (busy && false) may false)) s lane o st).0 ≡ Coded BadState
       by_parts false busy may f g = refl
-      by_parts true true true f g = absurd (both (is_fine (line_in s lane o st.session st).0) f g)
-      by_parts true false true f g = absurd (both (is_fine (line_in s lane o st.session st).0) f g)
+      by_parts true true true f g = absurd (true_not_false (is_fine (line_in s lane o st.session st).0) f g)
+      by_parts true false true f g = absurd (true_not_false (is_fine (line_in s lane o st.session st).0) f g)
       by_parts true true false f g = refl
       by_parts true false false f g = refl
 

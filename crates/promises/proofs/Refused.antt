@@ -15,7 +15,7 @@ use Rattle.vss_model.specs.Images.{Replied, write, reverted_as}
 use Rattle.vss_model.specs.Sessions.{has_no_volume}
 use Rattle.vss_model.specs.Acts.{Act, enabled, order_of_writer, answer_reply, step_reply, reply, after, state}
 use Rattle.promises.specs.Refused.{leaves_all, RefusalsChangeNothing}
-use Rattle.promises.proofs.ByEvent.{Covers, covered, after_enabled, after_not_enabled}
+use Rattle.vss_model.proofs.ByEvent.{Covers, covered, after_enabled, after_not_enabled}
 
 module _ (s : Plan) (st : State) where
   abbrev Alone : Event → Mark → Replied → Type 0

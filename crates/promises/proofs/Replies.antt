@@ -16,20 +16,19 @@ use Rattle.vss_model.specs.Images.{image_block, image_blocks}
 use Rattle.vss_model.specs.Lines.{line}
 use Rattle.vss_model.specs.Acts.{Act, happens, reply, state}
 use Rattle.vss_model.specs.Headline.{ReadsAsAtTheCut}
-use Rattle.vss_model.proofs.Headline.{keeps_promises}
+use Rattle.vss_model.proofs.Headline.{reads_as_at_cut}
 use Rattle.promises.specs.Contents.{block_now}
 use Rattle.vss_model.proofs.OneCut.{images_in_time}
 use Rattle.promises.specs.Replies.{IsBelow, AreRising, TellsTheCut, RepliesTell}
 use Rattle.promises.proofs.Truth.{equal}
+use Rattle.promises.proofs.Participants.{off}
+use Rattle.vss_model.proofs.ByEvent.{some_same}
 
 -- ## the point of a kept image
 
 point_at : (r : SetRow) (o : Option ℕ) (k : Kept) → kept_at r o ≡ Some k → o ≡ Some k.point
 point_at r None k e = absurd cc
 point_at r (Some p) k e = ap (λ (x : Kept). Some x.point) (some_same (record { row = r; point = p }) k e)
-  where
-    some_same : (x y : Kept) → Some x ≡ Some y → x ≡ y
-    some_same x y e = cc
 
 point_if : (b : Bool) (r : SetRow) (o : Option ℕ) (k : Kept) → kept_if b r o ≡ Some k → o ≡ Some k.point
 point_if true r o k e = point_at r o k e
@@ -41,7 +40,7 @@ point_of (Some r) o k e = point_if (is_complete r.result) r o k e
 
 -- a kept image reads as the volume at the cut
 pub at_the_cut : (s : Plan) (so_far : List Act) (n v : ℕ) (k : Kept) → kept_image (state s so_far) n v ≡ Some k → ReadsAsAtTheCut s so_far n v k.point
-at_the_cut s so_far n v k e = (keeps_promises s so_far).images n v k.point (point_of (row_of (state s so_far) n) (point_in n (history_of (state s so_far) v).images) k e)
+at_the_cut s so_far n v k e = reads_as_at_cut s so_far n v k.point (point_of (row_of (state s so_far) n) (point_in n (history_of (state s so_far) v).images) k e)
 
 map_along : {X : Type 0} (f g : ℕ → X) → ((n : ℕ) → f n ≡ g n) → (ns : List ℕ) → map f ns ≡ map g ns
 map_along f g e [] = refl
@@ -66,11 +65,7 @@ rising_listed test most (i ∷ images) h = by_test (test i) (below_listed test i
     by_test false below ih = ih
 
 listed : (st : State) (n : ℕ) (images : List Image) → is_among n (sets_of (filter (λ i. is_kept_set st i.set) images)) ≡ (is_kept_set st n && is_some (point_in n images))
-listed st n [] = none (is_kept_set st n)
-  where
-    none : (b : Bool) → false ≡ (b && false)
-    none true = refl
-    none false = refl
+listed st n [] = off (is_kept_set st n)
 listed st n (i ∷ images) = by_head (i.set == n) (is_kept_set st i.set) (is_kept_set st n) refl refl refl (listed st n images)
   where
     among : (c : Bool) (rest : List ℕ) → (i.set == n) ≡ c → is_among n (i.set ∷ rest) ≡ (c || is_among n rest)

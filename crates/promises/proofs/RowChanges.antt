@@ -51,7 +51,7 @@ use Rattle.promises.specs.Rows.{row_fails, set_fails, row_said, at_rest, row_tol
 use Rattle.promises.proofs.Truth.{both_parts, equal, false_of, not_both, or_false}
 use Rattle.promises.proofs.CourseRows.{Becomes, as_it_is, and_told, same_rows, rows_map_are, rise_failed, stay_begun, say_to, refuses, comes_answered, Comes, stay_stepped, rise_stepped, lost_by, PassesOrFails, over_timed}
 use Rattle.promises.proofs.BusyAgendas.{IsBusy, busy_order, busy_step, busy_set, course_followed}
-use Rattle.promises.proofs.ByEvent.{Covers, ChangesNothing, covered, after_enabled}
+use Rattle.vss_model.proofs.ByEvent.{Covers, ChangesNothing, covered, after_enabled}
 use Rattle.promises.proofs.Failing.{fails_for_cause, same_consent, same_veto, refused_fails, falls, followed_sets, failed_fails, write_fails}
 use Rattle.promises.proofs.Limits.{timed_fails}
 use Rattle.promises.proofs.Times.{late_is_due}

@@ -1,6 +1,6 @@
 -- What keeps the choice of writers: answers, steps, ticks, failures and agendas change neither who takes part, nor which classes are
 -- disabled, nor what is named, nor whether the session takes all; and each writer keeps a row.
-use Rattle.std.proofs.Common.{◌≡◌, ◌∙◌, ℕ, ◌+◌, List, [], ◌∷◌, Option, Some, None, refl, Bool, true, false, ap, length, suc}
+use Rattle.std.proofs.Common.{◌≡◌, ◌∙◌, ℕ, ◌+◌, List, [], ◌∷◌, Option, Some, None, refl, Bool, true, false, ap, length}
 use Rattle.std.specs.Prelude.{◌&&◌, not, option_map}
 use Rattle.vss_names.specs.declared.order.Order.{Order}
 use Rattle.vss_names.specs.declared.vss_result.VssResult.{VssResult}
@@ -10,7 +10,6 @@ use Rattle.write_history.specs.declared.mark.Mark.TheVariants.{Clean, Fault, Fau
 use Rattle.write_history.specs.History.{Write}
 use Rattle.writer_state.specs.declared.said.Said.{Said}
 use Rattle.writer_state.specs.declared.said.Said.TheVariants.{Lost}
-use Rattle.writer_state.specs.declared.writer_row.WriterRow.{WriterRow}
 use Rattle.writer_state.specs.WriterState.{is_ok}
 use Rattle.writer_state.specs.WriterRow.{row_after, row_aborted}
 use Rattle.set_agenda.specs.declared.group.Group.{Group}
@@ -21,7 +20,7 @@ use Rattle.set_agenda.specs.declared.limit.Limit.TheVariants.{Hold as HoldLimit,
 use Rattle.set_agenda.specs.declared.member.Member.{Member}
 use Rattle.set_agenda.specs.Agenda.{Agenda, is_among, is_done, groups_left, left, open_group, open_order, order_now, waits_now}
 use Rattle.set_agenda.specs.Limits.{Running as RunningLimit, spent_of}
-use Rattle.set_agenda.specs.Course.{Course, rows_where, is_member, posted, failed as course_failed, settled_if, settled_in, settled, begun, is_decisive, told, decided, answered_to, answered as course_answered, worked, stepped_as as course_stepped_as, stepped as course_stepped, limits_now, lost_to, fails_set, lost_decided, treated_as, treated, timed as course_timed}
+use Rattle.set_agenda.specs.Course.{Course, is_member, posted, failed as course_failed, settled_if, settled_in, settled, begun, is_decisive, told, decided, answered_to, answered as course_answered, worked, stepped_as as course_stepped_as, stepped as course_stepped, limits_now, lost_to, fails_set, lost_decided, treated_as, treated, timed as course_timed}
 use Rattle.requestor.specs.declared.mode.Mode.{Mode}
 use Rattle.requestor.specs.Session.{Session, agenda_ended, set_failed}
 use Rattle.scenario.specs.Plan.{Plan}
@@ -29,6 +28,7 @@ use Rattle.vss_model.specs.State.{State, SetRow, Kept, in_progress, left_now}
 use Rattle.vss_model.specs.Ending.{Ending, NothingEnds, AgendaEnds, SetFails, ending, concluded, followed, runs, failed_in}
 use Rattle.vss_model.specs.Images.{cleared, set_loses_image, with_room_if, put, write, reverted_as}
 use Rattle.vss_model.specs.Steps.{answered, cut_set, step_made, is_flush, is_failed_step, stepped_as, stepped, ticked, later}
+use Rattle.vss_model.proofs.FewTurns.{length-rows_where}
 
 -- ## the course
 
@@ -42,10 +42,6 @@ course_then c d e h g = record { disabled = g.disabled ∙ h.disabled; members =
 
 pub same_course : (c : Course) → SameCourse c c
 same_course c = record { disabled = refl; members = refl; rows = refl }
-
-length-rows_where : (f : WriterRow → WriterRow) (test : ℕ → Bool) (w : ℕ) (rows : List WriterRow) → length (rows_where f test w rows) ≡ length rows
-length-rows_where f test w [] = refl
-length-rows_where f test w (r ∷ rs) = ap suc (length-rows_where f test (w + 1) rs)
 
 on_failed : (why : VssResult) (c : Course) → SameCourse c (course_failed why c)
 unfolding course_failed

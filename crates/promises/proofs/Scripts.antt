@@ -48,10 +48,13 @@ use Rattle.promises.specs.Scripted.{is_owed, is_asked_anew, asked_from, times_as
 use Rattle.promises.specs.Way.{Deed}
 use Rattle.promises.proofs.Truth.{both_are, both_parts, equal, left_part, not_itself, right_part, same_number}
 use Rattle.promises.proofs.BusyAgendas.{course_followed}
-use Rattle.promises.proofs.ByEvent.{Covers, covered, after_enabled, after_not_enabled}
+use Rattle.vss_model.proofs.ByEvent.{Covers, covered, after_enabled, after_not_enabled}
 use Rattle.promises.proofs.Heard.{same_group}
 use Rattle.promises.proofs.Speaks.{Grows, grows_answered, grows_stepped, grows_timed}
 use Rattle.promises.proofs.Stages.{failed_stays, closed_stays, grown, new_log}
+use Rattle.vss_model.proofs.CutAppend.{append_nothing}
+use Rattle.set_agenda.proofs.WriterSets.{and-false}
+use Rattle.vss_model.proofs.Rows.{none_runs}
 
 -- ## who waits at a place does not begin to wait there
 
@@ -185,11 +188,7 @@ module _ (w : ℕ) (o : Order) where
     where
       by_among : (b c : Bool) → (same_order x o && b) ≡ (is_owed o (order_if b (Some x)) && true)
       by_among true c = refl
-      by_among false c = off (same_order x o)
-        where
-          off : (d : Bool) → (d && false) ≡ false
-          off true = refl
-          off false = refl
+      by_among false c = and-false (same_order x o)
   new_group gs PreCommit ws = no_group gs
   new_group gs Flush ws = no_group gs
   new_group gs Hold ws = no_group gs
@@ -377,10 +376,6 @@ module _ (w : ℕ) (o : Order) where
 
 -- ## every act
 
-not_running : (x : Option Agenda) → is_some x ≡ false → x ≡ None
-not_running None e = refl
-not_running (Some a) e = absurd cc
-
 failed_agenda : (why : VssResult) (c : Course) → (course_failed why c).agenda ≡ None
 unfolding course_failed
 failed_agenda why c = refl
@@ -455,7 +450,7 @@ module _ (s : Plan) (w : ℕ) (o : Order) (st : State) where
 
   begins : (k : Kind) (ms : List Member) (vs : List ℕ) (c : Course) → runs st ≡ false → c.agenda ≡ st.course.agenda → c.opened ≡ st.course.opened
       → To (followed true (begun k ms vs st.clock c) st).course
-  begins k ms vs c e f g = on_followed true (begun k ms vs st.clock c) st (asks_begun w o k ms vs st.clock st.course c (not_running st.course.agenda e) (f ∙ not_running st.course.agenda e) g)
+  begins k ms vs c e f g = on_followed true (begun k ms vs st.clock c) st (asks_begun w o k ms vs st.clock st.course c (none_runs st.course.agenda e) (f ∙ none_runs st.course.agenda e) g)
 
   either : (b : Bool) (x y : Replied) → To x.1.course → To y.1.course → To (if b then x else y).1.course
   either true x y h i = h
@@ -526,11 +521,7 @@ module _ (s : Plan) (before : List Move) (m : Move) (w : ℕ) (e : m.actor ≡ W
       ∙ ap (λ a. acts s before ++ acts_if (answer_event w a) m.mark) (ap (scripted_answer (script_of s w) o) (sym (asked_is s w o (start s) 0 (acts s before) refl)) ∙ written_is (script_of s w) o (times_asked s w o (acts s before)))
 
   own_silence : order_of_writer st w ≡ None → acts s (before ++ m ∷ []) ≡ acts s before
-  own_silence f = own_event ∙ ap (λ x. acts s before ++ acts_if (script_event s st w x) m.mark) f ∙ append_none (acts s before)
-    where
-      append_none : (xs : List Act) → xs ++ [] ≡ xs
-      append_none [] = refl
-      append_none (x ∷ xs) = ap (λ ys. x ∷ ys) (append_none xs)
+  own_silence f = own_event ∙ ap (λ x. acts s before ++ acts_if (script_event s st w x) m.mark) f ∙ append_nothing (acts s before)
 
 pub answers_by_script : (s : Plan) (trail : List Move) → AnswersByScript s trail
 answers_by_script s trail = record { says = λ before rest m w o e f g. own_script s before m w f o g; silent = λ before rest m w e f g. own_silence s before m w f g }

@@ -30,7 +30,9 @@ use Rattle.vss_model.proofs.OrderlyActs.{orderly}
 use Rattle.vss_model.proofs.Rows.{found_above}
 use Rattle.promises.specs.Ends.{IsLaterRow, HasLaterRow, KeepsRows}
 use Rattle.promises.proofs.Truth.{equal, left_part}
-use Rattle.promises.proofs.ByEvent.{Covers, covered, after_enabled, after_not_enabled}
+use Rattle.vss_model.proofs.ByEvent.{Covers, covered, after_enabled, after_not_enabled, some_same}
+use Rattle.vss_model.proofs.CutAppend.{append_nothing}
+use Rattle.promises.proofs.Members.{still_less}
 
 -- ## one row
 
@@ -93,9 +95,6 @@ go_on_found n [] qs r X h e f = absurd cc
 go_on_found n (x ∷ rs) [] r X h e f = absurd h
 go_on_found n (x ∷ rs) (y ∷ qs) r X h e f = by_head (x.number == n) (y.number == n) (ap (λ k. k == n) h.0.number) e f (go_on_found n rs qs r X h.1)
   where
-    some_same : (a b : SetRow) → Some a ≡ Some b → a ≡ b
-    some_same a b e = cc
-
     by_head : (b c : Bool) → c ≡ b → (if b then Some x else find (λ (z : SetRow). z.number == n) rs) ≡ Some r
         → ((q : SetRow) → (if c then Some y else find (λ (z : SetRow). z.number == n) qs) ≡ Some q → IsLaterRow r q → X)
         → (find (λ (z : SetRow). z.number == n) rs ≡ Some r → ((q : SetRow) → find (λ (z : SetRow). z.number == n) qs ≡ Some q → IsLaterRow r q → X) → X) → X
@@ -108,13 +107,10 @@ go_on_found n (x ∷ rs) (y ∷ qs) r X h e f = by_head (x.number == n) (y.numbe
 
 unchanged : (k n : ℕ) (f : SetRow → SetRow) (rows : List SetRow) → NumberedFrom k rows → n < k → GoOn rows (map (row_changed n f) rows)
 unchanged k n f [] num l = tt
-unchanged k n f (r ∷ rows) num l = (by_case (r.number == n) (differs r.number k n num.0 l), unchanged (k + 1) n f rows num.1 (next k n l))
+unchanged k n f (r ∷ rows) num l = (by_case (r.number == n) (differs r.number k n num.0 l), unchanged (k + 1) n f rows num.1 (still_less k n l))
   where
     differs : (a k n : ℕ) → a ≡ k → n < k → (a == n) ≡ false
     differs a k n e l = grind arith
-
-    next : (k n : ℕ) → n < k → n < k + 1
-    next k n l = omega arith
 
     by_case : (b : Bool) → b ≡ false → IsLaterRow r (if b then f r else r)
     by_case true e = absurd cc
@@ -125,9 +121,6 @@ pub changed_in_progress : (k : ℕ) (f : SetRow → SetRow) (rows : List SetRow)
 changed_in_progress k f [] r num e h = tt
 changed_in_progress k f (q ∷ rows) r num e h = by_head (is_running q.result) refl e (changed_in_progress (k + 1) f rows r num.1) (found_above (k + 1) rows r num.1)
   where
-    some_same : (a b : SetRow) → Some a ≡ Some b → a ≡ b
-    some_same a b e = cc
-
     below_next : (a k n : ℕ) → a ≡ k → a ≡ n → n < k + 1
     below_next a k n e f = omega (arith, e, f)
 
@@ -262,9 +255,6 @@ own_number : (rows : List SetRow) (n : ℕ) (r : SetRow) → find (λ (x : SetRo
 own_number [] n r e = absurd cc
 own_number (q ∷ rows) n r e = by_head (q.number == n) refl e (own_number rows n r)
   where
-    some_same : (a b : SetRow) → Some a ≡ Some b → a ≡ b
-    some_same a b e = cc
-
     by_head : (b : Bool) → (q.number == n) ≡ b → (if b then Some q else find (λ (x : SetRow). x.number == n) rows) ≡ Some r → (find (λ (x : SetRow). x.number == n) rows ≡ Some r → r.number ≡ n) → r.number ≡ n
     by_head true f e ih = subst (λ (x : SetRow). x.number ≡ n) (some_same q r e) (equal q.number n f)
     by_head false f e ih = ih e
@@ -280,10 +270,6 @@ keeps_rows s so_far act n r e = later_row (state s so_far).sets (after s (state 
 -- over more acts
 pub go_on_from : (s : Plan) (so_far rest : List Act) → GoOn (state s so_far).sets (state s (so_far ++ rest)).sets
 go_on_from s so_far [] = subst (λ acts. GoOn (state s so_far).sets (state s acts).sets) (sym (append_nothing so_far)) (go_on_same (state s so_far).sets)
-  where
-    append_nothing : (xs : List Act) → xs ++ [] ≡ xs
-    append_nothing [] = refl
-    append_nothing (x ∷ xs) = ap (λ ys. x ∷ ys) (append_nothing xs)
 go_on_from s so_far (act ∷ rest) =
     let next : GoOn (state s so_far).sets (state s (so_far ++ act ∷ [])).sets =
     subst (λ (x : State). GoOn (state s so_far).sets x.sets) (sym (state-append s so_far act)) (go_on_after s (state s so_far) (orderly s so_far).numbered act) in

@@ -29,7 +29,9 @@ use Rattle.vss_model.proofs.Appending.{state-append}
 use Rattle.vss_model.proofs.OrderlyActs.{orderly}
 use Rattle.vss_model.proofs.Rows.{row_running}
 use Rattle.promises.specs.Sets.{VolumesAreDistinct}
-use Rattle.promises.proofs.ByEvent.{Covers, covered, after_enabled, after_not_enabled}
+use Rattle.vss_model.proofs.ByEvent.{Covers, covered, after_enabled, after_not_enabled, some_same}
+use Rattle.vss_model.proofs.Orderly.{other_way}
+use Rattle.promises.proofs.Members.{still_less}
 
 abbrev AllDistinct : List SetRow → Type 0
 AllDistinct [] = Unit {0}
@@ -47,9 +49,6 @@ distinct_found : (n : ℕ) (rows : List SetRow) (r : SetRow) → AllDistinct row
 distinct_found n [] r h e = absurd cc
 distinct_found n (q ∷ rows) r h e = by_head (q.number == n) e (distinct_found n rows r h.1)
   where
-    some_same : (a b : SetRow) → Some a ≡ Some b → a ≡ b
-    some_same a b e = cc
-
     by_head : (b : Bool) → (if b then Some q else find (λ (x : SetRow). x.number == n) rows) ≡ Some r → (find (λ (x : SetRow). x.number == n) rows ≡ Some r → are_distinct r.volumes ≡ true) → are_distinct r.volumes ≡ true
     by_head true f ih = subst (λ (x : SetRow). are_distinct x.volumes ≡ true) (some_same q r f) h.0
     by_head false f ih = ih f
@@ -60,9 +59,6 @@ distinct_more : (v : ℕ) (xs : List ℕ) → is_among v xs ≡ false → are_di
 distinct_more v [] e f = refl
 distinct_more v (x ∷ xs) e f = by_parts (x == v) (is_among x xs) refl e f (distinct_more v xs)
   where
-    other_way : (a b : ℕ) → (a == b) ≡ false → (b == a) ≡ false
-    other_way a b e = grind arith
-
     none : (a b : Bool) → a ≡ false → b ≡ false → (a || (b || false)) ≡ false
     none true b e f = absurd cc
     none false true e f = absurd cc
@@ -90,21 +86,15 @@ changed_volumes false f r e = refl
 none_changed : (k n : ℕ) (f : SetRow → SetRow) (rows : List SetRow) → NumberedFrom k rows → n < k → AllDistinct rows → AllDistinct (map (row_changed n f) rows)
 none_changed k n f [] num l h = tt
 none_changed k n f (r ∷ rows) num l h =
-    (ap are_distinct (changed_volumes (r.number == n) f r (differs r.number k n num.0 l)) ∙ h.0, none_changed (k + 1) n f rows num.1 (next k n l) h.1)
+    (ap are_distinct (changed_volumes (r.number == n) f r (differs r.number k n num.0 l)) ∙ h.0, none_changed (k + 1) n f rows num.1 (still_less k n l) h.1)
   where
     differs : (a k n : ℕ) → a ≡ k → n < k → (a == n) ≡ false
     differs a k n e l = grind arith
-
-    next : (k n : ℕ) → n < k → n < k + 1
-    next k n l = omega arith
 
 added : (k : ℕ) (rows : List SetRow) (r : SetRow) (v : ℕ) → NumberedFrom k rows → find (λ (q : SetRow). q.number == r.number) rows ≡ Some r → is_among v r.volumes ≡ false → AllDistinct rows → AllDistinct (map (row_changed r.number (with_volume v)) rows)
 added k [] r v num e f h = tt
 added k (q ∷ rows) r v num e f h = by_head (q.number == r.number) refl e (added (k + 1) rows r v num.1)
   where
-    some_same : (a b : SetRow) → Some a ≡ Some b → a ≡ b
-    some_same a b e = cc
-
     equal_next : (a k n : ℕ) → a ≡ k → (a == n) ≡ true → n < k + 1
     equal_next a k n e f = grind arith
 

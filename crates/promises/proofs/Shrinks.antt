@@ -1,5 +1,5 @@
 -- Volumes with fewer images use no more slots, and no write needs a slot there that needed none before.
-use Rattle.std.proofs.Common.{◌≡◌, ◌∙◌, ℕ, ◌+◌, ◌==◌, ◌≤◌, zero, suc, List, [], ◌∷◌, Option, Some, None, refl, Bool, true, false, ap, sym, subst, map, filter, length}
+use Rattle.std.proofs.Common.{◌≡◌, ◌∙◌, ℕ, ◌+◌, ◌==◌, ◌≤◌, zero, suc, List, [], ◌∷◌, Option, Some, None, refl, Bool, true, false, sym, subst, map, filter, length}
 use Rattle.std.specs.Prelude.{not, nat_lt}
 use Rattle.vss_names.specs.declared.context.Context.{Context}
 use Rattle.vss_names.specs.declared.context.Context.TheVariants.{Backup, AppRollback, NasRollback}
@@ -11,7 +11,7 @@ use Rattle.vss_model.specs.State.{SetRow}
 use Rattle.vss_model.specs.Ending.{images_dropped}
 use Rattle.vss_model.specs.Sessions.{images_released}
 use Rattle.vss_model.specs.Steps.{cut_if, cut_each}
-use Rattle.vss_model.proofs.Volumes.{at, Each, each_map, each_change, each_gone, as_many_map, as_many_change, as_many_gone}
+use Rattle.vss_model.proofs.Volumes.{at, Each, each_map, each_change, each_gone, as_many_map, as_many_change, as_many_gone, as_many_cut}
 use Rattle.promises.proofs.Truth.{chain, no_less}
 use Rattle.promises.proofs.Used.{Rising, rising_fewer, rising_cut, fewer_used, fewer_need, cut_used}
 
@@ -119,10 +119,6 @@ each_uses : (m : ℕ) (vs : List ℕ) (u : ℕ) (hs : List History) (v n : ℕ) 
 each_uses m vs u [] v n = no_less (used_in n (at [] v))
 each_uses m vs u (h ∷ hs) zero n = cut_uses m n (is_among u vs) h
 each_uses m vs u (h ∷ hs) (suc v) n = each_uses m vs (u + 1) hs v n
-
-as_many_cut : (m : ℕ) (vs : List ℕ) (u : ℕ) (hs : List History) → length (cut_each m vs u hs) ≡ length hs
-as_many_cut m vs u [] = refl
-as_many_cut m vs u (h ∷ hs) = ap (λ k. suc k) (as_many_cut m vs (u + 1) hs)
 
 pub uses_cut : (m : ℕ) (vs : List ℕ) (u : ℕ) (hs : List History) → UsesNoMore hs (cut_each m vs u hs)
 uses_cut m vs u hs = record { in_time = each_cut m vs u hs; uses = λ v n t. each_uses m vs u hs v n; as_many = as_many_cut m vs u hs }

@@ -33,10 +33,11 @@ use Rattle.vss_model.proofs.Volumes.{at, as_many_change}
 use Rattle.promises.specs.Gone.{within}
 use Rattle.promises.specs.Slots.{SlotsSuffice}
 use Rattle.promises.proofs.Truth.{chain, equal, same_number}
-use Rattle.promises.proofs.ByEvent.{Covers, covered, after_enabled, after_not_enabled}
+use Rattle.vss_model.proofs.ByEvent.{Covers, covered, after_enabled, after_not_enabled}
 use Rattle.promises.proofs.GroupUsed.{group_less, group_other, group_more, changed_uses, enough_goes, one_left}
 use Rattle.promises.proofs.Shrinks.{InTime, used_in, LessIn, less_in_same, less_in_over, less_in_map, less_in_change, less_in_gone, less_images_dropped, less_released, UsesNoMore, uses_less, uses_over, uses_cut}
 use Rattle.promises.proofs.Used.{rising, one_if, written_used, reverted_used, restored_used}
+use Rattle.promises.proofs.Orders.{smaller}
 
 -- ## the groups of a plan
 
@@ -105,10 +106,7 @@ module _ (s : Plan) (plan : IsPlan s) (st : State) (time : (v : ℕ) → AreInTi
           let less = less_room b roomy in
           let before = (less.each v ((less_roomy.each v (in_time v)).in_time)).needs w.block n in
           let one = one_left (slots_of s v) (group_of s v) v w.block roomy.volumes (enough_goes (length st.sets) (slots_of s v) (group_of s v) v w.block st.volumes e (up v)) (by_less roomy.volumes less_roomy v) before in
-          under _ _ _ (group_less (group_of s v) roomy.volumes (with_room_if b roomy).volumes (λ x m. (less.each x ((less_roomy.each x (in_time x)).in_time)).uses m) less.as_many) one
-        where
-          under : (a b c : ℕ) → a ≤ b → b < c → a < c
-          under a b c l h = omega arith
+          smaller _ _ _ (group_less (group_of s v) roomy.volumes (with_room_if b roomy).volumes (λ x m. (less.each x ((less_roomy.each x (in_time x)).in_time)).uses m) less.as_many) one
 
       less_all : (b : Bool) → LessIn st.volumes (with_room_if b roomy).volumes
       less_all b = less_in_over st.volumes roomy.volumes (with_room_if b roomy).volumes less_roomy (less_room b roomy)

@@ -1,7 +1,7 @@
 -- What a call does to a running agenda, with the deeds that it tells: the agenda stops and the set fails; or it rests, and nothing
 -- is told; or one member that is waited for, or all of them, say the same at the open place, and that is told.
-use Rattle.std.proofs.Common.{◌≡◌, ◌∙◌, ℕ, ◌==◌, List, [], ◌∷◌, ◌⊎◌, Option, Some, None, refl, Bool, true, false, ap, sym, subst, inl, inr, map, arith}
-use Rattle.std.specs.Prelude.{option_map, ◌&&◌, ◌||◌, not}
+use Rattle.std.proofs.Common.{◌≡◌, ◌∙◌, ℕ, List, [], ◌∷◌, ◌⊎◌, Option, Some, None, refl, Bool, true, false, ap, sym, subst, inl, inr, map}
+use Rattle.std.specs.Prelude.{option_map, ◌&&◌, not}
 use Rattle.vss_names.specs.declared.order.Order.{Order}
 use Rattle.vss_names.specs.declared.set_outcome.SetOutcome.{SetOutcome}
 use Rattle.vss_names.specs.declared.vss_result.VssResult.{VssResult}
@@ -17,8 +17,9 @@ use Rattle.set_agenda.specs.Agenda.{Agenda, Entry, Open, order_of, is_orders, is
 use Rattle.set_agenda.specs.Limits.{Running as RunningLimit, running_limits, spent_of}
 use Rattle.set_agenda.specs.Course.{Course, posted, outcome_after, failed as course_failed, settled_if, settled_in, settled, is_decisive, told, decided, answered_to, answered as course_answered, worked, stepped_as as course_stepped_as, stepped as course_stepped, freeze_limit, limits_now, lost_at, lost_to, lost, fails_set, lost_decided, treated_as, treated, timed as course_timed}
 use Rattle.vss_model.specs.Effects.{lost_order_if}
-use Rattle.vss_model.proofs.CourseCalls.{Settles, Stops, asked_if, asked_waits}
+use Rattle.vss_model.proofs.CourseCalls.{Settles, Stops, asked_if, asked_waits, first_among, not_ok_of_ok}
 use Rattle.promises.specs.Way.{Deed, Spoke, Made, deeds_lost}
+use Rattle.set_agenda.proofs.CourseRule.{now_if}
 
 -- ## deeds in a log
 
@@ -124,10 +125,6 @@ pub now_group : (os : List Open) (o : Order) → order_now os ≡ Some o → (op
 now_group [] o e = absurd cc
 now_group (x ∷ os) o e = group_of_order x.place.group o e
 
-open_now : (b : Bool) (x : Option Order) (o : Order) → order_if b x ≡ Some o → x ≡ Some o
-open_now true x o e = e
-open_now false x o e = absurd cc
-
 mild_at : (g : Group) (o : Order) (said : Said) → g ≡ Orders o → (is_decisive o && not (is_ok said)) ≡ false → (fails_set (order_of g) && not (is_ok said)) ≡ false
 mild_at g o said e f = ap (λ x. fails_set (order_of x) && not (is_ok said)) e ∙ f
 
@@ -148,7 +145,7 @@ grows_decided : (fails : Bool) (w : ℕ) (o : Order) (said : Said) (now : ℕ) (
 grows_decided true w o said now a c e f g = grows_failed a c.outcome _ (told o said now (w ∷ []) c) _
 grows_decided false w o said now a c e f g =
     let os = groups_left a in
-    let group = now_group os o (open_now (is_asked w os) (order_now os) o f) in
+    let group = now_group os o (now_if (is_asked w os) (order_now os) o f) in
     says_told o said now (w ∷ []) _ a c e (inl (record { one = w; is = refl; waits = (asked_waits os w (asked_if (is_asked w os) (order_now os) o f)).1 }))
     (mild_at (open_place os).group o said group g) (one_spoke (open_place os).group o w said now group)
 
@@ -166,12 +163,6 @@ grows_answered w o said now c e =
 
 -- ## a step
 
-first_among : (w : ℕ) (ws : List ℕ) → is_among w (w ∷ ws) ≡ true
-first_among w ws = own w (is_among w ws)
-  where
-    own : (a : ℕ) (b : Bool) → ((a == a) || b) ≡ true
-    own a b = grind arith
-
 pub head_waits : (a : Agenda) (ps : List Place) → is_working (left_from a ps) ≡ true → is_among (next_member (left_from a ps)) (waits_now (left_from a ps)) ≡ true
 head_waits a [] e = absurd cc
 head_waits a (p ∷ ps) e = at_group p (waited_for a p) (left_from a ps) (head_waits a ps) e
@@ -180,10 +171,6 @@ head_waits a (p ∷ ps) e = at_group p (waited_for a p) (left_from a ps) (head_w
         → is_among (next_member (with_group p ws later)) (waits_now (with_group p ws later)) ≡ true
     at_group p [] later ih e = ih e
     at_group p (w ∷ ws) later ih e = first_among w ws
-
-not_ok_of_ok : (b : Bool) → (b && not true) ≡ false
-not_ok_of_ok true = refl
-not_ok_of_ok false = refl
 
 abbrev pub made_now : List Open → ℕ → Option Group → List Deed
 made_now os now None = []

@@ -30,6 +30,7 @@ use Rattle.promises.proofs.Heard.{Good, said_deed}
 use Rattle.promises.proofs.Progress.{StandsAt, stands_all}
 use Rattle.promises.proofs.Speaks.{deed_at, deed_in}
 use Rattle.promises.proofs.Whole.{good_along}
+use Rattle.vss_model.proofs.Rows.{kind_is}
 
 -- ## the agenda that runs is the one of `snapshot`
 
@@ -100,10 +101,6 @@ step_told : (s : Plan) (a : Agenda) (g : Group) (v : ℕ) → ((said : Said) (no
 step_told s a g v own h = both_ways (has_said a.log (plain g) v) (made g (Some v) (map deed_in a.log)) (said_deed a.log (plain g) v (is_made g (Some v)) own) (λ e. h.logged g (Some v) e)
 
 -- ## every state
-
-kind_is : (k : Kind) → is_snapshot k ≡ true → k ≡ Snapshot
-kind_is Snapshot e = refl
-kind_is k e = absurd cc
 
 -- of a running snapshot agenda, by its log; nothing of another one
 held_in : (s : Plan) (ds : List Deed) (v : ℕ) (a : Agenda) (b : Bool) → is_snapshot a.kind ≡ b → (a.kind ≡ Snapshot → (map deed_in a.log ≡ ds) × Good s a)

@@ -9,6 +9,7 @@ use Rattle.write_history.specs.History.{Write, Image, point_in, up_to_set, AreLa
 use Rattle.write_history.specs.Slots.{writes_since, used, needs_slot}
 use Rattle.promises.proofs.Truth.{chain, no_less, not_both, not_true}
 use Rattle.promises.proofs.Named.{NameNoMore, either, named_no_more, named_in_parts, named_by_none, named_by_one, inner_no_more, later_no_more, since_later, inner_append, restored_no_more}
+use Rattle.vss_model.proofs.ByEvent.{some_same}
 
 -- ## points that rise
 
@@ -209,9 +210,6 @@ pub rising_up_to : (m p most from : ℕ) (images : List Image) → Rising from m
 rising_up_to m p most from [] h t e = absurd cc
 rising_up_to m p most from (i ∷ images) h t e = by_test (i.set == m) (not (nat_lt m i.set)) refl refl e (rising_up_to m p most i.point images h.1 t.2)
   where
-    some_same : (a b : ℕ) → Some a ≡ Some b → a ≡ b
-    some_same a b e = cc
-
     none_later : (js : List Image) → AreLater i js → (i.set == m) ≡ true → up_to_set m js ≡ []
     none_later [] l f = refl
     none_later (j ∷ js) l f = by_less (not (nat_lt m j.set)) (past i.set m j.set f l.0) (none_later js l.2 f)
@@ -243,9 +241,6 @@ point_most : (m p most : ℕ) (images : List Image) → AreInTime most images �
 point_most m p most [] t e = absurd cc
 point_most m p most (i ∷ images) t e = by_test (i.set == m) e (point_most m p most images t.2)
   where
-    some_same : (a b : ℕ) → Some a ≡ Some b → a ≡ b
-    some_same a b e = cc
-
     by_test : (b : Bool) → (if b then Some i.point else point_in m images) ≡ Some p → (point_in m images ≡ Some p → p ≤ most) → p ≤ most
     by_test true f ih = subst (λ q. q ≤ most) (some_same i.point p f) t.0
     by_test false f ih = ih f

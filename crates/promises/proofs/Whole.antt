@@ -1,6 +1,6 @@
 -- A set that completes has come the whole way: what its agenda's log keeps in order, and that nothing of it is left out.
-use Rattle.std.proofs.Common.{◌≡◌, ◌∙◌, ℕ, ◌==◌, ◌≤◌, List, [], ◌∷◌, ◌++◌, ◌⊎◌, Option, Some, None, refl, Bool, true, false, ap, sym, subst, inl, inr, map, filter, arith}
-use Rattle.std.specs.Prelude.{◌&&◌, ◌||◌, not, is_some, if◌then◌else◌}
+use Rattle.std.proofs.Common.{◌≡◌, ◌∙◌, ℕ, ◌==◌, ◌≤◌, List, [], ◌∷◌, ◌++◌, ◌⊎◌, Option, Some, None, refl, Bool, true, false, ap, sym, subst, inl, inr, map, arith}
+use Rattle.std.specs.Prelude.{◌&&◌, ◌||◌, not, is_some}
 use Rattle.std.specs.List.{list_any}
 use Rattle.std.proofs.lemmas.List.Folds.{list_any-append}
 use Rattle.vss_names.specs.declared.order.Order.{Order}
@@ -30,6 +30,7 @@ use Rattle.promises.proofs.Stages.{deeds_in, either_true, deeds_append, any_more
 use Rattle.promises.proofs.Heard.{said_all, said_deed, place_of, volume_number, Good, good_unspoken, steps_plain, open_plain, passes, unsaid, order_member, heard_writer, made_volume, alone, is_step}
 use Rattle.promises.proofs.Once.{once_one, Apart, once_spoken, waits_apart, none_given, open_unleveled, level_some, is_order_place}
 use Rattle.promises.proofs.Orders.{agreed_at, post_group, heard_group, heard_agreed, all_among, heard_at, prepare_heard, freeze_heard, thaw_heard, of_group_level, levels_given, open_leveled}
+use Rattle.promises.proofs.Scripts.{kept_among}
 
 -- ## one more is said
 
@@ -248,16 +249,6 @@ module _ (s : Plan) (said : Said) (now : ℕ) (ws : List ℕ) (a : Agenda) (k : 
         told_after = thawed_first;
       }
 
-among_kept : (test : ℕ → Bool) (x : ℕ) (xs : List ℕ) → test x ≡ true → is_among x xs ≡ true → is_among x (filter test xs) ≡ true
-among_kept test x [] e f = absurd cc
-among_kept test x (y ∷ xs) e f = by_head (test y) (y == x) refl refl f (among_kept test x xs e)
-  where
-    by_head : (b c : Bool) → test y ≡ b → (y == x) ≡ c → (c || is_among x xs) ≡ true → (is_among x xs ≡ true → is_among x (filter test xs) ≡ true) → is_among x (if b then y ∷ filter test xs else filter test xs) ≡ true
-    by_head true true g h f ih = left_part (y == x) _ h
-    by_head true false g h f ih = right_part (y == x) _ (ih f)
-    by_head false true g h f ih = absurd (true_not_false (test y) (subst (λ z. test z ≡ true) (sym (equal y x h)) e) g)
-    by_head false false g h f ih = ih f
-
 same_failed : (log : List Entry) (w : ℕ) → has_failed log w ≡ failed w (map deed_in log)
 same_failed [] w = refl
 same_failed (x ∷ log) w = at_group x.place.group x.said x.who x.time ∙ ap (λ b. is_failure w (deed_in x) || b) (same_failed log w)
@@ -274,7 +265,7 @@ same_failed (x ∷ log) w = at_group x.place.group x.said x.who x.time ∙ ap (�
 
 post_heard : (a : Agenda) → Closed a 15 (places Snapshot) → (w : ℕ) → is_member a.members w ≡ true → failed w (deeds_in a) ≡ false → heard PostSnapshot w (deeds_in a) ≡ true
 post_heard a c w e f =
-    heard_at a PostSnapshot None w (among_kept (λ x. not (has_failed a.log x)) w (writers_at a.members None) (ap not (same_failed a.log w ∙ f)) (all_among a.members w e)) (c.1.1.1.1.1.1.1.1.1.1.1.1.1.1.0 (omega arith))
+    heard_at a PostSnapshot None w (kept_among (λ x. not (has_failed a.log x)) w (writers_at a.members None) (ap not (same_failed a.log w ∙ f)) (all_among a.members w e)) (c.1.1.1.1.1.1.1.1.1.1.1.1.1.1.0 (omega arith))
 
 pub good_along : (s : Plan) → IsKeptAlong (Good s)
 good_along s = record { begins = good_unspoken s; says = λ said now ws a k who mild g. says_good s said now ws a k who mild g }

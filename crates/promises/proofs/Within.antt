@@ -37,7 +37,7 @@ use Rattle.vss_model.proofs.CourseCalls.{asked_if, asked_waits}
 use Rattle.vss_model.proofs.LogRule.{Running, unspoken}
 use Rattle.promises.specs.Within.{StandsWithinLimits}
 use Rattle.promises.proofs.Truth.{false_of}
-use Rattle.promises.proofs.ByEvent.{Covers, covered, after_enabled, after_not_enabled}
+use Rattle.vss_model.proofs.ByEvent.{Covers, covered, after_enabled, after_not_enabled}
 use Rattle.promises.proofs.Clock.{clock-made}
 use Rattle.promises.proofs.Limits.{is_due_in, due_in, later_found, first_found, hold_found, limit_found, none_and_some}
 use Rattle.promises.proofs.Speaks.{Speaks, now_group, head_waits}

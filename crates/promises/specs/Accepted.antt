@@ -20,9 +20,8 @@ use Rattle.vss_model.specs.Ending.{runs}
 use Rattle.vss_model.specs.Sessions.{known_metas}
 use Rattle.vss_model.specs.Causes.{owns}
 use Rattle.vss_model.specs.Acts.{Act, reply, state}
+use Rattle.vss_model.specs.Replies.{is_fine, is_pending_code}
 use Rattle.promises.specs.InOrder.{Progress, progress, comes_now}
-use Rattle.promises.specs.Participants.{is_fine}
-use Rattle.promises.specs.Way.{is_pending_code}
 
 -- the lane owns the session q
 pub record Owns (st : State) (lane : ℕ) (q : Session) : Type 0 where

@@ -16,9 +16,8 @@ use Rattle.vss_model.specs.Reply.{Reply, Coded}
 use Rattle.vss_model.specs.State.{State, SetRow, start, in_progress, row_of}
 use Rattle.vss_model.specs.Ending.{runs}
 use Rattle.vss_model.specs.Acts.{Act, enabled, reply, after, state}
+use Rattle.vss_model.specs.Replies.{is_fine, is_pending}
 use Rattle.promises.specs.Accepted.{Owns}
-use Rattle.promises.specs.Participants.{is_fine}
-use Rattle.promises.specs.Way.{is_pending}
 
 -- ## what an act makes of it
 

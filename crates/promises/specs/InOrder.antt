@@ -9,12 +9,11 @@ use Rattle.scenario.specs.declared.op.Op.TheVariants.{Begin, Disable, Gather, Co
 use Rattle.scenario.specs.Plan.{Plan}
 use Rattle.vss_model.specs.declared.event.Event.{Event}
 use Rattle.vss_model.specs.declared.event.Event.TheVariants.{Line}
-use Rattle.vss_model.specs.Reply.{Reply, Numbered}
+use Rattle.vss_model.specs.Reply.{Reply}
 use Rattle.vss_model.specs.State.{State, start, in_progress}
 use Rattle.vss_model.specs.Acts.{Act, enabled, reply, after, state}
-use Rattle.promises.specs.Participants.{is_fine}
+use Rattle.vss_model.specs.Replies.{is_fine, is_numbered, is_pending}
 use Rattle.promises.specs.Rows.{set_fails}
-use Rattle.promises.specs.Way.{is_pending}
 
 -- ## what acts bring
 
@@ -33,10 +32,6 @@ pub record Progress : Type 0 where
   pub context : ℕ
   pub all : Bool
   pub step : Step
-
-abbrev pub is_numbered : Reply → Bool
-is_numbered (Numbered n) = true
-is_numbered _ = false
 
 abbrev pub line_brings : Op → Reply → Progress → Progress
 line_brings (Begin n all) told p = if is_fine told then record { context = n; all = all; step = ByBegin } else p

@@ -19,9 +19,10 @@ use Rattle.vss_model.specs.declared.event.Event.TheVariants.{Line}
 use Rattle.vss_model.specs.Reply.{Reply}
 use Rattle.vss_model.specs.Ending.{runs}
 use Rattle.vss_model.specs.Acts.{Act, enabled, reply, after, state}
+use Rattle.vss_model.specs.Replies.{is_pending}
 use Rattle.promises.specs.InOrder.{Step, ByGather, ByPrepare, ByComplete, is_step, progress}
 use Rattle.promises.specs.Participants.{is_writer, is_chosen, is_unfit, choosing}
-use Rattle.promises.specs.Way.{Deed, Spoke, Made, is_pending, deeds_of}
+use Rattle.promises.specs.Way.{Deed, Spoke, Made, deeds_of}
 
 -- what a session asks of writers outside the snapshot
 pub data Asking : Type 0 where

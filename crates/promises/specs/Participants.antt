@@ -12,11 +12,11 @@ use Rattle.scenario.specs.declared.op.Op.TheVariants.{Begin, Disable, Component,
 use Rattle.scenario.specs.Plan.{Plan, class_of}
 use Rattle.vss_model.specs.declared.event.Event.{Event}
 use Rattle.vss_model.specs.declared.event.Event.TheVariants.{Line}
-use Rattle.vss_model.specs.Reply.{Reply, Fine, Coded}
+use Rattle.vss_model.specs.Reply.{Reply, Coded}
 use Rattle.vss_model.specs.State.{State, SetRow, start, in_progress}
 use Rattle.vss_model.specs.Sessions.{has_failed_identify}
 use Rattle.vss_model.specs.Acts.{Act, enabled, reply, after, state}
-use Rattle.promises.specs.Way.{is_pending}
+use Rattle.vss_model.specs.Replies.{is_fine, is_pending}
 
 -- ## what the session has said of a writer
 
@@ -37,10 +37,6 @@ unsaid all = record { all = all; named = false; disabled = false; takes_part = f
 -- a writer that has failed at Identify is in no backup that takes all
 abbrev pub is_chosen : Bool → Choosing → Bool
 is_chosen failed c = if c.all then not c.disabled && not failed else c.named
-
-abbrev pub is_fine : Reply → Bool
-is_fine Fine = true
-is_fine _ = false
 
 -- a line says something of writer w only where it is accepted: with `ok`, and `prepare` by the agenda that it begins
 abbrev pub line_says : Plan → ℕ → Bool → Op → Reply → Choosing → Choosing

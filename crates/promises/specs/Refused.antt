@@ -3,7 +3,7 @@ use Rattle.std.specs.Prelude.{◌≡◌, Bool, true, false, List, not}
 use Rattle.scenario.specs.Plan.{Plan}
 use Rattle.vss_model.specs.Reply.{Reply, Fine, Faulted, FaultedAfter, Numbered, Coded, NotSelectable, BlockOf, BlocksOf, KeptSets, PropertiesOf, Deleted, DocumentOf, StatusOf, Answered, Stepped, Idled}
 use Rattle.vss_model.specs.Acts.{Act, reply, after, state}
-use Rattle.promises.specs.Way.{is_pending_code}
+use Rattle.vss_model.specs.Replies.{is_pending_code}
 
 -- a code other than AsyncPending, a component that cannot be selected, and what a line shows
 abbrev pub leaves_all : Reply → Bool

@@ -17,9 +17,9 @@ use Rattle.vss_model.specs.Ending.{runs}
 use Rattle.vss_model.specs.Sessions.{known_metas}
 use Rattle.vss_model.specs.Causes.{owns}
 use Rattle.vss_model.specs.Acts.{Act, reply, state}
+use Rattle.vss_model.specs.Replies.{is_fine}
 use Rattle.promises.specs.Accepted.{is_ordered, is_accepted}
 use Rattle.promises.specs.InOrder.{Progress, progress, comes_now}
-use Rattle.promises.specs.Participants.{is_fine}
 
 -- ## what a call wants
 

@@ -25,8 +25,7 @@ use Rattle.vss_model.specs.State.{State, SetRow, in_progress, row_of}
 use Rattle.vss_model.specs.Acts.{Act, enabled, order_of_writer, reply, after, state}
 use Rattle.vss_model.specs.Effects.{lost}
 use Rattle.vss_model.specs.Facts.{has_failed}
-use Rattle.promises.specs.Participants.{is_fine}
-use Rattle.promises.specs.Way.{is_pending}
+use Rattle.vss_model.specs.Replies.{is_fine, is_pending}
 
 -- ## whether the set in progress fails
 

@@ -7,8 +7,6 @@ use Rattle.vss_names.specs.declared.level.Level.{Level}
 use Rattle.vss_names.specs.declared.level.Level.TheVariants.{System, BackEnd, FrontEnd}
 use Rattle.vss_names.specs.declared.order.Order.{Order}
 use Rattle.vss_names.specs.declared.order.Order.TheVariants.{Identify, PrepareBackup, PrepareSnapshot, Freeze, Thaw, PostSnapshot, BackupComplete}
-use Rattle.vss_names.specs.declared.vss_result.VssResult.{VssResult}
-use Rattle.vss_names.specs.declared.vss_result.VssResult.TheVariants.{AsyncPending}
 use Rattle.writer_state.specs.declared.said.Said.{Said}
 use Rattle.writer_state.specs.declared.said.Said.TheVariants.{Lost}
 use Rattle.writer_state.specs.WriterState.{is_ok}
@@ -22,10 +20,11 @@ use Rattle.scenario.specs.declared.op.Op.TheVariants.{Snapshot}
 use Rattle.scenario.specs.Plan.{Plan, WriterPlan}
 use Rattle.vss_model.specs.declared.event.Event.{Event}
 use Rattle.vss_model.specs.declared.event.Event.TheVariants.{Line, Answer as AnswerEvent, Provider, Idle}
-use Rattle.vss_model.specs.Reply.{Reply, Coded, Answered, Stepped}
+use Rattle.vss_model.specs.Reply.{Reply, Answered, Stepped}
 use Rattle.vss_model.specs.State.{State, SetRow, start, is_complete, in_progress, row_of}
 use Rattle.vss_model.specs.Acts.{Act, enabled, reply, after, state}
 use Rattle.vss_model.specs.Effects.{lost, lost_order}
+use Rattle.vss_model.specs.Replies.{is_pending}
 
 -- ## what acts tell
 
@@ -65,14 +64,6 @@ abbrev pub deeds : Plan → State → Act → List Deed
 deeds s st act = deeds_if (enabled s st act.event) s st act
 
 -- ## since the `snapshot` line
-
-abbrev pub is_pending_code : VssResult → Bool
-is_pending_code AsyncPending = true
-is_pending_code _ = false
-
-abbrev pub is_pending : Reply → Bool
-is_pending (Coded why) = is_pending_code why
-is_pending _ = false
 
 abbrev pub is_snapshot_line : Event → Bool
 is_snapshot_line (Line lane Snapshot) = true

@@ -4,3 +4,5 @@ pub mod Cursors
 pub mod Held
 pub mod Closings
 pub mod Beginnings
+pub mod CourseRule
+pub mod SpentLimits

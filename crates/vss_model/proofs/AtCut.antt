@@ -120,7 +120,7 @@ said_if true log p x who xs rest e f g ih = by_cases (x == who) refl g
     by_cases false i j = ih f j
 
 -- where nobody is waited for, all have said something
-all_said : (log : List Entry) (p : Place) (xs : List ℕ) (who : ℕ) → filter (λ x. not (has_said log p x)) xs ≡ [] → is_among who xs ≡ true → has_said log p who ≡ true
+pub all_said : (log : List Entry) (p : Place) (xs : List ℕ) (who : ℕ) → filter (λ x. not (has_said log p x)) xs ≡ [] → is_among who xs ≡ true → has_said log p who ≡ true
 all_said log p [] who e f = absurd cc
 all_said log p (x ∷ xs) who e f = said_if (has_said log p x) log p x who xs _ refl e f (all_said log p xs who)
 
@@ -178,7 +178,7 @@ nothing_undone false c h e = refl
 undone_not : (log : List Entry) → IsSound log → is_cut_made log ≡ false → list_any is_undoing log ≡ false
 undone_not log h e = nothing_undone (list_any is_undoing log) (is_cut_made log) h.cut_first e
 
-and_three : (a b c : Bool) → a ≡ true → b ≡ true → c ≡ false → (a && b && not c) ≡ true
+pub and_three : (a b c : Bool) → a ≡ true → b ≡ true → c ≡ false → (a && b && not c) ≡ true
 and_three true true false e f g = refl
 and_three true true true e f g = absurd cc
 and_three true false c e f g = absurd cc

@@ -47,7 +47,7 @@ use Rattle.vss_model.specs.Steps.{with_cut, row_cut, cut_set, step_made, is_flus
 use Rattle.vss_model.specs.Lines.{called, line}
 use Rattle.vss_model.specs.Acts.{Act, enabled, happens, order_of_writer, idle_now, after_if, after, state}
 use Rattle.vss_model.specs.Facts.{NumberedFrom, IsOfSession, has_failed, is_live}
-use Rattle.vss_model.specs.Causes.{needs_consent, is_veto, is_refused, is_late_in, is_late, is_fault, is_flush_step, owns, line_gives_cause, gives_cause, SetsFailWithCause}
+use Rattle.vss_model.specs.Causes.{needs_consent, is_veto, is_refused, is_late_in, is_late, is_fault, is_flush_step, owns, line_gives_cause, gives_cause}
 use Rattle.vss_model.proofs.Late.{Decides, late}
 use Rattle.vss_model.proofs.Appending.{state-append}
 use Rattle.vss_model.proofs.Failures.{failed_not_live}
@@ -63,7 +63,7 @@ none_posted : (before c : Course) → Fails c ≡ false → Fails (posted before
 unfolding posted
 none_posted before c h = h
 
-none_outcome : (k : Kind) (o : SetOutcome) → has_failed o ≡ false → has_failed (outcome_after k o) ≡ false
+pub none_outcome : (k : Kind) (o : SetOutcome) → has_failed o ≡ false → has_failed (outcome_after k o) ≡ false
 none_outcome Gather o h = h
 none_outcome Prepare o h = h
 none_outcome Snapshot o h = refl
@@ -423,8 +423,10 @@ by_cause false s so_far act r q e f g h i =
     let live = live_after r.number s st act e running (live_found st.sets r f) in
     absurd (true_not_false (is_live (after s st act).sets r.number) live (failed_not_live 1 r.number (after s st act).sets q i g h))
 
-pub fail_with_cause : (s : Plan) (all : List Act) → SetsFailWithCause s all
-fail_with_cause s all so_far rest act r q e f g h =
+-- a set that is in progress before an act and has failed after it has failed by a cause that the act gives
+pub fails_with_cause : (s : Plan) (so_far : List Act) (act : Act) (r q : SetRow) → in_progress (state s so_far) ≡ Some r → row_of (after s (state s so_far) act) r.number ≡ Some q
+    → has_failed q.result ≡ true → gives_cause s (state s so_far) act.event act.mark ≡ true
+fails_with_cause s so_far act r q f g h =
     let next = orderly s (so_far ++ act ∷ []) in
     let numbered : NumberedFrom 1 (after s (state s so_far) act).sets = subst (λ (st : State). NumberedFrom 1 st.sets) (state-append s so_far act) next.numbered in
     by_cause (gives_cause s (state s so_far) act.event act.mark) s so_far act r q refl f g h numbered

@@ -24,16 +24,18 @@ use Rattle.set_agenda.specs.Agenda.{Agenda, Entry, Open, plain, at_level, places
 use Rattle.set_agenda.specs.Course.{Course, posted, failed as course_failed, outcome_after, settled_if, settled, begun, stepped as course_stepped, change_at, released}
 use Rattle.requestor.specs.Session.{Session}
 use Rattle.scenario.specs.Plan.{Plan, blocks_of}
+use Rattle.writer_calls.specs.Script.{said_of}
 use Rattle.vss_model.specs.State.{State, SetRow, Kept, is_complete, in_progress, row_of, row_changed, history_of, left_now, has_image, kept_if, kept_of, kept_image}
 use Rattle.vss_model.specs.Ending.{Ending, NothingEnds, AgendaEnds, SetFails, ending, concluded, followed, runs, failed_in, failed}
 use Rattle.vss_model.specs.Images.{Replied, cleared, has_lost_image, set_loses_image, with_room_if, put, write, reverted_as, is_in_set}
 use Rattle.vss_model.specs.Sessions.{begin_in, new_set, new_number, start_set, change_set, with_volume, has_no_volume, closed}
 use Rattle.vss_model.specs.Steps.{answered, cut_if as image_cut_if, cut_each, with_cut, row_cut, cut_set, is_flush, is_failed_step, stepped_as, stepped, ticked, later}
-use Rattle.vss_model.specs.Acts.{Act, after, state}
+use Rattle.vss_model.specs.Acts.{idle_now, Act, after, state}
 use Rattle.vss_model.specs.Cut.{is_cut_group}
 use Rattle.vss_model.specs.Facts.{NumberedFrom, has_failed}
 use Rattle.vss_model.proofs.Appending.{state-append}
-use Rattle.vss_model.proofs.Rule.{IsKeptAt, after_at}
+use Rattle.vss_model.proofs.ByEvent.{Covers, Next, after_covered}
+use Rattle.vss_model.proofs.Rule.{no_set_of}
 use Rattle.vss_model.proofs.Orderly.{true_not_false}
 use Rattle.vss_model.proofs.OrderlyActs.{Moves, MovesOn, moves_answered, moves_stepped, moves_timed, ending_on, orderly}
 use Rattle.vss_model.proofs.CourseCalls.{Settles, Says, Call, call_answered, call_stepped, call_timed}
@@ -44,7 +46,7 @@ use Rattle.vss_model.proofs.HeldWrites.{apart}
 use Rattle.vss_model.proofs.CutStep.{step_made_same, cut_step}
 use Rattle.vss_model.proofs.OneCut.{changed_number, changed_result, row_number, kept_point}
 use Rattle.vss_model.proofs.Spoken.{new_said, cut_open}
-use Rattle.vss_model.proofs.Rows.{has_complete, running_incomplete, incomplete_settled, incomplete_map, incomplete_append, complete_found}
+use Rattle.vss_model.proofs.Rows.{has_complete, running_incomplete, incomplete_settled, incomplete_map, incomplete_append, complete_found, none_runs}
 use Rattle.vss_model.proofs.Volumes.{at, Each, each_map, each_change, change_other, as_many_map, as_many_change, as_many_gone, as_many_cut}
 use Rattle.vss_model.proofs.FewerImages.{as_many_volumes}
 use Rattle.vss_model.proofs.Freed.{agenda-concluded}
@@ -75,7 +77,7 @@ made_back said now ws a e f =
         absurd (true_not_false (is_cut_group (open_group (groups_left a))) (cut_open (groups_left a) parts.0) e)
 
 -- where nothing is left of a snapshot's agenda, its Cut step is made
-past_group : (p : Place) (ws : List ℕ) (later : List Open) → is_done (with_group p ws later) ≡ true → is_done later ≡ true
+pub past_group : (p : Place) (ws : List ℕ) (later : List Open) → is_done (with_group p ws later) ≡ true → is_done later ≡ true
 past_group p [] later e = e
 past_group p (w ∷ ws) later e = absurd cc
 
@@ -107,7 +109,7 @@ running_made true a o b p d e f s =
     let k = completes_snapshot a.kind o p e s.1 f in
     done_made a (subst (λ x. is_done (left_from a (places x)) ≡ true) k (d refl))
 
-not_complete : (o : SetOutcome) → has_failed o ≡ true → is_complete o ≡ false
+pub not_complete : (o : SetOutcome) → has_failed o ≡ true → is_complete o ≡ false
 not_complete RunningSet e = absurd cc
 not_complete CompleteSet e = absurd cc
 not_complete (FailedSet why) e = refl
@@ -269,10 +271,6 @@ clash (Some q) r e f = absurd cc
 imaged_none : (x : State) → x.course.agenda ≡ None → IsImaged x
 imaged_none x e r f m = absurd (subst Made e m)
 
-none_runs : (a : Option Agenda) → is_some a ≡ false → a ≡ None
-none_runs None e = refl
-none_runs (Some a) e = absurd cc
-
 imaged_ends : (a b : Option Agenda) (c : Course) (x : State) → c.agenda ≡ b → Moves a x.course.outcome b c.outcome → ((r : SetRow) → in_progress x ≡ Some r → Made b → Imaged r.number r.volumes x.volumes)
     → IsImaged (concluded (ending x.course.outcome c.outcome (is_some a) b) (record x { course = c }))
 imaged_ends None None c x e m h = imaged_none (concluded (ending x.course.outcome c.outcome false None) (record x { course = c })) (agenda-concluded (ending x.course.outcome c.outcome false None) (record x { course = c }) ∙ e)
@@ -430,30 +428,27 @@ imaged_either : (b : Bool) (x y : Replied) → IsImaged x.1 → IsImaged y.1 →
 imaged_either true x y h i = h
 imaged_either false x y h i = i
 
-imaged_at : (s : Plan) (st : State) → NumberedFrom 1 st.sets → IsImaged st → IsKeptAt IsImaged s st
+imaged_at : (s : Plan) (st : State) → NumberedFrom 1 st.sets → IsImaged st → Covers (Next IsImaged) s st
 imaged_at s st o h = record {
-  lines = record {
-    stays = h;
-    writes = λ v w mark f. imaged_write s v w mark st h;
-    reverts = λ n v k mark f g. imaged_revert s v k mark st g h;
-    ticks = λ k. imaged_ticks k st h;
-    deletes_set = λ n f. imaged_deletes_set n st o f h;
-    deletes_image = λ n v k f. imaged_deletes_image n v k st o f h;
-    names = λ w name q explicit g f. h;
-    disables = λ w q g. h;
-    starts = λ q g f. imaged_none (start_set q st).1 (none_runs st.course.agenda g.quiet);
-    adds = λ v r q g f i. imaged_none (change_set r.number (with_volume v) st) (none_runs st.course.agenda g.quiet);
-    aborts = λ q f. imaged_failed (in_progress st) AsyncCancelled st refl;
-    ends = λ q f. imaged_end q (failed AsyncCancelled st);
-  };
-  begins = λ lane all c g. imaged_begin lane all c st h;
-  agendas = record {
-    gathers = λ q g. imaged_begun Gather _ [] st.clock _ st;
-    prepares = λ q g. imaged_either (has_no_volume (in_progress st)) _ _ h (imaged_begun Prepare _ [] st.clock _ st);
-    snapshots = λ q g. imaged_either (has_no_volume (in_progress st)) _ _ h (imaged_begun Snapshot st.course.members _ st.clock st.course st);
-    completes = λ q g. imaged_begun Complete _ [] st.clock _ st;
-  };
-  answers = λ w said g. imaged_answers w said st h;
+  stays = λ lane op mark told e c. h;
+  writes = λ lane op v w mark e f. imaged_write s v w mark st h;
+  reverts = λ lane n v k mark f g. imaged_revert s v k mark st (no_set_of st v k g) h;
+  ticks = λ lane k mark. imaged_ticks k st h;
+  idles = λ mark e. imaged_ticks (idle_now st) st h;
+  deletes_set = λ lane n c mark f. imaged_deletes_set n st o f h;
+  deletes_image = λ lane n v k mark f. imaged_deletes_image n v k st o f h;
+  names = λ lane w full q explicit mark g f. h;
+  disables = λ lane w q mark g. h;
+  starts = λ lane q mark g f. imaged_none (start_set q st).1 (none_runs st.course.agenda g.quiet);
+  adds = λ lane v r q mark g f i. imaged_none (change_set r.number (with_volume v) st) (none_runs st.course.agenda g.quiet);
+  aborts = λ lane q mark f. imaged_failed (in_progress st) AsyncCancelled st refl;
+  ends = λ lane q mark f. imaged_end q (failed AsyncCancelled st);
+  begins = λ lane m all c mark g f. imaged_begin lane all (Some c) st h;
+  gathers = λ lane q mark g. imaged_begun Gather _ [] st.clock _ st;
+  prepares = λ lane q mark g. imaged_either (has_no_volume (in_progress st)) _ _ h (imaged_begun Prepare _ [] st.clock _ st);
+  snapshots = λ lane q mark g. imaged_either (has_no_volume (in_progress st)) _ _ h (imaged_begun Snapshot st.course.members _ st.clock st.course st);
+  completes = λ lane q mark g. imaged_begun Complete _ [] st.clock _ st;
+  answers = λ w answer mark g. imaged_answers w (said_of answer) st h;
   steps = λ mark g. imaged_step (is_cut_group (open_group (left_now st))) mark st refl g h;
 }
 
@@ -461,7 +456,7 @@ imaged_from : (s : Plan) (past acts : List Act) → IsImaged (state s past) → 
 imaged_from s past [] h = h
 imaged_from s past (act ∷ acts) h =
     subst (λ st. IsImaged (fold (after s) st acts)) (state-append s past act)
-    (imaged_from s (past ++ act ∷ []) acts (subst IsImaged (sym (state-append s past act)) (after_at IsImaged s (state s past) (imaged_at s (state s past) (orderly s past).numbered h) act)))
+    (imaged_from s (past ++ act ∷ []) acts (subst IsImaged (sym (state-append s past act)) (after_covered IsImaged s (state s past) (imaged_at s (state s past) (orderly s past).numbered h) h act)))
 
 imaged : (s : Plan) (acts : List Act) → IsImaged (state s acts)
 imaged s acts = imaged_from s [] acts (λ r e m. absurd m)
@@ -587,33 +582,30 @@ done_step : (b : Bool) (r : SetRow) (mark : Mark) (st : State) → is_cut_group 
 done_step false r mark st c w e run h images = done_steps r.number r.volumes mark st c w run h images
 done_step true r mark st c w e run h images = subst (Done r.number r.volumes) (sym (cut_step mark st c)) (done_at_cut r (in_progress st) st e h)
 
-done_at : (s : Plan) (st : State) (r : SetRow) → in_progress st ≡ Some r → st.course.outcome ≡ RunningSet → has_complete st.sets r.number ≡ false → (Made st.course.agenda → Imaged r.number r.volumes st.volumes) → IsKeptAt (Done r.number r.volumes) s st
+done_at : (s : Plan) (st : State) (r : SetRow) → in_progress st ≡ Some r → st.course.outcome ≡ RunningSet → has_complete st.sets r.number ≡ false → (Made st.course.agenda → Imaged r.number r.volumes st.volumes) → Covers (Next (Done r.number r.volumes)) s st
 done_at s st r e run h images =
     let n = r.number in
     let us = r.volumes in
     record {
-      lines = record {
-        stays = inl h;
-        writes = λ v w mark f. done_write n us s v w mark st h;
-        reverts = λ m v k mark f g. done_revert n us s v k mark st h;
-        ticks = λ k. done_ticks n us k st run h images;
-        deletes_set = λ m f. inl h;
-        deletes_image = λ m v k f. inl h;
-        names = λ w name q explicit g f. inl h;
-        disables = λ w q g. inl h;
-        starts = λ q g f. inl (incomplete_append st.sets (new_set (new_number st) q.context) n refl h);
-        adds = λ v x q g f i. inl (incomplete_map (row_changed x.number (with_volume v)) (λ y. changed_number (y.number == x.number) (with_volume v) y refl) (λ y. changed_result (y.number == x.number) (with_volume v) y refl) n st.sets h);
-        aborts = λ q f. inl (done_failed n us (in_progress st) AsyncCancelled st h);
-        ends = λ q f. done_end n us q (failed AsyncCancelled st) (done_failed n us (in_progress st) AsyncCancelled st h);
-      };
-      begins = λ lane all c g. done_begin n us lane all c st h;
-      agendas = record {
-        gathers = λ q g. done_begun n us Gather _ [] st.clock _ st run h;
-        prepares = λ q g. done_either n us (has_no_volume (in_progress st)) _ _ (inl h) (done_begun n us Prepare _ [] st.clock _ st run h);
-        snapshots = λ q g. done_either n us (has_no_volume (in_progress st)) _ _ (inl h) (done_begun n us Snapshot st.course.members _ st.clock st.course st run h);
-        completes = λ q g. done_begun n us Complete _ [] st.clock _ st run h;
-      };
-      answers = λ w said g. done_answers n us w said st run h images;
+      stays = λ lane op mark told e c. inl h;
+      writes = λ lane op v w mark e f. done_write n us s v w mark st h;
+      reverts = λ lane m v k mark f g. done_revert n us s v k mark st h;
+      ticks = λ lane k mark. done_ticks n us k st run h images;
+      idles = λ mark e. done_ticks n us (idle_now st) st run h images;
+      deletes_set = λ lane m c mark f. inl h;
+      deletes_image = λ lane m v k mark f. inl h;
+      names = λ lane w full q explicit mark g f. inl h;
+      disables = λ lane w q mark g. inl h;
+      starts = λ lane q mark g f. inl (incomplete_append st.sets (new_set (new_number st) q.context) n refl h);
+      adds = λ lane v x q mark g f i. inl (incomplete_map (row_changed x.number (with_volume v)) (λ y. changed_number (y.number == x.number) (with_volume v) y refl) (λ y. changed_result (y.number == x.number) (with_volume v) y refl) n st.sets h);
+      aborts = λ lane q mark f. inl (done_failed n us (in_progress st) AsyncCancelled st h);
+      ends = λ lane q mark f. done_end n us q (failed AsyncCancelled st) (done_failed n us (in_progress st) AsyncCancelled st h);
+      begins = λ lane m all c mark g f. done_begin n us lane all (Some c) st h;
+      gathers = λ lane q mark g. done_begun n us Gather _ [] st.clock _ st run h;
+      prepares = λ lane q mark g. done_either n us (has_no_volume (in_progress st)) _ _ (inl h) (done_begun n us Prepare _ [] st.clock _ st run h);
+      snapshots = λ lane q mark g. done_either n us (has_no_volume (in_progress st)) _ _ (inl h) (done_begun n us Snapshot st.course.members _ st.clock st.course st run h);
+      completes = λ lane q mark g. done_begun n us Complete _ [] st.clock _ st run h;
+      answers = λ w answer mark g. done_answers n us w (said_of answer) st run h images;
       steps = λ mark g. done_step (is_cut_group (open_group (left_now st))) r mark st refl g e run h images;
     }
 
@@ -621,7 +613,8 @@ pub imaged_after : (s : Plan) (so_far : List Act) (act : Act) (r q : SetRow) (v 
     → is_among v r.volumes ≡ true → v < length s.volumes → is_some (point_in r.number (history_of (after s (state s so_far) act) v).images) ≡ true
 imaged_after s so_far act r q v e f g h l =
     let st = state s so_far in
-    by_cases (after_at (Done r.number r.volumes) s st (done_at s st r e (outcome_is_running s so_far r e) (running_incomplete st.sets r (orderly s so_far).numbered e) (λ m. imaged s so_far r e m)) act)
+    let none = running_incomplete st.sets r (orderly s so_far).numbered e in
+    by_cases (after_covered (Done r.number r.volumes) s st (done_at s st r e (outcome_is_running s so_far r e) none (λ m. imaged s so_far r e m)) (inl none) act)
   where
     by_cases : Done r.number r.volumes (after s (state s so_far) act) → is_some (point_in r.number (history_of (after s (state s so_far) act) v).images) ≡ true
     by_cases (inl i) = absurd (true_not_false (has_complete (after s (state s so_far) act).sets r.number) (complete_found 1 r.number (after s (state s so_far) act).sets q f g) i)

@@ -19,6 +19,7 @@ use Rattle.set_agenda.specs.Limits.{Running as RunningLimit, running_limits, spe
 use Rattle.set_agenda.specs.Course.{Course, posted, outcome_after, failed as course_failed, settled_if, settled_in, settled, is_decisive, told, decided, answered_to, answered as course_answered, worked, stepped_as as course_stepped_as, stepped as course_stepped, freeze_limit, lost_to, lost, fails_set, lost_decided, treated_as, treated, timed as course_timed}
 use Rattle.vss_model.specs.Facts.{has_failed}
 use Rattle.vss_model.proofs.Orderly.{true_not_false}
+pub use Rattle.set_agenda.proofs.CourseRule.{asked_if, asked_waits, one_alone}
 
 -- ## the three ways
 
@@ -92,36 +93,13 @@ mild false decides ok f e = refl
 mild true true ok f e = e
 mild true false ok f e = absurd (true_not_false false (f refl) refl)
 
-not_ok_of_ok : (b : Bool) → (b && not true) ≡ false
+pub not_ok_of_ok : (b : Bool) → (b && not true) ≡ false
 not_ok_of_ok true = refl
 not_ok_of_ok false = refl
 
-both_true : (a b : Bool) → (a && b) ≡ true → (a ≡ true) × (b ≡ true)
-both_true true b e = (refl, e)
-both_true false b e = absurd cc
-
 -- ## who is waited for
 
-pub asked_if : (b : Bool) (o : Option Order) (p : Order) → order_if b o ≡ Some p → b ≡ true
-asked_if true o p e = refl
-asked_if false o p e = absurd cc
-
-pub asked_waits : (os : List Open) (w : ℕ) → is_asked w os ≡ true → (is_orders (open_place os).group ≡ true) × (is_among w (waits_now os) ≡ true)
-asked_waits [] w e = absurd cc
-asked_waits (x ∷ os) w e = both_true (is_orders x.place.group) (is_among w x.waits) e
-
--- among one alone is that one
-pub one_alone : (w x : ℕ) (xs : List ℕ) → is_among w xs ≡ true → is_among x (w ∷ []) ≡ true → is_among x xs ≡ true
-one_alone w x xs e f = subst (λ y. is_among y xs ≡ true) (same (w == x) refl f) e
-  where
-    equal : (a b : ℕ) → (a == b) ≡ true → a ≡ b
-    equal a b e = grind arith
-
-    same : (b : Bool) → (w == x) ≡ b → (b || false) ≡ true → w ≡ x
-    same true g h = equal w x g
-    same false g h = absurd cc
-
-first_among : (w : ℕ) (ws : List ℕ) → is_among w (w ∷ ws) ≡ true
+pub first_among : (w : ℕ) (ws : List ℕ) → is_among w (w ∷ ws) ≡ true
 first_among w ws = own w (is_among w ws)
   where
     own : (a : ℕ) (b : Bool) → ((a == a) || b) ≡ true

@@ -15,14 +15,14 @@ use Rattle.vss_model.proofs.Orderly.{true_not_false}
 
 -- ## images of a failed set
 
-live_at : (rows : List SetRow) (hs : List History) (v : ℕ) → AllLive rows hs → AreLive rows (history_in (slice_get hs v)).images
+pub live_at : (rows : List SetRow) (hs : List History) (v : ℕ) → AllLive rows hs → AreLive rows (history_in (slice_get hs v)).images
 live_at rows [] zero h = tt
 live_at rows [] (suc v) h = tt
 live_at rows (x ∷ hs) zero h = h.0
 live_at rows (x ∷ hs) (suc v) h = live_at rows hs v h.1
 
 -- numbers below the first are of no row
-no_live_below : (k n : ℕ) (rows : List SetRow) → NumberedFrom k rows → n < k → is_live rows n ≡ false
+pub no_live_below : (k n : ℕ) (rows : List SetRow) → NumberedFrom k rows → n < k → is_live rows n ≡ false
 no_live_below k n [] h l = refl
 no_live_below k n (r ∷ rows) h l =
     let head : (r.number == n) ≡ false = differs r.number n (rw h.0 l) in

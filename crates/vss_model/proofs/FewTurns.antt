@@ -1,6 +1,6 @@
 -- Nowhere are there more than 64 writers, or more than 64 volumes in the set in progress.
 use Rattle.std.proofs.Common.{◌≡◌, ℕ, suc, ◌+◌, ◌==◌, ◌≤◌, List, [], ◌∷◌, ◌++◌, Option, Some, None, refl, Bool, true, false, ap, sym, ◌∙◌, subst, fold, map, length, arith}
-use Rattle.std.specs.Prelude.{◌&&◌, not, if◌then◌else◌, nat_le, find, option_map}
+use Rattle.std.specs.Prelude.{if◌then◌else◌, nat_le, find, option_map}
 use Rattle.std.proofs.lemmas.List.{length-map}
 use Rattle.vss_names.specs.declared.context.Context.{Context}
 use Rattle.vss_names.specs.declared.order.Order.{Order}
@@ -10,7 +10,6 @@ use Rattle.vss_names.specs.declared.vss_result.VssResult.{VssResult}
 use Rattle.vss_names.specs.declared.vss_result.VssResult.TheVariants.{AsyncCancelled}
 use Rattle.writer_state.specs.declared.said.Said.{Said}
 use Rattle.writer_state.specs.declared.writer_row.WriterRow.{WriterRow}
-use Rattle.writer_state.specs.WriterState.{is_ok}
 use Rattle.writer_state.specs.WriterRow.{row_after, row_aborted, row_gathered, row_ended}
 use Rattle.write_history.specs.declared.mark.Mark.{Mark}
 use Rattle.write_history.specs.declared.mark.Mark.TheVariants.{Clean, Fault, FaultAfter}
@@ -19,12 +18,9 @@ use Rattle.set_agenda.specs.declared.group.Group.{Group}
 use Rattle.set_agenda.specs.declared.group.Group.TheVariants.{Orders, PreCommit, Flush, Hold, Cut, Commit, Release, PostCommit}
 use Rattle.set_agenda.specs.declared.kind.Kind.{Kind}
 use Rattle.set_agenda.specs.declared.kind.Kind.TheVariants.{Gather, Prepare, Snapshot, Complete}
-use Rattle.set_agenda.specs.declared.limit.Limit.{Limit}
-use Rattle.set_agenda.specs.declared.limit.Limit.TheVariants.{Hold as HoldLimit, Freeze as FreezeLimit, Answer as AnswerLimit}
 use Rattle.set_agenda.specs.declared.member.Member.{Member}
-use Rattle.set_agenda.specs.Agenda.{Agenda, left, groups_left, is_done, is_among, open_order, order_now, waits_now}
-use Rattle.set_agenda.specs.Limits.{Running as RunningLimit, spent_of}
-use Rattle.set_agenda.specs.Course.{Course, posted, failed as course_failed, settled_if, settled_in, settled, begun, is_decisive, told, decided, answered_to, answered as course_answered, worked, stepped_as as course_stepped_as, stepped as course_stepped, limits_now, lost_to, fails_set, lost_decided, treated_as, treated, timed as course_timed, released, rows_where, member_if, members_from, is_member}
+use Rattle.set_agenda.specs.Agenda.{is_among}
+use Rattle.set_agenda.specs.Course.{Course, posted, failed as course_failed, begun, told, worked, released, rows_where, member_if, members_from, is_member}
 use Rattle.requestor.specs.Session.{Session}
 use Rattle.scenario.specs.Bounds.{IsPlan}
 use Rattle.scenario.specs.Plan.{Plan}
@@ -35,6 +31,7 @@ use Rattle.vss_model.specs.Sessions.{begin_in, new_set, new_number, with_volume,
 use Rattle.vss_model.specs.Steps.{with_cut, row_cut, cut_set, step_made, answered, stepped_as, stepped, ticked, later}
 use Rattle.vss_model.specs.Acts.{Act, after, state}
 use Rattle.vss_model.specs.Laws.{IsKeptByChanges, IsKeptByWrites}
+use Rattle.set_agenda.proofs.CourseRule.{IsKeptInCourse, course_answered, course_stepped, course_timed, course_begun}
 use Rattle.vss_model.proofs.Rule.{on_after}
 
 -- ## writers
@@ -43,7 +40,7 @@ pub record FewWriters (c : Course) : Type 0 where
   pub rows : length c.rows ≤ 64
   pub members : length c.members ≤ 64
 
-length-rows_where : (f : WriterRow → WriterRow) (test : ℕ → Bool) (w : ℕ) (rows : List WriterRow) → length (rows_where f test w rows) ≡ length rows
+pub length-rows_where : (f : WriterRow → WriterRow) (test : ℕ → Bool) (w : ℕ) (rows : List WriterRow) → length (rows_where f test w rows) ≡ length rows
 length-rows_where f test w [] = refl
 length-rows_where f test w (r ∷ rs) = ap suc (length-rows_where f test (w + 1) rs)
 
@@ -66,18 +63,6 @@ few_posted : (before c : Course) → FewWriters c → FewWriters (posted before 
 unfolding posted
 few_posted before c h = record { rows = h.rows; members = h.members }
 
-few_settled_if : (b : Bool) (k : Kind) (c : Course) → FewWriters c → FewWriters (settled_if b k c)
-few_settled_if true k c h = record { rows = h.rows; members = h.members }
-few_settled_if false k c h = h
-
-few_settled_in : (o : Option Agenda) (c : Course) → FewWriters c → FewWriters (settled_in o c)
-few_settled_in None c h = h
-few_settled_in (Some a) c h = few_settled_if (is_done (groups_left a)) a.kind c h
-
-few_settled : (c : Course) → FewWriters c → FewWriters (settled c)
-unfolding settled
-few_settled c h = few_settled_in c.agenda c h
-
 few_told : (o : Order) (said : Said) (now : ℕ) (ws : List ℕ) (c : Course) → FewWriters c → FewWriters (told o said now ws c)
 unfolding told
 few_told o said now ws c h = record { rows = subst (λ k. k ≤ 64) (sym (length-rows_where (row_after o said) (λ w. is_among w ws) 0 c.rows)) h.rows; members = h.members }
@@ -86,47 +71,11 @@ few_worked : (now : ℕ) (c : Course) → FewWriters c → FewWriters (worked no
 unfolding worked
 few_worked now c h = record { rows = h.rows; members = h.members }
 
-few_decided : (b : Bool) (said : Said) (c : Course) → FewWriters c → FewWriters (decided b said c)
-few_decided true said c h = few_failed _ c h
-few_decided false said c h = few_settled c h
-
-few_answered_to : (o : Option Order) (w : ℕ) (said : Said) (now : ℕ) (c : Course) → FewWriters c → FewWriters (answered_to o w said now c)
-few_answered_to None w said now c h = h
-few_answered_to (Some o) w said now c h = few_decided (is_decisive o && not (is_ok said)) said _ (few_told o said now (w ∷ []) c h)
-
-few_answered : (w : ℕ) (said : Said) (now : ℕ) (c : Course) → FewWriters c → FewWriters (course_answered w said now c)
-few_answered w said now c h = few_posted c _ (few_answered_to (open_order (left c.agenda) w) w said now c h)
-
-few_stepped_as : (ok : Bool) (now : ℕ) (c : Course) → FewWriters c → FewWriters (course_stepped_as ok now c)
-few_stepped_as true now c h = few_settled _ (few_worked now c h)
-few_stepped_as false now c h = few_failed _ c h
-
-few_stepped : (ok : Bool) (now : ℕ) (c : Course) → FewWriters c → FewWriters (course_stepped ok now c)
-few_stepped ok now c h = few_posted c _ (few_stepped_as ok now c h)
-
-few_lost_to : (o : Option Order) (now : ℕ) (c : Course) → FewWriters c → FewWriters (lost_to o now c)
-few_lost_to None now c h = h
-few_lost_to (Some o) now c h = few_told o _ now (waits_now (left c.agenda)) c h
-
-few_lost_decided : (b : Bool) (c : Course) → FewWriters c → FewWriters (lost_decided b c)
-few_lost_decided true c h = few_failed _ c h
-few_lost_decided false c h = few_settled c h
-
-few_treated_as : (l : Limit) (now : ℕ) (c : Course) → FewWriters c → FewWriters (treated_as l now c)
-few_treated_as HoldLimit now c h = few_failed _ c h
-few_treated_as FreezeLimit now c h = few_failed _ _ (few_lost_to (order_now (left c.agenda)) now c h)
-few_treated_as AnswerLimit now c h = few_lost_decided (fails_set (order_now (left c.agenda))) _ (few_lost_to (order_now (left c.agenda)) now c h)
-
-few_treated : (l : Option RunningLimit) (now : ℕ) (c : Course) → FewWriters c → FewWriters (treated l now c)
-few_treated None now c h = h
-few_treated (Some l) now c h = few_treated_as l.limit now c h
-
-few_timed : (now : ℕ) (c : Course) → FewWriters c → FewWriters (course_timed now c)
-few_timed now c h = few_posted c _ (few_treated (spent_of now (limits_now c)) now c h)
+few_kept : IsKeptInCourse FewWriters
+few_kept = record { posts = few_posted; says = few_told; works = few_worked; fails = few_failed; closes = λ k c h. record { rows = h.rows; members = h.members } }
 
 few_begun : (k : Kind) (ms : List Member) (vs : List ℕ) (now : ℕ) (c : Course) → FewWriters c → FewWriters (begun k ms vs now c)
-unfolding begun
-few_begun k ms vs now c h = few_posted c _ (few_settled _ (record { rows = h.rows; members = h.members }))
+few_begun k ms vs now c h = course_begun FewWriters few_kept k ms vs now c (record { rows = h.rows; members = h.members })
 
 few_released : (c : Course) → FewWriters c → FewWriters (released c)
 unfolding released
@@ -253,7 +202,7 @@ few_followed ran c st h g = few_concluded (ending st.course.outcome c.outcome ra
 
 on_answers : (w : ℕ) (said : Said) (st : State) → IsFew st → IsFew (answered w said st)
 unfolding answered
-on_answers w said st h = few_followed (runs st) _ st (few_answered w said st.clock st.course h.writers) h.volumes
+on_answers w said st h = few_followed (runs st) _ st (course_answered FewWriters few_kept w said st.clock st.course h.writers) h.volumes
 
 few_step_made : (g : Option Group) (st : State) → FewVolumes (in_progress st) → FewVolumes (in_progress (step_made g st))
 few_step_made None st h = h
@@ -267,8 +216,8 @@ few_step_made (Some Release) st h = h
 few_step_made (Some PostCommit) st h = h
 
 on_stepped_as : (fails : Bool) (g : Option Group) (st : State) → IsFew st → IsFew (stepped_as fails g st)
-on_stepped_as true g st h = few_followed (runs st) _ st (few_stepped false st.clock st.course h.writers) h.volumes
-on_stepped_as false g st h = few_followed (runs st) _ (step_made g st) (few_stepped true st.clock st.course h.writers) (few_step_made g st h.volumes)
+on_stepped_as true g st h = few_followed (runs st) _ st (course_stepped FewWriters few_kept false st.clock st.course h.writers) h.volumes
+on_stepped_as false g st h = few_followed (runs st) _ (step_made g st) (course_stepped FewWriters few_kept true st.clock st.course h.writers) (few_step_made g st h.volumes)
 
 on_steps : (mark : Mark) (st : State) → IsFew st → IsFew (stepped mark st)
 unfolding stepped
@@ -276,7 +225,7 @@ on_steps mark st h = on_stepped_as _ _ st h
 
 on_ticks : (n : ℕ) (st : State) → IsFew st → IsFew (ticked n st)
 unfolding ticked
-on_ticks n st h = few_followed (runs st) _ (later n st) (few_timed (st.clock + n) st.course h.writers) h.volumes
+on_ticks n st h = few_followed (runs st) _ (later n st) (course_timed FewWriters few_kept (st.clock + n) st.course h.writers) h.volumes
 
 on_failed_in : (o : Option SetRow) (why : VssResult) (st : State) → IsFew st → IsFew (failed_in o why st)
 on_failed_in None why st h = h

@@ -55,7 +55,7 @@ sets_followed : (ran : Bool) (c : Course) (st : State) (why : VssResult) → st.
 unfolding followed
 sets_followed ran c st why e f = sets_fail st.course.outcome c.outcome ran c.agenda (record st { course = c }) why e f
 
-outcome_in : (q : Option Session) (o : SetOutcome) (r : SetRow) → IsOfSession q o (Some r) → o ≡ Running
+pub outcome_in : (q : Option Session) (o : SetOutcome) (r : SetRow) → IsOfSession q o (Some r) → o ≡ Running
 outcome_in None o r h = absurd h
 outcome_in (Some q) o r h = h.2
 

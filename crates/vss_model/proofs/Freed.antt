@@ -14,15 +14,16 @@ use Rattle.set_agenda.specs.Agenda.{Agenda, open_group, is_working, is_held as h
 use Rattle.set_agenda.specs.Course.{Course, failed as course_failed, released}
 use Rattle.requestor.specs.Session.{Session}
 use Rattle.scenario.specs.Plan.{Plan}
+use Rattle.writer_calls.specs.Script.{said_of}
 use Rattle.vss_model.specs.State.{State, SetRow, Kept, in_progress, row_of, left_now, is_held, is_frozen}
 use Rattle.vss_model.specs.Ending.{Ending, NothingEnds, AgendaEnds, SetFails, ending, concluded, followed, runs, failed_in, failed}
 use Rattle.vss_model.specs.Images.{Replied, cleared, set_loses_image, with_room_if, put, write, reverted_as}
 use Rattle.vss_model.specs.Sessions.{begin_in, new_set, new_number, with_volume, has_no_volume, closed}
 use Rattle.vss_model.specs.Steps.{answered, is_flush, is_failed_step, stepped_as, stepped, ticked, later}
-use Rattle.vss_model.specs.Acts.{Act, after, state}
+use Rattle.vss_model.specs.Acts.{idle_now, Act, after, state}
 use Rattle.vss_model.specs.Facts.{NumberedFrom, IsOfSession, has_failed, is_live}
 use Rattle.vss_model.proofs.Appending.{state-append}
-use Rattle.vss_model.proofs.Rule.{MayBeginIn, IsKeptByLinesAt, IsKeptAt, after_at}
+use Rattle.vss_model.proofs.ByEvent.{Covers, Next, after_covered}
 use Rattle.vss_model.proofs.Orderly.{live-map, live_append, live_found, true_not_false}
 use Rattle.vss_model.proofs.OrderlyActs.{Moves, MovesOn, moves_answered, moves_stepped, moves_timed, ending_idle, ending_on, orderly, same_changed}
 use Rattle.vss_model.proofs.Failures.{failed_not_live}
@@ -99,36 +100,27 @@ module _ (n : ℕ) where
   either true x y h i = h
   either false x y h i = i
 
-  idle_lines : (s : Plan) (st : State) (r : SetRow) → in_progress st ≡ Some r → is_live st.sets n ≡ true → IsKeptByLinesAt (LiveOrIdle n) s st
-  idle_lines s st r e h = record {
-    stays = inl h;
-    writes = λ v w mark f. idle_write s v w mark r st e h;
-    reverts = λ m v k mark f g. idle_revert s v k mark st h;
-    ticks = λ k. idle_ticks k st h;
-    deletes_set = λ m f. inl h;
-    deletes_image = λ m v k f. inl h;
-    names = λ w name q explicit g f. inl h;
-    disables = λ w q g. inl h;
-    starts = λ q g f. inl (live_append st.sets (new_set (new_number st) q.context) n h);
-    adds = λ v q x g f i. inl (live-map _ (same_changed q.number (with_volume v) (λ y. refl) (λ y. refl)) st.sets n ∙ h);
-    aborts = λ q f. idle_failed (in_progress st) r AsyncCancelled st e;
-    ends = λ q f. idle_end q (failed AsyncCancelled st);
-  }
-
-  idle_agendas : (s : Plan) (st : State) → Fails st.course ≡ false → is_live st.sets n ≡ true → MayBeginIn (LiveOrIdle n) s st
-  idle_agendas s st f h = record {
-    gathers = λ q g. inl (live_followed n true _ st (none_begun Gather _ [] st.clock _ f) h);
-    prepares = λ q g. either (has_no_volume (in_progress st)) _ _ (inl h) (inl (live_followed n true _ st (none_begun Prepare _ [] st.clock _ f) h));
-    snapshots = λ q g. either (has_no_volume (in_progress st)) _ _ (inl h) (inl (live_followed n true _ st (none_begun Snapshot st.course.members _ st.clock st.course f) h));
-    completes = λ q g. inl (live_followed n true _ st (none_begun Complete _ [] st.clock _ f) h);
-  }
-
-  idle_at : (s : Plan) (st : State) (r : SetRow) → in_progress st ≡ Some r → Fails st.course ≡ false → is_live st.sets n ≡ true → IsKeptAt (LiveOrIdle n) s st
+  idle_at : (s : Plan) (st : State) (r : SetRow) → in_progress st ≡ Some r → Fails st.course ≡ false → is_live st.sets n ≡ true → Covers (Next (LiveOrIdle n)) s st
   idle_at s st r e f h = record {
-    lines = idle_lines s st r e h;
-    begins = λ lane all c g. idle_begin lane all c st h;
-    agendas = idle_agendas s st f h;
-    answers = λ w said g. idle_answers w said st h;
+    stays = λ lane op mark told i c. inl h;
+    writes = λ lane op v w mark i g. idle_write s v w mark r st e h;
+    reverts = λ lane m v k mark i g. idle_revert s v k mark st h;
+    ticks = λ lane k mark. idle_ticks k st h;
+    idles = λ mark g. idle_ticks (idle_now st) st h;
+    deletes_set = λ lane m c mark g. inl h;
+    deletes_image = λ lane m v k mark g. inl h;
+    names = λ lane w full q explicit mark g i. inl h;
+    disables = λ lane w q mark g. inl h;
+    starts = λ lane q mark g i. inl (live_append st.sets (new_set (new_number st) q.context) n h);
+    adds = λ lane v q x mark g i j. inl (live-map _ (same_changed q.number (with_volume v) (λ y. refl) (λ y. refl)) st.sets n ∙ h);
+    aborts = λ lane q mark i. idle_failed (in_progress st) r AsyncCancelled st e;
+    ends = λ lane q mark i. idle_end q (failed AsyncCancelled st);
+    begins = λ lane m all c mark g i. idle_begin lane all (Some c) st h;
+    gathers = λ lane q mark g. inl (live_followed n true _ st (none_begun Gather _ [] st.clock _ f) h);
+    prepares = λ lane q mark g. either (has_no_volume (in_progress st)) _ _ (inl h) (inl (live_followed n true _ st (none_begun Prepare _ [] st.clock _ f) h));
+    snapshots = λ lane q mark g. either (has_no_volume (in_progress st)) _ _ (inl h) (inl (live_followed n true _ st (none_begun Snapshot st.course.members _ st.clock st.course f) h));
+    completes = λ lane q mark g. inl (live_followed n true _ st (none_begun Complete _ [] st.clock _ f) h);
+    answers = λ w answer mark g. idle_answers w (said_of answer) st h;
     steps = λ mark g. idle_steps mark st g f h;
   }
 
@@ -141,7 +133,9 @@ pub idle_after : (s : Plan) (so_far : List Act) (act : Act) (r q : SetRow) → i
     → (after s (state s so_far) act).course.agenda ≡ None
 idle_after s so_far act r q e f g =
     let st = state s so_far in
-    by_cases (after_at (LiveOrIdle r.number) s st (idle_at r.number s st r e (outcome_running st.session st.course.outcome r (subst (λ o. IsOfSession st.session st.course.outcome o) e (orderly s so_far).session)) (live_found st.sets r e)) act)
+    let live = live_found st.sets r e in
+    let runs = outcome_running st.session st.course.outcome r (subst (λ o. IsOfSession st.session st.course.outcome o) e (orderly s so_far).session) in
+    by_cases (after_covered (LiveOrIdle r.number) s st (idle_at r.number s st r e runs live) (inl live) act)
   where
     by_cases : LiveOrIdle r.number (after s (state s so_far) act) → (after s (state s so_far) act).course.agenda ≡ None
     by_cases (inl h) = absurd (true_not_false (is_live (after s (state s so_far) act).sets r.number) h (failed_not_live 1 r.number (after s (state s so_far) act).sets q (numbered_after s so_far act) f g))

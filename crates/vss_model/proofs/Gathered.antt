@@ -30,17 +30,19 @@ use Rattle.requestor.specs.declared.stage.Stage.TheVariants.{Opened, Gathered, S
 use Rattle.requestor.specs.declared.session_call.SessionCall.TheVariants as call
 use Rattle.requestor.specs.Session.{Session, agenda_ended, set_failed, stage_after, has_writers}
 use Rattle.requestor.specs.Check.{is_stage}
-use Rattle.scenario.specs.Plan.{Plan, WriterPlan}
+use Rattle.scenario.specs.Plan.{token, Plan, WriterPlan}
+use Rattle.writer_calls.specs.Script.{said_of}
 use Rattle.vss_model.specs.State.{State, SetRow, Kept, start, in_progress, left_now}
 use Rattle.vss_model.specs.Ending.{Ending, NothingEnds, AgendaEnds, SetFails, ending, concluded, followed, runs, failed_in, failed}
 use Rattle.vss_model.specs.Images.{Replied, cleared, set_loses_image, with_room_if, put, write, reverted_as}
 use Rattle.vss_model.specs.Sessions.{begin_in, disable, has_failed_identify, has_no_volume, start_set, change_set, with_volume, selected_in, is_known, meta_if, known_from, known_metas, closed}
 use Rattle.vss_model.specs.Steps.{answered, cut_set, step_made, is_flush, is_failed_step, stepped_as, stepped, ticked, later}
-use Rattle.vss_model.specs.Acts.{Act, after, state}
+use Rattle.vss_model.specs.Acts.{idle_now, Act, after, state}
 use Rattle.vss_model.specs.Laws.{LetsGo}
 use Rattle.vss_model.specs.Facts.{WaitsFor, IsAgendaOf}
 use Rattle.vss_model.proofs.OrderlyActs.{orderly}
-use Rattle.vss_model.proofs.Rule.{IsKeptAt, after_at}
+use Rattle.vss_model.proofs.ByEvent.{Covers, Next, after_covered}
+use Rattle.vss_model.proofs.Rows.{none_runs}
 use Rattle.vss_model.proofs.Orderly.{true_not_false}
 use Rattle.vss_model.proofs.LogRule.{unspoken, course-step_made}
 use Rattle.vss_model.proofs.HeldOfSet.{Follows, goes_answered, goes_stepped, goes_timed}
@@ -200,11 +202,11 @@ gathered_begun s k ms vs now st e fit h = gathered_followed s true (begun k ms v
 equal : (a b : ℕ) → (a == b) ≡ true → a ≡ b
 equal a b e = grind arith
 
-known_if : (b : Bool) (m : Meta) → is_some (meta_if b m) ≡ true → b ≡ true
+pub known_if : (b : Bool) (m : Meta) → is_some (meta_if b m) ≡ true → b ≡ true
 known_if true m e = refl
 known_if false m e = absurd cc
 
-known_at : (s : Plan) (st : State) (k : ℕ) (ps : List WriterPlan) (w : ℕ) → is_some (meta_at (slice_get (known_from s st k ps) w)) ≡ true → is_known s st (k + w) ≡ true
+pub known_at : (s : Plan) (st : State) (k : ℕ) (ps : List WriterPlan) (w : ℕ) → is_some (meta_at (slice_get (known_from s st k ps) w)) ≡ true → is_known s st (k + w) ≡ true
 known_at s st k [] zero e = absurd cc
 known_at s st k [] (suc w) e = absurd cc
 known_at s st k (p ∷ ps) zero e = ap (is_known s st) (plus k) ∙ known_if (is_known s st k) p.meta e
@@ -227,7 +229,7 @@ fit_of s st w e = fit_if_known _ (is_unfit st.course.rows w) (subst (λ x. is_kn
     zero_plus : (a : ℕ) → 0 + a ≡ a
     zero_plus a = omega arith
 
-selectable_known : (i : ℕ) (o : Option Meta) → is_selectable_of i o ≡ true → is_some o ≡ true
+pub selectable_known : (i : ℕ) (o : Option Meta) → is_selectable_of i o ≡ true → is_some o ≡ true
 selectable_known i None e = absurd cc
 selectable_known i (Some m) e = refl
 
@@ -239,7 +241,7 @@ and_right : (a b : Bool) → (a && b) ≡ true → b ≡ true
 and_right true b e = e
 and_right false b e = absurd cc
 
-named_known : (ms : List (Option Meta)) (ps : List Pair) (w : ℕ) → list_all (names_selectable ms) ps ≡ true → list_any (λ (p : Pair). p.writer == w) ps ≡ true → is_some (meta_at (slice_get ms w)) ≡ true
+pub named_known : (ms : List (Option Meta)) (ps : List Pair) (w : ℕ) → list_all (names_selectable ms) ps ≡ true → list_any (λ (p : Pair). p.writer == w) ps ≡ true → is_some (meta_at (slice_get ms w)) ≡ true
 named_known ms [] w e f = absurd cc
 named_known ms (p ∷ ps) w e f = by_head (p.writer == w) refl f (named_known ms ps w (and_right (names_selectable ms p) (list_all (names_selectable ms) ps) e))
   where
@@ -266,7 +268,7 @@ none_known_below (Some m ∷ ms) k n l = neither (k == n) (list_any (λ x. x == 
     neither true b e f = absurd cc
     neither false b e f = f
 
-all_known : (ms : List (Option Meta)) (k n w : ℕ) → n ≡ k + w → list_any (λ x. x == n) (known_of k ms) ≡ true → is_some (meta_at (slice_get ms w)) ≡ true
+pub all_known : (ms : List (Option Meta)) (k n w : ℕ) → n ≡ k + w → list_any (λ x. x == n) (known_of k ms) ≡ true → is_some (meta_at (slice_get ms w)) ≡ true
 all_known [] k n w e f = absurd cc
 all_known (None ∷ ms) k n zero e f = absurd (true_not_false (list_any (λ x. x == n) (known_of (k + 1) ms)) f (none_known_below ms (k + 1) n (here n k e)))
   where
@@ -309,7 +311,7 @@ filter_passes test w (x ∷ xs) e = by_test (test x) refl e (filter_passes test 
     by_test true g h ih = by_head (x == w) refl g h ih
     by_test false g h ih = ih h
 
-member_passes : (test : ℕ → Bool) (k : ℕ) (rows : List WriterRow) (w : ℕ) → is_member (members_from test k rows) w ≡ true → test w ≡ true
+pub member_passes : (test : ℕ → Bool) (k : ℕ) (rows : List WriterRow) (w : ℕ) → is_member (members_from test k rows) w ≡ true → test w ≡ true
 member_passes test k [] w e = absurd cc
 member_passes test k (r ∷ rows) w e = by_test (test k) refl e (member_passes test (k + 1) rows w)
   where
@@ -502,10 +504,6 @@ prepares_late Done b e = refl
 prepares_late Finished b e = refl
 prepares_late Failed b e = refl
 
-none_runs : (a : Option Agenda) → is_some a ≡ false → a ≡ None
-none_runs None e = refl
-none_runs (Some a) e = absurd cc
-
 nobody : (ms : List Member) (w : ℕ) → ms ≡ [] → is_member ms w ≡ true → ⊥
 nobody [] w e f = cc
 nobody (m ∷ ms) w e f = cc
@@ -560,7 +558,7 @@ on_prepare s q st g (inl h) = inr (gathered_prepared s q.mode st.clock st (over_
 on_prepare s q st g (inr h) = inr (gathered_prepared s q.mode st.clock st h.over h.late)
 
 -- an agenda of some of the participants
-filter_member : (test : Member → Bool) (ms : List Member) (w : ℕ) → is_member (filter test ms) w ≡ true → is_member ms w ≡ true
+pub filter_member : (test : Member → Bool) (ms : List Member) (w : ℕ) → is_member (filter test ms) w ≡ true → is_member ms w ≡ true
 filter_member test [] w e = e
 filter_member test (m ∷ ms) w e = by_test (test m) e (filter_member test ms w)
   where
@@ -584,36 +582,33 @@ on_all : (s : Plan) (k : Kind) (vs : List ℕ) (st : State) → is_gathering k �
 on_all s k vs st e (inl h) = inl (bare_begun k st.course.members vs st.clock st.course st h.members (inr h.members) h)
 on_all s k vs st e (inr h) = inr (gathered_begun s k st.course.members vs st.clock st e h.members h)
 
-kept_at : (s : Plan) (st : State) → NamesKnown s st → IsKeptAt (NamesKnown s) s st
+kept_at : (s : Plan) (st : State) → NamesKnown s st → Covers (Next (NamesKnown s)) s st
 kept_at s st h = record {
-  lines = record {
-    stays = h;
-    writes = λ v w mark f. on_write s v w mark st h;
-    reverts = λ n v k mark f g. on_revert s v k mark st h;
-    ticks = λ n. on_ticks s n st h;
-    deletes_set = λ n f. same s st _ refl refl (λ l. l) h;
-    deletes_image = λ n v k f. same s st _ refl refl (λ l. l) h;
-    names = λ w name q explicit g f. on_names s w name q explicit st g f h;
-    disables = λ w q g. on_disables s w q st g h;
-    starts = λ q g f. on_starts s q st h;
-    adds = λ v r q g f i. same s st _ refl refl (λ l. l) h;
-    aborts = λ q f. on_failed s (in_progress st) AsyncCancelled st h;
-    ends = λ q f. on_end s q (failed AsyncCancelled st);
-  };
-  begins = λ lane all c g. on_begin s lane all c st g h;
-  agendas = record {
-    gathers = λ q g. on_gather s q _ _ st g refl h;
-    prepares = λ q g. either s (has_no_volume (in_progress st)) _ _ h (on_prepare s q st g h);
-    snapshots = λ q g. either s (has_no_volume (in_progress st)) _ _ h (on_all s Snapshot _ st refl h);
-    completes = λ q g. on_part s Complete _ [] st refl h;
-  };
-  answers = λ w said g. on_answers s w said st h;
+  stays = λ lane op mark told e c. h;
+  writes = λ lane op v w mark e f. on_write s v w mark st h;
+  reverts = λ lane n v k mark f g. on_revert s v k mark st h;
+  ticks = λ lane n mark. on_ticks s n st h;
+  idles = λ mark e. on_ticks s (idle_now st) st h;
+  deletes_set = λ lane n c mark f. same s st _ refl refl (λ l. l) h;
+  deletes_image = λ lane n v k mark f. same s st _ refl refl (λ l. l) h;
+  names = λ lane w full q explicit mark g f. on_names s w (token s full) q explicit st g f h;
+  disables = λ lane w q mark g. on_disables s w q st g h;
+  starts = λ lane q mark g f. on_starts s q st h;
+  adds = λ lane v r q mark g f i. same s st _ refl refl (λ l. l) h;
+  aborts = λ lane q mark f. on_failed s (in_progress st) AsyncCancelled st h;
+  ends = λ lane q mark f. on_end s q (failed AsyncCancelled st);
+  begins = λ lane m all c mark g f. on_begin s lane all (Some c) st g h;
+  gathers = λ lane q mark g. on_gather s q _ _ st g refl h;
+  prepares = λ lane q mark g. either s (has_no_volume (in_progress st)) _ _ h (on_prepare s q st g h);
+  snapshots = λ lane q mark g. either s (has_no_volume (in_progress st)) _ _ h (on_all s Snapshot _ st refl h);
+  completes = λ lane q mark g. on_part s Complete _ [] st refl h;
+  answers = λ w answer mark g. on_answers s w (said_of answer) st h;
   steps = λ mark g. on_steps s mark st h;
 }
 
 names_from : (s : Plan) (st : State) (acts : List Act) → NamesKnown s st → NamesKnown s (fold (after s) st acts)
 names_from s st [] h = h
-names_from s st (act ∷ acts) h = names_from s (after s st act) acts (after_at (NamesKnown s) s st (kept_at s st h) act)
+names_from s st (act ∷ acts) h = names_from s (after s st act) acts (after_covered (NamesKnown s) s st (kept_at s st h) h act)
 
 names_over : (s : Plan) (st : State) → NamesKnown s st → AreOver (known_metas s st) st.explicit
 names_over s st (inl h) = over_nothing (known_metas s st) st.explicit h.explicit
@@ -726,30 +721,27 @@ module _ (s : Plan) (st : State) where
   no_begin None q e f = cc
   no_begin (Some x) q e f = cc
 
-  knows_at : (q : Session) → st.session ≡ Some q → is_late q.stage ≡ true → AsksFitIn st.course.agenda st.course.rows → IsKeptAt KnowsStill s st
+  knows_at : (q : Session) → st.session ≡ Some q → is_late q.stage ≡ true → AsksFitIn st.course.agenda st.course.rows → Covers (Next KnowsStill) s st
   knows_at q e l a = record {
-    lines = record {
-      stays = knows_same st refl;
-      writes = λ v w mark f. knows_write v w mark;
-      reverts = λ n v k mark f g. knows_revert v k mark;
-      ticks = λ n. knows_ticks n a;
-      deletes_set = λ n f. knows_same (record st { volumes = map (dropped n) st.volumes }) refl;
-      deletes_image = λ n v k f. knows_same (record st { volumes = change_at v (dropped k.row.number) st.volumes }) refl;
-      names = λ w name x explicit g f. knows_same (record st { explicit = explicit }) refl;
-      disables = λ w x g. absurd (opened_not_late x.stage (has_writers x.context) g.allowed (late_at st.session x g.stands (subst LateIn (sym e) l)));
-      starts = λ x g f. knows_same (start_set x st).1 refl;
-      adds = λ v r x g f i. knows_same (change_set r.number (with_volume v) st) refl;
-      aborts = λ x f. knows_failed (in_progress st) AsyncCancelled st refl;
-      ends = λ x f. knows_end x (failed AsyncCancelled st);
-    };
-    begins = λ lane all c g. absurd (no_begin st.session q e g);
-    agendas = record {
-      gathers = λ x g. absurd (opened_not_late x.stage (has_writers x.context) g.allowed (late_at st.session x g.stands (subst LateIn (sym e) l)));
-      prepares = λ x g. knows_either (has_no_volume (in_progress st)) _ _ (knows_same st refl) (knows_begun Prepare _ [] st.clock _ refl (λ w. refl));
-      snapshots = λ x g. knows_either (has_no_volume (in_progress st)) _ _ (knows_same st refl) (knows_begun Snapshot _ _ st.clock st.course refl (λ w. refl));
-      completes = λ x g. knows_begun Complete _ [] st.clock st.course refl (λ w. refl);
-    };
-    answers = λ w said g. knows_answers w said a;
+    stays = λ lane op mark told e c. knows_same st refl;
+    writes = λ lane op v w mark e f. knows_write v w mark;
+    reverts = λ lane n v k mark f g. knows_revert v k mark;
+    ticks = λ lane n mark. knows_ticks n a;
+    idles = λ mark e. knows_ticks (idle_now st) a;
+    deletes_set = λ lane n c mark f. knows_same (record st { volumes = map (dropped n) st.volumes }) refl;
+    deletes_image = λ lane n v k mark f. knows_same (record st { volumes = change_at v (dropped k.row.number) st.volumes }) refl;
+    names = λ lane w full x explicit mark g f. knows_same (record st { explicit = explicit }) refl;
+    disables = λ lane w x mark g. absurd (opened_not_late x.stage (has_writers x.context) g.allowed (late_at st.session x g.stands (subst LateIn (sym e) l)));
+    starts = λ lane x mark g f. knows_same (start_set x st).1 refl;
+    adds = λ lane v r x mark g f i. knows_same (change_set r.number (with_volume v) st) refl;
+    aborts = λ lane x mark f. knows_failed (in_progress st) AsyncCancelled st refl;
+    ends = λ lane x mark f. knows_end x (failed AsyncCancelled st);
+    begins = λ lane m all c mark g f. absurd (no_begin st.session q e g);
+    gathers = λ lane x mark g. absurd (opened_not_late x.stage (has_writers x.context) g.allowed (late_at st.session x g.stands (subst LateIn (sym e) l)));
+    prepares = λ lane x mark g. knows_either (has_no_volume (in_progress st)) _ _ (knows_same st refl) (knows_begun Prepare _ [] st.clock _ refl (λ w. refl));
+    snapshots = λ lane x mark g. knows_either (has_no_volume (in_progress st)) _ _ (knows_same st refl) (knows_begun Snapshot _ _ st.clock st.course refl (λ w. refl));
+    completes = λ lane x mark g. knows_begun Complete _ [] st.clock st.course refl (λ w. refl);
+    answers = λ w answer mark g. knows_answers w (said_of answer) a;
     steps = λ mark g. knows_steps mark;
   }
 
@@ -768,4 +760,4 @@ known_stay s acts act q p e f g =
     let st = state s acts in
     let l = late_stage q.stage f in
     let known = names_from s (start s) acts (inl (record { explicit = refl; members = refl; agenda = tt })) in
-    after_at (KnowsStill s st) s st (knows_at s st q e l (asks_in s st q e l (orderly s acts).agenda known)) act p g
+    after_covered (KnowsStill s st) s st (knows_at s st q e l (asks_in s st q e l (orderly s acts).agenda known)) (knows_same s st st refl) act p g

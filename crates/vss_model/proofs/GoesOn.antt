@@ -15,7 +15,7 @@ use Rattle.write_history.specs.declared.move_item.Move.{Move}
 use Rattle.write_history.specs.History.{Write}
 use Rattle.set_agenda.specs.declared.group.Group.{Group}
 use Rattle.set_agenda.specs.declared.group.Group.TheVariants.{Orders, PreCommit, Flush, Hold, Cut, Commit, Release, PostCommit}
-use Rattle.set_agenda.specs.Agenda.{Agenda, is_asking, is_working, is_held as holds, is_frozen as freezes}
+use Rattle.set_agenda.specs.Agenda.{is_asking, is_working, is_held as holds, is_frozen as freezes}
 use Rattle.set_agenda.specs.Course.{Course, failed as course_failed, released}
 use Rattle.requestor.specs.declared.verdict.Verdict.TheVariants.{Go}
 use Rattle.requestor.specs.declared.session_call.SessionCall.{SessionCall}
@@ -36,11 +36,13 @@ use Rattle.vss_model.specs.Images.{Replied, put, reverted_as}
 use Rattle.vss_model.specs.Sessions.{begin_in, has_no_volume, closed, line_in, judged}
 use Rattle.vss_model.specs.Lines.{called, line}
 use Rattle.vss_model.specs.Steps.{answered, cut_set, step_made, stepped_as, stepped, ticked, later}
-use Rattle.vss_model.specs.Acts.{Act, after, after_if, happens, enabled, line_enabled, may_do, is_free, is_blocked, order_of_writer}
+use Rattle.vss_model.specs.Acts.{Act, after, enabled, line_enabled, may_do, is_free, is_blocked, order_of_writer}
 use Rattle.vss_model.specs.Laws.{IsKeptByWrites}
 use Rattle.vss_model.specs.Trail.{Run, begin, is_lane, cursor, next_line, line_event, answer_event, script_event, event_of, act_of, after_event, moved, run_from, run, acts, event_enabled, can_act, none_can_act, may_move, allows as allows_mark, is_legal_move, is_legal_from, is_legal, is_used_up, is_complete}
 use Rattle.scenario.specs.Bounds.{is_begin, is_end, has_end, ends_sessions}
 use Rattle.vss_model.specs.GoesOn.{EndsSessions, CanGoOn}
+use Rattle.vss_model.proofs.ByEvent.{after_enabled}
+use Rattle.vss_model.proofs.Rows.{none_runs}
 use Rattle.vss_model.proofs.Rule.{IsKeptButSteps, begins_at, on_after_steps}
 use Rattle.vss_model.proofs.Appending.{state-run, moves-run}
 use Rattle.vss_model.proofs.Orderly.{true_not_false}
@@ -259,10 +261,6 @@ may_can s r (Writer w) e = e
 may_can s r Advance e = e
 may_can s r IdleActor e = and_first (can_act s r IdleActor) (none_can_act s r) e
 
-after_enabled : (s : Plan) (st : State) (act : Act) → enabled s st act.event ≡ true → after s st act ≡ (happens s act.event act.mark st).1
-unfolding after
-after_enabled s st act e = ap (λ b. after_if b s st act) e
-
 -- the moves of others leave what a lane has left
 left_same : (s : Plan) (moves : List Move) (m : Move) (i : ℕ) → is_lane i m.actor ≡ false → has_end (rest_of s moves i) ≡ true → has_end (rest_of s (moves ++ m ∷ []) i) ≡ true
 left_same s moves m i e h = subst (λ n. has_end (drop n (lines_of s i)) ≡ true) (sym (cursor_same moves m i e)) h
@@ -431,10 +429,6 @@ line_can s r i l e f = can_move s r (Lane i) (subst (λ x. event_enabled s r (li
 
 -- ## where no agenda runs
 
-no_agenda : (a : Option Agenda) → is_some a ≡ false → a ≡ None
-no_agenda None e = refl
-no_agenda (Some a) e = absurd cc
-
 free_of : (st : State) (x : Option ℕ) → st.course.agenda ≡ None → is_free st x ≡ true
 free_of st None e = refl
 free_of st (Some w) e = ap (λ a. not (freezes a w)) e
@@ -577,7 +571,7 @@ by_runs true s trail e h f =
     (working_or_asking s (acts s trail) (subst (λ st. runs st ≡ true) (state-run s trail) e)))
 by_runs false s trail e h f =
     let r = run s trail in
-    quiet_goes s r (no_agenda r.state.course.agenda e) h (used_not (list_all (is_used_up s r) (range_with_len 0 (length s.lanes))) (runs r.state) f e)
+    quiet_goes s r (none_runs r.state.course.agenda e) h (used_not (list_all (is_used_up s r) (range_with_len 0 (length s.lanes))) (runs r.state) f e)
 
 pub can_go_on : (s : Plan) (trail : List Move) → EndsSessions s → is_legal s trail ≡ true → is_complete s trail ≡ false → CanGoOn s (run s trail)
 can_go_on s trail good e f = by_runs (runs (run s trail).state) s trail refl (legal_ends s (begin s) trail good tt e) f

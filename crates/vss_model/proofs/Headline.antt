@@ -2,6 +2,7 @@
 use Rattle.std.proofs.Common.{◌≡◌, ℕ, zero, suc, ◌+◌, ◌==◌, ◌<◌, ◌≤◌, List, [], ◌∷◌, ◌++◌, Option, Some, None, refl, Bool, true, false, ap, ◌∙◌, subst, length, inl, inr, arith}
 use Rattle.std.specs.Prelude.{◌⊎◌, is_none, ◌&&◌, not, slice_get}
 use Rattle.std.specs.List.{list_all, range_with_len}
+use Rattle.std.proofs.lemmas.Bool.{and_parts, eqb-true}
 use Rattle.write_history.specs.History.{point_in}
 use Rattle.write_history.specs.declared.actor.Actor.{Actor}
 use Rattle.write_history.specs.declared.actor.Actor.TheVariants.{Lane, Writer, Advance, Idle}
@@ -10,11 +11,12 @@ use Rattle.set_agenda.specs.declared.group.Group.TheVariants.{Hold, Release}
 use Rattle.set_agenda.specs.Agenda.{Agenda, open_group, plain, is_snapshot, is_among, has_said, has_frozen, has_thawed, is_held as holds, is_frozen as freezes}
 use Rattle.set_agenda.specs.Course.{is_member}
 use Rattle.scenario.specs.Plan.{Plan, LaneLine, LanePlan, lines_in, lines_of}
-use Rattle.vss_model.specs.State.{State, SetRow, in_progress, left_now, history_of, is_held, is_frozen}
+use Rattle.vss_model.specs.State.{State, SetRow, in_progress, row_of, left_now, history_of, is_held, is_frozen}
 use Rattle.vss_model.specs.Ending.{runs}
 use Rattle.vss_model.specs.Acts.{Act, after, state}
 use Rattle.vss_model.specs.Cut.{cut, is_set as has_number, is_cut_group, IsShownAt}
-use Rattle.vss_model.specs.Headline.{ReadsAsAtTheCut, IsHeldForSet, IsFrozenForSet, KeepsSet, KeepsPromises, MakesEachLineOnce}
+use Rattle.vss_model.specs.Headline.{ReadsAsAtTheCut, LeavesNothing, IsHeldForSet, IsFrozenForSet, KeepsSet, MakesEachLineOnce}
+use Rattle.vss_model.specs.Facts.{has_failed}
 use Rattle.vss_model.specs.Laws.{RunsSnapshot}
 use Rattle.vss_model.specs.Trail.{Run, run, begin, run_from, moved, is_lane, cursor, next_line, line_event, event_of, event_enabled, may_move, allows, is_legal_move, is_legal_from, is_legal, is_used_up, is_over, is_complete}
 use Rattle.vss_model.proofs.OneCut.{image_shown, image_reads, cut_is_at}
@@ -33,9 +35,6 @@ use Rattle.vss_model.proofs.GoesOn.{cursor_more, cursor_same}
 
 -- ## images
 
-same : (a b : ℕ) → (a == b) ≡ true → a ≡ b
-same a b e = grind arith
-
 at_cut : (s : Plan) (so_far : List Act) (n v p : ℕ) → point_in n (history_of (state s so_far) v).images ≡ Some p → (before : List Act) → cut s n so_far ≡ Some before
     → (o : Option SetRow) → in_progress (state s before) ≡ o → has_number n o ≡ true → is_cut_group (open_group (left_now (state s before))) ≡ true → ReadsAsAtTheCut s so_far n v p
 at_cut s so_far n v p h before e None f g i = absurd cc
@@ -45,7 +44,7 @@ at_cut s so_far n v p h before e (Some r) f g i = record {
   reads = λ b. image_reads s so_far before n v p b h e;
   set = r;
   is_set = f;
-  number = same r.number n g;
+  number = eqb-true r.number n g;
   volume = image_of_set s so_far n v p before r h e f;
   held = λ u j. held_at_cut s before r u i f j;
   frozen = λ w j. frozen_at_cut s before r w i f j;
@@ -58,23 +57,19 @@ reads_as s so_far n v p h (Some before) e i =
 
 -- ## held and frozen
 
-both_parts : (a b : Bool) → (a && b) ≡ true → (a ≡ true) × (b ≡ true)
-both_parts true b e = (refl, e)
-both_parts false b e = absurd cc
-
 held_volume : (st : State) (v : ℕ) (run : RunsSnapshot st) → Running HoldsOwn st.course.agenda → is_held st v ≡ true → is_among v run.set.volumes ≡ true
 held_volume st v run own e =
     let H : Option Agenda → Type 0 = λ a. holds a v ≡ true in
-    let said = both_parts (is_snapshot run.agenda.kind && has_said run.agenda.log (plain Hold) v) (not (has_said run.agenda.log (plain Release) v)) (subst H run.runs e) in
-    let held = both_parts (is_snapshot run.agenda.kind) (has_said run.agenda.log (plain Hold) v) said.0 in
+    let said = and_parts (is_snapshot run.agenda.kind && has_said run.agenda.log (plain Hold) v) (not (has_said run.agenda.log (plain Release) v)) (subst H run.runs e) in
+    let held = and_parts (is_snapshot run.agenda.kind) (has_said run.agenda.log (plain Hold) v) said.0 in
     let its : HoldsOwn run.agenda = subst (Running HoldsOwn) run.runs own in
     subst (λ vs. is_among v vs ≡ true) run.volumes (its v held.1)
 
 frozen_participant : (st : State) (w : ℕ) (run : RunsSnapshot st) → Running FreezesOwn st.course.agenda → is_frozen st w ≡ true → is_member st.course.members w ≡ true
 frozen_participant st w run own e =
     let F : Option Agenda → Type 0 = λ a. freezes a w ≡ true in
-    let said = both_parts (is_snapshot run.agenda.kind && has_frozen run.agenda.log w) (not (has_thawed run.agenda.log w)) (subst F run.runs e) in
-    let frozen = both_parts (is_snapshot run.agenda.kind) (has_frozen run.agenda.log w) said.0 in
+    let said = and_parts (is_snapshot run.agenda.kind && has_frozen run.agenda.log w) (not (has_thawed run.agenda.log w)) (subst F run.runs e) in
+    let frozen = and_parts (is_snapshot run.agenda.kind) (has_frozen run.agenda.log w) said.0 in
     let its : FreezesOwn run.agenda = subst (Running FreezesOwn) run.runs own in
     subst (λ ms. is_member ms w ≡ true) run.members (its w frozen.1)
 
@@ -90,15 +85,12 @@ frozen_for_set s so_far w e =
 
 -- ## what an act keeps of the set in progress
 
-some_same : (a b : SetRow) → Some a ≡ Some b → a ≡ b
-some_same a b e = cc
-
 still : (s : Plan) (so_far : List Act) (act : Act) (v : ℕ) → is_held (state s so_far) v ≡ true → (history_of (after s (state s so_far) act) v).writes ≡ (history_of (state s so_far) v).writes
 still s so_far act v e =
     let held = held_for_set s so_far v e in
     held_keeps s so_far act held.run.set v held.run.in_progress_is held.volume e
 
-keeps_set : (s : Plan) (so_far : List Act) (r : SetRow) (act : Act) → in_progress (state s so_far) ≡ Some r → KeepsSet s (state s so_far) act r
+pub keeps_set : (s : Plan) (so_far : List Act) (r : SetRow) (act : Act) → in_progress (state s so_far) ≡ Some r → KeepsSet s (state s so_far) act r
 keeps_set s so_far r act e = record {
   still = λ v f. still s so_far act v f;
   free = λ q f g. record { held = λ v. not_held_after s so_far act r q v e f g; frozen = λ w. not_frozen_after s so_far act r q w e f g };
@@ -106,14 +98,11 @@ keeps_set s so_far r act e = record {
   flush = λ f g h. flush_fails s so_far act r e f g h;
 }
 
-pub keeps_promises : (s : Plan) (so_far : List Act) → KeepsPromises s so_far
-keeps_promises s so_far = record {
-  images = λ n v p h. reads_as s so_far n v p h (cut s n so_far) refl (image_shown s so_far n v p h);
-  failed = λ n r e f. record { no_image = λ v. failed_keeps_nothing s so_far n v r e f; no_copy = λ group. failed_has_no_copy s so_far n r group e f };
-  held = λ v e. held_for_set s so_far v e;
-  frozen = λ w e. frozen_for_set s so_far w e;
-  set = λ r act e. keeps_set s so_far r act e;
-}
+pub reads_as_at_cut : (s : Plan) (so_far : List Act) (n v p : ℕ) → point_in n (history_of (state s so_far) v).images ≡ Some p → ReadsAsAtTheCut s so_far n v p
+reads_as_at_cut s so_far n v p h = reads_as s so_far n v p h (cut s n so_far) refl (image_shown s so_far n v p h)
+
+pub leaves_nothing : (s : Plan) (so_far : List Act) (n : ℕ) (r : SetRow) → row_of (state s so_far) n ≡ Some r → has_failed r.result ≡ true → LeavesNothing s so_far n
+leaves_nothing s so_far n r e f = record { no_image = λ v. failed_keeps_nothing s so_far n v r e f; no_copy = λ group. failed_has_no_copy s so_far n r group e f }
 
 -- ## each line once
 
@@ -127,14 +116,6 @@ past : (ls : List LaneLine) (k : ℕ) → is_none (slice_get ls k) ≡ true → 
 past [] k e = omega arith
 past (x ∷ ls) zero e = absurd cc
 past (x ∷ ls) (suc k) e = let h = past ls k e in omega (arith, h)
-
-first_true : (a b : Bool) → (a && b) ≡ true → a ≡ true
-first_true true b e = refl
-first_true false b e = absurd cc
-
-second_true : (a b : Bool) → (a && b) ≡ true → b ≡ true
-second_true true b e = e
-second_true false b e = absurd cc
 
 zero_more : (x : ℕ) → 0 + x ≡ x
 zero_more x = omega arith
@@ -152,9 +133,6 @@ lanes_or (suc i) (suc n) = raise (lanes_or i n)
 abbrev NonePast : Plan → List Move → Type 0
 NonePast s moves = (i : ℕ) → cursor moves i ≤ length (lines_of s i)
 
-equal : (a b : ℕ) → (a == b) ≡ true → a ≡ b
-equal a b e = grind arith
-
 has_line : (s : Plan) (r : Run) (j : ℕ) (o : Option LaneLine) → next_line s r j ≡ o → event_enabled s r (line_event j o) ≡ true → cursor r.moves j < length (lines_of s j)
 has_line s r j None e f = absurd cc
 has_line s r j (Some l) e f = within (lines_of s j) (cursor r.moves j) l e
@@ -165,7 +143,7 @@ lane_past s r m j i e f h = own (j == i) refl
     own : (b : Bool) → (j == i) ≡ b → cursor (r.moves ++ m ∷ []) i ≤ length (lines_of s i)
     own true g =
         let more = cursor_more r.moves m i (ap (is_lane i) e ∙ g) in
-        let here : cursor r.moves i < length (lines_of s i) = subst (λ x. cursor r.moves x < length (lines_of s x)) (equal j i g) (has_line s r j (next_line s r j) refl f) in
+        let here : cursor r.moves i < length (lines_of s i) = subst (λ x. cursor r.moves x < length (lines_of s x)) (eqb-true j i g) (has_line s r j (next_line s r j) refl f) in
         omega (arith, more, here)
     own false g =
         let less = cursor_same r.moves m i (ap (is_lane i) e ∙ g) in
@@ -184,18 +162,18 @@ move_past s r m Idle e f h i = other_past s r m i (ap (is_lane i) e) h
 past_from : (s : Plan) (r : Run) (ms : List Move) → is_legal_from s r ms ≡ true → NonePast s r.moves → NonePast s (run_from s r ms).moves
 past_from s r [] e h = h
 past_from s r (m ∷ ms) e h =
-    past_from s (moved s r m) ms (second_true (is_legal_move s r m) (is_legal_from s (moved s r m) ms) e)
-    (move_past s r m m.actor refl (first_true (may_move s r m.actor) (allows s r (event_of s r m.actor) m.mark) (first_true (is_legal_move s r m) (is_legal_from s (moved s r m) ms) e)) h)
+    past_from s (moved s r m) ms (and_parts (is_legal_move s r m) (is_legal_from s (moved s r m) ms) e).1
+    (move_past s r m m.actor refl (and_parts (may_move s r m.actor) (allows s r (event_of s r m.actor) m.mark) (and_parts (is_legal_move s r m) (is_legal_from s (moved s r m) ms) e).0).0 h)
 
 -- a test that all numbers below n pass
 all_below : (p : ℕ → Bool) (a n i : ℕ) → list_all p (range_with_len a n) ≡ true → i < n → p (a + i) ≡ true
 all_below p a zero i e h = absurd (omega (arith, h))
-all_below p a (suc n) zero e h = subst (λ x. p x ≡ true) (none_more a) (first_true (p a) (list_all p (range_with_len (a + 1) n)) e)
+all_below p a (suc n) zero e h = subst (λ x. p x ≡ true) (none_more a) (and_parts (p a) (list_all p (range_with_len (a + 1) n)) e).0
   where
     none_more : (x : ℕ) → x ≡ x + 0
     none_more x = omega arith
 all_below p a (suc n) (suc i) e h =
-    subst (λ x. p x ≡ true) (shift a i) (all_below p (a + 1) n i (second_true (p a) (list_all p (range_with_len (a + 1) n)) e) (omega (arith, h)))
+    subst (λ x. p x ≡ true) (shift a i) (all_below p (a + 1) n i (and_parts (p a) (list_all p (range_with_len (a + 1) n)) e).1 (omega (arith, h)))
   where
     shift : (x y : ℕ) → x + 1 + y ≡ x + suc y
     shift x y = omega arith
@@ -209,7 +187,7 @@ pub used_up : (s : Plan) (r : Run) → is_over s r ≡ true → (i : ℕ) → le
 used_up s r e i = own (lanes_or i (length s.lanes))
   where
     own : (i < length s.lanes) ⊎ (length s.lanes ≤ i) → length (lines_of s i) ≤ cursor r.moves i
-    own (inl h) = past (lines_of s i) (cursor r.moves i) (subst (λ x. is_used_up s r x ≡ true) (zero_more i) (all_below (is_used_up s r) 0 (length s.lanes) i (first_true (list_all (is_used_up s r) (range_with_len 0 (length s.lanes))) (not (runs r.state)) e) h))
+    own (inl h) = past (lines_of s i) (cursor r.moves i) (subst (λ x. is_used_up s r x ≡ true) (zero_more i) (all_below (is_used_up s r) 0 (length s.lanes) i (and_parts (list_all (is_used_up s r) (range_with_len 0 (length s.lanes))) (not (runs r.state)) e).0 h))
     own (inr h) = let g = no_lane s.lanes i h in omega (arith, g)
 
 pub each_line_once : (s : Plan) (trail : List Move) → is_legal s trail ≡ true → is_complete s trail ≡ true → MakesEachLineOnce s trail

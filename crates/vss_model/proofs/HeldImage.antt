@@ -463,7 +463,7 @@ point_in-append n p (i ∷ images) e = by_cases (i.set == n) e (point_in-append 
     by_cases true f ih = absurd cc
     by_cases false f ih = ih f
 
-held_parts : (a b c : Bool) → (a && b && not c) ≡ true → (a ≡ true) × (b ≡ true) × (c ≡ false)
+pub held_parts : (a b c : Bool) → (a && b && not c) ≡ true → (a ≡ true) × (b ≡ true) × (c ≡ false)
 held_parts true true false e = (refl, refl, refl)
 held_parts true true true e = absurd cc
 held_parts true false c e = absurd cc
@@ -607,7 +607,7 @@ held_point s acts r v p e f g =
     point_of v st.course.agenda r p (history_of st v).writes f
     (subst (λ o. ImageUnused true v st.course.agenda r o (history_of st v).writes) g (subst (λ o. SetUnused true v st.course.agenda o (history_of st v)) e (unused s acts v)))
 
-no_names : (bs : List ℕ) → filter (names []) bs ≡ []
+pub no_names : (bs : List ℕ) → filter (names []) bs ≡ []
 no_names [] = refl
 no_names (b ∷ bs) = no_names bs
 

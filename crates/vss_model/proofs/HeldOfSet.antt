@@ -1,6 +1,6 @@
 -- A running snapshot agenda is that of the one set in progress, with its volumes and participants.
 use Rattle.std.proofs.Common.{◌≡◌, ℕ, ◌+◌, ◌==◌, List, [], ◌∷◌, Option, Some, None, refl, Bool, true, false, map, ap, sym, ◌∙◌, subst, find, fold}
-use Rattle.std.specs.Prelude.{option_map, is_some, ◌&&◌, not, if◌then◌else◌}
+use Rattle.std.specs.Prelude.{option_map, ◌&&◌, not, if◌then◌else◌}
 use Rattle.vss_names.specs.declared.context.Context.{Context}
 use Rattle.vss_names.specs.declared.order.Order.{Order}
 use Rattle.vss_names.specs.declared.vss_result.VssResult.{VssResult}
@@ -9,7 +9,6 @@ use Rattle.vss_names.specs.declared.set_outcome.SetOutcome.{SetOutcome}
 use Rattle.vss_names.specs.declared.set_outcome.SetOutcome.TheVariants.{Running, Complete as CompleteSet, Failed}
 use Rattle.writer_state.specs.declared.said.Said.{Said}
 use Rattle.writer_state.specs.declared.said.Said.TheVariants.{Ok}
-use Rattle.writer_state.specs.WriterState.{is_ok}
 use Rattle.write_history.specs.declared.mark.Mark.{Mark}
 use Rattle.write_history.specs.declared.mark.Mark.TheVariants.{Clean, Fault, FaultAfter}
 use Rattle.write_history.specs.History.{Write}
@@ -17,13 +16,10 @@ use Rattle.set_agenda.specs.declared.group.Group.{Group}
 use Rattle.set_agenda.specs.declared.group.Group.TheVariants.{Orders, PreCommit, Flush, Hold, Cut, Commit, Release, PostCommit}
 use Rattle.set_agenda.specs.declared.kind.Kind.{Kind}
 use Rattle.set_agenda.specs.declared.kind.Kind.TheVariants.{Gather, Prepare, Snapshot, Complete}
-use Rattle.set_agenda.specs.declared.limit.Limit.{Limit}
-use Rattle.set_agenda.specs.declared.limit.Limit.TheVariants.{Hold as HoldLimit, Freeze as FreezeLimit, Answer as AnswerLimit}
 use Rattle.set_agenda.specs.declared.member.Member.{Member}
 use Rattle.set_agenda.specs.declared.place.Place.{Place}
-use Rattle.set_agenda.specs.Agenda.{Agenda, groups_left, left, open_place, at_place, all_say, is_done, is_snapshot, open_order, order_now, open_group, waits_now, next_member, has_said, has_frozen, has_thawed, plain, is_held as holds, is_frozen as freezes}
-use Rattle.set_agenda.specs.Limits.{Running as RunningLimit, spent_of}
-use Rattle.set_agenda.specs.Course.{Course, posted, failed as course_failed, settled_if, settled_in, settled, begun, snapshot_begun, is_decisive, told, decided, answered_to, answered as course_answered, worked, stepped_as as course_stepped_as, stepped as course_stepped, limits_now, lost_to, lost, fails_set, lost_decided, treated_as, treated, timed as course_timed, released}
+use Rattle.set_agenda.specs.Agenda.{Agenda, groups_left, left, open_place, at_place, all_say, is_done, is_snapshot, open_group, next_member, has_said, has_frozen, has_thawed, plain, is_held as holds, is_frozen as freezes}
+use Rattle.set_agenda.specs.Course.{Course, posted, failed as course_failed, settled_if, settled, begun, snapshot_begun, told, answered as course_answered, worked, stepped as course_stepped, timed as course_timed, released}
 use Rattle.requestor.specs.Session.{Session}
 use Rattle.scenario.specs.Plan.{Plan}
 use Rattle.vss_model.specs.State.{State, SetRow, Kept, start, is_running, in_progress, left_now, is_held, is_frozen}
@@ -33,6 +29,8 @@ use Rattle.vss_model.specs.Sessions.{begin_in, pending, has_no_volume, volumes_o
 use Rattle.vss_model.specs.Steps.{answered, row_cut, cut_set, step_made, is_flush, is_failed_step, stepped_as, stepped, ticked, later}
 use Rattle.vss_model.specs.Acts.{Act, after, state}
 use Rattle.vss_model.specs.Laws.{IsKeptByChanges, IsKeptByWrites, RunsSnapshot}
+use Rattle.set_agenda.proofs.CourseRule.{IsKeptFrom, from_settled, from_answered, from_timed}
+use Rattle.vss_model.proofs.Rows.{none_runs}
 use Rattle.vss_model.proofs.Rule.{on_after}
 use Rattle.vss_model.proofs.CutLog.{said_stays}
 
@@ -102,55 +100,25 @@ goes_posted : (before c d : Course) → GoesOn c d → GoesOn c (posted before d
 unfolding posted
 goes_posted before c d h = h
 
-goes_settled_if : (b : Bool) (k : Kind) (c d : Course) → GoesOn c d → GoesOn c (settled_if b k d)
-goes_settled_if false k c d h = h
-goes_settled_if true k c d h = tt
-
-goes_settled_in : (a : Option Agenda) (c d : Course) → GoesOn c d → GoesOn c (settled_in a d)
-goes_settled_in None c d h = h
-goes_settled_in (Some a) c d h = goes_settled_if (is_done (groups_left a)) a.kind c d h
-
-goes_settled : (c d : Course) → GoesOn c d → GoesOn c (settled d)
-unfolding settled
-goes_settled c d h = goes_settled_in d.agenda c d h
-
-goes_decided : (b : Bool) (said : Said) (c d : Course) → GoesOn c d → GoesOn c (decided b said d)
-goes_decided true said c d h = goes_failed _ c d
-goes_decided false said c d h = goes_settled c d h
-
-goes_answered_to : (o : Option Order) (w : ℕ) (said : Said) (now : ℕ) (c : Course) → GoesOn c (answered_to o w said now c)
-goes_answered_to None w said now c = follows_same c.agenda c.members c.outcome
-goes_answered_to (Some o) w said now c = goes_decided (is_decisive o && not (is_ok said)) said c (told o said now (w ∷ []) c) (goes_told o said now (w ∷ []) c)
+goes_kept : (c : Course) → IsKeptFrom (GoesOn c) c
+goes_kept c = record {
+  stays = follows_same c.agenda c.members c.outcome;
+  posts = λ before d h. goes_posted before c d h;
+  says = λ o said now ws e. goes_told o said now ws c;
+  works = λ now. goes_worked now c;
+  fails = λ why d e h. goes_failed why c d;
+  closes = λ a d e f h. tt;
+}
 
 pub goes_answered : (w : ℕ) (said : Said) (now : ℕ) (c : Course) → GoesOn c (course_answered w said now c)
-goes_answered w said now c = goes_posted c c _ (goes_answered_to (open_order (left c.agenda) w) w said now c)
-
-goes_stepped_as : (ok : Bool) (now : ℕ) (c : Course) → GoesOn c (course_stepped_as ok now c)
-goes_stepped_as true now c = goes_settled c (worked now c) (goes_worked now c)
-goes_stepped_as false now c = goes_failed _ c c
+goes_answered w said now c = from_answered (GoesOn c) c (goes_kept c) w said now
 
 pub goes_stepped : (ok : Bool) (now : ℕ) (c : Course) → GoesOn c (course_stepped ok now c)
-goes_stepped ok now c = goes_posted c c _ (goes_stepped_as ok now c)
-
-goes_lost_to : (o : Option Order) (now : ℕ) (c : Course) → GoesOn c (lost_to o now c)
-goes_lost_to None now c = follows_same c.agenda c.members c.outcome
-goes_lost_to (Some o) now c = goes_told o _ now (waits_now (left c.agenda)) c
-
-goes_lost_decided : (b : Bool) (c d : Course) → GoesOn c d → GoesOn c (lost_decided b d)
-goes_lost_decided true c d h = goes_failed _ c d
-goes_lost_decided false c d h = goes_settled c d h
-
-goes_treated_as : (l : Limit) (now : ℕ) (c : Course) → GoesOn c (treated_as l now c)
-goes_treated_as HoldLimit now c = goes_failed _ c c
-goes_treated_as FreezeLimit now c = goes_failed _ c (lost now c)
-goes_treated_as AnswerLimit now c = goes_lost_decided (fails_set (order_now (left c.agenda))) c (lost now c) (goes_lost_to (order_now (left c.agenda)) now c)
-
-goes_treated : (l : Option RunningLimit) (now : ℕ) (c : Course) → GoesOn c (treated l now c)
-goes_treated None now c = follows_same c.agenda c.members c.outcome
-goes_treated (Some l) now c = goes_treated_as l.limit now c
+goes_stepped true now c = goes_posted c c _ (from_settled (GoesOn c) c (goes_kept c) _ (goes_worked now c))
+goes_stepped false now c = goes_posted c c _ (goes_failed _ c c)
 
 pub goes_timed : (now : ℕ) (c : Course) → GoesOn c (course_timed now c)
-goes_timed now c = goes_posted c c _ (goes_treated (spent_of now (limits_now c)) now c)
+goes_timed now c = from_timed (GoesOn c) c (goes_kept c) now
 
 -- ## what follows
 
@@ -345,10 +313,6 @@ on_snapshot None st e h = h
 on_snapshot (Some r) st e h =
     let Q : Option SetRow → Type 0 = λ x. IsOf Snapshot r.volumes st.course.members st.course.members x in
     either_tied (has_no_volume (Some r)) _ _ h (tied_begun Snapshot st.course.members r.volumes st.clock st.course st refl (subst Q (sym e) (refl, refl)))
-
-none_runs : (a : Option Agenda) → is_some a ≡ false → a ≡ None
-none_runs None e = refl
-none_runs (Some a) e = absurd cc
 
 on_closes : (q : Session) (st : State) → IsTied (closed q st)
 unfolding closed released

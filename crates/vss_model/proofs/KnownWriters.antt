@@ -1,6 +1,6 @@
 -- The writers whose metadata the session has do not change once they are gathered, and only they are asked to take part.
 use Rattle.std.proofs.Common.{◌≡◌, ℕ, ◌+◌, zero, suc, List, [], ◌∷◌, Option, Some, None, refl, Bool, true, false, ap, sym, ◌∙◌, subst, arith}
-use Rattle.std.specs.Prelude.{◌&&◌, not, if◌then◌else◌, slice_get}
+use Rattle.std.specs.Prelude.{if◌then◌else◌, slice_get}
 use Rattle.vss_names.specs.declared.order.Order.{Order}
 use Rattle.vss_names.specs.declared.order.Order.TheVariants.{Identify, PrepareBackup, PrepareSnapshot, Freeze, Thaw, PostSnapshot, BackupComplete}
 use Rattle.vss_names.specs.declared.level.Level.{Level}
@@ -11,20 +11,19 @@ use Rattle.vss_names.specs.declared.writer_state.WriterState.TheVariants as stat
 use Rattle.writer_state.specs.declared.said.Said.{Said}
 use Rattle.writer_state.specs.declared.said.Said.TheVariants.{Ok, Veto, Lost}
 use Rattle.writer_state.specs.declared.writer_row.WriterRow.{WriterRow}
-use Rattle.writer_state.specs.WriterState.{is_ok, is_failed, stable_again}
+use Rattle.writer_state.specs.WriterState.{is_failed, stable_again}
 use Rattle.writer_state.specs.WriterRow.{row_after, row_aborted, one_more}
 use Rattle.set_agenda.specs.declared.group.Group.{Group}
 use Rattle.set_agenda.specs.declared.group.Group.TheVariants.{Orders, PreCommit, Flush, Hold, Cut, Commit, Release, PostCommit}
 use Rattle.set_agenda.specs.declared.kind.Kind.{Kind}
 use Rattle.set_agenda.specs.declared.kind.Kind.TheVariants.{Gather, Prepare, Snapshot, Complete}
-use Rattle.set_agenda.specs.declared.limit.Limit.{Limit}
-use Rattle.set_agenda.specs.declared.limit.Limit.TheVariants.{Hold as HoldLimit, Freeze as FreezeLimit, Answer as AnswerLimit}
 use Rattle.set_agenda.specs.declared.place.Place.{Place}
-use Rattle.set_agenda.specs.Agenda.{Agenda, Open, plain, at_level, places, order_of, is_orders, is_at, writers_at, members_of, waited_for, with_group, left_from, groups_left, left, open_place, is_asked, is_among, order_if, open_order, order_now, waits_now, is_done}
-use Rattle.set_agenda.specs.Limits.{Running as RunningLimit, running_limits, spent_of}
-use Rattle.set_agenda.specs.Course.{Course, row_if, rows_where, is_member, posted, failed as course_failed, settled_if, settled_in, settled, is_decisive, told, decided, answered_to, answered as course_answered, worked, stepped_as as course_stepped_as, stepped as course_stepped, freeze_limit, lost_to, lost, fails_set, lost_decided, treated_as, treated, timed as course_timed}
+use Rattle.set_agenda.specs.declared.member.Member.{Member}
+use Rattle.set_agenda.specs.Agenda.{Agenda, Open, plain, at_level, places, order_of, is_orders, is_at, writers_at, members_of, waited_for, with_group, left_from, groups_left, left, open_place, is_among, order_now, waits_now, is_done}
+use Rattle.set_agenda.specs.Course.{Course, row_if, rows_where, is_member, posted, failed as course_failed, settled_if, settled_in, settled, told, answered as course_answered, worked, stepped as course_stepped, timed as course_timed}
 use Rattle.vss_model.specs.Sessions.{is_identify_failure, has_failed_identify}
-use Rattle.vss_model.proofs.CourseCalls.{asked_if, asked_waits, one_alone, now_orders}
+use Rattle.set_agenda.proofs.CourseRule.{IsAsked, IsKeptFrom, from_answered, from_timed, IsKeptInCourse, course_answered as kept_answered, course_timed as kept_timed}
+use Rattle.vss_model.proofs.CourseCalls.{now_orders}
 use Rattle.vss_model.proofs.Spoken.{waits_members, among_filter, among_members}
 
 -- ## who has failed at Identify
@@ -239,104 +238,51 @@ pub keeps_posted : (before c d : Course) → Keeps c d → Keeps c (posted befor
 unfolding posted
 keeps_posted before c d h = record { disabled = h.disabled; members = h.members; fit = h.fit }
 
-keeps_decided : (b : Bool) (said : Said) (c d : Course) → Keeps c d → Keeps c (decided b said d)
-keeps_decided true said c d h = keeps_then c d (decided true said d) h (keeps_failed _ d)
-keeps_decided false said c d h = keeps_then c d (decided false said d) h (keeps_settled d)
-
-now_if : (b : Bool) (x : Option Order) (o : Order) → order_if b x ≡ Some o → x ≡ Some o
-now_if true x o e = e
-now_if false x o e = absurd cc
-
-keeps_answered_to : (x : Option Order) (w : ℕ) (said : Said) (now : ℕ) (a : Agenda) (c : Course) → open_order (groups_left a) w ≡ x → AsksFit a c.rows → Keeps c (answered_to x w said now c)
-keeps_answered_to None w said now a c e h = keeps_same c
-keeps_answered_to (Some o) w said now a c e h =
-    let os = groups_left a in
-    let asked = asked_waits os w (asked_if (is_asked w os) (order_now os) o e) in
-    let later = later_in a.kind a h.kind o (now_if (is_asked w os) (order_now os) o e) in
-    keeps_decided (is_decisive o && not (is_ok said)) said c (told o said now (w ∷ []) c)
-    (keeps_told o said now (w ∷ []) c later (λ x f. waits_fit a c.rows h asked.0 x (one_alone w x (waits_now os) asked.1 f)))
-
-keeps_answered_at : (x : Option Agenda) (w : ℕ) (said : Said) (now : ℕ) (c : Course) → AsksFitIn x c.rows → Keeps c (answered_to (open_order (left x) w) w said now c)
-keeps_answered_at None w said now c h = keeps_same c
-keeps_answered_at (Some a) w said now c h = keeps_answered_to (open_order (groups_left a) w) w said now a c refl h
-
-pub keeps_answered : (w : ℕ) (said : Said) (now : ℕ) (c : Course) → AsksFitIn c.agenda c.rows → Keeps c (course_answered w said now c)
-keeps_answered w said now c h = keeps_posted c c _ (keeps_answered_at c.agenda w said now c h)
+keeps_closed : (a : Agenda) (c d : Course) → Keeps c d → Keeps c (settled_if true a.kind d)
+keeps_closed a c d h = record { disabled = h.disabled; members = h.members; fit = h.fit }
 
 keeps_worked : (now : ℕ) (c : Course) → Keeps c (worked now c)
 unfolding worked
 keeps_worked now c = record { disabled = refl; members = refl; fit = λ w. refl }
 
-keeps_stepped_as : (ok : Bool) (now : ℕ) (c : Course) → Keeps c (course_stepped_as ok now c)
-keeps_stepped_as true now c = keeps_then c (worked now c) (course_stepped_as true now c) (keeps_worked now c) (keeps_settled (worked now c))
-keeps_stepped_as false now c = keeps_failed _ c
+keeps_asked : (o : Order) (said : Said) (now : ℕ) (ws : List ℕ) (x : Option Agenda) (c : Course) → c.agenda ≡ x → AsksFitIn x c.rows → IsAsked o ws c → Keeps c (told o said now ws c)
+keeps_asked o said now ws None c e h asked = absurd (no_order (subst (λ x. order_now (left x) ≡ Some o) e asked.order))
+  where
+    no_order : None ≡ Some o → ⊥
+    no_order e = cc
+keeps_asked o said now ws (Some a) c e h asked =
+    let order = subst (λ x. order_now (left x) ≡ Some o) e asked.order in
+    keeps_told o said now ws c (later_in a.kind a h.kind o order)
+    (λ w f. waits_fit a c.rows h (now_orders (groups_left a) o order) w (subst (λ x. is_among w (waits_now (left x)) ≡ true) e (asked.waits w f)))
 
-pub keeps_stepped : (ok : Bool) (now : ℕ) (c : Course) → Keeps c (course_stepped ok now c)
-keeps_stepped ok now c = keeps_posted c c _ (keeps_stepped_as ok now c)
+keeps_calls : (c : Course) → AsksFitIn c.agenda c.rows → IsKeptFrom (Keeps c) c
+keeps_calls c h = record {
+  stays = keeps_same c;
+  posts = λ before d g. keeps_posted before c d g;
+  says = λ o said now ws asked. keeps_asked o said now ws c.agenda c refl h asked;
+  works = λ now. keeps_worked now c;
+  fails = λ why d e g. keeps_then c d (course_failed why d) g (keeps_failed why d);
+  closes = λ a d e f g. keeps_closed a c d g;
+}
 
-keeps_lost_to : (x : Option Order) (now : ℕ) (a : Agenda) (c : Course) → c.agenda ≡ Some a → order_now (groups_left a) ≡ x → AsksFit a c.rows → Keeps c (lost_to x now c)
-keeps_lost_to None now a c e f h = keeps_same c
-keeps_lost_to (Some o) now a c e f h =
-    keeps_told o Lost now (waits_now (left c.agenda)) c (later_in a.kind a h.kind o f)
-    (λ w g. waits_fit a c.rows h (now_orders (groups_left a) o f) w (subst (λ x. is_among w (waits_now (left x)) ≡ true) e g))
-
-keeps_lost_in : (x : Option Agenda) (now : ℕ) (c : Course) → c.agenda ≡ x → AsksFitIn x c.rows → Keeps c (lost_to (order_now (left x)) now c)
-keeps_lost_in None now c e h = keeps_same c
-keeps_lost_in (Some a) now c e h = keeps_lost_to (order_now (groups_left a)) now a c e refl h
-
-keeps_lost_decided : (b : Bool) (c d : Course) → Keeps c d → Keeps c (lost_decided b d)
-keeps_lost_decided true c d h = keeps_then c d (lost_decided true d) h (keeps_failed _ d)
-keeps_lost_decided false c d h = keeps_then c d (lost_decided false d) h (keeps_settled d)
-
-keeps_treated_as : (l : Limit) (now : ℕ) (c : Course) → AsksFitIn c.agenda c.rows → Keeps c (treated_as l now c)
-keeps_treated_as HoldLimit now c h = keeps_failed _ c
-keeps_treated_as FreezeLimit now c h = keeps_then c (lost now c) (treated_as FreezeLimit now c) (keeps_lost_in c.agenda now c refl h) (keeps_failed _ (lost now c))
-keeps_treated_as AnswerLimit now c h = keeps_lost_decided (fails_set (order_now (left c.agenda))) c (lost now c) (keeps_lost_in c.agenda now c refl h)
-
-keeps_treated : (l : Option RunningLimit) (now : ℕ) (c : Course) → AsksFitIn c.agenda c.rows → Keeps c (treated l now c)
-keeps_treated None now c h = keeps_same c
-keeps_treated (Some l) now c h = keeps_treated_as l.limit now c h
+pub keeps_answered : (w : ℕ) (said : Said) (now : ℕ) (c : Course) → AsksFitIn c.agenda c.rows → Keeps c (course_answered w said now c)
+keeps_answered w said now c h = from_answered (Keeps c) c (keeps_calls c h) w said now
 
 pub keeps_timed : (now : ℕ) (c : Course) → AsksFitIn c.agenda c.rows → Keeps c (course_timed now c)
-keeps_timed now c h = keeps_posted c c _ (keeps_treated (spent_of now (running_limits (freeze_limit c) c.agenda)) now c h)
+keeps_timed now c h = from_timed (Keeps c) c (keeps_calls c h) now
+
+pub keeps_stepped : (ok : Bool) (now : ℕ) (c : Course) → Keeps c (course_stepped ok now c)
+keeps_stepped true now c = keeps_posted c c _ (keeps_then c (worked now c) (settled (worked now c)) (keeps_worked now c) (keeps_settled (worked now c)))
+keeps_stepped false now c = keeps_posted c c _ (keeps_failed _ c)
 
 -- ## the participants stay, whoever is asked
 
-members_decided : (b : Bool) (said : Said) (d : Course) → (decided b said d).members ≡ d.members
-members_decided true said d = (keeps_failed _ d).members
-members_decided false said d = (keeps_settled d).members
-
-members_told : (o : Order) (said : Said) (now : ℕ) (ws : List ℕ) (c : Course) → (told o said now ws c).members ≡ c.members
-unfolding told
-members_told o said now ws c = refl
-
-members_answered_to : (x : Option Order) (w : ℕ) (said : Said) (now : ℕ) (c : Course) → (answered_to x w said now c).members ≡ c.members
-members_answered_to None w said now c = refl
-members_answered_to (Some o) w said now c = members_decided (is_decisive o && not (is_ok said)) said (told o said now (w ∷ []) c) ∙ members_told o said now (w ∷ []) c
-
-members_posted : (before c : Course) → (posted before c).members ≡ c.members
-unfolding posted
-members_posted before c = refl
+members_kept : (ms : List Member) → IsKeptInCourse (λ c. c.members ≡ ms)
+unfolding posted told worked course_failed
+members_kept ms = record { posts = λ before c h. h; says = λ o said now ws c h. h; works = λ now c h. h; fails = λ why c h. h; closes = λ k c h. h }
 
 pub members_answered : (w : ℕ) (said : Said) (now : ℕ) (c : Course) → (course_answered w said now c).members ≡ c.members
-members_answered w said now c = members_posted c _ ∙ members_answered_to (open_order (left c.agenda) w) w said now c
-
-members_lost_to : (x : Option Order) (now : ℕ) (c : Course) → (lost_to x now c).members ≡ c.members
-members_lost_to None now c = refl
-members_lost_to (Some o) now c = members_told o Lost now (waits_now (left c.agenda)) c
-
-members_lost_decided : (b : Bool) (d : Course) → (lost_decided b d).members ≡ d.members
-members_lost_decided true d = (keeps_failed _ d).members
-members_lost_decided false d = (keeps_settled d).members
-
-members_treated_as : (l : Limit) (now : ℕ) (c : Course) → (treated_as l now c).members ≡ c.members
-members_treated_as HoldLimit now c = (keeps_failed _ c).members
-members_treated_as FreezeLimit now c = (keeps_failed _ (lost now c)).members ∙ members_lost_to (order_now (left c.agenda)) now c
-members_treated_as AnswerLimit now c = members_lost_decided (fails_set (order_now (left c.agenda))) (lost now c) ∙ members_lost_to (order_now (left c.agenda)) now c
-
-members_treated : (l : Option RunningLimit) (now : ℕ) (c : Course) → (treated l now c).members ≡ c.members
-members_treated None now c = refl
-members_treated (Some l) now c = members_treated_as l.limit now c
+members_answered w said now c = kept_answered (λ d. d.members ≡ c.members) (members_kept c.members) w said now c refl
 
 pub members_timed : (now : ℕ) (c : Course) → (course_timed now c).members ≡ c.members
-members_timed now c = members_posted c _ ∙ members_treated (spent_of now (running_limits (freeze_limit c) c.agenda)) now c
+members_timed now c = kept_timed (λ d. d.members ≡ c.members) (members_kept c.members) now c refl

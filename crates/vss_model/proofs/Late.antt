@@ -1,5 +1,5 @@
 -- A call that lets time go by fails the set only where something takes too long, in the words of the causes.
-use Rattle.std.proofs.Common.{◌≡◌, ℕ, ◌+◌, ◌-◌, List, [], ◌∷◌, ◌++◌, ◌⊎◌, Option, Some, None, refl, Bool, true, false, min, find, fold, filter, ap, sym, ◌∙◌, subst, inl, inr, arith}
+use Rattle.std.proofs.Common.{◌≡◌, ℕ, ◌+◌, ◌-◌, List, [], ◌∷◌, Option, Some, None, refl, Bool, true, false, min, fold, filter, ap, sym, ◌∙◌, subst, arith}
 use Rattle.std.specs.Prelude.{nat_lt, ◌&&◌, ◌||◌, not, if◌then◌else◌, slice_get}
 use Rattle.std.specs.List.{list_any}
 use Rattle.vss_names.specs.declared.order.Order.{Order}
@@ -15,6 +15,7 @@ use Rattle.set_agenda.specs.Agenda.{Agenda, Entry, Open, groups_left, left, orde
 use Rattle.set_agenda.specs.Limits.{Running, last_time, opened_at, is_prepare_snapshot, freeze_opened_at, is_hold, first_time, first_hold, hold_runs, freeze_runs, answer_runs, runs_if, hold_running, running_at, running_limits, spent_of}
 use Rattle.set_agenda.specs.Course.{Course, limit_of, freeze_limit, fails_set}
 use Rattle.vss_model.specs.Causes.{has_passed, last_of, holds_volumes, is_hold_step, held_too_long, freezes_writers, prepares_snapshot, frozen_too_long, prepares_writers, is_elsewhere, unanswered_too_long, is_late_at, is_late_in}
+use Rattle.set_agenda.proofs.SpentLimits.{same_running, IsSpentHere, spent_here}
 
 -- ## tables
 
@@ -54,7 +55,7 @@ same_freeze Commit = refl
 same_freeze Release = refl
 same_freeze PostCommit = refl
 
-same_prepare : (g : Group) → is_prepare_snapshot g ≡ prepares_snapshot g
+pub same_prepare : (g : Group) → is_prepare_snapshot g ≡ prepares_snapshot g
 same_prepare (Orders Identify) = refl
 same_prepare (Orders PrepareBackup) = refl
 same_prepare (Orders PrepareSnapshot) = refl
@@ -127,14 +128,6 @@ spent_passed now since limit e = over (nat_lt limit (now - since)) limit now sin
 
 -- ## which limit is spent
 
-found_in : (test : Running → Bool) (xs ys : List Running) (l : Running) → find test (xs ++ ys) ≡ Some l → (find test xs ≡ Some l) ⊎ (find test ys ≡ Some l)
-found_in test [] ys l e = inr e
-found_in test (x ∷ xs) ys l e = by_test (test x) e (found_in test xs ys l)
-  where
-    by_test : (b : Bool) → (if b then Some x else find test (xs ++ ys)) ≡ Some l → (find test (xs ++ ys) ≡ Some l → (find test xs ≡ Some l) ⊎ (find test ys ≡ Some l)) → ((if b then Some x else find test xs) ≡ Some l) ⊎ (find test ys ≡ Some l)
-    by_test true e ih = inl e
-    by_test false e ih = ih e
-
 -- a limit that runs and is spent
 record IsSpentOne (b : Bool) (x : Limit) (since ticks now : ℕ) (l : Running) : Type 0 where
   runs : b ≡ true
@@ -145,11 +138,8 @@ spent_one : (b : Bool) (limit : Limit) (since ticks now : ℕ) (l : Running) →
 spent_one false limit since ticks now l e = absurd cc
 spent_one true limit since ticks now l e = by_test (is_spent now since ticks) refl e
   where
-    some_same : (x y : Running) → Some x ≡ Some y → x ≡ y
-    some_same x y e = cc
-
     by_test : (b : Bool) → is_spent now since ticks ≡ b → (if b then Some (record { limit = limit; since = since; ticks = ticks }) else None) ≡ Some l → IsSpentOne true limit since ticks now l
-    by_test true f e = record { runs = refl; limit = ap (λ (x : Running). x.limit) (sym (some_same (record { limit = limit; since = since; ticks = ticks }) l e)); spent = f }
+    by_test true f e = record { runs = refl; limit = ap (λ (x : Running). x.limit) (sym (same_running (record { limit = limit; since = since; ticks = ticks }) l e)); spent = f }
     by_test false f e = absurd cc
 
 -- ## held
@@ -246,22 +236,15 @@ Decides HoldLimit o = Unit {0}
 Decides FreezeLimit o = Unit {0}
 Decides AnswerLimit o = fails_set o ≡ true
 
-late_open : (now : ℕ) (c : Course) (a : Agenda) (o : Open) (os : List Open) (l : Running) → spent_of now (running_at (freeze_limit c) a (o ∷ os)) ≡ Some l → Decides l.limit (order_of o.place.group) → is_late_at now c a (o ∷ os) ≡ true
-late_open now c a o os l e d =
-    let g = o.place.group in
-    by_last (found_in (λ x. is_spent now x.since x.ticks) (hold_running g (first_hold a.log) ++ runs_if (freeze_runs g) FreezeLimit (freeze_opened_at a) (freeze_limit c)) (runs_if (answer_runs g) AnswerLimit (opened_at a o) answer_limit) l e)
+late_open : (now : ℕ) (c : Course) (a : Agenda) (o : Open) (os : List Open) (l : Running) → spent_of now (running_at (freeze_limit c) a (o ∷ os)) ≡ Some l → Decides l.limit (order_of o.place.group)
+    → is_late_at now c a (o ∷ os) ≡ true
+late_open now c a o os l e d = by_limit l.limit d (spent_here now (freeze_limit c) a o os l e)
   where
-    by_first : (spent_of now (hold_running o.place.group (first_hold a.log)) ≡ Some l) ⊎ (spent_of now (runs_if (freeze_runs o.place.group) FreezeLimit (freeze_opened_at a) (freeze_limit c)) ≡ Some l) → is_late_at now c a (o ∷ os) ≡ true
-    by_first (inl f) = or_first (held_too_long now o.place.group a) (frozen_too_long now o.place.group c a) (unanswered_too_long now o.place a) (hold_late now o.place.group a (first_hold a.log) l refl f)
-    by_first (inr f) = or_second (held_too_long now o.place.group a) (frozen_too_long now o.place.group c a) (unanswered_too_long now o.place a) (freeze_late now o.place.group c a l f)
-
-    by_last : (spent_of now (hold_running o.place.group (first_hold a.log) ++ runs_if (freeze_runs o.place.group) FreezeLimit (freeze_opened_at a) (freeze_limit c)) ≡ Some l)
-        ⊎ (spent_of now (runs_if (answer_runs o.place.group) AnswerLimit (opened_at a o) answer_limit) ≡ Some l) → is_late_at now c a (o ∷ os) ≡ true
-    by_last (inl f) = by_first (found_in (λ x. is_spent now x.since x.ticks) (hold_running o.place.group (first_hold a.log)) (runs_if (freeze_runs o.place.group) FreezeLimit (freeze_opened_at a) (freeze_limit c)) l f)
-    by_last (inr f) =
-        let one = spent_one (answer_runs o.place.group) AnswerLimit (opened_at a o) answer_limit now l f in
-        or_third (held_too_long now o.place.group a) (frozen_too_long now o.place.group c a) (unanswered_too_long now o.place a)
-        (answer_late now a o l f (subst (λ x. Decides x (order_of o.place.group)) one.limit d))
+    by_limit : (x : Limit) → Decides x (order_of o.place.group) → IsSpentHere now (freeze_limit c) a o l x → is_late_at now c a (o ∷ os) ≡ true
+    by_limit HoldLimit d h =
+        or_first (held_too_long now o.place.group a) (frozen_too_long now o.place.group c a) (unanswered_too_long now o.place a) (hold_late now o.place.group a (first_hold a.log) l refl h)
+    by_limit FreezeLimit d h = or_second (held_too_long now o.place.group a) (frozen_too_long now o.place.group c a) (unanswered_too_long now o.place a) (freeze_late now o.place.group c a l h.1)
+    by_limit AnswerLimit d h = or_third (held_too_long now o.place.group a) (frozen_too_long now o.place.group c a) (unanswered_too_long now o.place a) (answer_late now a o l h.2 d)
 
 late_left : (now : ℕ) (c : Course) (a : Agenda) (os : List Open) (l : Running) → spent_of now (running_at (freeze_limit c) a os) ≡ Some l → Decides l.limit (order_now os) → is_late_at now c a os ≡ true
 late_left now c a [] l e d = absurd cc

@@ -1,5 +1,6 @@
 pub mod Appending
 pub mod GoingOn
+pub mod ByEvent
 pub mod Rule
 pub mod HeldOfSet
 pub mod Orderly

@@ -781,7 +781,7 @@ images_in_time s acts v = in_time_at (known_from s nothing_known (start s) acts)
 
 -- ## what an image reads
 
-all_taken : (ws : List Write) → take (length ws) ws ≡ ws
+pub all_taken : (ws : List Write) → take (length ws) ws ≡ ws
 all_taken ws = ap (take (length ws)) (more ws) ∙ take-append_seam ws []
   where
     more : (xs : List Write) → xs ≡ xs ++ []

@@ -175,7 +175,7 @@ live-fails p (r ∷ rows) n o other h =
     live_fails_at (is_running r.result) p r rows n refl o other (λ f g. live-fails p rows n (over_rest r rows o) f g) h
 
 -- its images go
-other_way : (a b : ℕ) → (a == b) ≡ false → (b == a) ≡ false
+pub other_way : (a b : ℕ) → (a == b) ≡ false → (b == a) ≡ false
 other_way a b f = grind arith
 
 kept_where_other : (b : Bool) (new : List SetRow) (i : Image) (images : List Image) → (b ≡ false → is_live new i.set ≡ true) → AreLive new images → AreLive new (if not b then i ∷ images else images)
@@ -206,11 +206,11 @@ pub numbered-append : (n : ℕ) (rows : List SetRow) (r : SetRow) → NumberedFr
 numbered-append n [] r h e = (e ∙ omega arith, tt)
 numbered-append n (q ∷ rows) r h e = (h.0, numbered-append (n + 1) rows r h.1 (e ∙ omega arith))
 
-none_head : (b : Bool) (x : SetRow) (other : Option SetRow) → (if b then Some x else other) ≡ None → b ≡ false
+pub none_head : (b : Bool) (x : SetRow) (other : Option SetRow) → (if b then Some x else other) ≡ None → b ≡ false
 none_head true x other e = absurd cc
 none_head false x other e = refl
 
-none_tail : (b : Bool) (x : SetRow) (other : Option SetRow) → (if b then Some x else other) ≡ None → other ≡ None
+pub none_tail : (b : Bool) (x : SetRow) (other : Option SetRow) → (if b then Some x else other) ≡ None → other ≡ None
 none_tail true x other e = absurd cc
 none_tail false x other e = e
 
@@ -235,7 +235,7 @@ pub all_live-append : (rows : List SetRow) (r : SetRow) (hs : List History) → 
 all_live-append rows r hs h = all_live_along rows (rows ++ r ∷ []) (λ n g. live_append rows r n g) hs h
 
 -- the set in progress is live
-running_is_live : (o : SetOutcome) → is_running o ≡ true → has_failed o ≡ false
+pub running_is_live : (o : SetOutcome) → is_running o ≡ true → has_failed o ≡ false
 running_is_live Running e = refl
 running_is_live CompleteSet e = absurd cc
 running_is_live (FailedSet why) e = absurd cc

@@ -10,7 +10,6 @@ use Rattle.vss_names.specs.declared.set_outcome.SetOutcome.{SetOutcome}
 use Rattle.vss_names.specs.declared.set_outcome.SetOutcome.TheVariants.{Running, Complete as CompleteSet, Failed as FailedSet}
 use Rattle.writer_state.specs.declared.said.Said.{Said}
 use Rattle.writer_state.specs.declared.said.Said.TheVariants.{Ok}
-use Rattle.writer_state.specs.WriterState.{is_ok}
 use Rattle.write_history.specs.declared.mark.Mark.{Mark}
 use Rattle.write_history.specs.declared.mark.Mark.TheVariants.{Clean, Fault, FaultAfter}
 use Rattle.write_history.specs.History.{Write, History, fresh, written, dropped, reverted, after_set}
@@ -19,12 +18,9 @@ use Rattle.set_agenda.specs.declared.group.Group.{Group}
 use Rattle.set_agenda.specs.declared.group.Group.TheVariants.{Orders, PreCommit, Flush, Hold, Cut, Commit, Release, PostCommit}
 use Rattle.set_agenda.specs.declared.kind.Kind.{Kind}
 use Rattle.set_agenda.specs.declared.kind.Kind.TheVariants.{Gather, Prepare, Snapshot, Complete}
-use Rattle.set_agenda.specs.declared.limit.Limit.{Limit}
-use Rattle.set_agenda.specs.declared.limit.Limit.TheVariants.{Hold as HoldLimit, Freeze as FreezeLimit, Answer as AnswerLimit}
 use Rattle.set_agenda.specs.declared.member.Member.{Member}
-use Rattle.set_agenda.specs.Agenda.{Agenda, groups_left, left, all_say, is_done, is_working, is_among, open_order, order_now, open_group, waits_now, next_member}
-use Rattle.set_agenda.specs.Limits.{Running as RunningLimit, running_limits, spent_of}
-use Rattle.set_agenda.specs.Course.{Course, posted, failed as course_failed, outcome_after, settled_if, settled_in, settled, begun, is_decisive, told, decided, answered_to, answered as course_answered, worked, stepped_as as course_stepped_as, stepped as course_stepped, freeze_limit, lost_to, lost, fails_set, lost_decided, treated_as, treated, timed as course_timed, released}
+use Rattle.set_agenda.specs.Agenda.{Agenda, groups_left, left, all_say, is_done, is_working, is_among, open_group, next_member}
+use Rattle.set_agenda.specs.Course.{Course, posted, failed as course_failed, outcome_after, settled_if, settled, begun, told, answered as course_answered, worked, stepped as course_stepped, timed as course_timed, released}
 use Rattle.requestor.specs.declared.stage.Stage.{Stage}
 use Rattle.requestor.specs.declared.stage.Stage.TheVariants.{Opened, Gathered, Started, Prepared, Done, Finished, Failed}
 use Rattle.requestor.specs.declared.session_call.SessionCall.TheVariants as call
@@ -40,6 +36,8 @@ use Rattle.vss_model.specs.Steps.{answered, with_cut, row_cut, cut_if, cut_each,
 use Rattle.vss_model.specs.Acts.{Act, after, state}
 use Rattle.vss_model.specs.Laws.{IsKeptByChanges, IsKeptByWrites, LetsGo}
 use Rattle.vss_model.specs.Facts.{is_early, IsOfStage, IsOfNone, IsOfSession, snapshot_stage, WaitsFor, IsAgendaOf, has_failed, is_live, AreLive, AllLive, IsOrderly}
+use Rattle.set_agenda.proofs.CourseRule.{IsKeptFrom, from_answered, from_stepped, from_timed}
+use Rattle.vss_model.proofs.Rows.{none_runs}
 use Rattle.vss_model.proofs.Rule.{on_after}
 use Rattle.vss_model.proofs.Orderly.{IsSameRow, numbered-map, newest-map, find-map, live-map, all_live_along, live-filter, live-append, all_live-map, all_live-change_at, numbered-settled, newest-settled, find-settled_over, find-settled_running, live-settled, all_live-fails, numbered-append, newest-append, find-append_new, all_live-append, live_found, true_not_false}
 
@@ -74,11 +72,10 @@ moves_worked : (now : ℕ) (c : Course) → MovesOn c (worked now c)
 unfolding worked
 moves_worked now c = moves_said Ok now (next_member (left c.agenda) ∷ []) c.agenda c.outcome
 
-moves_failed : (why : VssResult) (c d : Course) (a : Agenda) → c.agenda ≡ Some a → MovesOn c (course_failed why d)
+moves_failed : (why : VssResult) (a : Option Agenda) (o : SetOutcome) (d : Course) → is_some a ≡ true → Moves a o (course_failed why d).agenda (course_failed why d).outcome
 unfolding course_failed
-moves_failed why c d a e =
-    let Q : Option Agenda → Type 0 = λ x. Moves x c.outcome None (FailedSet why) in
-    subst Q (sym e) (inr refl)
+moves_failed why None o d e = absurd cc
+moves_failed why (Some a) o d e = inr refl
 
 moves_posted : (before c d : Course) → MovesOn c d → MovesOn c (posted before d)
 unfolding posted
@@ -88,67 +85,24 @@ ends_from : (a : Option Agenda) (o : SetOutcome) (b : Agenda) (p : SetOutcome) �
 ends_from None o b p h = absurd h
 ends_from (Some a) o b p h = inl (ap (λ k. outcome_after k p) h.0 ∙ ap (λ x. outcome_after a.kind x) h.1)
 
-moves_settled_if : (done : Bool) (b : Agenda) (c d : Course) → d.agenda ≡ Some b → MovesOn c d → MovesOn c (settled_if done b.kind d)
-moves_settled_if false b c d e h = h
-moves_settled_if true b c d e h =
-    let Q : Option Agenda → Type 0 = λ x. Moves c.agenda c.outcome x d.outcome in
-    ends_from c.agenda c.outcome b d.outcome (subst Q e h)
-
-moves_settled_in : (x : Option Agenda) (c d : Course) → d.agenda ≡ x → MovesOn c d → MovesOn c (settled_in x d)
-moves_settled_in None c d e h = h
-moves_settled_in (Some b) c d e h = moves_settled_if (is_done (groups_left b)) b c d e h
-
-moves_settled : (c d : Course) → MovesOn c d → MovesOn c (settled d)
-unfolding settled
-moves_settled c d h = moves_settled_in d.agenda c d refl h
-
-moves_decided : (fails : Bool) (said : Said) (c d : Course) (a : Agenda) → c.agenda ≡ Some a → MovesOn c d → MovesOn c (decided fails said d)
-moves_decided true said c d a e h = moves_failed _ c d a e
-moves_decided false said c d a e h = moves_settled c d h
-
-moves_answered_to : (o : Option Order) (w : ℕ) (said : Said) (now : ℕ) (c : Course) (a : Agenda) → c.agenda ≡ Some a → MovesOn c (answered_to o w said now c)
-moves_answered_to None w said now c a e = moves_same c.agenda c.outcome
-moves_answered_to (Some o) w said now c a e =
-    moves_decided (is_decisive o && not (is_ok said)) said c (told o said now (w ∷ []) c) a e (moves_told o said now (w ∷ []) c)
-
-moves_answered_at : (x : Option Agenda) (w : ℕ) (said : Said) (now : ℕ) (c : Course) → c.agenda ≡ x → MovesOn c (answered_to (open_order (left x) w) w said now c)
-moves_answered_at None w said now c e = moves_same c.agenda c.outcome
-moves_answered_at (Some a) w said now c e = moves_answered_to (open_order (left (Some a)) w) w said now c a e
+moves_kept : (c : Course) → IsKeptFrom (MovesOn c) c
+moves_kept c = record {
+  stays = moves_same c.agenda c.outcome;
+  posts = λ before d h. moves_posted before c d h;
+  says = λ o said now ws e. moves_told o said now ws c;
+  works = λ now. moves_worked now c;
+  fails = λ why d e h. moves_failed why c.agenda c.outcome d e;
+  closes = λ a d e f h. ends_from c.agenda c.outcome a d.outcome (subst (λ x. Moves c.agenda c.outcome x d.outcome) e h);
+}
 
 pub moves_answered : (w : ℕ) (said : Said) (now : ℕ) (c : Course) → MovesOn c (course_answered w said now c)
-moves_answered w said now c = moves_posted c c _ (moves_answered_at c.agenda w said now c refl)
-
-moves_stepped_as : (ok : Bool) (x : Option Agenda) (now : ℕ) (c : Course) → c.agenda ≡ x → is_working (left x) ≡ true → MovesOn c (course_stepped_as ok now c)
-moves_stepped_as true x now c e w = moves_settled c (worked now c) (moves_worked now c)
-moves_stepped_as false None now c e w = absurd cc
-moves_stepped_as false (Some a) now c e w = moves_failed _ c c a e
+moves_answered w said now c = from_answered (MovesOn c) c (moves_kept c) w said now
 
 pub moves_stepped : (ok : Bool) (now : ℕ) (c : Course) → is_working (left c.agenda) ≡ true → MovesOn c (course_stepped ok now c)
-moves_stepped ok now c w = moves_posted c c _ (moves_stepped_as ok c.agenda now c refl w)
-
-moves_lost_to : (o : Option Order) (now : ℕ) (c : Course) → MovesOn c (lost_to o now c)
-moves_lost_to None now c = moves_same c.agenda c.outcome
-moves_lost_to (Some o) now c = moves_told o _ now (waits_now (left c.agenda)) c
-
-moves_lost_decided : (b : Bool) (c d : Course) (a : Agenda) → c.agenda ≡ Some a → MovesOn c d → MovesOn c (lost_decided b d)
-moves_lost_decided true c d a e h = moves_failed _ c d a e
-moves_lost_decided false c d a e h = moves_settled c d h
-
-moves_treated_as : (l : Limit) (now : ℕ) (c : Course) (a : Agenda) → c.agenda ≡ Some a → MovesOn c (treated_as l now c)
-moves_treated_as HoldLimit now c a e = moves_failed _ c c a e
-moves_treated_as FreezeLimit now c a e = moves_failed _ c (lost now c) a e
-moves_treated_as AnswerLimit now c a e = moves_lost_decided (fails_set (order_now (left c.agenda))) c (lost now c) a e (moves_lost_to (order_now (left c.agenda)) now c)
-
-moves_treated : (l : Option RunningLimit) (now : ℕ) (c : Course) (a : Agenda) → c.agenda ≡ Some a → MovesOn c (treated l now c)
-moves_treated None now c a e = moves_same c.agenda c.outcome
-moves_treated (Some l) now c a e = moves_treated_as l.limit now c a e
-
-moves_timed_at : (x : Option Agenda) (now : ℕ) (c : Course) → c.agenda ≡ x → MovesOn c (treated (spent_of now (running_limits (freeze_limit c) x)) now c)
-moves_timed_at None now c e = moves_same c.agenda c.outcome
-moves_timed_at (Some a) now c e = moves_treated (spent_of now (running_limits (freeze_limit c) (Some a))) now c a e
+moves_stepped ok now c e = from_stepped (MovesOn c) c (moves_kept c) ok now e
 
 pub moves_timed : (now : ℕ) (c : Course) → MovesOn c (course_timed now c)
-moves_timed now c = moves_posted c c _ (moves_timed_at c.agenda now c refl)
+moves_timed now c = from_timed (MovesOn c) c (moves_kept c) now
 
 -- ## what follows
 
@@ -167,7 +121,7 @@ agenda_none : (a : Option Agenda) (q : Option Session) → a ≡ None → IsAgen
 agenda_none None q e = tt
 agenda_none (Some a) q e = absurd cc
 
-over_failed : (o : SetOutcome) → has_failed o ≡ true → is_running o ≡ false
+pub over_failed : (o : SetOutcome) → has_failed o ≡ true → is_running o ≡ false
 over_failed Running e = absurd cc
 over_failed CompleteSet e = refl
 over_failed (FailedSet why) e = refl
@@ -610,10 +564,6 @@ on_begins lane all (Some c) st e h =
       agenda = agenda_of_none st.course.agenda None _ (subst A e h.agenda);
       live = h.live;
     }
-
-none_runs : (a : Option Agenda) → is_some a ≡ false → a ≡ None
-none_runs None e = refl
-none_runs (Some a) e = absurd cc
 
 stage_none : (s : Stage) (set : Option ℕ) (o : SetOutcome) (found : Option SetRow) → makes_set s ≡ false → IsOfStage s set o found → (found ≡ None) × (is_early s ≡ true → o ≡ Running)
 stage_none s set o None e h = (refl, h.1)

@@ -96,7 +96,7 @@ room_if false true c x y z e = absurd cc
 room_if false false true x y z e = absurd cc
 room_if false false false x y z e = refl
 
-fewer_than : (most n : ℕ) → nat_le most n ≡ false → n < most
+pub fewer_than : (most n : ℕ) → nat_le most n ≡ false → n < most
 fewer_than most n e = grind arith
 
 added : (vs : List ℕ) (v u : ℕ) → is_among u (vs ++ v ∷ []) ≡ true → (is_among u vs ≡ true) ⊎ (v ≡ u)

@@ -1,11 +1,16 @@
 -- The row of the set in progress: it is the row of its number, and it alone.
-use Rattle.std.proofs.Common.{◌≡◌, ℕ, ◌+◌, ◌==◌, ◌<◌, ◌≤◌, List, [], ◌∷◌, ◌++◌, Some, refl, Bool, true, false, map, ap, sym, ◌∙◌, subst, find, arith}
-use Rattle.std.specs.Prelude.{option_map, ◌&&◌, ◌||◌, if◌then◌else◌}
+use Rattle.std.proofs.Common.{◌≡◌, ℕ, ◌+◌, ◌==◌, ◌<◌, ◌≤◌, List, [], ◌∷◌, ◌++◌, Option, Some, None, refl, Bool, true, false, map, ap, sym, ◌∙◌, subst, find, length, arith}
+use Rattle.std.specs.Prelude.{option_map, ◌&&◌, ◌||◌, not, is_some, if◌then◌else◌}
 use Rattle.std.specs.List.{list_any}
+use Rattle.std.proofs.lemmas.Bool.{and_left, and_right, or_left, or_parts, or_from, ne_eqb, eq-eqb, cond-true, cond-false}
 use Rattle.vss_names.specs.declared.set_outcome.SetOutcome.{SetOutcome}
 use Rattle.vss_names.specs.declared.set_outcome.SetOutcome.TheVariants.{Running, Complete, Failed}
 use Rattle.vss_model.specs.State.{SetRow, is_running, is_complete}
 use Rattle.vss_model.specs.Ending.{row_settled}
+use Rattle.set_agenda.specs.declared.kind.Kind.{Kind}
+use Rattle.set_agenda.specs.declared.kind.Kind.TheVariants.{Gather, Prepare, Snapshot, Complete as CompleteKind}
+use Rattle.set_agenda.specs.Agenda.{Agenda, is_snapshot}
+use Rattle.vss_model.specs.Effects.{ended_of}
 use Rattle.vss_model.specs.Facts.{NumberedFrom}
 
 some_row : (q r : SetRow) → Some q ≡ Some r → q ≡ r
@@ -23,45 +28,28 @@ pub found_above : (m : ℕ) (rows : List SetRow) (r : SetRow) → NumberedFrom m
 found_above m [] r h e = absurd cc
 found_above m (q ∷ rows) r h e = by_head (is_running q.result) e (found_above (m + 1) rows r h.1)
   where
-    at : (a b : ℕ) → a ≡ b → b ≤ a
-    at a b e = omega (arith, e)
-
-    over : (a b : ℕ) → a + 1 ≤ b → a ≤ b
-    over a b e = omega (arith, e)
-
     by_head : (b : Bool) → (if b then Some q else find (λ x. is_running x.result) rows) ≡ Some r → (find (λ x. is_running x.result) rows ≡ Some r → m + 1 ≤ r.number) → m ≤ r.number
-    by_head true e ih = subst (λ x. m ≤ x.number) (some_row q r e) (at q.number m h.0)
-    by_head false e ih = over m r.number (ih e)
+    by_head true e ih = subst (λ x. m ≤ x.number) (some_row q r e) (let g = h.0 in omega (arith, g))
+    by_head false e ih = let g = ih e in omega (arith, g)
 
 -- the row of its number is the row of the set in progress
 pub row_running : (m : ℕ) (rows : List SetRow) (r : SetRow) → NumberedFrom m rows → find (λ q. is_running q.result) rows ≡ Some r → find (λ q. q.number == r.number) rows ≡ Some r
 row_running m [] r h e = absurd cc
 row_running m (q ∷ rows) r h e = by_head (is_running q.result) e (row_running (m + 1) rows r h.1) (found_above (m + 1) rows r h.1)
   where
-    own : (a : ℕ) → (a == a) ≡ true
-    own a = grind arith
-
     below : (a b c : ℕ) → a ≡ b → b + 1 ≤ c → (a == c) ≡ false
     below a b c e f = grind arith
-
-    skip : (b : Bool) → b ≡ false → find (λ x. x.number == r.number) rows ≡ Some r → (if b then Some q else find (λ x. x.number == r.number) rows) ≡ Some r
-    skip true e h = absurd cc
-    skip false e h = h
-
-    take_it : (b : Bool) → b ≡ true → q ≡ r → (if b then Some q else find (λ x. x.number == r.number) rows) ≡ Some r
-    take_it true e h = ap (λ x. Some x) h
-    take_it false e h = absurd cc
 
     by_head : (b : Bool) → (if b then Some q else find (λ x. is_running x.result) rows) ≡ Some r → (find (λ x. is_running x.result) rows ≡ Some r → find (λ x. x.number == r.number) rows ≡ Some r)
         → (find (λ x. is_running x.result) rows ≡ Some r → m + 1 ≤ r.number) → (if q.number == r.number then Some q else find (λ x. x.number == r.number) rows) ≡ Some r
     by_head true e ih above =
         let same = some_row q r e in
-        take_it (q.number == r.number) (subst (λ x. (q.number == x.number) ≡ true) same (own q.number)) same
-    by_head false e ih above = skip (q.number == r.number) (below q.number m r.number h.0 (above e)) (ih e)
+        cond-true _ _ _ (subst (λ x. (q.number == x.number) ≡ true) same (eq-eqb q.number q.number refl)) ∙ ap (λ x. Some x) same
+    by_head false e ih above = cond-false _ _ _ (below q.number m r.number h.0 (above e)) ∙ ih e
 
 -- ## rows that settle
 
-number-settled : (b : Bool) (p : SetOutcome) (r : SetRow) → (if b then record r { result = p } else r).number ≡ r.number
+pub number-settled : (b : Bool) (p : SetOutcome) (r : SetRow) → (if b then record r { result = p } else r).number ≡ r.number
 number-settled true p r = refl
 number-settled false p r = refl
 
@@ -86,32 +74,16 @@ result-settled false p r e = absurd cc
 abbrev pub has_complete : List SetRow → ℕ → Bool
 has_complete rows n = list_any (λ r. (r.number == n) && is_complete r.result) rows
 
-or_false : (a b : Bool) → a ≡ false → b ≡ false → (a || b) ≡ false
-or_false true b e f = absurd cc
-or_false false b e f = f
+pub apart : (a b : ℕ) → a < b → (a == b) ≡ false
+apart a b l = ne_eqb a b (λ e. omega (arith, l, e))
 
-or_parts : (a b : Bool) → (a || b) ≡ false → (a ≡ false) × (b ≡ false)
-or_parts true b e = absurd cc
-or_parts false b e = (refl, e)
+pub apart_back : (a b : ℕ) → a < b → (b == a) ≡ false
+apart_back a b l = ne_eqb b a (λ e. omega (arith, l, e))
 
-and_false : (a b : Bool) → a ≡ false → (a && b) ≡ false
-and_false true b e = absurd cc
-and_false false b e = refl
-
-and_not : (a b : Bool) → b ≡ false → (a && b) ≡ false
-and_not true b e = e
-and_not false b e = refl
-
-none_below : (k n : ℕ) (rows : List SetRow) → NumberedFrom k rows → n < k → has_complete rows n ≡ false
+pub none_below : (k n : ℕ) (rows : List SetRow) → NumberedFrom k rows → n < k → has_complete rows n ≡ false
 none_below k n [] h l = refl
 none_below k n (r ∷ rows) h l =
-    or_false ((r.number == n) && is_complete r.result) (has_complete rows n) (and_false (r.number == n) (is_complete r.result) (differs r.number k n h.0 l)) (none_below (k + 1) n rows h.1 (next n k l))
-  where
-    differs : (a b c : ℕ) → a ≡ b → c < b → (a == c) ≡ false
-    differs a b c e l = grind arith
-
-    next : (a b : ℕ) → a < b → a < b + 1
-    next a b l = omega (arith, l)
+    or_from ((r.number == n) && is_complete r.result) (has_complete rows n) (and_left (r.number == n) (is_complete r.result) (apart_back n r.number (let e = h.0 in omega (arith, e, l)))) (none_below (k + 1) n rows h.1 (omega (arith, l)))
 
 running_not_complete : (o : SetOutcome) → is_running o ≡ true → is_complete o ≡ false
 running_not_complete Running e = refl
@@ -128,7 +100,7 @@ row_not_complete k n (q ∷ rows) r h e f = by_head (q.number == n) refl e (row_
 
     by_head : (b : Bool) → (q.number == n) ≡ b → (if b then Some q else find (λ x. x.number == n) rows) ≡ Some r → (find (λ x. x.number == n) rows ≡ Some r → is_complete r.result ≡ false → has_complete rows n ≡ false) → ((b && is_complete q.result) || has_complete rows n) ≡ false
     by_head true g e ih =
-        or_false (is_complete q.result) (has_complete rows n) (subst (λ x. is_complete x.result ≡ false) (sym (some_row q r e)) f) (none_below (k + 1) n rows h.1 (equal_below q.number n k g h.0))
+        or_from (is_complete q.result) (has_complete rows n) (subst (λ x. is_complete x.result ≡ false) (sym (some_row q r e)) f) (none_below (k + 1) n rows h.1 (equal_below q.number n k g h.0))
     by_head false g e ih = ih e f
 
 pub running_incomplete : (rows : List SetRow) (r : SetRow) → NumberedFrom 1 rows → find (λ q. is_running q.result) rows ≡ Some r → has_complete rows r.number ≡ false
@@ -136,7 +108,7 @@ running_incomplete rows r h e = row_not_complete 1 r.number rows r h (row_runnin
 
 complete_if : (b : Bool) (p : SetOutcome) (r : SetRow) (n : ℕ) → is_complete p ≡ false → ((r.number == n) && is_complete r.result) ≡ false
     → (((if b then record r { result = p } else r).number == n) && is_complete (if b then record r { result = p } else r).result) ≡ false
-complete_if true p r n e h = and_not (r.number == n) (is_complete p) e
+complete_if true p r n e h = and_right (r.number == n) (is_complete p) e
 complete_if false p r n e h = h
 
 -- no set completes where the outcome is another
@@ -144,31 +116,104 @@ pub incomplete_settled : (p : SetOutcome) (n : ℕ) (rows : List SetRow) → is_
 incomplete_settled p n [] e h = h
 incomplete_settled p n (r ∷ rows) e h =
     let parts = or_parts ((r.number == n) && is_complete r.result) (has_complete rows n) h in
-    or_false (((row_settled p r).number == n) && is_complete (row_settled p r).result) (has_complete (map (row_settled p) rows) n) (complete_if (is_running r.result) p r n e parts.0) (incomplete_settled p n rows e parts.1)
+    or_from (((row_settled p r).number == n) && is_complete (row_settled p r).result) (has_complete (map (row_settled p) rows) n) (complete_if (is_running r.result) p r n e parts.0) (incomplete_settled p n rows e parts.1)
 
 -- rows that keep their numbers and results
 pub incomplete_map : (f : SetRow → SetRow) → ((r : SetRow) → (f r).number ≡ r.number) → ((r : SetRow) → (f r).result ≡ r.result) → (n : ℕ) (rows : List SetRow) → has_complete rows n ≡ false → has_complete (map f rows) n ≡ false
 incomplete_map f number result n [] h = h
 incomplete_map f number result n (r ∷ rows) h =
     let parts = or_parts ((r.number == n) && is_complete r.result) (has_complete rows n) h in
-    or_false (((f r).number == n) && is_complete (f r).result) (has_complete (map f rows) n)
+    or_from (((f r).number == n) && is_complete (f r).result) (has_complete (map f rows) n)
     (ap (λ k. (k == n) && is_complete (f r).result) (number r) ∙ ap (λ o. (r.number == n) && is_complete o) (result r) ∙ parts.0) (incomplete_map f number result n rows parts.1)
 
 pub incomplete_append : (rows : List SetRow) (r : SetRow) (n : ℕ) → is_complete r.result ≡ false → has_complete rows n ≡ false → has_complete (rows ++ r ∷ []) n ≡ false
-incomplete_append [] r n e h = or_false ((r.number == n) && is_complete r.result) false (and_not (r.number == n) (is_complete r.result) e) refl
+incomplete_append [] r n e h = or_from ((r.number == n) && is_complete r.result) false (and_right (r.number == n) (is_complete r.result) e) refl
 incomplete_append (q ∷ rows) r n e h =
     let parts = or_parts ((q.number == n) && is_complete q.result) (has_complete rows n) h in
-    or_false ((q.number == n) && is_complete q.result) (has_complete (rows ++ r ∷ []) n) parts.0 (incomplete_append rows r n e parts.1)
+    or_from ((q.number == n) && is_complete q.result) (has_complete (rows ++ r ∷ []) n) parts.0 (incomplete_append rows r n e parts.1)
 
 -- a row that was found and is complete says so
 pub complete_found : (k n : ℕ) (rows : List SetRow) (r : SetRow) → find (λ q. q.number == n) rows ≡ Some r → is_complete r.result ≡ true → has_complete rows n ≡ true
 complete_found k n [] r e f = absurd cc
 complete_found k n (q ∷ rows) r e f = by_head (q.number == n) e (complete_found k n rows r)
   where
-    or_left : (a b : Bool) → a ≡ true → (a || b) ≡ true
-    or_left true b e = refl
-    or_left false b e = absurd cc
-
     by_head : (b : Bool) → (if b then Some q else find (λ x. x.number == n) rows) ≡ Some r → (find (λ x. x.number == n) rows ≡ Some r → is_complete r.result ≡ true → has_complete rows n ≡ true) → ((b && is_complete q.result) || has_complete rows n) ≡ true
     by_head true e ih = or_left (is_complete q.result) (has_complete rows n) (subst (λ x. is_complete x.result ≡ true) (sym (some_row q r e)) f)
     by_head false e ih = ih e f
+
+-- ## rows that are over
+
+-- the row of set n, where it is over
+abbrev pub is_over_row : ℕ → SetRow → Bool
+is_over_row n q = (q.number == n) && not (is_running q.result)
+
+-- all rows from a number on are of greater ones
+pub none_later : (m n : ℕ) (rows : List SetRow) → NumberedFrom m rows → n < m → find (is_over_row n) rows ≡ None
+none_later m n [] h l = refl
+none_later m n (q ∷ rows) h l =
+    cond-false _ _ _ (and_left (q.number == n) (not (is_running q.result)) (apart_back n q.number (let e = h.0 in omega (arith, e, l)))) ∙ none_later (m + 1) n rows h.1 (omega (arith, l))
+
+-- the set in progress is not over
+pub none_over : (m : ℕ) (rows : List SetRow) (r : SetRow) → NumberedFrom m rows → find (λ q. is_running q.result) rows ≡ Some r → find (is_over_row r.number) rows ≡ None
+none_over m [] r h e = refl
+none_over m (q ∷ rows) r h e = by_head (is_running q.result) refl e (none_over (m + 1) rows r h.1)
+  where
+    by_head : (b : Bool) → is_running q.result ≡ b → (if b then Some q else find (λ x. is_running x.result) rows) ≡ Some r → (find (λ x. is_running x.result) rows ≡ Some r → find (is_over_row r.number) rows ≡ None)
+        → (if is_over_row r.number q then Some q else find (is_over_row r.number) rows) ≡ None
+    by_head true f e ih =
+        let number = ap (λ (x : SetRow). x.number) (some_row q r e) in
+        cond-false _ _ _ (and_right (q.number == r.number) (not (is_running q.result)) (ap not f)) ∙ none_later (m + 1) r.number rows h.1 (let g = h.0 in omega (arith, g, number))
+    by_head false f e ih =
+        let above = found_above (m + 1) rows r h.1 e in
+        cond-false _ _ _ (and_left (q.number == r.number) (not (is_running q.result)) (apart q.number r.number (let g = h.0 in omega (arith, g, above)))) ∙ ih e
+
+none_by : (rows : List SetRow) (o : Option SetRow) → NumberedFrom 1 rows → find (λ q. is_running q.result) rows ≡ o → ended_of o rows ≡ None
+none_by rows None h e = refl
+none_by rows (Some r) h e = none_over 1 rows r h e
+
+-- where the rows stay as they are, no set ends
+pub none_ends : (rows : List SetRow) → NumberedFrom 1 rows → ended_of (find (λ q. is_running q.result) rows) rows ≡ None
+none_ends rows h = none_by rows (find (λ q. is_running q.result) rows) h refl
+
+pub settled_running : (o : SetOutcome) (r : SetRow) → is_running r.result ≡ true → row_settled o r ≡ record r { result = o }
+settled_running o r e = ap (λ (b : Bool). if b then record r { result = o } else r) e
+
+-- a set in progress that ends is over, with its outcome
+pub settled_row : (m : ℕ) (o : SetOutcome) → is_running o ≡ false → (rows : List SetRow) (r : SetRow) → NumberedFrom m rows → find (λ q. is_running q.result) rows ≡ Some r
+    → find (is_over_row r.number) (map (row_settled o) rows) ≡ Some (record r { result = o })
+settled_row m o over [] r h e = absurd cc
+settled_row m o over (q ∷ rows) r h e = by_head (is_running q.result) refl e (settled_row (m + 1) o over rows r h.1)
+  where
+    own : is_over_row r.number (record r { result = o }) ≡ true
+    own = ap (λ (b : Bool). b && not (is_running o)) (eq-eqb r.number r.number refl) ∙ ap not over
+
+    by_head : (b : Bool) → is_running q.result ≡ b → (if b then Some q else find (λ x. is_running x.result) rows) ≡ Some r
+        → (find (λ x. is_running x.result) rows ≡ Some r → find (is_over_row r.number) (map (row_settled o) rows) ≡ Some (record r { result = o }))
+        → (if is_over_row r.number (row_settled o q) then Some (row_settled o q) else find (is_over_row r.number) (map (row_settled o) rows)) ≡ Some (record r { result = o })
+    by_head true f e ih =
+        let is : row_settled o q ≡ record r { result = o } = settled_running o q f ∙ ap (λ (x : SetRow). record x { result = o }) (some_row q r e) in
+        ap (λ (x : SetRow). if is_over_row r.number x then Some x else find (is_over_row r.number) (map (row_settled o) rows)) is ∙ cond-true _ _ _ own
+    by_head false f e ih =
+        let above = found_above (m + 1) rows r h.1 e in
+        let number = number-settled (is_running q.result) o q in
+        cond-false _ _ _ (and_left ((row_settled o q).number == r.number) (not (is_running (row_settled o q).result)) (apart (row_settled o q).number r.number (let g = h.0 in omega (arith, g, above, number)))) ∙ ih e
+
+-- ## other facts of rows
+
+pub some_rows : (p : SetRow → Bool) (rows : List SetRow) (r : SetRow) → find p rows ≡ Some r → 0 < length rows
+some_rows p [] r e = absurd cc
+some_rows p (q ∷ rows) r e = omega arith
+
+pub number-cut : (b : Bool) (now : ℕ) (r : SetRow) → (if b then record r { cut_at = Some now } else r).number ≡ r.number
+number-cut true now r = refl
+number-cut false now r = refl
+
+pub kind_is : (k : Kind) → is_snapshot k ≡ true → k ≡ Snapshot
+kind_is Gather e = absurd cc
+kind_is Prepare e = absurd cc
+kind_is Snapshot e = refl
+kind_is CompleteKind e = absurd cc
+
+pub none_runs : (a : Option Agenda) → is_some a ≡ false → a ≡ None
+none_runs None e = refl
+none_runs (Some a) e = absurd cc

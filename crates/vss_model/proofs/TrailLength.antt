@@ -1,10 +1,9 @@
 -- Each legal move takes a turn, so a legal trail is short.
 use Rattle.std.proofs.Common.{◌≡◌, ℕ, zero, suc, ◌+◌, ◌*◌, ◌==◌, ◌<◌, ◌≤◌, List, [], ◌∷◌, ◌++◌, Option, Some, None, refl, Bool, true, false, ap, sym, ◌∙◌, subst, map, length, drop, cond, arith}
-use Rattle.std.specs.Prelude.{◌&&◌, not, if◌then◌else◌, slice_get, sum}
+use Rattle.std.specs.Prelude.{◌&&◌, not, slice_get, sum}
 use Rattle.std.proofs.lemmas.List.Sums.{sum_by-cons}
-use Rattle.vss_names.specs.declared.context.Context.{Context}
 use Rattle.vss_names.specs.declared.vss_result.VssResult.{VssResult}
-use Rattle.vss_names.specs.declared.vss_result.VssResult.TheVariants.{AsyncCancelled}
+use Rattle.vss_names.specs.declared.vss_result.VssResult.TheVariants.{AsyncCancelled, InsufficientStorage}
 use Rattle.write_history.specs.declared.actor.Actor.{Actor}
 use Rattle.write_history.specs.declared.actor.Actor.TheVariants.{Lane, Writer, Advance, Idle}
 use Rattle.write_history.specs.declared.mark.Mark.{Mark}
@@ -14,34 +13,34 @@ use Rattle.write_history.specs.History.{Write}
 use Rattle.writer_calls.specs.Script.{said_of}
 use Rattle.writer_state.specs.declared.said.Said.{Said}
 use Rattle.set_agenda.specs.declared.group.Group.{Group}
-use Rattle.set_agenda.specs.declared.kind.Kind.TheVariants.{Gather, Prepare, Snapshot, Complete}
+use Rattle.set_agenda.specs.declared.kind.Kind.TheVariants as kind
 use Rattle.set_agenda.specs.Agenda.{is_among, is_working}
 use Rattle.set_agenda.specs.Course.{Course, answered as course_answered, stepped as course_stepped, timed as course_timed, failed as course_failed, has_row_failed}
 use Rattle.requestor.specs.Session.{Session}
 use Rattle.scenario.specs.declared.op.Op.{Op}
+use Rattle.scenario.specs.declared.op.Op.TheVariants.{Revert, DeleteSet, DeleteImage, Tick, Begin, Disable, Component, Start, Add, Prepare, Snapshot, Abort, End}
 use Rattle.scenario.specs.Bounds.{IsPlan, begins_agenda, agenda_lines}
 use Rattle.scenario.specs.Plan.{Plan, LaneLine, LanePlan, lines_in, lines_of}
 use Rattle.vss_model.specs.declared.event.Event.{Event}
 use Rattle.vss_model.specs.declared.event.Event.TheVariants.{Line, Answer as AnswerEvent, Provider, Idle as IdleEvent}
 use Rattle.vss_model.specs.State.{State, SetRow, Kept, in_progress, left_now}
 use Rattle.vss_model.specs.Ending.{Ending, NothingEnds, AgendaEnds, SetFails, ending, concluded, followed, runs, failed_in, failed}
-use Rattle.vss_model.specs.Images.{Replied, put, reverted_as}
+use Rattle.vss_model.specs.Images.{Replied, cleared, set_loses_image, with_room_if, put, write, reverted_as}
 use Rattle.component_doc.specs.Selection.{takers}
 use Rattle.vss_names.specs.declared.order.Order.{Order}
 use Rattle.writer_calls.specs.declared.answer.Answer.{Answer}
-use Rattle.vss_model.specs.Sessions.{is_disabled, selected, begin_in, has_no_volume, volumes_of, closed}
+use Rattle.vss_model.specs.Sessions.{is_disabled, selected, has_no_volume, volumes_of, closed, end_session}
 use Rattle.vss_model.specs.Steps.{answered, step_made, stepped_as, stepped, ticked, later}
-use Rattle.vss_model.specs.Acts.{Act, after, after_if, state, enabled, happens, idle_now, order_of_writer}
-use Rattle.vss_model.specs.Laws.{IsKeptByWrites}
+use Rattle.vss_model.specs.Acts.{Act, after, state, enabled, idle_now, order_of_writer}
 use Rattle.vss_model.specs.GoesOn.{most_moves}
 use Rattle.vss_model.specs.Trail.{Run, begin, is_lane, cursor, next_line, line_event, answer_event, script_event, event_of, act_of, after_event, moved, run_from, run, acts, event_enabled, none_can_act, may_move, allows, is_legal_move, is_legal_from, is_legal}
 use Rattle.vss_model.specs.Turns.{waiting, turns_of_agenda, turns_of_line, turns_of_lines, turns_of_lanes, turns_left}
 use Rattle.vss_model.proofs.Appending.{state-append, run-append, state-run, is_legal-append}
-use Rattle.vss_model.proofs.Rule.{IsKeptByLines, MayBegin, on_line}
+use Rattle.vss_model.proofs.ByEvent.{Covers, covered, by_if, after_enabled}
 use Rattle.vss_model.proofs.Waiting.{idle_spends}
 use Rattle.vss_model.proofs.GoesOn.{cursor_more, cursor_same}
 use Rattle.vss_model.proofs.Turns.{waits_in, short_filter, less_stepped, less_answered, not_more_timed, less_timed, few_begun, none_released, none_left_failed}
-use Rattle.vss_model.proofs.FewTurns.{IsFew, FewVolumes, short_members, few_in}
+use Rattle.vss_model.proofs.FewTurns.{FewVolumes, short_members, few_in}
 
 -- ## one act
 
@@ -87,67 +86,31 @@ none_closed : (q : Session) (st : State) → waits_at (closed q st) ≡ 0
 unfolding closed
 none_closed q st = none_released st.course
 
-abbrev AreFew : ℕ → State → Type 0
-AreFew k st = waits_at st ≤ k
+few_room : (b : Bool) (x : State) → waits_at (with_room_if b x) ≤ waits_at x
+few_room true x = not_more_failed (in_progress x) InsufficientStorage x
+few_room false x = omega arith
 
-kept_by_lines : (k : ℕ) → IsKeptByLines (AreFew k)
-kept_by_lines k = record {
-  ticks = λ n st h. let e = same_ticked n st in let f = not_more_timed (st.clock + n) st.course in omega (arith, e, f, h);
-  fails = λ why st h. let f = not_more_failed (in_progress st) why st in omega (arith, f, h);
-  clears = λ s v b st h. h;
-  deletes_set = λ n st h. h;
-  deletes_image = λ n v st h. h;
-  names = λ q explicit st e h. h;
-  disables = λ w q st e h. h;
-  starts = λ q st e f h. h;
-  adds = λ v r q st e f g h. h;
-  ends = λ q st e h. let f = none_closed q (failed AsyncCancelled st) in omega (arith, f);
-}
+same_put : (v : ℕ) (w : Write) (mark : Mark) (x : State) → waits_at (put v w mark x) ≡ waits_at x
+same_put v w Clean x = refl
+same_put v w Fault x = refl
+same_put v w (FaultAfter n) x = refl
 
-on_puts : (k v : ℕ) (w : Write) (mark : Mark) (x : State) → AreFew k x → AreFew k (put v w mark x)
-on_puts k v w Clean x h = h
-on_puts k v w Fault x h = h
-on_puts k v w (FaultAfter n) x h = h
+few_write : (s : Plan) (v : ℕ) (w : Write) (mark : Mark) (st : State) → waits_at (write s v w mark st).1 ≤ waits_at st
+unfolding write
+few_write s v w mark st =
+    let room = with_room_if (set_loses_image (in_progress st) st.volumes (cleared s v w.block st).volumes) (cleared s v w.block st) in
+    let e = same_put v w mark room in
+    let f = few_room (set_loses_image (in_progress st) st.volumes (cleared s v w.block st).volumes) (cleared s v w.block st) in
+    omega (arith, e, f)
 
-on_reverts : (k : ℕ) (s : Plan) (v : ℕ) (kept : Kept) (mark : Mark) (st : State) → AreFew k st → AreFew k (reverted_as s v kept mark st).1
-on_reverts k s v kept Clean st h = h
-on_reverts k s v kept Fault st h = h
-on_reverts k s v kept (FaultAfter n) st h = h
-
-kept_by_writes : (k : ℕ) (st : State) → IsKeptByWrites (AreFew k) st
-kept_by_writes k st = record {
-  puts = λ v e w mark x h. on_puts k v w mark x h;
-  reverts = λ s n v kept mark e f h. on_reverts k s v kept mark st h;
-}
-
-on_begins : (k lane : ℕ) (all : Bool) (c : Option Context) (st : State) → AreFew k st → AreFew k (begin_in lane all c st).1
-on_begins k lane all None st h = h
-on_begins k lane all (Some c) st h = h
+same_revert : (s : Plan) (v : ℕ) (kept : Kept) (mark : Mark) (st : State) → waits_at (reverted_as s v kept mark st).1 ≡ waits_at st
+same_revert s v kept Clean st = refl
+same_revert s v kept Fault st = refl
+same_revert s v kept (FaultAfter n) st = refl
 
 few_of_set : (o : Option SetRow) → FewVolumes o → length (volumes_of o) ≤ 64
 few_of_set None h = omega arith
 few_of_set (Some r) h = h
-
-either : (k : ℕ) (b : Bool) (x y : Replied) → AreFew k x.1 → AreFew k y.1 → AreFew k (if b then x else y).1
-either k true x y h i = h
-either k false x y h i = i
-
-begun_few : (k : ℕ) (c : Course) (st : State) → waits_in c ≤ 521 → 521 ≤ k → AreFew k (followed true c st)
-begun_few k c st h g = let e = same_followed true c st in omega (arith, e, h, g)
-
-may_begin : (st : State) → IsFew st → MayBegin (AreFew (waits_at st + 521)) st
-may_begin st h = record {
-  gathers = λ s q g. begun_few k _ st (few_begun Gather _ [] st.clock _ (let e = short_members (λ w. not (is_disabled s st w)) 0 st.course.rows in let f = h.writers.rows in omega (arith, e, f)) (omega arith)) enough;
-  prepares = λ s q g. either k (has_no_volume (in_progress st)) _ _ (omega arith) (begun_few k _ st (few_begun Prepare _ [] st.clock _ (let e = short_members (λ w. is_among w (takers (length s.writers) (selected s q st))) 0 st.course.rows in let f = h.writers.rows in omega (arith, e, f)) (omega arith)) enough);
-  snapshots = λ q g. either k (has_no_volume (in_progress st)) _ _ (omega arith) (begun_few k _ st (few_begun Snapshot st.course.members (volumes_of (in_progress st)) st.clock st.course h.writers.members (few_of_set (in_progress st) h.volumes)) enough);
-  completes = λ q g. begun_few k _ st (few_begun Complete _ [] st.clock _ (let e = short_filter (λ m. not (has_row_failed st.course.rows m.writer)) st.course.members in let f = h.writers.members in omega (arith, e, f)) (omega arith)) enough;
-}
-  where
-    k : ℕ
-    k = waits_at st + 521
-
-    enough : 521 ≤ waits_at st + 521
-    enough = omega arith
 
 -- the turns that an event takes of those of its lane
 abbrev turns_of_event : Event → ℕ
@@ -156,28 +119,54 @@ turns_of_event (AnswerEvent w answer) = 0
 turns_of_event Provider = 0
 turns_of_event IdleEvent = 0
 
-line_turns : (b : Bool) (s : Plan) (lane : ℕ) (op : Op) (mark : Mark) (st : State) → begins_agenda op ≡ b → IsFew st → enabled s st (Line lane op) ≡ true → waits_at (happens s (Line lane op) mark st).1 ≤ waits_at st + turns_of_agenda b
-line_turns true s lane op mark st f h e =
-    on_line (AreFew (waits_at st + 521)) (kept_by_lines (waits_at st + 521)) s lane op mark st (kept_by_writes (waits_at st + 521) st) (λ all c g i. on_begins (waits_at st + 521) lane all c st (omega arith)) (λ g. may_begin st h) e (omega arith)
-line_turns false s lane op mark st f h e =
-    on_line (AreFew (waits_at st + 0)) (kept_by_lines (waits_at st + 0)) s lane op mark st (kept_by_writes (waits_at st + 0) st) (λ all c g i. on_begins (waits_at st + 0) lane all c st (omega arith)) (λ g. impossible g) e (omega arith)
-  where
-    impossible : begins_agenda op ≡ true → MayBegin (AreFew (waits_at st + 0)) st
-    impossible g = let no_such : true ≡ false = sym g ∙ f in absurd cc
+abbrev Takes : State → Event → Mark → Replied → Type 0
+Takes st event mark r = suc (waits_at r.1) ≤ waits_at st + turns_of_event event
 
-happens_turns : (s : Plan) (acts : List Act) (event : Event) (mark : Mark) → IsPlan s → enabled s (state s acts) event ≡ true → suc (waits_at (happens s event mark (state s acts)).1) ≤ waits_at (state s acts) + turns_of_event event
-happens_turns s acts (Line lane op) mark p e = let h = line_turns (begins_agenda op) s lane op mark (state s acts) refl (few_in s acts p) e in omega (arith, h)
-happens_turns s acts (AnswerEvent w answer) mark p e = let h = less_answers w (said_of answer) (state s acts) (less_answered w (said_of answer) (state s acts).clock (state s acts).course e) in omega (arith, h)
-happens_turns s acts Provider mark p e = let h = less_steps mark (state s acts) e in omega (arith, h)
-happens_turns s acts IdleEvent mark p e =
-    let n = idle_now (state s acts) in
-    let h = less_timed ((state s acts).clock + n) (state s acts).course (idle_spends s acts e) e in
-    let g = same_ticked n (state s acts) in
-    omega (arith, h, g)
+-- a line that leaves as many waiting, or fewer
+line_takes : (st x : State) (op : Op) → waits_at x ≤ waits_at st → suc (waits_at x) ≤ waits_at st + (1 + turns_of_agenda (begins_agenda op))
+line_takes st x op h = omega (arith, h)
+
+begun_takes : (c : Course) (st : State) → waits_in c ≤ 521 → suc (waits_at (followed true c st)) ≤ waits_at st + (1 + turns_of_agenda true)
+begun_takes c st h = let e = same_followed true c st in omega (arith, e, h)
+
+turns_covered : (s : Plan) (acts : List Act) → IsPlan s → Covers (Takes (state s acts)) s (state s acts)
+turns_covered s acts p =
+    let st = state s acts in
+    let few = few_in s acts p in
+    let rows = few.writers.rows in
+    let members = few.writers.members in
+    let short = λ (test : ℕ → Bool). short_members test 0 st.course.rows in
+    let own = line_takes st st Prepare (omega arith) in
+    record {
+      stays = λ lane op mark told e c. line_takes st st op (omega arith);
+      writes = λ lane op v w mark e f. line_takes st (write s v w mark st).1 op (few_write s v w mark st);
+      reverts = λ lane n v k mark e f. line_takes st (reverted_as s v k mark st).1 (Revert n v) (let g = same_revert s v k mark st in omega (arith, g));
+      deletes_set = λ lane n c mark e. line_takes st st (DeleteSet n) (omega arith);
+      deletes_image = λ lane n v k mark e. line_takes st st (DeleteImage n v) (omega arith);
+      ticks = λ lane n mark. line_takes st (ticked n st) (Tick n) (let e = same_ticked n st in let f = not_more_timed (st.clock + n) st.course in omega (arith, e, f));
+      begins = λ lane n all c mark e f. line_takes st st (Begin n all) (omega arith);
+      disables = λ lane w q mark g. line_takes st st (Disable w) (omega arith);
+      gathers = λ lane q mark g. begun_takes _ st (few_begun kind.Gather _ [] st.clock _ (let e = short (λ w. not (is_disabled s st w)) in omega (arith, e, rows)) (omega arith));
+      names = λ lane w full q explicit mark g e. line_takes st st (Component w full) (omega arith);
+      starts = λ lane q mark g e. line_takes st st Start (omega arith);
+      adds = λ lane v r q mark g e f. line_takes st st (Add v) (omega arith);
+      prepares = λ lane q mark g. by_if (Takes st (Line lane Prepare) mark) (has_no_volume (in_progress st)) _ _ own
+          (begun_takes _ st (few_begun kind.Prepare _ [] st.clock _ (let e = short (λ w. is_among w (takers (length s.writers) (selected s q st))) in omega (arith, e, rows)) (omega arith)));
+      snapshots = λ lane q mark g. by_if (Takes st (Line lane Snapshot) mark) (has_no_volume (in_progress st)) _ _ own
+          (begun_takes _ st (few_begun kind.Snapshot st.course.members (volumes_of (in_progress st)) st.clock st.course members (few_of_set (in_progress st) few.volumes)));
+      completes = λ lane q mark g. begun_takes _ st
+          (few_begun kind.Complete _ [] st.clock _ (let e = short_filter (λ m. not (has_row_failed st.course.rows m.writer)) st.course.members in omega (arith, e, members)) (omega arith));
+      aborts = λ lane q mark e. line_takes st (failed AsyncCancelled st) Abort (not_more_failed (in_progress st) AsyncCancelled st);
+      ends = λ lane q mark e. line_takes st (end_session q st).1 End (let f = none_closed q (failed AsyncCancelled st) in omega (arith, f));
+      answers = λ w answer mark e. (let h = less_answers w (said_of answer) st (less_answered w (said_of answer) st.clock st.course e) in omega (arith, h));
+      steps = λ mark e. (let h = less_steps mark st e in omega (arith, h));
+      idles = λ mark e. (let h = less_timed (st.clock + idle_now st) st.course (idle_spends s acts e) e in let g = same_ticked (idle_now st) st in omega (arith, h, g));
+    }
 
 after_turns : (s : Plan) (acts : List Act) (act : Act) → IsPlan s → enabled s (state s acts) act.event ≡ true → suc (waits_at (after s (state s acts) act)) ≤ waits_at (state s acts) + turns_of_event act.event
-unfolding after
-after_turns s acts act p e = subst (λ b. suc (waits_at (after_if b s (state s acts) act)) ≤ waits_at (state s acts) + turns_of_event act.event) (sym e) (happens_turns s acts act.event act.mark p e)
+after_turns s acts act p e =
+    let st = state s acts in
+    subst (λ x. suc (waits_at x) ≤ waits_at st + turns_of_event act.event) (sym (after_enabled s st act e)) (covered (Takes st) s st (turns_covered s acts p) act.event act.mark e)
 
 -- ## the lanes
 

@@ -3,7 +3,7 @@
 -- image goes. Each cause but the last is said here in words of its own, read off the running agenda and its log, and in none of the
 -- words by which the definitions make a set fail; so where these were wrong, a set would fail without a cause. The write alone is said
 -- in their words. (Which causes there are is this project's own.)
-use Rattle.std.specs.Prelude.{ℕ, ◌+◌, ◌==◌, ◌≡◌, nat_lt, Bool, true, false, List, [], ◌∷◌, ◌++◌, fold, ◌&&◌, ◌||◌, if◌then◌else◌, Option, Some, None, slice_get}
+use Rattle.std.specs.Prelude.{ℕ, ◌+◌, ◌==◌, nat_lt, Bool, true, false, List, [], ◌∷◌, fold, ◌&&◌, ◌||◌, if◌then◌else◌, Option, Some, None, slice_get}
 use Rattle.std.specs.List.{list_any}
 use Rattle.vss_names.specs.declared.order.Order.{Order}
 use Rattle.vss_names.specs.declared.order.Order.TheVariants.{Identify, PrepareBackup, PrepareSnapshot, Freeze, Thaw, PostSnapshot, BackupComplete}
@@ -28,10 +28,9 @@ use Rattle.scenario.specs.Calls.{line_of}
 use Rattle.scenario.specs.Plan.{Plan}
 use Rattle.vss_model.specs.declared.event.Event.{Event}
 use Rattle.vss_model.specs.declared.event.Event.TheVariants.{Line, Answer as AnswerEvent, Provider, Idle}
-use Rattle.vss_model.specs.State.{State, SetRow, in_progress, row_of, left_now}
+use Rattle.vss_model.specs.State.{State, in_progress, left_now}
 use Rattle.vss_model.specs.Images.{cleared, set_loses_image}
-use Rattle.vss_model.specs.Acts.{Act, after, state, order_of_writer, idle_now}
-use Rattle.vss_model.specs.Facts.{has_failed}
+use Rattle.vss_model.specs.Acts.{order_of_writer, idle_now}
 
 -- ## a veto
 
@@ -216,9 +215,3 @@ gives_cause s st (Line lane op) mark = line_gives_cause s st lane op
 gives_cause s st (AnswerEvent w answer) mark = is_refused (order_of_writer st w) answer
 gives_cause s st Provider mark = is_flush_step (open_group (left_now st)) && is_fault mark
 gives_cause s st Idle mark = is_late st (idle_now st)
-
--- a set that is in progress before an act of these and has failed after it has failed by a cause that the act gives
-abbrev pub SetsFailWithCause : Plan → List Act → Type 0
-SetsFailWithCause s all = (so_far rest : List Act) (act : Act) (r q : SetRow) → all ≡ so_far ++ act ∷ rest
-    → in_progress (state s so_far) ≡ Some r → row_of (after s (state s so_far) act) r.number ≡ Some q → has_failed q.result ≡ true
-    → gives_cause s (state s so_far) act.event act.mark ≡ true

@@ -1,7 +1,7 @@
 -- The facts that every list of acts keeps together: sets are numbered 1, 2, 3 and at most the newest is in progress; the
 -- session's stage says whether its set is; a running agenda is the one that its stage waits for; and an image stands only
 -- of a set that has not failed.
-use Rattle.std.specs.Prelude.{ℕ, ◌≡◌, ◌<◌, ◌≤◌, ◌+◌, Bool, true, false, List, [], ◌∷◌, ◌++◌, ◌==◌, ◌&&◌, not, Option, Some, None}
+use Rattle.std.specs.Prelude.{ℕ, ◌≡◌, ◌+◌, Bool, true, false, List, [], ◌∷◌, ◌++◌, ◌==◌, ◌&&◌, not, Option, Some, None}
 use Rattle.std.specs.List.{list_any}
 use Rattle.vss_names.specs.declared.context.Context.{Context}
 use Rattle.vss_names.specs.declared.set_outcome.SetOutcome.{SetOutcome}

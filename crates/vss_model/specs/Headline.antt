@@ -1,6 +1,6 @@
 -- What a run promises of its images and of the sets that failed, after each of its acts. (One moment for all volumes of a set
 -- is what the SDK's freeze, flush and hold are for; that nothing stays behind of a set that failed is its AbortSnapshots.)
-use Rattle.std.specs.Prelude.{ℕ, ◌≡◌, ◌<◌, true, false, List, ◌++◌, length, Some, None, is_some}
+use Rattle.std.specs.Prelude.{ℕ, ◌≡◌, ◌<◌, true, false, List, length, Some, None, is_some}
 use Rattle.write_history.specs.History.{content, point_in}
 use Rattle.write_history.specs.Slots.{Placed, copies}
 use Rattle.write_history.specs.declared.move_item.Move.{Move}
@@ -15,7 +15,7 @@ use Rattle.vss_model.specs.Acts.{Act, after, state}
 use Rattle.vss_model.specs.Cut.{cut}
 use Rattle.vss_model.specs.Facts.{has_failed, holds_for}
 use Rattle.vss_model.specs.Laws.{RunsSnapshot}
-use Rattle.vss_model.specs.Trail.{acts, cursor}
+use Rattle.vss_model.specs.Trail.{cursor}
 
 -- The image of set n on volume v, whose point is p, reads as the volume at the set's one cut. There v was one of the set's
 -- volumes, each of them was held, and every writer that took part stood frozen.
@@ -65,19 +65,6 @@ pub record KeepsSet (s : Plan) (st : State) (act : Act) (r : SetRow) : Type 0 wh
   pub images : (q : SetRow) → row_of (after s st act) r.number ≡ Some q → is_complete q.result ≡ true
       → (v : ℕ) → is_among v r.volumes ≡ true → v < length s.volumes → is_some (point_in r.number (history_of (after s st act) v).images) ≡ true
   pub flush : act.event ≡ Provider → open_group (left_now st) ≡ Some Flush → act.mark ≡ Fault → IsFailed (after s st act) r.number
-
--- The images that stand and the sets that failed; a volume is held and a writer stands frozen only for the set in progress,
--- while its snapshot agenda runs; and the set in progress is kept by whatever act comes next.
-pub record KeepsPromises (s : Plan) (so_far : List Act) : Type 0 where
-  pub images : (n v p : ℕ) → point_in n (history_of (state s so_far) v).images ≡ Some p → ReadsAsAtTheCut s so_far n v p
-  pub failed : (n : ℕ) (r : SetRow) → row_of (state s so_far) n ≡ Some r → has_failed r.result ≡ true → LeavesNothing s so_far n
-  pub held : (v : ℕ) → is_held (state s so_far) v ≡ true → IsHeldForSet (state s so_far) v
-  pub frozen : (w : ℕ) → is_frozen (state s so_far) w ≡ true → IsFrozenForSet (state s so_far) w
-  pub set : (r : SetRow) (act : Act) → in_progress (state s so_far) ≡ Some r → KeepsSet s (state s so_far) act r
-
--- after each act of a trail
-abbrev pub KeepsPromisesThroughout : Plan → List Move → Type 0
-KeepsPromisesThroughout s trail = (so_far rest : List Act) → acts s trail ≡ so_far ++ rest → KeepsPromises s so_far
 
 -- each lane has made each of its lines once, in order
 abbrev pub MakesEachLineOnce : Plan → List Move → Type 0

@@ -1,5 +1,6 @@
 pub mod State
 pub mod Reply
+pub mod Replies
 pub mod Ending
 pub mod Images
 pub mod Sessions

@@ -23,8 +23,7 @@ ghost use Rattle.vss_model.specs.Acts.{Act, after, state, order_of_writer, idle_
 ghost use Rattle.vss_model.specs.Trail.{run, moved, acts, acts_if, event_of, is_legal, is_legal_move, is_complete, cursor, faults};
 ghost use Rattle.scenario.specs.Bounds.{IsPlan, has_end};
 ghost use Rattle.vss_model.specs.GoesOn.{EndsSessions, CanGoOn, most_moves};
-ghost use Rattle.vss_model.specs.Causes.{SetsFailWithCause};
-ghost use Rattle.vss_model.specs.Headline.{KeepsPromises, MakesEachLineOnce};
+ghost use Rattle.vss_model.specs.Headline.{ReadsAsAtTheCut, LeavesNothing, IsHeldForSet, IsFrozenForSet, KeepsSet, MakesEachLineOnce};
 ghost use Rattle.vss_model.specs.Turns.{turns_left};
 ghost use Rattle.vss_model.specs.Laws.{IsKeptByChanges, IsKeptByWrites, Passes, RunsSnapshot};
 
@@ -198,7 +197,15 @@ pub fn turns_come_to_an_end()
 /// Every run keeps its promises after each act: each image reads as its volume at its set's one cut, when all stood still;
 /// of a set that failed nothing is kept; and the set in progress is kept by whatever act comes next.
 pub fn every_run_keeps_its_promises()
-    ensures { (s : Plan) (acts : List Act) → KeepsPromises s acts }
+    ensures images { (s : Plan) (acts : List Act) (n v p : ℕ) → point_in n (history_of (state s acts) v).images ≡ Some p
+        → ReadsAsAtTheCut s acts n v p }
+    ensures failed { (s : Plan) (acts : List Act) (n : ℕ) (r : SetRow) → row_of (state s acts) n ≡ Some r
+        → has_failed r.result ≡ true → LeavesNothing s acts n }
+    ensures held { (s : Plan) (acts : List Act) (v : ℕ) → is_held (state s acts) v ≡ true → IsHeldForSet (state s acts) v }
+    ensures frozen { (s : Plan) (acts : List Act) (w : ℕ) → is_frozen (state s acts) w ≡ true
+        → IsFrozenForSet (state s acts) w }
+    ensures set { (s : Plan) (acts : List Act) (r : SetRow) (act : Act) → in_progress (state s acts) ≡ Some r
+        → KeepsSet s (state s acts) act r }
 {}
 
 /// A legal and complete trail makes each line of each lane once, in order.
@@ -210,9 +217,4 @@ pub fn each_line_is_made_once()
 pub fn complete_trail_ends_each_set()
     ensures { (s : Plan) (trail : List Move) → IsPlan s → is_legal s trail ≡ true → is_complete s trail ≡ true
         → in_progress (state s (acts s trail)) ≡ None }
-{}
-
-/// A set fails only in an act that gives a cause.
-pub fn sets_fail_with_cause()
-    ensures { (s : Plan) (acts : List Act) → SetsFailWithCause s acts }
 {}

@@ -1,6 +1,7 @@
 -- The rule of events: what holds of each kind of act, each with what is known where it comes, holds of every act that is enabled.
 use Rattle.std.proofs.Common.{◌≡◌, ◌∙◌, ℕ, ◌==◌, List, [], Option, Some, None, refl, Bool, true, false, sym, subst, ap}
 use Rattle.std.specs.Prelude.{map, is_some, ◌&&◌, not, if◌then◌else◌, nat_lt}
+use Rattle.std.proofs.lemmas.Bool.{and_parts}
 use Rattle.vss_names.specs.declared.context.Context.{Context}
 use Rattle.vss_names.specs.declared.vss_result.VssResult.{VssResult}
 use Rattle.vss_names.specs.declared.vss_result.VssResult.TheVariants.{AsyncCancelled, BadState, SnapshotSetInProgress, UnsupportedContext, ObjectNotFound, ObjectAlreadyExists}
@@ -40,10 +41,20 @@ use Rattle.vss_model.specs.Effects.{line_ticks}
 use Rattle.vss_model.specs.Acts.{Act, order_of_writer, is_free, line_enabled, enabled, happens, idle_now, answer_reply, step_reply, after_if, after}
 use Rattle.vss_model.specs.Laws.{LetsGo}
 use Rattle.vss_model.proofs.GoingOn.{Goes, other_goes}
-use Rattle.promises.specs.InOrder.{is_numbered}
-use Rattle.promises.specs.Participants.{is_fine}
-use Rattle.promises.specs.Way.{is_pending_code, is_pending}
-use Rattle.promises.proofs.Truth.{first_both}
+use Rattle.vss_model.specs.Replies.{is_fine, is_numbered, is_pending_code, is_pending}
+
+-- ## shorter steps of proofs by events
+
+pub some_same : {X : Type 0} (x y : X) → Some x ≡ Some y → x ≡ y
+some_same x y e = cc
+
+pub by_if : (P : Replied → Type 0) (b : Bool) (x y : Replied) → P x → P y → P (if b then x else y)
+by_if P true x y h i = h
+by_if P false x y h i = i
+
+-- of the state after the event alone
+abbrev pub Next : (State → Type 0) → Event → Mark → Replied → Type 0
+Next R event mark r = R r.1
 
 -- ## what an act does, by its event
 
@@ -157,7 +168,7 @@ module _ (P : Event → Mark → Replied → Type 0) (s : Plan) (st : State) (k 
   unfolding delete_set
   on_delete_set lane n mark =
       if_so (Line lane (DeleteSet n)) mark (is_kept_set st n && nat_lt 0 (count_images n st.volumes)) _ _
-      (λ e. k.deletes_set lane n (count_images n st.volumes) mark (first_both (is_kept_set st n) (nat_lt 0 (count_images n st.volumes)) e))
+      (λ e. k.deletes_set lane n (count_images n st.volumes) mark ((and_parts (is_kept_set st n) (nat_lt 0 (count_images n st.volumes)) e).0))
       (k.stays lane (DeleteSet n) mark _ refl (other_line (DeleteSet n) _ refl refl refl))
 
   on_delete_kept : (lane n v : ℕ) (kept : Option Kept) (mark : Mark) → kept_image st n v ≡ kept → P (Line lane (DeleteImage n v)) mark (delete_kept v kept st)
@@ -276,3 +287,14 @@ after_enabled s st act e = ap (λ b. after_if b s st act) e
 pub after_not_enabled : (s : Plan) (st : State) (act : Act) → enabled s st act.event ≡ false → after s st act ≡ st
 unfolding after
 after_not_enabled s st act e = ap (λ b. after_if b s st act) e
+
+-- an act that is not enabled changes nothing
+pub after_by : (R : State → Type 0) (s : Plan) (st : State) (act : Act) → (enabled s st act.event ≡ true → R (happens s act.event act.mark st).1) → R st → R (after s st act)
+after_by R s st act h stays = by_test (enabled s st act.event) refl
+  where
+    by_test : (b : Bool) → enabled s st act.event ≡ b → R (after s st act)
+    by_test true e = subst R (sym (after_enabled s st act e)) (h e)
+    by_test false e = subst R (sym (after_not_enabled s st act e)) stays
+
+pub after_covered : (R : State → Type 0) (s : Plan) (st : State) → Covers (Next R) s st → R st → (act : Act) → R (after s st act)
+after_covered R s st k h act = after_by R s st act (covered (Next R) s st k act.event act.mark) h
