@@ -1,7 +1,6 @@
 -- What follows from a step of the course: an agenda ends, or the set in progress fails.
-use Rattle.std.proofs.Common.{◌≡◌, ℕ, ◌+◌, ◌<◌, ◌==◌, List, [], ◌∷◌, refl, ap, sym, ◌∙◌, subst, arith, Bool, true, false, Option, Some, None, map}
-use Rattle.std.specs.Prelude.{All, ◌&&◌, ◌||◌, not, is_some, find, option_map, if◌then◌else◌}
-use Rattle.std.proofs.lemmas.Bool.{and_left, and_right, cond-false, cond-true, eq-eqb}
+use Rattle.std.proofs.Common.{◌≡◌, ℕ, ◌<◌, List, [], ◌∷◌, refl, ap, sym, ◌∙◌, subst, arith, Bool, true, false, Option, Some, None, map}
+use Rattle.std.specs.Prelude.{All, ◌&&◌, ◌||◌, not, is_some, find, option_map}
 use Rattle.std.proofs.lemmas.List.{length-map}
 use Rattle.vss_names.specs.declared.order.Order.{Order}
 use Rattle.vss_names.specs.declared.vss_result.VssResult.{VssResult}
@@ -22,18 +21,19 @@ use Rattle.vss_model.specs.State.{State, SetRow, is_running, in_progress}
 use Rattle.vss_model.specs.Effects.{ended_of}
 use Rattle.vss_model.specs.Outcome.{EndsAs}
 use Rattle.vss_model.specs.Ending.{Ending, AgendaEnds, NothingEnds, SetFails, ending, row_settled, followed, concluded, failed_in, images_dropped}
-use Rattle.vss_model.specs.Facts.{IsOfSession, NumberedFrom, OverButNewest, has_failed}
-use Rattle.vss_model.proofs.OneCut.{newest_number}
-use Rattle.vss_model.proofs.Rows.{found_above}
+use Rattle.vss_model.specs.Facts.{IsOfSession, NumberedFrom, has_failed}
+use Rattle.vss_model.proofs.Rows.{found_above, is_over_row, none_ends, none_over, settled_row, settled_running}
 use Rattle.sessions.specs.declared.ended.Ended.{Ended}
 use Rattle.sessions.specs.declared.session_move.SessionMove.{SessionMove}
-use Rattle.sessions.specs.Sets.{bare, current_of}
+use Rattle.sessions.specs.Sets.{bare, current_of, running_in}
 use Rattle.sessions.specs.Keeps.{SessionsValue, Keeps, IsInOrder}
 use Rattle.sessions.specs.Concluded.{ended_so, ends_as, failed_set, nothing_ends, told_alone, told_of, without_images}
 use Rattle.sessions.specs.Moves.{CameTo, Concludes, HasCome}
-use Rattle.sessions.proofs.Newest.{apart, changed_none, current_bare, head_found, rest_found, settled_bare, unchanged}
+use Rattle.sessions.proofs.Newest.{changed_none, current_bare, settled_bare, unchanged}
 use Rattle.sessions.proofs.Keeping.{keeps_course, keeps_rows}
 use Rattle.sessions.proofs.Disabled.{disabled_failed}
+use Rattle.vss_model.proofs.FlushFails.{outcome_in}
+use Rattle.vss_model.proofs.Orderly.{IsSameRow, find-map}
 
 pub nobody : writers_of 0 ≡ []
 unfolding writers
@@ -56,41 +56,6 @@ rows_as_told : (before after : SetOutcome) (rows : List SetRow) → (is_running 
 rows_as_told Running after rows h = refl
 rows_as_told _ after rows h = changed_none (λ (r : SetRow). record r { result = Running }) rows (h refl) ∙ sym (changed_none (λ (r : SetRow). record r { result = after }) rows (h refl))
 
--- ## the row of the set that ends
-
-abbrev pub is_over_row : ℕ → SetRow → Bool
-is_over_row n q = (q.number == n) && not (is_running q.result)
-
-settled_now : (o : SetOutcome) (r : SetRow) → is_running r.result ≡ true → row_settled o r ≡ record r { result = o }
-settled_now o r e = cond-true (is_running r.result) _ _ e
-
-ended_row : (o : SetOutcome) → is_running o ≡ false → (m : ℕ) (rows : List SetRow) (r : SetRow) → NumberedFrom m rows → OverButNewest rows → find (λ q. is_running q.result) rows ≡ Some r
-    → find (is_over_row r.number) (map (row_settled o) rows) ≡ Some (record r { result = o })
-ended_row o over m [] r n h e = cc
-ended_row o over m (q ∷ []) r n h e =
-    let f = head_found (is_running q.result) q r refl e in
-    let is : row_settled o q ≡ record r { result = o } = settled_now o q f.running ∙ ap (λ (x : SetRow). record x { result = o }) f.same in
-    ap (λ (x : SetRow). if is_over_row r.number x then Some x else None) is
-    ∙ cond-true (is_over_row r.number (record r { result = o })) _ _ (ap (λ (t : Bool). t && not (is_running o)) (eq-eqb r.number r.number refl) ∙ ap not over)
-ended_row o over m (q ∷ p ∷ rows) r n h e =
-    let rest = rest_found (is_running q.result) q r (find (λ x. is_running x.result) (p ∷ rows)) h.0 e in
-    let number = newest_number (m + 1) (p ∷ rows) r n.1 h.1 rest in
-    let less : q.number < r.number = let first = n.0 in omega (arith, first, number) in
-    ap (λ (x : SetRow). if is_over_row r.number x then Some x else find (is_over_row r.number) (map (row_settled o) (p ∷ rows))) (unchanged (λ (x : SetRow). record x { result = o }) q h.0)
-    ∙ cond-false (is_over_row r.number q) _ _ (and_left (q.number == r.number) _ (apart q.number r.number less)) ∙ ended_row o over (m + 1) (p ∷ rows) r n.1 h.1 rest
-
--- none has ended that is in progress
-none_ended : (m : ℕ) (rows : List SetRow) (r : SetRow) → NumberedFrom m rows → OverButNewest rows → find (λ q. is_running q.result) rows ≡ Some r → find (is_over_row r.number) rows ≡ None
-none_ended m [] r n h e = cc
-none_ended m (q ∷ []) r n h e =
-    let f = head_found (is_running q.result) q r refl e in
-    cond-false (is_over_row r.number q) _ _ (and_right (q.number == r.number) _ (ap not f.running))
-none_ended m (q ∷ p ∷ rows) r n h e =
-    let rest = rest_found (is_running q.result) q r (find (λ x. is_running x.result) (p ∷ rows)) h.0 e in
-    let number = newest_number (m + 1) (p ∷ rows) r n.1 h.1 rest in
-    let less : q.number < r.number = let first = n.0 in omega (arith, first, number) in
-    cond-false (is_over_row r.number q) _ _ (and_left (q.number == r.number) _ (apart q.number r.number less)) ∙ none_ended (m + 1) (p ∷ rows) r n.1 h.1 rest
-
 -- ## which set ends
 
 result_is : (o : SetOutcome) → is_running o ≡ true → o ≡ Running
@@ -98,7 +63,7 @@ result_is Running e = refl
 result_is _ e = cc
 
 same_if : (b : Bool) (r : SetRow) → is_running r.result ≡ b → row_settled Running r ≡ r
-same_if true r e = settled_now Running r e ∙ ap (λ (o : SetOutcome). record r { result = o }) (sym (result_is r.result e))
+same_if true r e = settled_running Running r e ∙ ap (λ (o : SetOutcome). record r { result = o }) (sym (result_is r.result e))
 same_if false r e = unchanged (λ (x : SetRow). record x { result = Running }) r e
 
 settled_same : (rows : List SetRow) → map (row_settled Running) rows ≡ rows
@@ -108,19 +73,23 @@ settled_same (r ∷ rows) = ap (λ (x : SetRow). x ∷ map (row_settled Running)
 above_zero : (rows : List SetRow) (r : SetRow) → NumberedFrom 1 rows → find (λ q. is_running q.result) rows ≡ Some r → 0 < r.number
 above_zero rows r n e = let l = found_above 1 rows r n e in omega (arith, l)
 
-ends_after : (rows : List SetRow) (found : Option SetRow) (o : SetOutcome) → NumberedFrom 1 rows → OverButNewest rows → find (λ q. is_running q.result) rows ≡ found
+ends_after : (rows : List SetRow) (found : Option SetRow) (o : SetOutcome) → NumberedFrom 1 rows → find (λ q. is_running q.result) rows ≡ found
     → EndsAs (ended_of found (map (row_settled o) rows)) (ends_as (option_map (λ (r : SetRow). r.number) found) o).set (ends_as (option_map (λ (r : SetRow). r.number) found) o).result
-ends_after rows None o n h e = refl
-ends_after rows (Some r) Running n h e = subst (λ (x : Option SetRow). EndsAs x 0 Running) (sym (ap (find (is_over_row r.number)) (settled_same rows) ∙ none_ended 1 rows r n h e)) refl
-ends_after rows (Some r) Complete n h e = subst (λ (x : Option SetRow). EndsAs x r.number Complete) (sym (ended_row Complete refl 1 rows r n h e)) (refl, refl, above_zero rows r n e)
-ends_after rows (Some r) (Failed why) n h e = subst (λ (x : Option SetRow). EndsAs x r.number (Failed why)) (sym (ended_row (Failed why) refl 1 rows r n h e)) (refl, refl, above_zero rows r n e)
+ends_after rows None o n e = refl
+ends_after rows (Some r) Running n e = subst (λ (x : Option SetRow). EndsAs x 0 Running) (sym (ap (find (is_over_row r.number)) (settled_same rows) ∙ none_over 1 rows r n e)) refl
+ends_after rows (Some r) Complete n e = subst (λ (x : Option SetRow). EndsAs x r.number Complete) (sym (settled_row 1 Complete refl rows r n e)) (refl, refl, above_zero rows r n e)
+ends_after rows (Some r) (Failed why) n e = subst (λ (x : Option SetRow). EndsAs x r.number (Failed why)) (sym (settled_row 1 (Failed why) refl rows r n e)) (refl, refl, above_zero rows r n e)
 
 pub no_end : (st : State) → IsInOrder st → EndsAs (ended_of (in_progress st) st.sets) 0 Running
-no_end st order = by_found (in_progress st) refl
+no_end st order = subst (λ (x : Option SetRow). EndsAs x 0 Running) (sym (none_ends st.sets order.numbered)) refl
+
+-- a change that keeps numbers, and whether a set is in progress, ends none
+pub ended_mapped : (f : SetRow → SetRow) → IsSameRow f → (rows more : List SetRow) → ended_of (running_in (map f rows)) more ≡ ended_of (running_in rows) more
+ended_mapped f same rows more = ap (λ (x : Option SetRow). ended_of x more) (find-map f same.running rows) ∙ by_found (running_in rows)
   where
-    by_found : (found : Option SetRow) → in_progress st ≡ found → EndsAs (ended_of found st.sets) 0 Running
-    by_found None e = refl
-    by_found (Some r) e = subst (λ (x : Option SetRow). EndsAs x 0 Running) (sym (none_ended 1 st.sets r order.numbered order.newest e)) refl
+    by_found : (o : Option SetRow) → ended_of (option_map f o) more ≡ ended_of o more
+    by_found None = refl
+    by_found (Some r) = ap (λ (n : ℕ). find (is_over_row n) more) (same.number r)
 
 -- ## whose images go
 
@@ -162,7 +131,7 @@ module _ (old : SessionsValue) (st : State) (c : Course) (order : IsInOrder st) 
     lost = refl;
     order = refl;
     ends = subst (λ (rs : List SetRow). EndsAs (ended_of (in_progress st) rs) (ends_as (current_of st.sets) o).set (ends_as (current_of st.sets) o).result) rows
-        (ends_after st.sets (in_progress st) o order.numbered order.newest refl);
+        (ends_after st.sets (in_progress st) o order.numbered refl);
     volumes = images;
     keeps = keeps_rows old (record st { course = c }) (after_agenda o old.requestor) q _ _ hs kept (ap (option_map (ended o)) kept.session ∙ session)
         (kept.made ∙ sym (length-map st.sets (row_settled c.outcome))) (ap (map (row_settled o)) kept.sets ∙ settled_bare o st.sets ∙ ap (map bare) rows);
@@ -231,10 +200,6 @@ concluded_else old t e m h moved st c ran gone order_of order kept tells =
 
 -- ## the set in progress fails
 
-running_outcome : (q : Option Session) (o : SetOutcome) (r : SetRow) → IsOfSession q o (Some r) → o ≡ Running
-running_outcome None o r h = absurd h
-running_outcome (Some q) o r h = h.2
-
 pub no_row : (o : Option SetRow) → None ≡ option_map (λ (r : SetRow). r.number) o → o ≡ None
 no_row None e = refl
 no_row (Some r) e = cc
@@ -254,7 +219,7 @@ fails_so old new k st why n m order kept current stands writers times is moved =
     by_found : (found : Option SetRow) → in_progress st ≡ found → CameTo told.Ok st (failed_in found why st) new m
     by_found None e = absurd (let none : Some n ≡ None = known ∙ ap (option_map (λ (r : SetRow). r.number)) e in cc)
     by_found (Some r) e =
-        let running = running_outcome st.session st.course.outcome r (subst (IsOfSession st.session st.course.outcome) e order.session) in
+        let running = outcome_in st.session st.course.outcome r (subst (IsOfSession st.session st.course.outcome) e order.session) in
         let fails : Stands k (course_failed why st.course) = subst (λ (o : SetOutcome). Stands k (failed_if_running o why st.course)) running stands in
         let mid = keeps_course old k st (course_failed why st.course) kept fails writers.count times
         (subst (λ (ds : List ℕ). All (λ w. w < writer_count old.coordinator) ds) (sym (disabled_failed why st.course)) kept.disabled) in

@@ -1,7 +1,7 @@
 -- A call of the coordinator is a step of the course, with what follows from it: an answer, a step of the provider, an
 -- agenda that begins, or time that goes by.
-use Rattle.std.proofs.Common.{◌≡◌, ℕ, ◌+◌, ◌<◌, ◌==◌, List, [], ◌∷◌, refl, ap, sym, ◌∙◌, subst, arith, Bool, true, false, Option, Some, None, map}
-use Rattle.std.specs.Prelude.{All, is_some, not, ◌&&◌, find, option_map}
+use Rattle.std.proofs.Common.{◌≡◌, ℕ, ◌+◌, ◌<◌, List, [], ◌∷◌, refl, ap, sym, ◌∙◌, subst, arith, Bool, true, false, Option, Some, None, map}
+use Rattle.std.specs.Prelude.{All, is_some, option_map}
 use Rattle.std.proofs.lemmas.List.{length-map}
 use Rattle.vss_names.specs.declared.order.Order.{Order}
 use Rattle.vss_names.specs.declared.set_outcome.SetOutcome.{SetOutcome}
@@ -26,7 +26,7 @@ use Rattle.vss_model.specs.declared.event.Event.TheVariants.{Line, Answer as Ans
 use Rattle.vss_model.specs.declared.told.Told.{Told}
 use Rattle.vss_model.specs.declared.told.Told.TheVariants as told
 use Rattle.vss_model.specs.Reply.{Fine, Answered, Stepped, Idled}
-use Rattle.vss_model.specs.State.{State, SetRow, in_progress, is_running, left_now}
+use Rattle.vss_model.specs.State.{State, SetRow, in_progress, left_now}
 use Rattle.vss_model.specs.Cut.{is_cut_group}
 use Rattle.vss_model.specs.Ending.{runs, followed}
 use Rattle.vss_model.specs.Steps.{answered, stepped, stepped_as, step_made, cut_set, row_cut, with_cut, is_flush, is_failed_step, later, ticked}
@@ -45,6 +45,7 @@ use Rattle.sessions.proofs.Keeping.{keeps_course, keeps_rows}
 use Rattle.sessions.proofs.Moving.{Happens}
 use Rattle.sessions.proofs.Newest.{changed_bare, changed_by_number, changed_none}
 use Rattle.vss_model.specs.Lines.{does}
+use Rattle.sessions.proofs.Concluding.{ended_mapped}
 
 -- ## a step of the course
 
@@ -101,10 +102,6 @@ pub record IsBesides (st x : State) : Type 0 where
   pub order : IsInOrder x
   pub ended : (rows : List SetRow) → ended_of (in_progress x) rows ≡ ended_of (in_progress st) rows
 
-ended_same : (f : SetRow → SetRow) → ((r : SetRow) → (f r).number ≡ r.number) → (o : Option SetRow) (rows : List SetRow) → ended_of (option_map f o) rows ≡ ended_of o rows
-ended_same f same None rows = refl
-ended_same f same (Some r) rows = ap (λ (n : ℕ). find (λ (q : SetRow). (q.number == n) && not (is_running q.result)) rows) (same r)
-
 besides_cut : (st : State) (o : Option SetRow) → in_progress st ≡ o → IsInOrder st → IsBesides st (cut_set o st)
 besides_cut st None e order = record { course = refl; clock = refl; order = order; ended = λ rows. refl }
 besides_cut st (Some r) e order =
@@ -118,7 +115,7 @@ besides_cut st (Some r) e order =
         newest = newest-map (row_cut r.number st.clock) same st.sets order.newest;
         session = subst (IsOfSession st.session st.course.outcome) (sym found) (of_session st.session st.course.outcome (row_cut r.number st.clock) (in_progress st) same.number order.session);
       };
-      ended = λ rows. ap (λ (x : Option SetRow). ended_of x rows) found ∙ ended_same (row_cut r.number st.clock) same.number (in_progress st) rows;
+      ended = ended_mapped (row_cut r.number st.clock) same st.sets;
     }
 
 besides : (st : State) (g : Group) → IsInOrder st → IsBesides st (step_made (Some g) st)

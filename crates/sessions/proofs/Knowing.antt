@@ -1,7 +1,7 @@
 -- Whom the session knows, and what it takes: from what is kept, as the definitions say.
-use Rattle.std.proofs.Common.{◌≡◌, ℕ, zero, suc, ◌+◌, ◌<◌, ◌==◌, List, [], ◌∷◌, ◌++◌, drop, length, refl, ap, sym, ◌∙◌, subst, arith, append_assoc, add-one, Bool, true, false, Option, Some, None}
+use Rattle.std.proofs.Common.{◌≡◌, ℕ, zero, suc, ◌+◌, ◌<◌, ◌==◌, List, [], ◌∷◌, ◌++◌, drop, length, refl, ap, sym, ◌∙◌, subst, arith, append_assoc, add-one, Bool, true, false, Option, Some}
 use Rattle.std.proofs.Common.{slice_get}
-use Rattle.std.specs.Prelude.{All, filter, nat_le, is_some, option_map, not, ◌&&◌, ◌||◌, if◌then◌else◌, Result, Ok, Err, OnOk, OnErr, IfErr}
+use Rattle.std.specs.Prelude.{All, filter, nat_le, is_some, option_map, not, ◌&&◌, if◌then◌else◌, Result, Ok, Err, OnOk, OnErr, IfErr}
 use Rattle.std.specs.List.{list_all, list_any, range_with_len}
 use Rattle.vss_names.specs.declared.vss_result.VssResult.TheVariants.{BadState, ObjectNotFound, ObjectAlreadyExists}
 use Rattle.block_data.specs.Digest.{sha256}
@@ -25,8 +25,8 @@ use Rattle.requestor.specs.declared.mode.Mode.TheVariants.{Components, All as Al
 use Rattle.requestor.specs.declared.session_call.SessionCall.TheVariants as call
 use Rattle.requestor.specs.Session.{Session}
 use Rattle.component_doc.specs.Held.{Held, all_have_few, pairs_of, is_named}
-use Rattle.component_doc.specs.Selection.{Naming, Names, naming, Pair, Selected, Named, AllOf, all_of, is_taker, takers, known_from as known_writers_from}
-use Rattle.component_doc.specs.Over.{AreAllowed, IsSelectedOver, meta_at, names_selectable, is_ascending, is_selectable_of}
+use Rattle.component_doc.specs.Selection.{Naming, Names, naming, Selected, Named, AllOf, all_of, is_taker, takers}
+use Rattle.component_doc.specs.Over.{AreAllowed, IsSelectedOver, meta_at, names_selectable, is_ascending}
 use Rattle.coordinator.specs.Beginning.{begun_as, enabled}
 use Rattle.coordinator.specs.Coordinator.{is_disabled as is_disabled_kept, writer_count, named}
 use Rattle.scenario.specs.declared.op.Op.TheVariants as op
@@ -45,8 +45,9 @@ use Rattle.sessions.proofs.AgendaLines.{pends, is_disabled_same, volume_test}
 use Rattle.sessions.proofs.Concluding.{no_end}
 use Rattle.sessions.proofs.Keeping.{keeps_named}
 use Rattle.sessions.specs.Concluded.{told_alone, told_named}
-use Rattle.std.proofs.lemmas.Bool.{and_from, and_parts, cond-false, cond-true, eqb-true, le-leb}
+use Rattle.std.proofs.lemmas.Bool.{and_from, and_parts, cond-false, cond-true, le-leb}
 use Rattle.vss_model.proofs.GoingOn.{Goes}
+use Rattle.vss_model.proofs.Gathered.{all_known, known_at, named_known}
 
 -- ## whom the session knows
 
@@ -85,48 +86,14 @@ known_step s st w xs ys total b m knows at so_far is =
 
 -- ## who takes part is known, and so is not disabled
 
-known_some : (b : Bool) (m : Meta) → is_some (meta_if b m) ≡ true → b ≡ true
-known_some true m e = refl
-known_some false m e = cc
-
-known_at : (s : Plan) (st : State) (k : ℕ) (ps : List WriterPlan) (j w : ℕ) → w ≡ k + j → is_some (meta_at (slice_get (known_from s st k ps) j)) ≡ true → (is_known s st w ≡ true) × (j < length ps)
-known_at s st k [] j w e h = absurd cc
-known_at s st k (p ∷ ps) zero w e h = (let same : w ≡ k = omega (arith, e) in ap (is_known s st) same ∙ known_some (is_known s st k) p.meta h, omega arith)
-known_at s st k (p ∷ ps) (suc j) w e h = let rest = known_at s st (k + 1) ps j w (omega (arith, e)) h in (rest.0, let l = rest.1 in omega (arith, l))
-
-some_if_selectable : (i : ℕ) (m : Option Meta) → is_selectable_of i m ≡ true → is_some m ≡ true
-some_if_selectable i None e = cc
-some_if_selectable i (Some m) e = refl
-
-named_taker : (ms : List (Option Meta)) (ps : List Pair) (w : ℕ) → list_all (names_selectable ms) ps ≡ true → list_any (λ (p : Pair). p.writer == w) ps ≡ true
-    → is_some (meta_at (slice_get ms w)) ≡ true
-named_taker ms [] w e f = cc
-named_taker ms (p ∷ ps) w e f = by_test (named_taker ms ps w h.1) (p.writer == w) refl f
-  where
-    h : (names_selectable ms p ≡ true) × (list_all (names_selectable ms) ps ≡ true)
-    h = and_parts (names_selectable ms p) (list_all (names_selectable ms) ps) e
-
-    by_test : (list_any (λ (q : Pair). q.writer == w) ps ≡ true → is_some (meta_at (slice_get ms w)) ≡ true) → (b : Bool) → (p.writer == w) ≡ b
-        → (b || list_any (λ (q : Pair). q.writer == w) ps) ≡ true → is_some (meta_at (slice_get ms w)) ≡ true
-    by_test rest true g f = ap (λ (n : ℕ). is_some (meta_at (slice_get ms n))) (sym (eqb-true p.writer w g)) ∙ some_if_selectable p.component (meta_at (slice_get ms p.writer)) h.0
-    by_test rest false g f = rest f
-
-all_taker : (ms : List (Option Meta)) (k j : ℕ) (w : ℕ) → list_any (λ x. x == w) (known_writers_from k ms) ≡ true → (i : ℕ) × (w ≡ k + i) × (is_some (meta_at (slice_get ms i)) ≡ true)
-all_taker [] k j w e = absurd cc
-all_taker (None ∷ ms) k j w e = let h = all_taker ms (k + 1) j w e in (suc h.0, let g = h.1 in omega (arith, g), h.2)
-all_taker (Some m ∷ ms) k j w e = by_test (all_taker ms (k + 1) j w) (k == w) refl e
-  where
-    by_test : (list_any (λ x. x == w) (known_writers_from (k + 1) ms) ≡ true → (i : ℕ) × (w ≡ (k + 1) + i) × (is_some (meta_at (slice_get ms i)) ≡ true))
-        → (b : Bool) → (k == w) ≡ b → (b || list_any (λ x. x == w) (known_writers_from (k + 1) ms)) ≡ true → (i : ℕ) × (w ≡ k + i) × (is_some (meta_at (slice_get (Some m ∷ ms) i)) ≡ true)
-    by_test rest true g f = (zero, let same = eqb-true k w g in omega (arith, same), refl)
-    by_test rest false g f = let h = rest f in (suc h.0, let l = h.1 in omega (arith, l), h.2)
+within : (s : Plan) (st : State) (k : ℕ) (ps : List WriterPlan) (j : ℕ) → is_some (meta_at (slice_get (known_from s st k ps) j)) ≡ true → j < length ps
+within s st k [] j h = absurd cc
+within s st k (p ∷ ps) zero h = omega arith
+within s st k (p ∷ ps) (suc j) h = let rest = within s st (k + 1) ps j h in omega (arith, rest)
 
 taker_known : (ms : List (Option Meta)) (sel : Selected) (w : ℕ) → IsSelectedOver ms sel → is_taker sel w ≡ true → is_some (meta_at (slice_get ms w)) ≡ true
-taker_known ms (Named ps) w over e = named_taker ms ps w (and_parts (list_all (names_selectable ms) ps) (is_ascending ps) over).0 e
-taker_known ms (AllOf ws) w over e =
-    let h = all_taker ms 0 0 w (ap (λ (xs : List ℕ). list_any (λ x. x == w) xs) (sym over) ∙ e) in
-    let same : w ≡ h.0 = let g = h.1 in omega (arith, g) in
-    ap (λ (n : ℕ). is_some (meta_at (slice_get ms n))) same ∙ h.2
+taker_known ms (Named ps) w over e = named_known ms ps w (and_parts (list_all (names_selectable ms) ps) (is_ascending ps) over).0 e
+taker_known ms (AllOf ws) w over e = all_known ms 0 w w (omega arith) (ap (λ (xs : List ℕ). list_any (λ x. x == w) xs) (sym over) ∙ e)
 
 filter_same : (p q : ℕ → Bool) (xs : List ℕ) → ((w : ℕ) → q w ≡ true → p w ≡ true) → filter p (filter q xs) ≡ filter q xs
 filter_same p q [] h = refl
@@ -139,9 +106,11 @@ filter_same p q (x ∷ xs) h = by_test (filter_same p q xs h) (q x) refl
 pub enabled_takers : (x : SessionsValue) (s : Plan) (st : State) (sel : Selected) (n : ℕ) → Keeps x st → IsOf x s → IsSelectedOver (known_metas s st) sel
     → enabled x.coordinator.writers st.course.disabled (takers n sel) ≡ takers n sel
 enabled_takers x s st sel n kept of over = filter_same (λ w. not (is_disabled_kept x.coordinator.writers st.course.disabled w)) (is_taker sel) (range_with_len 0 n) (λ w e.
-    let known = known_at s st 0 s.writers w w (omega arith) (taker_known (known_metas s st) sel w over e) in
-    let within : w < writer_count x.coordinator = let l = known.1 in let c = of.count in omega (arith, l, c) in
-    ap not (is_disabled_same x s st w kept of within) ∙ (and_parts (not (is_disabled s st w)) (not (has_failed_identify (slice_get st.course.rows w))) known.0).0)
+    let taker = taker_known (known_metas s st) sel w over e in
+    let zero_plus : 0 + w ≡ w = omega arith in
+    let known : is_known s st w ≡ true = ap (is_known s st) (sym zero_plus) ∙ known_at s st 0 s.writers w taker in
+    let few : w < writer_count x.coordinator = let l = within s st 0 s.writers w taker in let c = of.count in omega (arith, l, c) in
+    ap not (is_disabled_same x s st w kept of few) ∙ (and_parts (not (is_disabled s st w)) (not (has_failed_identify (slice_get st.course.rows w))) known).0)
 
 -- ## prepare
 

@@ -28,7 +28,7 @@ use Rattle.vss_model.specs.Ending.{runs}
 use Rattle.vss_model.specs.Images.{Replied}
 use Rattle.vss_model.specs.Sessions.{judged}
 use Rattle.vss_model.specs.Lines.{called, does, line}
-use Rattle.vss_model.specs.Acts.{Act, enabled, event_allows, happens, after, after_if, line_enabled, line_allows, may_call, may_do, is_blocked}
+use Rattle.vss_model.specs.Acts.{enabled, event_allows, happens, after, line_enabled, line_allows, may_call, may_do, is_blocked}
 use Rattle.vss_model.specs.Effects.{evicted, evicted_at, line_ticks, ticks_by, lost, lost_after, lost_order, lost_order_if, ended_of}
 use Rattle.vss_model.specs.Told.{Fits, mark_of}
 use Rattle.vss_model.specs.Outcome.{HasLists, EndsAs, IsOutcome, told_act}
@@ -38,6 +38,7 @@ use Rattle.sessions.specs.Concluded.{told_alone}
 use Rattle.sessions.specs.Keeps.{SessionsValue, Keeps, IsInOrder}
 use Rattle.sessions.specs.Moves.{IsMove, CameTo, ComesTo, HasCome, after_move, event_volumes, images_after}
 use Rattle.sessions.proofs.Concluding.{no_end, nobody}
+use Rattle.vss_model.proofs.ByEvent.{after_enabled}
 
 -- ## an event
 
@@ -53,10 +54,6 @@ pub record Happens (s : Plan) (st : State) (event : Event) (new : SessionsValue)
   pub lists : (listed : List ℕ) (rows : List WriterRow) → rows ≡ after.course.rows → HasLists reply listed rows
   pub evicts : [] ≡ evicted s st event
   pub came : HasCome told (lost st event) (lost_order st event) (in_progress st) (event_volumes event told st) after new m
-
-after_enabled : (s : Plan) (st : State) (act : Act) → enabled s st act.event ≡ true → after s st act ≡ (happens s act.event act.mark st).1
-unfolding after
-after_enabled s st act e = ap (λ b. after_if b s st act) e
 
 module _ (s : Plan) (st : State) (event : Event) (new : SessionsValue) (m : SessionMove) (h : Happens s st event new m) where
   does_so : happens s event (mark_of m.outcome.told) st ≡ (h.reply, h.after)

@@ -1,7 +1,6 @@
 -- Lists of sets, numbered from 1 on, of which the newest alone may be in progress.
 use Rattle.std.proofs.Common.{◌≡◌, ℕ, zero, suc, ◌+◌, ◌<◌, ◌≤◌, ◌==◌, List, [], ◌∷◌, ◌++◌, length, refl, ap, sym, ◌∙◌, arith, Bool, true, false, Option, Some, None, map, slice_get, slice_set}
 use Rattle.std.specs.Prelude.{find, option_map, if◌then◌else◌, ◌&&◌, ◌||◌}
-use Rattle.std.proofs.lemmas.Bool.Decides.{nat_tests}
 use Rattle.std.proofs.lemmas.List.{length-map}
 use Rattle.vss_names.specs.declared.set_outcome.SetOutcome.{SetOutcome}
 use Rattle.vss_model.specs.State.{SetRow, is_running, is_complete, row_changed}
@@ -12,6 +11,7 @@ use Rattle.vss_model.proofs.OneCut.{newest_number}
 use Rattle.sessions.specs.declared.set_facts.SetFacts.{SetFacts}
 use Rattle.sessions.specs.Sets.{AreSets, bare, current_of, facts_of, is_complete_in, running_in, running_changed}
 use Rattle.std.proofs.lemmas.Bool.{and_left, cond-false, cond-true, eq-eqb, eqb-true, ne_eqb, or_from}
+use Rattle.vss_model.proofs.Rows.{apart}
 
 -- ## the newest alone changes
 
@@ -55,9 +55,6 @@ running_last (q ∷ p ∷ rows) (suc n) r h e long =
     cond-false (is_running q.result) _ _ h.0 ∙ running_last (p ∷ rows) n r h.1 e rest
 
 -- ## a change by number
-
-pub apart : (a b : ℕ) → a < b → (a == b) ≡ false
-apart a b l = grind (arith, nat_tests)
 
 pub record IsHead (q r : SetRow) : Type 0 where
   pub same : q ≡ r
