@@ -1,5 +1,6 @@
 -- One group was called: for which histories all groups stand afterwards.
 use Rattle.std.proofs.Common.{◌≡◌, ℕ, zero, suc, ◌==◌, List, [], ◌∷◌, length, refl, ap, sym, ◌∙◌, subst, Bool, true, false, Option, Some, slice_get, slice_set}
+use Rattle.std.proofs.lemmas.Bool.{true≢false}
 use Rattle.write_history.specs.History.{History}
 use Rattle.set_agenda.specs.Course.{change_at}
 use Rattle.scenario.specs.Plan.{Plan}
@@ -26,11 +27,8 @@ each_set {X = X} P xs g x y was here others k z e = by_test (g == k) refl
         let value : y ≡ z = cc in
         subst (λ (n : ℕ). P n z) same (subst (λ (q : X). P g q) value here)
     by_test false f =
-        let apart : (g ≡ k → ⊥) = λ same. not_both (sym (same_number g k same) ∙ f) in
+        let apart : (g ≡ k → ⊥) = λ same. true≢false (sym (same_number g k same) ∙ f) in
         others k z apart (sym (slice_get-set_other xs g k y apart) ∙ e)
-      where
-        not_both : true ≡ false → ⊥
-        not_both q = cc
 
 -- ## the groups
 

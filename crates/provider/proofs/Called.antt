@@ -15,17 +15,16 @@ use Rattle.cow_volume.specs.declared.image_fault.ImageFault.{ImageFault}
 use Rattle.cow_volume.specs.declared.image_fault.ImageFault.TheVariants as image
 use Rattle.cow_volume.specs.declared.revert_fault.RevertFault.{RevertFault}
 use Rattle.cow_volume.specs.declared.revert_fault.RevertFault.TheVariants.{NoSuchImage as NoImage, Fault}
-use Rattle.cow_volume.specs.Calls.{IsSameDevice, IsUnfailed, HasCauseAt, HasImageCause as HasGroupImageCause, DeviceRose, VolumeRose, IsRevert as IsGroupRevert, IsReverted, blocks_at, changed_at}
+use Rattle.cow_volume.specs.Calls.{IsSameDevice, IsUnfailed, HasCauseAt, HasImageCause as HasGroupImageCause, DeviceRose, VolumeRose, IsRevert as IsGroupRevert, blocks_at, changed_at}
 use Rattle.cow_volume.specs.Calls.{is_among, sets_at, history_at as group_history_at}
 use Rattle.cow_volume.specs.Steps.{IsPutOr}
 use Rattle.cow_volume.specs.Parts.{IsUnseen}
 use Rattle.cow_volume.proofs.Group.{quiet_stands, slice_set-same, slice_get-set_other}
 use Rattle.provider.specs.Groups.{AreGroups, history_at}
-use Rattle.provider.specs.Devices.{AreKept, IsCallOn, IsKeptGroup, HasCause, RoseAlone, counts_of, devices_of, volume_place, fault_of}
-use Rattle.provider.specs.Calls.{HasImageCause, IsDropped, IsPut, IsQuiet, IsRevert, outcome_of}
-use Rattle.provider.specs.GroupCalls.{IsGroupDrop}
-use Rattle.provider.specs.Hashing.{HasDigestCause, IsQuietGroup}
-use Rattle.provider.specs.Preparing.{CanCutOn, IsCutOn, LastsAt, ProviderValue}
+use Rattle.provider.specs.Devices.{AreKept, IsCallOn, IsKeptGroup, HasCause, LastsAt, RoseAlone, counts_of, devices_of, volume_place, fault_of}
+use Rattle.provider.specs.Calls.{HasImageCause, IsDropped, IsPut, IsQuiet, IsRevert}
+use Rattle.provider.specs.GroupCalls.{HasDigestCause, IsGroupDrop, IsQuietGroup}
+use Rattle.provider.specs.Preparing.{CanCutOn, IsCutOn, ProviderValue}
 use Rattle.provider.proofs.Becoming.{changes, stays}
 use Rattle.provider.proofs.Found.{Found, blocks_here, device_is, history_here, image_of, own, sets_here, stands_here}
 use Rattle.provider.proofs.Flat.{rose_volume, rose_area, area_of_place, counts_same, devices_same, mapped_same}
@@ -135,18 +134,12 @@ module _ {D : Type 0} (device : Ghosts D) {s : Plan} {old new : List (GroupValue
 
   pub image_cause_of : {T : Type 0} (set : ℕ) (result : Result T ImageFault) → OnOk result (is_among set (sets_at c.found.here c.found.within) ≡ true)
       → OnOk result (IsUnfailed device.count c.found.here c.after)
-      → IfErr result (HasDigestCause device.count c.found.within set c.found.here c.after) → HasImageCause device.told device.count s v set (outcome_of result) old new
+      → IfErr result (HasDigestCause device.count c.found.within set c.found.here c.after) → HasImageCause device.told device.count s v set (fault_of result) old new
   image_cause_of set (Ok done) has same why = (image_of device.told c.found set true has, counts_still device.count c same)
   image_cause_of set (Err image.NoSuchImage) has same why = (image_of device.told c.found set false why.0, groups_still why.1)
   image_cause_of set (Err image.NoSuchBlock) has same why = why
   image_cause_of set (Err image.Volume) has same why = (image_of device.told c.found set true why.0, rose_of device.count c Volume why.1)
   image_cause_of set (Err image.Area) has same why = (image_of device.told c.found set true why.0, rose_of device.count c Area why.1)
-
-  pub image_read_cause : (set : ℕ) (result : Result Unit ImageFault) → OnOk result (is_among set (sets_at c.found.here c.found.within) ≡ true)
-      → OnOk result (IsUnfailed device.count c.found.here c.after)
-      → IfErr result (HasDigestCause device.count c.found.within set c.found.here c.after) → HasImageCause device.told device.count s v set result old new
-  image_read_cause set (Ok done) has same why = image_cause_of {T = Unit} set (Ok done) has same why
-  image_read_cause set (Err fault) has same why = image_cause_of {T = Unit} set (Err fault) has same why
 
   pub drop_kept : (set : ℕ) (b : Bool) → IsGroupDrop device c.found.here c.after c.found.within set b → AreKept device old new
   drop_kept set false h = all_kept (subst (λ (y : GroupValue D). IsKeptGroup device c.found.here y) (sym h.1) (kept_itself device c.found.here))
@@ -173,19 +166,16 @@ module _ {D : Type 0} (device : Ghosts D) {s : Plan} {old new : List (GroupValue
     cause = rose_of device.count c cause h.rose;
   }
 
-  reverted_of : (set : ℕ) → IsReverted device.told device.size device.count device.lending c.found.here c.after c.found.within set → IsRevert device s old new v set (Ok tt)
-  reverted_of set r = (
-    image_of device.told c.found set true r.image,
-    call_of r.kept,
-    counts_still device.count c r.unfailed,
-    λ hs are p point.
-        let same = history_here c.found hs are.histories in
-        changed (reverted set p) hs r.kept are (r.stands (own c.found hs) p (stands_here device.told c.found hs are) (ap (λ (h : History). point_in set h.images) same ∙ point)),
-  )
-
   pub revert_of : (set : ℕ) (result : Result Unit RevertFault) → IsGroupRevert device.told device.size device.count device.lending c.found.here c.after c.found.within set result
       → IsRevert device s old new v set result
-  revert_of set (Ok done) h = reverted_of set h
+  revert_of set (Ok done) h = (
+    image_of device.told c.found set true h.image,
+    call_of h.kept,
+    counts_still device.count c h.unfailed,
+    λ hs are p point.
+        let same = history_here c.found hs are.histories in
+        changed (reverted set p) hs h.kept are (h.stands (own c.found hs) p (stands_here device.told c.found hs are) (ap (λ (k : History). point_in set k.images) same ∙ point)),
+  )
   revert_of set (Err NoImage) h = (image_of device.told c.found set false h.0, groups_still h.1)
   revert_of set (Err (Fault restored cause)) h =
       let r = h.0 in

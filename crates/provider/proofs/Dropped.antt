@@ -1,6 +1,8 @@
 -- The images of a set go from all volumes of a group.
 use Rattle.std.proofs.Common.{◌≡◌, ℕ, zero, suc, ◌+◌, ◌<◌, ◌≤◌, ◌==◌, List, [], ◌∷◌, length, refl, ap, sym, ◌∙◌, subst, arith, Bool, true, false, Option, map, take}
 use Rattle.std.specs.Prelude.{not, ◌||◌, ◌++◌, if◌then◌else◌}
+use Rattle.std.proofs.lemmas.Bool.{true≢false}
+use Rattle.std.proofs.Math.Seq.{take-length}
 use Rattle.write_history.specs.History.{Image, History, dropped, without_set, sets_of}
 use Rattle.vss_model.specs.State.{has_image}
 use Rattle.vss_model.specs.Images.{count_images}
@@ -12,17 +14,14 @@ use Rattle.cow_volume.proofs.Group.{place_at, slice_get_inside}
 use Rattle.cow_volume.proofs.Reverting.{take_next}
 use Rattle.provider.specs.Devices.{IsKeptGroup}
 use Rattle.provider.specs.GroupCalls.{IsGroupDrop, IsWithout}
-use Rattle.provider.proofs.Kept.{kept_itself, kept_then}
+use Rattle.provider.proofs.Kept.{kept_then}
 use Rattle.provider.proofs.Looked.{point_among}
 
 -- ## one history
 
 without_if : (b c : Bool) (n : ℕ) (i : Image) (images : List Image) → (i.set == n) ≡ b → ((i.set == n) || c) ≡ false → (c ≡ false → without_set n images ≡ images)
     → (if not b then i ∷ without_set n images else without_set n images) ≡ i ∷ images
-without_if true c n i images e f h = let t : (true || c) ≡ false = subst (λ (x : Bool). (x || c) ≡ false) e f in absurd (yes_no t)
-  where
-    yes_no : true ≡ false → ⊥
-    yes_no q = cc
+without_if true c n i images e f h = let t : (true || c) ≡ false = subst (λ (x : Bool). (x || c) ≡ false) e f in absurd (true≢false t)
 without_if false c n i images e f h = let t : c ≡ false = subst (λ (x : Bool). (x || c) ≡ false) e f in ap (λ (xs : List Image). i ∷ xs) (h t)
 
 without_none : (n : ℕ) (images : List Image) → is_among n (sets_of images) ≡ false → without_set n images ≡ images
@@ -60,12 +59,6 @@ all_first n (h ∷ hs) = ap (λ (xs : List History). dropped n h ∷ xs) (all_fi
 
 -- ## counting
 
-count_yes : (n : ℕ) (h : History) → has_image n h ≡ true → count_images n (h ∷ []) ≡ 1
-count_yes n h e = ap (λ (b : Bool). (if b then 1 else 0) + 0) e
-
-count_no : (n : ℕ) (h : History) → has_image n h ≡ false → count_images n (h ∷ []) ≡ 0
-count_no n h e = ap (λ (b : Bool). (if b then 1 else 0) + 0) e
-
 pub count-append : (n : ℕ) (hs ks : List History) → count_images n (hs ++ ks) ≡ count_images n hs + count_images n ks
 count-append n [] ks = let z : count_images n ks ≡ 0 + count_images n ks = omega arith in z
 count-append n (h ∷ hs) ks =
@@ -86,17 +79,6 @@ pub record IsDroppedTo {D : Type 0} (device : Ghosts D) (old new : GroupValue D)
   pub number : (hs : List History) → StandsFor device.told old hs → stood ≡ count_images n (take k hs)
   pub none : stood ≡ 0 → new ≡ old
   pub low : stood ≤ k
-
-pub dropped_none : {D : Type 0} (device : Ghosts D) (x : GroupValue D) (n : ℕ) → IsDroppedTo device x x 0 n 0
-dropped_none device x n = record {
-  kept = kept_itself device x;
-  devices = refl;
-  area = refl;
-  stands = λ hs stood. stood;
-  number = λ hs stood. refl;
-  none = λ e. refl;
-  low = omega arith;
-}
 
 -- whether the image stands on the next volume, by the group's own list
 listed : {D : Type 0} (told : D → Option (List (List ℕ))) (old : GroupValue D) (u n : ℕ) (hs : List History) (b : Bool) → u < length old.area.volumes
@@ -122,8 +104,8 @@ counted_more told first old u n stood hs b within same stands so_far is =
     ∙ ap (count_images n) (sym next)
   where
     one : (b : Bool) (h : History) → has_image n h ≡ b → (if b then 1 else 0) ≡ count_images n (h ∷ [])
-    one true h e = sym (count_yes n h e)
-    one false h e = sym (count_no n h e)
+    one true h e = sym (ap (λ (b : Bool). (if b then 1 else 0) + 0) e)
+    one false h e = sym (ap (λ (b : Bool). (if b then 1 else 0) + 0) e)
 
 pub dropped_more : {D : Type 0} (device : Ghosts D) (first old new : GroupValue D) (u n stood : ℕ)
     → u < length old.area.volumes → IsDroppedTo device first old u n stood → IsGroupDrop device old new u n true → IsDroppedTo device first new (u + 1) n (stood + 1)
@@ -161,12 +143,6 @@ dropped_same {D = D} device first old new u n stood within was call =
       low = let l = was.low in omega (arith, l);
     })
 
-take_all : {X : Type 0} (k : ℕ) (xs : List X) → k ≡ length xs → take k xs ≡ xs
-take_all zero [] e = refl
-take_all zero (x ∷ xs) e = absurd (omega arith)
-take_all (suc k) [] e = absurd (omega arith)
-take_all (suc k) (x ∷ xs) e = ap (λ ys. x ∷ ys) (take_all k xs (omega arith))
-
 pub dropped_all : {D : Type 0} (device : Ghosts D) (old new : GroupValue D) (k n stood : ℕ) → k ≡ length old.area.volumes → k < 4294967296 → IsDroppedTo device old new k n stood
     → IsWithout device old new n stood
 dropped_all device old new k n stood e few h = record {
@@ -176,7 +152,7 @@ dropped_all device old new k n stood e few h = record {
   stands = λ hs stands.
       let long : k ≡ length hs = e ∙ sym stands.histories in
       subst (λ (ks : List History). StandsFor device.told new ks) (all_first n hs) (subst (λ (m : ℕ). StandsFor device.told new (dropped_first m n hs)) long (h.stands hs stands));
-  number = λ hs stands. h.number hs stands ∙ ap (count_images n) (take_all k hs (e ∙ sym stands.histories));
+  number = λ hs stands. h.number hs stands ∙ ap (count_images n) (ap (λ (m : ℕ). take m hs) (e ∙ sym stands.histories) ∙ take-length hs);
   none = h.none;
   most = let l = h.low in omega (arith, l, few);
 }

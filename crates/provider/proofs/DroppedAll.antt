@@ -1,6 +1,8 @@
 -- The images of a set go from the volumes of all groups.
 use Rattle.std.proofs.Common.{◌≡◌, ℕ, zero, suc, ◌+◌, ◌<◌, ◌≤◌, ◌==◌, ◌*◌, List, [], ◌∷◌, length, refl, ap, sym, ◌∙◌, subst, arith, Bool, true, false, Some, map, slice_get, slice_set}
 use Rattle.std.specs.Prelude.{if◌then◌else◌}
+use Rattle.std.proofs.lemmas.Bool.{true≢false}
+use Rattle.std.proofs.lemmas.List.{length-map}
 use Rattle.std.proofs.lemmas.Option.{slice_get_within}
 use Rattle.std.proofs.lemmas.Bool.Decides.{nat_tests}
 use Rattle.write_history.specs.History.{History, dropped}
@@ -11,7 +13,7 @@ use Rattle.vss_model.specs.Images.{count_images}
 use Rattle.volume_device.specs.declared.device.Device.{Ghosts}
 use Rattle.cow_volume.specs.GroupValue.{GroupValue}
 use Rattle.cow_volume.specs.StandsFor.{StandsFor}
-use Rattle.cow_volume.proofs.Group.{slice_set-same, slice_get-set_same, slice_get-set_other, slice_get_inside}
+use Rattle.cow_volume.proofs.Group.{length-slice_set, slice_set-same, slice_get-set_same, slice_get-set_other, slice_get_inside}
 use Rattle.scenario.specs.Places.{of_group, of_group_if}
 use Rattle.provider.specs.Groups.{AreGroups}
 use Rattle.provider.specs.Devices.{devices_of}
@@ -19,7 +21,7 @@ use Rattle.provider.specs.Calls.{AreWithout}
 use Rattle.provider.specs.GroupCalls.{IsWithout}
 use Rattle.scenario.proofs.Places.{number_is, same_number}
 use Rattle.provider.proofs.Flat.{devices_same}
-use Rattle.provider.proofs.Kept.{keeps, length_set}
+use Rattle.provider.proofs.Kept.{keeps}
 
 -- ## all groups
 
@@ -31,10 +33,6 @@ mapped : (g : ℕ) (f : History → History) (rows : List VolumeRow) (hs : List 
 mapped g f [] hs = refl
 mapped g f (r ∷ rows) [] = refl
 mapped g f (r ∷ rows) (h ∷ hs) = mapped_if (r.group == g) f h (of_group g rows hs) (of_group g rows (map f hs)) (mapped g f rows hs)
-
-length_mapped : (f : History → History) (hs : List History) → length (map f hs) ≡ length hs
-length_mapped f [] = refl
-length_mapped f (h ∷ hs) = ap (λ n. suc n) (length_mapped f hs)
 
 -- the sum over the first k numbers
 abbrev pub sum_below : ℕ → (ℕ → ℕ) → ℕ
@@ -119,17 +117,6 @@ pub record AreWithoutTo {D : Type 0} (device : Ghosts D) (old new : List (GroupV
   pub none : stood ≡ 0 → new ≡ old
   pub most : stood ≤ k * 4294967296
 
-pub without_none_yet : {D : Type 0} (device : Ghosts D) (xs : List (GroupValue D)) (n : ℕ) → AreWithoutTo device xs xs 0 n 0
-without_none_yet device xs n = record {
-  number = refl;
-  done = λ g x y l e f. absurd (omega arith);
-  rest = λ g l. refl;
-  devices = refl;
-  so_many = λ s hs are. refl;
-  none = λ e. refl;
-  most = omega arith;
-}
-
 pub without_more : {D : Type 0} (device : Ghosts D) (first old : List (GroupValue D)) (k n stood more : ℕ) (x y : GroupValue D) → slice_get old k ≡ Some x
     → AreWithoutTo device first old k n stood → IsWithout device x y n more → AreWithoutTo device first (slice_set old k y) (k + 1) n (stood + more)
 without_more {D = D} device first old k n stood more x y at was now =
@@ -137,7 +124,7 @@ without_more {D = D} device first old k n stood more x y at was now =
     let low = was.most in
     let less = now.most in
     record {
-      number = length_set old k y ∙ was.number;
+      number = length-slice_set old k y ∙ was.number;
       done = λ g p q l e f. by_test g p q l e f (k == g) refl;
       rest = λ g l. slice_get-set_other old k g y (λ same. absurd (omega arith)) ∙ was.rest g (omega arith);
       devices = devices_same old k x y at now.devices now.area ∙ was.devices;
@@ -159,12 +146,9 @@ without_more {D = D} device first old k n stood more x y at was now =
         let new_is : y ≡ q = cc in
         (more, subst (λ (z : GroupValue D). IsWithout device z q n more) old_is (subst (λ (z : GroupValue D). IsWithout device x z n more) new_is now))
     by_test g p q l e f false t =
-        let apart : (k ≡ g → ⊥) = λ same. not_both (sym (same_number k g same) ∙ t) in
+        let apart : (k ≡ g → ⊥) = λ same. true≢false (sym (same_number k g same) ∙ t) in
         was.done g p q (less g l t) e (sym (slice_get-set_other old k g y apart) ∙ f)
       where
-        not_both : true ≡ false → ⊥
-        not_both h = cc
-
         less : (g : ℕ) → g < k + 1 → (k == g) ≡ false → g < k
         less g l t = grind (arith, nat_tests)
 
@@ -173,7 +157,7 @@ without_all {D = D} device old new k n stood long h = record {
   kept = keeps device old new h.number (λ g x y at there. (call g x y at there).1.kept);
   devices = h.devices;
   stands = λ s hs are. record {
-    histories = length_mapped (dropped n) hs ∙ are.histories;
+    histories = length-map hs (dropped n) ∙ are.histories;
     each = λ g y there.
         let x = before g y there in
         let w = call g x.0 y x.1 there in

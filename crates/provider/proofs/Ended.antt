@@ -13,7 +13,7 @@ use Rattle.cow_volume.specs.Ending.{IsSync, IsSynced as IsGroupSynced}
 use Rattle.cow_volume.specs.declared.cause.Cause.{Cause}
 use Rattle.cow_volume.proofs.Group.{slice_get-set_other}
 use Rattle.provider.specs.Groups.{HasGroups}
-use Rattle.provider.specs.Ending.{AreLasting, HasSyncCause, IsSynced}
+use Rattle.provider.specs.Devices.{AreLasting, HasSyncCause, IsSynced}
 use Rattle.provider.proofs.Becoming.{stays}
 use Rattle.provider.proofs.Kept.{kept_one, called_there}
 use Rattle.provider.proofs.Flat.{rose_area, counts_same}

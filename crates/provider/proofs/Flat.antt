@@ -1,7 +1,7 @@
 -- The devices of all groups in their order: at which place each stands, and what is known of all of them from what is known of
 -- each group.
-use Rattle.std.proofs.Common.{◌≡◌, ◌<◌, ℕ, zero, suc, ◌+◌, List, [], ◌∷◌, ◌++◌, length, refl, ap, sym, ◌∙◌, subst, arith, Some, map, slice_get, slice_set}
-use Rattle.std.proofs.lemmas.List.{map-append, length-append, length-map}
+use Rattle.std.proofs.Common.{◌≡◌, ◌<◌, ℕ, zero, suc, ◌+◌, ◌-◌, List, [], ◌∷◌, ◌++◌, length, refl, ap, sym, ◌∙◌, subst, arith, append_assoc, Some, map, slice_get, slice_set}
+use Rattle.std.proofs.lemmas.List.{map-append, map-id, length-append, length-map, set-append_left, set-append_right}
 use Rattle.std.proofs.lemmas.Option.{slice_get_within}
 use Rattle.vss_names.specs.Faults.{Rose}
 use Rattle.scenario.specs.declared.volume_row.VolumeRow.{VolumeRow}
@@ -9,16 +9,12 @@ use Rattle.scenario.specs.Plan.{Plan}
 use Rattle.cow_volume.specs.GroupValue.{GroupValue}
 use Rattle.cow_volume.specs.Calls.{IsUnfailed, VolumeRose, AreaRose}
 use Rattle.cow_volume.proofs.Group.{slice_get_map}
+use Rattle.scenario.proofs.Groups.{get_some_left}
 use Rattle.scenario.specs.Places.{blocks_in_group, place_in, IsPlaceOf}
 use Rattle.provider.specs.Groups.{HasGroups}
 use Rattle.provider.specs.Devices.{devices_of, counts_of, first_place, area_place, volume_place, volume_place_in, volumes_area, volumes_area_in, RoseAlone}
 
 -- ## joined lists
-
-pub get-front : {X : Type 0} (xs ys : List X) (i : ℕ) (x : X) → slice_get xs i ≡ Some x → slice_get (xs ++ ys) i ≡ Some x
-get-front [] ys i x e = cc
-get-front (z ∷ xs) ys zero x e = e
-get-front (z ∷ xs) ys (suc i) x e = get-front xs ys i x e
 
 pub get-back : {X : Type 0} (xs ys : List X) (n i : ℕ) → n ≡ length xs → slice_get (xs ++ ys) (n + i) ≡ slice_get ys i
 get-back [] ys zero i e = let z : 0 + i ≡ i = omega arith in ap (slice_get ys) z
@@ -51,49 +47,39 @@ at_gap {D = D} (z ∷ groups) lens zero i x long at d e =
     let same : z ≡ x = cc in
     let none : 0 + i ≡ i = omega arith in
     ap (slice_get (z.devices ++ z.area.device ∷ devices_of groups)) none
-    ∙ further z.devices (subst (λ (q : GroupValue D). slice_get (q.devices ++ q.area.device ∷ []) i ≡ Some d) (sym same) e)
-  where
-    further : (ds : List D) → slice_get (ds ++ z.area.device ∷ []) i ≡ Some d → slice_get (ds ++ z.area.device ∷ devices_of groups) i ≡ Some d
-    further ds h = first_of ds i h
-      where
-        first_of : (ds : List D) (j : ℕ) → slice_get (ds ++ z.area.device ∷ []) j ≡ Some d → slice_get (ds ++ z.area.device ∷ devices_of groups) j ≡ Some d
-        first_of [] zero h = h
-        first_of [] (suc j) h = cc
-        first_of (y ∷ ds) zero h = h
-        first_of (y ∷ ds) (suc j) h = first_of ds j h
+    ∙ ap (λ (xs : List D). slice_get xs i) (sym (append_assoc z.devices (z.area.device ∷ []) (devices_of groups)))
+    ∙ get_some_left (z.devices ++ z.area.device ∷ []) (devices_of groups) i d (subst (λ (q : GroupValue D). slice_get (q.devices ++ q.area.device ∷ []) i ≡ Some d) (sym same) e)
 at_gap (z ∷ groups) lens (suc g) i x long at d e =
     let shift = gap_shift lens g in
     let first : lens 0 ≡ length z.devices = sym (long 0 z refl) in
     let is : gap lens (suc g) + i ≡ (length z.devices + 1) + (gap (λ k. lens (suc k)) g + i) = omega (arith, shift, first) in
     let many : length z.devices + 1 ≡ length (z.devices ++ z.area.device ∷ []) = sym (length-append z.devices (z.area.device ∷ [])) in
     ap (slice_get (z.devices ++ z.area.device ∷ devices_of groups)) is
-    ∙ ap (λ (xs : List _). slice_get xs ((length z.devices + 1) + (gap (λ k. lens (suc k)) g + i))) (sym (joined z.devices z.area.device (devices_of groups)))
+    ∙ ap (λ (xs : List _). slice_get xs ((length z.devices + 1) + (gap (λ k. lens (suc k)) g + i))) (sym (append_assoc z.devices (z.area.device ∷ []) (devices_of groups)))
     ∙ get-back (z.devices ++ z.area.device ∷ []) (devices_of groups) (length z.devices + 1) (gap (λ k. lens (suc k)) g + i) many
     ∙ at_gap groups (λ k. lens (suc k)) g i x (λ k q there. long (suc k) q there) at d e
-  where
-    joined : {X : Type 0} (xs : List X) (y : X) (ys : List X) → (xs ++ y ∷ []) ++ ys ≡ xs ++ y ∷ ys
-    joined [] y ys = refl
-    joined (q ∷ xs) y ys = ap (λ zs. q ∷ zs) (joined xs y ys)
 
 -- each group has as many devices as volumes of the scenario
 lens_are : {D : Type 0} (s : Plan) (groups : List (GroupValue D)) → HasGroups s groups → (k : ℕ) (z : GroupValue D) → slice_get groups k ≡ Some z
     → length z.devices ≡ length (blocks_in_group k s.volumes)
 lens_are s groups has k z at = has.devices k z at ∙ ap length (has.volumes k z at)
 
-volume_place_is : (s : Plan) (v g u : ℕ) → IsPlaceOf s v g u → volume_place s v ≡ gap (λ k. length (blocks_in_group k s.volumes)) g + u
+volume_place_is : (s : Plan) (v g u : ℕ) → IsPlaceOf s v g u → volume_place s v ≡ first_place g s.volumes + u
 volume_place_is s v g u place =
     ap (volume_place_in s.volumes v) place.is_row
-    ∙ ap (λ (n : ℕ). n + place_in place.row.group s.volumes v) (first_is_gap place.row.group s.volumes)
-    ∙ ap (λ (n : ℕ). gap (λ k. length (blocks_in_group k s.volumes)) n + place_in place.row.group s.volumes v) (sym place.group_is)
-    ∙ ap (λ (n : ℕ). gap (λ k. length (blocks_in_group k s.volumes)) g + n) (sym place.within_is)
+    ∙ ap (λ (n : ℕ). first_place n s.volumes + place_in place.row.group s.volumes v) (sym place.group_is)
+    ∙ ap (λ (n : ℕ). first_place g s.volumes + n) (sym place.within_is)
+
+-- a device of a group's volume stands in the list of all
+pub device_at : {D : Type 0} (s : Plan) (groups : List (GroupValue D)) (g u : ℕ) (x : GroupValue D) (d : D) → HasGroups s groups → slice_get groups g ≡ Some x → slice_get x.devices u ≡ Some d
+    → slice_get (devices_of groups) (first_place g s.volumes + u) ≡ Some d
+device_at s groups g u x d has at e =
+    ap (λ (n : ℕ). slice_get (devices_of groups) (n + u)) (first_is_gap g s.volumes)
+    ∙ at_gap groups (λ k. length (blocks_in_group k s.volumes)) g u x (lens_are s groups has) at d (get_some_left x.devices (x.area.device ∷ []) u d e)
 
 pub volume_device_at : {D : Type 0} (s : Plan) (groups : List (GroupValue D)) (v g u : ℕ) (x : GroupValue D) (d : D) → HasGroups s groups → IsPlaceOf s v g u → slice_get groups g ≡ Some x
-    → slice_get x.devices u ≡ Some d
-    → slice_get (devices_of groups) (volume_place s v) ≡ Some d
-volume_device_at s groups v g u x d has place at e =
-    let is = volume_place_is s v g u place in
-    ap (slice_get (devices_of groups)) is
-    ∙ at_gap groups (λ k. length (blocks_in_group k s.volumes)) g u x (lens_are s groups has) at d (get-front x.devices (x.area.device ∷ []) u d e)
+    → slice_get x.devices u ≡ Some d → slice_get (devices_of groups) (volume_place s v) ≡ Some d
+volume_device_at s groups v g u x d has place at e = ap (slice_get (devices_of groups)) (volume_place_is s v g u place) ∙ device_at s groups g u x d has at e
 
 pub area_device_at : {D : Type 0} (s : Plan) (groups : List (GroupValue D)) (g : ℕ) (x : GroupValue D) → HasGroups s groups → slice_get groups g ≡ Some x
     → slice_get (devices_of groups) (area_place g s.volumes) ≡ Some x.area.device
@@ -106,20 +92,10 @@ area_device_at s groups g x has at =
 
 -- ## counts
 
--- one member of a joined list is set
-set-front : {X : Type 0} (xs ys : List X) (i : ℕ) (y : X) → i < length xs → slice_set (xs ++ ys) i y ≡ slice_set xs i y ++ ys
-set-front [] ys i y l = absurd (omega arith)
-set-front (z ∷ xs) ys zero y l = refl
-set-front (z ∷ xs) ys (suc i) y l = let less : i < length xs = omega arith in ap (λ zs. z ∷ zs) (set-front xs ys i y less)
-
 set-back : {X : Type 0} (xs ys : List X) (n i : ℕ) (y : X) → n ≡ length xs → slice_set (xs ++ ys) (n + i) y ≡ xs ++ slice_set ys i y
-set-back [] ys zero i y e = let z : 0 + i ≡ i = omega arith in ap (λ k. slice_set ys k y) z
-set-back [] ys (suc n) i y e = absurd (omega arith)
-set-back (z ∷ xs) ys zero i y e = absurd (omega arith)
-set-back (z ∷ xs) ys (suc n) i y e =
-    let more : suc n + i ≡ suc (n + i) = omega arith in
-    let rest : n ≡ length xs = omega arith in
-    ap (λ k. slice_set (z ∷ xs ++ ys) k y) more ∙ ap (λ zs. z ∷ zs) (set-back xs ys n i y rest)
+set-back xs ys n i y e =
+    let z : (n + i) - n ≡ i = omega arith in
+    set-append_right xs ys n (n + i) y (sym e) (omega arith) ∙ ap (λ k. xs ++ slice_set ys k y) z
 
 -- one count of a list rose, and no other
 rose_alone : (i : ℕ) (xs ys : List ℕ) (a b : ℕ) → slice_get xs i ≡ Some a → ys ≡ slice_set xs i b → Rose a b → RoseAlone i xs ys
@@ -134,99 +110,88 @@ rose_alone (suc i) (x ∷ xs) ys a b at is rose =
 abbrev group_devices : {D : Type 0} → GroupValue D → List D
 group_devices x = x.devices ++ x.area.device ∷ []
 
-joined_devices : {D : Type 0} (count : D → ℕ) (z : GroupValue D) (groups : List (GroupValue D)) → counts_of count (z ∷ groups) ≡ map count (group_devices z) ++ counts_of count groups
-joined_devices count z groups = sym (ap (map count) (joined z.devices z.area.device (devices_of groups))) ∙ map-append count (group_devices z) (devices_of groups) where
-  joined : {X : Type 0} (xs : List X) (y : X) (ys : List X) → (xs ++ y ∷ []) ++ ys ≡ xs ++ y ∷ ys
-  joined [] y ys = refl
-  joined (q ∷ xs) y ys = ap (λ zs. q ∷ zs) (joined xs y ys)
+joined_devices : {D X : Type 0} (f : D → X) (z : GroupValue D) (groups : List (GroupValue D)) → map f (devices_of (z ∷ groups)) ≡ map f (group_devices z) ++ map f (devices_of groups)
+joined_devices f z groups = sym (ap (map f) (append_assoc z.devices (z.area.device ∷ []) (devices_of groups))) ∙ map-append f (group_devices z) (devices_of groups)
 
--- one count of one group is another, and so is that count of all
-counts_set : {D : Type 0} (count : D → ℕ) (groups : List (GroupValue D)) (lens : ℕ → ℕ) (g i : ℕ) (x y : GroupValue D) (n : ℕ)
+-- what is read of one device of one group is another, and so it is of all
+mapped_set : {D X : Type 0} (f : D → X) (groups : List (GroupValue D)) (lens : ℕ → ℕ) (g i : ℕ) (x y : GroupValue D) (n : X)
     → ((k : ℕ) (z : GroupValue D) → slice_get groups k ≡ Some z → length z.devices ≡ lens k)
-    → slice_get groups g ≡ Some x → i < length (map count (group_devices x)) → map count (group_devices y) ≡ slice_set (map count (group_devices x)) i n
-    → counts_of count (slice_set groups g y) ≡ slice_set (counts_of count groups) (gap lens g + i) n
-counts_set count [] lens g i x y n long at inside set = cc
-counts_set {D = D} count (z ∷ groups) lens zero i x y n long at inside set =
+    → slice_get groups g ≡ Some x → i < length x.devices + 1 → map f (group_devices y) ≡ slice_set (map f (group_devices x)) i n
+    → map f (devices_of (slice_set groups g y)) ≡ slice_set (map f (devices_of groups)) (gap lens g + i) n
+mapped_set f [] lens g i x y n long at inside set = cc
+mapped_set {D = D} {X = X} f (z ∷ groups) lens zero i x y n long at inside set =
     let same : z ≡ x = cc in
     let none : i ≡ 0 + i = omega arith in
-    joined_devices count y groups
-    ∙ ap (λ (xs : List ℕ). xs ++ counts_of count groups) set
-    ∙ sym (set-front (map count (group_devices x)) (counts_of count groups) i n inside)
-    ∙ ap (λ (xs : List ℕ). slice_set xs i n) (sym (joined_devices count x groups) ∙ ap (λ (q : GroupValue D). counts_of count (q ∷ groups)) (sym same))
-    ∙ ap (λ k. slice_set (counts_of count (z ∷ groups)) k n) none
-counts_set count (z ∷ groups) lens (suc g) i x y n long at inside set =
+    let many = length-map (group_devices x) f ∙ length-append x.devices (x.area.device ∷ []) in
+    joined_devices f y groups
+    ∙ ap (λ (xs : List X). xs ++ map f (devices_of groups)) set
+    ∙ sym (set-append_left (map f (group_devices x)) (map f (devices_of groups)) i n (omega (arith, inside, many)))
+    ∙ ap (λ (xs : List X). slice_set xs i n) (sym (joined_devices f x groups) ∙ ap (λ (q : GroupValue D). map f (devices_of (q ∷ groups))) (sym same))
+    ∙ ap (λ k. slice_set (map f (devices_of (z ∷ groups))) k n) none
+mapped_set {X = X} f (z ∷ groups) lens (suc g) i x y n long at inside set =
     let shift = gap_shift lens g in
     let first : lens 0 ≡ length z.devices = sym (long 0 z refl) in
-    let many : length z.devices + 1 ≡ length (map count (group_devices z)) = sym (length-map (group_devices z) count ∙ length-append z.devices (z.area.device ∷ [])) in
+    let many : length z.devices + 1 ≡ length (map f (group_devices z)) = sym (length-map (group_devices z) f ∙ length-append z.devices (z.area.device ∷ [])) in
     let is : (length z.devices + 1) + (gap (λ k. lens (suc k)) g + i) ≡ gap lens (suc g) + i = omega (arith, shift, first) in
-    joined_devices count z (slice_set groups g y)
-    ∙ ap (λ (xs : List ℕ). map count (group_devices z) ++ xs) (counts_set count groups (λ k. lens (suc k)) g i x y n (λ k q there. long (suc k) q there) at inside set)
-    ∙ sym (set-back (map count (group_devices z)) (counts_of count groups) (length z.devices + 1) (gap (λ k. lens (suc k)) g + i) n many)
-    ∙ ap (λ (xs : List ℕ). slice_set xs ((length z.devices + 1) + (gap (λ k. lens (suc k)) g + i)) n) (sym (joined_devices count z groups))
-    ∙ ap (λ k. slice_set (counts_of count (z ∷ groups)) k n) is
+    joined_devices f z (slice_set groups g y)
+    ∙ ap (λ (xs : List X). map f (group_devices z) ++ xs) (mapped_set f groups (λ k. lens (suc k)) g i x y n (λ k q there. long (suc k) q there) at inside set)
+    ∙ sym (set-back (map f (group_devices z)) (map f (devices_of groups)) (length z.devices + 1) (gap (λ k. lens (suc k)) g + i) n many)
+    ∙ ap (λ (xs : List X). slice_set xs ((length z.devices + 1) + (gap (λ k. lens (suc k)) g + i)) n) (sym (joined_devices f z groups))
+    ∙ ap (λ k. slice_set (map f (devices_of (z ∷ groups))) k n) is
+
+-- that of volume u
+volume_set : {D X : Type 0} (f : D → X) (x y : GroupValue D) (u : ℕ) (n : X) → u < length x.devices → map f y.devices ≡ slice_set (map f x.devices) u n → f y.area.device ≡ f x.area.device
+    → map f (group_devices y) ≡ slice_set (map f (group_devices x)) u n
+volume_set {X = X} f x y u n low devices area =
+    let many = length-map x.devices f in
+    map-append f y.devices (y.area.device ∷ [])
+    ∙ ap (λ (xs : List X). xs ++ f y.area.device ∷ []) devices
+    ∙ ap (λ (z : X). slice_set (map f x.devices) u n ++ z ∷ []) area
+    ∙ sym (set-append_left (map f x.devices) (f x.area.device ∷ []) u n (omega (arith, low, many)))
+    ∙ ap (λ (xs : List X). slice_set xs u n) (sym (map-append f x.devices (x.area.device ∷ [])))
+
+-- that of the area
+area_set : {D X : Type 0} (f : D → X) (x y : GroupValue D) (u : ℕ) → u ≡ length x.devices → map f y.devices ≡ map f x.devices
+    → map f (group_devices y) ≡ slice_set (map f (group_devices x)) u (f y.area.device)
+area_set {X = X} f x y u size devices =
+    let many = length-map x.devices f in
+    let at_end : u + 0 ≡ u = omega arith in
+    map-append f y.devices (y.area.device ∷ [])
+    ∙ ap (λ (xs : List X). xs ++ f y.area.device ∷ []) devices
+    ∙ sym (set-back (map f x.devices) (f x.area.device ∷ []) u 0 (f y.area.device) (omega (arith, size, many)))
+    ∙ ap (λ (k : ℕ). slice_set (map f x.devices ++ f x.area.device ∷ []) k (f y.area.device)) at_end
+    ∙ ap (λ (xs : List X). slice_set xs u (f y.area.device)) (sym (map-append f x.devices (x.area.device ∷ [])))
+
+-- the area's device of a group is another, and no device else
+pub area_is_set : {D X : Type 0} (f : D → X) (s : Plan) (old : List (GroupValue D)) (g : ℕ) (x y : GroupValue D) → HasGroups s old → slice_get old g ≡ Some x → map f y.devices ≡ map f x.devices
+    → map f (devices_of (slice_set old g y)) ≡ slice_set (map f (devices_of old)) (area_place g s.volumes) (f y.area.device)
+area_is_set f s old g x y has was devices =
+    let many = lens_are s old has g x was in
+    mapped_set f old (λ k. length (blocks_in_group k s.volumes)) g (length (blocks_in_group g s.volumes)) x y (f y.area.device) (lens_are s old has) was (omega (arith, many))
+    (area_set f x y (length (blocks_in_group g s.volumes)) (sym many) devices)
+    ∙ ap (λ (n : ℕ). slice_set (map f (devices_of old)) (n + length (blocks_in_group g s.volumes)) (f y.area.device)) (sym (first_is_gap g s.volumes))
 
 pub rose_volume : {D : Type 0} (count : D → ℕ) (s : Plan) (old new : List (GroupValue D)) (v g u : ℕ) (x y : GroupValue D) → HasGroups s old → IsPlaceOf s v g u
     → slice_get old g ≡ Some x → new ≡ slice_set old g y → VolumeRose count u x y → RoseAlone (volume_place s v) (counts_of count old) (counts_of count new)
 rose_volume {D = D} count s old new v g u x y has place was is rose =
     let inside = slice_get_within x.devices u rose.before rose.was in
-    let long = length-map x.devices count in
-    let more = length-append (map count x.devices) (count y.area.device ∷ []) in
-    let low : u < length (map count x.devices) = omega (arith, inside, long) in
-    let all = ap length (map-append count x.devices (x.area.device ∷ [])) ∙ length-append (map count x.devices) (count x.area.device ∷ []) in
-    let own : u < length (map count (group_devices x)) = omega (arith, low, all) in
-    let set : map count (group_devices y) ≡ slice_set (map count (group_devices x)) u (count rose.now) =
-    map-append count y.devices (y.area.device ∷ [])
-    ∙ ap (λ (xs : List ℕ). xs ++ count y.area.device ∷ []) rose.devices
-    ∙ ap (λ (n : ℕ). slice_set (map count x.devices) u (count rose.now) ++ n ∷ []) rose.area
-    ∙ sym (set-front (map count x.devices) (count x.area.device ∷ []) u (count rose.now) low)
-    ∙ ap (λ (xs : List ℕ). slice_set xs u (count rose.now)) (sym (map-append count x.devices (x.area.device ∷ []))) in
     rose_alone (volume_place s v) (counts_of count old) (counts_of count new) (count rose.before) (count rose.now)
     (slice_get_map count (devices_of old) (volume_place s v) rose.before (volume_device_at s old v g u x rose.before has place was rose.was))
     (ap (counts_of count) is
-    ∙ counts_set count old (λ k. length (blocks_in_group k s.volumes)) g u x y (count rose.now) (lens_are s old has) was own set
-    ∙ ap (λ (k : ℕ). slice_set (counts_of count old) k (count rose.now)) (sym (volume_place_is s v g u place)))
+    ∙ mapped_set count old (λ k. length (blocks_in_group k s.volumes)) g u x y (count rose.now) (lens_are s old has) was (omega (arith, inside))
+    (volume_set count x y u (count rose.now) inside rose.devices rose.area)
+    ∙ ap (λ (k : ℕ). slice_set (counts_of count old) k (count rose.now)) (sym (volume_place_is s v g u place ∙ ap (λ (n : ℕ). n + u) (first_is_gap g s.volumes))))
     rose.rose
 
 pub rose_area : {D : Type 0} (count : D → ℕ) (s : Plan) (old new : List (GroupValue D)) (g : ℕ) (x y : GroupValue D) → HasGroups s old
     → slice_get old g ≡ Some x → new ≡ slice_set old g y → AreaRose count x y → RoseAlone (area_place g s.volumes) (counts_of count old) (counts_of count new)
 rose_area {D = D} count s old new g x y has was is rose =
-    let many = lens_are s old has g x was in
-    let long = length-map x.devices count in
-    let all = ap length (map-append count x.devices (x.area.device ∷ [])) ∙ length-append (map count x.devices) (count x.area.device ∷ []) in
-    let at_end : length (blocks_in_group g s.volumes) + 0 ≡ length (blocks_in_group g s.volumes) = omega arith in
-    let size : length (blocks_in_group g s.volumes) ≡ length (map count x.devices) = omega (arith, many, long) in
-    let own : length (blocks_in_group g s.volumes) < length (map count (group_devices x)) = omega (arith, size, all) in
-    let set : map count (group_devices y) ≡ slice_set (map count (group_devices x)) (length (blocks_in_group g s.volumes)) (count y.area.device) =
-    map-append count y.devices (y.area.device ∷ [])
-    ∙ ap (λ (xs : List ℕ). xs ++ count y.area.device ∷ []) rose.devices
-    ∙ sym (set-back (map count x.devices) (count x.area.device ∷ []) (length (blocks_in_group g s.volumes)) 0 (count y.area.device) size)
-    ∙ ap (λ (k : ℕ). slice_set (map count x.devices ++ count x.area.device ∷ []) k (count y.area.device)) at_end
-    ∙ ap (λ (xs : List ℕ). slice_set xs (length (blocks_in_group g s.volumes)) (count y.area.device)) (sym (map-append count x.devices (x.area.device ∷ []))) in
     rose_alone (area_place g s.volumes) (counts_of count old) (counts_of count new) (count x.area.device) (count y.area.device)
     (slice_get_map count (devices_of old) (area_place g s.volumes) x.area.device (area_device_at s old g x has was))
-    (ap (counts_of count) is
-    ∙ counts_set count old (λ k. length (blocks_in_group k s.volumes)) g (length (blocks_in_group g s.volumes)) x y (count y.area.device) (lens_are s old has) was own set
-    ∙ ap (λ (n : ℕ). slice_set (counts_of count old) (n + length (blocks_in_group g s.volumes)) (count y.area.device)) (sym (first_is_gap g s.volumes)))
-    rose.rose
+    (ap (counts_of count) is ∙ area_is_set count s old g x y has was rose.devices) rose.rose
 
 pub area_of_place : (s : Plan) (v g u : ℕ) → IsPlaceOf s v g u → volumes_area s v ≡ area_place g s.volumes
 area_of_place s v g u place = ap (volumes_area_in s.volumes) place.is_row ∙ ap (λ (n : ℕ). area_place n s.volumes) (sym place.group_is)
-
--- the counts of one group are as they were, and so are all
-pub counts_same : {D : Type 0} (count : D → ℕ) (groups : List (GroupValue D)) (g : ℕ) (x y : GroupValue D) → slice_get groups g ≡ Some x → IsUnfailed count x y
-    → counts_of count (slice_set groups g y) ≡ counts_of count groups
-counts_same count [] g x y at same = cc
-counts_same {D = D} count (z ∷ groups) zero x y at same =
-    let is : z ≡ x = cc in
-    map-append count y.devices (y.area.device ∷ devices_of groups)
-    ∙ ap (λ (xs : List ℕ). xs ++ count y.area.device ∷ map count (devices_of groups)) same.devices
-    ∙ ap (λ (n : ℕ). map count x.devices ++ n ∷ map count (devices_of groups)) same.area
-    ∙ sym (map-append count x.devices (x.area.device ∷ devices_of groups))
-    ∙ ap (λ (q : GroupValue D). map count (q.devices ++ q.area.device ∷ devices_of groups)) (sym is)
-counts_same count (z ∷ groups) (suc g) x y at same =
-    map-append count z.devices (z.area.device ∷ devices_of (slice_set groups g y))
-    ∙ ap (λ (xs : List ℕ). map count z.devices ++ count z.area.device ∷ xs) (counts_same count groups g x y at same)
-    ∙ sym (map-append count z.devices (z.area.device ∷ devices_of groups))
 
 -- what is read of each device of one group is as it was, and so it is of all
 pub mapped_same : {D X : Type 0} (f : D → X) (groups : List (GroupValue D)) (g : ℕ) (x y : GroupValue D) → slice_get groups g ≡ Some x → map f y.devices ≡ map f x.devices
@@ -245,12 +210,13 @@ mapped_same {D = D} {X = X} f (z ∷ groups) (suc g) x y at devices area =
     ∙ ap (λ (xs : List X). map f z.devices ++ f z.area.device ∷ xs) (mapped_same f groups g x y at devices area)
     ∙ sym (map-append f z.devices (z.area.device ∷ devices_of groups))
 
+-- so the counts of one group are as they were, and so are all
+pub counts_same : {D : Type 0} (count : D → ℕ) (groups : List (GroupValue D)) (g : ℕ) (x y : GroupValue D) → slice_get groups g ≡ Some x → IsUnfailed count x y
+    → counts_of count (slice_set groups g y) ≡ counts_of count groups
+counts_same count groups g x y at same = mapped_same count groups g x y at same.devices same.area
+
 -- the devices are as they were where those of the group that was called are
 pub devices_same : {D : Type 0} (groups : List (GroupValue D)) (g : ℕ) (x y : GroupValue D) → slice_get groups g ≡ Some x → y.devices ≡ x.devices → y.area.device ≡ x.area.device
     → devices_of (slice_set groups g y) ≡ devices_of groups
-devices_same [] g x y at devices area = cc
-devices_same {D = D} (z ∷ groups) zero x y at devices area =
-    let is : x ≡ z = cc in
-    ap (λ (ds : List D). ds ++ y.area.device ∷ devices_of groups) devices ∙ ap (λ (d : D). x.devices ++ d ∷ devices_of groups) area ∙ ap
-    (λ (q : GroupValue D). q.devices ++ q.area.device ∷ devices_of groups) is
-devices_same {D = D} (z ∷ groups) (suc g) x y at devices area = ap (λ (ds : List D). z.devices ++ z.area.device ∷ ds) (devices_same groups g x y at devices area)
+devices_same groups g x y at devices area =
+    sym (map-id (devices_of (slice_set groups g y))) ∙ mapped_same (λ d. d) groups g x y at (ap (map (λ d. d)) devices) area ∙ map-id (devices_of groups)

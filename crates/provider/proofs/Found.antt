@@ -1,26 +1,29 @@
 -- The group of a volume is found among all groups, or called: what that says of the volume of the scenario.
-use Rattle.std.proofs.Common.{◌≡◌, ℕ, ◌<◌, List, length, refl, ap, sym, ◌∙◌, subst, arith, Bool, true, false, Option, Some, None, get_or, slice_get}
-use Rattle.std.specs.Prelude.{◌&&◌, is_some, IfSome, OnOk, Result, Ok, Err}
+use Rattle.std.proofs.Common.{◌≡◌, ℕ, ◌<◌, List, length, refl, ap, sym, ◌∙◌, subst, arith, Bool, true, Option, Some, None, get_or, slice_get}
+use Rattle.std.specs.Prelude.{is_some, IfSome, OnOk, Result, Ok, Err}
+use Rattle.std.proofs.lemmas.Bool.{and_parts}
 use Rattle.std.specs.List.{concat}
 use Rattle.block_data.specs.Digest.{sha256}
-use Rattle.write_history.specs.History.{History, content, contents, point_in, sets_of}
+use Rattle.write_history.specs.History.{History, Write, content, contents, sets_of}
 use Rattle.write_history.specs.Slots.{used, used_by}
+use Rattle.scenario.specs.declared.volume_row.VolumeRow.{VolumeRow}
 use Rattle.scenario.specs.Plan.{Plan, blocks_of}
 use Rattle.scenario.specs.Places.{of_group, place_in, IsPlaceOf}
 use Rattle.cow_volume.specs.GroupValue.{GroupValue}
-use Rattle.cow_volume.specs.StandsFor.{StandsFor}
-use Rattle.cow_volume.specs.Calls.{IsNow as IsGroupNow, IsShown as IsGroupShown, blocks_at, sets_at, sets_in, is_among, history_at as group_history_at}
+use Rattle.cow_volume.specs.StandsFor.{StandsFor, told_in}
+use Rattle.cow_volume.specs.Calls.{IsNow, blocks_at, sets_at, sets_in, is_among, history_at as group_history_at}
 use Rattle.cow_volume.proofs.Group.{place_at, slice_get_inside}
 use Rattle.cow_volume.proofs.DeviceCalls.{device_read}
 use Rattle.scenario.proofs.Places.{one_place}
-use Rattle.provider.specs.Groups.{AreGroups, HasGroups, IfStandFor, history_at}
-use Rattle.provider.specs.Devices.{tells_in, tells_within, tells_row, tells_at, devices_of, volume_place}
-use Rattle.provider.specs.Calls.{HasImage, IsNow, IsShown, IsDigestNow, IsDigestShown}
-use Rattle.provider.specs.Hashing.{IsDigestAt, IsEnd, IsPoint}
+use Rattle.provider.specs.Groups.{AreGroups, HasGroups, IfStandFor, IsPointOf, history_at}
+use Rattle.provider.specs.Devices.{told_of, told_by, told_at, devices_of, volume_place, volumes_area}
+use Rattle.provider.specs.Calls.{HasImage, IfShown, IsDigestShown}
+use Rattle.provider.specs.GroupCalls.{AtPoint, IsDigestAt}
 use Rattle.provider.specs.Preparing.{ProviderValue}
-use Rattle.provider.proofs.Places.{history_of_place, group_below, within_there, blocks_are}
+use Rattle.provider.proofs.Places.{history_of_place, group_below, group_there, within_there, blocks_are}
 use Rattle.provider.proofs.Looked.{point_among}
-use Rattle.provider.proofs.Flat.{volume_device_at}
+use Rattle.provider.proofs.Flat.{volume_device_at, area_device_at, area_of_place}
+use Rattle.provider.proofs.Kept.{both_tell}
 
 pub inside_has : {D : Type 0} (s : Plan) (p q : ProviderValue D) → p ≡ q → HasGroups s q.groups → HasGroups s p.groups
 inside_has {D = D} s p q same has = subst (λ (r : ProviderValue D). HasGroups s r.groups) (sym same) has
@@ -34,17 +37,25 @@ pub record Found {D : Type 0} (s : Plan) (groups : List (GroupValue D)) (v : ℕ
   pub here : GroupValue D
   pub at : slice_get groups group ≡ Some here
 
-abbrev pub found : {D : Type 0} (s : Plan) (groups : List (GroupValue D)) (v g u : ℕ) (x : GroupValue D) → HasGroups s groups → IsPlaceOf s v g u → slice_get groups g ≡ Some x → Found s groups v
-found s groups v g u x has place at = record { has = has; group = g; within = u; place = place; here = x; at = at }
+abbrev pub found_in : {D : Type 0} {s : Plan} {v : ℕ} {groups : List (GroupValue D)} {g u : ℕ} {x : GroupValue D} → HasGroups s groups → IsPlaceOf s v g u → x ≡ get_or groups g x
+    → Found s groups v
+found_in {s = s} {v = v} {groups = groups} {g = g} {u = u} {x = x} has place value =
+    record { has = has; group = g; within = u; place = place; here = x; at = device_read groups g x (group_below s groups v g u place has) value }
 
-abbrev pub found_in : {D : Type 0} (s : Plan) (v : ℕ) (groups : List (GroupValue D)) {g u : ℕ} (x : GroupValue D) → HasGroups s groups → IsPlaceOf s v g u → x ≡ get_or groups g x → Found s groups v
-found_in s v groups {g = g} {u = u} x has place value = found s groups v g u x has place (device_read groups g x (group_below s groups v g u place has) value)
+-- by its row
+abbrev pub found_row : {D : Type 0} (s : Plan) (groups : List (GroupValue D)) (v : ℕ) (r : VolumeRow) → HasGroups s groups → slice_get s.volumes v ≡ Some r → Found s groups v
+found_row s groups v r has e =
+    let place : IsPlaceOf s v r.group (place_in r.group s.volumes v) = record { row = r; is_row = e; group_is = refl; within_is = refl } in
+    let x = group_there s groups v r.group (place_in r.group s.volumes v) place has in
+    record { has = has; group = r.group; within = place_in r.group s.volumes v; place = place; here = x.0; at = x.1 }
 
 -- by what a provider sees of its fields
-abbrev pub found_by : {D : Type 0} (s : Plan) (v : ℕ) {p q : ProviderValue D} {g u : ℕ} (x : GroupValue D) → p ≡ q → HasGroups s q.groups → IsPlaceOf s v g u → x ≡ get_or p.groups g x
+abbrev pub found_by : {D : Type 0} {s : Plan} {v : ℕ} {p q : ProviderValue D} {g u : ℕ} {x : GroupValue D} → p ≡ q → HasGroups s q.groups → IsPlaceOf s v g u → x ≡ get_or p.groups g x
     → Found s p.groups v
-found_by s v {p = p} {q = q} {g = g} {u = u} x same has place value =
-    found_in s v p.groups x (inside_has s p q same has) place value
+found_by {s = s} {p = p} {q = q} same has place value = found_in (inside_has s p q same has) place value
+
+pub group_low : {D : Type 0} {s : Plan} {v : ℕ} {p q : ProviderValue D} {g u : ℕ} → p ≡ q → HasGroups s q.groups → IsPlaceOf s v g u → g < length p.groups
+group_low {s = s} {v = v} {p = p} {q = q} {g = g} {u = u} same has place = group_below s p.groups v g u place (inside_has s p q same has)
 
 -- a volume that tells
 pub record Telling {D : Type 0} (told : D → Option (List (List ℕ))) (x : GroupValue D) (u : ℕ) : Type 0 where
@@ -52,14 +63,6 @@ pub record Telling {D : Type 0} (told : D → Option (List (List ℕ))) (x : Gro
   pub at : slice_get x.devices u ≡ Some device
   pub tells : is_some (told device) ≡ true
   pub area : is_some (told x.area.device) ≡ true
-
-both : (a b : Bool) → (a && b) ≡ true → (a ≡ true) × (b ≡ true)
-both true b e = (refl, e)
-both false b e = cc
-
-of_option : {D : Type 0} (told : D → Option (List (List ℕ))) (o : Option D) → tells_in told o ≡ true → (d : D) × (o ≡ Some d) × (is_some (told d) ≡ true)
-of_option told None e = cc
-of_option told (Some d) e = (d, refl, e)
 
 module _ {D : Type 0} {s : Plan} {groups : List (GroupValue D)} {v : ℕ} (f : Found s groups v) where
   pub inside : f.within < length f.here.area.volumes
@@ -79,14 +82,28 @@ module _ {D : Type 0} {s : Plan} {groups : List (GroupValue D)} {v : ℕ} (f : F
   history_here hs long = history_of_place s hs v f.group f.within f.place long
 
   -- the device at the volume's place is its own
-  pub device_is : (d : D) → slice_get (devices_of groups) (volume_place s v) ≡ Some d → slice_get f.here.devices f.within ≡ Some d
-  device_is d at =
+  own_device : (d : D) × (slice_get f.here.devices f.within ≡ Some d) × (slice_get (devices_of groups) (volume_place s v) ≡ Some d)
+  own_device =
       let low = inside in
       let long = f.has.devices f.group f.here f.at in
       let e = slice_get_inside f.here.devices f.within (omega (arith, low, long)) in
-      let one : Some e.0 ≡ Some d = sym (volume_device_at s groups v f.group f.within f.here e.0 f.has f.place f.at e.1) ∙ at in
+      (e.0, e.1, volume_device_at s groups v f.group f.within f.here e.0 f.has f.place f.at e.1)
+
+  pub device_is : (d : D) → slice_get (devices_of groups) (volume_place s v) ≡ Some d → slice_get f.here.devices f.within ≡ Some d
+  device_is d at =
+      let e = own_device in
+      let one : Some e.0 ≡ Some d = sym e.2 ∙ at in
       let same : e.0 ≡ d = cc in
       e.1 ∙ ap (λ (z : _). Some z) same
+
+  -- what it tells, and what that of the area does
+  pub told_here : (told : D → Option (List (List ℕ))) → (d : D) × (slice_get f.here.devices f.within ≡ Some d)
+      × (told_at told s (devices_of groups) v ≡ told_in (told f.here.area.device) (told d))
+  told_here told =
+      let e = own_device in
+      let area : told_by told (devices_of groups) (volumes_area s v) ≡ told f.here.area.device =
+      ap (told_by told (devices_of groups)) (area_of_place s v f.group f.within f.place) ∙ ap (told_of told) (area_device_at s groups f.group f.here f.has f.at) in
+      (e.0, e.1, ap (λ o. told_in o (told_by told (devices_of groups) (volume_place s v))) area ∙ ap (λ o. told_in (told f.here.area.device) (told_of told o)) e.2)
 
   -- wherever the volume is said to be, it is there
   pub there : (P : GroupValue D → ℕ → Type 0) → P f.here f.within → (k w : ℕ) (x : GroupValue D) → IsPlaceOf s v k w → slice_get groups k ≡ Some x → P x w
@@ -127,45 +144,28 @@ module _ {D : Type 0} (told : D → Option (List (List ℕ))) {s : Plan} {groups
 
   -- ## blocks, where the volume tells
 
-  pub telling : tells_at told s groups v ≡ true → Telling told f.here f.within
+  pub telling : is_some (told_at told s (devices_of groups) v) ≡ true → Telling told f.here f.within
   telling tells =
-      let here : tells_within told (Some f.here) f.within ≡ true =
-      sym (ap (tells_row told s groups v) f.place.is_row
-      ∙ ap (λ (n : ℕ). tells_within told (slice_get groups n) (place_in f.place.row.group s.volumes v)) (sym f.place.group_is)
-      ∙ ap (tells_within told (slice_get groups f.group)) (sym f.place.within_is)
-      ∙ ap (λ (o : Option (GroupValue D)). tells_within told o f.within) f.at) ∙ tells in
-      let parts = both (tells_in told (slice_get f.here.devices f.within)) (is_some (told f.here.area.device)) here in
-      let d = of_option told (slice_get f.here.devices f.within) parts.0 in
-      record { device = d.0; at = d.1; tells = d.2; area = parts.1 }
+      let d = told_here f told in
+      let parts = and_parts _ _ (sym (ap is_some d.2 ∙ both_tell (told f.here.area.device) (told d.0)) ∙ tells) in
+      record { device = d.0; at = d.1; tells = parts.0; area = parts.1 }
 
-  pub now_of : (b : ℕ) (bytes : List ℕ) → IsGroupNow told f.here f.within b bytes → IsNow told s groups v b bytes
-  now_of b bytes is tells hs are =
-      let t = telling tells in
-      is (own f hs) t.device (stands_here hs are) t.at t.tells t.area
-      ∙ ap (λ (h : History). content h.writes (length h.writes) b) (history_here f hs are.histories)
-
-  pub shown_of : (set b : ℕ) (bytes : List ℕ) → IsGroupShown told f.here f.within set b bytes → IsShown told s groups v set b bytes
-  shown_of set b bytes is tells hs are p point =
+  pub shown_of : (set : Option ℕ) (P : List Write → ℕ → Type 0) → AtPoint told f.here f.within set P → IfShown told s groups v set P
+  shown_of set P is tells hs are p point =
       let t = telling tells in
       let same = history_here f hs are.histories in
-      is (own f hs) t.device p (stands_here hs are) t.at t.tells t.area (ap (λ (h : History). point_in set h.images) same ∙ point)
-      ∙ ap (λ (h : History). content h.writes p b) same
+      subst (λ (h : History). P h.writes p) same (is (own f hs) t.device p (stands_here hs are) t.at t.tells t.area (subst (λ (h : History). IsPointOf set h p) (sym same) point))
 
-  pub digest_now_of : (digest : List ℕ) → IsDigestAt told f.here f.within (IsEnd f.within) digest → IsDigestNow told s groups v digest
-  digest_now_of digest is tells hs are =
-      let t = telling tells in
-      let h = group_history_at (own f hs) f.within in
-      is (own f hs) t.device (length h.writes) (stands_here hs are) t.at t.tells t.area refl
-      ∙ ap (λ (n : ℕ). sha256 (concat (contents n h.writes (length h.writes)))) (blocks_here f)
-      ∙ ap (λ (k : History). sha256 (concat (contents (blocks_of s v) k.writes (length k.writes)))) (history_here f hs are.histories)
+  -- of all blocks, as many as the group says are here
+  pub all_shown_of : (set : Option ℕ) (P : ℕ → List Write → ℕ → Type 0) → AtPoint told f.here f.within set (P (blocks_at f.here f.within)) → IfShown told s groups v set (P (blocks_of s v))
+  all_shown_of set P is = subst (λ (n : ℕ). IfShown told s groups v set (P n)) (blocks_here f) (shown_of set (P (blocks_at f.here f.within)) is)
 
-  pub digest_shown_of : (set : ℕ) (digest : List ℕ) → IsDigestAt told f.here f.within (IsPoint f.within set) digest → IsDigestShown told s groups v set digest
-  digest_shown_of set digest is tells hs are p point =
-      let t = telling tells in
-      let same = history_here f hs are.histories in
-      is (own f hs) t.device p (stands_here hs are) t.at t.tells t.area (ap (λ (k : History). point_in set k.images) same ∙ point)
-      ∙ ap (λ (n : ℕ). sha256 (concat (contents n (group_history_at (own f hs) f.within).writes p))) (blocks_here f)
-      ∙ ap (λ (k : History). sha256 (concat (contents (blocks_of s v) k.writes p))) same
+  pub digest_shown : (set : Option ℕ) (digest : List ℕ) → IsDigestAt told f.here f.within set digest → IsDigestShown told s groups v set digest
+  digest_shown set digest is = all_shown_of set (λ n ws p. digest ≡ sha256 (concat (contents n ws p))) is
+
+-- what a block is now is so at the present end
+pub at_end : {D : Type 0} (told : D → Option (List (List ℕ))) (g : GroupValue D) (u b : ℕ) (bytes : List ℕ) → IsNow told g u b bytes → AtPoint told g u None (λ ws p. bytes ≡ content ws p b)
+at_end told g u b bytes now hs d p stands at tells area end = now hs d stands at tells area ∙ ap (λ (n : ℕ). content (group_history_at hs u).writes n b) (sym end)
 
 pub some_map : {X : Type 0} (P Q : X → Type 0) (o : Option X) → IfSome o P → ((x : X) → P x → Q x) → IfSome o Q
 some_map P Q None h f = tt

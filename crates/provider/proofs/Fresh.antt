@@ -1,5 +1,6 @@
 -- Groups of new volumes stand for histories of zeros.
-use Rattle.std.proofs.Common.{◌≡◌, ℕ, suc, ◌==◌, List, [], ◌∷◌, length, refl, ap, sym, ◌∙◌, subst, Bool, true, false, Option, map}
+use Rattle.std.proofs.Common.{◌≡◌, ℕ, ◌==◌, List, [], ◌∷◌, refl, ap, sym, ◌∙◌, subst, Bool, true, false, Option, map}
+use Rattle.std.proofs.lemmas.List.{length-map}
 use Rattle.write_history.specs.History.{History, fresh}
 use Rattle.scenario.specs.declared.volume_row.VolumeRow.{VolumeRow}
 use Rattle.scenario.specs.Plan.{Plan}
@@ -16,15 +17,11 @@ fresh_in_group : (g : ℕ) (rows : List VolumeRow) → of_group g rows (map (λ 
 fresh_in_group g [] = refl
 fresh_in_group g (r ∷ rows) = fresh_if (r.group == g) r.blocks (blocks_in_group g rows) (of_group g rows (map (λ (q : VolumeRow). fresh) rows)) (fresh_in_group g rows)
 
-length_fresh : (rows : List VolumeRow) → length (map (λ (r : VolumeRow). fresh) rows) ≡ length rows
-length_fresh [] = refl
-length_fresh (r ∷ rows) = ap (λ n. suc n) (length_fresh rows)
-
 -- the groups of new volumes stand for the state in which a scenario begins
 pub fresh_stand : {D : Type 0} (told : D → Option (List (List ℕ))) (s : Plan) (groups : List (GroupValue D)) → AreFresh told s groups
     → AreGroups told s groups (map (λ (r : VolumeRow). fresh) s.volumes)
 fresh_stand told s groups new = record {
-  histories = length_fresh s.volumes;
+  histories = length-map s.volumes (λ (r : VolumeRow). fresh);
   each = λ g x at. record {
     stands = subst (λ (hs : List History). StandsFor told x hs) (ap (λ (ns : List ℕ). map (λ (n : ℕ). fresh) ns) (new.volumes g x at) ∙ sym (fresh_in_group g s.volumes)) (new.stands g x at);
     volumes = new.volumes g x at;

@@ -1,12 +1,8 @@
 -- Devices go into a list one by one, and groups one by one.
-use Rattle.std.proofs.Common.{◌≡◌, ℕ, ◌+◌, ◌<◌, ◌≤◌, List, [], ◌∷◌, ◌++◌, length, refl, ap, sym, ◌∙◌, arith, append_assoc}
-use Rattle.std.proofs.lemmas.List.{length-append}
+use Rattle.std.proofs.Common.{◌≡◌, ℕ, ◌+◌, ◌<◌, ◌≤◌, List, [], ◌∷◌, ◌++◌, length, ap, sym, ◌∙◌, arith, append_assoc}
+use Rattle.std.proofs.lemmas.List.{append-nil, length-append}
 use Rattle.cow_volume.specs.GroupValue.{GroupValue}
 use Rattle.provider.specs.Devices.{devices_of}
-
-pub append_nil : {X : Type 0} (xs : List X) → xs ++ [] ≡ xs
-append_nil [] = refl
-append_nil (x ∷ xs) = ap (λ ys. x ∷ ys) (append_nil xs)
 
 -- what is listed and what is left are what there was, and there is room for all, as before
 pub record IsMoving {X : Type 0} (first all list rest : List X) (before room : ℕ) : Type 0 where
@@ -22,21 +18,6 @@ moving_room first all list rest less x before room next m =
     let d = ap length next in
     let e = m.enough in
     omega (arith, a, b, c, d, e)
-
-pub moving_one : {X : Type 0} (first all list rest less : List X) (x : X) (before room : ℕ) → rest ≡ x ∷ less → IsMoving first all list rest before room
-    → IsMoving first all (list ++ x ∷ []) less before room
-moving_one first all list rest less x before room next m = record {
-  kept = append_assoc list (x ∷ []) less ∙ ap (λ xs. list ++ xs) (sym next) ∙ m.kept;
-  enough = m.enough;
-  same = m.same;
-}
-
-pub moving_all : {X : Type 0} (first all list rest : List X) (before room : ℕ) → rest ≡ [] → IsMoving first all list rest before room → list ≡ first ++ all
-moving_all first all list rest before room done m = sym (append_nil list) ∙ ap (λ xs. list ++ xs) (sym done) ∙ m.kept
-
--- the list so far, and one more
-pub joined : {X : Type 0} (first all list : List X) (x : X) → list ≡ first ++ all → list ++ x ∷ [] ≡ first ++ (all ++ x ∷ [])
-joined first all list x is = ap (λ xs. xs ++ x ∷ []) is ∙ append_assoc first all (x ∷ [])
 
 -- ## groups
 
@@ -59,15 +40,5 @@ groups_room all rest less x list room next m =
     let f = m.enough in
     omega (arith, a, b, c, d, e, f)
 
-pub groups_one : {D : Type 0} (all rest less : List (GroupValue D)) (x : GroupValue D) (list new : List D) (room more : ℕ) → rest ≡ x ∷ less → AreMoving all rest list room
-    → new ≡ list ++ devices_of (x ∷ []) → more ≡ room → AreMoving all less new more
-groups_one {D = D} all rest less x list new room more next m is up =
-    let f = m.enough in
-    record {
-      kept = ap (λ (xs : List D). xs ++ devices_of less) is ∙ append_assoc list (devices_of (x ∷ [])) (devices_of less) ∙ ap (λ (xs : List D). list ++ xs) (devices_split x less) ∙ ap
-          (λ (xs : List (GroupValue D)). list ++ devices_of xs) (sym next) ∙ m.kept;
-      enough = omega (arith, f, up);
-    }
-
 pub groups_all : {D : Type 0} (all rest : List (GroupValue D)) (list : List D) (room : ℕ) → rest ≡ [] → AreMoving all rest list room → list ≡ devices_of all
-groups_all {D = D} all rest list room done m = sym (append_nil list) ∙ ap (λ (xs : List (GroupValue D)). list ++ devices_of xs) (sym done) ∙ m.kept
+groups_all {D = D} all rest list room done m = sym (append-nil list) ∙ ap (λ (xs : List (GroupValue D)). list ++ devices_of xs) (sym done) ∙ m.kept

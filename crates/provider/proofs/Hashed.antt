@@ -1,15 +1,15 @@
 -- The blocks of a volume, or of an image, are hashed one after another.
-use Rattle.std.proofs.Common.{slice_set, ◌≡◌, ℕ, ◌+◌, ◌<◌, List, [], ◌∷◌, ◌++◌, length, refl, ap, sym, ◌∙◌, subst, arith, true, false, Option, Some, slice_get}
+use Rattle.std.proofs.Common.{slice_set, ◌≡◌, ℕ, ◌+◌, List, [], ◌∷◌, ◌++◌, length, refl, ap, sym, ◌∙◌, subst, arith, true, Option, Some, slice_get}
 use Rattle.std.specs.Prelude.{is_some}
 use Rattle.std.specs.List.{concat}
+use Rattle.std.proofs.lemmas.List.{append-nil}
 use Rattle.std.proofs.lemmas.List.Folds.{concat-append}
 use Rattle.std.proofs.lemmas.List.FromFn.{map-range_with_len_more}
 use Rattle.std.proofs.lemmas.Option.{slice_get_within, same_Some}
 use Rattle.vss_names.specs.Faults.{Rose}
-use Rattle.block_data.specs.Digest.{sha256}
 use Rattle.block_data.specs.Hashed.{HasTaken}
 use Rattle.block_data.specs.declared.hasher.Hasher.{Hasher}
-use Rattle.write_history.specs.History.{History, Write, content, contents}
+use Rattle.write_history.specs.History.{Write, content, contents}
 use Rattle.volume_device.specs.declared.device.Device.{Ghosts}
 use Rattle.cow_volume.specs.GroupValue.{GroupValue}
 use Rattle.cow_volume.specs.declared.cause.Cause.{Cause}
@@ -17,27 +17,11 @@ use Rattle.cow_volume.specs.declared.cause.Cause.TheVariants.{NoSuchBlock as NoB
 use Rattle.cow_volume.specs.declared.image_fault.ImageFault.{ImageFault}
 use Rattle.cow_volume.specs.declared.image_fault.ImageFault.TheVariants.{NoSuchImage, NoSuchBlock}
 use Rattle.cow_volume.specs.declared.image_fault.ImageFault.TheVariants as image
-use Rattle.cow_volume.specs.Calls.{IsUnfailed, IsNow, HasImageCause, AreaRose, DeviceRose, VolumeRose, blocks_at, blocks_in, history_at, is_among, sets_at, sets_in}
+use Rattle.cow_volume.specs.Calls.{IsUnfailed, AreaRose, DeviceRose, VolumeRose, history_at, is_among, sets_at}
+use Rattle.cow_volume.proofs.Kept.{unfailed_further}
 use Rattle.cow_volume.proofs.Group.{quiet_stands, slice_get_inside, slice_get_map}
-use Rattle.provider.specs.Hashing.{IsEnd, AtPoint, Adds, HasDigestCause, ImageRose, IsDigestAt, IsQuietGroup}
+use Rattle.provider.specs.GroupCalls.{AtPoint, Adds, HasDigestCause, ImageRose, IsQuietGroup}
 use Rattle.provider.proofs.Kept.{kept_itself, kept_then}
-
--- ## one block
-
-pub at_end : {D : Type 0} (told : D → Option (List (List ℕ))) (g : GroupValue D) (u b : ℕ) (bytes : List ℕ) → IsNow told g u b bytes
-    → AtPoint told g u (IsEnd u) (λ hs p. bytes ≡ content (history_at hs u).writes p b)
-at_end told g u b bytes now hs d p stands at tells area end = now hs d stands at tells area ∙ ap (λ (n : ℕ). content (history_at hs u).writes n b) (sym end)
-
--- a read of an image that stands, of a block that there is, fails by a device
-pub image_rose : {D : Type 0} (count : D → ℕ) (u set b : ℕ) (x y : GroupValue D) → is_among set (sets_at x u) ≡ true → b < blocks_at x u → (fault : ImageFault)
-    → HasImageCause count u set b x y fault → ImageRose count u x y fault
-image_rose count u set b x y has low NoSuchImage h = yes_no (sym has ∙ h.0)
-  where
-    yes_no : true ≡ false → ⊥
-    yes_no q = cc
-image_rose count u set b x y has low NoSuchBlock h = let high = h.1 in absurd (omega (arith, high, low))
-image_rose count u set b x y has low image.Volume h = h.2
-image_rose count u set b x y has low image.Area h = h.2
 
 -- ## after quiet calls
 
@@ -54,9 +38,9 @@ quiet_then device x y z h k = record {
 }
 
 -- what holds at a point after quiet calls holds of the group as it was
-at_first : {D : Type 0} (device : Ghosts D) (first now : GroupValue D) (u : ℕ) (At P : List History → ℕ → Type 0) → IsQuietGroup device first now → AtPoint device.told now u At P
-    → AtPoint device.told first u At P
-at_first {D = D} device first now u At P quiet holds hs d p stands at tells area there =
+at_first : {D : Type 0} (device : Ghosts D) (first now : GroupValue D) (u : ℕ) (set : Option ℕ) (P : List Write → ℕ → Type 0) → IsQuietGroup device first now → AtPoint device.told now u set P
+    → AtPoint device.told first u set P
+at_first {D = D} device first now u set P quiet holds hs d p stands at tells area there =
     let within = slice_get_within first.devices u d at in
     let long = quiet.kept.devices in
     let e = slice_get_inside now.devices u (omega (arith, within, long)) in
@@ -67,52 +51,28 @@ at_first {D = D} device first now u At P quiet holds hs d p stands at tells area
     e.1 (ap (λ (t : Option (List (List ℕ))). is_some t) (same_Some (device.told e.0) (device.told d) same) ∙ tells) (ap (λ (t : Option (List (List ℕ))). is_some t) quiet.slots ∙ area) there
 
 -- the first k blocks were hashed as they were at a point, and only counts may have changed
-pub record HasHashed {D : Type 0} (device : Ghosts D) (first now : GroupValue D) (u : ℕ) (At : List History → ℕ → Type 0) (k : ℕ) (hasher : Hasher) : Type 0 where
+pub record HasHashed {D : Type 0} (device : Ghosts D) (first now : GroupValue D) (u : ℕ) (set : Option ℕ) (k : ℕ) (hasher : Hasher) : Type 0 where
   pub quiet : IsQuietGroup device first now
   pub same : IsUnfailed device.count first now
-  pub taken : AtPoint device.told first u At (λ hs p. HasTaken hasher (concat (contents k (history_at hs u).writes p)))
-
-pub hashed_none : {D : Type 0} (device : Ghosts D) (x : GroupValue D) (u : ℕ) (At : List History → ℕ → Type 0) (hasher : Hasher) → HasTaken hasher [] → HasHashed device x x u At 0 hasher
-hashed_none device x u At hasher none = record { quiet = quiet_same device x; same = record { devices = refl; area = refl }; taken = λ hs d p stands at tells area there. none }
+  pub taken : AtPoint device.told first u set (λ ws p. HasTaken hasher (concat (contents k ws p)))
 
 one_more : (k : ℕ) (ws : List Write) (p : ℕ) → concat (contents (k + 1) ws p) ≡ concat (contents k ws p) ++ content ws p k
 one_more k ws p =
     ap concat (map-range_with_len_more (content ws p) 0 k k (omega arith))
     ∙ concat-append (contents k ws p) (content ws p k ∷ [])
-    ∙ ap (λ (xs : List ℕ). concat (contents k ws p) ++ xs) (nothing (content ws p k))
-  where
-    nothing : (xs : List ℕ) → xs ++ [] ≡ xs
-    nothing [] = refl
-    nothing (x ∷ xs) = ap (λ ys. x ∷ ys) (nothing xs)
+    ∙ ap (λ (xs : List ℕ). concat (contents k ws p) ++ xs) (append-nil (content ws p k))
 
-unfailed_then : {D : Type 0} (count : D → ℕ) (x y z : GroupValue D) → IsUnfailed count x y → IsUnfailed count y z → IsUnfailed count x z
-unfailed_then count x y z h k = record { devices = k.devices ∙ h.devices; area = k.area ∙ h.area }
-
-pub hashed_more : {D : Type 0} (device : Ghosts D) (first old new : GroupValue D) (u : ℕ) (At : List History → ℕ → Type 0) (k : ℕ) (before after : Hasher) → HasHashed device first old u At k before
-    → Adds device.told old u At k before after → IsUnfailed device.count old new → IsQuietGroup device old new → HasHashed device first new u At (k + 1) after
-hashed_more device first old new u At k before after was adds same quiet = record {
+pub hashed_more : {D : Type 0} (device : Ghosts D) (first old new : GroupValue D) (u : ℕ) (set : Option ℕ) (k : ℕ) (before after : Hasher) → HasHashed device first old u set k before
+    → Adds device.told old u set k before after → IsUnfailed device.count old new → IsQuietGroup device old new → HasHashed device first new u set (k + 1) after
+hashed_more device first old new u set k before after was adds same quiet = record {
   quiet = quiet_then device first old new was.quiet quiet;
-  same = unfailed_then device.count first old new was.same same;
+  same = unfailed_further device.count first old new was.same same;
   taken = λ hs d p stands at tells area there.
       let so_far = was.taken hs d p stands at tells area there in
-      let block = at_first device first old u At (λ ks q. adds.bytes ≡ content (history_at ks u).writes q k) was.quiet adds.is hs d p stands at tells area there in
+      let block = at_first device first old u set (λ ws q. adds.bytes ≡ content ws q k) was.quiet adds.is hs d p stands at tells area there in
       subst (λ (bytes : List ℕ). HasTaken after bytes) (ap (λ (xs : List ℕ). concat (contents k (history_at hs u).writes p) ++ xs) block ∙ sym (one_more k (history_at hs u).writes p))
       (adds.taken (concat (contents k (history_at hs u).writes p)) so_far);
 }
-
--- all were
-pub hashed_all : {D : Type 0} (device : Ghosts D) (first now : GroupValue D) (u : ℕ) (At : List History → ℕ → Type 0) (k : ℕ) (hasher : Hasher) (digest : List ℕ) → k ≡ blocks_at first u
-    → HasHashed device first now u At k hasher → ((bytes : List ℕ) → HasTaken hasher bytes → digest ≡ sha256 bytes) → IsDigestAt device.told first u At digest
-hashed_all device first now u At k hasher digest all was finish hs d p stands at tells area there =
-    finish (concat (contents k (history_at hs u).writes p)) (was.taken hs d p stands at tells area there)
-    ∙ ap (λ (n : ℕ). sha256 (concat (contents n (history_at hs u).writes p))) all
-
--- blocks and images are as they were
-pub blocks_still : {D : Type 0} (device : Ghosts D) (first now : GroupValue D) (u : ℕ) → IsQuietGroup device first now → blocks_at now u ≡ blocks_at first u
-blocks_still device first now u quiet = ap (λ (ns : List ℕ). blocks_in (slice_get ns u)) quiet.kept.volumes
-
-pub images_still : {D : Type 0} (device : Ghosts D) (first now : GroupValue D) (u : ℕ) → IsQuietGroup device first now → sets_at now u ≡ sets_at first u
-images_still device first now u quiet = ap (λ (xs : List (List ℕ)). sets_in (slice_get xs u)) quiet.images
 
 -- a device failed later: its count rose since the first call too
 volume_since : {D : Type 0} (count : D → ℕ) (first old new : GroupValue D) (u : ℕ) → IsUnfailed count first old → length old.devices ≡ length first.devices → VolumeRose count u old new

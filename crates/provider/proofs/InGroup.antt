@@ -2,11 +2,13 @@
 use Rattle.std.proofs.Common.{◌≡◌, ℕ, zero, suc, ◌+◌, ◌==◌, List, [], ◌∷◌, length, refl, ap, sym, ◌∙◌, arith, Bool, true, false, Option, Some, None, map, slice_get}
 use Rattle.std.specs.Prelude.{◌&&◌, not, find, unwrap_or, if◌then◌else◌}
 use Rattle.std.specs.List.{range_with_len}
+use Rattle.std.proofs.lemmas.Bool.{ne_eqb}
 use Rattle.write_history.specs.History.{History, after_set}
-use Rattle.write_history.specs.Slots.{Placed, used, needs_slot_in, group_used, gone_up_to, lacks_slot, evicted_up_to}
+use Rattle.write_history.specs.Slots.{used, needs_slot_in, group_used, gone_up_to, lacks_slot, evicted_up_to}
 use Rattle.set_agenda.specs.Course.{change_at}
 use Rattle.scenario.specs.declared.volume_row.VolumeRow.{VolumeRow}
 use Rattle.scenario.specs.Plan.{placed}
+use Rattle.vss_model.proofs.Volumes.{as_many_gone}
 use Rattle.scenario.proofs.Places.{number_is, same_number}
 use Rattle.cow_volume.specs.GroupValue.{placed as all_placed}
 use Rattle.cow_volume.specs.Calls.{changed_at}
@@ -111,11 +113,7 @@ left_out true x y xs e = cc
 left_out false x y xs e = refl
 
 not_same : (a b c : ℕ) → a ≡ b → (b ≡ c → ⊥) → (a == c) ≡ false
-not_same a b c e apart = by_test (a == c) refl
-  where
-    by_test : (t : Bool) → (a == c) ≡ t → (a == c) ≡ false
-    by_test true f = absurd (apart (sym e ∙ number_is a c f))
-    by_test false f = f
+not_same a b c e apart = ne_eqb a c (λ same. apart (sym e ∙ same))
 
 pub changed_elsewhere : (g other : ℕ) (f : History → History) (rows : List VolumeRow) (hs : List History) (v : ℕ) (r : VolumeRow) → slice_get rows v ≡ Some r → r.group ≡ g → (g ≡ other → ⊥)
     → of_group other rows (change_at v f hs) ≡ of_group other rows hs
@@ -127,17 +125,12 @@ changed_elsewhere g other f (q ∷ rows) (h ∷ hs) (suc v) r e is apart = same_
 
 -- ## how far sets go
 
-length_gone : (m : ℕ) (ps : List Placed) (hs : List History) → length (gone_up_to m ps hs) ≡ length hs
-length_gone m [] hs = refl
-length_gone m (p ∷ ps) [] = refl
-length_gone m (p ∷ ps) (h ∷ hs) = ap (λ n. suc n) (length_gone m ps hs)
-
 pub lacks_in_group : (slots g v b m : ℕ) (rows : List VolumeRow) (r : VolumeRow) (hs : List History) → slice_get rows v ≡ Some r → r.group ≡ g → length hs ≡ length rows
     → lacks_slot slots (map (placed g) rows) v b (gone_up_to m (map (placed g) rows) hs)
     ≡ lacks_slot slots (all_placed (blocks_in_group g rows)) (place_in g rows v) b (gone_up_to m (all_placed (blocks_in_group g rows)) (of_group g rows hs))
 lacks_in_group slots g v b m rows r hs e is long =
     let gone = gone_up_to m (map (placed g) rows) hs in
-    let there = at_place g rows gone v r e is (length_gone m (map (placed g) rows) hs ∙ long) in
+    let there = at_place g rows gone v r e is (as_many_gone m (map (placed g) rows) hs ∙ long) in
     let needs = ap (λ o. needs_slot_in o b) (sym there ∙ ap (λ xs. slice_get xs (place_in g rows v)) (gone_in_group g m rows hs)) in
     let uses = used_in_group g rows gone ∙ ap (λ xs. group_used (all_placed (blocks_in_group g rows)) xs) (gone_in_group g m rows hs) in
     ap (λ t. t && (group_used (map (placed g) rows) gone == slots)) needs

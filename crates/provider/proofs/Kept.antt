@@ -1,6 +1,7 @@
 -- What every call keeps, from what it keeps of each group.
 use Rattle.std.proofs.Common.{◌≡◌, ℕ, zero, suc, ◌+◌, ◌<◌, ◌≤◌, ◌==◌, List, [], ◌∷◌, ◌++◌, length, refl, ap, sym, ◌∙◌, subst, arith, Bool, true, false, Option, Some, None, map, slice_get, slice_set}
 use Rattle.std.specs.Prelude.{◌&&◌, is_some}
+use Rattle.std.proofs.lemmas.Bool.{true≢false}
 use Rattle.std.proofs.lemmas.List.{map-append}
 use Rattle.std.proofs.lemmas.Option.{slice_get_within}
 use Rattle.scenario.specs.declared.volume_row.VolumeRow.{VolumeRow}
@@ -8,19 +9,12 @@ use Rattle.scenario.specs.Plan.{Plan}
 use Rattle.volume_device.specs.declared.device.Device.{Ghosts}
 use Rattle.cow_volume.specs.GroupValue.{GroupValue}
 use Rattle.cow_volume.specs.Calls.{IsSameDevice}
-use Rattle.cow_volume.proofs.Group.{slice_get_inside, slice_get-set_same, slice_get-set_other}
-use Rattle.scenario.specs.Places.{place_in}
-use Rattle.provider.specs.Devices.{devices_of, counts_of, tells_in, tells_within, tells_row, tells_at, tells_from, tells_of, AreLater, AreKept, IsKeptGroup}
+use Rattle.cow_volume.proofs.Group.{length-slice_set, slice_get_inside, slice_get-set_same, slice_get-set_other}
+use Rattle.cow_volume.specs.StandsFor.{told_in}
+use Rattle.provider.specs.Devices.{devices_of, counts_of, told_by, told_at, tells_from, tells_of, volume_place, volumes_area, AreLater, AreKept, IsKeptGroup}
 use Rattle.scenario.proofs.Places.{number_is, same_number}
 
 -- ## lists of one length
-
-pub no_member : {X : Type 0} (xs ys : List X) (i : ℕ) (x : X) → length ys ≡ length xs → slice_get xs i ≡ Some x → slice_get ys i ≡ None → ⊥
-no_member xs ys i x long at none =
-    let within = slice_get_within xs i x at in
-    let there = slice_get_inside ys i (omega (arith, within, long)) in
-    let is = there.1 in
-    cc
 
 map_same : {X Y : Type 0} (f : X → Y) (xs ys : List X) → length ys ≡ length xs → ((i : ℕ) (x y : X) → slice_get xs i ≡ Some x → slice_get ys i ≡ Some y → f y ≡ f x) → map f ys ≡ map f xs
 map_same f [] [] long same = refl
@@ -58,22 +52,25 @@ later_trans (x ∷ xs) (y ∷ ys) (z ∷ zs) h k = (let a = h.0 in let b = k.0 i
 
 -- ## all groups
 
+-- a device is another state of the same one
+abbrev IsSame : {D : Type 0} → Ghosts D → D → D → Type 0
+IsSame device d e = IsSameDevice device.told device.size device.count device.lending d e
+
 abbrev pub AllKept : {D : Type 0} (device : Ghosts D) (old new : List (GroupValue D)) → Type 0
 AllKept {D = D} device old new = (g : ℕ) (x y : GroupValue D) → slice_get old g ≡ Some x → slice_get new g ≡ Some y → IsKeptGroup device x y
 
-sizes_all : {D : Type 0} (device : Ghosts D) (old new : List (GroupValue D)) → length new ≡ length old → AllKept device old new
-    → map device.size (devices_of new) ≡ map device.size (devices_of old)
-sizes_all device [] [] long each = refl
-sizes_all device [] (y ∷ ys) long each = absurd (omega arith)
-sizes_all device (x ∷ xs) [] long each = absurd (omega arith)
-sizes_all device (x ∷ xs) (y ∷ ys) long each =
+mapped_all : {D X : Type 0} (device : Ghosts D) (f : D → X) → ((d e : D) → IsSame device d e → f e ≡ f d) → (old new : List (GroupValue D)) → length new ≡ length old → AllKept device old new
+    → map f (devices_of new) ≡ map f (devices_of old)
+mapped_all device f same [] [] long each = refl
+mapped_all device f same [] (y ∷ ys) long each = absurd (omega arith)
+mapped_all device f same (x ∷ xs) [] long each = absurd (omega arith)
+mapped_all {X = X} device f same (x ∷ xs) (y ∷ ys) long each =
     let kept = each zero x y refl refl in
-    map-append device.size y.devices (y.area.device ∷ devices_of ys)
-    ∙ ap (λ (zs : List ℕ). zs ++ device.size y.area.device ∷ map device.size (devices_of ys))
-    (map_same device.size x.devices y.devices kept.devices (λ i d e at there. (kept.each i d e at there).size_is))
-    ∙ ap (λ (n : ℕ). map device.size x.devices ++ n ∷ map device.size (devices_of ys)) kept.area.size_is
-    ∙ ap (λ (zs : List ℕ). map device.size x.devices ++ device.size x.area.device ∷ zs) (sizes_all device xs ys (omega arith) (λ g p q at there. each (suc g) p q at there))
-    ∙ sym (map-append device.size x.devices (x.area.device ∷ devices_of xs))
+    map-append f y.devices (y.area.device ∷ devices_of ys)
+    ∙ ap (λ (zs : List X). zs ++ f y.area.device ∷ map f (devices_of ys)) (map_same f x.devices y.devices kept.devices (λ i d e at there. same d e (kept.each i d e at there)))
+    ∙ ap (λ (n : X). map f x.devices ++ n ∷ map f (devices_of ys)) (same x.area.device y.area.device kept.area)
+    ∙ ap (λ (zs : List X). map f x.devices ++ f x.area.device ∷ zs) (mapped_all device f same xs ys (omega arith) (λ g p q at there. each (suc g) p q at there))
+    ∙ sym (map-append f x.devices (x.area.device ∷ devices_of xs))
 
 later_all : {D : Type 0} (device : Ghosts D) (old new : List (GroupValue D)) → length new ≡ length old → AllKept device old new
     → AreLater (counts_of device.count old) (counts_of device.count new)
@@ -92,51 +89,44 @@ later_all device (x ∷ xs) (y ∷ ys) long each =
 
 -- ## which volumes tell
 
-device_tells : {D : Type 0} (device : Ghosts D) (x y : GroupValue D) (u : ℕ) → IsKeptGroup device x y → (o p : Option D) → slice_get x.devices u ≡ o → slice_get y.devices u ≡ p
-    → tells_in device.told p ≡ tells_in device.told o
-device_tells device x y u kept None None at there = refl
-device_tells device x y u kept None (Some e) at there = absurd (no_member y.devices x.devices u e (sym kept.devices) there at)
-device_tells device x y u kept (Some d) None at there = absurd (no_member x.devices y.devices u d kept.devices at there)
-device_tells device x y u kept (Some d) (Some e) at there = (kept.each u d e at there).tells
+-- a volume tells where its device and that of its area do
+pub both_tell : (slots own : Option (List (List ℕ))) → is_some (told_in slots own) ≡ (is_some own && is_some slots)
+both_tell None None = refl
+both_tell None (Some x) = refl
+both_tell (Some y) None = refl
+both_tell (Some y) (Some x) = refl
 
-group_tells : {D : Type 0} (device : Ghosts D) (old new : List (GroupValue D)) (g u : ℕ) → length new ≡ length old → AllKept device old new
-    → (o p : Option (GroupValue D)) → slice_get old g ≡ o → slice_get new g ≡ p → tells_within device.told p u ≡ tells_within device.told o u
-group_tells device old new g u long each None None at there = refl
-group_tells device old new g u long each None (Some y) at there = absurd (no_member new old g y (sym long) there at)
-group_tells device old new g u long each (Some x) None at there = absurd (no_member old new g x long at there)
-group_tells device old new g u long each (Some x) (Some y) at there =
-    let kept = each g x y at there in
-    ap (λ (b : Bool). b && is_some (device.told y.area.device)) (device_tells device x y u kept (slice_get x.devices u) (slice_get y.devices u) refl refl)
-    ∙ ap (λ (b : Bool). tells_in device.told (slice_get x.devices u) && b) kept.area.tells
+abbrev AreTelling : {D : Type 0} → (D → Option (List (List ℕ))) → List D → List D → Type 0
+AreTelling told ds es = map (λ d. is_some (told d)) es ≡ map (λ d. is_some (told d)) ds
 
-tells_rows : {D : Type 0} (device : Ghosts D) (s : Plan) (old new : List (GroupValue D)) (v : ℕ) (rows : List VolumeRow) → length new ≡ length old → AllKept device old new
-    → tells_from device.told s new v rows ≡ tells_from device.told s old v rows
-tells_rows device s old new v [] long each = refl
-tells_rows device s old new v (r ∷ rows) long each =
-    ap (λ (b : Bool). b ∷ tells_from device.told s new (v + 1) rows)
-    (group_tells device old new r.group (place_in r.group s.volumes v) long each (slice_get old r.group) (slice_get new r.group) refl refl)
-    ∙ ap (λ (bs : List Bool). tells_row device.told s old v (Some r) ∷ bs) (tells_rows device s old new (v + 1) rows long each)
+tells_there : {D : Type 0} (told : D → Option (List (List ℕ))) (place : ℕ) (ds es : List D) → AreTelling told ds es → is_some (told_by told es place) ≡ is_some (told_by told ds place)
+tells_there told place [] [] e = refl
+tells_there told place [] (x ∷ es) e = cc
+tells_there told place (d ∷ ds) [] e = cc
+tells_there told zero (d ∷ ds) (x ∷ es) e = cc
+tells_there told (suc place) (d ∷ ds) (x ∷ es) e = let rest : AreTelling told ds es = cc in tells_there told place ds es rest
+
+tells_same : {D : Type 0} (told : D → Option (List (List ℕ))) (s : Plan) (ds es : List D) (v : ℕ) (rows : List VolumeRow) → AreTelling told ds es
+    → tells_from told s es v rows ≡ tells_from told s ds v rows
+tells_same told s ds es v [] e = refl
+tells_same told s ds es v (r ∷ rows) e =
+    let area = tells_there told (volumes_area s v) ds es e in
+    let own = tells_there told (volume_place s v) ds es e in
+    let here : is_some (told_at told s es v) ≡ is_some (told_at told s ds v) = both_tell _ _ ∙ ap (λ b. b && is_some (told_by told es (volumes_area s v))) own
+    ∙ ap (λ b. is_some (told_by told ds (volume_place s v)) && b) area ∙ sym (both_tell _ _) in
+    ap (λ b. b ∷ tells_from told s es (v + 1) rows) here ∙ ap (λ bs. is_some (told_at told s ds v) ∷ bs) (tells_same told s ds es (v + 1) rows e)
 
 -- the number of a volume counts up from where the list begins
-tells_from-at : {D : Type 0} (told : D → Option (List (List ℕ))) (s : Plan) (groups : List (GroupValue D)) (n v : ℕ) (rows : List VolumeRow) (r : VolumeRow) → slice_get rows v ≡ Some r
-    → slice_get (tells_from told s groups n rows) v ≡ Some (tells_row told s groups (n + v) (Some r))
-tells_from-at told s groups n v [] r e = cc
-tells_from-at told s groups n zero (q ∷ rows) r e =
-    let same : q ≡ r = cc in
-    let here : n ≡ n + 0 = omega arith in
-    ap (λ (z : VolumeRow). Some (tells_row told s groups n (Some z))) same ∙ ap (λ (k : ℕ). Some (tells_row told s groups k (Some r))) here
-tells_from-at told s groups n (suc v) (q ∷ rows) r e =
+tells_from-at : {D : Type 0} (told : D → Option (List (List ℕ))) (s : Plan) (ds : List D) (n v : ℕ) (rows : List VolumeRow) → v < length rows
+    → slice_get (tells_from told s ds n rows) v ≡ Some (is_some (told_at told s ds (n + v)))
+tells_from-at told s ds n v [] low = absurd (omega arith)
+tells_from-at told s ds n zero (r ∷ rows) low = let here : n ≡ n + 0 = omega arith in ap (λ (k : ℕ). Some (is_some (told_at told s ds k))) here
+tells_from-at told s ds n (suc v) (r ∷ rows) low =
     let more : n + 1 + v ≡ n + suc v = omega arith in
-    tells_from-at told s groups (n + 1) v rows r e ∙ ap (λ (k : ℕ). Some (tells_row told s groups k (Some r))) more
+    tells_from-at told s ds (n + 1) v rows (omega arith) ∙ ap (λ (k : ℕ). Some (is_some (told_at told s ds k))) more
 
-pub tells_of-at : {D : Type 0} (told : D → Option (List (List ℕ))) (s : Plan) (groups : List (GroupValue D)) (v : ℕ) → v < length s.volumes
-    → slice_get (tells_of told s groups) v ≡ Some (tells_at told s groups v)
-tells_of-at told s groups v within =
-    let there = slice_get_inside s.volumes v within in
-    let none : 0 + v ≡ v = omega arith in
-    tells_from-at told s groups 0 v s.volumes there.0 there.1
-    ∙ ap (λ (k : ℕ). Some (tells_row told s groups k (Some there.0))) none
-    ∙ ap (λ (o : Option VolumeRow). Some (tells_row told s groups v o)) (sym there.1)
+pub tells_of-at : {D : Type 0} (told : D → Option (List (List ℕ))) (s : Plan) (ds : List D) (v : ℕ) → v < length s.volumes → slice_get (tells_of told s ds) v ≡ Some (is_some (told_at told s ds v))
+tells_of-at told s ds v within = let none : 0 + v ≡ v = omega arith in tells_from-at told s ds 0 v s.volumes within ∙ ap (λ (k : ℕ). Some (is_some (told_at told s ds k))) none
 
 -- ## what is kept
 
@@ -149,17 +139,13 @@ keeps {D = D} device old new long each = record {
     volumes = λ g y at. let x = before g y at in (each g x.0 y x.1 at).volumes ∙ has.volumes g x.0 x.1;
     devices = λ g y at. let x = before g y at in let kept = each g x.0 y x.1 at in kept.devices ∙ has.devices g x.0 x.1 ∙ ap length (sym kept.volumes);
   };
-  tells = λ s. tells_rows device s old new 0 s.volumes long each;
-  sizes = sizes_all device old new long each;
+  tells = λ s. tells_same device.told s (devices_of old) (devices_of new) 0 s.volumes (mapped_all device (λ d. is_some (device.told d)) (λ d e same. same.tells) old new long each);
+  sizes = mapped_all device device.size (λ d e same. same.size_is) old new long each;
   later = later_all device old new long each;
 }
   where
     before : (g : ℕ) (y : GroupValue D) → slice_get new g ≡ Some y → (x : GroupValue D) × (slice_get old g ≡ Some x)
     before g y at = let within = slice_get_within new g y at in slice_get_inside old g (omega (arith, within, long))
-
--- a device is another state of the same one
-abbrev IsSame : {D : Type 0} → Ghosts D → D → D → Type 0
-IsSame device d e = IsSameDevice device.told device.size device.count device.lending d e
 
 same_device : {D : Type 0} (device : Ghosts D) (d : D) → IsSame device d d
 same_device device d = record { tells = refl; size_is = refl; lends = refl; later = omega arith }
@@ -207,15 +193,10 @@ kept_trans device a b c h k = keeps device a c (k.number ∙ h.number) (λ g x z
 
 -- ## one group was called
 
-pub length_set : {X : Type 0} (xs : List X) (i : ℕ) (y : X) → length (slice_set xs i y) ≡ length xs
-length_set [] i y = refl
-length_set (z ∷ xs) zero y = refl
-length_set (z ∷ xs) (suc i) y = ap (λ n. suc n) (length_set xs i y)
-
 pub kept_one : {D : Type 0} (device : Ghosts D) (old new : List (GroupValue D)) (g : ℕ) (x y : GroupValue D) → slice_get old g ≡ Some x → new ≡ slice_set old g y
     → IsKeptGroup device x y → AreKept device old new
 kept_one {D = D} device old new g x y was is kept =
-    subst (λ (zs : List (GroupValue D)). AreKept device old zs) (sym is) (keeps device old (slice_set old g y) (length_set old g y) each)
+    subst (λ (zs : List (GroupValue D)). AreKept device old zs) (sym is) (keeps device old (slice_set old g y) (length-slice_set old g y) each)
   where
     each : AllKept device old (slice_set old g y)
     each k p q at there = by_test (g == k) refl
@@ -229,13 +210,10 @@ kept_one {D = D} device old new g x y was is kept =
             let second : y ≡ q = cc in
             subst (λ (z : GroupValue D). IsKeptGroup device z q) first (subst (λ (z : GroupValue D). IsKeptGroup device x z) second kept)
         by_test false f =
-            let apart : (g ≡ k → ⊥) = λ same. not_both (sym (same_number g k same) ∙ f) in
+            let apart : (g ≡ k → ⊥) = λ same. true≢false (sym (same_number g k same) ∙ f) in
             let one : Some p ≡ Some q = sym at ∙ sym (slice_get-set_other old g k y apart) ∙ there in
             let same : p ≡ q = cc in
             subst (λ (z : GroupValue D). IsKeptGroup device p z) same (kept_itself device p)
-          where
-            not_both : true ≡ false → ⊥
-            not_both e = cc
 
 -- the group that was called is there
 pub called_there : {D : Type 0} (old new : List (GroupValue D)) (g : ℕ) (x y : GroupValue D) → slice_get old g ≡ Some x → new ≡ slice_set old g y → slice_get new g ≡ Some y

@@ -11,7 +11,6 @@ pub mod Called
 pub mod Room
 pub mod Renumbered
 pub mod Refused
-pub mod Stepped
 pub mod Hashed
 pub mod LentRows
 pub mod Fresh

@@ -1,5 +1,6 @@
 -- Where a volume is within its group, and what stands there.
-use Rattle.std.proofs.Common.{◌≡◌, ℕ, zero, suc, ◌<◌, List, [], ◌∷◌, length, refl, ap, sym, ◌∙◌, subst, Option, Some, None, map, slice_get}
+use Rattle.std.proofs.Common.{◌≡◌, ℕ, ◌<◌, List, length, refl, ap, sym, ◌∙◌, subst, Option, Some, None, map, slice_get}
+use Rattle.std.proofs.lemmas.List.{length-map}
 use Rattle.std.proofs.lemmas.Option.{slice_get_within}
 use Rattle.write_history.specs.History.{History}
 use Rattle.scenario.specs.declared.volume_row.VolumeRow.{VolumeRow}
@@ -7,26 +8,18 @@ use Rattle.scenario.specs.Plan.{Plan, blocks_of, blocks_in as plan_blocks_in}
 use Rattle.vss_model.specs.State.{history_in}
 use Rattle.cow_volume.specs.GroupValue.{GroupValue}
 use Rattle.cow_volume.specs.Calls.{blocks_at, blocks_in as group_blocks_in, history_at as group_history_at, history_in as group_history_in}
-use Rattle.cow_volume.proofs.Group.{slice_get_inside}
+use Rattle.cow_volume.proofs.Group.{slice_get_inside, slice_get_map}
 use Rattle.scenario.specs.Places.{of_group, place_in, blocks_in_group, IsPlaceOf}
 use Rattle.provider.specs.Groups.{HasGroups, history_at}
 use Rattle.provider.proofs.InGroup.{at_place}
 
 -- ## what stands at a place
 
-get_map : (rows : List VolumeRow) (v : ℕ) (r : VolumeRow) → slice_get rows v ≡ Some r → slice_get (map (λ (z : VolumeRow). z.blocks) rows) v ≡ Some r.blocks
-get_map [] v r e = cc
-get_map (q ∷ rows) zero r e = let same : q ≡ r = cc in ap (λ (z : VolumeRow). Some z.blocks) same
-get_map (q ∷ rows) (suc v) r e = get_map rows v r e
-
-length_map : (rows : List VolumeRow) → length (map (λ (z : VolumeRow). z.blocks) rows) ≡ length rows
-length_map [] = refl
-length_map (q ∷ rows) = ap (λ n. suc n) (length_map rows)
-
 -- the group has the volume, and it has its blocks
 pub blocks_there : (s : Plan) (v g u : ℕ) (p : IsPlaceOf s v g u) → slice_get (blocks_in_group g s.volumes) u ≡ Some p.row.blocks
 blocks_there s v g u p =
-    let at = at_place p.row.group s.volumes (map (λ (z : VolumeRow). z.blocks) s.volumes) v p.row p.is_row refl (length_map s.volumes) ∙ get_map s.volumes v p.row p.is_row in
+    let at = at_place p.row.group s.volumes (map (λ (z : VolumeRow). z.blocks) s.volumes) v p.row p.is_row refl (length-map s.volumes (λ (z : VolumeRow). z.blocks))
+    ∙ slice_get_map (λ (z : VolumeRow). z.blocks) s.volumes v p.row p.is_row in
     subst (λ (n : ℕ). slice_get (blocks_in_group g s.volumes) n ≡ Some p.row.blocks) (sym p.within_is)
     (subst (λ (n : ℕ). slice_get (blocks_in_group n s.volumes) (place_in p.row.group s.volumes v) ≡ Some p.row.blocks) (sym p.group_is) at)
 

@@ -11,6 +11,7 @@ use Rattle.write_history.specs.Slots.{Placed, evicted_of, gone_up_to, evicted_up
 use Rattle.scenario.specs.declared.volume_row.VolumeRow.{VolumeRow}
 use Rattle.scenario.specs.Plan.{Plan, placed, placed_in, slots_of, slots_in, group_of}
 use Rattle.scenario.specs.Places.{of_group, of_group_if, place_in, blocks_in_group, volume_after, volume_in}
+use Rattle.vss_model.proofs.Volumes.{as_many_gone}
 use Rattle.vss_model.specs.State.{has_image}
 use Rattle.volume_device.specs.declared.device.Device.{Ghosts}
 use Rattle.cow_volume.specs.GroupValue.{GroupValue, placed as all_placed}
@@ -155,11 +156,6 @@ module _ {D : Type 0} (told : D → Option (List (List ℕ))) {s : Plan} {groups
 
 -- ## the call
 
-gone_length : (m : ℕ) (ps : List Placed) (hs : List History) → length (gone_up_to m ps hs) ≡ length hs
-gone_length m [] hs = refl
-gone_length m (p ∷ ps) [] = refl
-gone_length m (p ∷ ps) (h ∷ hs) = ap (λ n. suc n) (gone_length m ps hs)
-
 module _ {D : Type 0} (device : Ghosts D) {s : Plan} {old new : List (GroupValue D)} {v : ℕ} (c : Called s old new v) where
   room_kept : (up_to : ℕ) → c.after ≡ gone_group up_to c.found.here → IsKeptGroup device c.found.here c.after
   room_kept up_to left =
@@ -196,7 +192,7 @@ module _ {D : Type 0} (device : Ghosts D) {s : Plan} {old new : List (GroupValue
           ap (λ (ns : List ℕ). gone_up_to up_to (all_placed ns) (own c.found hs)) mine.volumes ∙ sym (gone_in_group g up_to s.volumes hs) in
           subst (λ (ps : List Placed). AreGroups device.told s new (gone_up_to up_to ps hs)) (sym same)
           (becomes device.told s old new g c.found.here c.after hs (gone_up_to up_to (map (placed g) s.volumes) hs) c.found.at c.is kept.volumes kept.slots are
-          (gone_length up_to (map (placed g) s.volumes) hs)
+          (as_many_gone up_to (map (placed g) s.volumes) hs)
           (subst (λ (ks : List History). StandsFor device.told c.after ks) here (room.stands (own c.found hs) (stands_here device.told c.found hs are)))
           (λ k apart. gone_elsewhere g k up_to s.volumes hs apart))
 

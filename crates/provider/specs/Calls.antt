@@ -1,7 +1,11 @@
 -- What a call on a volume comes to, against the histories of all volumes that the groups stand for. (This project's own.)
-use Rattle.std.specs.Prelude.{ℕ, ◌≡◌, ◌<◌, ◌≤◌, ◌+◌, ◌&&◌, Bool, true, false, List, [], ◌∷◌, length, map, if◌then◌else◌, Option, Some, None, is_some, slice_get, Result, Ok, Err}
+use Rattle.std.specs.Prelude.{ℕ, ◌≡◌, ◌<◌, ◌≤◌, ◌+◌, ◌&&◌, Bool, true, false, List, [], ◌∷◌, length, map, if◌then◌else◌, Option, Some, None, is_some, IfSome, slice_get, Result, Ok, Err}
 use Rattle.std.specs.List.{concat, flat_map, range_with_len}
 use Rattle.block_data.specs.Digest.{sha256}
+use Rattle.hex.specs.Hex.{IsBytes}
+use Rattle.lent_digests.specs.Lent.{bytes_of}
+use Rattle.lent_digests.specs.declared.digested.Digested.{Digested}
+use Rattle.lent_digests.specs.declared.lent_blocks.LentBlocks.{LentBlocks}
 use Rattle.write_history.specs.History.{Write, History, content, contents, point_in, written, dropped, reverted, reverted_in_part, to_restore}
 use Rattle.write_history.specs.Slots.{Placed, gone_up_to, evicted_up_to, evicted_of}
 use Rattle.write_history.specs.declared.evicted.Evicted.{Evicted}
@@ -20,8 +24,8 @@ use Rattle.cow_volume.specs.declared.image_fault.ImageFault.{ImageFault}
 use Rattle.cow_volume.specs.declared.image_fault.ImageFault.TheVariants.{NoSuchImage, NoSuchBlock, Volume, Area}
 use Rattle.cow_volume.specs.declared.revert_fault.RevertFault.{RevertFault}
 use Rattle.cow_volume.specs.declared.revert_fault.RevertFault.TheVariants.{NoSuchImage as NoImage, Fault}
-use Rattle.provider.specs.Groups.{HasGroups, AreGroups, IfStandFor, history_at}
-use Rattle.provider.specs.Devices.{devices_of, tells_at, AreKept, IsCallOn, HasCause, fault_of}
+use Rattle.provider.specs.Groups.{HasGroups, AreGroups, IfStandFor, IsPointOf, history_at}
+use Rattle.provider.specs.Devices.{devices_of, told_at, AreKept, IsCallOn, HasCause, fault_of}
 
 -- ## writes
 
@@ -78,24 +82,30 @@ pub record IsQuiet {D : Type 0} (device : Ghosts D) (s : Plan) (old new : List (
   pub blocks : map device.told (devices_of new) ≡ map device.told (devices_of old)
   pub stands : IfStandFor device.told s old (AreGroups device.told s new)
 
--- the bytes are those of block b of volume v now, where the volume tells
-abbrev pub IsNow : {D : Type 0} → (D → Option (List (List ℕ))) → Plan → List (GroupValue D) → ℕ → ℕ → List ℕ → Type 0
-IsNow told s groups v b bytes = tells_at told s groups v ≡ true → IfStandFor told s groups (λ hs. bytes ≡ content (history_at hs v).writes (length (history_at hs v).writes) b)
+-- where volume v tells, this holds of its effective writes and the point that is shown: its present end, or that of the image of a set
+abbrev pub IfShown : {D : Type 0} → (D → Option (List (List ℕ))) → Plan → List (GroupValue D) → ℕ → Option ℕ → (List Write → ℕ → Type 0) → Type 0
+IfShown told s groups v set P = is_some (told_at told s (devices_of groups) v) ≡ true
+    → IfStandFor told s groups (λ hs. (p : ℕ) → IsPointOf set (history_at hs v) p → P (history_at hs v).writes p)
 
--- the bytes are those that the image of a set on volume v shows of block b, where the volume tells
-abbrev pub IsShown : {D : Type 0} → (D → Option (List (List ℕ))) → Plan → List (GroupValue D) → ℕ → ℕ → ℕ → List ℕ → Type 0
-IsShown told s groups v set b bytes = tells_at told s groups v ≡ true
-    → IfStandFor told s groups (λ hs. (p : ℕ) → point_in set (history_at hs v).images ≡ Some p → bytes ≡ content (history_at hs v).writes p b)
+-- the bytes are those of block b
+abbrev pub IsShown : {D : Type 0} → (D → Option (List (List ℕ))) → Plan → List (GroupValue D) → ℕ → Option ℕ → ℕ → List ℕ → Type 0
+IsShown told s groups v set b bytes = IfShown told s groups v set (λ ws p. bytes ≡ content ws p b)
 
--- the digest is that of all blocks of volume v now, where it tells
-abbrev pub IsDigestNow : {D : Type 0} → (D → Option (List (List ℕ))) → Plan → List (GroupValue D) → ℕ → List ℕ → Type 0
-IsDigestNow told s groups v digest = tells_at told s groups v ≡ true
-    → IfStandFor told s groups (λ hs. digest ≡ sha256 (concat (contents (blocks_of s v) (history_at hs v).writes (length (history_at hs v).writes))))
+-- the digest is that of all blocks
+abbrev pub IsDigestShown : {D : Type 0} → (D → Option (List (List ℕ))) → Plan → List (GroupValue D) → ℕ → Option ℕ → List ℕ → Type 0
+IsDigestShown told s groups v set digest = IfShown told s groups v set (λ ws p. digest ≡ sha256 (concat (contents (blocks_of s v) ws p)))
 
--- the digest is that of all blocks that the image of a set on volume v shows, where the volume tells
-abbrev pub IsDigestShown : {D : Type 0} → (D → Option (List (List ℕ))) → Plan → List (GroupValue D) → ℕ → ℕ → List ℕ → Type 0
-IsDigestShown told s groups v set digest = tells_at told s groups v ≡ true
-    → IfStandFor told s groups (λ hs. (p : ℕ) → point_in set (history_at hs v).images ≡ Some p → digest ≡ sha256 (concat (contents (blocks_of s v) (history_at hs v).writes p)))
+-- the blocks of a row, where devices lent them, are all blocks of what it is of
+abbrev pub IsLentRow : {D : Type 0} → (D → Option (List (List ℕ))) → Plan → List (GroupValue D) → LentBlocks → Type 0
+IsLentRow told s groups row = IfSome row.blocks (λ lent. IfShown told s groups row.volume row.set (λ ws p. bytes_of lent.items ≡ contents (blocks_of s row.volume) ws p))
+
+-- likewise, and it has the width of one, whether the volume tells or not
+abbrev pub IsDigestTold : {D : Type 0} → (D → Option (List (List ℕ))) → Plan → List (GroupValue D) → ℕ → Option ℕ → List ℕ → Type 0
+IsDigestTold told s groups v set digest = IsDigestShown told s groups v set digest × (length digest ≡ 32) × IsBytes digest
+
+-- where there is a digest it is that of what it is said to be of
+abbrev pub IsDigestedAt : {D : Type 0} → (D → Option (List (List ℕ))) → Plan → List (GroupValue D) → Digested → Type 0
+IsDigestedAt told s groups row = IfSome row.digest (IsDigestTold told s groups row.volume row.set)
 
 -- ## images
 
@@ -104,17 +114,12 @@ abbrev pub HasImage : {D : Type 0} → (D → Option (List (List ℕ))) → Plan
 HasImage told s groups v set has = IfStandFor told s groups (λ hs. is_some (point_in set (history_at hs v).images) ≡ has)
 
 -- why a call on the image of a set failed: just where no such image stands, and then nothing changed; or a device failed
-abbrev pub HasImageCause : {D : Type 0} → (D → Option (List (List ℕ))) → (D → ℕ) → Plan → ℕ → ℕ → Result Unit ImageFault → List (GroupValue D) → List (GroupValue D) → Type 0
-HasImageCause told count s v set (Ok done) old new = HasImage told s old v set true × HasCause count s v None old new
-HasImageCause told count s v set (Err NoSuchImage) old new = HasImage told s old v set false × (new ≡ old)
-HasImageCause told count s v set (Err NoSuchBlock) old new = ⊥
-HasImageCause told count s v set (Err Volume) old new = HasImage told s old v set true × HasCause count s v (Some cause.Volume) old new
-HasImageCause told count s v set (Err Area) old new = HasImage told s old v set true × HasCause count s v (Some cause.Area) old new
-
--- a call by its outcome alone
-abbrev pub outcome_of : {T E : Type 0} → Result T E → Result Unit E
-outcome_of (Ok done) = Ok tt
-outcome_of (Err fault) = Err fault
+abbrev pub HasImageCause : {D : Type 0} → (D → Option (List (List ℕ))) → (D → ℕ) → Plan → ℕ → ℕ → Option ImageFault → List (GroupValue D) → List (GroupValue D) → Type 0
+HasImageCause told count s v set None old new = HasImage told s old v set true × HasCause count s v None old new
+HasImageCause told count s v set (Some NoSuchImage) old new = HasImage told s old v set false × (new ≡ old)
+HasImageCause told count s v set (Some NoSuchBlock) old new = ⊥
+HasImageCause told count s v set (Some Volume) old new = HasImage told s old v set true × HasCause count s v (Some cause.Volume) old new
+HasImageCause told count s v set (Some Area) old new = HasImage told s old v set true × HasCause count s v (Some cause.Area) old new
 
 -- the image of a set went from volume v, or did not stand and nothing changed
 abbrev pub IsDropped : {D : Type 0} → Ghosts D → Plan → List (GroupValue D) → List (GroupValue D) → ℕ → ℕ → Bool → Type 0

@@ -1,17 +1,21 @@
 -- The devices of all groups, in the order in which they are given back: for each group those of its volumes in order, and then its
--- area's. Which volumes tell their blocks, what every call keeps, and whose count of faults rose where a call failed. (This
--- project's own.)
-use Rattle.std.specs.Prelude.{ℕ, ◌≡◌, ◌≤◌, ◌+◌, ◌&&◌, Bool, false, zero, suc, List, [], ◌∷◌, ◌++◌, length, map, Option, Some, None, is_some, slice_get, Result, Ok, Err}
+-- area's. Which volumes tell their blocks, what every call keeps, whose count of faults rose where a call failed, and what a sync
+-- leaves. (This project's own.)
+use Rattle.std.specs.Prelude.{ℕ, ◌≡◌, ◌≤◌, ◌+◌, Bool, zero, suc, List, [], ◌∷◌, ◌++◌, length, map, Option, Some, None, is_some, slice_get, Result, Ok, Err}
 use Rattle.vss_names.specs.Faults.{Rose}
+use Rattle.write_history.specs.Slots.{copies}
+use Rattle.diff_area.specs.Copies.{AreStored}
 use Rattle.volume_device.specs.declared.device.Device.{Ghosts}
 use Rattle.scenario.specs.declared.volume_row.VolumeRow.{VolumeRow}
-use Rattle.scenario.specs.Plan.{Plan}
+use Rattle.scenario.specs.Plan.{Plan, placed}
 use Rattle.cow_volume.specs.GroupValue.{GroupValue}
+use Rattle.cow_volume.specs.StandsFor.{told_in}
 use Rattle.cow_volume.specs.Calls.{IsKept}
+use Rattle.cow_volume.specs.Ending.{AllTell}
 use Rattle.cow_volume.specs.declared.cause.Cause.{Cause}
 use Rattle.cow_volume.specs.declared.cause.Cause.TheVariants.{NoSuchBlock, Volume, Area}
 use Rattle.scenario.specs.Places.{blocks_in_group, place_in}
-use Rattle.provider.specs.Groups.{HasGroups}
+use Rattle.provider.specs.Groups.{HasGroups, AreGroups, IfStandFor}
 
 -- ## in order
 
@@ -48,30 +52,25 @@ volumes_area s v = volumes_area_in s.volumes (slice_get s.volumes v)
 
 -- ## which volumes tell
 
-abbrev pub tells_in : {D : Type 0} → (D → Option (List (List ℕ))) → Option D → Bool
-tells_in told None = false
-tells_in told (Some d) = is_some (told d)
+abbrev pub told_of : {D : Type 0} → (D → Option (List (List ℕ))) → Option D → Option (List (List ℕ))
+told_of told None = None
+told_of told (Some d) = told d
 
--- volume u of a group tells: its device does, and the area's does
-abbrev pub tells_within : {D : Type 0} → (D → Option (List (List ℕ))) → Option (GroupValue D) → ℕ → Bool
-tells_within told None u = false
-tells_within told (Some x) u = tells_in told (slice_get x.devices u) && is_some (told x.area.device)
+-- the device at a place of the list tells this
+abbrev pub told_by : {D : Type 0} → (D → Option (List (List ℕ))) → List D → ℕ → Option (List (List ℕ))
+told_by told devices place = told_of told (slice_get devices place)
 
-abbrev pub tells_row : {D : Type 0} → (D → Option (List (List ℕ))) → Plan → List (GroupValue D) → ℕ → Option VolumeRow → Bool
-tells_row told s groups v None = false
-tells_row told s groups v (Some r) = tells_within told (slice_get groups r.group) (place_in r.group s.volumes v)
+-- what the device of volume v tells, where that of its area tells too
+abbrev pub told_at : {D : Type 0} → (D → Option (List (List ℕ))) → Plan → List D → ℕ → Option (List (List ℕ))
+told_at told s devices v = told_in (told_by told devices (volumes_area s v)) (told_by told devices (volume_place s v))
 
--- volume v of the scenario tells
-abbrev pub tells_at : {D : Type 0} → (D → Option (List (List ℕ))) → Plan → List (GroupValue D) → ℕ → Bool
-tells_at told s groups v = tells_row told s groups v (slice_get s.volumes v)
+abbrev pub tells_from : {D : Type 0} → (D → Option (List (List ℕ))) → Plan → List D → ℕ → List VolumeRow → List Bool
+tells_from told s devices v [] = []
+tells_from told s devices v (r ∷ rows) = is_some (told_at told s devices v) ∷ tells_from told s devices (v + 1) rows
 
-abbrev pub tells_from : {D : Type 0} → (D → Option (List (List ℕ))) → Plan → List (GroupValue D) → ℕ → List VolumeRow → List Bool
-tells_from told s groups v [] = []
-tells_from told s groups v (r ∷ rows) = tells_row told s groups v (Some r) ∷ tells_from told s groups (v + 1) rows
-
--- which volumes tell, in order of the scenario
-abbrev pub tells_of : {D : Type 0} → (D → Option (List (List ℕ))) → Plan → List (GroupValue D) → List Bool
-tells_of told s groups = tells_from told s groups 0 s.volumes
+-- which volumes tell: one for each, in order
+abbrev pub tells_of : {D : Type 0} → (D → Option (List (List ℕ))) → Plan → List D → List Bool
+tells_of told s devices = tells_from told s devices 0 s.volumes
 
 -- ## what every call keeps
 
@@ -91,18 +90,14 @@ pub record AreKept {D : Type 0} (device : Ghosts D) (old new : List (GroupValue 
   pub number : length new ≡ length old
   pub each : (g : ℕ) (x y : GroupValue D) → slice_get old g ≡ Some x → slice_get new g ≡ Some y → IsKeptGroup device x y
   pub has : (s : Plan) → HasGroups s old → HasGroups s new
-  pub tells : (s : Plan) → tells_of device.told s new ≡ tells_of device.told s old
+  pub tells : (s : Plan) → tells_of device.told s (devices_of new) ≡ tells_of device.told s (devices_of old)
   pub sizes : map device.size (devices_of new) ≡ map device.size (devices_of old)
   pub later : AreLater (counts_of device.count old) (counts_of device.count new)
 
--- the groups but that of volume v are as they were: their devices, records and images
-abbrev pub OthersStay : {D : Type 0} → Plan → ℕ → List (GroupValue D) → List (GroupValue D) → Type 0
-OthersStay s v old new = (r : VolumeRow) (g : ℕ) → slice_get s.volumes v ≡ Some r → (g ≡ r.group → ⊥) → slice_get new g ≡ slice_get old g
-
--- the group of volume v was called, and no other
+-- the group of volume v was called; the others are as they were: their devices, records and images
 pub record IsCallOn {D : Type 0} (device : Ghosts D) (s : Plan) (v : ℕ) (old new : List (GroupValue D)) : Type 0 where
   pub kept : AreKept device old new
-  pub elsewhere : OthersStay s v old new
+  pub elsewhere : (r : VolumeRow) (g : ℕ) → slice_get s.volumes v ≡ Some r → (g ≡ r.group → ⊥) → slice_get new g ≡ slice_get old g
 
 -- ## faults
 
@@ -112,15 +107,42 @@ RoseAlone zero (a ∷ xs) (b ∷ ys) = Rose a b × (ys ≡ xs)
 RoseAlone (suc place) (a ∷ xs) (b ∷ ys) = (b ≡ a) × RoseAlone place xs ys
 RoseAlone _ _ _ = ⊥
 
--- Where no device failed, each count is as it was; else the count of the device that failed rose, and each other is as it was. No call
--- fails since there is no such block.
+-- the count of the device that failed rose, and no other; no call on a volume of the scenario fails for want of its block
+abbrev pub HasFailed : Plan → ℕ → Cause → List ℕ → List ℕ → Type 0
+HasFailed s v NoSuchBlock old new = ⊥
+HasFailed s v Volume old new = RoseAlone (volume_place s v) old new
+HasFailed s v Area old new = RoseAlone (volumes_area s v) old new
+
+-- where no device failed, each count is as it was; else that of the device that failed rose alone
 abbrev pub HasCause : {D : Type 0} → (D → ℕ) → Plan → ℕ → Option Cause → List (GroupValue D) → List (GroupValue D) → Type 0
 HasCause count s v None old new = counts_of count new ≡ counts_of count old
-HasCause count s v (Some NoSuchBlock) old new = ⊥
-HasCause count s v (Some Volume) old new = RoseAlone (volume_place s v) (counts_of count old) (counts_of count new)
-HasCause count s v (Some Area) old new = RoseAlone (volumes_area s v) (counts_of count old) (counts_of count new)
+HasCause count s v (Some cause) old new = HasFailed s v cause (counts_of count old) (counts_of count new)
 
--- the fault of a call that answers nothing else
-abbrev pub fault_of : {T : Type 0} → Result T Cause → Option Cause
+-- the fault of a call, where it failed
+abbrev pub fault_of : {T E : Type 0} → Result T E → Option E
 fault_of (Ok done) = None
-fault_of (Err cause) = Some cause
+fault_of (Err fault) = Some fault
+
+-- ## brought to where it lasts
+
+-- what the device at a place tells lasts
+abbrev pub LastsAt : {D : Type 0} → (D → Option (List (List ℕ))) → (D → Option (List (List ℕ))) → ℕ → List D → Type 0
+LastsAt {D = D} told lasting place devices = (d : D) → slice_get devices place ≡ Some d → lasting d ≡ told d
+
+-- only the area's device of group g may have changed: the groups stand for what they stood for
+pub record IsSynced {D : Type 0} (device : Ghosts D) (old new : List (GroupValue D)) (g : ℕ) : Type 0 where
+  pub kept : AreKept device old new
+  pub elsewhere : (k : ℕ) → (k ≡ g → ⊥) → slice_get new k ≡ slice_get old k
+  pub devices : (x y : GroupValue D) → slice_get old g ≡ Some x → slice_get new g ≡ Some y → y.devices ≡ x.devices
+  pub stands : (s : Plan) → IfStandFor device.told s old (AreGroups device.told s new)
+
+-- on the area's device of group g stand the copies of the definitions, where all devices of its volumes tell, and they last
+abbrev pub AreLasting : {D : Type 0} → (D → Option (List (List ℕ))) → (D → Option (List (List ℕ))) → Plan → List (GroupValue D) → List (GroupValue D) → ℕ → Type 0
+AreLasting {D = D} told lasting s old new g = (x y : GroupValue D) → slice_get old g ≡ Some x → slice_get new g ≡ Some y
+    → (lasting y.area.device ≡ told y.area.device)
+    × IfStandFor told s new (λ hs. AllTell told x.devices → AreStored (told y.area.device) (copies (map (placed g) s.volumes) hs))
+
+-- each count is as it was; or that of the area's device of group g rose
+abbrev pub HasSyncCause : {D : Type 0} → (D → ℕ) → Plan → ℕ → Result Unit Cause → List (GroupValue D) → List (GroupValue D) → Type 0
+HasSyncCause count s g (Ok done) old new = counts_of count new ≡ counts_of count old
+HasSyncCause count s g (Err cause) old new = (cause ≡ Area) × RoseAlone (area_place g s.volumes) (counts_of count old) (counts_of count new)

@@ -1,12 +1,24 @@
--- One group of several is called for an image to go, or for all of a set. (This project's own.)
-use Rattle.std.specs.Prelude.{ℕ, ◌≡◌, ◌<◌, Bool, true, false, List, map}
-use Rattle.write_history.specs.History.{History, dropped}
+-- What a call on one group of several comes to. (This project's own.)
+use Rattle.std.specs.Prelude.{ℕ, ◌≡◌, ◌<◌, Bool, true, false, List, map, ◌++◌, Option, Some, None, is_some, slice_get, Result, OnOk, IfOk, IfErr}
+use Rattle.std.specs.Borrow.{Bor}
+use Rattle.std.specs.List.{concat}
+use Rattle.block_data.specs.Digest.{sha256}
+use Rattle.block_data.specs.Hashed.{HasTaken}
+use Rattle.block_data.specs.declared.hasher.Hasher.{Hasher}
+use Rattle.lent_digests.specs.Lent.{bytes_of}
+use Rattle.write_history.specs.History.{History, Write, dropped, content, contents}
 use Rattle.vss_model.specs.Images.{count_images}
 use Rattle.volume_device.specs.declared.device.Device.{Ghosts}
 use Rattle.cow_volume.specs.GroupValue.{GroupValue}
 use Rattle.cow_volume.specs.StandsFor.{StandsFor}
-use Rattle.cow_volume.specs.Calls.{IsChanged, is_among, sets_at}
+use Rattle.cow_volume.specs.Calls.{IsChanged, IsQuiet, IsUnfailed, DeviceRose, VolumeRose, AreaRose, blocks_at, history_at, is_among, sets_at}
+use Rattle.cow_volume.specs.declared.cause.Cause.{Cause}
+use Rattle.cow_volume.specs.declared.image_fault.ImageFault.{ImageFault}
+use Rattle.cow_volume.specs.declared.image_fault.ImageFault.TheVariants.{NoSuchImage, NoSuchBlock, Volume, Area}
+use Rattle.provider.specs.Groups.{IsPointOf}
 use Rattle.provider.specs.Devices.{IsKeptGroup}
+
+-- ## images that go
 
 -- the image of a set went from volume u, or did not stand and nothing changed
 abbrev pub IsGroupDrop : {D : Type 0} → Ghosts D → GroupValue D → GroupValue D → ℕ → ℕ → Bool → Type 0
@@ -23,3 +35,55 @@ pub record IsWithout {D : Type 0} (device : Ghosts D) (old new : GroupValue D) (
   pub number : (hs : List History) → StandsFor device.told old hs → stood ≡ count_images set hs
   pub none : stood ≡ 0 → new ≡ old
   pub most : stood < 4294967296
+
+-- ## what is shown
+
+-- where the device of volume u and that of the area tell, this holds of its effective writes and the point that is shown
+abbrev pub AtPoint : {D : Type 0} → (D → Option (List (List ℕ))) → GroupValue D → ℕ → Option ℕ → (List Write → ℕ → Type 0) → Type 0
+AtPoint {D = D} told g u set P = (hs : List History) (d : D) (p : ℕ) → StandsFor told g hs → slice_get g.devices u ≡ Some d → is_some (told d) ≡ true → is_some (told g.area.device) ≡ true
+    → IsPointOf set (history_at hs u) p → P (history_at hs u).writes p
+
+-- block b as it was there was hashed
+pub record Adds {D : Type 0} (told : D → Option (List (List ℕ))) (g : GroupValue D) (u : ℕ) (set : Option ℕ) (b : ℕ) (before after : Hasher) : Type 0 where
+  pub bytes : List ℕ
+  pub is : AtPoint told g u set (λ ws p. bytes ≡ content ws p b)
+  pub taken : (parts : List ℕ) → HasTaken before parts → HasTaken after (parts ++ bytes)
+
+-- the digest is that of all blocks there
+abbrev pub IsDigestAt : {D : Type 0} → (D → Option (List (List ℕ))) → GroupValue D → ℕ → Option ℕ → List ℕ → Type 0
+IsDigestAt told g u set digest = AtPoint told g u set (λ ws p. digest ≡ sha256 (concat (contents (blocks_at g u) ws p)))
+
+-- these are all blocks there
+abbrev pub AreBlocksAt : {D : Type 0} → (D → Option (List (List ℕ))) → GroupValue D → ℕ → Option ℕ → List (Bor (List ℕ)) → Type 0
+AreBlocksAt told g u set parts = AtPoint told g u set (λ ws p. bytes_of parts ≡ contents (blocks_at g u) ws p)
+
+-- only counts of devices of the group may have changed
+abbrev pub IsQuietGroup : {D : Type 0} → Ghosts D → GroupValue D → GroupValue D → Type 0
+IsQuietGroup device old new = IsQuiet device.told device.size device.count device.lending old new
+
+pub record IsGroupDigest {D : Type 0} (device : Ghosts D) (old new : GroupValue D) (u : ℕ) (result : Result (List ℕ) Cause) : Type 0 where
+  pub digest : IfOk result (IsDigestAt device.told old u None)
+  pub same : OnOk result (IsUnfailed device.count old new)
+  pub rose : IfErr result (DeviceRose device.count u old new)
+  pub quiet : IsQuietGroup device old new
+
+-- which device failed, of a call on an image that stands
+abbrev pub ImageRose : {D : Type 0} → (D → ℕ) → ℕ → GroupValue D → GroupValue D → ImageFault → Type 0
+ImageRose count u old new NoSuchImage = ⊥
+ImageRose count u old new NoSuchBlock = ⊥
+ImageRose count u old new Volume = VolumeRose count u old new
+ImageRose count u old new Area = AreaRose count old new
+
+-- why there is no digest of an image: just where it does not stand, and then nothing changed; or a device failed
+abbrev pub HasDigestCause : {D : Type 0} → (D → ℕ) → ℕ → ℕ → GroupValue D → GroupValue D → ImageFault → Type 0
+HasDigestCause count u set old new NoSuchImage = (is_among set (sets_at old u) ≡ false) × (new ≡ old)
+HasDigestCause count u set old new NoSuchBlock = ⊥
+HasDigestCause count u set old new Volume = (is_among set (sets_at old u) ≡ true) × VolumeRose count u old new
+HasDigestCause count u set old new Area = (is_among set (sets_at old u) ≡ true) × AreaRose count old new
+
+pub record IsGroupImageDigest {D : Type 0} (device : Ghosts D) (old new : GroupValue D) (u set : ℕ) (result : Result (List ℕ) ImageFault) : Type 0 where
+  pub digest : IfOk result (IsDigestAt device.told old u (Some set))
+  pub image : OnOk result (is_among set (sets_at old u) ≡ true)
+  pub same : OnOk result (IsUnfailed device.count old new)
+  pub cause : IfErr result (HasDigestCause device.count u set old new)
+  pub quiet : IsQuietGroup device old new

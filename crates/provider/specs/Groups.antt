@@ -1,7 +1,7 @@
 -- The groups of copy-on-write volumes of a scenario, and for which histories, one for each volume of the scenario, they stand
 -- together. (This project's own.)
-use Rattle.std.specs.Prelude.{ℕ, ◌≡◌, ◌<◌, List, length, map, Option, Some, slice_get}
-use Rattle.write_history.specs.History.{History, fresh}
+use Rattle.std.specs.Prelude.{ℕ, ◌≡◌, ◌<◌, List, length, map, Option, Some, None, slice_get}
+use Rattle.write_history.specs.History.{History, fresh, point_in}
 use Rattle.scenario.specs.declared.volume_row.VolumeRow.{VolumeRow}
 use Rattle.scenario.specs.Plan.{Plan}
 use Rattle.scenario.specs.Places.{of_group, blocks_in_group}
@@ -24,6 +24,11 @@ pub record HasGroups {D : Type 0} (s : Plan) (groups : List (GroupValue D)) : Ty
 -- the history of volume v
 abbrev pub history_at : List History → ℕ → History
 history_at hs v = history_in (slice_get hs v)
+
+-- the point of a history that is shown: its present end, or that of the image of a set
+abbrev pub IsPointOf : Option ℕ → History → ℕ → Type 0
+IsPointOf None h p = p ≡ length h.writes
+IsPointOf (Some set) h p = point_in set h.images ≡ Some p
 
 -- group g of the scenario stands for the histories of its volumes
 pub record IsGroup {D : Type 0} (told : D → Option (List (List ℕ))) (s : Plan) (g : ℕ) (x : GroupValue D) (hs : List History) : Type 0 where

@@ -1,13 +1,13 @@
 -- The set that is being prepared: its volumes in order of `add`, and its number once it is known. What each step of the provider
 -- does with them. (The calls are those of the SDK's IVssHardwareSnapshotProvider; which refusal comes first is this project's own.)
-use Rattle.std.specs.Prelude.{ℕ, ◌≡◌, ◌<◌, ◌≤◌, true, List, [], ◌∷◌, ◌++◌, length, All, nat_le, if◌then◌else◌, Option, Some, None, slice_get, Result, Ok, Err, Vec, vec_capacity}
+use Rattle.std.specs.Prelude.{ℕ, ◌≡◌, ◌<◌, ◌≤◌, true, List, [], ◌∷◌, ◌++◌, length, All, nat_le, if◌then◌else◌, Option, Some, None, Result, Ok, Err, Vec, vec_capacity}
 use Rattle.std.specs.declared.alloc.Global.{Global}
 use Rattle.vss_names.specs.declared.vss_result.VssResult.{VssResult}
 use Rattle.vss_names.specs.declared.vss_result.VssResult.TheVariants.{ObjectAlreadyExists, MaximumNumberOfVolumesReached, MaximumNumberOfSnapshotsReached}
 use Rattle.write_history.specs.History.{Image, History, cut}
 use Rattle.set_agenda.specs.Course.{change_at}
 use Rattle.set_agenda.specs.declared.group.Group.{Group}
-use Rattle.set_agenda.specs.declared.group.Group.TheVariants.{Orders, PreCommit, Flush, Hold, Cut, Commit, Release, PostCommit}
+use Rattle.set_agenda.specs.declared.group.Group.TheVariants.{Flush, Commit}
 use Rattle.set_agenda.specs.Agenda.{is_among}
 use Rattle.scenario.specs.Plan.{Plan}
 use Rattle.vss_model.specs.Sessions.{most_volumes, most_images}
@@ -44,10 +44,6 @@ refusal v volumes images =
     else if nat_le most_images images then Some MaximumNumberOfSnapshotsReached
     else None
 
-abbrev pub refused_as : Result Unit VssResult → Option VssResult
-refused_as (Ok done) = None
-refused_as (Err why) = Some why
-
 -- the volume joined the set, or nothing changed
 abbrev pub HasJoined : {D : Type 0} → ProviderValue D → ProviderValue D → ℕ → Result Unit VssResult → Type 0
 HasJoined old new v (Ok done) = new ≡ record old { volumes = old.volumes ++ v ∷ [] }
@@ -77,20 +73,10 @@ cut_on (Some v) set hs = change_at v (cut set) hs
 
 -- the histories after a step: the Commit step of a volume cuts the image of the set there
 abbrev pub step_taken : Group → ℕ → Option ℕ → List History → List History
-step_taken (Orders o) set volume hs = hs
-step_taken PreCommit set volume hs = hs
-step_taken Flush set volume hs = hs
-step_taken Hold set volume hs = hs
-step_taken Cut set volume hs = hs
 step_taken Commit set volume hs = cut_on volume set hs
-step_taken Release set volume hs = hs
-step_taken PostCommit set volume hs = hs
+step_taken _ set volume hs = hs
 
 -- each count is as it was; or the device of the step's volume failed, in a flush
 abbrev pub HasStepCause : {D : Type 0} → (D → ℕ) → Plan → Group → Option ℕ → Result Unit Cause → List (GroupValue D) → List (GroupValue D) → Type 0
 HasStepCause count s group volume (Ok done) old new = counts_of count new ≡ counts_of count old
 HasStepCause count s group volume (Err cause) old new = (group ≡ Flush) × (cause ≡ Volume) × (v : ℕ) × (volume ≡ Some v) × RoseAlone (volume_place s v) (counts_of count old) (counts_of count new)
-
--- what the device at a place tells lasts
-abbrev pub LastsAt : {D : Type 0} → (D → Option (List (List ℕ))) → (D → Option (List (List ℕ))) → ℕ → List D → Type 0
-LastsAt {D = D} told lasting place devices = (d : D) → slice_get devices place ≡ Some d → lasting d ≡ told d

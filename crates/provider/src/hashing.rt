@@ -1,10 +1,11 @@
 //! The SHA-256 of a volume or of an image, block by block: in place where a device lends, else over one buffer.
 
-ghost use Rattle.std.specs.Prelude.{◌≡◌, ◌<◌, true, length, IfErr, OnOk, IfOk};
+ghost use Rattle.std.specs.Prelude.{◌≡◌, ◌<◌, true, None, Some, length, IfErr, OnOk, IfOk};
 ghost use Rattle.hex.specs.Hex.{IsBytes};
 ghost use Rattle.cow_volume.specs.Calls.{DeviceRose, IsUnfailed, blocks_at, is_among, sets_at};
-ghost use Rattle.provider.specs.Hashing.{Adds, ImageRose, IsEnd, IsPoint, IsGroupDigest, IsGroupImageDigest, IsQuietGroup};
+ghost use Rattle.provider.specs.GroupCalls.{Adds, ImageRose, IsGroupDigest, IsGroupImageDigest, IsQuietGroup};
 
+use crate::lending::lend;
 use crate::preparing::is_among;
 use block_data::{BlockBuf, Hasher};
 use cow_volume::{Cause, CowGroup, ImageFault};
@@ -27,12 +28,12 @@ fn add_block<D: Device>(
 ) -> Result<(), Cause>
     requires volume { volume < length group.old.area.volumes }
     requires in_range { block < blocks_at group.old volume }
-    ensures adds { OnOk result (Adds D.told group.old volume (IsEnd volume) block hasher.old hasher.new) }
+    ensures adds { OnOk result (Adds D.told group.old volume None block hasher.old hasher.new) }
     ensures same { OnOk result (IsUnfailed D.count group.old group.new) }
     ensures rose { IfErr result (DeviceRose D.count volume group.old group.new) }
     ensures quiet { IsQuietGroup D.Device group.old group.new }
 {
-    if let Some(bytes) = group.lend_block(volume, block) {
+    if let Some(bytes) = lend(group, volume, None, block) {
         hasher.add(bytes);
         return Ok(());
     }
@@ -53,10 +54,7 @@ pub(crate) fn digest_of<D: Device>(
 {
     let mut hasher = Hasher::new();
     for block in 0..group.blocks(volume) {
-        match add_block(&mut hasher, group, buffer, volume, block) {
-            Ok(()) => {}
-            Err(cause) => return Err(cause),
-        }
+        add_block(&mut hasher, group, buffer, volume, block)?;
     }
     let digest = hasher.finish();
     are_bytes(&digest);
@@ -75,12 +73,12 @@ fn add_shown<D: Device>(
     requires volume { volume < length group.old.area.volumes }
     requires image { is_among set (sets_at group.old volume) ≡ true }
     requires in_range { block < blocks_at group.old volume }
-    ensures adds { OnOk result (Adds D.told group.old volume (IsPoint volume set) block hasher.old hasher.new) }
+    ensures adds { OnOk result (Adds D.told group.old volume (Some set) block hasher.old hasher.new) }
     ensures same { OnOk result (IsUnfailed D.count group.old group.new) }
     ensures rose { IfErr result (ImageRose D.count volume group.old group.new) }
     ensures quiet { IsQuietGroup D.Device group.old group.new }
 {
-    if let Ok(Some(bytes)) = group.lend_image(volume, set, block) {
+    if let Some(bytes) = lend(group, volume, Some(set), block) {
         hasher.add(bytes);
         return Ok(());
     }
@@ -105,10 +103,7 @@ pub(crate) fn digest_of_image<D: Device>(
     }
     let mut hasher = Hasher::new();
     for block in 0..group.blocks(volume) {
-        match add_shown(&mut hasher, group, buffer, volume, set, block) {
-            Ok(()) => {}
-            Err(fault) => return Err(fault),
-        }
+        add_shown(&mut hasher, group, buffer, volume, set, block)?;
     }
     let digest = hasher.finish();
     are_bytes(&digest);

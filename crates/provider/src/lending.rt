@@ -1,9 +1,11 @@
 //! The blocks of volumes and of images, lent in rows that are digested side by side.
 
-ghost use Rattle.std.specs.Prelude.{◌<◌, length, IfOk, IfSome, All};
+ghost use Rattle.std.specs.Prelude.{◌≡◌, ◌<◌, length, IfOk, IfSome, All};
+ghost use Rattle.write_history.specs.History.{content};
+ghost use Rattle.cow_volume.specs.Calls.{blocks_at};
 ghost use Rattle.provider.specs.Groups.{HasGroups};
-ghost use Rattle.provider.specs.Hashing.{IsEnd, IsPoint};
-ghost use Rattle.provider.specs.Lending.{AreBlocksAt, IsDigestedAt, IsLentRow};
+ghost use Rattle.provider.specs.GroupCalls.{AreBlocksAt, AtPoint};
+ghost use Rattle.provider.specs.Calls.{IsDigestedAt, IsLentRow};
 
 use cow_volume::CowGroup;
 use lent_digests::{Digested, DigestsOf, LentBlocks, digest_side_by_side};
@@ -13,19 +15,40 @@ use std::thread::Threads;
 use volume_device::Device;
 use vss_names::OutOfMemory;
 
-/// The blocks of a volume of a group, in order. None where one is not lent.
-fn lend_volume_of<D: Device>(
+/// A block of a volume of a group, as it is or as the image of a set shows it. None where it is not lent, or no such image stands.
+pub(crate) fn lend<D: Device>(
+    group: &CowGroup<D>,
+    volume: u32,
+    set: Option<u32>,
+    block: u32,
+) -> Option<&[u8]>
+    requires volume { volume < length group.now.area.volumes }
+    requires in_range { block < blocks_at group.now volume }
+    ensures { IfSome result (λ bytes. AtPoint D.told group.now volume set (λ ws p. bytes.now ≡ content ws p block)) }
+{
+    let Some(set) = set else {
+        return group.lend_block(volume, block);
+    };
+    let Ok(lent) = group.lend_image(volume, set, block) else {
+        return None;
+    };
+    lent
+}
+
+/// All blocks of a volume of a group, in order, as they are or as the image of a set shows them. None where one is not lent.
+fn lend_all<D: Device>(
     alloc: Global,
     group: &CowGroup<D>,
     volume: u32,
+    set: Option<u32>,
 ) -> Result<Option<Vec<&[u8]>>, OutOfMemory>
     requires { volume < length group.now.area.volumes }
-    ensures { IfOk result (λ lent. IfSome lent (λ blocks. AreBlocksAt D.told group.now volume (IsEnd volume) blocks.items)) }
+    ensures { IfOk result (λ lent. IfSome lent (λ blocks. AreBlocksAt D.told group.now volume set blocks.items)) }
 {
     let count = group.blocks(volume);
     let mut blocks = Vec::with_capacity(alloc, count as usize)?;
     for block in 0..count {
-        let Some(bytes) = group.lend_block(volume, block) else {
+        let Some(bytes) = lend(group, volume, set, block) else {
             return Ok(None);
         };
         blocks.push(bytes)?;
@@ -33,33 +56,13 @@ fn lend_volume_of<D: Device>(
     Ok(Some(blocks))
 }
 
-/// The blocks that the image of a set on a volume of a group shows, in order. None where one is not lent, or no such image stands.
-fn lend_image_of<D: Device>(
-    alloc: Global,
-    group: &CowGroup<D>,
-    volume: u32,
-    set: u32,
-) -> Result<Option<Vec<&[u8]>>, OutOfMemory>
-    requires { volume < length group.now.area.volumes }
-    ensures { IfOk result (λ lent. IfSome lent (λ blocks. AreBlocksAt D.told group.now volume (IsPoint volume set) blocks.items)) }
-{
-    let count = group.blocks(volume);
-    let mut blocks = Vec::with_capacity(alloc, count as usize)?;
-    for block in 0..count {
-        let Ok(Some(bytes)) = group.lend_image(volume, set, block) else {
-            return Ok(None);
-        };
-        blocks.push(bytes)?;
-    }
-    Ok(Some(blocks))
-}
-
-/// The row of a volume.
-fn volume_row<'a, D: Device>(
+/// The row of a volume, or of the image of a set on it.
+fn row<'a, D: Device>(
     alloc: Global,
     groups: &'a Vec<CowGroup<D>>,
     scenario: &Scenario,
     volume: u32,
+    set: Option<u32>,
 ) -> Result<LentBlocks<'a>, OutOfMemory>
     requires volume { volume < length scenario.now.volumes }
     requires has { HasGroups scenario.now groups.now.items }
@@ -67,32 +70,10 @@ fn volume_row<'a, D: Device>(
 {
     let place = scenario.place(volume);
     let group = &groups[place.group as usize];
-    let blocks = lend_volume_of(alloc, group, place.volume)?;
+    let blocks = lend_all(alloc, group, place.volume, set)?;
     Ok(LentBlocks {
         volume,
-        set: None,
-        blocks,
-    })
-}
-
-/// The row of the image of a set on a volume.
-fn image_row<'a, D: Device>(
-    alloc: Global,
-    groups: &'a Vec<CowGroup<D>>,
-    scenario: &Scenario,
-    set: u32,
-    volume: u32,
-) -> Result<LentBlocks<'a>, OutOfMemory>
-    requires volume { volume < length scenario.now.volumes }
-    requires has { HasGroups scenario.now groups.now.items }
-    ensures { IfOk result (IsLentRow D.told scenario.now groups.now.items) }
-{
-    let place = scenario.place(volume);
-    let group = &groups[place.group as usize];
-    let blocks = lend_image_of(alloc, group, place.volume, set)?;
-    Ok(LentBlocks {
-        volume,
-        set: Some(set),
+        set,
         blocks,
     })
 }
@@ -108,7 +89,7 @@ fn lend_volumes<'a, D: Device>(
 {
     let mut rows = Vec::new(alloc);
     for volume in 0..scenario.volumes() {
-        rows.push(volume_row(alloc, groups, scenario, volume)?)?;
+        rows.push(row(alloc, groups, scenario, volume, None)?)?;
     }
     Ok(rows)
 }
@@ -124,10 +105,10 @@ fn lend_volumes_and_images<'a, D: Device>(
 {
     let mut rows = Vec::new(alloc);
     for volume in 0..scenario.volumes() {
-        rows.push(volume_row(alloc, groups, scenario, volume)?)?;
+        rows.push(row(alloc, groups, scenario, volume, None)?)?;
         let place = scenario.place(volume);
         for set in groups[place.group as usize].images(place.volume) {
-            rows.push(image_row(alloc, groups, scenario, *set, volume)?)?;
+            rows.push(row(alloc, groups, scenario, volume, Some(*set))?)?;
         }
     }
     Ok(rows)

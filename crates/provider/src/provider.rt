@@ -1,4 +1,4 @@
-ghost use Rattle.std.specs.Prelude.{◌≡◌, ◌≢◌, ◌<◌, ◌≤◌, ◌*◌, ℕ, [], true, false, length, map, slice_get, Some, is_some, vec_capacity, IfOk, IfErr, IfSome, OnOk, All};
+ghost use Rattle.std.specs.Prelude.{◌≡◌, ◌≢◌, ◌<◌, ◌≤◌, ◌*◌, ℕ, [], true, false, length, map, slice_get, Some, None, is_some, vec_capacity, IfOk, IfErr, IfSome, OnOk, All};
 ghost use Rattle.hex.specs.Hex.{IsBytes};
 ghost use Rattle.block_data.specs.PayloadBytes.{payload_bytes};
 ghost use Rattle.write_history.specs.History.{fresh, sets_of};
@@ -11,11 +11,9 @@ ghost use Rattle.scenario.specs.Places.{IsPlaceOf};
 ghost use Rattle.cow_volume.specs.GroupValue.{GroupValue};
 ghost use Rattle.cow_volume.specs.Parts.{IsLentBy};
 ghost use Rattle.provider.specs.Groups.{AreFresh, AreGroups, AreWhole, HasGroups, IfStandFor, history_at};
-ghost use Rattle.provider.specs.Devices.{AreKept, devices_of, volume_place, HasCause, fault_of};
-ghost use Rattle.provider.specs.Calls.{AreWithout, HasImage, HasImageCause, HasRoom, IsDigestNow, IsDigestShown, IsDropped, IsNow, IsPut, IsQuiet, IsRevert, IsRoomMade, IsShown, outcome_of};
-ghost use Rattle.provider.specs.Preparing.{CanCutOn, HasJoined, HasStepCause, IsCutOn, LastsAt, refusal, refused_as, step_taken};
-ghost use Rattle.provider.specs.Lending.{IsDigestedAt};
-ghost use Rattle.provider.specs.Ending.{AreLasting, HasSyncCause, IsSynced};
+ghost use Rattle.provider.specs.Devices.{AreKept, AreLasting, HasCause, HasSyncCause, IsSynced, LastsAt, devices_of, fault_of, volume_place};
+ghost use Rattle.provider.specs.Calls.{AreWithout, HasImage, HasImageCause, HasRoom, IsDigestedAt, IsDigestShown, IsDropped, IsPut, IsQuiet, IsRevert, IsRoomMade, IsShown};
+ghost use Rattle.provider.specs.Preparing.{CanCutOn, HasJoined, HasStepCause, IsCutOn, refusal, step_taken};
 
 use crate::dropping::{drop_on, drop_set_in};
 use crate::ending::list_devices;
@@ -135,7 +133,7 @@ impl<D: Device> Provider<D> {
     pub fn lend_block(&self, scenario: &Scenario, volume: u32, block: u32) -> Option<&[u8]>
         requires block { IsBlock scenario.now volume block }
         requires has { HasGroups scenario.now self.now.groups }
-        ensures now { IfSome result (λ bytes. IsNow D.told scenario.now self.now.groups volume block bytes.now) }
+        ensures now { IfSome result (λ bytes. IsShown D.told scenario.now self.now.groups volume None block bytes.now) }
         ensures whole { IfSome result (λ bytes. length bytes.now ≡ BLOCK) }
         ensures lends { (d : D) → slice_get (devices_of self.now.groups) (volume_place scenario.now volume) ≡ Some d → is_some result ≡ D.lending d }
     {
@@ -154,7 +152,7 @@ impl<D: Device> Provider<D> {
         requires block { IsBlock scenario.now volume block }
         requires has { HasGroups scenario.now self.old.groups }
         requires whole { length out.old ≡ BLOCK }
-        ensures now { OnOk result (IsNow D.told scenario.now self.old.groups volume block out.new) }
+        ensures now { OnOk result (IsShown D.told scenario.now self.old.groups volume None block out.new) }
         ensures quiet { IsQuiet D.Device scenario.now self.old.groups self.new.groups volume }
         ensures cause { HasCause D.count scenario.now volume (fault_of result) self.old.groups self.new.groups }
         ensures set { self.new ≡ record self.old { groups = self.new.groups } }
@@ -167,7 +165,7 @@ impl<D: Device> Provider<D> {
     pub fn digest(&mut self, scenario: &Scenario, volume: u32) -> Result<[u8; 32], Cause>
         requires volume { volume < length scenario.now.volumes }
         requires has { HasGroups scenario.now self.old.groups }
-        ensures digest { IfOk result (IsDigestNow D.told scenario.now self.old.groups volume) }
+        ensures digest { IfOk result (IsDigestShown D.told scenario.now self.old.groups volume None) }
         ensures wide { IfOk result (λ digest. (length digest ≡ 32) × IsBytes digest) }
         ensures quiet { IsQuiet D.Device scenario.now self.old.groups self.new.groups volume }
         ensures cause { HasCause D.count scenario.now volume (fault_of result) self.old.groups self.new.groups }
@@ -187,10 +185,10 @@ impl<D: Device> Provider<D> {
     ) -> Result<[u8; 32], ImageFault>
         requires volume { volume < length scenario.now.volumes }
         requires has { HasGroups scenario.now self.old.groups }
-        ensures digest { IfOk result (IsDigestShown D.told scenario.now self.old.groups volume set) }
+        ensures digest { IfOk result (IsDigestShown D.told scenario.now self.old.groups volume (Some set)) }
         ensures wide { IfOk result (λ digest. (length digest ≡ 32) × IsBytes digest) }
         ensures quiet { IsQuiet D.Device scenario.now self.old.groups self.new.groups volume }
-        ensures cause { HasImageCause D.told D.count scenario.now volume set (outcome_of result) self.old.groups self.new.groups }
+        ensures cause { HasImageCause D.told D.count scenario.now volume set (fault_of result) self.old.groups self.new.groups }
         ensures set { self.new ≡ record self.old { groups = self.new.groups } }
     {
         let place = scenario.place(volume);
@@ -225,7 +223,7 @@ impl<D: Device> Provider<D> {
     ) -> Result<Option<&[u8]>, ImageFault>
         requires block { IsBlock scenario.now volume block }
         requires has { HasGroups scenario.now self.now.groups }
-        ensures shown { IfOk result (λ lent. IfSome lent (λ bytes. IsShown D.told scenario.now self.now.groups volume set block bytes.now)) }
+        ensures shown { IfOk result (λ lent. IfSome lent (λ bytes. IsShown D.told scenario.now self.now.groups volume (Some set) block bytes.now)) }
         ensures whole { IfOk result (λ lent. IfSome lent (λ bytes. length bytes.now ≡ BLOCK)) }
         ensures image { OnOk result (HasImage D.told scenario.now self.now.groups volume set true) }
         ensures lends { (g u : ℕ) (x : GroupValue D) → IsPlaceOf scenario.now volume g u → slice_get self.now.groups g ≡ Some x → IfOk result (λ lent. IsLentBy D.lending x u set block (is_some lent)) }
@@ -247,9 +245,9 @@ impl<D: Device> Provider<D> {
         requires block { IsBlock scenario.now volume block }
         requires has { HasGroups scenario.now self.old.groups }
         requires whole { length out.old ≡ BLOCK }
-        ensures shown { OnOk result (IsShown D.told scenario.now self.old.groups volume set block out.new) }
+        ensures shown { OnOk result (IsShown D.told scenario.now self.old.groups volume (Some set) block out.new) }
         ensures quiet { IsQuiet D.Device scenario.now self.old.groups self.new.groups volume }
-        ensures cause { HasImageCause D.told D.count scenario.now volume set result self.old.groups self.new.groups }
+        ensures cause { HasImageCause D.told D.count scenario.now volume set (fault_of result) self.old.groups self.new.groups }
         ensures set { self.new ≡ record self.old { groups = self.new.groups } }
     {
         let place = scenario.place(volume);
@@ -332,7 +330,7 @@ impl<D: Device> Provider<D> {
         requires volume { volume < length scenario.now.volumes }
         requires has { HasGroups scenario.now self.old.groups }
         ensures joined { HasJoined self.old self.new volume result }
-        ensures refused { IfStandFor D.told scenario.now self.old.groups (λ hs. refused_as result ≡ refusal volume self.old.volumes (length (history_at hs volume).images)) }
+        ensures refused { IfStandFor D.told scenario.now self.old.groups (λ hs. fault_of result ≡ refusal volume self.old.volumes (length (history_at hs volume).images)) }
     {
         let images = self.images(scenario, volume).len();
         if let Some(why) = refusal(volume, &self.volumes, images) {

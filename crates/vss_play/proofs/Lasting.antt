@@ -6,8 +6,7 @@ use Rattle.std.proofs.lemmas.Option.{slice_get_within}
 use Rattle.scenario.specs.Plan.{Plan}
 use Rattle.scenario.specs.Places.{blocks_in_group}
 use Rattle.cow_volume.proofs.Group.{slice_get_inside}
-use Rattle.provider.specs.Devices.{AreLater, area_place, volume_place}
-use Rattle.provider.specs.Preparing.{LastsAt}
+use Rattle.provider.specs.Devices.{AreLater, LastsAt, area_place, volume_place}
 use Rattle.vss_world.specs.Devices.{told_of, told_by}
 use Rattle.vss_world.specs.Stands.{WorldValue}
 use Rattle.vss_world.specs.Quiet.{IsQuiet, IsSynced}

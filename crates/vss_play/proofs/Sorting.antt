@@ -7,7 +7,7 @@ use Rattle.std.proofs.lemmas.Option.{slice_get_past, slice_get_within, slice_get
 use Rattle.vss_play.specs.Made.{in_group, IsSorting}
 use Rattle.vss_play.proofs.NewDevices.{take_all}
 use Rattle.diff_area.proofs.Gets.{get-set_same as set_here}
-use Rattle.provider.proofs.Kept.{length_set}
+use Rattle.cow_volume.proofs.Group.{length-slice_set}
 use Rattle.vss_play.proofs.GivingBack.{append_nil}
 
 pub nothing : {X : Type 0} (k : ℕ) (x : X) → slice_get [] k ≡ Some x → ⊥
@@ -149,7 +149,7 @@ one_sorted {D} groups devices place rest less number sorted new d group mine h f
     record {
       few = let l = next.within in omega arith;
       rest_is = sym next.rest_is;
-      many = ap length is ∙ length_set sorted group (mine ++ d ∷ []) ∙ h.many;
+      many = ap length is ∙ length-slice_set sorted group (mine ++ d ∷ []) ∙ h.many;
       each = λ g ds there. by_group g ds (g == group) refl (subst (λ (ls : List (List D)). slice_get ls g ≡ Some ds) is there) next room;
     }
   where

@@ -4,7 +4,7 @@ ghost use Rattle.std.specs.Prelude.{◌≡◌, ◌<◌, None, Some, true, is_som
 ghost use Rattle.write_history.specs.History.{point_in};
 ghost use Rattle.vss_model.specs.State.{history_of, kept};
 ghost use Rattle.vss_world.specs.Devices.{tells_of};
-ghost use Rattle.vss_world.specs.Digests.{IsDigestOf};
+ghost use Rattle.vss_world.specs.Reading.{IsDigestOf};
 ghost use Rattle.vss_world.specs.Quiet.{IsQuiet};
 ghost use Rattle.vss_world.specs.Stands.{IfStands};
 ghost use Rattle.vss_play.specs.Played.{AnyRose};

@@ -1,7 +1,7 @@
 -- A volume that joins the set in progress, or is refused by the provider.
-use Rattle.std.proofs.Common.{◌≡◌, ℕ, ◌==◌, ◌<◌, List, [], ◌∷◌, ◌++◌, length, refl, ap, sym, ◌∙◌, subst, arith, Bool, true, false, ◌&&◌, ◌||◌, Option, Some, None}
+use Rattle.std.proofs.Common.{◌≡◌, ℕ, ◌==◌, ◌<◌, List, [], ◌∷◌, ◌++◌, length, refl, ap, sym, ◌∙◌, subst, Bool, true, false, ◌||◌, Option, Some, None}
 use Rattle.std.specs.Prelude.{not, nat_le, option_map, if◌then◌else◌, Result, Ok, Err}
-use Rattle.std.proofs.lemmas.Bool.Decides.{nat_tests}
+use Rattle.std.proofs.lemmas.Bool.{and_from, and_parts, eq-eqb, eqb-false, ne_eqb, or_parts}
 use Rattle.volume_device.specs.declared.device.Device.{Ghosts}
 use Rattle.vss_names.specs.declared.vss_result.VssResult.{VssResult}
 use Rattle.vss_names.specs.declared.vss_result.VssResult.TheVariants.{ObjectAlreadyExists, MaximumNumberOfVolumesReached, MaximumNumberOfSnapshotsReached}
@@ -27,10 +27,10 @@ use Rattle.vss_model.specs.Sessions.{add, add_to, add_refusal, change_set, with_
 use Rattle.vss_model.specs.Outcome.{told_act}
 use Rattle.vss_model.specs.Told.{mark_of}
 use Rattle.vss_model.specs.Trail.{is_fault}
-use Rattle.provider.specs.Devices.{counts_of, AreKept}
+use Rattle.provider.specs.Devices.{counts_of, fault_of, AreKept}
 use Rattle.vss_model.proofs.Orderly.{find-map}
 use Rattle.provider.specs.Groups.{AreGroups, IfStandFor, history_at}
-use Rattle.provider.specs.Preparing.{ProviderValue, refusal, refused_as}
+use Rattle.provider.specs.Preparing.{ProviderValue, refusal}
 use Rattle.provider.proofs.Kept.{kept_same}
 use Rattle.sessions.specs.Keeps.{SessionsValue, Keeps, IsAt, IsInOrder}
 use Rattle.sessions.specs.Moves.{IsMove, MayAdd}
@@ -49,31 +49,16 @@ use Rattle.vss_world.proofs.Following.{at_of, rows_long, session_comes}
 
 -- ## volumes that are distinct
 
-own : (a : ℕ) → (a == a) ≡ true
-own a = grind arith
-
-apart_back : (a b : ℕ) → (a == b) ≡ false → (b == a) ≡ false
-apart_back a b e = grind (arith, nat_tests)
-
 among_more : (u v : ℕ) (vs : List ℕ) → (u == v) ≡ false → is_among u (vs ++ v ∷ []) ≡ is_among u vs
-among_more u v [] e = rw (apart_back u v e) refl
+among_more u v [] e = rw (ne_eqb v u (λ h. eqb-false u v e (sym h))) refl
 among_more u v (w ∷ vs) e = ap (λ (t : Bool). (w == u) || t) (among_more u v vs e)
-
-or_none : (a b : Bool) → (a || b) ≡ false → (a ≡ false) × (b ≡ false)
-or_none true b e = cc
-or_none false b e = (refl, e)
 
 distinct_more : (v : ℕ) (vs : List ℕ) → is_among v vs ≡ false → are_distinct vs ≡ true → are_distinct (vs ++ v ∷ []) ≡ true
 distinct_more v [] e d = refl
 distinct_more v (w ∷ vs) e d =
-    let none = or_none (w == v) (is_among v vs) e in
-    both_so (not (is_among w (vs ++ v ∷ []))) (are_distinct (vs ++ v ∷ [])) (not (is_among w vs)) (are_distinct vs) (ap not (among_more w v vs none.0)) (λ h. distinct_more v vs none.1 h) d
-  where
-    both_so : (a b c e : Bool) → a ≡ c → (e ≡ true → b ≡ true) → (c && e) ≡ true → (a && b) ≡ true
-    both_so true b true true f g h = g refl
-    both_so false b true true f g h = cc
-    both_so a b true false f g h = cc
-    both_so a b false e f g h = cc
+    let none = or_parts (w == v) (is_among v vs) e in
+    let parts = and_parts (not (is_among w vs)) (are_distinct vs) d in
+    and_from (not (is_among w (vs ++ v ∷ []))) (are_distinct (vs ++ v ∷ [])) (ap not (among_more w v vs none.0) ∙ parts.0) (distinct_more v vs none.1 parts.1)
 
 -- ## the line
 
@@ -101,7 +86,7 @@ refused_line s lane v why mark st h = ap (λ (t : Verdict). (judged t s lane (op
 ran_more : (v : ℕ) (r : SetRow) (st : State) → in_progress st ≡ Some r → in_progress (change_set r.number (with_volume v) st) ≡ Some (with_volume v r)
 ran_more v r st here =
     find-map (row_changed r.number (with_volume v)) (λ (w : SetRow). same_result (w.number == r.number) w) st.sets ∙ ap (option_map (row_changed r.number (with_volume v))) here
-    ∙ ap (λ (b : Bool). Some (if b then with_volume v r else r)) (own r.number)
+    ∙ ap (λ (b : Bool). Some (if b then with_volume v r else r)) (eq-eqb r.number r.number refl)
   where
     same_result : (b : Bool) (w : SetRow) → is_running (if b then with_volume v w else w).result ≡ is_running w.result
     same_result true w = refl
@@ -150,7 +135,7 @@ module _ {D : Type 0} (device : Ghosts D) (s : Plan) {lane v : ℕ} {verdict : V
       (λ st at. subst (λ (z : State). IsProviderAt device.told s q z) (sym (to st at)) (subst (λ (z : ProviderValue D). IsProviderAt device.told s z st) (sym is) at.provider))
 
   -- where the checks let it go
-  module _ (go : verdict ≡ Go) (result : Result Unit VssResult) (refused : IfStandFor device.told s p.groups (λ hs. refused_as result ≡ refusal v p.volumes (length (history_at hs v).images))) where
+  module _ (go : verdict ≡ Go) (result : Result Unit VssResult) (refused : IfStandFor device.told s p.groups (λ hs. fault_of result ≡ refusal v p.volumes (length (history_at hs v).images))) where
     goes : (st : State) → Adding st → check st.session (runs st) lane call.Add ≡ Go
     goes st at = sym (kept st at.at.keeps) ∙ go
 
@@ -165,10 +150,10 @@ module _ {D : Type 0} (device : Ghosts D) (s : Plan) {lane v : ℕ} {verdict : V
     volumes st at = at.provider.0.volumes ∙ ap volumes_of (may st at).is_in_progress
 
     -- it refuses as the definitions do
-    refuses : (st : State) (at : Adding st) → add_refusal v (may st at).row st ≡ refused_as result
+    refuses : (st : State) (at : Adding st) → add_refusal v (may st at).row st ≡ fault_of result
     refuses st at = sym (refused st.volumes (all_groups st at) ∙ ap (λ (vs : List ℕ). refusal v vs (length (history_of st v).images)) (volumes st at))
 
-    comes_to : (mark : Mark) (st : State) (at : Adding st) → line s lane (op.Add v) mark st ≡ add_to v (may st at).row (refused_as result) st
+    comes_to : (mark : Mark) (st : State) (at : Adding st) → line s lane (op.Add v) mark st ≡ add_to v (may st at).row (fault_of result) st
     comes_to mark st at = add_line s lane v mark st (may st at).row (goes st at) (may st at).is_in_progress ∙ ap (λ (o : Option VssResult). add_to v (may st at).row o st) (refuses st at)
 
     pub joined : {q : ProviderValue D} → result ≡ Ok tt → q ≡ record p { volumes = p.volumes ++ v ∷ [] }
@@ -176,14 +161,14 @@ module _ {D : Type 0} (device : Ghosts D) (s : Plan) {lane v : ℕ} {verdict : V
     joined {q = q} ok is =
         answers told.Ok refl (ap (λ (z : ProviderValue D). z.groups) is)
         (happens_moves Adding s x (Line lane (op.Add v)) (told_alone told.Ok)
-        (λ st at. adds s lane v st x (may st at).row (goes st at) at.at.order at.at.keeps (may st at).is_in_progress (refuses st at ∙ ap refused_as ok)))
+        (λ st at. adds s lane v st x (may st at).row (goes st at) at.at.order at.at.keeps (may st at).is_in_progress (refuses st at ∙ ap fault_of ok)))
         (λ st at.
         let r = may st at in
         let next = change_set r.row.number (with_volume v) st in
         let ran = ran_more v r.row st r.is_in_progress in
-        let alone = not_among v p.volumes (length (history_of st v).images) (sym (ap refused_as ok) ∙ refused st.volumes (all_groups st at)) in
+        let alone = not_among v p.volumes (length (history_of st v).images) (sym (ap fault_of ok) ∙ refused st.volumes (all_groups st at)) in
         subst (λ (z : State). IsProviderAt device.told s q z)
-        (sym (ap (λ (z : Replied). z.1) (comes_to (mark_of told.Ok) st at ∙ ap (λ (t : Result Unit VssResult). add_to v r.row (refused_as t) st) ok)))
+        (sym (ap (λ (z : Replied). z.1) (comes_to (mark_of told.Ok) st at ∙ ap (λ (t : Result Unit VssResult). add_to v r.row (fault_of t) st) ok)))
         (subst (λ (z : ProviderValue D). IsProviderAt device.told s z next) (sym is) (
           record {
             volumes = ap (λ (vs : List ℕ). vs ++ v ∷ []) (volumes st at) ∙ sym (ap volumes_of ran);
@@ -199,8 +184,8 @@ module _ {D : Type 0} (device : Ghosts D) (s : Plan) {lane v : ℕ} {verdict : V
     not_joined {q = q} why why_not is =
         unchanged (told.Result why) refl is
         (happens_moves Adding s x (Line lane (op.Add v)) (told_alone (told.Result why))
-        (λ st at. adds_not s lane v st x (may st at).row why (goes st at) at.at.order at.at.keeps (may st at).is_in_progress (refuses st at ∙ ap refused_as why_not)))
-        (λ st at. ap (λ (z : Replied). z.1) (comes_to (mark_of (told.Result why)) st at ∙ ap (λ (t : Result Unit VssResult). add_to v (may st at).row (refused_as t) st) why_not))
+        (λ st at. adds_not s lane v st x (may st at).row why (goes st at) at.at.order at.at.keeps (may st at).is_in_progress (refuses st at ∙ ap fault_of why_not)))
+        (λ st at. ap (λ (z : Replied). z.1) (comes_to (mark_of (told.Result why)) st at ∙ ap (λ (t : Result Unit VssResult). add_to v (may st at).row (fault_of t) st) why_not))
 
   pub check_refuses : {q : ProviderValue D} (why : VssResult) → verdict ≡ Refused why → q ≡ p
       → IsMoved device.told device.count (world_of p x l e) (world_of q x l f) s (Line lane (op.Add v)) (simple_outcome (told.Result why))

@@ -38,10 +38,10 @@ use Rattle.sessions.specs.Moves.{IsMove, IsAtOver, after_move, images_after, is_
 use Rattle.sessions.specs.Sets.{current_of}
 use Rattle.sessions.specs.declared.session_move.SessionMove.{SessionMove}
 use Rattle.sessions.proofs.Concluding.{current_kept}
-use Rattle.vss_world.specs.Settling.{IsSettled, IsEndPrepared, begins_snapshot}
+use Rattle.vss_world.specs.Changes.{IsSettled, IsEndPrepared, begins_snapshot}
 use Rattle.vss_world.specs.Stands.{IsOf, IsInPlan, IsPrepared, number_prepared, IsStanding, IfStands}
 use Rattle.vss_world.specs.Moves.{IsMoved}
-use Rattle.vss_world.proofs.Ends.{none_found}
+use Rattle.vss_model.proofs.Rows.{none_over}
 use Rattle.vss_world.proofs.Moved.{world_of, IsProviderAt, clean_devices, leaves_of, goes_on, in_order}
 use Rattle.vss_world.proofs.Simple.{after_line}
 use Rattle.vss_world.proofs.InPlan.{in_line}
@@ -142,7 +142,7 @@ module _ {D : Type 0} (device : Ghosts D) (s : Plan) (op : Op) (m : SessionMove)
   begins_left w here begins plain =
       let ran : in_progress next ≡ Some w = begins.set ∙ here in
       let numbered : NumberedFrom 1 next.sets = subst (λ (z : State). NumberedFrom 1 z.sets) (state-append s acts act) (orderly s (acts ++ act ∷ [])).numbered in
-      let u = quiet (no_agenda_provided st begins.rests) (ap (λ (o : Option SetRow). ended_of o next.sets) here ∙ none_found 1 next.sets w numbered ran) in
+      let u = quiet (no_agenda_provided st begins.rests) (ap (λ (o : Option SetRow). ended_of o next.sets) here ∙ none_over 1 next.sets w numbered ran) in
       let is = ended_with (begins_snapshot op m.outcome.told) (current_of st.sets) w.number q r plain (ap (option_map (λ (z : SetRow). z.number)) here) ended in
       subst (λ (z : ProviderValue D). IsProviderAt device.told s z next) (sym is) (
         record {

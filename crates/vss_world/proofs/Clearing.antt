@@ -1,39 +1,30 @@
 -- How far images go for a write: as far by the histories that the provider has as by those of the definitions.
-use Rattle.std.proofs.Common.{◌≡◌, ℕ, zero, suc, ◌+◌, ◌<◌, ◌==◌, List, [], ◌∷◌, ◌++◌, length, refl, ap, sym, ◌∙◌, subst, arith, Bool, true, false, ◌&&◌, Option, Some, None, ◌⊎◌, inl, inr}
-use Rattle.std.proofs.Common.{find, slice_get}
-use Rattle.std.specs.Prelude.{not, nat_lt, if◌then◌else◌, unwrap_or}
+use Rattle.std.proofs.Common.{◌≡◌, ℕ, zero, suc, ◌<◌, ◌==◌, List, [], ◌∷◌, ◌++◌, length, refl, ap, sym, ◌∙◌, subst, arith, Bool, true, false, ◌&&◌, Option, Some, None, ◌⊎◌, inl, inr}
+use Rattle.std.proofs.Common.{slice_get}
+use Rattle.std.specs.Prelude.{not, nat_lt, option_map, if◌then◌else◌, unwrap_or}
 use Rattle.std.specs.List.{range_with_len}
 use Rattle.std.proofs.lemmas.Bool.Decides.{nat_tests}
 use Rattle.write_history.specs.History.{Image, History, point_in, after_set, AreLater, AreInTime}
 use Rattle.write_history.specs.Slots.{Placed, gone_up_to, group_used, needs_slot_in, lacks_slot, evicted_up_to}
-use Rattle.set_agenda.specs.Agenda.{Agenda}
 use Rattle.scenario.specs.Plan.{Plan}
-use Rattle.vss_model.specs.State.{SetRow, in_progress, history_in, history_of, is_held}
+use Rattle.vss_model.specs.State.{SetRow, in_progress, history_in, is_held}
 use Rattle.vss_model.specs.Acts.{Act, state}
 use Rattle.vss_model.proofs.Orderly.{true_not_false}
-use Rattle.vss_world.specs.Provided.{is_to_come, dropped_if, without, provided_of, provided}
-use Rattle.vss_world.proofs.ToCome.{AllUnnamed, gone_provided, group_used_provided, held_to_come}
+use Rattle.vss_world.specs.Provided.{is_to_come, dropped_if, comes, number_of, without, provided}
+use Rattle.vss_world.proofs.Options.{none_from}
+use Rattle.vss_world.proofs.KeptSets.{later_filter, in_time_filter}
+use Rattle.vss_world.proofs.ToCome.{held_to_come}
 use Rattle.vss_world.proofs.Unnamed.{IsUnnamed, without_none, later_last}
-use Rattle.vss_world.proofs.WithoutImages.{without_at, none_at}
+use Rattle.vss_world.proofs.WithoutImages.{AreUnnamed, without_get, gone_without, group_used_without}
 use Rattle.provider.proofs.InGroup.{find_same}
 
 -- ## images after a set
 
 later_after : (m : ℕ) (i : Image) (images : List Image) → AreLater i images → AreLater i (after_set m images)
-later_after m i [] h = tt
-later_after m i (j ∷ images) h = by_test (nat_lt m j.set) (later_after m i images h.2)
-  where
-    by_test : (b : Bool) → AreLater i (after_set m images) → AreLater i (if b then j ∷ after_set m images else after_set m images)
-    by_test true rest = (h.0, h.1, rest)
-    by_test false rest = rest
+later_after m i images h = later_filter (λ (j : Image). nat_lt m j.set) i images h
 
 in_time_after : (m k : ℕ) (images : List Image) → AreInTime k images → AreInTime k (after_set m images)
-in_time_after m k [] h = tt
-in_time_after m k (i ∷ images) h = by_test (nat_lt m i.set) (in_time_after m k images h.2)
-  where
-    by_test : (b : Bool) → AreInTime k (after_set m images) → AreInTime k (if b then i ∷ after_set m images else after_set m images)
-    by_test true rest = (h.0, later_after m i images h.1, rest)
-    by_test false rest = rest
+in_time_after m k images h = in_time_filter (λ (j : Image). nat_lt m j.set) k images h
 
 none_after : (n m : ℕ) (images : List Image) → point_in n images ≡ None → point_in n (after_set m images) ≡ None
 none_after n m [] e = refl
@@ -93,14 +84,14 @@ gone_from m (p ∷ ps) (h ∷ hs) zero x e = (h, refl, by_test p.within e)
     by_test false f = inl cc
 gone_from m (p ∷ ps) (h ∷ hs) (suc k) x e = gone_from m ps hs k x e
 
-gone_unnamed : (m : ℕ) (ps : List Placed) (o : Option SetRow) (a : Option Agenda) (hs : List History) → AllUnnamed o a hs → AllUnnamed o a (gone_up_to m ps hs)
-gone_unnamed m ps o a hs un r e k x at coming =
+gone_unnamed : (test : ℕ → Bool) (n m : ℕ) (ps : List Placed) (hs : List History) → AreUnnamed test n hs → AreUnnamed test n (gone_up_to m ps hs)
+gone_unnamed test n m ps hs un k x at coming =
     let h = gone_from m ps hs k x at in
-    by_way h.0 h.2 (un r e k h.0 h.1 coming)
+    by_way h.0 h.2 (un k h.0 h.1 coming)
   where
-    by_way : (h : History) → (x ≡ h) ⊎ (x ≡ after m h) → IsUnnamed r.number h → IsUnnamed r.number x
-    by_way h (inl same) u = subst (IsUnnamed r.number) (sym same) u
-    by_way h (inr gone) u = subst (IsUnnamed r.number) (sym gone) (unnamed_after m r.number h u)
+    by_way : (h : History) → (x ≡ h) ⊎ (x ≡ after m h) → IsUnnamed n h → IsUnnamed n x
+    by_way h (inl same) u = subst (IsUnnamed n) (sym same) u
+    by_way h (inr gone) u = subst (IsUnnamed n) (sym gone) (unnamed_after m n h u)
 
 gone_none : (m : ℕ) (ps : List Placed) (hs : List History) (v : ℕ) → slice_get hs v ≡ None → slice_get (gone_up_to m ps hs) v ≡ None
 gone_none m [] hs v e = e
@@ -115,46 +106,39 @@ gone_at m (p ∷ ps) (h ∷ hs) [] v e = gone_none m (p ∷ ps) (h ∷ hs) v e
 gone_at m (p ∷ ps) (h ∷ hs) (k ∷ ks) zero e = let same : h ≡ k = cc in ap (λ (x : History). Some (if p.within then record { writes = x.writes; images = after_set m x.images } else x)) same
 gone_at m (p ∷ ps) (h ∷ hs) (k ∷ ks) (suc v) e = gone_at m ps hs ks v e
 
-pub as_far : (sets slots : ℕ) (ps : List Placed) (v b : ℕ) (o : Option SetRow) (a : Option Agenda) (hs : List History) → AllUnnamed o a hs → slice_get (provided_of o a hs) v ≡ slice_get hs v
-    → evicted_up_to sets slots ps v b (provided_of o a hs) ≡ evicted_up_to sets slots ps v b hs
-as_far sets slots ps v b o a hs un same =
+pub as_far : (test : ℕ → Bool) (n sets slots : ℕ) (ps : List Placed) (v b : ℕ) (hs : List History) → AreUnnamed test n hs → slice_get (without test n hs) v ≡ slice_get hs v
+    → evicted_up_to sets slots ps v b (without test n hs) ≡ evicted_up_to sets slots ps v b hs
+as_far test n sets slots ps v b hs un same =
     ap (λ (q : Option ℕ). unwrap_or q sets)
-    (find_same (λ m. not (lacks_slot slots ps v b (gone_up_to m ps (provided_of o a hs)))) (λ m. not (lacks_slot slots ps v b (gone_up_to m ps hs))) (range_with_len 0 sets) (λ m. ap not (lacks m)))
+    (find_same (λ m. not (lacks_slot slots ps v b (gone_up_to m ps (without test n hs)))) (λ m. not (lacks_slot slots ps v b (gone_up_to m ps hs))) (range_with_len 0 sets) (λ m. ap not (lacks m)))
   where
-    lacks : (m : ℕ) → lacks_slot slots ps v b (gone_up_to m ps (provided_of o a hs)) ≡ lacks_slot slots ps v b (gone_up_to m ps hs)
+    lacks : (m : ℕ) → lacks_slot slots ps v b (gone_up_to m ps (without test n hs)) ≡ lacks_slot slots ps v b (gone_up_to m ps hs)
     lacks m =
-        ap (λ (q : Option History). needs_slot_in q b && (group_used ps (gone_up_to m ps (provided_of o a hs)) == slots)) (gone_at m ps (provided_of o a hs) hs v same)
+        ap (λ (q : Option History). needs_slot_in q b && (group_used ps (gone_up_to m ps (without test n hs)) == slots)) (gone_at m ps (without test n hs) hs v same)
         ∙ ap (λ (k : ℕ). needs_slot_in (slice_get (gone_up_to m ps hs) v) b && (k == slots))
-        (ap (group_used ps) (gone_provided m ps o a hs) ∙ group_used_provided ps o a (gone_up_to m ps hs) (gone_unnamed m ps o a hs un))
+        (ap (group_used ps) (gone_without test n m ps hs) ∙ group_used_without test n ps (gone_up_to m ps hs) (gone_unnamed test n m ps hs un))
 
 -- ## a volume that is not held
 
-free_at : (v : ℕ) (o : Option SetRow) (a : Option Agenda) (hs : List History) → ((r : SetRow) → o ≡ Some r → is_to_come a v ≡ true → point_in r.number (history_in (slice_get hs v)).images ≡ None)
-    → slice_get (provided_of o a hs) v ≡ slice_get hs v
-free_at v None a hs none = refl
-free_at v (Some r) None hs none = refl
-free_at v (Some r) (Some a) hs none = by_there (slice_get hs v) refl
-  where
-    from_zero : (w : ℕ) → 0 + w ≡ w
-    from_zero w = omega arith
-
-    by_test : (h : History) (b : Bool) → (b ≡ true → point_in r.number h.images ≡ None) → Some (dropped_if b r.number h) ≡ Some h
-    by_test h true f = ap (λ (is : List Image). Some (record { writes = h.writes; images = is })) (without_none r.number h.images (f refl))
-    by_test h false f = refl
-
-    by_there : (q : Option History) → slice_get hs v ≡ q → slice_get (without (is_to_come (Some a)) r.number 0 hs) v ≡ slice_get hs v
-    by_there None e = none_at (is_to_come (Some a)) r.number 0 v hs e ∙ sym e
-    by_there (Some h) e =
-        without_at (is_to_come (Some a)) r.number 0 v hs h e
-        ∙ by_test h (is_to_come (Some a) (0 + v))
-        (λ coming. ap (λ (q : Option History). point_in r.number (history_in q).images) (sym e) ∙ none r refl (ap (is_to_come (Some a)) (sym (from_zero v)) ∙ coming)) ∙ sym e
-
 -- of one that is not held the provider has all
 pub free_volume : (s : Plan) (acts : List Act) (v : ℕ) → is_held (state s acts) v ≡ false → slice_get (provided (state s acts)) v ≡ slice_get (state s acts).volumes v
-free_volume s acts v free = free_at v (in_progress (state s acts)) (state s acts).course.agenda (state s acts).volumes
-    (λ r e coming. by_point r e coming (point_in r.number (history_of (state s acts) v).images) refl)
+free_volume s acts v free =
+    let st = state s acts in
+    without_get (comes (in_progress st) st.course.agenda) (number_of (in_progress st)) v st.volumes ∙ by_place (slice_get st.volumes v) refl
   where
-    by_point : (r : SetRow) → in_progress (state s acts) ≡ Some r → is_to_come (state s acts).course.agenda v ≡ true → (o : Option ℕ) → point_in r.number (history_of (state s acts) v).images ≡ o
-        → o ≡ None
-    by_point r e coming None f = refl
-    by_point r e coming (Some p) f = absurd (true_not_false (is_held (state s acts) v) (held_to_come s acts r v p e coming f) free)
+    by_test : (h : History) → slice_get (state s acts).volumes v ≡ Some h → (r : SetRow) → in_progress (state s acts) ≡ Some r → (b : Bool) → is_to_come (state s acts).course.agenda v ≡ b
+        → dropped_if b r.number h ≡ h
+    by_test h at r e true f = ap (λ (is : List Image). record { writes = h.writes; images = is }) (without_none r.number h.images
+        (none_from (point_in r.number h.images) (λ p has. true_not_false (is_held (state s acts) v)
+        (held_to_come s acts r v p e f (ap (λ (q : Option History). point_in r.number (history_in q).images) at ∙ has)) free)))
+    by_test h at r e false f = refl
+
+    by_set : (h : History) → slice_get (state s acts).volumes v ≡ Some h → (o : Option SetRow) → in_progress (state s acts) ≡ o
+        → dropped_if (comes o (state s acts).course.agenda v) (number_of o) h ≡ h
+    by_set h at None e = refl
+    by_set h at (Some r) e = by_test h at r e (is_to_come (state s acts).course.agenda v) refl
+
+    by_place : (q : Option History) → slice_get (state s acts).volumes v ≡ q
+        → option_map (dropped_if (comes (in_progress (state s acts)) (state s acts).course.agenda v) (number_of (in_progress (state s acts)))) q ≡ slice_get (state s acts).volumes v
+    by_place None at = sym at
+    by_place (Some h) at = ap (λ (x : History). Some x) (by_set h at (in_progress (state s acts)) refl) ∙ sym at

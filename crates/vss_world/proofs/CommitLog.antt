@@ -1,12 +1,13 @@
 -- What the log of a running agenda says of the Commit steps: once a Release step is made, or the agenda is over, all of them are; and
 -- where one is the next step, the Cut step is made.
-use Rattle.std.proofs.Common.{◌≡◌, ℕ, ◌==◌, List, [], ◌∷◌, refl, ap, sym, ◌∙◌, subst, Bool, true, false, Some, map, filter, arith}
-use Rattle.std.specs.Prelude.{◌&&◌, ◌||◌, not, if◌then◌else◌}
-use Rattle.std.proofs.lemmas.Bool.Decides.{nat_tests}
+use Rattle.std.proofs.Common.{◌≡◌, ℕ, ◌==◌, List, [], ◌∷◌, refl, sym, ◌∙◌, subst, Bool, true, false, Some, map}
+use Rattle.std.specs.Prelude.{◌&&◌, ◌||◌}
 use Rattle.std.proofs.lemmas.List.Folds.{list_any-append}
+use Rattle.std.proofs.lemmas.Bool.{and_parts, both_ways, false_from_ne_true, false≢true}
 use Rattle.vss_names.specs.declared.level.Level.TheVariants.{System, BackEnd, FrontEnd}
 use Rattle.vss_names.specs.declared.order.Order.TheVariants.{Identify, PrepareBackup, PrepareSnapshot, Freeze, BackupComplete}
 use Rattle.writer_state.specs.declared.said.Said.{Said}
+use Rattle.set_agenda.specs.declared.group.Group.{Group}
 use Rattle.set_agenda.specs.declared.group.Group.TheVariants.{Orders, PreCommit, Flush, Hold, Cut, Commit, Release}
 use Rattle.set_agenda.specs.declared.kind.Kind.{Kind}
 use Rattle.set_agenda.specs.declared.kind.Kind.TheVariants.{Gather, Prepare, Snapshot, Complete}
@@ -15,19 +16,16 @@ use Rattle.set_agenda.specs.Agenda.{Agenda, Entry, Open, plain, at_level, places
 use Rattle.set_agenda.specs.Agenda.{all_say}
 use Rattle.scenario.specs.Plan.{Plan}
 use Rattle.vss_model.specs.Acts.{Act, state}
+use Rattle.vss_model.proofs.AtCut.{all_said}
 use Rattle.vss_model.proofs.LogRule.{IsKeptInLog, Running, in_log}
 use Rattle.vss_model.proofs.Spoken.{new_said, fewer_wait}
-use Rattle.vss_model.proofs.Orderly.{true_not_false}
 
 -- ## groups before the open one
 
 -- at a place that is open the groups before it are closed
 closes : (q p : Place) (ws : List ℕ) (later : List Open) → same_place p q ≡ false → same_place (open_place (with_group p ws later)) q ≡ true → (ws ≡ []) × (same_place (open_place later) q ≡ true)
 closes q p [] later e h = (refl, h)
-closes q p (w ∷ ws) later e h = absurd (true_not_false (same_place p q) h e)
-
-not_open : false ≡ true → ⊥
-not_open e = cc
+closes q p (w ∷ ws) later e h = absurd (both_ways (same_place p q) e h)
 
 -- what the open place is, where it is a place after the Cut group
 before_cut : (q : Place) (a : Agenda) (later : List Open) → same_place (plain (Orders PrepareSnapshot)) q ≡ false → same_place (at_level Freeze FrontEnd) q ≡ false
@@ -50,115 +48,58 @@ before_cut q a later snapshot front back system pre flush hold cut h =
     (closes q (plain (Orders PrepareSnapshot)) (waited_for a (plain (Orders PrepareSnapshot))) _ snapshot h).1).1).1).1).1).1).1
 
 released_closed : (k : Kind) (a : Agenda) → same_place (open_place (left_from a (places k))) (plain Release) ≡ true → waited_for a (plain Commit) ≡ []
-released_closed Gather a h = absurd (not_open (closes (plain Release) (plain (Orders Identify)) (waited_for a (plain (Orders Identify))) [] refl h).1)
-released_closed Prepare a h = absurd (not_open (closes (plain Release) (plain (Orders PrepareBackup)) (waited_for a (plain (Orders PrepareBackup))) [] refl h).1)
-released_closed Complete a h = absurd (not_open (closes (plain Release) (plain (Orders BackupComplete)) (waited_for a (plain (Orders BackupComplete))) [] refl h).1)
+released_closed Gather a h = absurd (false≢true (closes (plain Release) (plain (Orders Identify)) (waited_for a (plain (Orders Identify))) [] refl h).1)
+released_closed Prepare a h = absurd (false≢true (closes (plain Release) (plain (Orders PrepareBackup)) (waited_for a (plain (Orders PrepareBackup))) [] refl h).1)
+released_closed Complete a h = absurd (false≢true (closes (plain Release) (plain (Orders BackupComplete)) (waited_for a (plain (Orders BackupComplete))) [] refl h).1)
 released_closed Snapshot a h = (closes (plain Release) (plain Commit) (waited_for a (plain Commit)) _ refl (before_cut (plain Release) a _ refl refl refl refl refl refl refl refl h).1).0
 
 cut_closed : (k : Kind) (a : Agenda) → same_place (open_place (left_from a (places k))) (plain Commit) ≡ true → waited_for a (plain Cut) ≡ []
-cut_closed Gather a h = absurd (not_open (closes (plain Commit) (plain (Orders Identify)) (waited_for a (plain (Orders Identify))) [] refl h).1)
-cut_closed Prepare a h = absurd (not_open (closes (plain Commit) (plain (Orders PrepareBackup)) (waited_for a (plain (Orders PrepareBackup))) [] refl h).1)
-cut_closed Complete a h = absurd (not_open (closes (plain Commit) (plain (Orders BackupComplete)) (waited_for a (plain (Orders BackupComplete))) [] refl h).1)
+cut_closed Gather a h = absurd (false≢true (closes (plain Commit) (plain (Orders Identify)) (waited_for a (plain (Orders Identify))) [] refl h).1)
+cut_closed Prepare a h = absurd (false≢true (closes (plain Commit) (plain (Orders PrepareBackup)) (waited_for a (plain (Orders PrepareBackup))) [] refl h).1)
+cut_closed Complete a h = absurd (false≢true (closes (plain Commit) (plain (Orders BackupComplete)) (waited_for a (plain (Orders BackupComplete))) [] refl h).1)
 cut_closed Snapshot a h = (before_cut (plain Commit) a _ refl refl refl refl refl refl refl refl h).0
 
--- where nobody is waited for, each was heard
-pub all_said : (log : List Entry) (p : Place) (xs : List ℕ) (who : ℕ) → filter (λ x. not (has_said log p x)) xs ≡ [] → is_among who xs ≡ true → has_said log p who ≡ true
-all_said log p [] who e f = cc
-all_said log p (x ∷ xs) who e f = by_said (has_said log p x) refl e (all_said log p xs who)
-  where
-    equal : (a b : ℕ) → (a == b) ≡ true → a ≡ b
-    equal a b g = grind (arith, nat_tests)
+-- ## once a step is made, those of the group before it are
 
-    by_head : (b : Bool) → (x == who) ≡ b → (b || is_among who xs) ≡ true → has_said log p x ≡ true → (is_among who xs ≡ true → has_said log p who ≡ true) → has_said log p who ≡ true
-    by_head true g h said rest = ap (λ n. has_said log p n) (sym (equal x who g)) ∙ said
-    by_head false g h said rest = rest h
+-- where a step of this group is made, none of the other is waited for
+abbrev Follows : Group → Group → Agenda → Type 0
+Follows first then a = (v : ℕ) → has_said a.log (plain then) v ≡ true → waited_for a (plain first) ≡ []
 
-    by_said : (b : Bool) → has_said log p x ≡ b → (if not b then x ∷ filter (λ x. not (has_said log p x)) xs else filter (λ x. not (has_said log p x)) xs) ≡ []
-        → (filter (λ x. not (has_said log p x)) xs ≡ [] → is_among who xs ≡ true → has_said log p who ≡ true) → has_said log p who ≡ true
-    by_said false g h rest = cc
-    by_said true g h rest = by_head (x == who) refl f g (rest h)
-
--- ## once a Release step is made
-
-abbrev CommitsFirst : Agenda → Type 0
-CommitsFirst a = (v : ℕ) → has_said a.log (plain Release) v ≡ true → waited_for a (plain Commit) ≡ []
-
-commits_first : IsKeptInLog CommitsFirst
-commits_first = record {
+follows : (first then : Group) → ((k : Kind) (a : Agenda) → same_place (open_place (left_from a (places k))) (plain then) ≡ true → waited_for a (plain first) ≡ [])
+    → ((said : Said) (now : ℕ) (ws : List ℕ) (a : Agenda) → waited_for a (plain first) ≡ [] → waited_for (all_say said now ws a) (plain first) ≡ [])
+    → IsKeptInLog (Follows first then)
+follows first then closed fewer = record {
   begins = λ k ms vs now v e. absurd cc;
   says = λ said now ws a waited mild h v e. more said now ws a h v
-      (sym (list_any-append (λ (x : Entry). same_place x.place (plain Release) && (x.who == v)) a.log (map (at_place (open_place (groups_left a)) said now) ws)) ∙ e);
+      (sym (list_any-append (λ (x : Entry). same_place x.place (plain then) && (x.who == v)) a.log (map (at_place (open_place (groups_left a)) said now) ws)) ∙ e);
 } where
-  first_part : (a b : Bool) → (a && b) ≡ true → a ≡ true
-  first_part true b e = refl
-  first_part false b e = cc
-
-  more : (said : Said) (now : ℕ) (ws : List ℕ) (a : Agenda) → CommitsFirst a → (v : ℕ)
-      → (has_said a.log (plain Release) v || has_said (map (at_place (open_place (groups_left a)) said now) ws) (plain Release) v) ≡ true
-      → waited_for (all_say said now ws a) (plain Commit) ≡ []
-  more said now ws a h v e = by_log (has_said a.log (plain Release) v) refl e
+  more : (said : Said) (now : ℕ) (ws : List ℕ) (a : Agenda) → Follows first then a → (v : ℕ)
+      → (has_said a.log (plain then) v || has_said (map (at_place (open_place (groups_left a)) said now) ws) (plain then) v) ≡ true → waited_for (all_say said now ws a) (plain first) ≡ []
+  more said now ws a h v e = by_log (has_said a.log (plain then) v) refl e
     where
-      by_log : (b : Bool) → has_said a.log (plain Release) v ≡ b → (b || has_said (map (at_place (open_place (groups_left a)) said now) ws) (plain Release) v) ≡ true
-          → waited_for (all_say said now ws a) (plain Commit) ≡ []
-      by_log true f g = fewer_wait a.log (map (at_place (open_place (groups_left a)) said now) ws) (plain Commit) a.volumes (h v f)
+      by_log : (b : Bool) → has_said a.log (plain then) v ≡ b → (b || has_said (map (at_place (open_place (groups_left a)) said now) ws) (plain then) v) ≡ true
+          → waited_for (all_say said now ws a) (plain first) ≡ []
+      by_log true f g = fewer said now ws a (h v f)
       by_log false f g =
-          fewer_wait a.log (map (at_place (open_place (groups_left a)) said now) ws) (plain Commit) a.volumes
-          (released_closed a.kind a (first_part (same_place (open_place (groups_left a)) (plain Release)) (is_among v ws) (new_said (open_place (groups_left a)) (plain Release) said now v ws g)))
+          fewer said now ws a (closed a.kind a
+          (and_parts (same_place (open_place (groups_left a)) (plain then)) (is_among v ws) (new_said (open_place (groups_left a)) (plain then) said now v ws g)).0)
 
-in_every_log : (s : Plan) (acts : List Act) → Running CommitsFirst (state s acts).course.agenda
-in_every_log s acts = in_log CommitsFirst commits_first s acts
+commits_first : IsKeptInLog (Follows Commit Release)
+commits_first = follows Commit Release released_closed (λ said now ws a. fewer_wait a.log (map (at_place (open_place (groups_left a)) said now) ws) (plain Commit) a.volumes)
+
+cuts_first : IsKeptInLog (Follows Cut Commit)
+cuts_first = follows Cut Commit cut_closed (λ said now ws a. fewer_wait a.log (map (at_place (open_place (groups_left a)) said now) ws) (plain Cut) (0 ∷ []))
 
 -- a volume of the agenda whose Commit step is not made is not released
 pub unreleased : (s : Plan) (acts : List Act) (a : Agenda) (v : ℕ) → (state s acts).course.agenda ≡ Some a → is_among v a.volumes ≡ true → has_said a.log (plain Commit) v ≡ false
     → has_said a.log (plain Release) v ≡ false
-unreleased s acts a v e among not_yet = by_said (has_said a.log (plain Release) v) refl
-  where
-    not_both : (b : Bool) → b ≡ true → b ≡ false → ⊥
-    not_both true f g = cc
-    not_both false f g = cc
-
-    by_said : (b : Bool) → has_said a.log (plain Release) v ≡ b → b ≡ false
-    by_said false f = refl
-    by_said true f = absurd (not_both (has_said a.log (plain Commit) v) (all_said a.log (plain Commit) a.volumes v ((subst (Running CommitsFirst) e (in_every_log s acts)) v f) among) not_yet)
-
--- ## before the Cut step
-
-abbrev CutsFirst : Agenda → Type 0
-CutsFirst a = (v : ℕ) → has_said a.log (plain Commit) v ≡ true → waited_for a (plain Cut) ≡ []
-
-cuts_first : IsKeptInLog CutsFirst
-cuts_first = record {
-  begins = λ k ms vs now v e. absurd cc;
-  says = λ said now ws a waited mild h v e. more said now ws a h v
-      (sym (list_any-append (λ (x : Entry). same_place x.place (plain Commit) && (x.who == v)) a.log (map (at_place (open_place (groups_left a)) said now) ws)) ∙ e);
-} where
-  first_part : (a b : Bool) → (a && b) ≡ true → a ≡ true
-  first_part true b e = refl
-  first_part false b e = cc
-
-  more : (said : Said) (now : ℕ) (ws : List ℕ) (a : Agenda) → CutsFirst a → (v : ℕ)
-      → (has_said a.log (plain Commit) v || has_said (map (at_place (open_place (groups_left a)) said now) ws) (plain Commit) v) ≡ true
-      → waited_for (all_say said now ws a) (plain Cut) ≡ []
-  more said now ws a h v e = by_log (has_said a.log (plain Commit) v) refl e
-    where
-      by_log : (b : Bool) → has_said a.log (plain Commit) v ≡ b → (b || has_said (map (at_place (open_place (groups_left a)) said now) ws) (plain Commit) v) ≡ true
-          → waited_for (all_say said now ws a) (plain Cut) ≡ []
-      by_log true f g = fewer_wait a.log (map (at_place (open_place (groups_left a)) said now) ws) (plain Cut) (0 ∷ []) (h v f)
-      by_log false f g =
-          fewer_wait a.log (map (at_place (open_place (groups_left a)) said now) ws) (plain Cut) (0 ∷ [])
-          (cut_closed a.kind a (first_part (same_place (open_place (groups_left a)) (plain Commit)) (is_among v ws) (new_said (open_place (groups_left a)) (plain Commit) said now v ws g)))
+unreleased s acts a v e among not_yet = false_from_ne_true (has_said a.log (plain Release) v) (λ f. both_ways (has_said a.log (plain Commit) v) not_yet
+    (all_said a.log (plain Commit) a.volumes v ((subst (Running (Follows Commit Release)) e (in_log (Follows Commit Release) commits_first s acts)) v f) among))
 
 -- no Commit step is made before the Cut step
 pub uncommitted : (s : Plan) (acts : List Act) (a : Agenda) (v : ℕ) → (state s acts).course.agenda ≡ Some a → has_said a.log (plain Cut) 0 ≡ false → has_said a.log (plain Commit) v ≡ false
-uncommitted s acts a v e none = by_said (has_said a.log (plain Commit) v) refl
-  where
-    not_both : (b : Bool) → b ≡ true → b ≡ false → ⊥
-    not_both true f g = cc
-    not_both false f g = cc
-
-    by_said : (b : Bool) → has_said a.log (plain Commit) v ≡ b → b ≡ false
-    by_said false f = refl
-    by_said true f = absurd (not_both (has_said a.log (plain Cut) 0) (all_said a.log (plain Cut) (0 ∷ []) 0 ((subst (Running CutsFirst) e (in_log CutsFirst cuts_first s acts)) v f) refl) none)
+uncommitted s acts a v e none = false_from_ne_true (has_said a.log (plain Commit) v) (λ f. both_ways (has_said a.log (plain Cut) 0) none
+    (all_said a.log (plain Cut) (0 ∷ []) 0 ((subst (Running (Follows Cut Commit)) e (in_log (Follows Cut Commit) cuts_first s acts)) v f) refl))
 
 -- ## where a Commit step is the next one
 
@@ -172,35 +113,24 @@ none_left : (p : Place) (ws : List ℕ) (later : List Open) → is_done (with_gr
 none_left p [] later e = (refl, e)
 none_left p (w ∷ ws) later e = absurd cc
 
--- a snapshot agenda of which no group is left has made all its Commit steps
-pub committed_at_end : (a : Agenda) (v : ℕ) → a.kind ≡ Snapshot → is_done (groups_left a) ≡ true → is_among v a.volumes ≡ true → has_said a.log (plain Commit) v ≡ true
-committed_at_end a v kind done among =
-    let K : Kind → Type 0 = λ k. is_done (left_from a (places k)) ≡ true in
-    let all : is_done (left_from a (places Snapshot)) ≡ true = subst K kind done in
-    all_said a.log (plain Commit) a.volumes v
-    (none_left (plain Commit) (waited_for a (plain Commit)) _
-    (none_left (plain Cut) (waited_for a (plain Cut)) _
+-- a snapshot agenda of which no group is left waits for no Cut step and no Commit step
+none_waits : (a : Agenda) → a.kind ≡ Snapshot → is_done (groups_left a) ≡ true → (waited_for a (plain Cut) ≡ []) × (waited_for a (plain Commit) ≡ [])
+none_waits a kind done =
+    let all : is_done (left_from a (places Snapshot)) ≡ true = subst (λ (k : Kind). is_done (left_from a (places k)) ≡ true) kind done in
+    let cut = none_left (plain Cut) (waited_for a (plain Cut)) _
     (none_left (plain Hold) (waited_for a (plain Hold)) _
     (none_left (plain Flush) (waited_for a (plain Flush)) _
     (none_left (plain PreCommit) (waited_for a (plain PreCommit)) _
     (none_left (at_level Freeze System) (waited_for a (at_level Freeze System)) _
     (none_left (at_level Freeze BackEnd) (waited_for a (at_level Freeze BackEnd)) _
     (none_left (at_level Freeze FrontEnd) (waited_for a (at_level Freeze FrontEnd)) _
-    (none_left (plain (Orders PrepareSnapshot)) (waited_for a (plain (Orders PrepareSnapshot))) _ all).1).1).1).1).1).1).1).1).0 among
+    (none_left (plain (Orders PrepareSnapshot)) (waited_for a (plain (Orders PrepareSnapshot))) _ all).1).1).1).1).1).1).1 in
+    (cut.0, (none_left (plain Commit) (waited_for a (plain Commit)) _ cut.1).0)
+
+-- so it has made all its Commit steps
+pub committed_at_end : (a : Agenda) (v : ℕ) → a.kind ≡ Snapshot → is_done (groups_left a) ≡ true → is_among v a.volumes ≡ true → has_said a.log (plain Commit) v ≡ true
+committed_at_end a v kind done among = all_said a.log (plain Commit) a.volumes v (none_waits a kind done).1 among
 
 -- and it is not over before its Cut step is made
 pub never_done : (a : Agenda) → a.kind ≡ Snapshot → has_said a.log (plain Cut) 0 ≡ false → is_done (groups_left a) ≡ true → ⊥
-never_done a kind none done =
-    let K : Kind → Type 0 = λ k. is_done (left_from a (places k)) ≡ true in
-    let all : is_done (left_from a (places Snapshot)) ≡ true = subst K kind done in
-    true_not_false (has_said a.log (plain Cut) 0)
-    (all_said a.log (plain Cut) (0 ∷ []) 0
-    (none_left (plain Cut) (waited_for a (plain Cut)) _
-    (none_left (plain Hold) (waited_for a (plain Hold)) _
-    (none_left (plain Flush) (waited_for a (plain Flush)) _
-    (none_left (plain PreCommit) (waited_for a (plain PreCommit)) _
-    (none_left (at_level Freeze System) (waited_for a (at_level Freeze System)) _
-    (none_left (at_level Freeze BackEnd) (waited_for a (at_level Freeze BackEnd)) _
-    (none_left (at_level Freeze FrontEnd) (waited_for a (at_level Freeze FrontEnd)) _
-    (none_left (plain (Orders PrepareSnapshot)) (waited_for a (plain (Orders PrepareSnapshot))) _ all).1).1).1).1).1).1).1).0 refl)
-    none
+never_done a kind none done = both_ways (has_said a.log (plain Cut) 0) none (all_said a.log (plain Cut) (0 ∷ []) 0 (none_waits a kind done).0 refl)

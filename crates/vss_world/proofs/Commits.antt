@@ -1,7 +1,9 @@
 -- At a Commit step the provider can cut the image of its set on the step's volume.
-use Rattle.std.proofs.Common.{◌≡◌, ℕ, suc, ◌+◌, ◌<◌, ◌≤◌, ◌==◌, List, [], ◌∷◌, length, refl, ap, sym, ◌∙◌, subst, arith, Bool, true, false, Option, Some, All}
-use Rattle.std.specs.Prelude.{IfSome, is_some, not, if◌then◌else◌}
+use Rattle.std.proofs.Common.{◌≡◌, ℕ, suc, ◌<◌, ◌≤◌, ◌==◌, List, [], ◌∷◌, length, refl, ap, sym, ◌∙◌, subst, arith, Bool, true, false, Option, Some, All}
+use Rattle.std.specs.Prelude.{IfSome, is_some, option_map, not, if◌then◌else◌}
 use Rattle.std.proofs.lemmas.List.Elements.{All-nil, All-cons}
+use Rattle.std.proofs.lemmas.List.Filters.{length-filter_both}
+use Rattle.std.proofs.lemmas.Bool.{cond_both, not-true}
 use Rattle.write_history.specs.History.{Image, History, point_in, without_set}
 use Rattle.write_history.specs.declared.evicted.Evicted.{Evicted}
 use Rattle.cow_volume.proofs.Group.{slice_get_inside}
@@ -31,7 +33,7 @@ use Rattle.vss_world.proofs.Prepared.{provided_at}
 use Rattle.vss_world.proofs.Provided.{number_above, below_among}
 use Rattle.vss_world.proofs.Step.{working, stepping, step_number}
 use Rattle.vss_world.proofs.StepComes.{IsStepping, IsCommitting, committing}
-use Rattle.vss_world.proofs.WithoutImages.{without_at}
+use Rattle.vss_world.proofs.WithoutImages.{without_get}
 
 -- ## images but that of the set
 
@@ -40,19 +42,13 @@ under_one a n l e = grind arith
 
 under : (n : ℕ) (images : List Image) → UpTo n images → All (λ (i : Image). i.set < n) (without_set n images)
 under n [] h = All-nil (λ (i : Image). i.set < n)
-under n (i ∷ images) h = by_test (i.set == n) refl (under n images h.1)
-  where
-    by_test : (b : Bool) → (i.set == n) ≡ b → All (λ (j : Image). j.set < n) (without_set n images) → All (λ (j : Image). j.set < n) (if not b then i ∷ without_set n images else without_set n images)
-    by_test true e rest = rest
-    by_test false e rest = All-cons (λ (j : Image). j.set < n) i (without_set n images) (under_one i.set n h.0 e) rest
+under n (i ∷ images) h =
+    let rest = under n images h.1 in
+    cond_both (not (i.set == n)) (i ∷ without_set n images) (without_set n images) (All (λ (j : Image). j.set < n))
+    (λ e. All-cons (λ (j : Image). j.set < n) i (without_set n images) (under_one i.set n h.0 (not-true (i.set == n) e)) rest) (λ e. rest)
 
 shorter : (n : ℕ) (images : List Image) → length (without_set n images) ≤ length images
-shorter n [] = omega arith
-shorter n (i ∷ images) = by_test (i.set == n) (shorter n images)
-  where
-    by_test : (b : Bool) → length (without_set n images) ≤ length images → length (if not b then i ∷ without_set n images else without_set n images) ≤ suc (length images)
-    by_test true l = omega (arith, l)
-    by_test false l = omega (arith, l)
+shorter n images = let all = length-filter_both (λ (i : Image). not (i.set == n)) (λ (i : Image). not (not (i.set == n))) (λ i. refl) images in omega (arith, all)
 
 -- one fewer, where it stands
 fewer : (n : ℕ) (images : List Image) → is_some (point_in n images) ≡ true → length (without_set n images) < length images
@@ -82,12 +78,9 @@ there s acts volume k c within =
     let st = state s acts in
     let h = slice_get_inside st.volumes c.volume_at (subst (λ (m : ℕ). c.volume_at < m) (sym (as_many_volumes s acts)) within) in
     ap (λ (hs : List History). (history_at hs c.volume_at).images) (provided_at st k.row k.is)
-    ∙ ap (λ (o : Option History). (history_in o).images) (without_at (is_to_come st.course.agenda) k.row.number 0 c.volume_at st.volumes h.0 h.1)
-    ∙ ap (λ (b : Bool). (dropped_if b k.row.number h.0).images) (ap (is_to_come st.course.agenda) (from_zero c.volume_at) ∙ ap (λ (o : Option Agenda). is_to_come o c.volume_at) k.runs ∙ c.coming)
+    ∙ ap (λ (o : Option History). (history_in o).images) (without_get (is_to_come st.course.agenda) k.row.number c.volume_at st.volumes ∙ ap (option_map (dropped_if _ k.row.number)) h.1)
+    ∙ ap (λ (b : Bool). (dropped_if b k.row.number h.0).images) (ap (λ (o : Option Agenda). is_to_come o c.volume_at) k.runs ∙ c.coming)
     ∙ ap (λ (x : History). without_set k.row.number x.images) (sym (ap history_in h.1))
-  where
-    from_zero : (w : ℕ) → 0 + w ≡ w
-    from_zero w = omega arith
 
 can_commit_at : {D : Type 0} (blocks_told : D → Option (List (List ℕ))) (s : Plan) (p : ProviderValue D) (x : SessionsValue) (l : List ℕ) (e : List Evicted) (acts : List Act) (volume : Option ℕ)
     → Stands blocks_told (world_of p x l e) s acts → IsNextStep x Commit volume

@@ -4,30 +4,27 @@ use Rattle.std.specs.Prelude.{is_some, not, nat_le, nat_lt, if◌then◌else◌}
 use Rattle.std.specs.List.{flat_map, range_with_len}
 use Rattle.std.proofs.lemmas.Bool.Decides.{nat_tests}
 use Rattle.std.proofs.lemmas.List.Elements.{filter-append}
+use Rattle.std.proofs.lemmas.Bool.{eq-eqb, le-leb, leb-false, lt-leb, ne_eqb}
 use Rattle.write_history.specs.declared.evicted.Evicted.{Evicted}
 use Rattle.write_history.specs.History.{Image, History, point_in, after_set}
 use Rattle.write_history.specs.Slots.{Placed, gone_up_to, evicted_of}
-use Rattle.set_agenda.specs.Agenda.{Agenda}
 use Rattle.scenario.specs.Plan.{Plan, group_of}
 use Rattle.vss_model.specs.State.{State, SetRow, in_progress, is_complete, is_kept_set, has_image}
 use Rattle.vss_model.specs.Effects.{volumes_losing, evicted_for}
 use Rattle.vss_model.specs.Facts.{NumberedFrom}
 use Rattle.vss_model.specs.Images.{going_up_to}
-use Rattle.vss_model.proofs.Rows.{has_complete}
+use Rattle.vss_model.proofs.Rows.{has_complete, none_below}
 use Rattle.provider.specs.Calls.{holders, images_going}
-use Rattle.vss_world.specs.Provided.{is_to_come, dropped_if, without, provided_of, provided}
+use Rattle.vss_world.specs.Provided.{comes, number_of, without, provided}
 use Rattle.vss_world.proofs.Losing.{stays, and_not}
-use Rattle.vss_world.proofs.OnProvided.{progress_not_kept, point_without, apart_of, none_later}
-use Rattle.set_agenda.proofs.WriterSets.{and-true as and_true}
+use Rattle.vss_world.proofs.OnProvided.{has_if, other_set}
+use Rattle.set_agenda.proofs.WriterSets.{and-true, or-false}
 use Rattle.vss_world.proofs.SetGoesOn.{skip}
 
 -- ## the volumes that lose an image
 
 above_most : (s n m : ℕ) → nat_le n m ≡ true → nat_lt m s ≡ true → (s == n) ≡ false
 above_most s n m e f = grind (arith, nat_tests)
-
-beyond : (n m : ℕ) → nat_le n m ≡ false → m < n
-beyond n m e = grind (arith, nat_tests)
 
 gone_image : (n m : ℕ) (images : List Image) → nat_le n m ≡ true → point_in n (after_set m images) ≡ None
 gone_image n m [] e = refl
@@ -51,7 +48,7 @@ losing_is n m v (p ∷ ps) (h ∷ hs) e =
     same_test _ (p.within && has_image n h) v (volumes_losing n (v + 1) hs (gone_up_to m ps hs)) (holders n (v + 1) ps hs) (here p.within) (losing_is n m (v + 1) ps hs e)
   where
     here : (b : Bool) → (has_image n h && not (has_image n (if b then record { writes = h.writes; images = after_set m h.images } else h))) ≡ (b && has_image n h)
-    here true = ap (λ (o : Option ℕ). has_image n h && not (is_some o)) (gone_image n m h.images e) ∙ and_true (has_image n h)
+    here true = ap (λ (o : Option ℕ). has_image n h && not (is_some o)) (gone_image n m h.images e) ∙ and-true (has_image n h)
     here false = and_not (has_image n h)
 
 not_losing : (n m v : ℕ) (ps : List Placed) (hs : List History) → nat_le n m ≡ false → volumes_losing n v hs (gone_up_to m ps hs) ≡ []
@@ -60,27 +57,17 @@ not_losing n m v (p ∷ ps) [] e = refl
 not_losing n m v (p ∷ ps) (h ∷ hs) e = same_test _ false v (volumes_losing n (v + 1) hs (gone_up_to m ps hs)) [] (here p.within) (not_losing n m (v + 1) ps hs e)
   where
     here : (b : Bool) → (has_image n h && not (has_image n (if b then record { writes = h.writes; images = after_set m h.images } else h))) ≡ false
-    here true = ap (λ (o : Option ℕ). has_image n h && not (is_some o)) (stays m n h.images (beyond n m e)) ∙ and_not (has_image n h)
+    here true = ap (λ (o : Option ℕ). has_image n h && not (is_some o)) (stays m n h.images (leb-false n m e)) ∙ and_not (has_image n h)
     here false = and_not (has_image n h)
 
 -- ## by what the provider has
 
-holders_without : (n r : ℕ) (test : ℕ → Bool) (v u : ℕ) (ps : List Placed) (hs : List History) → (r == n) ≡ false → holders n v ps (without test r u hs) ≡ holders n v ps hs
-holders_without n r test v u [] hs e = refl
-holders_without n r test v u (p ∷ ps) [] e = refl
-holders_without n r test v u (p ∷ ps) (h ∷ hs) e =
-    same_test _ (p.within && has_image n h) v (holders n (v + 1) ps (without test r (u + 1) hs)) (holders n (v + 1) ps hs) (ap (λ (t : Bool). p.within && t) (here (test u)))
-    (holders_without n r test (v + 1) (u + 1) ps hs e)
-  where
-    here : (b : Bool) → has_image n (dropped_if b r h) ≡ has_image n h
-    here true = ap is_some (point_without r n h.images e)
-    here false = refl
-
-holders_provided : (n : ℕ) (ps : List Placed) (o : Option SetRow) (a : Option Agenda) (hs : List History) → ((r : SetRow) → o ≡ Some r → (r.number == n) ≡ false)
-    → holders n 0 ps (provided_of o a hs) ≡ holders n 0 ps hs
-holders_provided n ps None a hs apart = refl
-holders_provided n ps (Some r) None hs apart = refl
-holders_provided n ps (Some r) (Some a) hs apart = holders_without n r.number (is_to_come (Some a)) 0 0 ps hs (apart r refl)
+holders_without : (n r : ℕ) (test : ℕ → Bool) (v : ℕ) (ps : List Placed) (hs : List History) → ((k : ℕ) → test k ≡ true → (r == n) ≡ false) → holders n v ps (without test r hs) ≡ holders n v ps hs
+holders_without n r test v [] hs apart = refl
+holders_without n r test v (p ∷ ps) [] apart = refl
+holders_without n r test v (p ∷ ps) (h ∷ hs) apart =
+    same_test _ (p.within && has_image n h) v (holders n (v + 1) ps (without (λ u. test (suc u)) r hs)) (holders n (v + 1) ps hs) (ap (λ (t : Bool). p.within && t) (has_if (test 0) r n h (apart 0)))
+    (holders_without n r (λ u. test (suc u)) (v + 1) ps hs (λ k. apart (suc k)))
 
 -- ## the images of complete sets among them
 
@@ -120,45 +107,21 @@ none_if : (b : Bool) (xs ys : List Evicted) → xs ≡ [] → (if b then xs else
 none_if true xs ys e = ap (λ (zs : List Evicted). zs ++ ys) e
 none_if false xs ys e = refl
 
-next_least : (k n : ℕ) → k + 1 ≤ n → k ≤ n
-next_least k n l = omega arith
-
-itself : (k m : ℕ) → m ≡ k → k ≤ m
-itself k m e = omega arith
-
 past_rows : (f : ℕ → List Evicted) (k : ℕ) (rows : List SetRow) → NumberedFrom k rows → ((n : ℕ) → k ≤ n → f n ≡ []) → of_rows f rows ≡ []
 past_rows f k [] numbered none = refl
 past_rows f k (r ∷ rows) numbered none =
-    row_first f r rows (is_complete r.result) refl ∙ none_if (is_complete r.result) (f r.number) (of_rows f rows) (none r.number (itself k r.number numbered.0))
-    ∙ past_rows f (k + 1) rows numbered.1 (λ n l. none n (next_least k n l))
+    row_first f r rows (is_complete r.result) refl ∙ none_if (is_complete r.result) (f r.number) (of_rows f rows) (let here = numbered.0 in none r.number (omega (arith, here)))
+    ∙ past_rows f (k + 1) rows numbered.1 (λ n l. none n (omega (arith, l)))
 
 first_row : (m : ℕ) (r : SetRow) (rows : List SetRow) → NumberedFrom m (r ∷ rows) → has_complete (r ∷ rows) r.number ≡ is_complete r.result
 first_row m r rows numbered =
-    ap (λ (t : Bool). (t && is_complete r.result) || has_complete rows r.number) (own r.number)
-    ∙ ap (λ (t : Bool). is_complete r.result || t) (none_later (m + 1) r.number rows numbered.1 (next m r.number numbered.0)) ∙ or_none (is_complete r.result)
-  where
-    own : (a : ℕ) → (a == a) ≡ true
-    own a = grind arith
-
-    next : (a b : ℕ) → b ≡ a → b < a + 1
-    next a b e = omega arith
-
-    or_none : (b : Bool) → (b || false) ≡ b
-    or_none true = refl
-    or_none false = refl
+    let here = numbered.0 in
+    ap (λ (t : Bool). (t && is_complete r.result) || has_complete rows r.number) (eq-eqb r.number r.number refl)
+    ∙ ap (λ (t : Bool). is_complete r.result || t) (none_below (m + 1) r.number rows numbered.1 (omega (arith, here))) ∙ or-false (is_complete r.result)
 
 -- a row further on has another number
 later_rows : (m n : ℕ) (r : SetRow) (rows : List SetRow) → r.number ≡ m → m + 1 ≤ n → has_complete (r ∷ rows) n ≡ has_complete rows n
-later_rows m n r rows here l = skip (r.number == n) (is_complete r.result) (has_complete rows n) (apart r.number m n here l)
-  where
-    apart : (a b c : ℕ) → a ≡ b → b + 1 ≤ c → (a == c) ≡ false
-    apart a b c e f = grind (arith, nat_tests)
-
-past_sum : (k j n : ℕ) → k + 1 + j ≤ n → k + suc j ≤ n
-past_sum k j n l = omega arith
-
-below_sum : (k j n : ℕ) → n < k + 1 + j → n < k + suc j
-below_sum k j n l = omega arith
+later_rows m n r rows here l = skip (r.number == n) (is_complete r.result) (has_complete rows n) (ne_eqb r.number n (λ e. omega (arith, here, l, e)))
 
 rows_are : (f g : ℕ → List Evicted) (k j : ℕ) (rows : List SetRow) → NumberedFrom k rows → ((n : ℕ) → k ≤ n → n < k + j → g n ≡ (if has_complete rows n then f n else []))
     → ((n : ℕ) → k + j ≤ n → f n ≡ []) → j ≤ length rows → flat_map g (range_with_len k j) ≡ of_rows f rows
@@ -167,10 +130,10 @@ rows_are f g k (suc j) [] numbered near far few = absurd (omega (arith, few))
 rows_are f g k (suc j) (r ∷ rows) numbered near far few =
     let here : r.number ≡ k = numbered.0 in
     ap (λ (xs : List Evicted). xs ++ flat_map g (range_with_len (k + 1) j))
-    (near k (itself k k refl) (omega arith) ∙ ap (λ (n : ℕ). if has_complete (r ∷ rows) n then f n else []) (sym here) ∙ ap (λ (t : Bool). if t then f r.number else []) (first_row k r rows numbered))
+    (near k (omega arith) (omega arith) ∙ ap (λ (n : ℕ). if has_complete (r ∷ rows) n then f n else []) (sym here) ∙ ap (λ (t : Bool). if t then f r.number else []) (first_row k r rows numbered))
     ∙ ap (λ (xs : List Evicted). (if is_complete r.result then f r.number else []) ++ xs)
     (rows_are f g (k + 1) j rows numbered.1
-    (λ n l m. near n (next_least k n l) (below_sum k j n m) ∙ ap (λ (t : Bool). if t then f n else []) (later_rows k n r rows here l)) (λ n l. far n (past_sum k j n l)) (omega (arith, few)))
+    (λ n l m. near n (omega (arith, l)) (omega (arith, m)) ∙ ap (λ (t : Bool). if t then f n else []) (later_rows k n r rows here l)) (λ n l. far n (omega (arith, l))) (omega (arith, few)))
     ∙ sym (row_first f r rows (is_complete r.result) refl)
 
 -- ## all of them
@@ -183,20 +146,14 @@ evicted_is s v b st numbered few =
     let volumes : ℕ → List ℕ = λ n. holders n 0 ps (provided st) in
     kept_all (is_kept_set st) volumes (range_with_len 1 m)
     ∙ rows_are (λ n. evicted_of n (volumes_losing n 0 st.volumes (gone_up_to m ps st.volumes))) (kept_going (is_kept_set st) volumes) 1 m st.sets numbered
-    (λ n low l. near n (is_kept_set st n) refl (at_most n m l)) (λ n l. ap (evicted_of n) (not_losing n m 0 ps st.volumes (over n m l))) few
+    (λ n low l. near n (is_kept_set st n) refl (le-leb n m (omega (arith, l)))) (λ n l. ap (evicted_of n) (not_losing n m 0 ps st.volumes (lt-leb n m (omega (arith, l))))) few
   where
-    at_most : (n m : ℕ) → n < 1 + m → nat_le n m ≡ true
-    at_most n m l = grind (arith, nat_tests)
-
-    over : (n m : ℕ) → 1 + m ≤ n → nat_le n m ≡ false
-    over n m l = grind (arith, nat_tests)
-
     near : (n : ℕ) (t : Bool) → is_kept_set st n ≡ t → nat_le n (going_up_to s v b st) ≡ true
         → (if is_kept_set st n then evicted_of n (holders n 0 (group_of s v) (provided st)) else [])
         ≡ (if is_kept_set st n then evicted_of n (volumes_losing n 0 st.volumes (gone_up_to (going_up_to s v b st) (group_of s v) st.volumes)) else [])
     near n true e l =
         ap (λ (us : List ℕ). if is_kept_set st n then evicted_of n us else [])
-        (holders_provided n (group_of s v) (in_progress st) st.course.agenda st.volumes (λ r f. apart_of st r.number n (progress_not_kept st r numbered f) e)
+        (holders_without n (number_of (in_progress st)) (comes (in_progress st) st.course.agenda) 0 (group_of s v) st.volumes (other_set st n numbered e)
         ∙ sym (losing_is n (going_up_to s v b st) 0 (group_of s v) st.volumes l))
     near n false e l =
         ap (λ (t : Bool). if t then evicted_of n (holders n 0 (group_of s v) (provided st)) else []) e

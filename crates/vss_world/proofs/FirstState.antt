@@ -13,10 +13,11 @@ use Rattle.provider.specs.Groups.{AreFresh, AreGroups, AreWhole, HasGroups}
 use Rattle.set_agenda.specs.Begin.{are_distinct}
 use Rattle.provider.specs.Preparing.{ProviderValue}
 use Rattle.sessions.specs.Keeps.{SessionsValue}
-use Rattle.vss_world.specs.Beginning.{AreFirst}
+use Rattle.vss_world.specs.Quiet.{AreFirst}
 use Rattle.vss_world.specs.Stands.{IsOf, Stands}
 use Rattle.vss_world.specs.Quiet.{AreNew}
-use Rattle.vss_world.proofs.Moved.{world_of, stands_at}
+use Rattle.vss_world.proofs.Moved.{world_of}
+use Rattle.vss_world.proofs.ToCome.{no_set_provided}
 
 in_group : (s : Plan) (v : ℕ) (r : VolumeRow) → IsPlan s → slice_get s.volumes v ≡ Some r → IsInGroup s.groups r
 in_group s v r plan e = subst (IsInGroup s.groups) (get_or_from_slice_get s.volumes v r r e) (plan.grouped.rows v r (slice_get_within s.volumes v r e))
@@ -55,17 +56,16 @@ pub made_stands : {D : Type 0} (told : D → Option (List (List ℕ))) (s : Plan
     → p ≡ record { groups = groups; set = 0; volumes = [] } → AreWhole p.groups → AreFirst s x → (AreFresh told s groups → AreGroups told s p.groups (map (λ (r : VolumeRow). fresh) s.volumes))
     → Stands told (world_of p x l e) s []
 made_stands {D = D} told s groups p x l e plan new is whole begun stand =
-    let of = made_of told s groups p x l e plan new is whole begun in
     let sets : length x.sets ≡ 0 = ap length begun.keeps.sets in
     let posts = begun.posts in
     let clock = begun.clock in
     record {
-      at = stands_at told p x l e s (start s) of.groups (record {
-        groups = stand (fresh_groups told s groups plan new);
+      at = record {
+        groups = subst (AreGroups told s p.groups) (sym (no_set_provided (start s) refl)) (stand (fresh_groups told s groups plan new));
         prepared = record { volumes = ap (λ (z : ProviderValue D). z.volumes) is; set = ap (λ (z : ProviderValue D). z.set) is; distinct = ap (λ (z : ProviderValue D). are_distinct z.volumes) is };
         sessions = begun.keeps;
         plan = record { sets = tt; agenda = tt; members = tt; disabled = tt };
-      });
+      };
       sets = omega (arith, sets);
       posts = omega (arith, posts);
       early = omega (arith, clock);

@@ -27,7 +27,7 @@ use Rattle.sessions.specs.Moves.{IsMove, IsWait, after_move, event_volumes, imag
 use Rattle.sessions.specs.declared.session_move.SessionMove.{SessionMove}
 use Rattle.sessions.proofs.Newest.{length_bare}
 use Rattle.vss_world.specs.Devices.{tells_of}
-use Rattle.vss_world.specs.Settling.{IsSettled}
+use Rattle.vss_world.specs.Changes.{IsSettled}
 use Rattle.vss_world.specs.Stands.{IsOf, IsInPlan, IsPrepared, number_prepared, IsStanding, IfStands}
 use Rattle.vss_world.specs.Moves.{IsMoved, IsBlocked}
 use Rattle.vss_world.proofs.Moved.{world_of, IsProviderAt, OfDevices, Goes, in_order, moved, clean_devices}

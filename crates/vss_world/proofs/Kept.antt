@@ -2,10 +2,12 @@
 use Rattle.std.proofs.Common.{◌≡◌, ℕ, ◌+◌, List, [], ◌∷◌, refl, ap, ◌∙◌, arith, Bool, true, false, ◌&&◌, ◌||◌, ◌==◌, Option, Some, None}
 use Rattle.std.specs.Prelude.{find, if◌then◌else◌, is_some}
 use Rattle.std.specs.List.{list_any}
+use Rattle.std.proofs.lemmas.Bool.{both_ways, eqb-true}
 use Rattle.write_history.specs.History.{point_in}
 use Rattle.vss_model.specs.State.{State, SetRow, kept_of, kept_at, kept_if, kept_image, is_kept_set, is_complete, row_of, history_of}
 use Rattle.vss_model.specs.Facts.{NumberedFrom}
-use Rattle.vss_world.proofs.OnProvided.{none_later, number_is, not_both}
+use Rattle.vss_world.proofs.Options.{none_is, some_is}
+use Rattle.vss_model.proofs.Rows.{none_below}
 
 not_kept : (rows : List SetRow) (n : ℕ) (o : Option ℕ) → list_any (λ r. (r.number == n) && is_complete r.result) rows ≡ false → kept_of (find (λ r. r.number == n) rows) o ≡ None
 not_kept [] n o no_set = refl
@@ -30,10 +32,6 @@ no_point (Some r) = by_test (is_complete r.result)
     by_test true = refl
     by_test false = refl
 
-none_is : (o : Option ℕ) → is_some o ≡ false → o ≡ None
-none_is None e = refl
-none_is (Some n) e = cc
-
 -- an image that does not stand is not kept
 pub not_standing : (st : State) (n v : ℕ) → is_some (point_in n (history_of st v).images) ≡ false → kept_image st n v ≡ None
 not_standing st n v e = ap (kept_of (row_of st n)) (none_is (point_in n (history_of st v).images) e) ∙ no_point (row_of st n)
@@ -50,12 +48,12 @@ complete_row m n (r ∷ rows) numbered is = by_test (r.number == n) (is_complete
   where
     by_test : (t c : Bool) → (r.number == n) ≡ t → is_complete r.result ≡ c → ((t && c) || list_any (λ r. (r.number == n) && is_complete r.result) rows) ≡ true
         → (list_any (λ r. (r.number == n) && is_complete r.result) rows ≡ true → IsRow rows n) → IsRow (r ∷ rows) n
-    by_test true true f e h more = record { row = r; found = ap (λ (t : Bool). if t then Some r else find (λ r. r.number == n) rows) f; complete = e; number = number_is r.number n f }
+    by_test true true f e h more = record { row = r; found = ap (λ (t : Bool). if t then Some r else find (λ r. r.number == n) rows) f; complete = e; number = eqb-true r.number n f }
     by_test true false f e h more =
         let here = numbered.0 in
-        let same = number_is r.number n f in
-        let none = none_later (m + 1) n rows numbered.1 (omega (arith, here, same)) in
-        absurd (not_both (list_any (λ r. (r.number == n) && is_complete r.result) rows) h none)
+        let same = eqb-true r.number n f in
+        let none = none_below (m + 1) n rows numbered.1 (omega (arith, here, same)) in
+        absurd (both_ways (list_any (λ r. (r.number == n) && is_complete r.result) rows) none h)
     by_test false c f e h more =
         let rest = more h in
         record { row = rest.row; found = ap (λ (t : Bool). if t then Some r else find (λ r. r.number == n) rows) f ∙ rest.found; complete = rest.complete; number = rest.number }
@@ -72,10 +70,6 @@ pub record IsKept (st : State) (n v : ℕ) : Type 0 where
   pub complete : is_complete row.result ≡ true
   pub number : row.number ≡ n
   pub stands : point_in n (history_of st v).images ≡ Some point
-
-pub some_is : (o : Option ℕ) → is_some o ≡ true → (p : ℕ) × (o ≡ Some p)
-some_is None e = cc
-some_is (Some p) e = (p, refl)
 
 pub kept_is : (st : State) (n v : ℕ) → NumberedFrom 1 st.sets → is_kept_set st n ≡ true → is_some (point_in n (history_of st v).images) ≡ true → IsKept st n v
 kept_is st n v numbered is has =

@@ -1,29 +1,24 @@
 -- Which images of a volume are kept: all of them but the newest, where its set is in progress.
 use Rattle.std.proofs.Common.{◌≡◌, ℕ, zero, suc, ◌+◌, ◌<◌, List, [], ◌∷◌, length, refl, ap, sym, ◌∙◌, arith, Bool, true, false, ◌&&◌, ◌||◌, ◌==◌, take}
-use Rattle.std.specs.Prelude.{filter, not, if◌then◌else◌, slice_index, slice_get}
+use Rattle.std.specs.Prelude.{filter, not, if◌then◌else◌, slice_index}
 use Rattle.std.specs.List.{list_any}
+use Rattle.std.proofs.lemmas.Bool.{both_ways, cond-true, cond_both, eqb-true}
+use Rattle.std.proofs.lemmas.List.{length-map}
 use Rattle.vss_names.specs.declared.set_outcome.SetOutcome.{SetOutcome}
 use Rattle.vss_names.specs.declared.set_outcome.SetOutcome.TheVariants.{Running, Complete, Failed}
 use Rattle.write_history.specs.History.{Image, History, sets_of, AreLater, AreInTime}
 use Rattle.scenario.specs.Plan.{Plan}
-use Rattle.vss_model.specs.State.{State, SetRow, is_running, is_complete, is_kept_set, kept, history_in, history_of}
-use Rattle.vss_model.specs.Facts.{NumberedFrom, OverButNewest, AreLive, AllLive, is_live, has_failed}
+use Rattle.vss_model.specs.State.{State, SetRow, is_running, is_complete, is_kept_set, kept, history_of}
+use Rattle.vss_model.specs.Facts.{NumberedFrom, OverButNewest, AreLive, is_live, has_failed}
 use Rattle.vss_model.specs.Acts.{Act, state}
 use Rattle.vss_model.proofs.OrderlyActs.{orderly}
+use Rattle.vss_model.proofs.Failures.{live_at, no_live_below}
 use Rattle.vss_model.proofs.OneCut.{images_in_time}
 use Rattle.vss_model.proofs.NewestImage.{UpTo, images_up_to}
 use Rattle.vss_model.proofs.Orderly.{live-filter}
 use Rattle.provider.specs.Groups.{history_at}
 use Rattle.vss_world.specs.Provided.{provided}
-use Rattle.vss_world.proofs.OnProvided.{on_provided, kept_at, apart, number_is, not_both}
-use Rattle.vss_world.proofs.SetGoesOn.{skip}
-use Rattle.vss_world.proofs.Losing.{keep}
-
-no_live : (m n : ℕ) (rows : List SetRow) → NumberedFrom m rows → n < m → is_live rows n ≡ false
-no_live m n [] numbered l = refl
-no_live m n (r ∷ rows) numbered l =
-    let here = numbered.0 in
-    skip (r.number == n) (not (has_failed r.result)) (is_live rows n) (apart n r.number (omega (arith, here, l))) ∙ no_live (m + 1) n rows numbered.1 (omega (arith, l))
+use Rattle.vss_world.proofs.OnProvided.{on_provided, kept_at}
 
 over_live : (o : SetOutcome) → is_running o ≡ false → has_failed o ≡ false → is_complete o ≡ true
 over_live Running e f = cc
@@ -37,7 +32,7 @@ older_complete m n [] numbered over live l = cc
 older_complete m n (r ∷ []) numbered over live l = by_test (r.number == n) refl live
   where
     by_test : (t : Bool) → (r.number == n) ≡ t → ((t && not (has_failed r.result)) || false) ≡ true → ((r.number == n) && is_complete r.result) || false ≡ true
-    by_test true e h = let here = numbered.0 in let same = number_is r.number n e in absurd (omega (arith, here, same, l))
+    by_test true e h = let here = numbered.0 in let same = eqb-true r.number n e in absurd (omega (arith, here, same, l))
     by_test false e h = cc
 older_complete m n (r ∷ q ∷ rows) numbered over live l = by_test (r.number == n) (has_failed r.result) refl refl live (λ h. older_complete (m + 1) n (q ∷ rows) numbered.1 over.1 h (omega (arith, l)))
   where
@@ -49,9 +44,9 @@ older_complete m n (r ∷ q ∷ rows) numbered over live l = by_test (r.number =
         ∙ ap (λ (t : Bool). t || list_any (λ r. (r.number == n) && is_complete r.result) (q ∷ rows)) (over_live r.result over.0 f)
     by_test true true e f h rest =
         let here = numbered.0 in
-        let same = number_is r.number n e in
-        let none = no_live (m + 1) n (q ∷ rows) numbered.1 (omega (arith, here, same)) in
-        absurd (not_both (is_live (q ∷ rows) n) h none)
+        let same = eqb-true r.number n e in
+        let none = no_live_below (m + 1) n (q ∷ rows) numbered.1 (omega (arith, here, same)) in
+        absurd (both_ways (is_live (q ∷ rows) n) none h)
     by_test false c e f h rest = ap (λ (t : Bool). (t && is_complete r.result) || list_any (λ r. (r.number == n) && is_complete r.result) (q ∷ rows)) e ∙ rest h
 
 last_if : (t b : Bool) (i : Image) → t ≡ b → (if t then i ∷ [] else []) ≡ (if b then i ∷ [] else [])
@@ -74,17 +69,13 @@ kept_by_newest st writes (i ∷ j ∷ images) (suc k) b numbered over live times
     let most = up.1.0 in
     let old : is_kept_set st i.set ≡ true = older_complete 1 i.set st.sets numbered over live.0 (omega (arith, later, most)) in
     let rest = kept_by_newest st writes (j ∷ images) k b numbered over live.1 times.2 up.1 (omega (arith, long)) is in
-    keep (is_kept_set st i.set) i (filter (λ i. is_kept_set st i.set) (j ∷ images)) old ∙ ap (λ (xs : List Image). i ∷ xs) rest ∙ behind b i (j ∷ images) (take k (j ∷ images))
+    cond-true (is_kept_set st i.set) (i ∷ filter (λ i. is_kept_set st i.set) (j ∷ images)) (filter (λ i. is_kept_set st i.set) (j ∷ images)) old
+    ∙ ap (λ (xs : List Image). i ∷ xs) rest ∙ behind b i (j ∷ images) (take k (j ∷ images))
 
 sets_taken : (k : ℕ) (images : List Image) → sets_of (take k images) ≡ take k (sets_of images)
 sets_taken zero images = refl
 sets_taken (suc k) [] = refl
 sets_taken (suc k) (i ∷ images) = ap (λ (ns : List ℕ). i.set ∷ ns) (sets_taken k images)
-
-live_at : (rows : List SetRow) (hs : List History) (v : ℕ) → AllLive rows hs → AreLive rows (history_in (slice_get hs v)).images
-live_at rows [] v live = tt
-live_at rows (h ∷ hs) zero live = live.0
-live_at rows (h ∷ hs) (suc v) live = live_at rows hs v live.1
 
 decided : (b : Bool) (images : List Image) (k : ℕ) → sets_of (if b then images else take k images) ≡ (if b then sets_of images else take k (sets_of images))
 decided true images k = refl
@@ -92,29 +83,22 @@ decided false images k = sets_taken k images
 
 -- ## without the images of a set
 
-later_filter : (test : Image → Bool) (i : Image) (images : List Image) → AreLater i images → AreLater i (filter test images)
+pub later_filter : (test : Image → Bool) (i : Image) (images : List Image) → AreLater i images → AreLater i (filter test images)
 later_filter test i [] h = tt
-later_filter test i (j ∷ images) h = by_test (test j) (later_filter test i images h.2)
-  where
-    by_test : (b : Bool) → AreLater i (filter test images) → AreLater i (if b then j ∷ filter test images else filter test images)
-    by_test true rest = (h.0, h.1, rest)
-    by_test false rest = rest
+later_filter test i (j ∷ images) h =
+    let rest = later_filter test i images h.2 in
+    cond_both (test j) (j ∷ filter test images) (filter test images) (AreLater i) (λ e. (h.0, h.1, rest)) (λ e. rest)
 
 pub in_time_filter : (test : Image → Bool) (writes : ℕ) (images : List Image) → AreInTime writes images → AreInTime writes (filter test images)
 in_time_filter test writes [] h = tt
-in_time_filter test writes (i ∷ images) h = by_test (test i) (in_time_filter test writes images h.2)
-  where
-    by_test : (b : Bool) → AreInTime writes (filter test images) → AreInTime writes (if b then i ∷ filter test images else filter test images)
-    by_test true rest = (h.0, later_filter test i images h.1, rest)
-    by_test false rest = rest
+in_time_filter test writes (i ∷ images) h =
+    let rest = in_time_filter test writes images h.2 in
+    cond_both (test i) (i ∷ filter test images) (filter test images) (AreInTime writes) (λ e. (h.0, later_filter test i images h.1, rest)) (λ e. rest)
 
 pub up_to_filter : (test : Image → Bool) (n : ℕ) (images : List Image) → UpTo n images → UpTo n (filter test images)
 up_to_filter test n [] h = tt
-up_to_filter test n (i ∷ images) h = by_test (test i) (up_to_filter test n images h.1)
-  where
-    by_test : (b : Bool) → UpTo n (filter test images) → UpTo n (if b then i ∷ filter test images else filter test images)
-    by_test true rest = (h.0, rest)
-    by_test false rest = rest
+up_to_filter test n (i ∷ images) h =
+    let rest = up_to_filter test n images h.1 in cond_both (test i) (i ∷ filter test images) (filter test images) (UpTo n) (λ e. (h.0, rest)) (λ e. rest)
 
 -- images of sets that were started and have not failed, in time
 record AreOf (rows : List SetRow) (writes : ℕ) (images : List Image) : Type 0 where
@@ -138,13 +122,9 @@ kept_sets_are s acts v k sets b are long is =
       times = in_time_filter (test r) writes is (images_in_time s acts v);
       up = up_to_filter (test r) (length st.sets) is (images_up_to st.sets st.volumes v o.numbered o.live);
     }) in
-    let count : length sets ≡ length images = ap length are ∙ length_sets images in
+    let count : length sets ≡ length images = ap length are ∙ length-map images (λ (i : Image). i.set) in
     let decides = kept_by_newest st writes images k b o.numbered o.newest of.live of.times of.up (long ∙ count) (ap (λ (ns : List ℕ). is_kept_set st (slice_index ns k)) (sym are) ∙ sym is) in
     ap (λ (ns : List ℕ). if b then ns else take k ns) are ∙ sym (decided b images k) ∙ ap sets_of (sym decides) ∙ ap sets_of (kept_at st v o.numbered)
-  where
-    length_sets : (images : List Image) → length (sets_of images) ≡ length images
-    length_sets [] = refl
-    length_sets (i ∷ images) = ap (λ n. suc n) (length_sets images)
 
 -- where the provider has none, none is kept
 pub no_sets : (s : Plan) (acts : List Act) (v : ℕ) (sets : List ℕ) → sets ≡ sets_of (history_at (provided (state s acts)) v).images → length sets ≡ 0
@@ -154,11 +134,8 @@ no_sets s acts v sets are none =
     by_images (history_at (provided st) v) sets are none ∙ ap sets_of (kept_at st v (orderly s acts).numbered)
   where
     by_images : (h : History) (sets : List ℕ) → sets ≡ sets_of h.images → length sets ≡ 0 → sets ≡ sets_of (kept (state s acts) h)
-    by_images h sets e f = of_list h.images sets e f
+    by_images h sets e f = of_list h.images e
       where
-        of_list : (images : List Image) (sets : List ℕ) → sets ≡ sets_of images → length sets ≡ 0 → sets ≡ sets_of (filter (λ i. is_kept_set (state s acts) i.set) images)
-        of_list [] sets e f = e
-        of_list (i ∷ images) sets e f = absurd (some_sets (length (sets_of images)) (sym (ap length e) ∙ f))
-          where
-            some_sets : (n : ℕ) → suc n ≡ 0 → ⊥
-            some_sets n g = omega (arith, g)
+        of_list : (images : List Image) → sets ≡ sets_of images → sets ≡ sets_of (filter (λ i. is_kept_set (state s acts) i.set) images)
+        of_list [] e = e
+        of_list (i ∷ images) e = let long = ap length e in absurd (omega (arith, long, f))

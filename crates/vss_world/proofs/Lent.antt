@@ -1,15 +1,15 @@
 -- What was lent is told as it is, and nothing changes.
-use Rattle.std.proofs.Common.{◌≡◌, ℕ, List, refl, sym, ◌∙◌, subst, true, Some, None}
+use Rattle.std.proofs.Common.{◌≡◌, ℕ, List, refl, subst, Option, None}
 use Rattle.std.specs.Prelude.{take}
 use Rattle.volume_device.specs.declared.device.Device.{Ghosts}
 use Rattle.block_data.specs.Digest.{sha256}
 use Rattle.scenario.specs.Plan.{Plan}
 use Rattle.vss_model.specs.declared.told.Told.TheVariants as told
-use Rattle.provider.specs.Calls.{IsNow, IsShown, HasImage}
+use Rattle.provider.specs.Calls.{IsShown}
 use Rattle.provider.specs.Preparing.{ProviderValue}
 use Rattle.provider.proofs.Kept.{kept_same}
 use Rattle.vss_world.specs.declared.fingerprint.Fingerprint.{Fingerprint}
-use Rattle.vss_world.specs.Reading.{IsFingerprint, IsWide, IsReading, IsBlockSeen, IsSeenIf, AreNow, AreShown}
+use Rattle.vss_world.specs.Reading.{IsFingerprint, IsWide, IsReading, IsBlockSeen}
 
 pub reading_itself : {D : Type 0} (device : Ghosts D) (s : Plan) (p : ProviderValue D) (v : ℕ) → IsReading device s p p v None
 reading_itself device s p v = record {
@@ -18,29 +18,15 @@ reading_itself device s p v = record {
   rest = refl;
 }
 
-pub lent_now : {D : Type 0} (device : Ghosts D) (s : Plan) (p : ProviderValue D) (v b : ℕ) (bytes : List ℕ) (f : Fingerprint) → IsNow device.told s p.groups v b bytes → IsFingerprint bytes f
-    → IsWide f
-    → IsBlockSeen device s p p v (AreNow v b) (told.Block f.first f.digest)
-lent_now device s p v b bytes f now exact wide = (
+pub lent_told : {D : Type 0} (device : Ghosts D) (s : Plan) (p : ProviderValue D) (v : ℕ) (set : Option ℕ) (b : ℕ) (bytes : List ℕ) (f : Fingerprint) → IsShown device.told s p.groups v set b bytes
+    → IsFingerprint bytes f → IsWide f → IsBlockSeen device s p p v set b (told.Block f.first f.digest)
+lent_told device s p v set b bytes f shown exact wide = (
   reading_itself device s p v,
   record {
-    exact = λ tells hs are bs is. let same = now tells hs are
-        ∙ sym is in record { first = subst (λ (x : List ℕ). f.first ≡ take 8 x) same exact.first; digest = subst (λ (x : List ℕ). f.digest ≡ sha256 x) same exact.digest };
+    exact = λ tells hs are point is. let same = shown tells hs are point is in record {
+      first = subst (λ (x : List ℕ). f.first ≡ take 8 x) same exact.first;
+      digest = subst (λ (x : List ℕ). f.digest ≡ sha256 x) same exact.digest;
+    };
     wide = record { first = wide.first; first_bytes = wide.first_bytes; digest = wide.digest; digest_bytes = wide.digest_bytes };
   },
-)
-
-pub lent_shown : {D : Type 0} (device : Ghosts D) (s : Plan) (p : ProviderValue D) (v set b : ℕ) (bytes : List ℕ) (f : Fingerprint) → HasImage device.told s p.groups v set true
-    → IsShown device.told s p.groups v set b bytes → IsFingerprint bytes f → IsWide f
-    → IsSeenIf device.told s p p v set (IsBlockSeen device s p p v (AreShown v set b)) (Some (told.Block f.first f.digest))
-lent_shown device s p v set b bytes f has shown exact wide = (
-  has,
-  (
-    reading_itself device s p v,
-    record {
-      exact = λ tells hs are bs is. let same = shown tells hs are is.0 is.1
-          ∙ sym is.2 in record { first = subst (λ (x : List ℕ). f.first ≡ take 8 x) same exact.first; digest = subst (λ (x : List ℕ). f.digest ≡ sha256 x) same exact.digest };
-      wide = record { first = wide.first; first_bytes = wide.first_bytes; digest = wide.digest; digest_bytes = wide.digest_bytes };
-    },
-  ),
 )

@@ -1,6 +1,6 @@
+pub mod Options
 pub mod OnProvided
 pub mod Tied
-pub mod Ends
 pub mod Moved
 pub mod Simple
 pub mod Kept

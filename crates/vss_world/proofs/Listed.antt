@@ -27,12 +27,7 @@ lists_then tells _ t listed rows fits lists = tt
 -- the core with another list stands for the same
 stands_with : {D : Type 0} (blocks_told : D → Option (List (List ℕ))) (s : Plan) (w : WorldValue D) (listed : List ℕ) (acts : List Act) → Stands blocks_told w s acts
     → Stands blocks_told (record w { listed = listed }) s acts
-stands_with blocks_told s w listed acts stands = record {
-  at = record { groups = stands.at.groups; prepared = stands.at.prepared; sessions = stands.at.sessions; plan = stands.at.plan; holds = stands.at.holds };
-  sets = stands.sets;
-  posts = stands.posts;
-  early = stands.early;
-}
+stands_with blocks_told s w listed acts stands = record { at = stands.at; sets = stands.sets; posts = stands.posts; early = stands.early }
 
 pub listed_so : {D : Type 0} (blocks_told : D → Option (List (List ℕ))) (count : D → ℕ) (s : Plan) (event : Event) (answer : Answer) (old new : WorldValue D)
     → IsStepped blocks_told count old new s event answer

@@ -1,12 +1,13 @@
 -- Each line that looks at volumes or images, against the definitions.
 use Rattle.std.proofs.Common.{◌≡◌, ℕ, ◌<◌, List, [], length, refl, ap, sym, ◌∙◌, subst, Bool, true, false, Option, Some, None}
 use Rattle.std.specs.Prelude.{is_some, unwrap_or, option_map}
-use Rattle.std.specs.List.{concat}
+use Rattle.std.proofs.lemmas.Bool.{true_from_ne_false}
+use Rattle.std.proofs.lemmas.Option.{none-some}
 use Rattle.volume_device.specs.declared.device.Device.{Ghosts}
 use Rattle.vss_names.specs.declared.vss_result.VssResult.TheVariants.{ObjectNotFound}
 use Rattle.write_history.specs.declared.evicted.Evicted.{Evicted}
 use Rattle.write_history.specs.declared.mark.Mark.TheVariants.{Clean}
-use Rattle.write_history.specs.History.{Write, content, contents, point_in, sets_of}
+use Rattle.write_history.specs.History.{Write, point_in, sets_of}
 use Rattle.write_history.specs.Slots.{used_by}
 use Rattle.scenario.specs.declared.op.Op.{Op}
 use Rattle.scenario.specs.declared.op.Op.TheVariants.{Read, ImageDigest, ImageBlock, Query, Properties}
@@ -25,7 +26,7 @@ use Rattle.sessions.specs.Keeps.{SessionsValue}
 use Rattle.vss_world.specs.Stands.{WorldValue, IsOf, Stands, IfStands}
 use Rattle.vss_world.specs.Moves.{IsMoved, simple_outcome}
 use Rattle.vss_world.specs.Provided.{provided}
-use Rattle.vss_world.specs.Reading.{IsBlockSeen, IsDigestSeen, AreNow, AreShown, AllShown}
+use Rattle.vss_world.specs.Reading.{IsBlockSeen, IsDigestSeen}
 use Rattle.provider.specs.Calls.{HasImage}
 use Rattle.sessions.specs.Keeps.{Keeps}
 use Rattle.sessions.specs.Sets.{facts_of}
@@ -34,6 +35,7 @@ use Rattle.vss_model.proofs.OneCut.{row_number}
 use Rattle.provider.specs.Groups.{IfStandFor}
 use Rattle.provider.specs.Groups.{history_at as provided_at}
 use Rattle.vss_model.specs.State.{is_kept_set}
+use Rattle.vss_world.proofs.Options.{none_is, some_is}
 use Rattle.vss_world.proofs.Kept.{not_complete, not_standing, kept_is}
 use Rattle.vss_world.proofs.Moved.{world_of, in_order}
 use Rattle.vss_world.proofs.OnProvided.{writes_at, point_at}
@@ -62,21 +64,9 @@ image_parts st n v (Some r) p k e f g = by_test (is_complete r.result) p refl f 
 pub of_image : (st : State) (n v : ℕ) (k : Kept) → kept_image st n v ≡ Some k → IsOfImage st n v k
 of_image st n v k e = image_parts st n v (row_of st n) (point_in n (history_of st v).images) k refl refl e
 
-pub some_kept : (o : Option Kept) → is_some o ≡ true → (k : Kept) × (o ≡ Some k)
-some_kept None e = cc
-some_kept (Some k) e = (k, refl)
-
-pub no_kept : (o : Option Kept) → is_some o ≡ false → o ≡ None
-no_kept None e = refl
-no_kept (Some k) e = cc
-
 -- the set of an image that is kept is complete
 set_complete : (st : State) (n v : ℕ) (k : Kept) → kept_image st n v ≡ Some k → is_kept_set st n ≡ true
-set_complete st n v k e = by_test (is_kept_set st n) refl
-  where
-    by_test : (t : Bool) → is_kept_set st n ≡ t → t ≡ true
-    by_test true f = refl
-    by_test false f = let none : None ≡ Some k = sym (not_complete st n v f) ∙ e in cc
+set_complete st n v k e = true_from_ne_false (is_kept_set st n) (λ f. none-some k (sym (not_complete st n v f) ∙ e))
 
 -- the provider has an image that is kept
 pub provided_point : (s : Plan) (acts : List Act) (n v : ℕ) (k : Kept) → kept_image (state s acts) n v ≡ Some k → point_in n (provided_at (provided (state s acts)) v).images ≡ Some k.point
@@ -154,13 +144,13 @@ properties_line {s = s} {v = v} = record {
 -- ## moves
 
 module _ {D : Type 0} (device : Ghosts D) {s : Plan} {p : ProviderValue D} {x : SessionsValue} {l : List ℕ} {e f : List Evicted} (of : IsOf (world_of p x l e) s) (none : f ≡ []) where
-  pub read_moves : {lane v b : ℕ} {answer : Told} {q : ProviderValue D} → IsBlock s v b → IsBlockSeen device s p q v (AreNow v b) answer
+  pub read_moves : {lane v b : ℕ} {answer : Told} {q : ProviderValue D} → IsBlock s v b → IsBlockSeen device s p q v None b answer
       → IsMoved device.told device.count (world_of p x l e) (world_of q x l f) s (Line lane (Read v b)) (simple_outcome answer)
   read_moves {v = v} {b = b} {answer = answer} within seen =
-      block_moves device of none (record { on = λ st. refl; clean = λ st. refl; none = λ st. refl; nobody = λ st. refl }) refl answer within.0
+      block_moves device of none (record { on = λ st. refl; clean = λ st. refl; none = λ st. refl; nobody = λ st. refl }) refl b answer within.0
       (λ acts stands. let st = state s acts in record {
-        shown = content (history_of st v).writes (length (history_of st v).writes) b;
-        are_so = ap (λ (ws : List Write). content ws (length ws) b) (sym (writes_at st v));
+        point = length (history_of st v).writes;
+        is_point = ap (λ (ws : List Write). length ws) (sym (writes_at st v));
         reads = λ mark. refl;
         faults = refl;
       }) seen
@@ -185,7 +175,7 @@ module _ {D : Type 0} (device : Ghosts D) {s : Plan} {p : ProviderValue D} {x : 
   pub not_kept_moves : {lane n v : ℕ} {op : Op} {b : Bool} → IsOnImage s lane n v op → IsKeptIf device.told (world_of p x l e) s n v b → b ≡ false
       → IsMoved device.told device.count (world_of p x l e) (world_of p x l f) s (Line lane op) (simple_outcome (told.Result ObjectNotFound))
   not_kept_moves {n = n} {v = v} on is not_so =
-      refused_moves device of none ObjectNotFound on.plain (λ acts stands. on.absent (state s acts) (no_kept (kept_image (state s acts) n v) (is acts stands ∙ not_so)))
+      refused_moves device of none ObjectNotFound on.plain (λ acts stands. on.absent (state s acts) (none_is (kept_image (state s acts) n v) (is acts stands ∙ not_so)))
 
   -- where the provider does not have it
   pub absent_moves : {lane n v : ℕ} {op : Op} {q : ProviderValue D} → IsOnImage s lane n v op → HasImage device.told s p.groups v n false → q ≡ p
@@ -195,25 +185,25 @@ module _ {D : Type 0} (device : Ghosts D) {s : Plan} {p : ProviderValue D} {x : 
       (not_kept_moves on (none_stands n v has) refl)
 
   pub image_moves : {lane n v b : ℕ} {c : Bool} {answer : Told} {q : ProviderValue D} → IsBlock s v b → IsKeptIf device.told (world_of p x l e) s n v c → c ≡ true
-      → IsBlockSeen device s p q v (AreShown v n b) answer
+      → IsBlockSeen device s p q v (Some n) b answer
       → IsMoved device.told device.count (world_of p x l e) (world_of q x l f) s (Line lane (ImageBlock n v b)) (simple_outcome answer)
   image_moves {n = n} {v = v} {b = b} {answer = answer} within is so seen =
-      block_moves device of none (block_line {n = n} {v = v} {b = b}).plain refl answer within.0
-      (λ acts stands. let st = state s acts in let k = some_kept (kept_image st n v) (is acts stands ∙ so) in record {
-        shown = content (history_of st v).writes k.0.point b;
-        are_so = (k.0.point, provided_point s acts n v k.0 k.1, ap (λ (ws : List Write). content ws k.0.point b) (sym (writes_at st v)));
+      block_moves device of none (block_line {n = n} {v = v} {b = b}).plain refl b answer within.0
+      (λ acts stands. let st = state s acts in let k = some_is (kept_image st n v) (is acts stands ∙ so) in record {
+        point = k.0.point;
+        is_point = provided_point s acts n v k.0 k.1;
         reads = λ mark. ap (λ (o : Option Kept). image_block v b o mark st) k.1;
         faults = is acts stands ∙ so;
       }) seen
 
   pub image_digest_moves : {lane n v : ℕ} {c : Bool} {answer : Told} {q : ProviderValue D} → v < length s.volumes → IsKeptIf device.told (world_of p x l e) s n v c → c ≡ true
-      → IsDigestSeen device s p q v (AllShown s v n) answer
+      → IsDigestSeen device s p q v (Some n) answer
       → IsMoved device.told device.count (world_of p x l e) (world_of q x l f) s (Line lane (ImageDigest n v)) (simple_outcome answer)
   image_digest_moves {n = n} {v = v} {answer = answer} within is so seen =
-      digest_moves device of none (digest_line {n = n} {v = v}).plain refl answer within
-      (λ acts stands. let st = state s acts in let k = some_kept (kept_image st n v) (is acts stands ∙ so) in record {
-        shown = contents (blocks_of s v) (history_of st v).writes k.0.point;
-        are_so = (k.0.point, provided_point s acts n v k.0 k.1, ap (λ (ws : List Write). concat (contents (blocks_of s v) ws k.0.point)) (sym (writes_at st v)));
+      digest_moves device of none {set = Some n} (digest_line {n = n} {v = v}).plain refl answer within
+      (λ acts stands. let st = state s acts in let k = some_is (kept_image st n v) (is acts stands ∙ so) in record {
+        point = k.0.point;
+        is_point = provided_point s acts n v k.0 k.1;
         reads = λ mark. ap (λ (o : Option Kept). image_blocks s v o mark st) k.1;
         faults = is acts stands ∙ so;
       }) seen
@@ -226,7 +216,7 @@ module _ {D : Type 0} (device : Ghosts D) {s : Plan} {p : ProviderValue D} {x : 
       answered_moves device of none (told.Properties facts.context cut used) (properties_line {n = n} {v = v}).plain refl
       (λ acts stands.
       let st = state s acts in
-      let k = some_kept (kept_image st n v) (is acts stands ∙ so) in
+      let k = some_is (kept_image st n v) (is acts stands ∙ so) in
       let of_it = of_image st n v k.0 k.1 in
       let row : facts ≡ facts_of k.0.row = (let h = told_facts st stands.at.sessions ∙ ap (option_map facts_of) of_it.row_is in cc) in
       let number : k.0.row.number ≡ n = row_number n st.sets k.0.row of_it.row_is in

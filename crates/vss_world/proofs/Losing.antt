@@ -1,14 +1,15 @@
 -- For a write the image of the set in progress goes just where the sets go up to it.
 use Rattle.std.proofs.Common.{◌≡◌, ℕ, zero, suc, ◌+◌, ◌<◌, ◌≤◌, ◌==◌, List, [], ◌∷◌, refl, ap, sym, ◌∙◌, arith, Bool, true, false, Option, Some, None, slice_get}
-use Rattle.std.specs.Prelude.{◌&&◌, ◌||◌, not, find, nat_lt, is_some, unwrap_or, if◌then◌else◌}
+use Rattle.std.specs.Prelude.{◌&&◌, not, find, nat_lt, is_some, unwrap_or, if◌then◌else◌}
 use Rattle.std.specs.List.{range_with_len}
 use Rattle.std.proofs.lemmas.Bool.Decides.{nat_tests}
+use Rattle.std.proofs.lemmas.Bool.{cond-false, cond-true, eqb-true, le-ltb, lt-ltb, or_from, or_parts}
 use Rattle.write_history.specs.History.{Image, History, point_in, after_set}
 use Rattle.write_history.specs.Slots.{Placed, gone_up_to, needs_slot_in, lacks_slot, group_used, evicted_up_to}
 use Rattle.vss_model.specs.State.{has_image}
 use Rattle.vss_model.specs.Images.{has_lost_image}
 use Rattle.vss_model.proofs.NewestImage.{UpTo}
-use Rattle.set_agenda.proofs.Closings.{neither as or_parts}
+use Rattle.set_agenda.proofs.WriterSets.{and-true}
 
 -- no image of these volumes is of a set after n
 abbrev pub AllUpTo : ℕ → List History → Type 0
@@ -17,27 +18,10 @@ AllUpTo n (h ∷ hs) = UpTo n h.images × AllUpTo n hs
 
 -- ## one history
 
-lt_yes : (a b : ℕ) → a < b → nat_lt a b ≡ true
-lt_yes a b l = grind (arith, nat_tests)
-
-lt_no : (a b : ℕ) → b ≤ a → nat_lt a b ≡ false
-lt_no a b l = grind (arith, nat_tests)
-
-eq_is : (a b : ℕ) → (a == b) ≡ true → a ≡ b
-eq_is a b e = grind (arith, nat_tests)
-
-skip : (b : Bool) (i : Image) (xs : List Image) → b ≡ false → (if b then i ∷ xs else xs) ≡ xs
-skip true i xs e = cc
-skip false i xs e = refl
-
-pub keep : (b : Bool) (i : Image) (xs : List Image) → b ≡ true → (if b then i ∷ xs else xs) ≡ i ∷ xs
-keep true i xs e = refl
-keep false i xs e = cc
-
 -- beyond the greatest set nothing is left
 all_gone : (n : ℕ) (images : List Image) → UpTo n images → after_set n images ≡ []
 all_gone n [] up = refl
-all_gone n (i ∷ images) up = skip (nat_lt n i.set) i (after_set n images) (lt_no n i.set up.0) ∙ all_gone n images up.1
+all_gone n (i ∷ images) up = cond-false (nat_lt n i.set) (i ∷ after_set n images) (after_set n images) (le-ltb n i.set up.0) ∙ all_gone n images up.1
 
 if_kept : (b c : Bool) (p : ℕ) (i : Image) (n : ℕ) (xs : List Image) (o : Option ℕ) → (i.set == n) ≡ c → (c ≡ true → b ≡ true) → point_in n xs ≡ o
     → point_in n (if b then i ∷ xs else xs) ≡ (if c then Some i.point else o)
@@ -48,7 +32,8 @@ if_kept false false p i n xs o e f g = g
 -- the image of a later set stays
 pub stays : (m n : ℕ) (images : List Image) → m < n → point_in n (after_set m images) ≡ point_in n images
 stays m n [] l = refl
-stays m n (i ∷ images) l = if_kept (nat_lt m i.set) (i.set == n) i.point i n (after_set m images) (point_in n images) refl (λ e. let same = eq_is i.set n e in lt_yes m i.set (omega (arith, same, l)))
+stays m n (i ∷ images) l =
+    if_kept (nat_lt m i.set) (i.set == n) i.point i n (after_set m images) (point_in n images) refl (λ e. let same = eqb-true i.set n e in lt-ltb m i.set (omega (arith, same, l)))
     (stays m n images l)
 
 none_if : (b : Bool) (p : ℕ) (o : Option ℕ) → is_some (if b then Some p else o) ≡ false → (b ≡ false) × (is_some o ≡ false)
@@ -64,8 +49,10 @@ no_more k (i ∷ images) e =
   where
     by_test : (b : Bool) → nat_lt k i.set ≡ b → (c : Bool) → nat_lt (suc k) i.set ≡ c → (i.set == suc k) ≡ false → after_set (suc k) images ≡ after_set k images
         → (if nat_lt (suc k) i.set then i ∷ after_set (suc k) images else after_set (suc k) images) ≡ (if nat_lt k i.set then i ∷ after_set k images else after_set k images)
-    by_test true f true g h rest = keep (nat_lt (suc k) i.set) i (after_set (suc k) images) g ∙ ap (λ (xs : List Image). i ∷ xs) rest ∙ sym (keep (nat_lt k i.set) i (after_set k images) f)
-    by_test false f false g h rest = skip (nat_lt (suc k) i.set) i (after_set (suc k) images) g ∙ rest ∙ sym (skip (nat_lt k i.set) i (after_set k images) f)
+    by_test true f true g h rest = cond-true (nat_lt (suc k) i.set) (i ∷ after_set (suc k) images) (after_set (suc k) images) g
+        ∙ ap (λ (xs : List Image). i ∷ xs) rest ∙ sym (cond-true (nat_lt k i.set) (i ∷ after_set k images) (after_set k images) f)
+    by_test false f false g h rest = cond-false (nat_lt (suc k) i.set) (i ∷ after_set (suc k) images) (after_set (suc k) images) g
+        ∙ rest ∙ sym (cond-false (nat_lt k i.set) (i ∷ after_set k images) (after_set k images) f)
     by_test true f false g h rest = absurd (apart k i.set f g h)
       where
         apart : (k n : ℕ) → nat_lt k n ≡ true → nat_lt (suc k) n ≡ false → (n == suc k) ≡ false → ⊥
@@ -81,13 +68,9 @@ pub and_not : (x : Bool) → (x && not x) ≡ false
 and_not true = refl
 and_not false = refl
 
-or_false : (a b : Bool) → a ≡ false → b ≡ false → (a || b) ≡ false
-or_false true b e f = cc
-or_false false b e f = f
-
 lost_itself : (n : ℕ) (hs : List History) → has_lost_image n hs hs ≡ false
 lost_itself n [] = refl
-lost_itself n (h ∷ hs) = or_false (has_image n h && not (has_image n h)) (has_lost_image n hs hs) (and_not (has_image n h)) (lost_itself n hs)
+lost_itself n (h ∷ hs) = or_from (has_image n h && not (has_image n h)) (has_lost_image n hs hs) (and_not (has_image n h)) (lost_itself n hs)
 
 kept_if : (b : Bool) (m n : ℕ) (h : History) → m < n → (has_image n h && not (has_image n (if b then record { writes = h.writes; images = after_set m h.images } else h))) ≡ false
 kept_if true m n h l = ap (λ (o : Option ℕ). has_image n h && not (is_some o)) (stays m n h.images l) ∙ and_not (has_image n h)
@@ -97,18 +80,14 @@ kept_if false m n h l = and_not (has_image n h)
 pub not_lost : (m n : ℕ) (ps : List Placed) (hs : List History) → m < n → has_lost_image n hs (gone_up_to m ps hs) ≡ false
 not_lost m n [] hs l = lost_itself n hs
 not_lost m n (p ∷ ps) [] l = refl
-not_lost m n (p ∷ ps) (h ∷ hs) l = or_false _ (has_lost_image n hs (gone_up_to m ps hs)) (kept_if p.within m n h l) (not_lost m n ps hs l)
+not_lost m n (p ∷ ps) (h ∷ hs) l = or_from _ (has_lost_image n hs (gone_up_to m ps hs)) (kept_if p.within m n h l) (not_lost m n ps hs l)
 
 lost_if : (b : Bool) (k : ℕ) (h : History) → UpTo (suc k) h.images
     → (has_image (suc k) h && not (has_image (suc k) (if b then record { writes = h.writes; images = after_set (suc k) h.images } else h))) ≡ false
     → (if b then record { writes = h.writes; images = after_set (suc k) h.images } else h) ≡ (if b then record { writes = h.writes; images = after_set k h.images } else h)
 lost_if true k h up e =
     let t : (has_image (suc k) h && true) ≡ false = ap (λ (xs : List Image). has_image (suc k) h && not (is_some (point_in (suc k) xs))) (sym (all_gone (suc k) h.images up)) ∙ e in
-    ap (λ (xs : List Image). record { writes = h.writes; images = xs }) (no_more k h.images (first (has_image (suc k) h) t))
-  where
-    first : (x : Bool) → (x && true) ≡ false → x ≡ false
-    first true q = q
-    first false q = q
+    ap (λ (xs : List Image). record { writes = h.writes; images = xs }) (no_more k h.images (sym (and-true (has_image (suc k) h)) ∙ t))
 lost_if false k h up e = refl
 
 -- where the image of the greatest set is not lost, it is on no volume of the group
@@ -148,7 +127,7 @@ more a k l i = grind (arith, nat_tests)
 
 none_by : (t u : Bool) (f : ℕ → Bool) (a n k : ℕ) (o : Option ℕ) → f a ≡ t → (a == k) ≡ u → (if t then Some a else o) ≡ None → a ≤ k → (o ≡ None → a + 1 ≤ k → f k ≡ false) → f k ≡ false
 none_by true u f a n k o g i e l h = absurd cc
-none_by false true f a n k o g i e l h = ap f (sym (eq_is a k i)) ∙ g
+none_by false true f a n k o g i e l h = ap f (sym (eqb-true a k i)) ∙ g
 none_by false false f a n k o g i e l h = h e (more a k l i)
 
 none_found : (f : ℕ → Bool) (a n k : ℕ) → find f (range_with_len a n) ≡ None → a ≤ k → k < a + n → f k ≡ false

@@ -5,7 +5,6 @@ use Rattle.volume_device.specs.declared.device.Device.{Ghosts}
 use Rattle.writer_state.specs.declared.writer_row.WriterRow.{WriterRow}
 use Rattle.write_history.specs.declared.evicted.Evicted.{Evicted}
 use Rattle.scenario.specs.Plan.{Plan}
-use Rattle.cow_volume.specs.GroupValue.{GroupValue}
 use Rattle.vss_model.specs.declared.event.Event.{Event}
 use Rattle.vss_model.specs.declared.outcome.Outcome.{Outcome}
 use Rattle.vss_model.specs.State.{State}
@@ -16,17 +15,16 @@ use Rattle.vss_model.specs.Outcome.{IsOutcome, told_act}
 use Rattle.vss_model.proofs.Appending.{state-append}
 use Rattle.vss_model.proofs.OrderlyActs.{orderly}
 use Rattle.vss_model.proofs.Orderly.{true_not_false}
-use Rattle.provider.specs.Groups.{AreGroups, HasGroups}
+use Rattle.provider.specs.Groups.{AreGroups}
 use Rattle.provider.specs.Devices.{devices_of, counts_of, AreKept, AreLater}
 use Rattle.provider.specs.Preparing.{ProviderValue}
 use Rattle.provider.proofs.Kept.{later_same}
 use Rattle.coordinator.specs.Coordinator.{Registered}
-use Rattle.sessions.specs.Keeps.{SessionsValue, Keeps, IsInOrder, Leaves, later_by, IsOf as IsSessionsOf}
+use Rattle.sessions.specs.Keeps.{SessionsValue, IsInOrder, Leaves, later_by, IsOf as IsSessionsOf}
 use Rattle.vss_world.specs.Devices.{tells_of, RoseFor}
-use Rattle.vss_world.specs.Stands.{WorldValue, IsOf, IsInPlan, IsPrepared, StandsAt, Stands}
+use Rattle.vss_world.specs.Stands.{WorldValue, IsOf, IsPrepared, StandsAt, Stands}
 use Rattle.vss_world.specs.Provided.{provided}
 use Rattle.vss_world.specs.Moves.{IsMoved, volume_of}
-use Rattle.vss_world.proofs.Tied.{tied_so, tells_are}
 
 -- the core with these parts
 abbrev pub world_of : {D : Type 0} → ProviderValue D → SessionsValue → List ℕ → List Evicted → WorldValue D
@@ -37,26 +35,6 @@ world_of p x l e = record { devices = devices_of p.groups; listed = l; evicted =
 -- what the provider prepares at a state, and has of its volumes
 abbrev pub IsProviderAt : {D : Type 0} → (D → Option (List (List ℕ))) → Plan → ProviderValue D → State → Type 0
 IsProviderAt told s p st = IsPrepared p st × AreGroups told s p.groups (provided st)
-
-pub record Parts {D : Type 0} (told : D → Option (List (List ℕ))) (p : ProviderValue D) (x : SessionsValue) (s : Plan) (st : State) : Type 0 where
-  pub groups : AreGroups told s p.groups (provided st)
-  pub prepared : IsPrepared p st
-  pub sessions : Keeps x st
-  pub plan : IsInPlan s st
-
-pub stands_at : {D : Type 0} (told : D → Option (List (List ℕ))) (p : ProviderValue D) (x : SessionsValue) (l : List ℕ) (e : List Evicted) (s : Plan) (st : State)
-    → HasGroups s p.groups → Parts told p x s st → StandsAt told (world_of p x l e) s st
-stands_at told p x l e s st has parts = record {
-  groups = parts.groups;
-  prepared = parts.prepared;
-  sessions = parts.sessions;
-  plan = parts.plan;
-  holds = tied_so told s p.groups st has parts.groups;
-}
-
-pub parts_of : {D : Type 0} (told : D → Option (List (List ℕ))) (p : ProviderValue D) (x : SessionsValue) (l : List ℕ) (e : List Evicted) (s : Plan) (st : State)
-    → StandsAt told (world_of p x l e) s st → Parts told p x s st
-parts_of told p x l e s st stands = record { groups = stands.groups; prepared = stands.prepared; sessions = stands.sessions; plan = stands.plan }
 
 pub in_order : (s : Plan) (acts : List Act) → IsInOrder (state s acts)
 in_order s acts = let o = orderly s acts in record { numbered = o.numbered; newest = o.newest; session = o.session }
@@ -106,17 +84,13 @@ of_kept device s p q x y l k e f of kept writers = record {
   writers = writers;
 }
 
-pub tells_kept : {D : Type 0} (device : Ghosts D) (s : Plan) (old new : List (GroupValue D)) → HasGroups s old → AreKept device old new
-    → tells_of device.told s (devices_of new) ≡ tells_of device.told s (devices_of old)
-tells_kept device s old new has kept = tells_are device.told s new (kept.has s has) ∙ kept.tells s ∙ sym (tells_are device.told s old has)
-
 -- no device failed
 pub clean_devices : {D : Type 0} (device : Ghosts D) (s : Plan) (event : Event) (o : Outcome) (p q : ProviderValue D) (x y : SessionsValue) (l k : List ℕ) (e f : List Evicted)
     → IsOf (world_of p x l e) s → AreKept device p.groups q.groups → IsSessionsOf y s → counts_of device.count q.groups ≡ counts_of device.count p.groups → is_fault (mark_of o.told) ≡ false
     → OfDevices device.told device.count s event o (world_of p x l e) (world_of q y k f)
 clean_devices device s event o p q x y l k e f of kept writers same clean = record {
   is_of = of_kept device s p q x y l k e f of kept writers;
-  tells = tells_kept device s p.groups q.groups of.groups kept;
+  tells = kept.tells s;
   later = later_same (counts_of device.count p.groups) (counts_of device.count q.groups) same;
   rose = λ fault. absurd (true_not_false (is_fault (mark_of o.told)) fault clean);
   unfailed = λ no. same;
@@ -129,7 +103,7 @@ pub failed_devices : {D : Type 0} (device : Ghosts D) (s : Plan) (event : Event)
     → OfDevices device.told device.count s event o (world_of p x l e) (world_of q y k f)
 failed_devices device s event o p q x y l k e f of kept writers rose fault = record {
   is_of = of_kept device s p q x y l k e f of kept writers;
-  tells = tells_kept device s p.groups q.groups of.groups kept;
+  tells = kept.tells s;
   later = kept.later;
   rose = λ yes. rose;
   unfailed = λ clean. absurd (true_not_false (is_fault (mark_of o.told)) fault clean);
@@ -143,7 +117,7 @@ pub record Comes {D : Type 0} (told : D → Option (List (List ℕ))) (s : Plan)
   pub is_enabled : enabled s st event ≡ true
   pub is_allowed : event_allows s st event (mark_of o.told) ≡ true
   pub outcome : (rows : List WriterRow) → rows ≡ (after s st (told_act event o.told)).course.rows → IsOutcome tells s st event o listed_sets evicted_images rows
-  pub parts : Parts told q y s (after s st (told_act event o.told))
+  pub parts : StandsAt told q y s (after s st (told_act event o.told))
 
 one_more : (acts : List Act) (act : Act) → length (acts ++ act ∷ []) ≡ length acts + 1
 one_more acts act = length-append acts (act ∷ [])
@@ -167,7 +141,7 @@ moved told count s event o p q x y l k e f devices goes comes = record {
       let go_posts = goes.posts in
       let go_clock = goes.clock in
       record {
-        at = subst (λ (z : State). StandsAt told (world_of q y k f) s z) (sym more) (stands_at told q y k f s (after s (state s acts) (told_act event o.told)) devices.is_of.groups c.parts);
+        at = subst (λ (z : State). StandsAt told q y s z) (sym more) c.parts;
         sets = omega (arith, long, sets, go_sets);
         posts = omega (arith, long, posts, go_posts);
         early = omega (arith, long, early, go_clock);

@@ -2,6 +2,7 @@
 use Rattle.std.proofs.Common.{◌≡◌, ℕ, zero, suc, ◌+◌, ◌<◌, ◌≤◌, ◌==◌, List, [], ◌∷◌, ◌++◌, refl, ap, sym, ◌∙◌, subst, arith, Bool, true, false, Option, Some, None, inl, inr, map, slice_get, find}
 use Rattle.std.specs.Prelude.{not, ◌&&◌, if◌then◌else◌}
 use Rattle.std.proofs.lemmas.Bool.Decides.{nat_tests}
+use Rattle.std.proofs.lemmas.Bool.{eqb-true}
 use Rattle.volume_device.specs.declared.device.Device.{Ghosts}
 use Rattle.vss_names.specs.declared.set_outcome.SetOutcome.{SetOutcome}
 use Rattle.vss_names.specs.declared.set_outcome.SetOutcome.TheVariants.{Running, Complete, Failed}
@@ -10,7 +11,7 @@ use Rattle.set_agenda.specs.declared.group.Group.TheVariants.{Cut, Commit}
 use Rattle.set_agenda.specs.Agenda.{Agenda, plain, has_said, is_snapshot, is_among}
 use Rattle.set_agenda.specs.Begin.{are_distinct}
 use Rattle.scenario.specs.Plan.{Plan}
-use Rattle.vss_model.specs.State.{State, SetRow, in_progress, is_running, history_in, history_of}
+use Rattle.vss_model.specs.State.{State, SetRow, in_progress, is_running, history_in}
 use Rattle.vss_model.specs.Acts.{Act, state}
 use Rattle.vss_model.specs.Effects.{ended_of}
 use Rattle.vss_model.specs.Facts.{NumberedFrom, has_failed, is_live, AreLive, AllLive}
@@ -27,14 +28,15 @@ use Rattle.provider.proofs.Kept.{kept_same, kept_trans}
 use Rattle.sessions.specs.Concluded.{failed_set, without_images}
 use Rattle.sessions.specs.Moves.{images_after}
 use Rattle.sessions.specs.declared.session_move.SessionMove.{SessionMove}
-use Rattle.vss_world.specs.Provided.{is_to_come, without, provided_of, provided}
-use Rattle.vss_world.specs.Settling.{IsEndedAs, IsEnded, IsReleased, IsSettled}
+use Rattle.vss_world.specs.Provided.{is_to_come, without, comes, number_of, provided_of, provided}
+use Rattle.vss_world.specs.Changes.{IsEndedAs, IsEnded, IsReleased, IsSettled}
 use Rattle.vss_world.specs.Stands.{IsPrepared, number_prepared}
-use Rattle.vss_world.proofs.Ends.{none_found}
+use Rattle.vss_world.proofs.Options.{none_from}
+use Rattle.vss_model.proofs.Rows.{none_over}
 use Rattle.vss_world.proofs.SetGoesOn.{skip, GoesBy, StaysOn, IsOver, IsOverIf, IsSameSet, runs_snapshot}
 use Rattle.vss_world.proofs.Unnamed.{without_none}
-use Rattle.vss_world.proofs.WithoutImages.{dropped_apart, nothing_without, without_like}
-use Rattle.vss_world.proofs.ToCome.{all_provided, map_provided, dropped_provided, provided_with}
+use Rattle.vss_world.proofs.WithoutImages.{dropped_apart, dropped_without, map_without, none_without, nothing_without, without_like}
+use Rattle.vss_world.proofs.ToCome.{all_provided}
 
 -- ## where nothing changes
 
@@ -98,12 +100,9 @@ live_above : (rows : List SetRow) (images : List Image) → is_live rows 0 ≡ f
 live_above rows [] e h = tt
 live_above rows (i ∷ images) e h = (by_test (i.set == 0) refl, live_above rows images e h.1)
   where
-    equal : (a b : ℕ) → (a == b) ≡ true → a ≡ b
-    equal a b f = grind (arith, nat_tests)
-
     by_test : (b : Bool) → (i.set == 0) ≡ b → 0 < i.set
     by_test false f = apart_above i.set f
-    by_test true f = absurd (true_not_false (is_live rows 0) (ap (is_live rows) (sym (equal i.set 0 f)) ∙ h.0) e)
+    by_test true f = absurd (true_not_false (is_live rows 0) (ap (is_live rows) (sym (eqb-true i.set 0 f)) ∙ h.0) e)
 
 all_above : (rows : List SetRow) (hs : List History) → is_live rows 0 ≡ false → AllLive rows hs → NoneOfZero hs
 all_above rows [] e h = tt
@@ -145,11 +144,9 @@ nothing_dropped n (x ∷ hs) none =
 before_snapshot : (s : Plan) (acts : List Act) (r : SetRow) → in_progress (state s acts) ≡ Some r → runs_snapshot (state s acts).course.agenda ≡ false
     → map (dropped r.number) (state s acts).volumes ≡ (state s acts).volumes
 before_snapshot s acts r e plain = nothing_dropped r.number (state s acts).volumes
-    (λ k h at. by_point k (point_in r.number h.images) (ap (λ (x : History). point_in r.number x.images) (ap history_in at)))
-  where
-    by_point : (k : ℕ) (o : Option ℕ) → point_in r.number (history_of (state s acts) k).images ≡ o → o ≡ None
-    by_point k None f = refl
-    by_point k (Some p) f = let runs = image_runs s acts r k p e f in absurd (true_not_false (is_snapshot runs.agenda.kind) runs.snapshot (sym (ap runs_snapshot runs.runs) ∙ plain))
+    (λ k h at. none_from (point_in r.number h.images) (λ p f.
+    let runs = image_runs s acts r k p e (ap (λ (x : History). point_in r.number x.images) (ap history_in at) ∙ f) in
+    true_not_false (is_snapshot runs.agenda.kind) runs.snapshot (sym (ap runs_snapshot runs.runs) ∙ plain)))
 
 -- the provider's number names the images of the set in progress, where it has any
 pub number_dropped : (s : Plan) (acts : List Act) (r : SetRow) → in_progress (state s acts) ≡ Some r
@@ -190,22 +187,18 @@ provided_dropped s acts r e = by_snapshot (runs_snapshot (state s acts).course.a
     by_snapshot true f =
         ap (λ (n : ℕ). map (dropped n) (provided (state s acts))) (runs_number r (state s acts).course.agenda f)
         ∙ ap (λ (o : Option SetRow). map (dropped r.number) (provided_of o (state s acts).course.agenda (state s acts).volumes)) e
-        ∙ dropped_provided r (state s acts).course.agenda (state s acts).volumes
+        ∙ dropped_without (is_to_come (state s acts).course.agenda) r.number (state s acts).volumes
     by_snapshot false f = ap (λ (hs : List History). map (dropped (number_prepared (Some r) (state s acts).course.agenda)) hs) (plain_provided (state s acts) f) ∙ number_dropped s acts r e
 
 -- the set in progress has images on its volumes alone
 pub no_image_elsewhere : (s : Plan) (acts : List Act) (r : SetRow) (k : ℕ) (h : History) → in_progress (state s acts) ≡ Some r → slice_get (state s acts).volumes k ≡ Some h
     → is_among k r.volumes ≡ false → without_set r.number h.images ≡ h.images
-no_image_elsewhere s acts r k h e at out = without_none r.number h.images
-    (ap (λ (x : History). point_in r.number x.images) (sym (ap history_in at)) ∙ by_point (point_in r.number (history_of (state s acts) k).images) refl)
-  where
-    by_point : (o : Option ℕ) → point_in r.number (history_of (state s acts) k).images ≡ o → o ≡ None
-    by_point None f = refl
-    by_point (Some p) f = absurd (true_not_false (is_among k r.volumes) (image_runs s acts r k p e f).among out)
+no_image_elsewhere s acts r k h e at out = without_none r.number h.images (none_from (point_in r.number h.images)
+    (λ p f. true_not_false (is_among k r.volumes) (image_runs s acts r k p e (ap (λ (x : History). point_in r.number x.images) (ap history_in at) ∙ f)).among out))
 
 -- what the provider has, by the set in progress
-pub provided_at : (st : State) (r : SetRow) → in_progress st ≡ Some r → provided st ≡ without (is_to_come st.course.agenda) r.number 0 st.volumes
-provided_at st r e = ap (λ (o : Option SetRow). provided_of o st.course.agenda st.volumes) e ∙ provided_with r st.course.agenda st.volumes
+pub provided_at : (st : State) (r : SetRow) → in_progress st ≡ Some r → provided st ≡ without (is_to_come st.course.agenda) r.number st.volumes
+provided_at st r e = ap (λ (o : Option SetRow). provided_of o st.course.agenda st.volumes) e
 
 -- ## a move of the sessions
 
@@ -226,7 +219,7 @@ pub record IsSetMove {D : Type 0} (p : ProviderValue D) (st next : State) (test 
   pub above : NoneOfZero made
   pub same : (r : SetRow) → in_progress st ≡ Some r → map (dropped p.set) base ≡ map (dropped r.number) made
   pub none : in_progress st ≡ None → base ≡ made
-  pub coming : (r : SetRow) → in_progress st ≡ Some r → base ≡ without test r.number 0 made
+  pub coming : (r : SetRow) → in_progress st ≡ Some r → base ≡ without test r.number made
   -- the set has no image elsewhere
   pub elsewhere : (r : SetRow) (k : ℕ) (h : History) → in_progress st ≡ Some r → slice_get made k ≡ Some h → is_among k r.volumes ≡ false → without_set r.number h.images ≡ h.images
 
@@ -240,15 +233,15 @@ module _ {D : Type 0} (device : Ghosts D) (s : Plan) (p : ProviderValue D) (st n
   Comes result n q = IsPrepared q next × AreGroups device.told s q.groups (kept_of (without_images (failed_set result n) made))
 
   none_left : in_progress next ≡ None → (hs : List History) → kept_of hs ≡ hs
-  none_left none hs = ap (λ (o : Option SetRow). provided_of o next.course.agenda hs) none
+  none_left none hs = ap (λ (o : Option SetRow). provided_of o next.course.agenda hs) none ∙ none_without (λ v. false) 0 hs (λ v. refl)
 
   same_there : (o x : Option SetRow) → in_progress st ≡ o → in_progress next ≡ x → IsSameSet o x → ((v : ℕ) → is_to_come next.course.agenda v ≡ test v) → base ≡ kept_of made
   same_there None None e f same coming = is.none e ∙ sym (none_left f made)
   same_there None (Some q) e f same coming = absurd same
   same_there (Some r) None e f same coming = absurd same
   same_there (Some r) (Some q) e f same coming =
-      is.coming r e ∙ sym (without_like (is_to_come next.course.agenda) test r.number 0 made coming) ∙ ap (λ (n : ℕ). without (is_to_come next.course.agenda) n 0 made) (sym same.0)
-      ∙ sym (provided_with q next.course.agenda made) ∙ sym (ap (λ (o : Option SetRow). provided_of o next.course.agenda made) f)
+      is.coming r e ∙ sym (without_like (is_to_come next.course.agenda) test r.number made coming) ∙ ap (λ (n : ℕ). without (is_to_come next.course.agenda) n made) (sym same.0)
+      ∙ sym (ap (λ (o : Option SetRow). provided_of o next.course.agenda made) f)
 
   zero_ends : (x : Option SetRow) (result : SetOutcome) → EndsAs x 0 result → x ≡ None
   zero_ends None result h = refl
@@ -291,7 +284,7 @@ module _ {D : Type 0} (device : Ghosts D) (s : Plan) (p : ProviderValue D) (st n
           by_set None f same = absurd same
           by_set (Some q) f same =
               let none : ended_of (Some r) next.sets ≡ None = ap (λ (m : ℕ). find (λ (z : SetRow). (z.number == m) && not (is_running z.result)) next.sets) (sym same.0)
-              ∙ none_found 1 next.sets q is.numbered f in
+              ∙ none_over 1 next.sets q is.numbered f in
               absurd (let h = subst (λ (x : Option SetRow). EndsAs x (suc n) result) none ends in cc)
       by_way (inr over) =
           let o : IsOver test r next.sets = subst (λ (x : Option SetRow). IsOverIf test x next.sets) e over.over in
@@ -300,13 +293,10 @@ module _ {D : Type 0} (device : Ghosts D) (s : Plan) (p : ProviderValue D) (st n
 
   -- none of its images is to come any more
   all_there : (r : SetRow) → in_progress st ≡ Some r → ((v : ℕ) → is_among v r.volumes ≡ true → test v ≡ false) → base ≡ made
-  all_there r e committed = is.coming r e ∙ nothing_without test r.number 0 made (λ k h at coming. by_test k h at coming (is_among k r.volumes) refl)
+  all_there r e committed = is.coming r e ∙ nothing_without test r.number made (λ k h at coming. by_test k h at coming (is_among k r.volumes) refl)
     where
-      from_first : (k : ℕ) → 0 + k ≡ k
-      from_first k = omega arith
-
-      by_test : (k : ℕ) (h : History) → slice_get made k ≡ Some h → test (0 + k) ≡ true → (b : Bool) → is_among k r.volumes ≡ b → without_set r.number h.images ≡ h.images
-      by_test k h at coming true f = absurd (true_not_false (test k) (ap test (sym (from_first k)) ∙ coming) (committed k f))
+      by_test : (k : ℕ) (h : History) → slice_get made k ≡ Some h → test k ≡ true → (b : Bool) → is_among k r.volumes ≡ b → without_set r.number h.images ≡ h.images
+      by_test k h at coming true f = absurd (true_not_false (test k) coming (committed k f))
       by_test k h at coming false f = is.elsewhere r k h e at f
 
   one_ends : (n : ℕ) (result : SetOutcome) (q : ProviderValue D) → IsEndedAs device result p q → EndsAs (ended_of (in_progress st) next.sets) (suc n) result → Comes result (suc n) q
@@ -334,7 +324,7 @@ module _ {D : Type 0} (device : Ghosts D) (s : Plan) (p : ProviderValue D) (st n
   released_comes None q r hs h prepared stand = subst (λ (z : ProviderValue D). IsPrepared z next × AreGroups device.told s z.groups (kept_of hs)) (sym h) (prepared, stand)
   released_comes (Some n) q r hs h prepared stand = (
     prepared_same q r next h.2 prepared,
-    subst (AreGroups device.told s r.groups) (map_provided (dropped n) (dropped_apart n) (in_progress next) next.course.agenda hs)
+    subst (AreGroups device.told s r.groups) (map_without (comes (in_progress next) next.course.agenda) (number_of (in_progress next)) (dropped n) (dropped_apart n (number_of (in_progress next))) hs)
         (h.1.stands s (kept_of hs) stand),
   )
 
@@ -382,38 +372,27 @@ none_ended (Some r) n result e h = cc
 -- ## the devices stay
 
 module _ {D : Type 0} (device : Ghosts D) where
-  as_it_was : (p q : ProviderValue D) → q.groups ≡ p.groups → AreKept device p.groups q.groups × (counts_of device.count q.groups ≡ counts_of device.count p.groups)
-  as_it_was p q same = (subst (λ gs. AreKept device p.groups gs) (sym same) (kept_same device p.groups), ap (counts_of device.count) same)
+  as_it_was : (p q : ProviderValue D) → q.groups ≡ p.groups → AreKept device p.groups q.groups × (devices_of q.groups ≡ devices_of p.groups)
+  as_it_was p q same = (subst (λ gs. AreKept device p.groups gs) (sym same) (kept_same device p.groups), ap devices_of same)
 
-  ended_as : (result : SetOutcome) (p q : ProviderValue D) → IsEndedAs device result p q → AreKept device p.groups q.groups × (counts_of device.count q.groups ≡ counts_of device.count p.groups)
-  ended_as Running p q h = as_it_was p q (ap (λ (z : ProviderValue D). z.groups) h)
-  ended_as Complete p q h = as_it_was p q (ap (λ (z : ProviderValue D). z.groups) h)
-  ended_as (Failed why) p q h = (h.1.kept, ap (map device.count) h.1.devices)
-
-  ended_keeps : (n : ℕ) (result : SetOutcome) (p q : ProviderValue D) → IsEnded device n result p q
-      → AreKept device p.groups q.groups × (counts_of device.count q.groups ≡ counts_of device.count p.groups)
+  ended_keeps : (n : ℕ) (result : SetOutcome) (p q : ProviderValue D) → IsEnded device n result p q → AreKept device p.groups q.groups × (devices_of q.groups ≡ devices_of p.groups)
   ended_keeps zero result p q h = as_it_was p q (ap (λ (z : ProviderValue D). z.groups) h)
-  ended_keeps (suc n) result p q h = ended_as result p q h
+  ended_keeps (suc n) Running p q h = as_it_was p q (ap (λ (z : ProviderValue D). z.groups) h)
+  ended_keeps (suc n) Complete p q h = as_it_was p q (ap (λ (z : ProviderValue D). z.groups) h)
+  ended_keeps (suc n) (Failed why) p q h = (h.1.kept, h.1.devices)
 
-  released_keeps : (o : Option ℕ) (p q : ProviderValue D) → IsReleased device o p q → AreKept device p.groups q.groups × (counts_of device.count q.groups ≡ counts_of device.count p.groups)
+  released_keeps : (o : Option ℕ) (p q : ProviderValue D) → IsReleased device o p q → AreKept device p.groups q.groups × (devices_of q.groups ≡ devices_of p.groups)
   released_keeps None p q h = as_it_was p q (ap (λ (z : ProviderValue D). z.groups) h)
-  released_keeps (Some n) p q h = (h.1.kept, ap (map device.count) h.1.devices)
+  released_keeps (Some n) p q h = (h.1.kept, h.1.devices)
 
-  pub settled_keeps : (m : SessionMove) (p q : ProviderValue D) → IsSettled device m p q → AreKept device p.groups q.groups × (counts_of device.count q.groups ≡ counts_of device.count p.groups)
-  settled_keeps m p q h =
+  settled_as : (m : SessionMove) (p q : ProviderValue D) → IsSettled device m p q → AreKept device p.groups q.groups × (devices_of q.groups ≡ devices_of p.groups)
+  settled_as m p q h =
       let a = ended_keeps m.outcome.set m.outcome.result p h.0 h.1 in
       let b = released_keeps m.released h.0 q h.2 in
       (kept_trans device p.groups h.0.groups q.groups a.0 b.0, b.1 ∙ a.1)
 
-  ended_devices : (n : ℕ) (result : SetOutcome) (p q : ProviderValue D) → IsEnded device n result p q → devices_of q.groups ≡ devices_of p.groups
-  ended_devices zero result p q h = ap (λ (z : ProviderValue D). devices_of z.groups) h
-  ended_devices (suc n) Running p q h = ap (λ (z : ProviderValue D). devices_of z.groups) h
-  ended_devices (suc n) Complete p q h = ap (λ (z : ProviderValue D). devices_of z.groups) h
-  ended_devices (suc n) (Failed why) p q h = h.1.devices
-
-  released_devices : (o : Option ℕ) (p q : ProviderValue D) → IsReleased device o p q → devices_of q.groups ≡ devices_of p.groups
-  released_devices None p q h = ap (λ (z : ProviderValue D). devices_of z.groups) h
-  released_devices (Some n) p q h = h.1.devices
+  pub settled_keeps : (m : SessionMove) (p q : ProviderValue D) → IsSettled device m p q → AreKept device p.groups q.groups × (counts_of device.count q.groups ≡ counts_of device.count p.groups)
+  settled_keeps m p q h = let a = settled_as m p q h in (a.0, ap (map device.count) a.1)
 
   pub settled_devices : (m : SessionMove) (p q : ProviderValue D) → IsSettled device m p q → devices_of q.groups ≡ devices_of p.groups
-  settled_devices m p q h = released_devices m.released h.0 q h.2 ∙ ended_devices m.outcome.set m.outcome.result p h.0 h.1
+  settled_devices m p q h = (settled_as m p q h).1

@@ -1,7 +1,7 @@
 -- A write, against the acts: the images that it needs gone, and the set in progress that fails where its own goes.
 use Rattle.std.proofs.Common.{◌≡◌, ℕ, zero, suc, ◌<◌, ◌≤◌, ◌==◌, List, [], ◌∷◌, length, refl, ap, sym, ◌∙◌, subst, arith, Bool, true, false, Option, Some, None, map, filter, slice_get}
-use Rattle.std.specs.Prelude.{option_map, is_some, find, not, ◌&&◌, ◌||◌, if◌then◌else◌, Result, Ok, Err}
-use Rattle.std.proofs.lemmas.Bool.Decides.{nat_tests}
+use Rattle.std.specs.Prelude.{option_map, is_some, not, ◌&&◌, ◌||◌, if◌then◌else◌, Result, Ok, Err}
+use Rattle.std.proofs.lemmas.Bool.{and_parts, eqb-true, not-true}
 use Rattle.block_data.specs.declared.payload.Payload.{Payload}
 use Rattle.volume_device.specs.declared.device.Device.{Ghosts}
 use Rattle.vss_names.specs.declared.set_outcome.SetOutcome.{SetOutcome}
@@ -48,12 +48,13 @@ use Rattle.sessions.specs.Sets.{current_of}
 use Rattle.sessions.specs.Keeps.{SessionsValue, Keeps, IsInOrder, Leaves, IsOf as IsSessionsOf}
 use Rattle.sessions.specs.Moves.{IsFailed}
 use Rattle.sessions.proofs.Concluding.{current_kept}
+use Rattle.vss_model.proofs.Rows.{some_rows}
 use Rattle.vss_world.specs.Devices.{tells_of, RoseFor}
-use Rattle.vss_world.specs.Provided.{provided_of, provided}
-use Rattle.vss_world.specs.Stands.{WorldValue, IsOf, IsInPlan, IsPrepared, number_prepared, Stands, IfStands}
+use Rattle.vss_world.specs.Provided.{is_to_come, comes, number_of, provided_of, provided}
+use Rattle.vss_world.specs.Stands.{WorldValue, IsOf, IsInPlan, IsPrepared, number_prepared, Stands, StandsAt, IfStands}
 use Rattle.vss_world.specs.Moves.{IsMoved, IsBlocked, simple_outcome, volume_by, volume_of_line}
-use Rattle.vss_world.specs.Puts.{IsWriteBy, IsWriteLine, MakesRoom, told_if}
-use Rattle.vss_world.proofs.Moved.{world_of, Parts, OfDevices, Comes, goes_on, leaves_of, in_order, moved, clean_devices, failed_devices}
+use Rattle.vss_world.specs.Changes.{IsWriteBy, IsWriteLine, MakesRoom, told_if}
+use Rattle.vss_world.proofs.Moved.{world_of, OfDevices, Comes, goes_on, leaves_of, in_order, moved, clean_devices, failed_devices}
 use Rattle.vss_world.proofs.Simple.{LineComes, line_moves, after_line}
 use Rattle.vss_world.proofs.Rising.{rose_for}
 use Rattle.vss_world.proofs.Failing.{failed_ends}
@@ -64,8 +65,8 @@ use Rattle.vss_world.proofs.OnProvided.{on_provided}
 use Rattle.vss_world.proofs.Evictions.{evicted_is}
 use Rattle.vss_world.proofs.Clearing.{as_far, free_volume}
 use Rattle.vss_world.proofs.SetGoesOn.{runs_snapshot}
-use Rattle.vss_world.proofs.ToCome.{all_unnamed, gone_provided, change_provided, dropped_provided}
-use Rattle.vss_world.proofs.WithoutImages.{written_apart}
+use Rattle.vss_world.proofs.ToCome.{all_unnamed}
+use Rattle.vss_world.proofs.WithoutImages.{written_apart, change_without, dropped_without, gone_without, none_without}
 use Rattle.vss_world.proofs.Prepared.{prepared_same, prepared_none, runs_number}
 use Rattle.sessions.proofs.Concluding.{no_row as none_current}
 
@@ -78,11 +79,8 @@ all_of n (x ∷ hs) h = (h 0, all_of n hs (λ v. h (suc v)))
 all_up : (s : Plan) (acts : List Act) → AllUpTo (length (state s acts).sets) (state s acts).volumes
 all_up s acts = let o = orderly s acts in all_of _ _ (λ v. images_up_to (state s acts).sets (state s acts).volumes v o.numbered o.live)
 
-eq_is : (a b : ℕ) → (a == b) ≡ true → a ≡ b
-eq_is a b e = grind (arith, nat_tests)
-
 in_if : (b : Bool) (n m p : ℕ) (s : ℕ) (o : Option ℕ) → (s == n) ≡ b → s ≤ m → is_some (if b then Some p else o) ≡ true → (is_some o ≡ true → n ≤ m) → n ≤ m
-in_if true n m p s o e l h f = let same = eq_is s n e in omega (arith, same, l)
+in_if true n m p s o e l h f = let same = eqb-true s n e in omega (arith, same, l)
 in_if false n m p s o e l h f = f h
 
 in_up_to : (n m : ℕ) (images : List Image) → UpTo m images → is_some (point_in n images) ≡ true → n ≤ m
@@ -193,12 +191,12 @@ put_sets (Err cause) v w st = refl
 
 -- what the provider has of what was written
 put_provided : (done : Result Unit Cause) (v : ℕ) (w : Write) (o : Option SetRow) (a : Option Agenda) (hs : List History) → put_if done v w (provided_of o a hs) ≡ provided_of o a (put_if done v w hs)
-put_provided (Ok done) v w o a hs = change_provided (written w) (written_apart w) v o a hs
+put_provided (Ok done) v w o a hs = change_without (comes o a) (number_of o) (written w) (written_apart w (number_of o)) v hs
 put_provided (Err cause) v w o a hs = refl
 
 put_parts : {D : Type 0} (blocks_told : D → Option (List (List ℕ))) (q : ProviderValue D) (x : SessionsValue) (s : Plan) (done : Result Unit Cause) (v : ℕ) (w : Write) (st : State)
     → Keeps x st → IsInPlan s st → IsPrepared q st → AreGroups blocks_told s q.groups (provided_of (in_progress st) st.course.agenda (put_if done v w st.volumes))
-    → Parts blocks_told q x s (put v w (mark_of (told_if done)) st)
+    → StandsAt blocks_told q x s (put v w (mark_of (told_if done)) st)
 put_parts blocks_told q x s (Ok done) v w st k plan prepared groups = record {
   groups = groups;
   prepared = record { volumes = prepared.volumes; set = prepared.set; distinct = prepared.distinct };
@@ -221,10 +219,6 @@ map_put (Ok done) v w n hs = changed v hs
 pub some_current : (o : Option SetRow) (n : ℕ) → Some n ≡ option_map (λ (r : SetRow). r.number) o → (r : SetRow) × (o ≡ Some r) × (r.number ≡ n)
 some_current None n e = cc
 some_current (Some r) n e = (r, refl, cc)
-
-found_some : (p : SetRow → Bool) (rows : List SetRow) (r : SetRow) → find p rows ≡ Some r → 0 < length rows
-found_some p [] r e = cc
-found_some p (q ∷ rows) r e = omega arith
 
 -- an image that is lost stood
 lost_stood : (n : ℕ) (hs ks : List History) → has_lost_image n hs ks ≡ true → (k p : ℕ) × (point_in n (history_in (slice_get hs k)).images ≡ Some p)
@@ -259,19 +253,17 @@ module _ {D : Type 0} {device : Ghosts D} {s : Plan} {lane : ℕ} {op : Op} {v :
   of hs = provided_of (in_progress st) st.course.agenda hs
 
   unheld : is_held st v ≡ false
-  unheld = first (is_held st v) (is_free st (acts_as s lane)) on
-    where
-      first : (a b : Bool) → (not a && b) ≡ true → a ≡ false
-      first true b g = cc
-      first false b g = refl
+  unheld = not-true (is_held st v) (and_parts (not (is_held st v)) (is_free st (acts_as s lane)) on).0
 
   far : m ≡ going_up_to s v w.block st
   far = h.makes.evicted (provided st) stands.at.groups (length st.sets) (last_provided s acts)
-      ∙ as_far (length st.sets) (slots_of s v) (group_of s v) v w.block (in_progress st) st.course.agenda st.volumes (all_unnamed s acts) (free_volume s acts v unheld)
+      ∙ as_far (comes (in_progress st) st.course.agenda) (number_of (in_progress st)) (length st.sets) (slots_of s v) (group_of s v) v w.block st.volumes
+      (all_unnamed s acts) (free_volume s acts v unheld)
 
   cleared_groups : AreGroups device.told s q.groups (of base.volumes)
   cleared_groups = subst (AreGroups device.told s q.groups)
-      (ap (λ (k : ℕ). gone_up_to k (group_of s v) (provided st)) far ∙ gone_provided (going_up_to s v w.block st) (group_of s v) (in_progress st) st.course.agenda st.volumes)
+      (ap (λ (k : ℕ). gone_up_to k (group_of s v) (provided st)) far
+      ∙ gone_without (comes (in_progress st) st.course.agenda) (number_of (in_progress st)) (going_up_to s v w.block st) (group_of s v) st.volumes)
       (h.makes.stands (provided st) stands.at.groups)
 
   put_groups : AreGroups device.told s r.groups (of (put_if done v w base.volumes))
@@ -339,7 +331,7 @@ module _ {D : Type 0} {device : Ghosts D} {s : Plan} {lane : ℕ} {op : Op} {v :
       let at : slice_get (group_of s v) v ≡ Some (placed row.0.group row.0) = ap (λ (ps : List Placed). slice_get ps v) group ∙ slice_get_map (placed row.0.group) s.volumes v row.0 row.1 in
       let all = length st.sets in
       let far_all : going_up_to s v w.block st ≡ all = sym far ∙ same ∙ number in
-      let some = found_some (λ q. is_running q.result) st.sets a c in
+      let some = some_rows (λ q. is_running q.result) st.sets a c in
       let lost_image : has_lost_image all st.volumes (gone_up_to all (group_of s v) st.volumes) ≡ true =
       lost_at all (slots_of s v) v w.block (group_of s v) st.volumes (placed row.0.group row.0) some at (own_number row.0.group) (all_up s acts) far_all in
       ap (λ (n : ℕ). has_lost_image n st.volumes base.volumes) number ∙ ap (λ (k : ℕ). has_lost_image all st.volumes (gone_up_to k (group_of s v) st.volumes)) far_all ∙ lost_image
@@ -368,16 +360,17 @@ module _ {D : Type 0} {device : Ghosts D} {s : Plan} {lane : ℕ} {op : Op} {v :
       let wrote = put_if done v w base.volumes in
       let groups : AreGroups device.told s z.groups (provided_of (in_progress over) over.course.agenda (put_if done v w over.volumes)) =
       subst (λ (o : Option SetRow). AreGroups device.told s z.groups (provided_of o over.course.agenda (put_if done v w over.volumes))) (sym none)
+      (subst (AreGroups device.told s z.groups) (sym (none_without (λ k. false) 0 (put_if done v w over.volumes) (λ k. refl)))
       (subst (λ (o : Option SetRow). AreGroups device.told s z.groups (put_if done v w (images_dropped o base.volumes))) (sym a.1)
       (subst (AreGroups device.told s z.groups)
       (ap (λ (j : ℕ). map (dropped j) (of wrote)) number_is ∙ ap (λ (o : Option SetRow). map (dropped a.0.number) (provided_of o agenda wrote)) a.1
-      ∙ dropped_provided a.0 agenda wrote ∙ map_put done v w a.0.number base.volumes)
-      (without.stands s (of wrote) put_groups))) in
+      ∙ dropped_without (is_to_come agenda) a.0.number wrote ∙ map_put done v w a.0.number base.volumes)
+      (without.stands s (of wrote) put_groups)))) in
       let ends : ended_of (in_progress st) (put v w mark over).sets ≡ Some (record a.0 { result = Failed InsufficientStorage }) =
       ap (λ (o : Option SetRow). ended_of o (put v w mark over).sets) a.1 ∙ ap (ended_of (Some a.0)) (put_sets done v w over)
       ∙ failed_ends a.0 InsufficientStorage base order.numbered a.1 in
       let number = newest a.0 a.1 in
-      let some = found_some (λ t. is_running t.result) st.sets a.0 a.1 in
+      let some = some_rows (λ t. is_running t.result) st.sets a.0 a.1 in
       let same_number = a.2 in
       let said : (line s lane op mark st).0 ≡ reply_of_mark mark = ap (λ (t : Replied). t.0) done_line in
       record {
@@ -392,7 +385,7 @@ module _ {D : Type 0} {device : Ghosts D} {s : Plan} {lane : ℕ} {op : Op} {v :
           ends = subst (λ (o : Option SetRow). EndsAs o n (Failed InsufficientStorage)) (sym (ap (λ (t : State). ended_of (in_progress st) t.sets) to ∙ ends))
               (sym a.2, refl, omega (arith, number, some, same_number));
         };
-        parts = subst (λ (t : State). Parts device.told z y s t) (sym to)
+        parts = subst (λ (t : State). StandsAt device.told z y s t) (sym to)
             (put_parts device.told z y s done v w over keeps (in_failed_in s (Some a.0) InsufficientStorage base cleared_plan)
             (prepared_none z over (ap (λ (t : ProviderValue D). t.volumes) ended) (ap (λ (t : ProviderValue D). t.set) ended) none) groups);
       }

@@ -20,7 +20,7 @@ use Rattle.scenario.specs.Plan.{Plan, WriterPlan, token}
 use Rattle.scenario.specs.Named.{HasNames, Differ, Distinct, writer_spans}
 use Rattle.vss_model.specs.State.{start, row_of_writer}
 use Rattle.sessions.specs.Keeps.{SessionsValue, Keeps, classes_registered}
-use Rattle.vss_world.specs.Beginning.{AreFirst, HasRegistered, registered_as}
+use Rattle.vss_world.specs.Quiet.{AreFirst, HasRegistered, registered_as}
 
 -- ## the writer at a place
 

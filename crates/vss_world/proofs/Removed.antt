@@ -1,7 +1,7 @@
 -- Images that are deleted, and volumes that are brought back to one, against the definitions.
 use Rattle.std.proofs.Common.{◌≡◌, ℕ, suc, ◌+◌, ◌<◌, ◌≤◌, ◌==◌, List, [], ◌∷◌, length, refl, ap, sym, ◌∙◌, subst, arith, Bool, true, false, ◌&&◌, Option, Some, None, map, take}
-use Rattle.std.specs.Prelude.{is_some, is_none, nat_lt, not, option_map, if◌then◌else◌, Ok, Err}
-use Rattle.std.proofs.lemmas.Bool.Decides.{nat_tests}
+use Rattle.std.specs.Prelude.{is_none, nat_lt, not, option_map, if◌then◌else◌, Ok, Err}
+use Rattle.std.proofs.lemmas.Bool.{lt-ltb}
 use Rattle.volume_device.specs.declared.device.Device.{Ghosts}
 use Rattle.vss_names.specs.declared.vss_result.VssResult.{VssResult}
 use Rattle.vss_names.specs.declared.vss_result.VssResult.TheVariants.{ObjectNotFound, UnsupportedContext, SnapshotSetInProgress}
@@ -10,7 +10,7 @@ use Rattle.write_history.specs.declared.mark.Mark.{Mark}
 use Rattle.write_history.specs.declared.mark.Mark.TheVariants.{Clean, FaultAfter}
 use Rattle.write_history.specs.History.{Write, Image, History, point_in, dropped, reverted, reverted_in_part, to_restore}
 use Rattle.cow_volume.specs.GroupValue.{GroupValue}
-use Rattle.set_agenda.specs.Agenda.{Agenda, is_among}
+use Rattle.set_agenda.specs.Agenda.{is_among}
 use Rattle.set_agenda.specs.Course.{change_at}
 use Rattle.scenario.specs.declared.op.Op.TheVariants.{DeleteSet, DeleteImage, Revert}
 use Rattle.scenario.specs.Bounds.{IsPlan}
@@ -33,13 +33,13 @@ use Rattle.sessions.specs.Sets.{facts_of}
 use Rattle.sessions.specs.declared.set_facts.SetFacts.{SetFacts}
 use Rattle.vss_world.specs.Stands.{IsOf, Stands}
 use Rattle.vss_world.specs.Moves.{IsMoved, simple_outcome}
-use Rattle.vss_world.specs.Provided.{is_to_come, dropped_if, without, provided_of, provided}
+use Rattle.vss_world.specs.Provided.{comes, number_of, without, provided}
 use Rattle.vss_world.proofs.Moved.{world_of, in_order}
-use Rattle.vss_world.proofs.OnProvided.{writes_at, point_without, apart_of, progress_not_kept}
-use Rattle.vss_world.proofs.WithoutImages.{LeavesApart, filter_twice, dropped_apart}
-use Rattle.vss_world.proofs.ToCome.{map_provided, change_provided}
+use Rattle.vss_world.proofs.OnProvided.{has_if, writes_at, other_set}
+use Rattle.vss_world.proofs.WithoutImages.{LeavesApart, filter_twice, dropped_apart, map_without, change_without}
 use Rattle.vss_world.proofs.Seen.{IsPlain, clean_moves, failed_moves, refused_moves}
-use Rattle.vss_world.proofs.Looking.{IsKeptIf, IsOnImage, some_kept, of_image, provided_point}
+use Rattle.vss_world.proofs.Options.{some_is}
+use Rattle.vss_world.proofs.Looking.{IsKeptIf, IsOnImage, of_image, provided_point}
 use Rattle.provider.proofs.DroppedAll.{count_within as few_images}
 
 -- ## what the provider has
@@ -47,7 +47,8 @@ use Rattle.provider.proofs.DroppedAll.{count_within as few_images}
 -- a volume was changed, whether the image that is to come is there or not
 changed_groups : {D : Type 0} {told : D → Option (List (List ℕ))} {s : Plan} {groups : List (GroupValue D)} (st : State) (v : ℕ) (f : History → History) → ((n : ℕ) → LeavesApart n f)
     → AreGroups told s groups (change_at v f (provided st)) → AreGroups told s groups (provided (record st { volumes = change_at v f st.volumes }))
-changed_groups {told = told} {s = s} {groups = groups} st v f apart are = subst (AreGroups told s groups) (change_provided f apart v (in_progress st) st.course.agenda st.volumes) are
+changed_groups {told = told} {s = s} {groups = groups} st v f apart are =
+    subst (AreGroups told s groups) (change_without (comes (in_progress st) st.course.agenda) (number_of (in_progress st)) f (apart (number_of (in_progress st))) v st.volumes) are
 
 reverted_apart : (m point n : ℕ) → LeavesApart n (reverted m point)
 reverted_apart m point n h = ap (λ (is : List Image). record { writes = take point h.writes; images = is }) (filter_twice (λ i. not (nat_lt m i.set)) (λ i. not (i.set == n)) h.images)
@@ -56,26 +57,17 @@ in_part_apart : (blocks m point k n : ℕ) → LeavesApart n (reverted_in_part b
 in_part_apart blocks m point k n h = ap (λ (is : List Image). record { writes = (reverted_in_part blocks m point k h).writes; images = is })
     (filter_twice (λ i. not (nat_lt m i.set)) (λ i. not (i.set == n)) h.images)
 
-has_if : (b : Bool) (r n : ℕ) (h : History) → (r == n) ≡ false → has_image n (dropped_if b r h) ≡ has_image n h
-has_if true r n h e = ap is_some (point_without r n h.images e)
-has_if false r n h e = refl
-
-count_without : (test : ℕ → Bool) (r n v : ℕ) (hs : List History) → (r == n) ≡ false → count_images n (without test r v hs) ≡ count_images n hs
-count_without test r n v [] e = refl
-count_without test r n v (h ∷ hs) e =
-    ap (λ (b : Bool). (if b then 1 else 0) + count_images n (without test r (v + 1) hs)) (has_if (test v) r n h e)
-    ∙ ap (λ (k : ℕ). (if has_image n h then 1 else 0) + k) (count_without test r n (v + 1) hs e)
-
-count_of : (n : ℕ) (o : Option SetRow) (a : Option Agenda) (hs : List History) → ((r : SetRow) → o ≡ Some r → (r.number == n) ≡ false) → count_images n (provided_of o a hs) ≡ count_images n hs
-count_of n None a hs apart = refl
-count_of n (Some r) None hs apart = refl
-count_of n (Some r) (Some a) hs apart = count_without (is_to_come (Some a)) r.number n 0 hs (apart r refl)
+count_without : (test : ℕ → Bool) (r n : ℕ) (hs : List History) → ((k : ℕ) → test k ≡ true → (r == n) ≡ false) → count_images n (without test r hs) ≡ count_images n hs
+count_without test r n [] apart = refl
+count_without test r n (h ∷ hs) apart =
+    ap (λ (b : Bool). (if b then 1 else 0) + count_images n (without (λ v. test (suc v)) r hs)) (has_if (test 0) r n h (apart 0))
+    ∙ ap (λ (k : ℕ). (if has_image n h then 1 else 0) + k) (count_without (λ v. test (suc v)) r n hs (λ k. apart (suc k)))
 
 -- as many images of a complete set
 count_at : (s : Plan) (acts : List Act) (n : ℕ) → is_kept_set (state s acts) n ≡ true → count_images n (provided (state s acts)) ≡ count_images n (state s acts).volumes
 count_at s acts n complete =
     let st = state s acts in
-    count_of n (in_progress st) st.course.agenda st.volumes (λ r e. apart_of st r.number n (progress_not_kept st r (in_order s acts).numbered e) complete)
+    count_without (comes (in_progress st) st.course.agenda) (number_of (in_progress st)) n st.volumes (other_set st n (in_order s acts).numbered complete)
 
 -- ## a set
 
@@ -90,16 +82,13 @@ set_no_image n st e none =
     ap (λ (t : Bool). if t && nat_lt 0 (count_images n st.volumes) then (Deleted (count_images n st.volumes), record st { volumes = map (dropped n) st.volumes }) else refused ObjectNotFound st) e
     ∙ ap (λ (m : ℕ). if nat_lt 0 m then (Deleted (count_images n st.volumes), record st { volumes = map (dropped n) st.volumes }) else refused ObjectNotFound st) none
 
-some_above : (m : ℕ) → 0 < m → nat_lt 0 m ≡ true
-some_above m l = grind (arith, nat_tests)
-
 set_deleted : (n : ℕ) (st : State) → is_kept_set st n ≡ true → 0 < count_images n st.volumes
     → delete_set n st ≡ (Deleted (count_images n st.volumes), record st { volumes = map (dropped n) st.volumes })
 unfolding delete_set
 set_deleted n st e some =
     ap (λ (t : Bool). if t && nat_lt 0 (count_images n st.volumes) then (Deleted (count_images n st.volumes), record st { volumes = map (dropped n) st.volumes }) else refused ObjectNotFound st) e
     ∙ ap (λ (t : Bool). if t then (Deleted (count_images n st.volumes), record st { volumes = map (dropped n) st.volumes }) else refused ObjectNotFound st)
-    (some_above (count_images n st.volumes) some)
+    (lt-ltb 0 (count_images n st.volumes) some)
 
 pub few_gone : {D : Type 0} (device : Ghosts D) (s : Plan) (old new : List (GroupValue D)) (set stood : ℕ) (hs : List History) → IsPlan s → HasGroups s old → AreGroups device.told s old hs
     → AreWithout device old new set stood → stood < 4294967296
@@ -154,15 +143,12 @@ record There (n v : ℕ) (backup preparing : Bool) (st : State) : Type 0 where
   number : kept.row.number ≡ n
   point : point_in n (history_at (provided st) v).images ≡ Some kept.point
 
-less_is : (a b : ℕ) → a < b → nat_lt a b ≡ true
-less_is a b l = grind (arith, nat_tests)
-
 may_stop : (s : Plan) (n v m : ℕ) (st : State) (k : Kept) → kept_image st n v ≡ Some k → revert_refusal v (Some k) st ≡ None → m < length (to_restore (blocks_of s v) (history_of st v).writes k.point)
     → may_stop_after s st v (kept_image st n v) m ≡ true
 may_stop s n v m st k e f l =
     ap (λ (o : Option Kept). is_none (revert_refusal v o st) && nat_lt m (restorable s st v o)) e
     ∙ ap (λ (w : Option VssResult). is_none w && nat_lt m (restorable s st v (Some k))) f
-    ∙ less_is m (length (to_restore (blocks_of s v) (history_of st v).writes k.point)) l
+    ∙ lt-ltb m (length (to_restore (blocks_of s v) (history_of st v).writes k.point)) l
 
 -- ## the moves
 
@@ -198,7 +184,9 @@ module _ {D : Type 0} (device : Ghosts D) {s : Plan} {p : ProviderValue D} {x : 
           is = set_deleted n st (is st stands.at.sessions) (subst (λ (m : ℕ). 0 < m) number some);
           fits = ap told.Deleted number;
           lists = λ rows. tt;
-          groups = subst (AreGroups device.told s q.groups) (map_provided (dropped n) (dropped_apart n) (in_progress st) st.course.agenda st.volumes) (without.stands s (provided st) stands.at.groups);
+          groups = subst (AreGroups device.told s q.groups)
+              (map_without (comes (in_progress st) st.course.agenda) (number_of (in_progress st)) (dropped n) (dropped_apart n (number_of (in_progress st))) st.volumes)
+              (without.stands s (provided st) stands.at.groups);
         })
 
   pub image_gone : {lane n v : ℕ} {q : ProviderValue D} → IsKeptIf device.told (world_of p x l e) s n v true → IsDropped device s p.groups q.groups v n true → q ≡ record p { groups = q.groups }
@@ -207,7 +195,7 @@ module _ {D : Type 0} (device : Ghosts D) {s : Plan} {p : ProviderValue D} {x : 
       clean_moves device of none (told.Deleted 1) (delete_line {n = n} {v = v}).plain drop.1.kept (ap (map device.count) drop.2) refl rest
       (λ acts stands.
       let st = state s acts in
-      let k = some_kept (kept_image st n v) (kept acts stands) in
+      let k = some_is (kept_image st n v) (kept acts stands) in
       let number : k.0.row.number ≡ n = row_number n st.sets k.0.row (of_image st n v k.0 k.1).row_is in
       record {
         allowed = refl;
@@ -225,7 +213,7 @@ module _ {D : Type 0} (device : Ghosts D) {s : Plan} {p : ProviderValue D} {x : 
     there : (acts : List Act) → Stands device.told (world_of p x l e) s acts → There n v backup preparing (state s acts)
     there acts stands =
         let st = state s acts in
-        let k = some_kept (kept_image st n v) (kept acts stands ∙ so) in
+        let k = some_is (kept_image st n v) (kept acts stands ∙ so) in
         let of_it = of_image st n v k.0 k.1 in
         let context = row_facts st x n facts k.0.row (is st stands.at.sessions) of_it.row_is in
         record {

@@ -1,22 +1,23 @@
 -- What is read of volumes and images, against the definitions.
 use Rattle.std.proofs.Common.{◌≡◌, ℕ, ◌<◌, List, [], length, refl, ap, sym, ◌∙◌, subst, Bool, true, false, Option, Some, slice_get}
+use Rattle.std.specs.Prelude.{is_some}
 use Rattle.std.specs.List.{concat}
 use Rattle.volume_device.specs.declared.device.Device.{Ghosts}
 use Rattle.writer_state.specs.declared.writer_row.WriterRow.{WriterRow}
 use Rattle.write_history.specs.declared.evicted.Evicted.{Evicted}
 use Rattle.write_history.specs.declared.mark.Mark.{Mark}
 use Rattle.write_history.specs.declared.mark.Mark.TheVariants.{Clean, Fault}
-use Rattle.write_history.specs.History.{History}
+use Rattle.write_history.specs.History.{Write, History, content, contents}
 use Rattle.block_data.specs.Digest.{sha256}
 use Rattle.hex.specs.Hex.{IsBytes}
 use Rattle.scenario.specs.declared.op.Op.{Op}
-use Rattle.scenario.specs.Plan.{Plan}
+use Rattle.scenario.specs.Plan.{Plan, blocks_of}
 use Rattle.vss_model.specs.declared.event.Event.TheVariants.{Line}
 use Rattle.vss_model.specs.declared.told.Told.{Told}
 use Rattle.vss_model.specs.declared.told.Told.TheVariants as told
 use Rattle.vss_names.specs.declared.vss_result.VssResult.{VssResult}
 use Rattle.vss_model.specs.Reply.{Reply, BlockOf, BlocksOf, Faulted, Coded}
-use Rattle.vss_model.specs.State.{State}
+use Rattle.vss_model.specs.State.{State, history_of}
 use Rattle.vss_model.specs.Images.{read_as}
 use Rattle.vss_model.specs.Lines.{line}
 use Rattle.vss_model.specs.Acts.{state, line_enabled, line_allows}
@@ -24,9 +25,9 @@ use Rattle.vss_model.specs.Effects.{evicted, lost}
 use Rattle.vss_model.specs.Told.{Fits, IsFirstIf, IsDigestIf, mark_of}
 use Rattle.vss_model.specs.Trail.{is_fault}
 use Rattle.vss_model.specs.Outcome.{HasLists}
-use Rattle.provider.specs.Groups.{AreGroups, HasGroups}
-use Rattle.provider.specs.Devices.{devices_of, counts_of, AreKept, HasCause}
-use Rattle.provider.specs.Devices.{tells_at as group_tells_at}
+use Rattle.provider.specs.Groups.{AreGroups, IsPointOf, history_at}
+use Rattle.provider.specs.Devices.{devices_of, counts_of, told_at, AreKept, HasCause}
+use Rattle.provider.specs.Calls.{IsDigestTold}
 use Rattle.provider.specs.Preparing.{ProviderValue}
 use Rattle.cow_volume.specs.declared.cause.Cause.{Cause}
 use Rattle.provider.proofs.Kept.{tells_of-at, kept_same}
@@ -35,17 +36,13 @@ use Rattle.vss_world.specs.Devices.{tells_of, RoseFor}
 use Rattle.vss_world.specs.Provided.{provided}
 use Rattle.vss_world.specs.Stands.{IsOf, IfStands}
 use Rattle.vss_world.specs.Moves.{IsMoved, simple_outcome, volume_of_line}
-use Rattle.vss_world.specs.Reading.{IsFingerprint, IsWide, IsReading, IsBlockTold, IsDigestTold, IsBlockSeen, IsDigestSeen}
-use Rattle.vss_world.proofs.Tied.{tells_are}
-use Rattle.vss_world.proofs.Moved.{world_of, OfDevices, parts_of, clean_devices, failed_devices}
+use Rattle.vss_world.specs.Reading.{IsFingerprint, IsWide, IsReading, IsBlockTold, IsBlockSeen, IsDigestSeen}
+use Rattle.vss_world.proofs.OnProvided.{writes_at}
+use Rattle.vss_world.proofs.Moved.{world_of, OfDevices, clean_devices, failed_devices}
 use Rattle.vss_world.proofs.Simple.{line_moves, volumes_parts}
 use Rattle.vss_world.proofs.Rising.{rose_for}
 
 -- ## what is told fits
-
-tells_slot : {D : Type 0} (blocks_told : D → Option (List (List ℕ))) (s : Plan) (p : ProviderValue D) (v : ℕ) → HasGroups s p.groups → v < length s.volumes
-    → slice_get (tells_of blocks_told s (devices_of p.groups)) v ≡ Some (group_tells_at blocks_told s p.groups v)
-tells_slot blocks_told s p v has within = ap (λ (ts : List Bool). slice_get ts v) (tells_are blocks_told s p.groups has) ∙ tells_of-at blocks_told s p.groups v within
 
 fits_seen : (t : Bool) (o : Option Bool) (bytes first digest : List ℕ) → o ≡ Some t → (t ≡ true → IsFingerprint bytes (record { first = first; digest = digest }))
     → IsWide (record { first = first; digest = digest }) → IsFirstIf o bytes first × IsDigestIf o bytes digest
@@ -53,26 +50,28 @@ fits_seen true o bytes first digest is shows wide = subst (λ (p : Option Bool).
 fits_seen false o bytes first digest is shows wide = subst (λ (p : Option Bool). IsFirstIf p bytes first × IsDigestIf p bytes digest) (sym is)
     ((wide.first, wide.first_bytes), (wide.digest, wide.digest_bytes))
 
-block_fits : {D : Type 0} (blocks_told : D → Option (List (List ℕ))) (s : Plan) (p : ProviderValue D) (v : ℕ) (are : List History → List ℕ → Type 0) (first digest : List ℕ) (hs : List History)
-    (bytes : List ℕ)
-    → HasGroups s p.groups → v < length s.volumes → AreGroups blocks_told s p.groups hs → IsBlockTold blocks_told s p v are first digest → are hs bytes
-    → Fits (tells_of blocks_told s (devices_of p.groups)) (BlockOf v bytes) (told.Block first digest)
-block_fits blocks_told s p v are first digest hs bytes has within groups seen is =
-    let both = fits_seen (group_tells_at blocks_told s p.groups v) (slice_get (tells_of blocks_told s (devices_of p.groups)) v) bytes first digest (tells_slot blocks_told s p v has within)
-    (λ t. seen.exact t hs groups bytes is) seen.wide in
+block_fits : {D : Type 0} (blocks_told : D → Option (List (List ℕ))) (s : Plan) (p : ProviderValue D) (v : ℕ) (set : Option ℕ) (b : ℕ) (first digest : List ℕ) (st : State) (point : ℕ)
+    → v < length s.volumes → AreGroups blocks_told s p.groups (provided st) → IsBlockTold blocks_told s p v set b first digest → IsPointOf set (history_at (provided st) v) point
+    → Fits (tells_of blocks_told s (devices_of p.groups)) (BlockOf v (content (history_of st v).writes point b)) (told.Block first digest)
+block_fits blocks_told s p v set b first digest st point within groups seen is =
+    let tells = tells_of blocks_told s (devices_of p.groups) in
+    let both = fits_seen (is_some (told_at blocks_told s (devices_of p.groups) v)) (slice_get tells v) (content (history_of st v).writes point b) first digest
+    (tells_of-at blocks_told s (devices_of p.groups) v within)
+    (λ t. subst (λ (ws : List Write). IsFingerprint (content ws point b) (record { first = first; digest = digest })) (writes_at st v) (seen.exact t (provided st) groups point is)) seen.wide in
     (first, digest, both.0, both.1, refl)
 
 pub fits_digest : (t : Bool) (o : Option Bool) (bytes digest : List ℕ) → o ≡ Some t → (t ≡ true → digest ≡ sha256 bytes) → length digest ≡ 32 → IsBytes digest → IsDigestIf o bytes digest
 fits_digest true o bytes digest is shows long are = subst (λ (p : Option Bool). IsDigestIf p bytes digest) (sym is) (shows refl)
 fits_digest false o bytes digest is shows long are = subst (λ (p : Option Bool). IsDigestIf p bytes digest) (sym is) (long, are)
 
-pub digest_slot : {D : Type 0} (blocks_told : D → Option (List (List ℕ))) (s : Plan) (p : ProviderValue D) (v : ℕ) (are : List History → List ℕ → Type 0) (digest : List ℕ) (hs : List History)
-    (bytes : List ℕ)
-    → HasGroups s p.groups → v < length s.volumes → AreGroups blocks_told s p.groups hs → IsDigestTold blocks_told s p v are digest → are hs bytes
-    → IsDigestIf (slice_get (tells_of blocks_told s (devices_of p.groups)) v) bytes digest
-digest_slot blocks_told s p v are digest hs bytes has within groups seen is =
-    fits_digest (group_tells_at blocks_told s p.groups v) (slice_get (tells_of blocks_told s (devices_of p.groups)) v) bytes digest (tells_slot blocks_told s p v has within)
-    (λ t. seen.exact t hs groups bytes is) seen.long seen.bytes
+pub digest_slot : {D : Type 0} (blocks_told : D → Option (List (List ℕ))) (s : Plan) (p : ProviderValue D) (v : ℕ) (set : Option ℕ) (digest : List ℕ) (st : State) (point : ℕ)
+    → v < length s.volumes → AreGroups blocks_told s p.groups (provided st) → IsDigestTold blocks_told s p.groups v set digest → IsPointOf set (history_at (provided st) v) point
+    → IsDigestIf (slice_get (tells_of blocks_told s (devices_of p.groups)) v) (concat (contents (blocks_of s v) (history_of st v).writes point)) digest
+digest_slot blocks_told s p v set digest st point within groups seen is =
+    fits_digest (is_some (told_at blocks_told s (devices_of p.groups) v)) (slice_get (tells_of blocks_told s (devices_of p.groups)) v)
+    (concat (contents (blocks_of s v) (history_of st v).writes point)) digest
+    (tells_of-at blocks_told s (devices_of p.groups) v within)
+    (λ t. seen.0 t (provided st) groups point is ∙ ap (λ (ws : List Write). sha256 (concat (contents (blocks_of s v) ws point))) (writes_at st v)) seen.1 seen.2
 
 -- ## lines that change at most the volumes
 
@@ -93,11 +92,11 @@ pub record Says {D : Type 0} (told : D → Option (List (List ℕ))) (s : Plan) 
   pub lists : (rows : List WriterRow) → HasLists said listed_sets rows
   pub groups : AreGroups told s new.groups (provided (record st { volumes = volumes }))
 
--- what a line reads in a state
-pub record Shows {X : Type 0} (s : Plan) (lane : ℕ) (op : Op) (reply_of : X → Reply) (bytes_of : X → List ℕ) (are : List History → List ℕ → Type 0) (st : State) : Type 0 where
-  pub shown : X
-  pub are_so : are (provided st) (bytes_of shown)
-  pub reads : (mark : Mark) → line s lane op mark st ≡ (read_as mark (reply_of shown), st)
+-- what a line reads of a volume in a state, as it is or as an image shows it
+pub record Shows {X : Type 0} (s : Plan) (lane : ℕ) (op : Op) (reply_of : X → Reply) (of : List Write → ℕ → X) (v : ℕ) (set : Option ℕ) (st : State) : Type 0 where
+  pub point : ℕ
+  pub is_point : IsPointOf set (history_at (provided st) v) point
+  pub reads : (mark : Mark) → line s lane op mark st ≡ (read_as mark (reply_of (of (history_of st v).writes point)), st)
   pub faults : line_allows s st op Fault ≡ true
 
 module _ {D : Type 0} (device : Ghosts D) {s : Plan} {p : ProviderValue D} {x : SessionsValue} {l : List ℕ} {e f : List Evicted} (of : IsOf (world_of p x l e) s) (none : f ≡ []) where
@@ -118,7 +117,7 @@ module _ {D : Type 0} (device : Ghosts D) {s : Plan} {p : ProviderValue D} {x : 
         evicts = none ∙ sym (plain.none st);
         nobody = plain.nobody st;
         sets = refl;
-        parts = volumes_parts device.told p q x s st said.volumes (parts_of device.told p x l e s st stands.at) same said.groups;
+        parts = volumes_parts device.told p q x s st said.volumes stands.at same said.groups;
       })
 
   -- no device failed
@@ -154,8 +153,8 @@ module _ {D : Type 0} (device : Ghosts D) {s : Plan} {p : ProviderValue D} {x : 
 
   -- ## lines that read
 
-  module _ {lane : ℕ} {op : Op} {q : ProviderValue D} {v : ℕ} {are : List History → List ℕ → Type 0} (plain : IsPlain s lane op) (at : volume_of_line op ≡ Some v) where
-    fault_moves : {X : Type 0} {reply_of : X → Reply} {bytes_of : X → List ℕ} (fault : Cause) → IfStands device.told (world_of p x l e) s (Shows s lane op reply_of bytes_of are)
+  module _ {lane : ℕ} {op : Op} {q : ProviderValue D} {v : ℕ} {set : Option ℕ} (plain : IsPlain s lane op) (at : volume_of_line op ≡ Some v) where
+    fault_moves : {X : Type 0} {reply_of : X → Reply} {of : List Write → ℕ → X} (fault : Cause) → IfStands device.told (world_of p x l e) s (Shows s lane op reply_of of v set)
         → IsReading device s p q v (Some fault)
         → IsMoved device.told device.count (world_of p x l e) (world_of q x l f) s (Line lane op) (simple_outcome told.Fault)
     fault_moves fault shows reading =
@@ -170,32 +169,34 @@ module _ {D : Type 0} (device : Ghosts D) {s : Plan} {p : ProviderValue D} {x : 
           groups = reading.quiet.stands (provided st) stands.at.groups;
         })
 
-    pub block_moves : (answer : Told) → v < length s.volumes → IfStands device.told (world_of p x l e) s (Shows s lane op (BlockOf v) (λ (bs : List ℕ). bs) are) → IsBlockSeen device s p q v are answer
+    pub block_moves : (b : ℕ) (answer : Told) → v < length s.volumes → IfStands device.told (world_of p x l e) s (Shows s lane op (BlockOf v) (λ ws point. content ws point b) v set)
+        → IsBlockSeen device s p q v set b answer
         → IsMoved device.told device.count (world_of p x l e) (world_of q x l f) s (Line lane op) (simple_outcome answer)
-    block_moves (told.Block first digest) within shows seen =
+    block_moves b (told.Block first digest) within shows seen =
         clean_moves (told.Block first digest) plain seen.0.quiet.call.kept seen.0.cause refl seen.0.rest
         (λ acts stands. let st = state s acts in let shown = shows acts stands in record {
           allowed = plain.clean st;
-          said = BlockOf v shown.shown;
+          said = BlockOf v (content (history_of st v).writes shown.point b);
           volumes = st.volumes;
           is = shown.reads Clean;
-          fits = block_fits device.told s p v are first digest (provided st) shown.shown of.groups within stands.at.groups seen.1 shown.are_so;
+          fits = block_fits device.told s p v set b first digest st shown.point within stands.at.groups seen.1 shown.is_point;
           lists = λ rows. tt;
           groups = seen.0.quiet.stands (provided st) stands.at.groups;
         })
-    block_moves told.Fault within shows seen = fault_moves seen.0 shows seen.1
-    block_moves _ within shows seen = absurd seen
+    block_moves b told.Fault within shows seen = fault_moves seen.0 shows seen.1
+    block_moves b _ within shows seen = absurd seen
 
-    pub digest_moves : (answer : Told) → v < length s.volumes → IfStands device.told (world_of p x l e) s (Shows s lane op (BlocksOf v) concat are) → IsDigestSeen device s p q v are answer
+    pub digest_moves : (answer : Told) → v < length s.volumes → IfStands device.told (world_of p x l e) s (Shows s lane op (BlocksOf v) (contents (blocks_of s v)) v set)
+        → IsDigestSeen device s p q v set answer
         → IsMoved device.told device.count (world_of p x l e) (world_of q x l f) s (Line lane op) (simple_outcome answer)
     digest_moves (told.Digest digest) within shows seen =
         clean_moves (told.Digest digest) plain seen.0.quiet.call.kept seen.0.cause refl seen.0.rest
         (λ acts stands. let st = state s acts in let shown = shows acts stands in record {
           allowed = plain.clean st;
-          said = BlocksOf v shown.shown;
+          said = BlocksOf v (contents (blocks_of s v) (history_of st v).writes shown.point);
           volumes = st.volumes;
           is = shown.reads Clean;
-          fits = (digest, digest_slot device.told s p v are digest (provided st) (concat shown.shown) of.groups within stands.at.groups seen.1 shown.are_so, refl);
+          fits = (digest, digest_slot device.told s p v set digest st shown.point within stands.at.groups seen.1 shown.is_point, refl);
           lists = λ rows. tt;
           groups = seen.0.quiet.stands (provided st) stands.at.groups;
         })

@@ -30,7 +30,8 @@ use Rattle.vss_model.proofs.OneCut.{ends_settle}
 use Rattle.vss_model.proofs.CourseCalls.{Call, IsCall, Settles}
 use Rattle.vss_world.specs.Provided.{is_to_come}
 use Rattle.vss_world.proofs.CommitLog.{committed_at_end, never_done}
-use Rattle.vss_world.proofs.Failing.{failed_course, settled_row}
+use Rattle.vss_world.proofs.Failing.{failed_course}
+use Rattle.vss_model.proofs.Rows.{settled_row}
 
 -- ## what writers say
 

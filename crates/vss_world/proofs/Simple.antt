@@ -27,12 +27,12 @@ use Rattle.provider.specs.Devices.{devices_of}
 use Rattle.provider.specs.Preparing.{ProviderValue}
 use Rattle.sessions.specs.Keeps.{SessionsValue}
 use Rattle.vss_world.specs.Devices.{tells_of}
-use Rattle.vss_world.specs.Stands.{Stands}
+use Rattle.vss_world.specs.Stands.{Stands, StandsAt}
 use Rattle.vss_world.specs.Moves.{IsMoved, simple_outcome}
 use Rattle.vss_world.specs.Provided.{provided}
-use Rattle.vss_world.proofs.Ends.{none_ends}
+use Rattle.vss_model.proofs.Rows.{none_ends}
 use Rattle.vss_world.proofs.Prepared.{prepared_same}
-use Rattle.vss_world.proofs.Moved.{world_of, Parts, OfDevices, Comes, in_order, goes_nowhere, moved}
+use Rattle.vss_world.proofs.Moved.{world_of, OfDevices, Comes, in_order, goes_nowhere, moved}
 
 pub after_on : (s : Plan) (st : State) (event : Event) (mark : Mark) → enabled s st event ≡ true → after s st (act_of mark event) ≡ (happens s event mark st).1
 unfolding after
@@ -54,7 +54,7 @@ pub record LineComes {D : Type 0} (told : D → Option (List (List ℕ))) (s : P
   pub evicts : evicted_images ≡ evicted s st (Line lane op)
   pub nobody : lost st (Line lane op) ≡ []
   pub sets : next.sets ≡ st.sets
-  pub parts : Parts told q x s next
+  pub parts : StandsAt told q x s next
 
 comes_so : {D : Type 0} (told : D → Option (List (List ℕ))) (s : Plan) (lane : ℕ) (op : Op) (answer : Told) (tells : List Bool) (q : ProviderValue D) (x : SessionsValue) (l : List ℕ)
     (e : List Evicted) (st : State)
@@ -73,7 +73,7 @@ comes_so told s lane op answer tells q x l e st numbered c =
         order = sym (ap (λ (ws : List ℕ). lost_order_if ws (order_now (left_now st))) c.nobody);
         ends = subst (λ (o : Option SetRow). EndsAs o 0 Running) (sym (ap (ended_of (in_progress st)) (ap (λ (z : State). z.sets) to ∙ c.sets) ∙ none_ends st.sets numbered)) refl;
       };
-      parts = subst (λ (z : State). Parts told q x s z) (sym to) c.parts;
+      parts = subst (λ (z : State). StandsAt told q x s z) (sym to) c.parts;
     }
 
 pub line_moves : {D : Type 0} (told : D → Option (List (List ℕ))) (count : D → ℕ) (s : Plan) (lane : ℕ) (op : Op) (answer : Told) (p q : ProviderValue D) (x : SessionsValue) (l k : List ℕ)
@@ -87,8 +87,8 @@ line_moves told count s lane op answer p q x l k e f devices comes =
 
 -- ## the parts, where at most the volumes change
 
-pub volumes_parts : {D : Type 0} (told : D → Option (List (List ℕ))) (p q : ProviderValue D) (x : SessionsValue) (s : Plan) (st : State) (hs : List History) → Parts told p x s st
-    → q ≡ record p { groups = q.groups } → AreGroups told s q.groups (provided (record st { volumes = hs })) → Parts told q x s (record st { volumes = hs })
+pub volumes_parts : {D : Type 0} (told : D → Option (List (List ℕ))) (p q : ProviderValue D) (x : SessionsValue) (s : Plan) (st : State) (hs : List History) → StandsAt told p x s st
+    → q ≡ record p { groups = q.groups } → AreGroups told s q.groups (provided (record st { volumes = hs })) → StandsAt told q x s (record st { volumes = hs })
 volumes_parts told p q x s st hs parts same groups =
     let k = parts.sessions in
     let d = prepared_same p q st same parts.prepared in
@@ -99,6 +99,6 @@ volumes_parts told p q x s st hs parts same groups =
       plan = record { sets = parts.plan.sets; agenda = parts.plan.agenda; members = parts.plan.members; disabled = parts.plan.disabled };
     }
 
-pub same_parts : {D : Type 0} (told : D → Option (List (List ℕ))) (p q : ProviderValue D) (x : SessionsValue) (s : Plan) (st : State) → Parts told p x s st → q ≡ record p { groups = q.groups }
-    → AreGroups told s q.groups (provided st) → Parts told q x s st
+pub same_parts : {D : Type 0} (told : D → Option (List (List ℕ))) (p q : ProviderValue D) (x : SessionsValue) (s : Plan) (st : State) → StandsAt told p x s st → q ≡ record p { groups = q.groups }
+    → AreGroups told s q.groups (provided st) → StandsAt told q x s st
 same_parts told p q x s st parts same groups = record { groups = groups; prepared = prepared_same p q st same parts.prepared; sessions = parts.sessions; plan = parts.plan }

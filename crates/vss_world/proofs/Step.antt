@@ -1,6 +1,7 @@
 -- A step of the provider, made or failed: what it comes to.
 use Rattle.std.proofs.Common.{◌≡◌, ℕ, ◌<◌, ◌==◌, List, [], ◌∷◌, ◌++◌, refl, ap, sym, ◌∙◌, subst, Bool, true, false, ◌&&◌, Option, Some, None, inl, map}
 use Rattle.std.specs.Prelude.{not, is_ok, IfSome, OnOk, Result, Ok, Err, slice_get}
+use Rattle.std.proofs.lemmas.Bool.{false≢true, true≢false}
 use Rattle.volume_device.specs.declared.device.Device.{Ghosts}
 use Rattle.write_history.specs.declared.mark.Mark.TheVariants.{Clean, Fault}
 use Rattle.write_history.specs.declared.evicted.Evicted.{Evicted}
@@ -37,15 +38,15 @@ use Rattle.vss_model.proofs.OrderlyActs.{orderly}
 use Rattle.coordinator.proofs.Following.{left-is}
 use Rattle.cow_volume.specs.declared.cause.Cause.{Cause}
 use Rattle.provider.specs.Groups.{AreGroups, IfStandFor}
-use Rattle.provider.specs.Devices.{devices_of, counts_of, AreKept, RoseAlone, volume_place}
-use Rattle.provider.specs.Preparing.{ProviderValue, HasStepCause, LastsAt, step_taken}
+use Rattle.provider.specs.Devices.{devices_of, counts_of, AreKept, LastsAt, RoseAlone, volume_place}
+use Rattle.provider.specs.Preparing.{ProviderValue, HasStepCause, step_taken}
 use Rattle.provider.proofs.Kept.{kept_trans}
 use Rattle.sessions.specs.Keeps.{SessionsValue, Keeps, IsAt, Leaves}
 use Rattle.sessions.specs.Moves.{IsMove, IsNextStep, after_move, event_volumes, images_after}
 use Rattle.sessions.specs.declared.session_move.SessionMove.{SessionMove}
 use Rattle.vss_world.specs.Devices.{RoseFor}
 use Rattle.vss_world.specs.Provided.{is_to_come, without, provided}
-use Rattle.vss_world.specs.Settling.{IsSettled}
+use Rattle.vss_world.specs.Changes.{IsSettled}
 use Rattle.vss_world.specs.Stands.{IsOf, IsInPlan, IsPrepared, number_prepared, Stands, IfStands}
 use Rattle.vss_world.specs.Moves.{IsMoved, volume_of_step}
 use Rattle.vss_world.proofs.Moved.{world_of, IsProviderAt, clean_devices, failed_devices, goes_on, leaves_of}
@@ -68,14 +69,11 @@ works_only : (p : Place) (ws : List ℕ) → is_working (with_group p ws []) ≡
 works_only p [] e = cc
 works_only p (w ∷ ws) e = e
 
-not_working : false ≡ true → ⊥
-not_working e = cc
-
 works_kind : (a : Agenda) (k : Kind) → is_working (left_from a (places k)) ≡ true → runs_snapshot (Some (record a { kind = k })) ≡ true
-works_kind a kind.Gather e = absurd (not_working (works_only (plain (Orders Identify)) (waited_for a (plain (Orders Identify))) e))
-works_kind a kind.Prepare e = absurd (not_working (works_only (plain (Orders PrepareBackup)) (waited_for a (plain (Orders PrepareBackup))) e))
+works_kind a kind.Gather e = absurd (false≢true (works_only (plain (Orders Identify)) (waited_for a (plain (Orders Identify))) e))
+works_kind a kind.Prepare e = absurd (false≢true (works_only (plain (Orders PrepareBackup)) (waited_for a (plain (Orders PrepareBackup))) e))
 works_kind a kind.Snapshot e = refl
-works_kind a kind.Complete e = absurd (not_working (works_only (plain (Orders BackupComplete)) (waited_for a (plain (Orders BackupComplete))) e))
+works_kind a kind.Complete e = absurd (false≢true (works_only (plain (Orders BackupComplete)) (waited_for a (plain (Orders BackupComplete))) e))
 
 works_snapshot : (o : Option Agenda) → is_working (left o) ≡ true → runs_snapshot o ≡ true
 works_snapshot None e = cc
@@ -149,7 +147,7 @@ stepping s x acts group volume next keeps = by_agenda (state s acts).course.agen
     }
 
     by_agenda : (o : Option Agenda) → (state s acts).course.agenda ≡ o → IsStepping s acts group volume
-    by_agenda None e = absurd (not_working (sym (ap (λ (o : Option Agenda). is_working (left o)) e) ∙ works))
+    by_agenda None e = absurd (false≢true (sym (ap (λ (o : Option Agenda). is_working (left o)) e) ∙ works))
     by_agenda (Some a) e = by_set a e (sym (ap runs_snapshot e) ∙ works_snapshot (state s acts).course.agenda works) (in_progress (state s acts)) refl
 
 -- what is known of a step that was made
@@ -163,7 +161,7 @@ made_set_move {D = D} s p acts act group volume k prepared works to =
     let test = is_to_come (Some (with_step st.clock k.agenda)) in
     let made = (step_made (Some group) st).volumes in
     let number : p.set ≡ k.row.number = step_number p st k.row prepared works k.is in
-    let leaves : step_taken group p.set volume (provided st) ≡ without test k.row.number 0 made
+    let leaves : step_taken group p.set volume (provided st) ≡ without test k.row.number made
     = ap (λ (n : ℕ). step_taken group n volume (provided st)) number ∙ step_leaves s acts group volume k in
     let same : (r : SetRow) → in_progress st ≡ Some r → k.row.number ≡ r.number = λ r e. (let f : Some k.row ≡ Some r = sym k.is ∙ e in let g : k.row ≡ r = cc in ap (λ (z : SetRow). z.number) g) in
     record {
@@ -171,10 +169,10 @@ made_set_move {D = D} s p acts act group volume k prepared works to =
       numbered = subst (λ (z : State). NumberedFrom 1 z.sets) (state-append s acts act) (orderly s (acts ++ act ∷ [])).numbered;
       prepared = prepared;
       above = made_above group st (λ r e. number_above s acts r e) (none_of_zero s acts);
-      same = λ r e. ap (λ (n : ℕ). map (dropped n) (step_taken group p.set volume (provided st))) number ∙ ap (map (dropped k.row.number)) leaves ∙ dropped_without test k.row.number 0 made
+      same = λ r e. ap (λ (n : ℕ). map (dropped n) (step_taken group p.set volume (provided st))) number ∙ ap (map (dropped k.row.number)) leaves ∙ dropped_without test k.row.number made
           ∙ ap (λ (n : ℕ). map (dropped n) made) (same r e);
       none = λ e. absurd (let f : Some k.row ≡ None = sym k.is ∙ e in cc);
-      coming = λ r e. leaves ∙ ap (λ (n : ℕ). without test n 0 made) (same r e);
+      coming = λ r e. leaves ∙ ap (λ (n : ℕ). without test n made) (same r e);
       elsewhere = λ r i h e at out. made_elsewhere s acts group r i h e at out;
     }
 
@@ -187,7 +185,7 @@ failed_goes_on : (st : State) → IsOfAgenda st → is_working (left_now st) ≡
 failed_goes_on st of works = followed_goes (course_stepped false st.clock st.course) st of (stops st.course.agenda works)
   where
     stops : (o : Option Agenda) → is_working (left o) ≡ true → Call true o st.course.outcome (course_stepped false st.clock st.course).agenda (course_stepped false st.clock st.course).outcome
-    stops None w = absurd (not_working w)
+    stops None w = absurd (false≢true w)
     stops (Some a) w = inl (record { agenda = (failed_stepped st.clock st.course).0; failed = (failed_stepped st.clock st.course).1 })
 
 -- ## the parts of the move
@@ -286,7 +284,4 @@ step_lasts device s group volume (Err fault) false m q r told_is is settled last
     let t : told.Step group volume (is_flush (Some group)) ≡ told.Step Flush (Some v) false = sym told_is ∙ said in
     let flush : group ≡ Flush = cc in
     let fails : is_flush (Some group) ≡ false = cc in
-    absurd (apart (sym (ap (λ (w : Group). is_flush (Some w)) flush) ∙ fails))
-  where
-    apart : true ≡ false → ⊥
-    apart e = cc
+    absurd (true≢false (sym (ap (λ (w : Group). is_flush (Some w)) flush) ∙ fails))

@@ -1,9 +1,9 @@
 -- What a step of the provider makes of the images that are still to come: the Cut step leaves all of them to come, and a Commit step cuts
 -- that of its volume. No other step has to do with them.
-use Rattle.std.proofs.Common.{◌≡◌, ℕ, zero, suc, ◌+◌, ◌<◌, ◌≤◌, ◌==◌, List, [], ◌∷◌, ◌++◌, length, refl, ap, sym, ◌∙◌, subst, arith, Bool, true, false, ◌&&◌, ◌||◌, Option, Some, None, inl, inr, map}
+use Rattle.std.proofs.Common.{◌≡◌, ℕ, zero, suc, ◌+◌, ◌<◌, ◌==◌, List, [], ◌∷◌, ◌++◌, length, refl, ap, sym, ◌∙◌, subst, arith, Bool, true, false, ◌&&◌, ◌||◌, Option, Some, None, inl, inr, map}
 use Rattle.std.proofs.Common.{filter, slice_get}
 use Rattle.std.specs.Prelude.{not, is_some, if◌then◌else◌, option_map}
-use Rattle.std.proofs.lemmas.Bool.Decides.{nat_tests}
+use Rattle.std.proofs.lemmas.Bool.{eq-eqb, ne_eqb, not-true, or_left, or_right}
 use Rattle.std.proofs.lemmas.Option.{slice_get_within}
 use Rattle.std.proofs.lemmas.List.Folds.{list_any-append}
 use Rattle.vss_names.specs.declared.order.Order.{Order}
@@ -31,12 +31,13 @@ use Rattle.vss_model.proofs.FewerImages.{as_many_volumes}
 use Rattle.vss_model.proofs.OneCut.{uncut_at_cut}
 use Rattle.provider.specs.Preparing.{step_taken}
 use Rattle.vss_world.specs.Provided.{is_to_come, dropped_if, without, provided}
+use Rattle.vss_world.proofs.Options.{none_from}
 use Rattle.vss_world.proofs.CommitLog.{uncommitted, cut_made}
 use Rattle.vss_world.proofs.SetGoesOn.{said_same, none_new}
 use Rattle.vss_world.proofs.Prepared.{provided_at, no_image_elsewhere}
 use Rattle.vss_world.proofs.ToCome.{all_provided, agenda_volumes, unnamed_at}
 use Rattle.vss_world.proofs.Unnamed.{IsUnnamed, without_none, cut_again}
-use Rattle.vss_world.proofs.WithoutImages.{without_like, without_past}
+use Rattle.vss_world.proofs.WithoutImages.{without_like}
 
 -- ## the agenda with the step
 
@@ -64,9 +65,6 @@ step_settles now c a runs =
         (by_done (is_done (groups_left (with_step now a))) (with_step now a) (worked now c) (ap (λ (o : Option Agenda). option_map (all_say said.Ok now (next_member (left o) ∷ [])) o) runs))
 
 -- ## numbers
-
-own : (k : ℕ) → (k == k) ≡ true
-own k = grind arith
 
 from_zero : (k : ℕ) → 0 + k ≡ k
 from_zero k = omega arith
@@ -141,7 +139,7 @@ other_coming now a cut commit u =
 -- ## the Cut step
 
 without_new : (n p : ℕ) (images : List Image) → point_in n images ≡ None → without_set n (images ++ record { set = n; point = p } ∷ []) ≡ images
-without_new n p [] e = rw (own n) refl
+without_new n p [] e = rw (eq-eqb n n refl) refl
 without_new n p (i ∷ images) e = by_test (i.set == n) refl e (λ f. without_new n p images f)
   where
     by_test : (b : Bool) → (i.set == n) ≡ b → (if b then Some i.point else point_in n images) ≡ None
@@ -152,9 +150,9 @@ without_new n p (i ∷ images) e = by_test (i.set == n) refl e (λ f. without_ne
         ap (λ (t : Bool). if not t then i ∷ without_set n (images ++ record { set = n; point = p } ∷ []) else without_set n (images ++ record { set = n; point = p } ∷ [])) f
         ∙ ap (λ (is : List Image). i ∷ is) (rest g)
 
-pub without_cut : (n : ℕ) (vs : List ℕ) (v : ℕ) (hs : List History) → ((k : ℕ) (h : History) → slice_get hs k ≡ Some h → point_in n h.images ≡ None) → without (λ u. true) n v (cut_each n vs v hs) ≡ hs
+pub without_cut : (n : ℕ) (vs : List ℕ) (v : ℕ) (hs : List History) → ((k : ℕ) (h : History) → slice_get hs k ≡ Some h → point_in n h.images ≡ None) → without (λ u. true) n (cut_each n vs v hs) ≡ hs
 without_cut n vs v [] none = refl
-without_cut n vs v (h ∷ hs) none = ap (λ (x : History). x ∷ without (λ u. true) n (v + 1) (cut_each n vs (v + 1) hs)) (here (is_among v vs))
+without_cut n vs v (h ∷ hs) none = ap (λ (x : History). x ∷ without (λ u. true) n (cut_each n vs (v + 1) hs)) (here (is_among v vs))
     ∙ ap (λ (ks : List History). h ∷ ks) (without_cut n vs (v + 1) hs (λ k x e. none (suc k) x e))
   where
     here : (b : Bool) → dropped n (cut_if b n h) ≡ h
@@ -171,34 +169,23 @@ cut_elsewhere n vs v (suc k) (x ∷ hs) h e out = cut_elsewhere n vs (v + 1) k h
 
 -- ## a Commit step
 
-past_one : (i k : ℕ) → i + 1 ≤ k → (k == i + 0) ≡ false
-past_one i k l = grind (arith, nat_tests)
-
-before_one : (i v : ℕ) → (i == i + suc v) ≡ false
-before_one i v = grind (arith, nat_tests)
-
-one_on : (i v : ℕ) → i + suc v ≡ i + 1 + v
-one_on i v = omega arith
-
-pub committed_at : (t u : ℕ → Bool) (n : ℕ) (f : History → History) (v i : ℕ) (hs : List History) → ((k : ℕ) → (k == i + v) ≡ false → t k ≡ u k) → u (i + v) ≡ false
-    → ((h : History) → slice_get hs v ≡ Some h → f (dropped_if (t (i + v)) n h) ≡ h) → change_at v f (without t n i hs) ≡ without u n i hs
-committed_at t u n f v i [] same off on = refl
-committed_at t u n f zero i (h ∷ hs) same off on =
-    ap (λ (b : Bool). f (dropped_if b n h) ∷ without t n (i + 1) hs) (ap t (sym (no_more i)))
-    ∙ ap (λ (x : History). x ∷ without t n (i + 1) hs) (on h refl)
-    ∙ ap (λ (b : Bool). dropped_if b n h ∷ without t n (i + 1) hs) (sym off ∙ ap u (no_more i))
-    ∙ ap (λ (ks : List History). dropped_if (u i) n h ∷ ks) (without_past t u n (i + 1) hs (λ k l. same k (past_one i k l)))
-committed_at t u n f (suc v) i (h ∷ hs) same off on =
-    ap (λ (b : Bool). dropped_if b n h ∷ change_at v f (without t n (i + 1) hs)) (same i (before_one i v))
-    ∙ ap (λ (ks : List History). dropped_if (u i) n h ∷ ks)
-    (committed_at t u n f v (i + 1) hs (λ k e. same k (ap (λ (m : ℕ). k == m) (one_on i v) ∙ e)) (ap u (sym (one_on i v)) ∙ off)
-    (λ x e. ap (λ (m : ℕ). f (dropped_if (t m) n x)) (sym (one_on i v)) ∙ on x e))
+pub committed_at : (t u : ℕ → Bool) (n : ℕ) (f : History → History) (v : ℕ) (hs : List History) → ((k : ℕ) → (k ≡ v → ⊥) → t k ≡ u k) → u v ≡ false
+    → ((h : History) → slice_get hs v ≡ Some h → f (dropped_if (t v) n h) ≡ h) → change_at v f (without t n hs) ≡ without u n hs
+committed_at t u n f v [] same off on = refl
+committed_at t u n f zero (h ∷ hs) same off on =
+    ap (λ (x : History). x ∷ without (λ k. t (suc k)) n hs) (on h refl)
+    ∙ ap (λ (b : Bool). dropped_if b n h ∷ without (λ k. t (suc k)) n hs) (sym off)
+    ∙ ap (λ (ks : List History). dropped_if (u 0) n h ∷ ks) (without_like (λ k. t (suc k)) (λ k. u (suc k)) n hs (λ k. same (suc k) (λ e. cc)))
+committed_at t u n f (suc v) (h ∷ hs) same off on =
+    ap (λ (b : Bool). dropped_if b n h ∷ change_at v f (without (λ k. t (suc k)) n hs)) (same 0 (λ e. cc))
+    ∙ ap (λ (ks : List History). dropped_if (u 0) n h ∷ ks)
+    (committed_at (λ k. t (suc k)) (λ k. u (suc k)) n f v hs (λ k apart. same (suc k) (λ e. apart (let f : k ≡ v = cc in f))) off on)
 
 -- ## what the provider has after it
 
 said_so : (b t : Bool) (w u : ℕ) → t ≡ true → w ≡ u → (b || (t && (w == u))) ≡ true
 said_so true t w u e f = refl
-said_so false true w u e f = ap (λ (k : ℕ). k == u) f ∙ own u
+said_so false true w u e f = ap (λ (k : ℕ). k == u) f ∙ eq-eqb u u refl
 said_so false false w u e f = cc
 
 all_come : (b c d : Bool) → b ≡ true → c ≡ true → d ≡ false → (b && c && not d) ≡ true
@@ -213,16 +200,12 @@ next_is a kind at = ap (λ (k : Kind). next_member (left_from a (places k))) kin
 -- who is waited for passes, and is a member
 head_passes : (f : ℕ → Bool) (xs : List ℕ) (w : ℕ) (ws : List ℕ) → filter f xs ≡ w ∷ ws → (f w ≡ true) × (is_among w xs ≡ true)
 head_passes f [] w ws e = cc
-head_passes f (x ∷ xs) w ws e = by_test (f x) refl e (λ h. head_passes f xs w ws h)
+head_passes f (x ∷ xs) w ws e = by_test (f x) refl e (head_passes f xs w ws)
   where
-    right : (a b : Bool) → b ≡ true → (a || b) ≡ true
-    right true b g = refl
-    right false b g = g
-
     by_test : (b : Bool) → f x ≡ b → (if b then x ∷ filter f xs else filter f xs) ≡ w ∷ ws → (filter f xs ≡ w ∷ ws → (f w ≡ true) × (is_among w xs ≡ true))
         → (f w ≡ true) × (is_among w (x ∷ xs) ≡ true)
-    by_test true g h later = let same : x ≡ w = cc in (ap f (sym same) ∙ g, ap (λ (t : Bool). t || is_among w xs) (ap (λ (u : ℕ). u == w) same ∙ own w))
-    by_test false g h later = let rest = later h in (rest.0, right (x == w) (is_among w xs) rest.1)
+    by_test true g h more = let same : x ≡ w = cc in (ap f (sym same) ∙ g, or_left (x == w) (is_among w xs) (eq-eqb x w same))
+    by_test false g h more = let rest = more h in (rest.0, or_right (x == w) (is_among w xs) rest.1)
 
 -- the set whose snapshot's agenda makes a step
 pub record IsStepping (s : Plan) (acts : List Act) (g : Group) (volume : Option ℕ) : Type 0 where
@@ -252,18 +235,18 @@ module _ (s : Plan) (acts : List Act) where
   -- what is asked of the images that are left to come
   abbrev Leaves : Group → Option ℕ → Type 0
   Leaves g volume = (k : IsStepping s acts g volume)
-      → step_taken g k.row.number volume (provided st) ≡ without (is_to_come (Some (with_step st.clock k.agenda))) k.row.number 0 (step_made (Some g) st).volumes
+      → step_taken g k.row.number volume (provided st) ≡ without (is_to_come (Some (with_step st.clock k.agenda))) k.row.number (step_made (Some g) st).volumes
 
   other_leaves : (g : Group) (volume : Option ℕ) (k : IsStepping s acts g volume) → (group_code g == 10) ≡ false → (group_code g == 11) ≡ false
-      → provided st ≡ without (is_to_come (Some (with_step st.clock k.agenda))) k.row.number 0 st.volumes
+      → provided st ≡ without (is_to_come (Some (with_step st.clock k.agenda))) k.row.number st.volumes
   other_leaves g volume k cut commit =
       let p = open_place (groups_left k.agenda) in
       let at = group_at (groups_left k.agenda) g k.opens in
-      provided_at st k.row k.is ∙ ap (λ (o : Option Agenda). without (is_to_come o) k.row.number 0 st.volumes) k.runs
-      ∙ sym (without_like (is_to_come (Some (with_step st.clock k.agenda))) (is_to_come (Some k.agenda)) k.row.number 0 st.volumes
+      provided_at st k.row k.is ∙ ap (λ (o : Option Agenda). without (is_to_come o) k.row.number st.volumes) k.runs
+      ∙ sym (without_like (is_to_come (Some (with_step st.clock k.agenda))) (is_to_come (Some k.agenda)) k.row.number st.volumes
       (other_coming st.clock k.agenda (same_code p (plain Cut) (ap (λ (h : Group). group_code h == 10) at ∙ cut)) (same_code p (plain Commit) (ap (λ (h : Group). group_code h == 11) at ∙ commit))))
 
-  cut_leaves : (volume : Option ℕ) (k : IsStepping s acts Cut volume) → provided st ≡ without (is_to_come (Some (with_step st.clock k.agenda))) k.row.number 0 (cut_set (in_progress st) st).volumes
+  cut_leaves : (volume : Option ℕ) (k : IsStepping s acts Cut volume) → provided st ≡ without (is_to_come (Some (with_step st.clock k.agenda))) k.row.number (cut_set (in_progress st) st).volumes
   cut_leaves volume k =
       let a = k.agenda in
       let x = with_step st.clock a in
@@ -282,19 +265,15 @@ module _ (s : Plan) (acts : List Act) where
       let open_not : (u : ℕ) → has_said x.log (plain Commit) u ≡ false
       = λ u. other_said st.clock a (plain Commit) u (ap (λ (q : Place). same_place q (plain Commit)) at.place) ∙ uncommitted s acts a u k.runs not_cut in
       all_provided (in_progress st) st.course.agenda st.volumes none_yet
-      ∙ sym (without_cut n k.row.volumes 0 st.volumes (λ i h e. none_in i h e (point_in n (history_of st i).images) refl))
-      ∙ sym (without_like (is_to_come (Some x)) (λ u. true) n 0 (cut_each n k.row.volumes 0 st.volumes)
+      ∙ sym (without_cut n k.row.volumes 0 st.volumes (λ i h e. none_from (point_in n h.images)
+      (λ q f. uncut_at_cut s acts k.row i q c k.is (ap (λ (y : History). point_in n y.images) (ap history_in e) ∙ f))))
+      ∙ sym (without_like (is_to_come (Some x)) (λ u. true) n (cut_each n k.row.volumes 0 st.volumes)
       (λ u. all_come (is_snapshot a.kind) (has_said x.log (plain Cut) 0) (has_said x.log (plain Commit) u) k.snapshot cut_is (open_not u)))
-      ∙ sym (ap (λ (o : Option SetRow). without (is_to_come (Some x)) n 0 (cut_set o st).volumes) k.is)
+      ∙ sym (ap (λ (o : Option SetRow). without (is_to_come (Some x)) n (cut_set o st).volumes) k.is)
     where
       nothing : (b c : Bool) → (b && false && c) ≡ false
       nothing true c = refl
       nothing false c = refl
-
-      none_in : (i : ℕ) (h : History) → slice_get st.volumes i ≡ Some h → (o : Option ℕ) → point_in k.row.number (history_of st i).images ≡ o → point_in k.row.number h.images ≡ None
-      none_in i h e None f = ap (λ (y : History). point_in k.row.number y.images) (sym (ap history_in e)) ∙ f
-      none_in i h e (Some q) f =
-          absurd (uncut_at_cut s acts k.row i q (cuts s acts (ap (λ (o : Option Agenda). is_cut_group (open_group (left o))) k.runs ∙ ap is_cut_group k.opens)) k.is f)
 
   pub committing : (volume : Option ℕ) (k : IsStepping s acts Commit volume) → IsCommitting s acts volume k
   committing volume k =
@@ -309,7 +288,7 @@ module _ (s : Plan) (acts : List Act) where
         place = at.place;
         next = at.next;
         cut_is = cut_is;
-        coming = all_come (is_snapshot a.kind) (has_said a.log (plain Cut) 0) (has_said a.log (plain Commit) at.first) k.snapshot cut_is (not_true (has_said a.log (plain Commit) at.first) passed.0);
+        coming = all_come (is_snapshot a.kind) (has_said a.log (plain Cut) 0) (has_said a.log (plain Commit) at.first) k.snapshot cut_is (not-true (has_said a.log (plain Commit) at.first) passed.0);
         among = ap (is_among at.first) (sym (agenda_volumes s acts a k.row k.runs k.snapshot k.is)) ∙ passed.1;
       }
     where
@@ -317,12 +296,8 @@ module _ (s : Plan) (acts : List Act) where
       volume_of [] e = cc
       volume_of (o ∷ os) e = let same : o.place.group ≡ Commit = cc in ap (λ (g : Group). volume_if (is_over_volumes g) (head_or_0 o.waits)) same
 
-      not_true : (b : Bool) → not b ≡ true → b ≡ false
-      not_true true e = cc
-      not_true false e = refl
-
   commit_leaves : (volume : Option ℕ) (k : IsStepping s acts Commit volume)
-      → step_taken Commit k.row.number volume (provided st) ≡ without (is_to_come (Some (with_step st.clock k.agenda))) k.row.number 0 st.volumes
+      → step_taken Commit k.row.number volume (provided st) ≡ without (is_to_come (Some (with_step st.clock k.agenda))) k.row.number st.volumes
   commit_leaves volume k =
       let a = k.agenda in
       let x = with_step st.clock a in
@@ -335,32 +310,24 @@ module _ (s : Plan) (acts : List Act) where
       = λ u. said_one a.log p (plain Commit) st.clock (next_member (groups_left a)) u ∙ ap (λ (t : Bool). has_said a.log (plain Commit) u || (t && (next_member (groups_left a) == u))) here
       ∙ ap (λ (w : ℕ). has_said a.log (plain Commit) u || (w == u)) at.next in
       let cut_still : has_said x.log (plain Cut) 0 ≡ has_said a.log (plain Cut) 0 = other_said st.clock a (plain Cut) 0 (ap (λ (q : Place). same_place q (plain Cut)) at.place) in
-      let same_else : (u : ℕ) → (u == 0 + v) ≡ false → is_to_come (Some a) u ≡ is_to_come (Some x) u
+      let same_else : (u : ℕ) → (u ≡ v → ⊥) → is_to_come (Some a) u ≡ is_to_come (Some x) u
       = λ u e. sym (ap (λ (t : Bool). is_snapshot a.kind && t && not (has_said x.log (plain Commit) u)) cut_still
       ∙ ap (λ (t : Bool). is_snapshot a.kind && has_said a.log (plain Cut) 0 && not t)
-      (after_it u ∙ ap (λ (t : Bool). has_said a.log (plain Commit) u || t) (apart u v e) ∙ or-false (has_said a.log (plain Commit) u))) in
-      let off : is_to_come (Some x) (0 + v) ≡ false
-      = ap (is_to_come (Some x)) (from_zero v)
-      ∙ gone (is_snapshot a.kind) (has_said x.log (plain Cut) 0) (has_said x.log (plain Commit) v) (after_it v ∙ said_here (has_said a.log (plain Commit) v) (v == v) (own v)) in
+      (after_it u ∙ ap (λ (t : Bool). has_said a.log (plain Commit) u || t) (ne_eqb v u (λ i. e (sym i))) ∙ or-false (has_said a.log (plain Commit) u))) in
+      let off : is_to_come (Some x) v ≡ false
+      = gone (is_snapshot a.kind) (has_said x.log (plain Cut) 0) (has_said x.log (plain Commit) v) (after_it v ∙ or_right (has_said a.log (plain Commit) v) (v == v) (eq-eqb v v refl)) in
       ap (λ (o : Option ℕ). step_taken Commit n o (provided st)) at.volume_is
-      ∙ ap (change_at v (history_cut n)) (provided_at st k.row k.is ∙ ap (λ (o : Option Agenda). without (is_to_come o) n 0 st.volumes) k.runs)
-      ∙ committed_at (is_to_come (Some a)) (is_to_come (Some x)) n (history_cut n) v 0 st.volumes same_else off
-      (λ h e. ap (λ (b : Bool). history_cut n (dropped_if b n h)) (ap (is_to_come (Some a)) (from_zero v) ∙ at.coming)
+      ∙ ap (change_at v (history_cut n)) (provided_at st k.row k.is ∙ ap (λ (o : Option Agenda). without (is_to_come o) n st.volumes) k.runs)
+      ∙ committed_at (is_to_come (Some a)) (is_to_come (Some x)) n (history_cut n) v st.volumes same_else off
+      (λ h e. ap (λ (b : Bool). history_cut n (dropped_if b n h)) at.coming
       ∙ cut_here v h (ap history_in e) (unnamed_at s acts k.row v k.is (ap (λ (o : Option Agenda). is_to_come o v) k.runs ∙ at.coming))
       (image_once_cut s acts k.row a v k.is k.runs at.cut_is at.among (within v h e)))
     where
-      apart : (u w : ℕ) → (u == 0 + w) ≡ false → (w == u) ≡ false
-      apart u w e = grind (arith, nat_tests)
-
       gone : (b c d : Bool) → d ≡ true → (b && c && not d) ≡ false
       gone true true true e = refl
       gone true false true e = refl
       gone false c true e = refl
       gone b c false e = cc
-
-      said_here : (b c : Bool) → c ≡ true → (b || c) ≡ true
-      said_here true c e = refl
-      said_here false c e = e
 
       within : (w : ℕ) (h : History) → slice_get st.volumes w ≡ Some h → w < length s.volumes
       within w h e = subst (λ (m : ℕ). w < m) (as_many_volumes s acts) (slice_get_within st.volumes w h e)
@@ -378,7 +345,7 @@ module _ (s : Plan) (acts : List Act) where
           by_way (inr named) is = ap (λ (images : List Image). record { writes = h.writes; images = images }) (cut_again k.row.number h named.0 named.1)
 
   pub step_leaves : (g : Group) (volume : Option ℕ) (k : IsStepping s acts g volume)
-      → step_taken g k.row.number volume (provided st) ≡ without (is_to_come (Some (with_step st.clock k.agenda))) k.row.number 0 (step_made (Some g) st).volumes
+      → step_taken g k.row.number volume (provided st) ≡ without (is_to_come (Some (with_step st.clock k.agenda))) k.row.number (step_made (Some g) st).volumes
   step_leaves (Orders o) volume k = other_leaves (Orders o) volume k (no_cut o) (no_commit o)
     where
       no_cut : (o : Order) → (group_code (Orders o) == 10) ≡ false

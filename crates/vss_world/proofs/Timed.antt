@@ -22,7 +22,7 @@ use Rattle.sessions.specs.Moves.{IsMove, after_move, event_volumes}
 use Rattle.sessions.specs.declared.session_move.SessionMove.{SessionMove}
 use Rattle.vss_world.specs.Stands.{IsOf, IsInPlan, IsStanding, IfStands}
 use Rattle.vss_world.specs.Moves.{IsMoved}
-use Rattle.vss_world.specs.Settling.{IsSettled}
+use Rattle.vss_world.specs.Changes.{IsSettled}
 use Rattle.vss_world.proofs.Moved.{world_of, Goes, leaves_of, later_of, goes_on, goes_later}
 use Rattle.vss_world.proofs.Simple.{after_on}
 use Rattle.vss_world.proofs.SetGoesOn.{GoesOn, followed_goes}

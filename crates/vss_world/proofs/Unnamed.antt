@@ -1,12 +1,15 @@
 -- An image that is the newest of its volume and names no block: without it the volume's images use the same slots, and need as many.
-use Rattle.std.proofs.Common.{◌≡◌, ℕ, ◌+◌, ◌<◌, ◌≤◌, ◌==◌, List, [], ◌∷◌, ◌++◌, length, refl, ap, sym, ◌∙◌, subst, arith, Bool, true, false, Option, Some, None, ◌⊎◌, inl, inr, map, filter, drop}
+use Rattle.std.proofs.Common.{◌≡◌, ℕ, ◌+◌, ◌<◌, ◌≤◌, ◌==◌, List, [], ◌∷◌, ◌++◌, length, refl, ap, sym, ◌∙◌, subst, arith, Bool, true, false, Option, Some, None, ◌⊎◌, inl, inr, map, drop}
 use Rattle.std.specs.Prelude.{not, if◌then◌else◌, slice_range}
 use Rattle.std.proofs.Math.Seq.{drop-length}
+use Rattle.std.proofs.lemmas.List.{append-nil}
 use Rattle.std.proofs.lemmas.List.Folds.{drop_split}
 use Rattle.std.specs.List.{range_with_len}
-use Rattle.write_history.specs.History.{Write, Image, History, names, blocks_named, point_in, without_set, AreLater, AreInTime}
+use Rattle.std.proofs.lemmas.Bool.{eq-eqb, ne_eqb}
+use Rattle.write_history.specs.History.{Write, Image, History, blocks_named, point_in, without_set, AreLater, AreInTime}
 use Rattle.write_history.specs.Slots.{Copy, writes_since, named, used, used_by, copy_of, copies_of}
 use Rattle.vss_model.specs.Facts.{IsNewest}
+use Rattle.vss_model.proofs.HeldImage.{no_names}
 
 -- no image of the set stands, or it is the newest, cut at the present end
 abbrev pub IsUnnamed : ℕ → History → Type 0
@@ -26,34 +29,20 @@ without_none n (i ∷ images) e = by_test (i.set == n) e (without_none n images)
     by_test true f rest = cc
     by_test false f rest = ap (λ (is : List Image). i ∷ is) (rest f)
 
-differs : (a n : ℕ) → a < n → (a == n) ≡ false
-differs a n l = grind arith
-
-own : (a : ℕ) → (a == a) ≡ true
-own a = grind arith
-
 pub later_last : (i : Image) (n p : ℕ) (older : List Image) → AreLater i (older ++ record { set = n; point = p } ∷ []) → i.set < n
 later_last i n p [] h = h.0
 later_last i n p (j ∷ older) h = later_last i n p older h.2
 
 pub without_last : (n p k : ℕ) (older : List Image) → AreInTime k (older ++ record { set = n; point = p } ∷ []) → without_set n (older ++ record { set = n; point = p } ∷ []) ≡ older
-without_last n p k [] h = rw (own n) refl
-without_last n p k (i ∷ older) h = rw (differs i.set n (later_last i n p older h.1)) (ap (λ (is : List Image). i ∷ is) (without_last n p k older h.2))
+without_last n p k [] h = rw (eq-eqb n n refl) refl
+without_last n p k (i ∷ older) h = let less = later_last i n p older h.1 in rw (ne_eqb i.set n (λ e. omega (arith, less, e))) (ap (λ (is : List Image). i ∷ is) (without_last n p k older h.2))
 
 -- ## slots of one volume
-
-nothing_more : (ws : List Write) → ws ++ [] ≡ ws
-nothing_more [] = refl
-nothing_more (w ∷ ws) = ap (λ (xs : List Write). w ∷ xs) (nothing_more ws)
-
-no_names : (bs : List ℕ) → filter (names []) bs ≡ []
-no_names [] = refl
-no_names (b ∷ bs) = no_names bs
 
 -- up to the present end is all that follows
 to_the_end : (ws : List Write) (a : ℕ) → a ≤ length ws → slice_range ws a (length ws) ≡ drop a ws
 to_the_end ws a l =
-    sym (drop_split ws a (length ws) l ∙ ap (λ (xs : List Write). slice_range ws a (length ws) ++ xs) (drop-length ws) ∙ nothing_more (slice_range ws a (length ws)))
+    sym (drop_split ws a (length ws) l ∙ ap (λ (xs : List Write). slice_range ws a (length ws) ++ xs) (drop-length ws) ∙ append-nil (slice_range ws a (length ws)))
 
 named_last : (b n : ℕ) (ws : List Write) → named b ws (last n ws) [] ≡ []
 named_last b n ws = ap (blocks_named b) (drop-length ws) ∙ no_names (range_with_len 0 b)

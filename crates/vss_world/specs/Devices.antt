@@ -1,39 +1,15 @@
 -- The devices of all groups as one list, in the order in which they are given back. What is said of the two devices of a volume, its
--- own and that of its group's area: what they tell, that they hold its content, and that one of them failed. (This project's own.)
-use Rattle.std.specs.Prelude.{ℕ, ◌≡◌, ◌<◌, ◌+◌, ◌⊎◌, Bool, true, List, [], ◌∷◌, length, Option, Some, None, is_some, slice_get}
+-- own and that of its group's area: that they hold its content, and that one of them failed. (This project's own.)
+use Rattle.std.specs.Prelude.{ℕ, ◌≡◌, ◌<◌, ◌+◌, ◌⊎◌, true, List, length, Option, Some, None, is_some, slice_get}
 use Rattle.write_history.specs.History.{History, contents}
 use Rattle.write_history.specs.Slots.{copies}
 use Rattle.scenario.specs.declared.volume_row.VolumeRow.{VolumeRow}
 use Rattle.scenario.specs.Plan.{Plan}
 use Rattle.diff_area.specs.Copies.{AreStored}
 use Rattle.cow_volume.specs.GroupValue.{placed}
-use Rattle.cow_volume.specs.StandsFor.{told_in}
-use Rattle.cow_volume.specs.declared.cause.Cause.{Cause}
-use Rattle.cow_volume.specs.declared.cause.Cause.TheVariants.{NoSuchBlock, Volume, Area}
 use Rattle.scenario.specs.Places.{of_group, blocks_in_group}
+pub use Rattle.provider.specs.Devices.{told_of, told_by, told_at, tells_from, tells_of, HasFailed}
 use Rattle.provider.specs.Devices.{RoseAlone, first_place, area_place, volume_place, volumes_area}
-
--- ## what is told
-
-abbrev pub told_of : {D : Type 0} → (D → Option (List (List ℕ))) → Option D → Option (List (List ℕ))
-told_of told None = None
-told_of told (Some d) = told d
-
--- the device at a place of the list tells this
-abbrev pub told_by : {D : Type 0} → (D → Option (List (List ℕ))) → List D → ℕ → Option (List (List ℕ))
-told_by told devices place = told_of told (slice_get devices place)
-
--- what the device of volume v tells, where that of its area tells too
-abbrev pub told_at : {D : Type 0} → (D → Option (List (List ℕ))) → Plan → List D → ℕ → Option (List (List ℕ))
-told_at told s devices v = told_in (told_by told devices (volumes_area s v)) (told_by told devices (volume_place s v))
-
-abbrev pub tells_from : {D : Type 0} → (D → Option (List (List ℕ))) → Plan → List D → ℕ → List VolumeRow → List Bool
-tells_from told s devices v [] = []
-tells_from told s devices v (r ∷ rows) = is_some (told_at told s devices v) ∷ tells_from told s devices (v + 1) rows
-
--- which volumes tell: one for each, in order
-abbrev pub tells_of : {D : Type 0} → (D → Option (List (List ℕ))) → Plan → List D → List Bool
-tells_of told s devices = tells_from told s devices 0 s.volumes
 
 -- ## what is held
 
@@ -57,9 +33,3 @@ AreaHolds told s hs devices g = AllTell told s devices g
 abbrev pub RoseFor : Plan → Option ℕ → List ℕ → List ℕ → Type 0
 RoseFor s None old new = ⊥
 RoseFor s (Some v) old new = RoseAlone (volume_place s v) old new ⊎ RoseAlone (volumes_area s v) old new
-
--- the count of the device that failed rose, and no other; no call on a volume of the scenario fails for want of its block
-abbrev pub HasFailed : Plan → ℕ → Cause → List ℕ → List ℕ → Type 0
-HasFailed s v NoSuchBlock old new = ⊥
-HasFailed s v Volume old new = RoseAlone (volume_place s v) old new
-HasFailed s v Area old new = RoseAlone (volumes_area s v) old new

@@ -3,8 +3,5 @@ pub mod Stands
 pub mod Moves
 pub mod Quiet
 pub mod Reading
-pub mod Puts
-pub mod Settling
-pub mod Beginning
-pub mod Digests
+pub mod Changes
 pub mod Provided

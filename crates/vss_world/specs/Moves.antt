@@ -11,7 +11,7 @@ use Rattle.scenario.specs.Calls.{line_of}
 use Rattle.scenario.specs.Plan.{Plan}
 use Rattle.scenario.specs.Bounds.{IsOp}
 use Rattle.vss_model.specs.declared.event.Event.{Event}
-use Rattle.vss_model.specs.declared.event.Event.TheVariants.{Line, Answer as AnswerEvent, Provider, Idle}
+use Rattle.vss_model.specs.declared.event.Event.TheVariants.{Line, Answer as AnswerEvent, Provider}
 use Rattle.vss_model.specs.declared.outcome.Outcome.{Outcome}
 use Rattle.vss_model.specs.declared.told.Told.{Told}
 use Rattle.vss_model.specs.declared.told.Told.TheVariants as told
@@ -32,15 +32,12 @@ use Rattle.vss_world.specs.Stands.{WorldValue, IsOf, Stands}
 abbrev pub IsEvent : Plan → Event → Type 0
 IsEvent s (Line lane op) = (lane < length s.lanes) × IsOp s op
 IsEvent s (AnswerEvent w answer) = w < length s.writers
-IsEvent s Provider = Unit {0}
-IsEvent s Idle = Unit {0}
+IsEvent s _ = Unit {0}
 
 -- the events for which memory is taken
 abbrev pub takes_memory : Event → Bool
 takes_memory (Line lane op) = takes_for op
-takes_memory (AnswerEvent w answer) = false
-takes_memory Provider = false
-takes_memory Idle = false
+takes_memory _ = false
 
 -- the volume of a line, and that of a step
 abbrev pub volume_by : Does → Option ℕ
@@ -60,9 +57,8 @@ volume_of_step _ = None
 
 abbrev pub volume_of : Event → Told → Option ℕ
 volume_of (Line lane op) answer = volume_of_line op
-volume_of (AnswerEvent w a) answer = None
 volume_of Provider answer = volume_of_step answer
-volume_of Idle answer = None
+volume_of _ answer = None
 
 -- ## a step
 

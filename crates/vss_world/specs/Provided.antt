@@ -1,7 +1,7 @@
 -- What the provider has. In the definitions a set has its images from its Cut step on, on all its volumes; the provider makes each of
 -- them in the Commit step of its volume. Until then the volume is held, so that the image names no block and is the newest. (That each
 -- volume has a step of its own is after the SDK's sequence of a snapshot's creation; the rest is this project's own.)
-use Rattle.std.specs.Prelude.{ℕ, ◌+◌, Bool, true, false, List, [], ◌∷◌, ◌&&◌, not, Option, Some, None}
+use Rattle.std.specs.Prelude.{ℕ, Bool, true, false, suc, List, [], ◌∷◌, ◌&&◌, not, Option, Some, None}
 use Rattle.write_history.specs.History.{History, dropped}
 use Rattle.set_agenda.specs.declared.group.Group.TheVariants.{Cut, Commit}
 use Rattle.set_agenda.specs.Agenda.{Agenda, plain, has_said, is_snapshot}
@@ -16,15 +16,22 @@ abbrev pub dropped_if : Bool → ℕ → History → History
 dropped_if true n h = dropped n h
 dropped_if false n h = h
 
--- the histories of the volumes, numbered from v on, without the image of set n on those that pass
-abbrev pub without : (ℕ → Bool) → ℕ → ℕ → List History → List History
-without test n v [] = []
-without test n v (h ∷ hs) = dropped_if (test v) n h ∷ without test n (v + 1) hs
+-- the histories of the volumes, without the image of set n on those that pass
+abbrev pub without : (ℕ → Bool) → ℕ → List History → List History
+without test n [] = []
+without test n (h ∷ hs) = dropped_if (test 0) n h ∷ without (λ v. test (suc v)) n hs
+
+-- whether the image of a set is to come, and its number: 0 where there is no set
+abbrev pub comes : Option SetRow → Option Agenda → ℕ → Bool
+comes None a = λ v. false
+comes (Some r) a = is_to_come a
+
+abbrev pub number_of : Option SetRow → ℕ
+number_of None = 0
+number_of (Some r) = r.number
 
 abbrev pub provided_of : Option SetRow → Option Agenda → List History → List History
-provided_of None a hs = hs
-provided_of (Some r) None hs = hs
-provided_of (Some r) (Some a) hs = without (is_to_come (Some a)) r.number 0 hs
+provided_of o a hs = without (comes o a) (number_of o) hs
 
 -- the histories that the provider's groups stand for
 abbrev pub provided : State → List History

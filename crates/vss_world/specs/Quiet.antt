@@ -1,14 +1,17 @@
--- The beginning, and the calls that are no acts: they leave what the core stands for as it was. (This project's own.)
-use Rattle.std.specs.Prelude.{ℕ, ◌≡◌, List, [], length, map, Option, Some, None, slice_get}
+-- The beginning: the groups and the sessions before any act, with the scenario's writers, who are registered one after another. And the
+-- calls that are no acts: they leave what the core stands for as it was. (This project's own.)
+use Rattle.std.specs.Prelude.{ℕ, ◌≡◌, List, [], length, map, take, Option, Some, None, slice_get}
 use Rattle.write_history.specs.History.{History, contents, fresh, sets_of}
 use Rattle.write_history.specs.Slots.{used}
 use Rattle.scenario.specs.declared.volume_row.VolumeRow.{VolumeRow}
-use Rattle.scenario.specs.Plan.{Plan, GroupPlan}
+use Rattle.set_agenda.specs.Course.{course_start}
+use Rattle.coordinator.specs.Coordinator.{CoordinatorState, Registered, Stands as CoordinatorStands, IsOnTime, writer_count}
+use Rattle.scenario.specs.Plan.{Plan, GroupPlan, WriterPlan, token}
 use Rattle.cow_volume.specs.GroupValue.{GroupValue}
 use Rattle.cow_volume.specs.StandsFor.{StandsFor}
-use Rattle.vss_model.specs.State.{history_of, kept}
+use Rattle.vss_model.specs.State.{history_of, kept, row_of_writer, start}
 use Rattle.vss_model.specs.Acts.{Act, state}
-use Rattle.sessions.specs.Keeps.{SessionsValue, Keeps}
+use Rattle.sessions.specs.Keeps.{SessionsValue, Keeps, IsOf as IsSessionsOf}
 use Rattle.provider.specs.Preparing.{ProviderValue}
 use Rattle.scenario.specs.Places.{blocks_in_group}
 use Rattle.provider.specs.Groups.{AreGroups}
@@ -25,6 +28,25 @@ pub record AreNew {D : Type 0} (told : D → Option (List (List ℕ))) (s : Plan
   pub volumes : (g : ℕ) (x : GroupValue D) → slice_get groups g ≡ Some x → x.area.volumes ≡ blocks_in_group g s.volumes
   pub slots : (g : ℕ) (x : GroupValue D) (p : GroupPlan) → slice_get groups g ≡ Some x → slice_get s.groups g ≡ Some p → length x.area.records ≡ p.slots
   pub fresh_are : (g : ℕ) (x : GroupValue D) → slice_get groups g ≡ Some x → StandsFor told x (map (λ _. fresh) x.area.volumes)
+
+-- as what a writer is registered: its name and its class
+abbrev pub registered_as : Plan → WriterPlan → Registered
+registered_as s w = record { name = token s w.name; class = w.meta.class }
+
+-- the first k writers are registered, in order, and no session was begun
+pub record HasRegistered (s : Plan) (k : ℕ) (x : CoordinatorState) : Type 0 where
+  pub stands : CoordinatorStands x (course_start (map row_of_writer (take k s.writers)))
+  pub writers : x.writers ≡ map (registered_as s) (take k s.writers)
+  pub count : writer_count x ≡ k
+  pub times : IsOnTime 0 x
+  pub posts : x.posts ≡ 0
+
+-- the sessions stand for the state before any act, with the scenario's writers
+pub record AreFirst (s : Plan) (x : SessionsValue) : Type 0 where
+  pub keeps : Keeps x (start s)
+  pub writers : IsSessionsOf x s
+  pub posts : x.coordinator.posts ≡ 0
+  pub clock : x.clock ≡ 0
 
 -- ## calls that are no acts
 

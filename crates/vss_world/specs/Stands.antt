@@ -14,7 +14,6 @@ use Rattle.provider.specs.Groups.{AreGroups, HasGroups}
 use Rattle.provider.specs.Devices.{devices_of}
 use Rattle.provider.specs.Preparing.{ProviderValue}
 use Rattle.sessions.specs.Keeps.{SessionsValue, Keeps, IsOf as IsSessionsOf}
-use Rattle.vss_world.specs.Devices.{AllTied}
 use Rattle.vss_world.specs.Provided.{provided}
 
 -- what a contract sees: the devices, in the order in which they are given back; the lists that the last step told beside its outcome;
@@ -79,19 +78,17 @@ pub record IsInPlan (s : Plan) (st : State) : Type 0 where
 
 -- ## what it stands for
 
--- a state
-pub record StandsAt {D : Type 0} (told : D → Option (List (List ℕ))) (w : WorldValue D) (s : Plan) (st : State) : Type 0 where
-  pub groups : AreGroups told s w.provider.groups (provided st)
-  pub prepared : IsPrepared w.provider st
-  pub sessions : Keeps w.sessions st
+-- a state, by what the provider and the sessions are
+pub record StandsAt {D : Type 0} (told : D → Option (List (List ℕ))) (p : ProviderValue D) (x : SessionsValue) (s : Plan) (st : State) : Type 0 where
+  pub groups : AreGroups told s p.groups (provided st)
+  pub prepared : IsPrepared p st
+  pub sessions : Keeps x st
   pub plan : IsInPlan s st
-  -- this follows from the groups
-  pub holds : AllTied told s st.volumes w.devices
 
 -- The state after these acts. With each act at most one set is started, orders are posted once at most, and a tick of at most
 -- 1,000,000,000 goes by.
 pub record Stands {D : Type 0} (told : D → Option (List (List ℕ))) (w : WorldValue D) (s : Plan) (acts : List Act) : Type 0 where
-  pub at : StandsAt told w s (state s acts)
+  pub at : StandsAt told w.provider w.sessions s (state s acts)
   pub sets : length w.sessions.sets ≤ length acts
   pub posts : w.sessions.coordinator.posts ≤ length acts
   pub early : w.sessions.clock ≤ 1000000000 * length acts

@@ -3,7 +3,7 @@
 ghost use Rattle.std.specs.Prelude.{◌≡◌, ◌<◌, ◌+◌, [], length, IfOk, OnOk};
 ghost use Rattle.scenario.specs.Bounds.{IsPlan};
 ghost use Rattle.scenario.specs.Named.{HasNames};
-ghost use Rattle.vss_world.specs.Beginning.{AreFirst, HasRegistered};
+ghost use Rattle.vss_world.specs.Quiet.{AreFirst, HasRegistered};
 
 use crate::evicted_images::EvictedImages;
 use crate::listed_sets::ListedSets;

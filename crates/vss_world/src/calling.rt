@@ -8,7 +8,7 @@ ghost use Rattle.vss_model.specs.declared.event.Event.TheVariants.{Line};
 ghost use Rattle.sessions.specs.Moves.{is_add, takes_memory};
 ghost use Rattle.vss_world.specs.Stands.{IsOf, IsStanding};
 ghost use Rattle.vss_world.specs.Moves.{IsStepped};
-ghost use Rattle.vss_world.specs.Settling.{begins_snapshot, IsEndPrepared};
+ghost use Rattle.vss_world.specs.Changes.{begins_snapshot, IsEndPrepared};
 
 use crate::outcomes::{coded, told};
 use crate::reply::Reply;

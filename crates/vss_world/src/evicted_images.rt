@@ -4,7 +4,7 @@ ghost use Rattle.scenario.specs.Bounds.{IsBlock};
 ghost use Rattle.vss_model.specs.State.{State, is_kept_set};
 ghost use Rattle.provider.specs.Groups.{HasGroups};
 ghost use Rattle.sessions.specs.Keeps.{Keeps};
-ghost use Rattle.vss_world.specs.Puts.{MakesRoom};
+ghost use Rattle.vss_world.specs.Changes.{MakesRoom};
 
 use provider::Provider;
 use scenario::Scenario;

@@ -1,9 +1,9 @@
 //! What is read of a volume or of an image: in place where the device lends its blocks, and else by one buffer.
 
-ghost use Rattle.std.specs.Prelude.{◌<◌, length};
+ghost use Rattle.std.specs.Prelude.{◌<◌, length, None, Some};
 ghost use Rattle.scenario.specs.Bounds.{IsBlock};
 ghost use Rattle.provider.specs.Groups.{HasGroups};
-ghost use Rattle.vss_world.specs.Reading.{IsBlockSeen, IsDigestSeen, IsSeenIf, AreNow, AreShown, AllShown};
+ghost use Rattle.vss_world.specs.Reading.{IsBlockSeen, IsDigestSeen, IsSeenIf};
 
 use crate::fingerprint::Fingerprint;
 use block_data::BlockBuf;
@@ -23,7 +23,7 @@ pub(crate) fn read_block<D: Device>(
 ) -> Told
     requires block { IsBlock scenario.now volume block }
     requires has { HasGroups scenario.now provider.old.groups }
-    ensures { IsBlockSeen D.Device scenario.now provider.old provider.new volume (AreNow volume block) result }
+    ensures { IsBlockSeen D.Device scenario.now provider.old provider.new volume None block result }
 {
     if let Some(bytes) = provider.lend_block(scenario, volume, block) {
         return Fingerprint::of(bytes).told();
@@ -45,7 +45,7 @@ pub(crate) fn read_image<D: Device>(
 ) -> Option<Told>
     requires block { IsBlock scenario.now volume block }
     requires has { HasGroups scenario.now provider.old.groups }
-    ensures { IsSeenIf D.told scenario.now provider.old provider.new volume set (IsBlockSeen D.Device scenario.now provider.old provider.new volume (AreShown volume set block)) result }
+    ensures { IsSeenIf D.told scenario.now provider.old provider.new volume set (IsBlockSeen D.Device scenario.now provider.old provider.new volume (Some set) block) result }
 {
     match provider.lend_image(scenario, set, volume, block) {
         Err(_fault) => return None,
@@ -68,7 +68,7 @@ pub(crate) fn digest_image<D: Device>(
 ) -> Option<Told>
     requires volume { volume < length scenario.now.volumes }
     requires has { HasGroups scenario.now provider.old.groups }
-    ensures { IsSeenIf D.told scenario.now provider.old provider.new volume set (IsDigestSeen D.Device scenario.now provider.old provider.new volume (AllShown scenario.now volume set)) result }
+    ensures { IsSeenIf D.told scenario.now provider.old provider.new volume set (IsDigestSeen D.Device scenario.now provider.old provider.new volume (Some set)) result }
 {
     match provider.digest_image(scenario, set, volume) {
         Ok(digest) => Some(Told::Digest(digest)),

@@ -1,7 +1,7 @@
 //! What follows from a move of the sessions for the provider.
 
 ghost use Rattle.std.specs.Prelude.{◌≡◌};
-ghost use Rattle.vss_world.specs.Settling.{IsEnded, IsReleased, IsSettled};
+ghost use Rattle.vss_world.specs.Changes.{IsEnded, IsReleased, IsSettled};
 
 use provider::Provider;
 use sessions::SessionMove;

@@ -7,7 +7,7 @@ ghost use Rattle.scenario.specs.declared.op.Op.{Op};
 ghost use Rattle.vss_model.specs.declared.event.Event.TheVariants.{Line};
 ghost use Rattle.vss_world.specs.Stands.{IsOf, IsStanding};
 ghost use Rattle.vss_world.specs.Moves.{IsStepped};
-ghost use Rattle.vss_world.specs.Puts.{IsWriteLine, told_if};
+ghost use Rattle.vss_world.specs.Changes.{IsWriteLine, told_if};
 
 use crate::outcomes::told;
 use crate::reply::Reply;

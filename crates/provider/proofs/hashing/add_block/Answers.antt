@@ -1,15 +1,11 @@
 use Rattle.std.proofs.Common.{◌≡◌, ◌∙◌, ℕ, List, ap, length, sym, subst}
 use Rattle.cow_volume.specs.Calls.{IsNow}
 use Rattle.cow_volume.proofs.GroupSteps.{whole_written}
-use Rattle.provider.proofs.Hashed.{at_end}
+use Rattle.provider.proofs.Found.{at_end}
 use Rattle.provider.proofs.hashing.add_block.Goals as goal
 
 pub returns-in-Some-clause-adds : goal.returns-in-Some-clause-adds
-returns-in-Some-clause-adds g c = record {
-  bytes = c.in-Some.bytes.now;
-  is = at_end g.D.Device.told c.args.group.now c.args.volume c.args.block c.in-Some.bytes.now c.in-Some.ensures.now;
-  taken = c.add.ensures;
-}
+returns-in-Some-clause-adds g c = record { bytes = c.in-Some.bytes.now; is = c.in-Some.ensures; taken = c.add.ensures }
 
 pub returns-clause-adds : goal.returns-clause-adds
 returns-clause-adds g c =

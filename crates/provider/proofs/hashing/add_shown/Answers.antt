@@ -1,15 +1,10 @@
 use Rattle.std.proofs.Common.{◌≡◌, ◌∙◌, ℕ, List, ap, length, sym, subst}
 use Rattle.cow_volume.specs.Calls.{IsShown}
 use Rattle.cow_volume.proofs.GroupSteps.{whole_written}
-use Rattle.provider.proofs.Found.{some_of}
 use Rattle.provider.proofs.hashing.add_shown.Goals as goal
 
-pub returns-in-Ok-Some-clause-adds : goal.returns-in-Ok-Some-clause-adds
-returns-in-Ok-Some-clause-adds g c = record {
-  bytes = c.in-Ok-Some.bytes.now;
-  is = some_of _ c.in-Ok-Some.field-0 c.in-Ok-Some.bytes c.in-Ok-Some.field-0-is c.in-Ok-Some.ensures.shown;
-  taken = c.add.ensures;
-}
+pub returns-in-Some-clause-adds : goal.returns-in-Some-clause-adds
+returns-in-Some-clause-adds g c = record { bytes = c.in-Some.bytes.now; is = c.in-Some.ensures; taken = c.add.ensures }
 
 pub returns-clause-adds : goal.returns-clause-adds
 returns-clause-adds g c =

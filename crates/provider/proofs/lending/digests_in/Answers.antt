@@ -1,7 +1,7 @@
 use Rattle.std.proofs.Common.{List, sym, subst}
 use Rattle.std.specs.Prelude.{All}
 use Rattle.lent_digests.specs.declared.lent_blocks.LentBlocks.{LentBlocks}
-use Rattle.provider.specs.Lending.{IsLentRow}
+use Rattle.provider.specs.Calls.{IsLentRow}
 use Rattle.provider.proofs.LentRows.{digested_all}
 use Rattle.provider.proofs.lending.digests_in.Goals as goal
 

@@ -2,4 +2,4 @@ use Rattle.provider.proofs.Found.{found_in, inside}
 use Rattle.provider.proofs.lending.lend_volumes_and_images.Goals as goal
 
 pub images-set-items-requires : goal.images-set-items-requires
-images-set-items-requires g c = inside (found_in c.args.scenario.now c.loop-volume.volume c.args.groups.now.items c.index.result.now c.requires c.place-place.ensures c.index.ensures)
+images-set-items-requires g c = inside (found_in c.requires c.place-place.ensures c.index.ensures)

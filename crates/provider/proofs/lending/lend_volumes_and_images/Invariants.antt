@@ -1,5 +1,5 @@
 use Rattle.std.specs.Prelude.{All}
-use Rattle.provider.specs.Lending.{IsLentRow}
+use Rattle.provider.specs.Calls.{IsLentRow}
 use Rattle.provider.proofs.lending.lend_volumes_and_images.Given as goal
 
 abbrev pub invariant-loop-set : goal.invariant-loop-set

@@ -1,4 +1,4 @@
-use Rattle.vss_world.specs.Beginning.{HasRegistered}
+use Rattle.vss_world.specs.Quiet.{HasRegistered}
 use Rattle.vss_world.proofs.beginning.first_sessions.Given as goal
 
 -- the writers so far are registered

@@ -1,40 +1,29 @@
-use Rattle.std.proofs.Common.{arith}
+use Rattle.std.proofs.Common.{arith, refl, Some}
 use Rattle.std.proofs.lemmas.Result.{IfOk-weaker}
 use Rattle.provider.proofs.Keeping.{provider_kept}
-use Rattle.provider.proofs.Places.{group_below}
-use Rattle.provider.proofs.Found.{digest_shown_of, found_by, inside, inside_has}
+use Rattle.provider.proofs.Found.{digest_shown, found_by, group_low, inside}
 use Rattle.provider.proofs.Called.{called, image_cause_of, quiet_of}
 use Rattle.provider.proofs.provider.Provider.digest_image.Goals as goal
 
 pub index_mut-group-requires : goal.index_mut-group-requires
-index_mut-group-requires g c =
-    let low = group_below c.args.scenario.now c.self.inside.groups.items c.args.volume _ _ c.place-place.ensures (inside_has c.args.scenario.now _ _ c.self.view_is c.requires.has) in
-    omega (arith, low, c.self.inside.groups.ok.0)
+index_mut-group-requires g c = let low = group_low c.self.view_is c.requires.has c.place-place.ensures in omega (arith, low, c.self.inside.groups.ok.0)
 
 pub digest_of_image-requires : goal.digest_of_image-requires
-digest_of_image-requires g c = inside (found_by c.args.scenario.now c.args.volume c.index_mut-group.result.now c.self.view_is c.requires.has c.place-place.ensures c.index_mut-group.ensures.value)
+digest_of_image-requires g c = inside (found_by c.self.view_is c.requires.has c.place-place.ensures c.index_mut-group.ensures.value)
 
 pub invariant_of-self : goal.invariant_of-self
 invariant_of-self g c =
-    let now = called (found_by c.args.scenario.now c.args.volume c.index_mut-group.result.now c.self.view_is c.requires.has c.place-place.ensures c.index_mut-group.ensures.value)
-    c.digest_of_image.new.group in
-    provider_kept g.D.Device _ _ c.self.inside.volumes c.self.inside.list (quiet_of g.D.Device now c.digest_of_image.ensures.digest.quiet).call.kept c.self.invariant
+    let now = called (found_by c.self.view_is c.requires.has c.place-place.ensures c.index_mut-group.ensures.value) c.digest_of_image.new.group in
+    provider_kept g.D.Device _ _ c.self.inside.volumes c.self.inside.list ((quiet_of g.D.Device now c.digest_of_image.ensures.digest.quiet).call.kept) c.self.invariant
 
-pub returns-clause-digest : goal.returns-clause-digest
-returns-clause-digest g c =
-    let now = called (found_by c.args.scenario.now c.args.volume c.index_mut-group.result.now c.self.view_is c.requires.has c.place-place.ensures c.index_mut-group.ensures.value)
-    c.digest_of_image.new.group in
-    rw (← c.self.view_is) (IfOk-weaker c.digest_of_image.result _ _ (digest_shown_of g.D.Device.told now.found c.args.set) c.digest_of_image.ensures.digest.digest)
-
-pub returns-clause-quiet : goal.returns-clause-quiet
-returns-clause-quiet g c =
-    let now = called (found_by c.args.scenario.now c.args.volume c.index_mut-group.result.now c.self.view_is c.requires.has c.place-place.ensures c.index_mut-group.ensures.value)
-    c.digest_of_image.new.group in
-    rw (← c.self.view_is) (quiet_of g.D.Device now c.digest_of_image.ensures.digest.quiet)
-
-pub returns-clause-cause : goal.returns-clause-cause
-returns-clause-cause g c =
-    let now = called (found_by c.args.scenario.now c.args.volume c.index_mut-group.result.now c.self.view_is c.requires.has c.place-place.ensures c.index_mut-group.ensures.value)
-    c.digest_of_image.new.group in
-    rw (← c.self.view_is) (image_cause_of g.D.Device now c.args.set c.digest_of_image.result c.digest_of_image.ensures.digest.image c.digest_of_image.ensures.digest.same
-    c.digest_of_image.ensures.digest.cause)
+pub returns : goal.returns
+returns g c =
+    let now = called (found_by c.self.view_is c.requires.has c.place-place.ensures c.index_mut-group.ensures.value) c.digest_of_image.new.group in
+    rw (← c.self.view_is) (record {
+      digest = IfOk-weaker c.digest_of_image.result _ _ (digest_shown g.D.Device.told now.found (Some c.args.set)) c.digest_of_image.ensures.digest.digest;
+      wide = c.digest_of_image.ensures.wide;
+      quiet = quiet_of g.D.Device now c.digest_of_image.ensures.digest.quiet;
+      cause = image_cause_of g.D.Device now c.args.set c.digest_of_image.result c.digest_of_image.ensures.digest.image c.digest_of_image.ensures.digest.same
+          c.digest_of_image.ensures.digest.cause;
+      set = refl;
+    })

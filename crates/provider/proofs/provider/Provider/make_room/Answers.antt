@@ -3,50 +3,40 @@ use Rattle.std.proofs.lemmas.List.{length-map}
 use Rattle.write_history.specs.declared.evicted.Evicted.{Evicted}
 use Rattle.provider.specs.Calls.{renumbered}
 use Rattle.provider.proofs.Keeping.{provider_kept}
-use Rattle.provider.proofs.Places.{group_below}
-use Rattle.provider.proofs.Found.{below, found_by, inside, inside_has}
+use Rattle.provider.proofs.Found.{below, found_by, group_low, inside}
 use Rattle.provider.proofs.Called.{called}
 use Rattle.provider.proofs.Room.{few_within, room_of}
 use Rattle.provider.proofs.provider.Provider.make_room.Goals as goal
 
 pub index_mut-group-requires : goal.index_mut-group-requires
-index_mut-group-requires g c =
-    let low = group_below c.args.scenario.now c.self.inside.groups.items c.args.volume _ _ c.place-place.ensures (inside_has c.args.scenario.now _ _ c.self.view_is c.requires.has) in
-    omega (arith, low, c.self.inside.groups.ok.0)
+index_mut-group-requires g c = let low = group_low c.self.view_is c.requires.has c.place-place.ensures in omega (arith, low, c.self.inside.groups.ok.0)
 
-pub make_room-up_to-requires-clause-volume : goal.make_room-up_to-requires-clause-volume
-make_room-up_to-requires-clause-volume g c =
-    inside (found_by c.args.scenario.now c.args.volume c.index_mut-group.result.now c.self.view_is c.requires.has c.place-place.ensures c.index_mut-group.ensures.value)
-
-pub make_room-up_to-requires-clause-in_range : goal.make_room-up_to-requires-clause-in_range
-make_room-up_to-requires-clause-in_range g c =
-    below (found_by c.args.scenario.now c.args.volume c.index_mut-group.result.now c.self.view_is c.requires.has c.place-place.ensures c.index_mut-group.ensures.value) c.args.block c.requires.block.1
-
-pub make_room-up_to-requires-clause-space : goal.make_room-up_to-requires-clause-space
-make_room-up_to-requires-clause-space g c =
-    let f = (found_by c.args.scenario.now c.args.volume c.index_mut-group.result.now c.self.view_is c.requires.has c.place-place.ensures c.index_mut-group.ensures.value) in
+pub make_room-up_to-requires : goal.make_room-up_to-requires
+make_room-up_to-requires g c =
+    let f = found_by c.self.view_is c.requires.has c.place-place.ensures c.index_mut-group.ensures.value in
     let all = ap length (f.has.volumes f.group f.here f.at) in
     let few = few_within f.group c.args.scenario.now.volumes in
-    omega (arith, all, few, c.requires.space)
+    record {
+      volume = inside f;
+      in_range = below f c.args.block c.requires.block.1;
+      space = omega (arith, all, few, c.requires.space);
+    }
 
 pub invariant_of-self : goal.invariant_of-self
 invariant_of-self g c =
-    let now = called (found_by c.args.scenario.now c.args.volume c.index_mut-group.result.now c.self.view_is c.requires.has c.place-place.ensures c.index_mut-group.ensures.value)
-    c.make_room-up_to.new.self in
-    provider_kept g.D.Device _ _ c.self.inside.volumes c.self.inside.list
-    (room_of g.D.Device now c.args.block c.make_room-up_to.result c.renumber.new.images.items c.make_room-up_to.ensures.room
-    (c.renumber.ensures.told ∙ ap (map (renumbered c.args.scenario.now _)) c.make_room-up_to.ensures.told)).call.kept c.self.invariant
+    let now = called (found_by c.self.view_is c.requires.has c.place-place.ensures c.index_mut-group.ensures.value) c.make_room-up_to.new.self in
+    provider_kept g.D.Device _ _ c.self.inside.volumes c.self.inside.list ((room_of g.D.Device now c.args.block c.make_room-up_to.result c.renumber.new.images.items c.make_room-up_to.ensures.room
+    (c.renumber.ensures.told ∙ ap (map (renumbered c.args.scenario.now _)) c.make_room-up_to.ensures.told)).call.kept) c.self.invariant
 
 pub returns-clause-room : goal.returns-clause-room
 returns-clause-room g c =
-    let now = called (found_by c.args.scenario.now c.args.volume c.index_mut-group.result.now c.self.view_is c.requires.has c.place-place.ensures c.index_mut-group.ensures.value)
-    c.make_room-up_to.new.self in
+    let now = called (found_by c.self.view_is c.requires.has c.place-place.ensures c.index_mut-group.ensures.value) c.make_room-up_to.new.self in
     rw (← c.self.view_is) (room_of g.D.Device now c.args.block c.make_room-up_to.result c.renumber.new.images.items c.make_room-up_to.ensures.room
     (c.renumber.ensures.told ∙ ap (map (renumbered c.args.scenario.now _)) c.make_room-up_to.ensures.told))
 
 pub returns-clause-few : goal.returns-clause-few
 returns-clause-few g c =
-    let f = (found_by c.args.scenario.now c.args.volume c.index_mut-group.result.now c.self.view_is c.requires.has c.place-place.ensures c.index_mut-group.ensures.value) in
+    let f = found_by c.self.view_is c.requires.has c.place-place.ensures c.index_mut-group.ensures.value in
     let all = ap length (f.has.volumes f.group f.here f.at) in
     let few = few_within f.group c.args.scenario.now.volumes in
     let low = c.make_room-up_to.ensures.few in

@@ -1,4 +1,4 @@
-use Rattle.std.proofs.Common.{ap, arith, length}
+use Rattle.std.proofs.Common.{refl, ap, arith, length}
 use Rattle.provider.specs.Preparing.{ProviderValue}
 use Rattle.cow_volume.proofs.DeviceCalls.{device_read}
 use Rattle.provider.proofs.Keeping.{provider_kept}
@@ -12,20 +12,13 @@ invariant_of-self g c =
     provider_kept g.D.Device _ _ c.self.inside.volumes c.self.inside.list
     (sync_of g.D.Device c.self.inside.groups.items c.args.group c.index_mut.result.now c.sync.new.self at c.sync.result c.sync.ensures.sync).kept c.self.invariant
 
-pub returns-clause-synced : goal.returns-clause-synced
-returns-clause-synced g c =
+pub returns : goal.returns
+returns g c =
     let low = ap (λ (p : ProviderValue _). length p.groups) c.self.view_is in
     let at = device_read c.self.inside.groups.items c.args.group c.index_mut.result.now (omega (arith, low, c.requires)) c.index_mut.ensures.value in
-    rw (← c.self.view_is) (sync_of g.D.Device c.self.inside.groups.items c.args.group c.index_mut.result.now c.sync.new.self at c.sync.result c.sync.ensures.sync)
-
-pub returns-clause-lasting : goal.returns-clause-lasting
-returns-clause-lasting g c =
-    let low = ap (λ (p : ProviderValue _). length p.groups) c.self.view_is in
-    let at = device_read c.self.inside.groups.items c.args.group c.index_mut.result.now (omega (arith, low, c.requires)) c.index_mut.ensures.value in
-    rw (← c.self.view_is) (sync_lasts g.D.Device c.self.inside.groups.items c.args.group c.index_mut.result.now c.sync.new.self at c.sync.result c.sync.ensures.lasts c.sync.ensures.sync)
-
-pub returns-clause-cause : goal.returns-clause-cause
-returns-clause-cause g c =
-    let low = ap (λ (p : ProviderValue _). length p.groups) c.self.view_is in
-    let at = device_read c.self.inside.groups.items c.args.group c.index_mut.result.now (omega (arith, low, c.requires)) c.index_mut.ensures.value in
-    rw (← c.self.view_is) (λ s has. sync_cause g.D.Device c.self.inside.groups.items c.args.group c.index_mut.result.now c.sync.new.self at c.sync.result c.sync.ensures.sync s has)
+    rw (← c.self.view_is) (record {
+      synced = sync_of g.D.Device c.self.inside.groups.items c.args.group c.index_mut.result.now c.sync.new.self at c.sync.result c.sync.ensures.sync;
+      lasting = sync_lasts g.D.Device c.self.inside.groups.items c.args.group c.index_mut.result.now c.sync.new.self at c.sync.result c.sync.ensures.lasts c.sync.ensures.sync;
+      cause = λ s has. sync_cause g.D.Device c.self.inside.groups.items c.args.group c.index_mut.result.now c.sync.new.self at c.sync.result c.sync.ensures.sync s has;
+      set = refl;
+    })
