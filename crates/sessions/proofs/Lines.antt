@@ -110,12 +110,13 @@ begins {s = s} {lane = lane} {n = n} {all = all} {st = st} {x = x} {m = m} goes 
 
 -- ## start
 
-not_started : (q : Session) (o : SetOutcome) (found : Option SetRow) → makes_set q.stage ≡ false → IsOfSession (Some q) o found → found ≡ None
+pub not_started : (q : Session) (o : SetOutcome) (found : Option SetRow) → makes_set q.stage ≡ false → IsOfSession (Some q) o found → found ≡ None
 not_started q o None e h = refl
 not_started q o (Some r) e h = absurd (let is = h.0 in cc)
 
 pub at_rest : (st : State) → Goes st.session (runs st) call.Start → IsInOrder st → in_progress st ≡ None
-at_rest st owner order = not_started owner.own st.course.outcome (in_progress st) (owner.free refl)
+at_rest st owner order =
+    not_started owner.own st.course.outcome (in_progress st) (owner.free refl)
     (subst (λ (x : Option Session). IsOfSession x st.course.outcome (in_progress st)) owner.is order.session)
 
 length_more : (rows : List SetRow) (r : SetRow) → length (rows ++ r ∷ []) ≡ length rows + 1

@@ -39,13 +39,12 @@ use Rattle.sessions.proofs.Adding.{adds, adds_not}
 use Rattle.sessions.proofs.Lines.{line_of}
 use Rattle.vss_model.proofs.GoingOn.{other_goes}
 use Rattle.sessions.proofs.Moving.{happens_moves, refused_happens}
-use Rattle.vss_world.specs.Stands.{IsOf, IsInPlan, number_prepared, IfStands}
+use Rattle.vss_world.specs.Stands.{IsOf, number_prepared, IfStands}
 use Rattle.vss_world.specs.Moves.{IsMoved, simple_outcome}
 use Rattle.vss_world.proofs.ToCome.{no_agenda_provided}
 use Rattle.vss_world.proofs.Moved.{world_of, IsProviderAt, goes_nowhere, clean_devices}
 use Rattle.vss_world.proofs.Simple.{after_line}
-use Rattle.vss_world.proofs.InPlan.{in_line}
-use Rattle.vss_world.proofs.Following.{at_of, rows_long, session_comes}
+use Rattle.vss_world.proofs.Following.{at_of, session_comes}
 
 -- ## volumes that are distinct
 
@@ -123,8 +122,7 @@ module _ {D : Type 0} (device : Ghosts D) (s : Plan) {lane v : ℕ} {verdict : V
       of.writers (ap (counts_of device.count) same) clean)
       (goes_nowhere x)
       (λ acts stands. let at = adding acts stands in subst (λ (z : State). IsProviderAt device.told s q z) (sym (to (state s acts) at)) (left (state s acts) at))
-      (λ acts stands. subst (λ (z : State). IsInPlan s z) (sym (to (state s acts) (adding acts stands)))
-      (in_line s lane (op.Add v) (mark_of t) (state s acts) refl within (rows_long s x (state s acts) stands.at.sessions of.writers) stands.at.plan))
+      of within
 
   -- one that changes nothing
   unchanged : {q : ProviderValue D} (t : Told) → is_fault (mark_of t) ≡ false → q ≡ p → IsMove Adding s x (Line lane (op.Add v)) (told_alone t)

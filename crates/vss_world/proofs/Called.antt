@@ -39,18 +39,17 @@ use Rattle.sessions.specs.Sets.{current_of}
 use Rattle.sessions.specs.declared.session_move.SessionMove.{SessionMove}
 use Rattle.sessions.proofs.Concluding.{current_kept}
 use Rattle.vss_world.specs.Changes.{IsSettled, IsEndPrepared, begins_snapshot}
-use Rattle.vss_world.specs.Stands.{IsOf, IsInPlan, IsPrepared, number_prepared, IsStanding, IfStands}
+use Rattle.vss_world.specs.Stands.{IsOf, IsPrepared, number_prepared, IsStanding, IfStands}
 use Rattle.vss_world.specs.Moves.{IsMoved}
 use Rattle.vss_model.proofs.Rows.{none_over}
 use Rattle.vss_world.proofs.Moved.{world_of, IsProviderAt, clean_devices, leaves_of, goes_on, in_order}
 use Rattle.vss_world.proofs.Simple.{after_line}
-use Rattle.vss_world.proofs.InPlan.{in_line}
 use Rattle.vss_world.specs.Provided.{is_to_come, provided}
 use Rattle.vss_world.proofs.ToCome.{no_set_provided, no_agenda_provided, all_provided}
 use Rattle.vss_world.proofs.SetGoesOn.{GoesOn, BeginsSnapshot}
 use Rattle.vss_world.proofs.LinesGoOn.{LineGoes, SnapshotGoes, StartsSet, line_goes}
 use Rattle.vss_world.proofs.Prepared.{runs_number, IsUnended, none_of_zero, settled_comes, settled_keeps, unended, none_ended}
-use Rattle.vss_world.proofs.Following.{at_of, course_of, rows_long, set_move, ends_of, session_comes}
+use Rattle.vss_world.proofs.Following.{at_of, course_of, set_move, ends_of, session_comes}
 
 is_clean : (s : Plan) (st : State) (op : Op) (mark : Mark) → is_some (call_of op) ≡ true → line_allows s st op mark ≡ true → is_fault mark ≡ false
 is_clean s st op Clean e f = refl
@@ -189,6 +188,5 @@ call_moves device s lane op q {m = m} {set = set} {p = p} {r = r} {x = x} {y = y
     line_left device s op m p q r acts act settled (subst (λ (o : Option ℕ). IsEndPrepared (begins_snapshot op m.outcome.told) o q r) current ended)
     stands.at.prepared stands.at.groups (ends_of st move here) (move.volumes st here)
     (subst (λ (z : State). SetGoes st z (begins_snapshot op m.outcome.told)) (sym (to acts stands))
-    (set_goes op [] st (line s lane op mark st) m.outcome.told out.fits (line_goes s lane st (course_of s acts) op mark call no_add (in_order s acts).session))))
-    (λ acts stands. subst (λ (z : State). IsInPlan s z) (sym (to acts stands))
-    (in_line s lane op mark (state s acts) call is_op (rows_long s x (state s acts) stands.at.sessions of.writers) stands.at.plan))
+    (set_goes op [] st (line s lane op mark st) m.outcome.told out.fits (line_goes s lane st (course_of s acts) op mark (move.is_enabled st here) call no_add (in_order s acts).session))))
+    of is_op

@@ -28,11 +28,12 @@ use Rattle.sessions.specs.declared.session_move.SessionMove.{SessionMove}
 use Rattle.sessions.proofs.Newest.{length_bare}
 use Rattle.vss_world.specs.Devices.{tells_of}
 use Rattle.vss_world.specs.Changes.{IsSettled}
-use Rattle.vss_world.specs.Stands.{IsOf, IsInPlan, IsPrepared, number_prepared, IsStanding, IfStands}
+use Rattle.vss_world.specs.Stands.{IsOf, IsPrepared, number_prepared, IsStanding, IfStands}
 use Rattle.vss_world.specs.Moves.{IsMoved, IsBlocked}
 use Rattle.vss_world.proofs.Moved.{world_of, IsProviderAt, OfDevices, Goes, in_order, moved, clean_devices}
 use Rattle.vss_world.specs.Provided.{is_to_come, provided}
 use Rattle.vss_world.proofs.ToCome.{agenda_volumes, has_snapshot_set, no_set_provided}
+use Rattle.vss_world.proofs.InPlan.{IsEventIn, in_plan_after}
 use Rattle.vss_world.proofs.Prepared.{IsSetMove, none_of_zero, provided_dropped, provided_at, no_image_elsewhere, settled_comes, settled_keeps}
 use Rattle.vss_world.proofs.SetGoesOn.{GoesOn, IsOfAgenda}
 
@@ -117,9 +118,8 @@ module _ {D : Type 0} (device : Ghosts D) (s : Plan) (event : Event) (m : Sessio
   -- a move, from what it leaves of the devices and of the provider
   pub session_comes : {q : ProviderValue D} → OfDevices device.told device.count s event m.outcome (world_of p x l e) (world_of q y l f) → Goes x y
       → IfStands device.told (world_of p x l e) s (λ st. IsProviderAt device.told s q (after_move s st event m))
-      → IfStands device.told (world_of p x l e) s (λ st. IsInPlan s (after_move s st event m))
-      → IsMoved device.told device.count (world_of p x l e) (world_of q y l f) s event m.outcome
-  session_comes {q = q} devices goes comes plan =
+      → IsOf (world_of p x l e) s → IsEventIn s event → IsMoved device.told device.count (world_of p x l e) (world_of q y l f) s event m.outcome
+  session_comes {q = q} devices goes comes of within =
       moved device.told device.count s event m.outcome p q x y l l e f devices goes
       (λ acts stands.
       let st = state s acts in
@@ -129,15 +129,15 @@ module _ {D : Type 0} (device : Ghosts D) (s : Plan) (event : Event) (m : Sessio
         is_enabled = move.is_enabled st here;
         is_allowed = move.is_allowed st here;
         outcome = λ rows are. subst (λ (z : List Evicted). IsOutcome tells s st event m.outcome l z rows) (sym none) (move.outcome st tells l rows here are);
-        parts = record { groups = (comes acts stands).1; prepared = (comes acts stands).0; sessions = move.keeps st here; plan = plan acts stands };
+        parts = record { groups = (comes acts stands).1; prepared = (comes acts stands).0; sessions = move.keeps st here; plan = in_plan_after s st (told_act event m.outcome.told) (rows_long s x st stands.at.sessions of.writers) within stands.at.plan };
       })
 
   -- one in which the set in progress goes on, or is over
   pub session_moves : {q : ProviderValue D} → IsOf (world_of p x l e) s → ((st : State) → event_volumes event m.outcome.told st ≡ st.volumes) → IsSettled device m p q
       → IsSessionsOf y s → Goes x y → is_fault (mark_of m.outcome.told) ≡ false
-      → IfStands device.told (world_of p x l e) s (λ st. GoesOn st (after_move s st event m)) → IfStands device.told (world_of p x l e) s (λ st. IsInPlan s (after_move s st event m))
+      → IfStands device.told (world_of p x l e) s (λ st. GoesOn st (after_move s st event m)) → IsEventIn s event
       → IsMoved device.told device.count (world_of p x l e) (world_of q y l f) s event m.outcome
-  session_moves {q = q} of still settled writers goes clean on plan =
+  session_moves {q = q} of still settled writers goes clean on within =
       let kept = settled_keeps device m p q settled in
       session_comes (clean_devices device s event m.outcome p q x y l l e f of kept.0 writers kept.1 clean) goes
       (λ acts stands.
@@ -146,7 +146,7 @@ module _ {D : Type 0} (device : Ghosts D) (s : Plan) (event : Event) (m : Sessio
       settled_comes device s p st (after_move s st event m) (is_to_come st.course.agenda) (provided st) st.volumes
       (set_move s p acts (told_act event m.outcome.told) stands.at.prepared (on acts stands)) stands.at.groups m q settled (ends_of st move here)
       (move.volumes st here ∙ ap (images_after m) (still st)))
-      plan
+      of within
 
 pub session_waits : {D : Type 0} {blocks_told : D → Option (List (List ℕ))} {s : Plan} {event : Event} {P : State → Type 0} {p : ProviderValue D} {x y : SessionsValue}
     {l : List ℕ} {e : List Evicted} → IsWait P s x y event → IfStands blocks_told (world_of p x l e) s P → IsBlocked blocks_told (world_of p x l e) (world_of p y l e) s event

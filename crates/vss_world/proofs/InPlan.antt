@@ -1,63 +1,50 @@
--- The volumes of sets and agendas, and the writers that take part or are disabled, stay those of the scenario: what each change of
--- the course and of the sets keeps.
+-- The volumes of sets and agendas, and the writers that take part or are disabled, stay those of the scenario, whatever happens.
 use Rattle.std.proofs.Common.{◌≡◌, ℕ, ◌+◌, ◌<◌, ◌≤◌, ◌==◌, List, [], ◌∷◌, ◌++◌, Option, Some, None, refl, Bool, true, false, subst, length, arith}
-use Rattle.std.specs.Prelude.{option_map, map, filter, find, is_some, if◌then◌else◌, not, ◌&&◌}
+use Rattle.std.specs.Prelude.{option_map, map, filter, find, if◌then◌else◌, not}
 use Rattle.vss_names.specs.declared.order.Order.{Order}
 use Rattle.vss_names.specs.declared.level.Level.{Level}
 use Rattle.vss_names.specs.declared.set_outcome.SetOutcome.{SetOutcome}
 use Rattle.vss_names.specs.declared.vss_result.VssResult.{VssResult}
 use Rattle.writer_state.specs.declared.said.Said.{Said}
-use Rattle.writer_state.specs.declared.said.Said.TheVariants.{Ok, Lost}
+use Rattle.writer_state.specs.declared.said.Said.TheVariants.{Ok}
 use Rattle.set_agenda.specs.declared.kind.Kind.{Kind}
 use Rattle.set_agenda.specs.declared.group.Group.{Group}
 use Rattle.set_agenda.specs.declared.group.Group.TheVariants.{Orders, PreCommit, Flush, Hold, Cut, Commit, Release, PostCommit}
-use Rattle.set_agenda.specs.declared.limit.Limit.{Limit}
-use Rattle.set_agenda.specs.declared.limit.Limit.TheVariants.{Hold as HoldLimit, Freeze as FreezeLimit, Answer as AnswerLimit}
 use Rattle.set_agenda.specs.declared.member.Member.{Member}
 use Rattle.set_agenda.specs.declared.place.Place.{Place}
-use Rattle.set_agenda.specs.Limits.{Running, spent_of}
-use Rattle.set_agenda.specs.Agenda.{Agenda, Open, groups_left, left, left_from, with_group, places, waited_for, members_of, has_said, all_say, is_done, next_member, next_volume, volume_if}
-use Rattle.set_agenda.specs.Agenda.{is_over_volumes, open_order, order_now, waits_now}
-use Rattle.set_agenda.specs.Course.{Course, failed, settled_if, settled_in, settled, posted, begun, told, decided, is_decisive, answered_to, answered, worked, stepped_as, stepped}
-use Rattle.set_agenda.specs.Course.{lost_to, lost, fails_set, lost_decided, treated_as, treated, timed, limits_now, released}
-use Rattle.writer_state.specs.WriterState.{is_ok}
-use Rattle.vss_names.specs.declared.context.Context.{Context}
+use Rattle.set_agenda.specs.Agenda.{Agenda, Open, left, left_from, with_group, places, waited_for, members_of, has_said, all_say, next_member, next_volume, volume_if, is_over_volumes, open_group}
+use Rattle.set_agenda.specs.Course.{Course, failed, posted, begun, told, worked, released}
 use Rattle.vss_names.specs.declared.vss_result.VssResult.TheVariants.{AsyncCancelled}
 use Rattle.writer_state.specs.declared.writer_row.WriterRow.{WriterRow}
 use Rattle.writer_state.specs.WriterRow.{row_gathered}
 use Rattle.write_history.specs.declared.mark.Mark.{Mark}
-use Rattle.component_doc.specs.Selection.{Naming, IsNotFound, IsNotSelectable, IsNamedAlready, Names, naming}
 use Rattle.set_agenda.specs.declared.kind.Kind.TheVariants as kind
 use Rattle.set_agenda.specs.Course.{members_from, member_if}
-use Rattle.requestor.specs.declared.verdict.Verdict.{Verdict}
-use Rattle.requestor.specs.declared.verdict.Verdict.TheVariants.{Go, Blocked, Refused}
-use Rattle.requestor.specs.declared.mode.Mode.{Mode}
-use Rattle.requestor.specs.declared.mode.Mode.TheVariants as mode
-use Rattle.requestor.specs.declared.session_call.SessionCall.{SessionCall}
-use Rattle.requestor.specs.declared.session_call.SessionCall.TheVariants as call
-use Rattle.requestor.specs.Session.{Session, context_of}
-use Rattle.requestor.specs.Check.{check}
-use Rattle.scenario.specs.declared.op.Op.{Op}
-use Rattle.scenario.specs.declared.op.Op.TheVariants.{Begin, Disable, Gather, Component}
-use Rattle.scenario.specs.declared.op.Op.TheVariants.{Document, Start, Add, Prepare, Snapshot, Await, Status, Complete, Abort, End}
-use Rattle.scenario.specs.Calls.{call_of}
+use Rattle.requestor.specs.Session.{Session}
 use Rattle.scenario.specs.Bounds.{IsOp}
-use Rattle.scenario.specs.Plan.{Plan, token}
-use Rattle.vss_model.specs.Images.{Replied}
-use Rattle.vss_model.specs.Lines.{called, line}
-use Rattle.vss_model.specs.State.{State, SetRow, in_progress, is_running, row_changed}
+use Rattle.scenario.specs.Plan.{Plan}
+use Rattle.vss_model.specs.State.{State, SetRow, in_progress, is_running, row_changed, Kept, left_now}
 use Rattle.vss_model.specs.Ending.{Ending, NothingEnds, AgendaEnds, SetFails, ending, concluded, followed, row_settled, failed_in, failed as set_failed, runs}
-use Rattle.vss_model.specs.Sessions.{with_volume, volumes_of, begin_in, named_as, component_in, known_metas, add_refusal, add_to, add, has_no_volume, await_last, closed, session_line}
-use Rattle.vss_model.specs.Sessions.{line_without_session, line_in, judged}
-use Rattle.vss_model.specs.Steps.{with_cut, row_cut}
+use Rattle.vss_model.specs.Sessions.{with_volume, volumes_of, has_no_volume, closed}
+use Rattle.vss_model.specs.Steps.{with_cut, row_cut, cut_set, step_made, stepped, stepped_as, answered, later, ticked}
 use Rattle.vss_world.specs.Stands.{AreBelow, MembersBelow, SetsBelow, IsAgendaIn, IsInPlan}
+use Rattle.component_doc.specs.Selection.{Pair}
+use Rattle.set_agenda.proofs.CourseRule.{IsKeptInCourse, course_answered, course_begun, course_stepped, course_timed}
+use Rattle.vss_model.proofs.ByEvent.{Covers, after_by, by_if, covered}
+use Rattle.vss_model.specs.Acts.{Act, after, idle_now}
+use Rattle.vss_model.specs.Images.{cleared, put, reverted_as, set_loses_image, with_room, with_room_if, write}
+use Rattle.vss_model.specs.declared.event.Event.{Event}
+use Rattle.vss_model.specs.declared.event.Event.TheVariants.{Line}
+use Rattle.write_history.specs.History.{History, Write}
+use Rattle.write_history.specs.declared.mark.Mark.TheVariants.{Clean, Fault, FaultAfter}
+use Rattle.writer_calls.specs.Script.{said_of}
 
 -- ## the course
 
 abbrev pub IsCourseIn : Plan → Course → Type 0
 IsCourseIn s c = IsAgendaIn s c.agenda × MembersBelow (length s.writers) c.members × AreBelow (length s.writers) c.disabled
 
-pub in_failed : (s : Plan) (why : VssResult) (c : Course) → IsCourseIn s c → IsCourseIn s (failed why c)
+in_failed : (s : Plan) (why : VssResult) (c : Course) → IsCourseIn s c → IsCourseIn s (failed why c)
 unfolding failed
 in_failed s why c h = (tt, h.1, h.2)
 
@@ -77,63 +64,25 @@ in_posted : (s : Plan) (before c : Course) → IsCourseIn s c → IsCourseIn s (
 unfolding posted
 in_posted s before c h = h
 
-in_settled_if : (s : Plan) (done : Bool) (k : Kind) (c : Course) → IsCourseIn s c → IsCourseIn s (settled_if done k c)
-in_settled_if s false k c h = h
-in_settled_if s true k c h = (tt, h.1, h.2)
+in_course : (s : Plan) → IsKeptInCourse (IsCourseIn s)
+in_course s = record {
+  posts = in_posted s;
+  says = λ o said now ws. in_told s o said now ws;
+  works = in_worked s;
+  fails = in_failed s;
+  closes = λ k c h. (tt, h.1, h.2);
+}
 
-in_settled_in : (s : Plan) (a : Option Agenda) (c : Course) → IsCourseIn s c → IsCourseIn s (settled_in a c)
-in_settled_in s None c h = h
-in_settled_in s (Some a) c h = in_settled_if s (is_done (groups_left a)) a.kind c h
-
-in_settled : (s : Plan) (c : Course) → IsCourseIn s c → IsCourseIn s (settled c)
-unfolding settled
-in_settled s c h = in_settled_in s c.agenda c h
-
-pub in_stepped : (s : Plan) (ok : Bool) (now : ℕ) (c : Course) → IsCourseIn s c → IsCourseIn s (stepped ok now c)
-in_stepped s true now c h = in_posted s c (settled (worked now c)) (in_settled s (worked now c) (in_worked s now c h))
-in_stepped s false now c h = in_posted s c (stepped_as false now c) (in_failed s _ c h)
-
-in_decided : (s : Plan) (b : Bool) (said : Said) (c : Course) → IsCourseIn s c → IsCourseIn s (decided b said c)
-in_decided s true said c h = in_failed s _ c h
-in_decided s false said c h = in_settled s c h
-
-in_answered_to : (s : Plan) (o : Option Order) (w : ℕ) (said : Said) (now : ℕ) (c : Course) → IsCourseIn s c → IsCourseIn s (answered_to o w said now c)
-in_answered_to s None w said now c h = h
-in_answered_to s (Some o) w said now c h = in_decided s (is_decisive o && not (is_ok said)) said (told o said now (w ∷ []) c) (in_told s o said now (w ∷ []) c h)
-
-pub in_answered : (s : Plan) (w : ℕ) (said : Said) (now : ℕ) (c : Course) → IsCourseIn s c → IsCourseIn s (answered w said now c)
-in_answered s w said now c h = in_posted s c (answered_to (open_order (left c.agenda) w) w said now c) (in_answered_to s (open_order (left c.agenda) w) w said now c h)
-
-in_lost_to : (s : Plan) (o : Option Order) (now : ℕ) (c : Course) → IsCourseIn s c → IsCourseIn s (lost_to o now c)
-in_lost_to s None now c h = h
-in_lost_to s (Some o) now c h = in_told s o Lost now (waits_now (left c.agenda)) c h
-
-in_lost_decided : (s : Plan) (b : Bool) (c : Course) → IsCourseIn s c → IsCourseIn s (lost_decided b c)
-in_lost_decided s true c h = in_failed s _ c h
-in_lost_decided s false c h = in_settled s c h
-
-in_treated_as : (s : Plan) (l : Limit) (now : ℕ) (c : Course) → IsCourseIn s c → IsCourseIn s (treated_as l now c)
-in_treated_as s HoldLimit now c h = in_failed s _ c h
-in_treated_as s FreezeLimit now c h = in_failed s _ (lost now c) (in_lost_to s (order_now (left c.agenda)) now c h)
-in_treated_as s AnswerLimit now c h = in_lost_decided s (fails_set (order_now (left c.agenda))) (lost now c) (in_lost_to s (order_now (left c.agenda)) now c h)
-
-in_treated : (s : Plan) (l : Option Running) (now : ℕ) (c : Course) → IsCourseIn s c → IsCourseIn s (treated l now c)
-in_treated s None now c h = h
-in_treated s (Some l) now c h = in_treated_as s l.limit now c h
-
-pub in_timed : (s : Plan) (now : ℕ) (c : Course) → IsCourseIn s c → IsCourseIn s (timed now c)
-in_timed s now c h = in_posted s c (treated (spent_of now (limits_now c)) now c) (in_treated s (spent_of now (limits_now c)) now c h)
-
-pub in_released : (s : Plan) (c : Course) → IsCourseIn s c → IsCourseIn s (released c)
+in_released : (s : Plan) (c : Course) → IsCourseIn s c → IsCourseIn s (released c)
 unfolding released
 in_released s c h = (tt, tt, tt)
 
 -- ## the state
 
-pub course_of : (s : Plan) (st : State) → IsInPlan s st → IsCourseIn s st.course
+course_of : (s : Plan) (st : State) → IsInPlan s st → IsCourseIn s st.course
 course_of s st h = (h.agenda, h.members, h.disabled)
 
-pub with_course : (s : Plan) (c : Course) (st : State) → IsCourseIn s c → SetsBelow (length s.volumes) st.sets → IsInPlan s (record st { course = c })
+with_course : (s : Plan) (c : Course) (st : State) → IsCourseIn s c → SetsBelow (length s.volumes) st.sets → IsInPlan s (record st { course = c })
 with_course s c st h sets = record { sets = sets; agenda = h.0; members = h.1; disabled = h.2 }
 
 below_either : (b : Bool) (n : ℕ) (q r : SetRow) → AreBelow n q.volumes → AreBelow n r.volumes → AreBelow n (if b then q else r).volumes
@@ -256,87 +205,98 @@ members_filter test n (m ∷ ms) h = by_test (test m) (members_filter test n ms 
     by_test true k = (h.0, k)
     by_test false k = k
 
-in_begun_as : (s : Plan) (k : Kind) (ms : List Member) (vs : List ℕ) (now : ℕ) (c : Course) → MembersBelow (length s.writers) ms → AreBelow (length s.volumes) vs
-    → MembersBelow (length s.writers) c.members → AreBelow (length s.writers) c.disabled → IsCourseIn s (begun k ms vs now c)
-unfolding begun
-in_begun_as s k ms vs now c members below of disabled = in_posted s c _ (in_settled s _ ((below, members), of, disabled))
-
-in_line_or : (b : Bool) (s : Plan) (x y : Replied) → IsInPlan s x.1 → IsInPlan s y.1 → IsInPlan s (if b then x else y).1
-in_line_or true s x y h k = h
-in_line_or false s x y h k = k
-
-in_begin : (s : Plan) (lane : ℕ) (all : Bool) (c : Option Context) (st : State) → IsInPlan s st → IsInPlan s (begin_in lane all c st).1
-in_begin s lane all None st h = h
-in_begin s lane all (Some c) st h = record { sets = h.sets; agenda = h.agenda; members = h.members; disabled = h.disabled }
-
-in_named : (s : Plan) (n : Naming) (st : State) → IsInPlan s st → IsInPlan s (named_as n st).1
-in_named s IsNotFound st h = h
-in_named s IsNotSelectable st h = h
-in_named s IsNamedAlready st h = h
-in_named s (Names explicit) st h = record { sets = h.sets; agenda = h.agenda; members = h.members; disabled = h.disabled }
-
-in_component : (m : Mode) (s : Plan) (w : ℕ) (name : List ℕ) (st : State) → IsInPlan s st → IsInPlan s (component_in m s w name st).1
-in_component mode.All s w name st h = h
-in_component mode.Components s w name st h = in_named s (naming (known_metas s st) w name st.explicit) st h
-
-in_add_to : (s : Plan) (v : ℕ) (r : SetRow) (why : Option VssResult) (st : State) → v < length s.volumes → IsInPlan s st → IsInPlan s (add_to v r why st).1
-in_add_to s v r (Some why) st l h = h
-in_add_to s v r None st l h = record { sets = sets_joined (length s.volumes) r.number v st.sets l h.sets; agenda = h.agenda; members = h.members; disabled = h.disabled }
-
-in_add : (s : Plan) (v : ℕ) (o : Option SetRow) (st : State) → v < length s.volumes → IsInPlan s st → IsInPlan s (add v o st).1
-in_add s v None st l h = h
-in_add s v (Some r) st l h = in_add_to s v r (add_refusal v r st) st l h
-
-in_await : (s : Plan) (o : Option VssResult) (st : State) → IsInPlan s st → IsInPlan s (await_last o st).1
-in_await s None st h = h
-in_await s (Some why) st h = h
+begins_in : (s : Plan) (st : State) (k : Kind) (ms : List Member) (vs : List ℕ) (c : Course) → MembersBelow (length s.writers) ms → AreBelow (length s.volumes) vs → MembersBelow (length s.writers) c.members
+    → AreBelow (length s.writers) c.disabled → SetsBelow (length s.volumes) st.sets → IsInPlan s (followed true (begun k ms vs st.clock c) st)
+begins_in s st k ms vs c members below of disabled sets =
+    in_followed s true (begun k ms vs st.clock c) st (course_begun (IsCourseIn s) (in_course s) k ms vs st.clock c ((below, members), of, disabled)) sets
 
 in_closed : (s : Plan) (q : Session) (st : State) → IsInPlan s st → IsInPlan s (closed q st)
 unfolding closed
 in_closed s q st h = let c = in_released s st.course (course_of s st h) in record { sets = h.sets; agenda = c.0; members = c.1; disabled = c.2 }
 
-in_judged : (verdict : Verdict) (s : Plan) (lane : ℕ) (op : Op) (st : State) → IsInPlan s st → IsInPlan s (line_in s lane op st.session st).1 → IsInPlan s (judged verdict s lane op st).1
-in_judged Go s lane op st h k = k
-in_judged Blocked s lane op st h k = h
-in_judged (Refused why) s lane op st h k = h
+-- ## the other events
 
-in_called : (c : SessionCall) (s : Plan) (lane : ℕ) (op : Op) (st : State) → IsInPlan s st → IsInPlan s (line_in s lane op st.session st).1 → IsInPlan s (called c s lane op st).1
-unfolding called
-in_called c s lane op st h k = in_judged (check st.session (runs st) lane c) s lane op st h k
+-- what is not of the sets and the course is not looked at
+unseen : (s : Plan) (st : State) (q : Option Session) (ps : List Pair) (hs : List History) (n : ℕ) → IsInPlan s st → IsInPlan s (record st { session = q; explicit = ps; volumes = hs; clock = n })
+unseen s st q ps hs n h = record { sets = h.sets; agenda = h.agenda; members = h.members; disabled = h.disabled }
 
-in_of : (s : Plan) (lane : ℕ) (op : Op) (o : Option Session) (st : State) → IsInPlan s (line_without_session lane op st).1 → ((q : Session) → IsInPlan s (session_line s lane op q st).1)
-    → IsInPlan s (line_in s lane op o st).1
-in_of s lane op None st h k = h
-in_of s lane op (Some q) st h k = k q
+in_put : (s : Plan) (v : ℕ) (w : Write) (mark : Mark) (st : State) → IsInPlan s st → IsInPlan s (put v w mark st)
+in_put s v w Clean st h = unseen s st _ _ _ _ h
+in_put s v w _ st h = h
 
-pub in_line : (s : Plan) (lane : ℕ) (op : Op) (mark : Mark) (st : State) → is_some (call_of op) ≡ true → IsOp s op → length st.course.rows ≡ length s.writers → IsInPlan s st
-    → IsInPlan s (line s lane op mark st).1
-in_line s lane (Begin c all) mark st e o rows h = in_called (call.Begin c all) s lane (Begin c all) st h
-    (in_of s lane (Begin c all) st.session st (in_begin s lane all (context_of c all) st h) (λ q. h))
-in_line s lane (Disable w) mark st e o rows h = in_called call.Disable s lane (Disable w) st h
-    (in_of s lane (Disable w) st.session st h (λ q. record { sets = h.sets; agenda = h.agenda; members = h.members; disabled = below_append (length s.writers) st.course.disabled w h.disabled o }))
-in_line s lane Gather mark st e o rows h = in_called call.Gather s lane Gather st h (in_of s lane Gather st.session st h
-    (λ q. in_followed s true _ st
-    (in_begun_as s kind.Gather _ [] st.clock (record st.course { rows = map row_gathered st.course.rows })
-    (members_below_from _ (length s.writers) 0 st.course.rows (let e = rows in omega (arith, e))) tt h.members h.disabled) h.sets))
-in_line s lane (Component w full) mark st e o rows h = in_called call.Component s lane (Component w full) st h
-    (in_of s lane (Component w full) st.session st h (λ q. in_component q.mode s w (token s full) st h))
-in_line s lane Document mark st e o rows h = in_called call.Document s lane Document st h (in_of s lane Document st.session st h (λ q. h))
-in_line s lane Start mark st e o rows h = in_called call.Start s lane Start st h
-    (in_of s lane Start st.session st h (λ q. record { sets = sets_append (length s.volumes) st.sets _ h.sets tt; agenda = h.agenda; members = h.members; disabled = h.disabled }))
-in_line s lane (Add v) mark st e o rows h = in_called call.Add s lane (Add v) st h (in_of s lane (Add v) st.session st h (λ q. in_add s v (in_progress st) st o h))
-in_line s lane Prepare mark st e o rows h = in_called call.Prepare s lane Prepare st h (in_of s lane Prepare st.session st h
-    (λ q. in_line_or (has_no_volume (in_progress st)) s _ _ h
-    (let ms = members_below_from _ (length s.writers) 0 st.course.rows (let e = rows in omega (arith, e)) in in_followed s true _ st
-    (in_begun_as s kind.Prepare _ [] st.clock (record st.course { members = _ }) ms tt ms h.disabled) h.sets)))
-in_line s lane Snapshot mark st e o rows h = in_called call.Snapshot s lane Snapshot st h (in_of s lane Snapshot st.session st h
-    (λ q. in_line_or (has_no_volume (in_progress st)) s _ _ h
-    (in_followed s true _ st
-    (in_begun_as s kind.Snapshot st.course.members (volumes_of (in_progress st)) st.clock st.course h.members (volumes_below (length s.volumes) st h.sets) h.members h.disabled) h.sets)))
-in_line s lane Await mark st e o rows h = in_called call.Await s lane Await st h (in_of s lane Await st.session st h (λ q. in_await s q.last st h))
-in_line s lane Status mark st e o rows h = in_called call.Status s lane Status st h (in_of s lane Status st.session st h (λ q. h))
-in_line s lane Complete mark st e o rows h = in_called call.Complete s lane Complete st h (in_of s lane Complete st.session st h
-    (λ q. in_followed s true _ st (in_begun_as s kind.Complete _ [] st.clock st.course (members_filter _ (length s.writers) st.course.members h.members) tt h.members h.disabled) h.sets))
-in_line s lane Abort mark st e o rows h = in_called call.Abort s lane Abort st h (in_of s lane Abort st.session st h (λ q. in_set_failed s _ st h))
-in_line s lane End mark st e o rows h = in_called call.End s lane End st h (in_of s lane End st.session st h (λ q. in_closed s q (set_failed AsyncCancelled st) (in_set_failed s AsyncCancelled st h)))
-in_line s lane _ mark st e o rows h = cc
+in_room_if : (s : Plan) (fails : Bool) (st : State) → IsInPlan s st → IsInPlan s (with_room_if fails st)
+in_room_if s true st h = in_set_failed s _ st h
+in_room_if s false st h = h
+
+in_write : (s : Plan) (v : ℕ) (w : Write) (mark : Mark) (st : State) → IsInPlan s st → IsInPlan s (write s v w mark st).1
+unfolding write
+in_write s v w mark st h =
+    let new = cleared s v w.block st in
+    in_put s v w mark (with_room s v w.block st) (in_room_if s (set_loses_image (in_progress st) st.volumes new.volumes) new (unseen s st st.session st.explicit new.volumes st.clock h))
+
+in_reverted : (s : Plan) (v : ℕ) (k : Kept) (mark : Mark) (st : State) → IsInPlan s st → IsInPlan s (reverted_as s v k mark st).1
+in_reverted s v k Clean st h = unseen s st _ _ _ _ h
+in_reverted s v k Fault st h = h
+in_reverted s v k (FaultAfter n) st h = unseen s st _ _ _ _ h
+
+made_sets : (s : Plan) (g : Option Group) (st : State) → SetsBelow (length s.volumes) st.sets → SetsBelow (length s.volumes) (step_made g st).sets
+made_sets s (Some Cut) st h = by_set (in_progress st)
+  where
+    by_set : (o : Option SetRow) → SetsBelow (length s.volumes) (cut_set o st).sets
+    by_set None = h
+    by_set (Some r) = sets_cut (length s.volumes) r.number st.clock st.sets h
+made_sets s _ st h = h
+
+in_step : (s : Plan) (fails : Bool) (g : Option Group) (st : State) → IsInPlan s st → IsInPlan s (stepped_as fails g st)
+in_step s true g st h = in_followed s (runs st) _ st (course_stepped (IsCourseIn s) (in_course s) false st.clock st.course (course_of s st h)) h.sets
+in_step s false g st h = in_followed s (runs st) _ (step_made g st) (course_stepped (IsCourseIn s) (in_course s) true st.clock st.course (course_of s st h)) (made_sets s g st h.sets)
+
+in_stepped : (s : Plan) (mark : Mark) (st : State) → IsInPlan s st → IsInPlan s (stepped mark st)
+unfolding stepped
+in_stepped s mark st h = in_step s _ (open_group (left_now st)) st h
+
+in_answered : (s : Plan) (w : ℕ) (said : Said) (st : State) → IsInPlan s st → IsInPlan s (answered w said st)
+unfolding answered
+in_answered s w said st h = in_followed s (runs st) _ st (course_answered (IsCourseIn s) (in_course s) w said st.clock st.course (course_of s st h)) h.sets
+
+in_ticked : (s : Plan) (n : ℕ) (st : State) → IsInPlan s st → IsInPlan s (ticked n st)
+unfolding ticked
+in_ticked s n st h = in_followed s (runs st) _ (later n st) (course_timed (IsCourseIn s) (in_course s) (st.clock + n) st.course (course_of s st h)) h.sets
+
+-- ## every event
+
+-- the numbers of a line are those of the scenario
+abbrev pub IsEventIn : Plan → Event → Type 0
+IsEventIn s (Line lane op) = IsOp s op
+IsEventIn s _ = Unit {0}
+
+in_plan : (s : Plan) (st : State) → length st.course.rows ≡ length s.writers → IsInPlan s st → Covers (λ event mark r. IsEventIn s event → IsInPlan s r.1) s st
+in_plan s st rows h =
+    let all = λ (test : ℕ → Bool). members_below_from test (length s.writers) 0 st.course.rows (let e = rows in omega (arith, e)) in
+    record {
+      stays = λ lane op mark told e c i. h;
+      writes = λ lane op v w mark e f i. in_write s v w mark st h;
+      reverts = λ lane n v k mark e f i. in_reverted s v k mark st h;
+      deletes_set = λ lane n c mark e i. unseen s st _ _ _ _ h;
+      deletes_image = λ lane n v k mark e i. unseen s st _ _ _ _ h;
+      ticks = λ lane n mark i. in_ticked s n st h;
+      begins = λ lane n all c mark e f i. unseen s st _ _ _ _ h;
+      disables = λ lane w q mark g i. record { sets = h.sets; agenda = h.agenda; members = h.members; disabled = below_append (length s.writers) st.course.disabled w h.disabled i };
+      gathers = λ lane q mark g i. begins_in s st kind.Gather _ [] (record st.course { rows = map row_gathered st.course.rows }) (all _) tt h.members h.disabled h.sets;
+      names = λ lane w full q explicit mark g e i. unseen s st _ _ _ _ h;
+      starts = λ lane q mark g e i. record { sets = sets_append (length s.volumes) st.sets _ h.sets tt; agenda = h.agenda; members = h.members; disabled = h.disabled };
+      adds = λ lane v r q mark g e f i. record { sets = sets_joined (length s.volumes) r.number v st.sets i h.sets; agenda = h.agenda; members = h.members; disabled = h.disabled };
+      prepares = λ lane q mark g i. by_if (λ r. IsInPlan s r.1) (has_no_volume (in_progress st)) _ _ h (begins_in s st kind.Prepare _ [] (record st.course { members = _ }) (all _) tt (all _) h.disabled h.sets);
+      snapshots = λ lane q mark g i. by_if (λ r. IsInPlan s r.1) (has_no_volume (in_progress st)) _ _ h
+          (begins_in s st kind.Snapshot st.course.members _ st.course h.members (volumes_below (length s.volumes) st h.sets) h.members h.disabled h.sets);
+      completes = λ lane q mark g i. begins_in s st kind.Complete _ [] st.course (members_filter _ (length s.writers) st.course.members h.members) tt h.members h.disabled h.sets;
+      aborts = λ lane q mark e i. in_set_failed s _ st h;
+      ends = λ lane q mark e i. in_closed s q (set_failed AsyncCancelled st) (in_set_failed s AsyncCancelled st h);
+      answers = λ w answer mark e i. in_answered s w (said_of answer) st h;
+      steps = λ mark e i. in_stepped s mark st h;
+      idles = λ mark e i. in_ticked s (idle_now st) st h;
+    }
+
+pub in_plan_after : (s : Plan) (st : State) (act : Act) → length st.course.rows ≡ length s.writers → IsEventIn s act.event → IsInPlan s st → IsInPlan s (after s st act)
+in_plan_after s st act rows i h =
+    after_by (IsInPlan s) s st act (λ e. covered (λ event mark r. IsEventIn s event → IsInPlan s r.1) s st (in_plan s st rows h) act.event act.mark e i) h

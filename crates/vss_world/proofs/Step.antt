@@ -47,12 +47,12 @@ use Rattle.sessions.specs.declared.session_move.SessionMove.{SessionMove}
 use Rattle.vss_world.specs.Devices.{RoseFor}
 use Rattle.vss_world.specs.Provided.{is_to_come, without, provided}
 use Rattle.vss_world.specs.Changes.{IsSettled}
-use Rattle.vss_world.specs.Stands.{IsOf, IsInPlan, IsPrepared, number_prepared, Stands, IfStands}
+use Rattle.vss_world.specs.Stands.{IsOf, IsPrepared, number_prepared, Stands, IfStands}
 use Rattle.vss_world.specs.Moves.{IsMoved, volume_of_step}
 use Rattle.vss_world.proofs.Moved.{world_of, IsProviderAt, clean_devices, failed_devices, goes_on, leaves_of}
 use Rattle.vss_world.proofs.Following.{at_of, course_of, set_move, ends_of, session_comes}
 use Rattle.vss_world.proofs.Failing.{failed_course}
-use Rattle.vss_world.proofs.Made.{made_in, fails_in, stepped_made, stepped_fails}
+use Rattle.vss_world.proofs.Made.{stepped_made, stepped_fails}
 use Rattle.vss_world.proofs.Prepared.{volumes_same, IsSetMove, NoneOfZero, none_of_zero, cut_above, runs_number, prepared_same, settled_comes, settled_keeps, settled_devices}
 use Rattle.vss_world.proofs.Provided.{number_above}
 use Rattle.vss_world.proofs.SetGoesOn.{number_cut, GoesBy, GoesOn, IsOfAgenda, IsSameSet, runs_snapshot, followed_goes, stepped_goes, goes_from, step_same}
@@ -225,7 +225,7 @@ module _ {D : Type 0} (device : Ghosts D) (s : Plan) {m : SessionMove} {p q r : 
       (ap (λ (t : Told). event_volumes Provider t st) told_is)
       (made_set_move s q acts (told_act Provider m.outcome.told) group volume k (prepared_same p q st same stands.at.prepared) works (to acts stands))
       (subst (λ (n : ℕ). AreGroups device.told s q.groups (step_taken group n volume (provided st))) (sym set_is) (stands_so (provided st) stands.at.groups)))
-      (λ acts stands. subst (λ (z : State). IsInPlan s z) (sym (to acts stands)) (made_in s group (state s acts) stands.at.plan))
+      of tt
 
   -- one that a device fails
   pub failed_moves : (v : ℕ) → IsNextStep x Flush (Some v) → m.outcome.told ≡ told.Step Flush (Some v) true
@@ -250,7 +250,7 @@ module _ {D : Type 0} (device : Ghosts D) (s : Plan) {m : SessionMove} {p q r : 
       let goes = subst (GoesOn st) (sym (to acts stands)) (failed_goes_on st (course_of s acts) (working x Flush (Some v) st next stands.at.sessions)) in
       left_at acts stands (is_to_come st.course.agenda) (provided st) st.volumes (ap (λ (t : Told). event_volumes Provider t st) told_is)
       (set_move s q acts (told_act Provider m.outcome.told) (prepared_same p q st same stands.at.prepared) goes) (stands_so (provided st) stands.at.groups))
-      (λ acts stands. subst (λ (z : State). IsInPlan s z) (sym (to acts stands)) (fails_in s (state s acts) stands.at.plan))
+      of tt
 
   -- either
   pub step_moves : (group : Group) (volume : Option ℕ) (made : Result Unit Cause) (ok : Bool) → IsNextStep x group volume

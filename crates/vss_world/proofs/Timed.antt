@@ -10,7 +10,6 @@ use Rattle.scenario.specs.Plan.{Plan}
 use Rattle.vss_model.specs.declared.event.Event.{Event}
 use Rattle.vss_model.specs.declared.event.Event.TheVariants.{Line, Answer as AnswerEvent, Idle}
 use Rattle.vss_model.specs.State.{State}
-use Rattle.vss_model.specs.Ending.{runs}
 use Rattle.vss_model.specs.Steps.{answered, ticked, later}
 use Rattle.vss_model.specs.Acts.{Act, state, event_allows, idle_now, happens}
 use Rattle.vss_model.specs.Told.{mark_of}
@@ -20,21 +19,16 @@ use Rattle.provider.specs.Preparing.{ProviderValue}
 use Rattle.sessions.specs.Keeps.{SessionsValue, IsAt, Leaves, LeavesWithin, later_by, IsOf as IsSessionsOf}
 use Rattle.sessions.specs.Moves.{IsMove, after_move, event_volumes}
 use Rattle.sessions.specs.declared.session_move.SessionMove.{SessionMove}
-use Rattle.vss_world.specs.Stands.{IsOf, IsInPlan, IsStanding, IfStands}
+use Rattle.vss_world.specs.Stands.{IsOf, IsStanding, IfStands}
 use Rattle.vss_world.specs.Moves.{IsMoved}
 use Rattle.vss_world.specs.Changes.{IsSettled}
 use Rattle.vss_world.proofs.Moved.{world_of, Goes, leaves_of, later_of, goes_on, goes_later}
 use Rattle.vss_world.proofs.Simple.{after_on}
 use Rattle.vss_world.proofs.SetGoesOn.{GoesOn, followed_goes}
-use Rattle.vss_world.proofs.InPlan.{course_of as plan_course, in_answered, in_timed, in_followed}
+use Rattle.vss_world.proofs.InPlan.{IsEventIn}
 use Rattle.vss_world.proofs.Following.{fault_free, at_of, course_of, session_moves}
 
 -- ## what it leaves
-
-ticked_in : (s : Plan) (n : ℕ) (st : State) → IsInPlan s st → IsInPlan s (ticked n st)
-unfolding ticked
-ticked_in s n st h =
-    in_followed s (runs st) (course_timed (st.clock + n) st.course) (later n st) (in_timed s (st.clock + n) st.course (plan_course s st h)) h.sets
 
 ticked_goes : (s : Plan) (acts : List Act) (n : ℕ) → GoesOn (state s acts) (ticked n (state s acts))
 unfolding ticked
@@ -43,12 +37,6 @@ ticked_goes s acts n =
     let of = course_of s acts in
     followed_goes (course_timed (st.clock + n) st.course) (later n st) (record { numbered = of.numbered; outcome = of.outcome; volumes = of.volumes })
     (call_timed (st.clock + n) st.course)
-
-said_in : (s : Plan) (w : ℕ) (answer : Answer) (st : State) → IsInPlan s st → IsInPlan s (answered w (said_of answer) st)
-unfolding answered
-said_in s w answer st h =
-    let course = course_answered w (said_of answer) st.clock st.course in
-    in_followed s (runs st) course st (in_answered s w (said_of answer) st.clock st.course (plan_course s st h)) h.sets
 
 said_goes : (s : Plan) (w : ℕ) (answer : Answer) (acts : List Act) → GoesOn (state s acts) (answered w (said_of answer) (state s acts))
 unfolding answered
@@ -64,31 +52,30 @@ module _ {D : Type 0} (device : Ghosts D) (s : Plan) {p q : ProviderValue D} {x 
   comes : (event : Event) (next : State → State) → IsMove (IsAt x s) s y event m → ((st : State) → event_volumes event m.outcome.told st ≡ st.volumes) → IsSessionsOf y s → Goes x y
       → ((st : State) → event_allows s st event (mark_of m.outcome.told) ≡ true → is_fault (mark_of m.outcome.told) ≡ false)
       → ((st : State) → (happens s event (mark_of m.outcome.told) st).1 ≡ next st)
-      → ((acts : List Act) → GoesOn (state s acts) (next (state s acts))) → ((st : State) → IsInPlan s st → IsInPlan s (next st))
+      → ((acts : List Act) → GoesOn (state s acts) (next (state s acts))) → IsEventIn s event
       → IsMoved device.told device.count (world_of p x l e) (world_of q y l f) s event m.outcome
-  comes event next move still writers goes clean is on plan =
+  comes event next move still writers goes clean is on within =
       let to : IfStands device.told (world_of p x l e) s (λ st. after_move s st event m ≡ next st)
       = λ acts stands. after_on s (state s acts) event (mark_of m.outcome.told) (move.is_enabled (state s acts) (at_of of acts stands)) ∙ is (state s acts) in
       session_moves device s event m (IsAt x s) none move (at_of of) of still settled writers goes
       (clean (state s standing.acts) (move.is_allowed (state s standing.acts) (at_of of standing.acts standing.stands)))
-      (λ acts stands. subst (GoesOn (state s acts)) (sym (to acts stands)) (on acts))
-      (λ acts stands. subst (λ (z : State). IsInPlan s z) (sym (to acts stands)) (plan (state s acts) stands.at.plan))
+      (λ acts stands. subst (GoesOn (state s acts)) (sym (to acts stands)) (on acts)) within
 
   pub tick_moves : (lane n : ℕ) → n ≤ 1000000000 → IsMove (IsAt x s) s y (Line lane (Tick n)) m → Leaves (later_by n x) y
       → IsMoved device.told device.count (world_of p x l e) (world_of q y l f) s (Line lane (Tick n)) m.outcome
   tick_moves lane n few move leaves =
       comes (Line lane (Tick n)) (ticked n) move (λ st. refl) (leaves_of s (later_by n x) y (later_of s n x of.writers) leaves) (goes_later n x y few leaves)
-      (λ st. fault_free (event_allows s st (Line lane (Tick n))) refl (λ k. refl) (mark_of m.outcome.told)) (λ st. refl) (λ acts. ticked_goes s acts n) (ticked_in s n)
+      (λ st. fault_free (event_allows s st (Line lane (Tick n))) refl (λ k. refl) (mark_of m.outcome.told)) (λ st. refl) (λ acts. ticked_goes s acts n) few
 
   pub answer_moves : (w : ℕ) (answer : Answer) → IsMove (IsAt x s) s y (AnswerEvent w answer) m → Leaves x y
       → IsMoved device.told device.count (world_of p x l e) (world_of q y l f) s (AnswerEvent w answer) m.outcome
   answer_moves w answer move leaves =
       comes (AnswerEvent w answer) (answered w (said_of answer)) move (λ st. refl) (leaves_of s x y of.writers leaves) (goes_on x y leaves)
-      (λ st. fault_free (event_allows s st (AnswerEvent w answer)) refl (λ k. refl) (mark_of m.outcome.told)) (λ st. refl) (said_goes s w answer) (said_in s w answer)
+      (λ st. fault_free (event_allows s st (AnswerEvent w answer)) refl (λ k. refl) (mark_of m.outcome.told)) (λ st. refl) (said_goes s w answer) tt
 
   pub idle_moves : IsMove (IsAt x s) s y Idle m → LeavesWithin (300000 + 1) x y → IsMoved device.told device.count (world_of p x l e) (world_of q y l f) s Idle m.outcome
   idle_moves move within =
       let few = within.few in
       comes Idle (λ st. ticked (idle_now st) st) move (λ st. refl) (leaves_of s (later_by within.ticks x) y (later_of s within.ticks x of.writers) within.leaves)
       (goes_later within.ticks x y (omega (arith, few)) within.leaves)
-      (λ st. fault_free (event_allows s st Idle) refl (λ k. refl) (mark_of m.outcome.told)) (λ st. refl) (λ acts. ticked_goes s acts (idle_now (state s acts))) (λ st. ticked_in s (idle_now st) st)
+      (λ st. fault_free (event_allows s st Idle) refl (λ k. refl) (mark_of m.outcome.told)) (λ st. refl) (λ acts. ticked_goes s acts (idle_now (state s acts))) tt
