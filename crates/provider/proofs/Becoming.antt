@@ -1,17 +1,9 @@
 -- One group was called: for which histories all groups stand afterwards.
 use Rattle.std.proofs.Common.{◌≡◌, ℕ, zero, suc, ◌==◌, List, [], ◌∷◌, length, refl, ap, sym, ◌∙◌, subst, Bool, true, false, Option, Some, slice_get, slice_set}
-use Rattle.std.proofs.lemmas.Bool.{true≢false}
-use Rattle.write_history.specs.History.{History}
-use Rattle.set_agenda.specs.Course.{change_at}
-use Rattle.scenario.specs.Plan.{Plan}
-use Rattle.cow_volume.specs.GroupValue.{GroupValue}
-use Rattle.cow_volume.specs.StandsFor.{StandsFor}
-use Rattle.cow_volume.specs.Calls.{changed_at}
-use Rattle.cow_volume.proofs.Group.{slice_get-set_same, slice_get-set_other}
-use Rattle.scenario.specs.Places.{of_group, place_in, IsPlaceOf}
-use Rattle.provider.specs.Groups.{IsGroup, AreGroups}
+use Rattle.provider.proofs.Words.{AreGroups, GroupValue, History, IsGroup, IsPlaceOf, Plan, StandsFor, change_at, changed_at, of_group, place_in, same_number, slice_get-set_other, slice_get-set_same}
+use Rattle.provider.proofs.Words.{true≢false}
+use Rattle.vss_model.proofs.Words.{number_is}
 use Rattle.provider.proofs.InGroup.{changed_in_group, changed_elsewhere}
-use Rattle.scenario.proofs.Places.{number_is, same_number}
 
 -- ## a list with one member changed
 

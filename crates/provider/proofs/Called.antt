@@ -2,29 +2,13 @@
 use Rattle.std.proofs.Common.{◌≡◌, ℕ, zero, suc, ◌<◌, List, [], ◌∷◌, length, refl, ap, sym, ◌∙◌, subst, arith, Bool, true, false, Option, Some, All, map, slice_get, slice_set}
 use Rattle.std.specs.Prelude.{Result, Ok, Err, OnOk, IfErr}
 use Rattle.std.proofs.lemmas.List.{length-map}
-use Rattle.write_history.specs.History.{History, Image, Write, point_in, written, dropped, cut, sets_of, reverted, reverted_in_part, to_restore}
-use Rattle.set_agenda.specs.Course.{change_at}
-use Rattle.scenario.specs.declared.volume_row.VolumeRow.{VolumeRow}
-use Rattle.scenario.specs.Plan.{Plan, blocks_of}
-use Rattle.volume_device.specs.declared.device.Device.{Ghosts}
-use Rattle.cow_volume.specs.GroupValue.{GroupValue}
-use Rattle.cow_volume.specs.StandsFor.{StandsFor}
-use Rattle.cow_volume.specs.declared.cause.Cause.{Cause}
-use Rattle.cow_volume.specs.declared.cause.Cause.TheVariants.{NoSuchBlock, Volume, Area}
-use Rattle.cow_volume.specs.declared.image_fault.ImageFault.{ImageFault}
+use Rattle.vss_model.specs.Words.{History, Image, Plan, VolumeRow, Write, blocks_of, change_at, cut, dropped, point_in, reverted, reverted_in_part, sets_of, to_restore, written}
+use Rattle.provider.specs.Words.{Area, Cause, DeviceRose, Fault, Ghosts, GroupValue, HasCauseAt, HasImageCause as HasGroupImageCause, ImageFault, IsPutOr, IsRevert as IsGroupRevert, IsSameDevice}
+use Rattle.provider.specs.Words.{IsUnfailed, IsUnseen, NoSuchBlock, RevertFault, StandsFor, Volume, VolumeRose, blocks_at, changed_at, history_at as group_history_at, is_among, sets_at}
+use Rattle.provider.proofs.Words.{AreGroups, AreKept, CanCutOn, HasCause, HasDigestCause, HasImageCause, IsCallOn, IsCutOn, IsDropped, IsGroupDrop, IsKeptGroup, IsPut, IsQuiet, IsQuietGroup, IsRevert}
+use Rattle.provider.proofs.Words.{LastsAt, ProviderValue, RoseAlone, counts_of, devices_of, fault_of, history_at, quiet_stands, slice_get-set_other, slice_set-same, volume_place}
 use Rattle.cow_volume.specs.declared.image_fault.ImageFault.TheVariants as image
-use Rattle.cow_volume.specs.declared.revert_fault.RevertFault.{RevertFault}
-use Rattle.cow_volume.specs.declared.revert_fault.RevertFault.TheVariants.{NoSuchImage as NoImage, Fault}
-use Rattle.cow_volume.specs.Calls.{IsSameDevice, IsUnfailed, HasCauseAt, HasImageCause as HasGroupImageCause, DeviceRose, VolumeRose, IsRevert as IsGroupRevert, blocks_at, changed_at}
-use Rattle.cow_volume.specs.Calls.{is_among, sets_at, history_at as group_history_at}
-use Rattle.cow_volume.specs.Steps.{IsPutOr}
-use Rattle.cow_volume.specs.Parts.{IsUnseen}
-use Rattle.cow_volume.proofs.Group.{quiet_stands, slice_set-same, slice_get-set_other}
-use Rattle.provider.specs.Groups.{AreGroups, history_at}
-use Rattle.provider.specs.Devices.{AreKept, IsCallOn, IsKeptGroup, HasCause, LastsAt, RoseAlone, counts_of, devices_of, volume_place, fault_of}
-use Rattle.provider.specs.Calls.{HasImageCause, IsDropped, IsPut, IsQuiet, IsRevert}
-use Rattle.provider.specs.GroupCalls.{HasDigestCause, IsGroupDrop, IsQuietGroup}
-use Rattle.provider.specs.Preparing.{CanCutOn, IsCutOn, ProviderValue}
+use Rattle.cow_volume.specs.declared.revert_fault.RevertFault.TheVariants.{NoSuchImage as NoImage}
 use Rattle.provider.proofs.Becoming.{changes, stays}
 use Rattle.provider.proofs.Found.{Found, blocks_here, device_is, history_here, image_of, own, sets_here, stands_here}
 use Rattle.provider.proofs.Flat.{rose_volume, rose_area, area_of_place, counts_same, devices_same, mapped_same}

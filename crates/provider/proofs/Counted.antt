@@ -1,14 +1,7 @@
 -- Counting the devices of groups.
 use Rattle.std.proofs.Common.{◌≡◌, ℕ, ◌+◌, ◌<◌, ◌≤◌, ◌*◌, List, [], ◌∷◌, ◌++◌, length, take, refl, ap, sym, ◌∙◌, subst, arith, Some, slice_get, ◌==◌, Bool, true, false}
-use Rattle.std.proofs.Math.Seq.{take-length}
-use Rattle.std.proofs.lemmas.Option.{slice_get_within}
-use Rattle.std.proofs.lemmas.Bool.Decides.{nat_tests}
-use Rattle.std.proofs.lemmas.List.{length-append}
-use Rattle.cow_volume.specs.GroupValue.{GroupValue}
-use Rattle.cow_volume.proofs.Reverting.{take_next}
-use Rattle.provider.specs.Groups.{AreWhole}
-use Rattle.provider.specs.Devices.{devices_of}
-use Rattle.scenario.proofs.Places.{number_is}
+use Rattle.provider.proofs.Words.{AreWhole, GroupValue, devices_of, length-append, nat_tests, slice_get_within, take-length, take_next}
+use Rattle.vss_model.proofs.Words.{number_is}
 
 devices_more : {D : Type 0} (groups : List (GroupValue D)) (x : GroupValue D) → length (devices_of (groups ++ x ∷ [])) ≡ length (devices_of groups) + (length x.devices + 1)
 devices_more [] x = let e = length-append x.devices (x.area.device ∷ []) in omega (arith, e)

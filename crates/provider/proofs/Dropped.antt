@@ -1,19 +1,8 @@
 -- The images of a set go from all volumes of a group.
-use Rattle.std.proofs.Common.{◌≡◌, ℕ, zero, suc, ◌+◌, ◌<◌, ◌≤◌, ◌==◌, List, [], ◌∷◌, length, refl, ap, sym, ◌∙◌, subst, arith, Bool, true, false, Option, map, take}
-use Rattle.std.specs.Prelude.{not, ◌||◌, ◌++◌, if◌then◌else◌}
-use Rattle.std.proofs.lemmas.Bool.{true≢false}
-use Rattle.std.proofs.Math.Seq.{take-length}
-use Rattle.write_history.specs.History.{Image, History, dropped, without_set, sets_of}
-use Rattle.vss_model.specs.State.{has_image}
-use Rattle.vss_model.specs.Images.{count_images}
-use Rattle.volume_device.specs.declared.device.Device.{Ghosts}
-use Rattle.cow_volume.specs.GroupValue.{GroupValue}
-use Rattle.cow_volume.specs.StandsFor.{StandsFor}
-use Rattle.cow_volume.specs.Calls.{changed_at, history_at, history_in, is_among, sets_at, sets_in}
-use Rattle.cow_volume.proofs.Group.{place_at, slice_get_inside}
-use Rattle.cow_volume.proofs.Reverting.{take_next}
-use Rattle.provider.specs.Devices.{IsKeptGroup}
-use Rattle.provider.specs.GroupCalls.{IsGroupDrop, IsWithout}
+use Rattle.std.proofs.Common.{◌≡◌, ℕ, zero, suc, ◌+◌, ◌<◌, ◌≤◌, ◌==◌, List, [], ◌∷◌, length, refl, ap, sym, ◌∙◌, subst, arith, Bool, true, false, Option, map, take, not, ◌||◌, ◌++◌, if◌then◌else◌}
+use Rattle.provider.proofs.Words.{Ghosts, GroupValue, History, Image, IsGroupDrop, IsKeptGroup, IsWithout, StandsFor, changed_at, count_images, dropped, has_image, history_in, is_among, place_at}
+use Rattle.provider.proofs.Words.{sets_at, sets_in, sets_of, slice_get_inside, take-length, take_next, true≢false, without_set}
+use Rattle.provider.specs.Words.{history_at}
 use Rattle.provider.proofs.Kept.{kept_then}
 use Rattle.provider.proofs.Looked.{point_among}
 

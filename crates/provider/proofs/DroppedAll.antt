@@ -1,25 +1,8 @@
 -- The images of a set go from the volumes of all groups.
-use Rattle.std.proofs.Common.{◌≡◌, ℕ, zero, suc, ◌+◌, ◌<◌, ◌≤◌, ◌==◌, ◌*◌, List, [], ◌∷◌, length, refl, ap, sym, ◌∙◌, subst, arith, Bool, true, false, Some, map, slice_get, slice_set}
-use Rattle.std.specs.Prelude.{if◌then◌else◌}
-use Rattle.std.proofs.lemmas.Bool.{true≢false}
-use Rattle.std.proofs.lemmas.List.{length-map}
-use Rattle.std.proofs.lemmas.Option.{slice_get_within}
-use Rattle.std.proofs.lemmas.Bool.Decides.{nat_tests}
-use Rattle.write_history.specs.History.{History, dropped}
-use Rattle.scenario.specs.declared.volume_row.VolumeRow.{VolumeRow}
-use Rattle.scenario.specs.Plan.{Plan}
-use Rattle.vss_model.specs.State.{has_image}
-use Rattle.vss_model.specs.Images.{count_images}
-use Rattle.volume_device.specs.declared.device.Device.{Ghosts}
-use Rattle.cow_volume.specs.GroupValue.{GroupValue}
-use Rattle.cow_volume.specs.StandsFor.{StandsFor}
-use Rattle.cow_volume.proofs.Group.{length-slice_set, slice_set-same, slice_get-set_same, slice_get-set_other, slice_get_inside}
-use Rattle.scenario.specs.Places.{of_group, of_group_if}
-use Rattle.provider.specs.Groups.{AreGroups}
-use Rattle.provider.specs.Devices.{devices_of}
-use Rattle.provider.specs.Calls.{AreWithout}
-use Rattle.provider.specs.GroupCalls.{IsWithout}
-use Rattle.scenario.proofs.Places.{number_is, same_number}
+use Rattle.std.proofs.Common.{◌≡◌, ℕ, zero, suc, ◌+◌, ◌<◌, ◌≤◌, ◌==◌, ◌*◌, List, [], ◌∷◌, length, refl, ap, sym, ◌∙◌, subst, arith, Bool, true, false, Some, map, slice_get, slice_set, if◌then◌else◌}
+use Rattle.provider.proofs.Words.{AreGroups, AreWithout, Ghosts, GroupValue, History, IsWithout, Plan, StandsFor, VolumeRow, count_images, devices_of, dropped, has_image, length-map, length-slice_set}
+use Rattle.provider.proofs.Words.{nat_tests, of_group, of_group_if, same_number, slice_get-set_other, slice_get-set_same, slice_get_inside, slice_get_within, slice_set-same, true≢false}
+use Rattle.vss_model.proofs.Words.{number_is}
 use Rattle.provider.proofs.Flat.{devices_same}
 use Rattle.provider.proofs.Kept.{keeps}
 

@@ -1,19 +1,8 @@
 -- One group is brought to where it lasts, against the histories of all volumes.
-use Rattle.std.proofs.Common.{◌≡◌, ℕ, ◌+◌, ◌==◌, List, [], ◌∷◌, ◌++◌, refl, ap, sym, ◌∙◌, subst, Bool, true, false, Some, map, slice_get, slice_set}
-use Rattle.std.specs.Prelude.{if◌then◌else◌, OnOk, Result, Ok, Err}
-use Rattle.write_history.specs.History.{History}
-use Rattle.write_history.specs.Slots.{Copy, copies, copies_of, copies_from}
-use Rattle.diff_area.specs.Copies.{AreStored}
-use Rattle.scenario.specs.declared.volume_row.VolumeRow.{VolumeRow}
-use Rattle.scenario.specs.Plan.{Plan, placed}
-use Rattle.scenario.specs.Places.{of_group, of_group_if, blocks_in_group}
-use Rattle.volume_device.specs.declared.device.Device.{Ghosts}
-use Rattle.cow_volume.specs.GroupValue.{GroupValue, placed as all_placed}
-use Rattle.cow_volume.specs.Ending.{IsSync, IsSynced as IsGroupSynced}
-use Rattle.cow_volume.specs.declared.cause.Cause.{Cause}
-use Rattle.cow_volume.proofs.Group.{slice_get-set_other}
-use Rattle.provider.specs.Groups.{HasGroups}
-use Rattle.provider.specs.Devices.{AreLasting, HasSyncCause, IsSynced}
+use Rattle.std.proofs.Common.{◌≡◌, ℕ, ◌+◌, ◌==◌, List, [], ◌∷◌, ◌++◌, refl, ap, sym, ◌∙◌, subst, Bool, true, false, Some, map, slice_get, slice_set, if◌then◌else◌, OnOk, Result, Ok, Err}
+use Rattle.provider.proofs.Words.{AreLasting, AreStored, Cause, Copy, Ghosts, GroupValue, HasGroups, HasSyncCause, History, IsSync, IsSynced, Plan, VolumeRow, blocks_in_group, copies, copies_from}
+use Rattle.provider.proofs.Words.{copies_of, of_group, of_group_if, placed, slice_get-set_other}
+use Rattle.provider.specs.Words.{IsSynced as IsGroupSynced, placed as all_placed}
 use Rattle.provider.proofs.Becoming.{stays}
 use Rattle.provider.proofs.Kept.{kept_one, called_there}
 use Rattle.provider.proofs.Flat.{rose_area, counts_same}

@@ -1,18 +1,9 @@
 -- The devices of all groups in their order: at which place each stands, and what is known of all of them from what is known of
 -- each group.
 use Rattle.std.proofs.Common.{◌≡◌, ◌<◌, ℕ, zero, suc, ◌+◌, ◌-◌, List, [], ◌∷◌, ◌++◌, length, refl, ap, sym, ◌∙◌, subst, arith, append_assoc, Some, map, slice_get, slice_set}
-use Rattle.std.proofs.lemmas.List.{map-append, map-id, length-append, length-map, set-append_left, set-append_right}
-use Rattle.std.proofs.lemmas.Option.{slice_get_within}
-use Rattle.vss_names.specs.Faults.{Rose}
-use Rattle.scenario.specs.declared.volume_row.VolumeRow.{VolumeRow}
-use Rattle.scenario.specs.Plan.{Plan}
-use Rattle.cow_volume.specs.GroupValue.{GroupValue}
-use Rattle.cow_volume.specs.Calls.{IsUnfailed, VolumeRose, AreaRose}
-use Rattle.cow_volume.proofs.Group.{slice_get_map}
-use Rattle.scenario.proofs.Groups.{get_some_left}
-use Rattle.scenario.specs.Places.{blocks_in_group, place_in, IsPlaceOf}
-use Rattle.provider.specs.Groups.{HasGroups}
-use Rattle.provider.specs.Devices.{devices_of, counts_of, first_place, area_place, volume_place, volume_place_in, volumes_area, volumes_area_in, RoseAlone}
+use Rattle.provider.proofs.Words.{AreaRose, GroupValue, HasGroups, IsPlaceOf, IsUnfailed, Plan, Rose, RoseAlone, VolumeRose, VolumeRow, area_place, blocks_in_group, counts_of, devices_of, first_place}
+use Rattle.provider.proofs.Words.{get_some_left, length-append, length-map, map-append, map-id, place_in, set-append_left, set-append_right, slice_get_map, slice_get_within, volume_place}
+use Rattle.provider.proofs.Words.{volume_place_in, volumes_area, volumes_area_in}
 
 -- ## joined lists
 

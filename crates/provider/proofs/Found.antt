@@ -1,25 +1,9 @@
 -- The group of a volume is found among all groups, or called: what that says of the volume of the scenario.
-use Rattle.std.proofs.Common.{◌≡◌, ℕ, ◌<◌, List, length, refl, ap, sym, ◌∙◌, subst, arith, Bool, true, Option, Some, None, get_or, slice_get}
-use Rattle.std.specs.Prelude.{is_some, IfSome, OnOk, Result, Ok, Err}
-use Rattle.std.proofs.lemmas.Bool.{and_parts}
-use Rattle.std.specs.List.{concat}
-use Rattle.block_data.specs.Digest.{sha256}
-use Rattle.write_history.specs.History.{History, Write, content, contents, sets_of}
-use Rattle.write_history.specs.Slots.{used, used_by}
-use Rattle.scenario.specs.declared.volume_row.VolumeRow.{VolumeRow}
-use Rattle.scenario.specs.Plan.{Plan, blocks_of}
-use Rattle.scenario.specs.Places.{of_group, place_in, IsPlaceOf}
-use Rattle.cow_volume.specs.GroupValue.{GroupValue}
-use Rattle.cow_volume.specs.StandsFor.{StandsFor, told_in}
-use Rattle.cow_volume.specs.Calls.{IsNow, blocks_at, sets_at, sets_in, is_among, history_at as group_history_at}
-use Rattle.cow_volume.proofs.Group.{place_at, slice_get_inside}
-use Rattle.cow_volume.proofs.DeviceCalls.{device_read}
-use Rattle.scenario.proofs.Places.{one_place}
-use Rattle.provider.specs.Groups.{AreGroups, HasGroups, IfStandFor, IsPointOf, history_at}
-use Rattle.provider.specs.Devices.{told_of, told_by, told_at, devices_of, volume_place, volumes_area}
-use Rattle.provider.specs.Calls.{HasImage, IfShown, IsDigestShown}
-use Rattle.provider.specs.GroupCalls.{AtPoint, IsDigestAt}
-use Rattle.provider.specs.Preparing.{ProviderValue}
+use Rattle.std.proofs.Common.{◌≡◌, ℕ, ◌<◌, List, length, refl, ap, sym, ◌∙◌, subst, arith, Bool, true, Option, Some, None, get_or, slice_get, is_some, IfSome, OnOk, Result, Ok, Err}
+use Rattle.provider.proofs.Words.{AreGroups, AtPoint, GroupValue, HasGroups, HasImage, History, IfShown, IfStandFor, IsDigestAt, IsDigestShown, IsNow, IsPlaceOf, IsPointOf, Plan, ProviderValue}
+use Rattle.provider.proofs.Words.{StandsFor, VolumeRow, Write, and_parts, blocks_at, blocks_of, concat, content, contents, device_read, devices_of, history_at, is_among, of_group, one_place, place_at}
+use Rattle.provider.proofs.Words.{place_in, sets_at, sets_in, sets_of, sha256, slice_get_inside, told_at, told_by, told_in, told_of, used, used_by, volume_place, volumes_area}
+use Rattle.provider.specs.Words.{history_at as group_history_at}
 use Rattle.provider.proofs.Places.{history_of_place, group_below, group_there, within_there, blocks_are}
 use Rattle.provider.proofs.Looked.{point_among}
 use Rattle.provider.proofs.Flat.{volume_device_at, area_device_at, area_of_place}

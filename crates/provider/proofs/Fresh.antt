@@ -1,13 +1,6 @@
 -- Groups of new volumes stand for histories of zeros.
 use Rattle.std.proofs.Common.{◌≡◌, ℕ, ◌==◌, List, [], ◌∷◌, refl, ap, sym, ◌∙◌, subst, Bool, true, false, Option, map}
-use Rattle.std.proofs.lemmas.List.{length-map}
-use Rattle.write_history.specs.History.{History, fresh}
-use Rattle.scenario.specs.declared.volume_row.VolumeRow.{VolumeRow}
-use Rattle.scenario.specs.Plan.{Plan}
-use Rattle.cow_volume.specs.GroupValue.{GroupValue}
-use Rattle.cow_volume.specs.StandsFor.{StandsFor}
-use Rattle.scenario.specs.Places.{of_group, of_group_if, blocks_in_group}
-use Rattle.provider.specs.Groups.{AreFresh, AreGroups}
+use Rattle.provider.proofs.Words.{AreFresh, AreGroups, GroupValue, History, Plan, StandsFor, VolumeRow, blocks_in_group, fresh, length-map, of_group, of_group_if}
 
 fresh_if : (b : Bool) (n : ℕ) (ns : List ℕ) (hs : List History) → hs ≡ map (λ (k : ℕ). fresh) ns → of_group_if b fresh hs ≡ map (λ (k : ℕ). fresh) (of_group_if b n ns)
 fresh_if true n ns hs e = ap (λ (xs : List History). fresh ∷ xs) e

@@ -1,26 +1,11 @@
 -- The blocks of a volume, or of an image, are hashed one after another.
-use Rattle.std.proofs.Common.{slice_set, ◌≡◌, ℕ, ◌+◌, List, [], ◌∷◌, ◌++◌, length, refl, ap, sym, ◌∙◌, subst, arith, true, Option, Some, slice_get}
-use Rattle.std.specs.Prelude.{is_some}
-use Rattle.std.specs.List.{concat}
-use Rattle.std.proofs.lemmas.List.{append-nil}
-use Rattle.std.proofs.lemmas.List.Folds.{concat-append}
-use Rattle.std.proofs.lemmas.List.FromFn.{map-range_with_len_more}
-use Rattle.std.proofs.lemmas.Option.{slice_get_within, same_Some}
-use Rattle.vss_names.specs.Faults.{Rose}
-use Rattle.block_data.specs.Hashed.{HasTaken}
-use Rattle.block_data.specs.declared.hasher.Hasher.{Hasher}
-use Rattle.write_history.specs.History.{Write, content, contents}
-use Rattle.volume_device.specs.declared.device.Device.{Ghosts}
-use Rattle.cow_volume.specs.GroupValue.{GroupValue}
-use Rattle.cow_volume.specs.declared.cause.Cause.{Cause}
-use Rattle.cow_volume.specs.declared.cause.Cause.TheVariants.{NoSuchBlock as NoBlock, Volume, Area}
-use Rattle.cow_volume.specs.declared.image_fault.ImageFault.{ImageFault}
-use Rattle.cow_volume.specs.declared.image_fault.ImageFault.TheVariants.{NoSuchImage, NoSuchBlock}
+use Rattle.std.proofs.Common.{slice_set, ◌≡◌, ℕ, ◌+◌, List, [], ◌∷◌, ◌++◌, length, refl, ap, sym, ◌∙◌, subst, arith, true, Option, Some, slice_get, is_some}
+use Rattle.provider.proofs.Words.{Adds, Area, AreaRose, AtPoint, Cause, DeviceRose, Ghosts, GroupValue, HasDigestCause, HasTaken, Hasher, ImageFault, ImageRose, IsQuietGroup, IsUnfailed}
+use Rattle.provider.proofs.Words.{NoSuchBlock as NoBlock, NoSuchImage, Rose, Volume, VolumeRose, Write, append-nil, concat, concat-append, content, contents, is_among, map-range_with_len_more}
+use Rattle.provider.proofs.Words.{quiet_stands, same_Some, sets_at, slice_get_inside, slice_get_map, slice_get_within, unfailed_further}
+use Rattle.provider.specs.Words.{history_at}
+use Rattle.cow_volume.specs.declared.image_fault.ImageFault.TheVariants.{NoSuchBlock}
 use Rattle.cow_volume.specs.declared.image_fault.ImageFault.TheVariants as image
-use Rattle.cow_volume.specs.Calls.{IsUnfailed, AreaRose, DeviceRose, VolumeRose, history_at, is_among, sets_at}
-use Rattle.cow_volume.proofs.Kept.{unfailed_further}
-use Rattle.cow_volume.proofs.Group.{quiet_stands, slice_get_inside, slice_get_map}
-use Rattle.provider.specs.GroupCalls.{AtPoint, Adds, HasDigestCause, ImageRose, IsQuietGroup}
 use Rattle.provider.proofs.Kept.{kept_itself, kept_then}
 
 -- ## after quiet calls

@@ -1,18 +1,9 @@
 -- What is said of all volumes with a mark for a group is what is said of the group's volumes alone.
-use Rattle.std.proofs.Common.{◌≡◌, ℕ, zero, suc, ◌+◌, ◌==◌, List, [], ◌∷◌, length, refl, ap, sym, ◌∙◌, arith, Bool, true, false, Option, Some, None, map, slice_get}
-use Rattle.std.specs.Prelude.{◌&&◌, not, find, unwrap_or, if◌then◌else◌}
-use Rattle.std.specs.List.{range_with_len}
-use Rattle.std.proofs.lemmas.Bool.{ne_eqb}
-use Rattle.write_history.specs.History.{History, after_set}
-use Rattle.write_history.specs.Slots.{used, needs_slot_in, group_used, gone_up_to, lacks_slot, evicted_up_to}
-use Rattle.set_agenda.specs.Course.{change_at}
-use Rattle.scenario.specs.declared.volume_row.VolumeRow.{VolumeRow}
-use Rattle.scenario.specs.Plan.{placed}
-use Rattle.vss_model.proofs.Volumes.{as_many_gone}
-use Rattle.scenario.proofs.Places.{number_is, same_number}
-use Rattle.cow_volume.specs.GroupValue.{placed as all_placed}
-use Rattle.cow_volume.specs.Calls.{changed_at}
-use Rattle.scenario.specs.Places.{of_group, of_group_if, count_if, place_in, blocks_in_group}
+use Rattle.std.proofs.Common.{◌≡◌, ℕ, zero, suc, ◌+◌, ◌==◌, List, [], ◌∷◌, length, refl, ap, sym, ◌∙◌, arith, Bool, true, false, Option, Some, None, map, slice_get, ◌&&◌, not, find, if◌then◌else◌}
+use Rattle.provider.proofs.Words.{History, VolumeRow, after_set, as_many_gone, blocks_in_group, change_at, changed_at, count_if, evicted_up_to, gone_up_to, group_used, lacks_slot, ne_eqb}
+use Rattle.provider.proofs.Words.{needs_slot_in, of_group, of_group_if, place_in, placed, range_with_len, same_number, unwrap_or, used}
+use Rattle.provider.specs.Words.{placed as all_placed}
+use Rattle.vss_model.proofs.Words.{number_is}
 
 -- ## slots used
 

@@ -1,18 +1,11 @@
 -- What every call keeps, from what it keeps of each group.
 use Rattle.std.proofs.Common.{◌≡◌, ℕ, zero, suc, ◌+◌, ◌<◌, ◌≤◌, ◌==◌, List, [], ◌∷◌, ◌++◌, length, refl, ap, sym, ◌∙◌, subst, arith, Bool, true, false, Option, Some, None, map, slice_get, slice_set}
-use Rattle.std.specs.Prelude.{◌&&◌, is_some}
-use Rattle.std.proofs.lemmas.Bool.{true≢false}
-use Rattle.std.proofs.lemmas.List.{map-append}
-use Rattle.std.proofs.lemmas.Option.{slice_get_within}
-use Rattle.scenario.specs.declared.volume_row.VolumeRow.{VolumeRow}
-use Rattle.scenario.specs.Plan.{Plan}
-use Rattle.volume_device.specs.declared.device.Device.{Ghosts}
-use Rattle.cow_volume.specs.GroupValue.{GroupValue}
-use Rattle.cow_volume.specs.Calls.{IsSameDevice}
-use Rattle.cow_volume.proofs.Group.{length-slice_set, slice_get_inside, slice_get-set_same, slice_get-set_other}
-use Rattle.cow_volume.specs.StandsFor.{told_in}
-use Rattle.provider.specs.Devices.{devices_of, counts_of, told_by, told_at, tells_from, tells_of, volume_place, volumes_area, AreLater, AreKept, IsKeptGroup}
-use Rattle.scenario.proofs.Places.{number_is, same_number}
+use Rattle.std.proofs.Common.{◌&&◌, is_some, Vec}
+use Rattle.provider.proofs.Words.{AreKept, AreLater, Ghosts, GroupValue, IsKeptGroup, IsProvider, IsSameDevice, Plan, VolumeRow, counts_of, devices_of, length-map, length-slice_set, map-append}
+use Rattle.provider.proofs.Words.{same_number, slice_get-set_other, slice_get-set_same, slice_get_inside, slice_get_within, tells_from, tells_of, told_at, told_by, told_in, true≢false, volume_place}
+use Rattle.provider.proofs.Words.{volumes_area}
+use Rattle.vss_model.proofs.Words.{number_is}
+use Rattle.std.specs.declared.alloc.Global.{Global}
 
 -- ## lists of one length
 
@@ -218,3 +211,23 @@ kept_one {D = D} device old new g x y was is kept =
 -- the group that was called is there
 pub called_there : {D : Type 0} (old new : List (GroupValue D)) (g : ℕ) (x y : GroupValue D) → slice_get old g ≡ Some x → new ≡ slice_set old g y → slice_get new g ≡ Some y
 called_there old new g x y was is = ap (λ (zs : List (GroupValue _)). slice_get zs g) is ∙ slice_get-set_same old g x y was
+
+-- ## the fields of a provider
+
+same_length : {D : Type 0} (size : D → ℕ) (xs ys : List D) → map size ys ≡ map size xs → length ys ≡ length xs
+same_length size xs ys e = sym (length-map ys size) ∙ ap length e ∙ length-map xs size
+
+pub provider_kept : {D : Type 0} (device : Ghosts D) (old new : List (GroupValue D)) (volumes : Vec ℕ Global) (list : Vec D Global) → AreKept device old new → IsProvider old volumes list
+    → IsProvider new volumes list
+provider_kept device old new volumes list kept is =
+    let many = kept.number in
+    let few = is.few_groups in
+    let long = same_length device.size (devices_of old) (devices_of new) kept.sizes in
+    let room = is.room in
+    record {
+      few_groups = omega (arith, many, few);
+      few = is.few;
+      places = is.places;
+      empty = is.empty;
+      room = omega (arith, long, room);
+    }

@@ -1,22 +1,9 @@
 -- Blocks that are lent one after another, and what their digests are.
-use Rattle.std.proofs.Common.{◌≡◌, ℕ, ◌+◌, List, [], ◌∷◌, ◌++◌, refl, ap, sym, ◌∙◌, subst, arith, Option, Some, None}
-use Rattle.std.specs.Prelude.{IfSome, All, Vec}
-use Rattle.std.specs.List.{concat, AllZip}
-use Rattle.std.specs.Borrow.{Bor}
+use Rattle.std.proofs.Common.{◌≡◌, ℕ, ◌+◌, List, [], ◌∷◌, ◌++◌, refl, ap, sym, ◌∙◌, subst, arith, Option, Some, None, IfSome, All, Vec}
+use Rattle.provider.proofs.Words.{All-cons, All-head, All-nil, All-tail, AllZip, AreBlocksAt, AtPoint, Bor, Digested, GroupValue, IfShown, IsDigestIfLent, IsDigestOf, IsDigestTold, IsDigestedAt}
+use Rattle.provider.proofs.Words.{IsLentRow, LentBlocks, Plan, Write, blocks_of, bytes_of, concat, content, contents, map-append, map-range_with_len_more, sha256}
 use Rattle.std.specs.Global.{Global}
-use Rattle.std.proofs.lemmas.List.{map-append}
-use Rattle.std.proofs.lemmas.List.FromFn.{map-range_with_len_more}
-use Rattle.std.proofs.lemmas.List.Elements.{All-nil, All-cons, All-head, All-tail}
-use Rattle.block_data.specs.Digest.{sha256}
-use Rattle.write_history.specs.History.{Write, content, contents}
-use Rattle.scenario.specs.Plan.{Plan, blocks_of}
-use Rattle.cow_volume.specs.GroupValue.{GroupValue}
-use Rattle.cow_volume.specs.Calls.{history_at as group_history_at}
-use Rattle.lent_digests.specs.Lent.{bytes_of, IsDigestIfLent, IsDigestOf}
-use Rattle.lent_digests.specs.declared.digested.Digested.{Digested}
-use Rattle.lent_digests.specs.declared.lent_blocks.LentBlocks.{LentBlocks}
-use Rattle.provider.specs.GroupCalls.{AreBlocksAt, AtPoint}
-use Rattle.provider.specs.Calls.{IfShown, IsDigestTold, IsDigestedAt, IsLentRow}
+use Rattle.provider.specs.Words.{history_at as group_history_at}
 use Rattle.provider.proofs.Found.{Found, all_shown_of}
 
 -- the first k blocks were lent

@@ -3,7 +3,6 @@ pub mod Places
 pub mod Becoming
 pub mod Flat
 pub mod Kept
-pub mod Keeping
 pub mod Counted
 pub mod Looked
 pub mod Found
@@ -18,3 +17,4 @@ pub mod Ended
 pub mod GivenBack
 pub mod Dropped
 pub mod DroppedAll
+pub mod Words

@@ -1,12 +1,6 @@
 -- Whether an image stands, by the list of sets.
-use Rattle.std.proofs.Common.{◌≡◌, ℕ, ◌==◌, List, [], ◌∷◌, refl, ap, sym, ◌∙◌, Bool, true, false, Option, Some}
-use Rattle.std.specs.Prelude.{◌||◌, is_some, if◌then◌else◌}
-use Rattle.write_history.specs.History.{Image, point_in, sets_of}
-use Rattle.scenario.specs.Plan.{Plan}
-use Rattle.cow_volume.specs.GroupValue.{GroupValue}
-use Rattle.cow_volume.specs.Calls.{is_among}
-use Rattle.provider.specs.Groups.{IfStandFor, history_at}
-use Rattle.provider.specs.Calls.{HasImage}
+use Rattle.std.proofs.Common.{◌≡◌, ℕ, ◌==◌, List, [], ◌∷◌, refl, ap, sym, ◌∙◌, Bool, true, false, Option, Some, ◌||◌, is_some, if◌then◌else◌}
+use Rattle.provider.proofs.Words.{GroupValue, HasImage, IfStandFor, Image, Plan, history_at, is_among, point_in, sets_of}
 
 point_if : (b : Bool) (p : ℕ) (o : Option ℕ) (c : Bool) → is_some o ≡ c → is_some (if b then Some p else o) ≡ (b || c)
 point_if true p o c e = refl

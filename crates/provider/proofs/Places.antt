@@ -1,16 +1,9 @@
 -- Where a volume is within its group, and what stands there.
 use Rattle.std.proofs.Common.{◌≡◌, ℕ, ◌<◌, List, length, refl, ap, sym, ◌∙◌, subst, Option, Some, None, map, slice_get}
-use Rattle.std.proofs.lemmas.List.{length-map}
-use Rattle.std.proofs.lemmas.Option.{slice_get_within}
-use Rattle.write_history.specs.History.{History}
-use Rattle.scenario.specs.declared.volume_row.VolumeRow.{VolumeRow}
-use Rattle.scenario.specs.Plan.{Plan, blocks_of, blocks_in as plan_blocks_in}
-use Rattle.vss_model.specs.State.{history_in}
-use Rattle.cow_volume.specs.GroupValue.{GroupValue}
-use Rattle.cow_volume.specs.Calls.{blocks_at, blocks_in as group_blocks_in, history_at as group_history_at, history_in as group_history_in}
-use Rattle.cow_volume.proofs.Group.{slice_get_inside, slice_get_map}
-use Rattle.scenario.specs.Places.{of_group, place_in, blocks_in_group, IsPlaceOf}
-use Rattle.provider.specs.Groups.{HasGroups, history_at}
+use Rattle.provider.proofs.Words.{GroupValue, HasGroups, History, IsPlaceOf, Plan, VolumeRow, blocks_at, blocks_in as plan_blocks_in, blocks_in_group, blocks_of, history_at}
+use Rattle.provider.proofs.Words.{history_in as group_history_in, length-map, of_group, place_in, slice_get_inside, slice_get_map, slice_get_within}
+use Rattle.vss_model.specs.Words.{history_in}
+use Rattle.provider.specs.Words.{blocks_in as group_blocks_in, history_at as group_history_at}
 use Rattle.provider.proofs.InGroup.{at_place}
 
 -- ## what stands at a place

@@ -1,13 +1,8 @@
 -- Why a volume does not join a set; and what a set with one volume more keeps.
-use Rattle.std.proofs.Common.{◌≡◌, ℕ, ◌<◌, ◌≤◌, List, [], ◌∷◌, ◌++◌, length, refl, ap, arith, Bool, true, false, Some, None}
-use Rattle.std.specs.Prelude.{nat_le, if◌then◌else◌, Vec, vec_capacity}
+use Rattle.std.proofs.Common.{◌≡◌, ℕ, ◌<◌, ◌≤◌, List, [], ◌∷◌, ◌++◌, length, refl, ap, arith, Bool, true, false, Some, None, nat_le, if◌then◌else◌, Vec, vec_capacity}
+use Rattle.provider.proofs.Words.{GroupValue, IsProvider, MaximumNumberOfSnapshotsReached, MaximumNumberOfVolumesReached, ObjectAlreadyExists, le-leb, leb-false, length-append, lt-leb, refusal}
 use Rattle.std.specs.declared.alloc.Global.{Global}
-use Rattle.std.proofs.lemmas.Bool.{le-leb, lt-leb, leb-false}
-use Rattle.std.proofs.lemmas.List.{length-append}
-use Rattle.vss_names.specs.declared.vss_result.VssResult.TheVariants.{ObjectAlreadyExists, MaximumNumberOfVolumesReached, MaximumNumberOfSnapshotsReached}
-use Rattle.set_agenda.specs.Agenda.{is_among}
-use Rattle.cow_volume.specs.GroupValue.{GroupValue}
-use Rattle.provider.specs.Preparing.{IsProvider, refusal}
+use Rattle.vss_model.specs.Words.{is_among}
 
 pub full : (v : ℕ) (vs : List ℕ) (n : ℕ) → is_among v vs ≡ false → 64 ≤ length vs → Some MaximumNumberOfVolumesReached ≡ refusal v vs n
 full v vs n none many = rw (none, le-leb 64 (length vs) many) refl

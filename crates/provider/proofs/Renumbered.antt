@@ -1,11 +1,6 @@
 -- Images get the numbers of the scenario, one after another.
 use Rattle.std.proofs.Common.{◌≡◌, ℕ, zero, suc, ◌+◌, ◌<◌, List, [], ◌∷◌, ◌++◌, length, take, drop, get_or, map, refl, ap, sym, ◌∙◌, arith, Some, slice_get, slice_set}
-use Rattle.std.proofs.lemmas.Option.{get_or_from_slice_get}
-use Rattle.write_history.specs.declared.evicted.Evicted.{Evicted}
-use Rattle.scenario.specs.Plan.{Plan}
-use Rattle.scenario.specs.Places.{volume_in}
-use Rattle.cow_volume.proofs.Group.{slice_get_inside}
-use Rattle.provider.specs.Calls.{renumbered}
+use Rattle.provider.proofs.Words.{Evicted, Plan, get_or_from_slice_get, renumbered, slice_get_inside, volume_in}
 
 get_next : {X : Type 0} (h : X → X) (ys : List X) (i : ℕ) → slice_get (map h (take i ys) ++ drop i ys) i ≡ slice_get ys i
 get_next h [] zero = refl

@@ -1,28 +1,11 @@
 -- Room is made in one group for a write: which images go of all volumes, and by which numbers they are told.
-use Rattle.std.proofs.Common.{◌≡◌, ℕ, zero, suc, ◌+◌, ◌≤◌, ◌==◌, List, [], ◌∷◌, ◌++◌, length, refl, ap, sym, ◌∙◌, subst, arith, Bool, true, false, Option, Some, map, slice_get}
-use Rattle.std.specs.Prelude.{◌&&◌, if◌then◌else◌}
-use Rattle.std.specs.List.{flat_map, range_with_len}
-use Rattle.std.proofs.lemmas.List.{map-append, length-map}
-use Rattle.std.proofs.lemmas.List.Concat.{flat_map-cons}
-use Rattle.std.proofs.lemmas.Option.{slice_get_within}
-use Rattle.write_history.specs.declared.evicted.Evicted.{Evicted}
-use Rattle.write_history.specs.History.{History, sets_of}
-use Rattle.write_history.specs.Slots.{Placed, evicted_of, gone_up_to, evicted_up_to}
-use Rattle.scenario.specs.declared.volume_row.VolumeRow.{VolumeRow}
-use Rattle.scenario.specs.Plan.{Plan, placed, placed_in, slots_of, slots_in, group_of}
-use Rattle.scenario.specs.Places.{of_group, of_group_if, place_in, blocks_in_group, volume_after, volume_in}
-use Rattle.vss_model.proofs.Volumes.{as_many_gone}
-use Rattle.vss_model.specs.State.{has_image}
-use Rattle.volume_device.specs.declared.device.Device.{Ghosts}
-use Rattle.cow_volume.specs.GroupValue.{GroupValue, placed as all_placed}
-use Rattle.cow_volume.specs.StandsFor.{StandsFor}
-use Rattle.cow_volume.specs.Calls.{IsEvicted, sets_at, made_room}
-use Rattle.cow_volume.specs.Changes.{gone_row}
-use Rattle.cow_volume.specs.Room.{HasRoom as HasGroupRoom, gone_group, lacks_slot, holders as group_holders, images_going as group_images}
-use Rattle.cow_volume.proofs.Group.{slice_get_inside}
-use Rattle.provider.specs.Groups.{AreGroups}
-use Rattle.provider.specs.Devices.{IsKeptGroup}
-use Rattle.provider.specs.Calls.{IsLastSet, GoUpTo, HasRoom, IsRoomMade, holders, images_going, renumbered}
+use Rattle.std.proofs.Common.{◌≡◌, ℕ, zero, suc, ◌+◌, ◌≤◌, ◌==◌, List, [], ◌∷◌, ◌++◌, length, refl, ap, sym, ◌∙◌, subst, arith, Bool, true, false, Option, Some, map, slice_get, ◌&&◌, if◌then◌else◌}
+use Rattle.provider.proofs.Words.{AreGroups, Evicted, Ghosts, GoUpTo, GroupValue, HasRoom, History, IsEvicted, IsKeptGroup, IsLastSet, IsRoomMade, Placed, Plan, StandsFor, VolumeRow, as_many_gone}
+use Rattle.provider.proofs.Words.{blocks_in_group, evicted_of, evicted_up_to, flat_map, flat_map-cons, gone_group, gone_row, gone_up_to, group_of, has_image, holders, images_going, length-map}
+use Rattle.provider.proofs.Words.{made_room, map-append, of_group, of_group_if, place_in, placed, placed_in, range_with_len, renumbered, sets_at, sets_of, slice_get_inside, slice_get_within, slots_in}
+use Rattle.provider.proofs.Words.{slots_of, volume_after, volume_in}
+use Rattle.provider.specs.Words.{HasRoom as HasGroupRoom, holders as group_holders, images_going as group_images, lacks_slot}
+use Rattle.provider.specs.Words.{placed as all_placed}
 use Rattle.provider.proofs.InGroup.{gone_in_group, gone_elsewhere, evicted_in_group}
 use Rattle.provider.proofs.Becoming.{becomes}
 use Rattle.provider.proofs.Called.{Called, call_of, called_found, devices_still}

@@ -1,29 +1,12 @@
 -- What a call on a volume comes to, against the histories of all volumes that the groups stand for. (This project's own.)
 use Rattle.std.specs.Prelude.{ℕ, ◌≡◌, ◌<◌, ◌≤◌, ◌+◌, ◌&&◌, Bool, true, false, List, [], ◌∷◌, length, map, if◌then◌else◌, Option, Some, None, is_some, IfSome, slice_get, Result, Ok, Err}
 use Rattle.std.specs.List.{concat, flat_map, range_with_len}
-use Rattle.block_data.specs.Digest.{sha256}
-use Rattle.hex.specs.Hex.{IsBytes}
-use Rattle.lent_digests.specs.Lent.{bytes_of}
-use Rattle.lent_digests.specs.declared.digested.Digested.{Digested}
-use Rattle.lent_digests.specs.declared.lent_blocks.LentBlocks.{LentBlocks}
-use Rattle.write_history.specs.History.{Write, History, content, contents, point_in, written, dropped, reverted, reverted_in_part, to_restore}
-use Rattle.write_history.specs.Slots.{Placed, gone_up_to, evicted_up_to, evicted_of}
-use Rattle.write_history.specs.declared.evicted.Evicted.{Evicted}
-use Rattle.set_agenda.specs.Course.{change_at}
-use Rattle.scenario.specs.Plan.{Plan, slots_of, group_of, blocks_of}
-use Rattle.scenario.specs.Places.{IsPlaceOf, volume_in}
-use Rattle.vss_model.specs.State.{has_image}
-use Rattle.vss_model.specs.Images.{count_images}
-use Rattle.volume_device.specs.declared.device.Device.{Ghosts}
-use Rattle.cow_volume.specs.GroupValue.{GroupValue}
-use Rattle.cow_volume.specs.Calls.{sets_at}
-use Rattle.cow_volume.specs.Room.{lacks_slot}
-use Rattle.cow_volume.specs.declared.cause.Cause.{Cause}
+use Rattle.vss_model.specs.Words.{Evicted, History, IsPlaceOf, Placed, Plan, Write, blocks_of, change_at, content, contents, count_images, dropped, evicted_of, evicted_up_to, gone_up_to, group_of}
+use Rattle.vss_model.specs.Words.{has_image, point_in, reverted, reverted_in_part, slots_of, to_restore, volume_in, written}
+use Rattle.provider.specs.Words.{Cause, Digested, Fault, Ghosts, GroupValue, ImageFault, IsBytes, LentBlocks, NoSuchImage, RevertFault, bytes_of, lacks_slot, sets_at, sha256}
 use Rattle.cow_volume.specs.declared.cause.Cause.TheVariants as cause
-use Rattle.cow_volume.specs.declared.image_fault.ImageFault.{ImageFault}
-use Rattle.cow_volume.specs.declared.image_fault.ImageFault.TheVariants.{NoSuchImage, NoSuchBlock, Volume, Area}
-use Rattle.cow_volume.specs.declared.revert_fault.RevertFault.{RevertFault}
-use Rattle.cow_volume.specs.declared.revert_fault.RevertFault.TheVariants.{NoSuchImage as NoImage, Fault}
+use Rattle.cow_volume.specs.declared.image_fault.ImageFault.TheVariants.{NoSuchBlock, Volume, Area}
+use Rattle.cow_volume.specs.declared.revert_fault.RevertFault.TheVariants.{NoSuchImage as NoImage}
 use Rattle.provider.specs.Groups.{HasGroups, AreGroups, IfStandFor, IsPointOf, history_at}
 use Rattle.provider.specs.Devices.{devices_of, told_at, AreKept, IsCallOn, HasCause, fault_of}
 

@@ -2,19 +2,8 @@
 -- area's. Which volumes tell their blocks, what every call keeps, whose count of faults rose where a call failed, and what a sync
 -- leaves. (This project's own.)
 use Rattle.std.specs.Prelude.{ℕ, ◌≡◌, ◌≤◌, ◌+◌, Bool, zero, suc, List, [], ◌∷◌, ◌++◌, length, map, Option, Some, None, is_some, slice_get, Result, Ok, Err}
-use Rattle.vss_names.specs.Faults.{Rose}
-use Rattle.write_history.specs.Slots.{copies}
-use Rattle.diff_area.specs.Copies.{AreStored}
-use Rattle.volume_device.specs.declared.device.Device.{Ghosts}
-use Rattle.scenario.specs.declared.volume_row.VolumeRow.{VolumeRow}
-use Rattle.scenario.specs.Plan.{Plan, placed}
-use Rattle.cow_volume.specs.GroupValue.{GroupValue}
-use Rattle.cow_volume.specs.StandsFor.{told_in}
-use Rattle.cow_volume.specs.Calls.{IsKept}
-use Rattle.cow_volume.specs.Ending.{AllTell}
-use Rattle.cow_volume.specs.declared.cause.Cause.{Cause}
-use Rattle.cow_volume.specs.declared.cause.Cause.TheVariants.{NoSuchBlock, Volume, Area}
-use Rattle.scenario.specs.Places.{blocks_in_group, place_in}
+use Rattle.vss_model.specs.Words.{Plan, Rose, VolumeRow, blocks_in_group, copies, place_in, placed}
+use Rattle.provider.specs.Words.{AllTell, AreStored, Area, Cause, Ghosts, GroupValue, IsKept, NoSuchBlock, Volume, told_in}
 use Rattle.provider.specs.Groups.{HasGroups, AreGroups, IfStandFor}
 
 -- ## in order

@@ -2,19 +2,10 @@
 use Rattle.std.specs.Prelude.{ℕ, ◌≡◌, ◌<◌, Bool, true, false, List, map, ◌++◌, Option, Some, None, is_some, slice_get, Result, OnOk, IfOk, IfErr}
 use Rattle.std.specs.Borrow.{Bor}
 use Rattle.std.specs.List.{concat}
-use Rattle.block_data.specs.Digest.{sha256}
-use Rattle.block_data.specs.Hashed.{HasTaken}
-use Rattle.block_data.specs.declared.hasher.Hasher.{Hasher}
-use Rattle.lent_digests.specs.Lent.{bytes_of}
-use Rattle.write_history.specs.History.{History, Write, dropped, content, contents}
-use Rattle.vss_model.specs.Images.{count_images}
-use Rattle.volume_device.specs.declared.device.Device.{Ghosts}
-use Rattle.cow_volume.specs.GroupValue.{GroupValue}
-use Rattle.cow_volume.specs.StandsFor.{StandsFor}
-use Rattle.cow_volume.specs.Calls.{IsChanged, IsQuiet, IsUnfailed, DeviceRose, VolumeRose, AreaRose, blocks_at, history_at, is_among, sets_at}
-use Rattle.cow_volume.specs.declared.cause.Cause.{Cause}
-use Rattle.cow_volume.specs.declared.image_fault.ImageFault.{ImageFault}
-use Rattle.cow_volume.specs.declared.image_fault.ImageFault.TheVariants.{NoSuchImage, NoSuchBlock, Volume, Area}
+use Rattle.vss_model.specs.Words.{History, Write, content, contents, count_images, dropped}
+use Rattle.provider.specs.Words.{AreaRose, Cause, DeviceRose, Ghosts, GroupValue, HasTaken, Hasher, ImageFault, IsChanged, IsQuiet, IsUnfailed, NoSuchImage, StandsFor, VolumeRose, blocks_at, bytes_of}
+use Rattle.provider.specs.Words.{history_at, is_among, sets_at, sha256}
+use Rattle.cow_volume.specs.declared.image_fault.ImageFault.TheVariants.{NoSuchBlock, Volume, Area}
 use Rattle.provider.specs.Groups.{IsPointOf}
 use Rattle.provider.specs.Devices.{IsKeptGroup}
 

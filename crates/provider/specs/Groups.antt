@@ -1,13 +1,8 @@
 -- The groups of copy-on-write volumes of a scenario, and for which histories, one for each volume of the scenario, they stand
 -- together. (This project's own.)
 use Rattle.std.specs.Prelude.{ℕ, ◌≡◌, ◌<◌, List, length, map, Option, Some, None, slice_get}
-use Rattle.write_history.specs.History.{History, fresh, point_in}
-use Rattle.scenario.specs.declared.volume_row.VolumeRow.{VolumeRow}
-use Rattle.scenario.specs.Plan.{Plan}
-use Rattle.scenario.specs.Places.{of_group, blocks_in_group}
-use Rattle.vss_model.specs.State.{history_in}
-use Rattle.cow_volume.specs.GroupValue.{GroupValue}
-use Rattle.cow_volume.specs.StandsFor.{StandsFor}
+use Rattle.vss_model.specs.Words.{History, Plan, VolumeRow, blocks_in_group, fresh, history_in, of_group, point_in}
+use Rattle.provider.specs.Words.{GroupValue, StandsFor}
 
 -- each group has a device for each of its volumes
 abbrev pub AreWhole : {D : Type 0} → List (GroupValue D) → Type 0

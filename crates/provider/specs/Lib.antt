@@ -3,3 +3,4 @@ pub mod Devices
 pub mod GroupCalls
 pub mod Calls
 pub mod Preparing
+pub mod Words

@@ -2,19 +2,9 @@
 -- does with them. (The calls are those of the SDK's IVssHardwareSnapshotProvider; which refusal comes first is this project's own.)
 use Rattle.std.specs.Prelude.{ℕ, ◌≡◌, ◌<◌, ◌≤◌, true, List, [], ◌∷◌, ◌++◌, length, All, nat_le, if◌then◌else◌, Option, Some, None, Result, Ok, Err, Vec, vec_capacity}
 use Rattle.std.specs.declared.alloc.Global.{Global}
-use Rattle.vss_names.specs.declared.vss_result.VssResult.{VssResult}
-use Rattle.vss_names.specs.declared.vss_result.VssResult.TheVariants.{ObjectAlreadyExists, MaximumNumberOfVolumesReached, MaximumNumberOfSnapshotsReached}
-use Rattle.write_history.specs.History.{Image, History, cut}
-use Rattle.set_agenda.specs.Course.{change_at}
-use Rattle.set_agenda.specs.declared.group.Group.{Group}
-use Rattle.set_agenda.specs.declared.group.Group.TheVariants.{Flush, Commit}
-use Rattle.set_agenda.specs.Agenda.{is_among}
-use Rattle.scenario.specs.Plan.{Plan}
-use Rattle.vss_model.specs.Sessions.{most_volumes, most_images}
-use Rattle.volume_device.specs.declared.device.Device.{Ghosts}
-use Rattle.cow_volume.specs.GroupValue.{GroupValue}
-use Rattle.cow_volume.specs.declared.cause.Cause.{Cause}
-use Rattle.cow_volume.specs.declared.cause.Cause.TheVariants.{Volume}
+use Rattle.vss_model.specs.Words.{Commit, Flush, Group, History, Image, MaximumNumberOfSnapshotsReached, MaximumNumberOfVolumesReached, ObjectAlreadyExists, Plan, VssResult, change_at, cut, is_among}
+use Rattle.vss_model.specs.Words.{most_images, most_volumes}
+use Rattle.provider.specs.Words.{Cause, Ghosts, GroupValue, Volume}
 use Rattle.provider.specs.Groups.{AreGroups, IfStandFor, history_at}
 use Rattle.provider.specs.Devices.{devices_of, counts_of, volume_place, RoseAlone, AreKept}
 

@@ -1,24 +1,12 @@
 -- What a move comes to: the reply that is told, which set ends, and whose images go. (This project's own.)
 use Rattle.std.specs.Prelude.{ℕ, List, map, Option, Some, None, Result, Ok, Err}
-use Rattle.vss_names.specs.declared.context.Context.{Context}
-use Rattle.vss_names.specs.declared.context.Context.TheVariants.{Backup}
-use Rattle.vss_names.specs.declared.order.Order.{Order}
-use Rattle.vss_names.specs.declared.set_outcome.SetOutcome.{SetOutcome}
-use Rattle.vss_names.specs.declared.set_outcome.SetOutcome.TheVariants.{Running, Failed}
-use Rattle.vss_names.specs.declared.vss_result.VssResult.TheVariants.{ObjectNotFound, ObjectAlreadyExists}
-use Rattle.write_history.specs.History.{History, dropped}
-use Rattle.requestor.specs.Requestor.{after_agenda}
-use Rattle.component_doc.specs.declared.add_fault.AddFault.{AddFault}
-use Rattle.component_doc.specs.declared.add_fault.AddFault.TheVariants.{NotFound, AlreadyExists, OutOfMemory}
+use Rattle.vss_model.specs.Words.{AddFault, AlreadyExists, Backup, Context, Failed, History, NotFound, ObjectAlreadyExists, ObjectNotFound, Order, OutOfMemory, Running, SetOutcome, Told, after_agenda}
+use Rattle.vss_model.specs.Words.{dropped, lost_order, released, row_settled}
 use Rattle.component_doc.specs.declared.add_fault.AddFault.TheVariants as fault
-use Rattle.vss_model.specs.declared.told.Told.{Told}
 use Rattle.vss_model.specs.declared.told.Told.TheVariants as told
-use Rattle.vss_model.specs.Ending.{row_settled}
 use Rattle.sessions.specs.declared.ended.Ended.{Ended}
 use Rattle.sessions.specs.declared.session_move.SessionMove.{SessionMove}
 use Rattle.sessions.specs.Keeps.{SessionsValue}
-use Rattle.set_agenda.specs.Course.{released}
-use Rattle.vss_model.specs.Effects.{lost_order}
 
 -- ## which set ends
 

@@ -1,15 +1,8 @@
 -- What is kept of sessions, sets, writers and time, and for which states of the definitions it stands. (This project's
 -- own.)
 use Rattle.std.specs.Prelude.{ℕ, ◌≡◌, ◌<◌, ◌≤◌, ◌^◌, ◌-◌, ◌+◌, List, length, map, All, [], Option, option_map}
-use Rattle.requestor.specs.Requestor.{Sessions as Requestor}
-use Rattle.component_doc.specs.Held.{Held}
-use Rattle.component_doc.specs.Selection.{Named}
-use Rattle.component_doc.specs.Over.{IsSelectedOver}
-use Rattle.coordinator.specs.Coordinator.{CoordinatorState, Registered, Stands, IsOnTime, MayPost, writer_count}
-use Rattle.scenario.specs.Plan.{Plan, WriterPlan}
-use Rattle.vss_model.specs.State.{State, SetRow, in_progress}
-use Rattle.vss_model.specs.Facts.{IsOfSession, NumberedFrom, OverButNewest}
-use Rattle.vss_model.specs.Sessions.{known_metas, selected}
+use Rattle.vss_model.specs.Words.{Held, IsOfSession, IsSelectedOver, Named, NumberedFrom, OverButNewest, Plan, Sessions as Requestor, SetRow, State, WriterPlan, in_progress, known_metas, selected}
+use Rattle.sessions.specs.Words.{CoordinatorState, IsOnTime, MayPost, Registered, Stands, writer_count}
 use Rattle.sessions.specs.Sets.{bare}
 use Rattle.sessions.specs.declared.sessions.Sessions.TheInside.{Inside}
 

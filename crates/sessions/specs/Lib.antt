@@ -2,3 +2,4 @@ pub mod Sets
 pub mod Keeps
 pub mod Concluded
 pub mod Moves
+pub mod Words

@@ -2,45 +2,13 @@
 -- reply and effects are those of the definitions, and after which what is kept stands for the state after it. (This
 -- project's own.)
 use Rattle.std.specs.Prelude.{ℕ, ◌≡◌, Bool, true, false, List, [], Option, Some, None}
-use Rattle.vss_names.specs.declared.order.Order.{Order}
-use Rattle.vss_names.specs.declared.vss_result.VssResult.{VssResult}
-use Rattle.vss_names.specs.declared.vss_result.VssResult.TheVariants.{AsyncPending}
-use Rattle.write_history.specs.History.{History}
-use Rattle.write_history.specs.declared.mark.Mark.TheVariants.{Clean}
-use Rattle.writer_state.specs.declared.writer_row.WriterRow.{WriterRow}
-use Rattle.set_agenda.specs.declared.group.Group.{Group}
-use Rattle.set_agenda.specs.declared.kind.Kind.{Kind}
-use Rattle.set_agenda.specs.Agenda.{next_volume, open_group, order_now}
-use Rattle.set_agenda.specs.WriterSet.{writers_of}
-use Rattle.set_agenda.specs.Course.{Course, released}
-use Rattle.component_doc.specs.Held.{Held}
-use Rattle.coordinator.specs.Beginning.{begun_as}
-use Rattle.coordinator.specs.Coordinator.{runs, works}
-use Rattle.coordinator.specs.Effects.{Tells}
-use Rattle.coordinator.specs.declared.effects.Effects.{Effects}
-use Rattle.requestor.specs.declared.mode.Mode.{Mode}
-use Rattle.requestor.specs.declared.mode.Mode.TheVariants.{Components, All}
-use Rattle.requestor.specs.declared.session_call.SessionCall.{SessionCall}
-use Rattle.requestor.specs.declared.verdict.Verdict.TheVariants.{Go}
-use Rattle.requestor.specs.Check.{check}
-use Rattle.requestor.specs.Session.{Session}
-use Rattle.component_doc.specs.Document.{document_text}
-use Rattle.scenario.specs.declared.op.Op.{Op}
-use Rattle.scenario.specs.declared.op.Op.TheVariants.{Add, Component, Document, Start, Gather, Prepare, Snapshot, Complete}
-use Rattle.scenario.specs.Plan.{Plan}
-use Rattle.vss_model.specs.declared.event.Event.{Event}
-use Rattle.vss_model.specs.declared.event.Event.TheVariants.{Provider}
-use Rattle.vss_model.specs.declared.told.Told.{Told}
+use Rattle.vss_model.specs.Words.{Add, All, AsyncPending, Clean, Component, Components, Course, Document, EndsAs, Event, Fits, Go, Group, HasLists, Held, History, IsOutcome, Kind, Mode, Op, Order}
+use Rattle.vss_model.specs.Words.{Plan, Provider, Reply, Session, SessionCall, SetRow, Start, State, Told, VssResult, WriterRow, after, check, document_text, enabled, ended_of, event_allows}
+use Rattle.vss_model.specs.Words.{failed_in, followed, in_progress, known_metas, left_now, line_in, lost_after, lost_order_if, mark_of, next_volume, open_group, order_now, released, selected}
+use Rattle.vss_model.specs.Words.{step_made, stepped_as, ticked, told_act, volumes_of, writers_of}
+use Rattle.sessions.specs.Words.{Effects, Tells, begun_as, runs, works}
+use Rattle.scenario.specs.declared.op.Op.TheVariants.{Gather, Prepare, Snapshot, Complete}
 use Rattle.vss_model.specs.declared.told.Told.TheVariants as told
-use Rattle.vss_model.specs.State.{State, SetRow, in_progress, left_now}
-use Rattle.vss_model.specs.Reply.{Reply}
-use Rattle.vss_model.specs.Effects.{ended_of, lost_after, lost_order_if}
-use Rattle.vss_model.specs.Sessions.{known_metas, line_in, selected, volumes_of}
-use Rattle.vss_model.specs.Ending.{failed_in, followed}
-use Rattle.vss_model.specs.Steps.{step_made, stepped_as, ticked}
-use Rattle.vss_model.specs.Acts.{after, enabled, event_allows}
-use Rattle.vss_model.specs.Told.{Fits, mark_of}
-use Rattle.vss_model.specs.Outcome.{EndsAs, HasLists, IsOutcome, told_act}
 use Rattle.sessions.specs.declared.called.Called.{Called}
 use Rattle.sessions.specs.declared.called.Called.TheVariants.{Waits, Moves}
 use Rattle.sessions.specs.declared.session_move.SessionMove.{SessionMove}

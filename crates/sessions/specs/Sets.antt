@@ -1,8 +1,7 @@
 -- The sets that were started, as they are kept: the newest alone may be in progress. (This project's own.)
 use Rattle.std.specs.Prelude.{ℕ, ◌==◌, ◌&&◌, Bool, List, [], find, option_map, if◌then◌else◌, Option}
 use Rattle.std.specs.List.{list_any}
-use Rattle.vss_model.specs.State.{SetRow, is_running, is_complete}
-use Rattle.vss_model.specs.Facts.{NumberedFrom, OverButNewest}
+use Rattle.vss_model.specs.Words.{NumberedFrom, OverButNewest, SetRow, is_complete, is_running}
 use Rattle.sessions.specs.declared.set_facts.SetFacts.{SetFacts}
 
 -- the set in progress

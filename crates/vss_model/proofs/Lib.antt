@@ -39,3 +39,4 @@ pub mod Ended
 pub mod Late
 pub mod Causes
 pub mod Freed
+pub mod Words

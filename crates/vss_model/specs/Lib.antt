@@ -18,3 +18,4 @@ pub mod Outcome
 pub mod Turns
 pub mod Headline
 pub mod Causes
+pub mod Words

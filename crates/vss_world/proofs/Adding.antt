@@ -1,46 +1,15 @@
 -- A volume that joins the set in progress, or is refused by the provider.
-use Rattle.std.proofs.Common.{◌≡◌, ℕ, ◌==◌, ◌<◌, List, [], ◌∷◌, ◌++◌, length, refl, ap, sym, ◌∙◌, subst, Bool, true, false, ◌||◌, Option, Some, None}
-use Rattle.std.specs.Prelude.{not, nat_le, option_map, if◌then◌else◌, Result, Ok, Err}
-use Rattle.std.proofs.lemmas.Bool.{and_from, and_parts, eq-eqb, eqb-false, ne_eqb, or_parts}
-use Rattle.volume_device.specs.declared.device.Device.{Ghosts}
-use Rattle.vss_names.specs.declared.vss_result.VssResult.{VssResult}
-use Rattle.vss_names.specs.declared.vss_result.VssResult.TheVariants.{ObjectAlreadyExists, MaximumNumberOfVolumesReached, MaximumNumberOfSnapshotsReached}
-use Rattle.write_history.specs.declared.evicted.Evicted.{Evicted}
-use Rattle.write_history.specs.declared.mark.Mark.{Mark}
-use Rattle.set_agenda.specs.Agenda.{is_among}
-use Rattle.set_agenda.specs.Begin.{are_distinct}
-use Rattle.requestor.specs.declared.verdict.Verdict.{Verdict}
-use Rattle.requestor.specs.declared.verdict.Verdict.TheVariants.{Go, Refused}
+use Rattle.std.proofs.Common.{◌≡◌, ℕ, ◌==◌, ◌<◌, List, [], ◌∷◌, ◌++◌, length, refl, ap, sym, ◌∙◌, subst, Bool, true, false, ◌||◌, Option, Some, None, not, nat_le, option_map, if◌then◌else◌, Result}
+use Rattle.std.proofs.Common.{Ok, Err}
+use Rattle.vss_world.proofs.Words.{AreGroups, AreKept, Evicted, Ghosts, Go, IfStandFor, IfStands, IsAt, IsInOrder, IsMove, IsMoved, IsOf, Keeps, Line, Mark, MaximumNumberOfSnapshotsReached}
+use Rattle.vss_world.proofs.Words.{MaximumNumberOfVolumesReached, MayAdd, ObjectAlreadyExists, Plan, ProviderValue, Refused, Replied, SessionsValue, SetRow, State, Told, Verdict, VssResult, add}
+use Rattle.vss_world.proofs.Words.{add_refusal, add_to, adds, adds_not, after, and_from, and_parts, are_distinct, change_set, check, counts_of, eq-eqb, eqb-false, fault_of, find-map, happens_moves}
+use Rattle.vss_world.proofs.Words.{history_at, history_of, in_progress, is_among, is_fault, is_running, judged, kept_same, line, line_of, mark_of, ne_eqb, number_prepared, or_parts, other_goes}
+use Rattle.vss_world.proofs.Words.{refusal, refused_happens, row_changed, runs, simple_outcome, state, told_act, told_alone, volumes_of, with_volume}
 use Rattle.requestor.specs.declared.session_call.SessionCall.TheVariants as call
-use Rattle.requestor.specs.Check.{check}
 use Rattle.scenario.specs.declared.op.Op.TheVariants as op
-use Rattle.scenario.specs.Plan.{Plan}
-use Rattle.vss_model.specs.declared.event.Event.TheVariants.{Line}
-use Rattle.vss_model.specs.declared.told.Told.{Told}
 use Rattle.vss_model.specs.declared.told.Told.TheVariants as told
-use Rattle.vss_model.specs.State.{State, SetRow, in_progress, row_changed, is_running, history_of}
-use Rattle.vss_model.specs.Ending.{runs}
-use Rattle.vss_model.specs.Images.{Replied}
-use Rattle.vss_model.specs.Lines.{called, line}
-use Rattle.vss_model.specs.Acts.{state, after}
-use Rattle.vss_model.specs.Sessions.{add, add_to, add_refusal, change_set, with_volume, volumes_of, judged}
-use Rattle.vss_model.specs.Outcome.{told_act}
-use Rattle.vss_model.specs.Told.{mark_of}
-use Rattle.vss_model.specs.Trail.{is_fault}
-use Rattle.provider.specs.Devices.{counts_of, fault_of, AreKept}
-use Rattle.vss_model.proofs.Orderly.{find-map}
-use Rattle.provider.specs.Groups.{AreGroups, IfStandFor, history_at}
-use Rattle.provider.specs.Preparing.{ProviderValue, refusal}
-use Rattle.provider.proofs.Kept.{kept_same}
-use Rattle.sessions.specs.Keeps.{SessionsValue, Keeps, IsAt, IsInOrder}
-use Rattle.sessions.specs.Moves.{IsMove, MayAdd}
-use Rattle.sessions.specs.Concluded.{told_alone}
-use Rattle.sessions.proofs.Adding.{adds, adds_not}
-use Rattle.sessions.proofs.Lines.{line_of}
-use Rattle.vss_model.proofs.GoingOn.{other_goes}
-use Rattle.sessions.proofs.Moving.{happens_moves, refused_happens}
-use Rattle.vss_world.specs.Stands.{IsOf, number_prepared, IfStands}
-use Rattle.vss_world.specs.Moves.{IsMoved, simple_outcome}
+use Rattle.vss_model.specs.Lines.{called}
 use Rattle.vss_world.proofs.ToCome.{no_agenda_provided}
 use Rattle.vss_world.proofs.Moved.{world_of, IsProviderAt, goes_nowhere, clean_devices}
 use Rattle.vss_world.proofs.Simple.{after_line}

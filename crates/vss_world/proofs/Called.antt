@@ -1,50 +1,14 @@
 -- A session line, against the acts.
-use Rattle.std.proofs.Common.{◌≡◌, ℕ, List, [], ◌∷◌, ◌++◌, refl, ap, sym, ◌∙◌, subst, Bool, true, false, Option, Some, None, ◌⊎◌, inl, inr}
-use Rattle.std.specs.Prelude.{is_some, option_map}
-use Rattle.volume_device.specs.declared.device.Device.{Ghosts}
-use Rattle.vss_names.specs.declared.vss_result.VssResult.{VssResult}
-use Rattle.vss_names.specs.declared.vss_result.VssResult.TheVariants.{AsyncPending}
-use Rattle.write_history.specs.declared.evicted.Evicted.{Evicted}
-use Rattle.write_history.specs.declared.mark.Mark.{Mark}
-use Rattle.write_history.specs.declared.mark.Mark.TheVariants.{Clean, Fault, FaultAfter}
-use Rattle.set_agenda.specs.Agenda.{Agenda}
-use Rattle.set_agenda.specs.Begin.{are_distinct}
-use Rattle.scenario.specs.declared.op.Op.{Op}
-use Rattle.scenario.specs.declared.op.Op.TheVariants.{Start, Snapshot, End}
-use Rattle.scenario.specs.Bounds.{IsOp}
-use Rattle.scenario.specs.Calls.{call_of}
-use Rattle.scenario.specs.Plan.{Plan}
-use Rattle.vss_model.specs.declared.event.Event.TheVariants.{Line}
-use Rattle.vss_model.specs.declared.told.Told.{Told}
+use Rattle.std.proofs.Common.{◌≡◌, ℕ, List, [], ◌∷◌, ◌++◌, refl, ap, sym, ◌∙◌, subst, Bool, true, false, Option, Some, None, ◌⊎◌, inl, inr, is_some, option_map}
+use Rattle.vss_world.proofs.Words.{Act, Agenda, AreGroups, AreKept, AsyncPending, Clean, End, EndsAs, Evicted, Fault, FaultAfter, Fits, Ghosts, IfStands, IsAtOver, IsEndPrepared, IsMove, IsMoved}
+use Rattle.vss_world.proofs.Words.{IsOf, IsOp, IsPrepared, IsSettled, IsStanding, Leaves, Line, Mark, NumberedFrom, Op, Plan, ProviderValue, Replied, SessionMove, SessionsValue, SetRow, Start, State}
+use Rattle.vss_world.proofs.Words.{Told, VssResult, after, after_move, are_distinct, begins_snapshot, call_of, counts_of, current_kept, current_of, ended_of, images_after, in_progress, is_add}
+use Rattle.vss_world.proofs.Words.{is_fault, is_to_come, line, line_allows, mark_of, none_over, number_prepared, orderly, provided, state, state-append, told_act, volumes_of}
+use Rattle.vss_model.specs.Words.{Reply}
+use Rattle.scenario.specs.declared.op.Op.TheVariants.{Snapshot}
 use Rattle.vss_model.specs.declared.told.Told.TheVariants as told
-use Rattle.vss_model.specs.Reply.{Reply}
-use Rattle.vss_model.specs.State.{State, SetRow, in_progress}
-use Rattle.vss_model.specs.Images.{Replied}
-use Rattle.vss_model.specs.Lines.{line}
-use Rattle.vss_model.specs.Acts.{Act, state, after, line_allows}
-use Rattle.vss_model.specs.Effects.{ended_of}
-use Rattle.vss_model.specs.Facts.{NumberedFrom}
-use Rattle.vss_model.specs.Sessions.{volumes_of}
-use Rattle.vss_model.specs.Told.{Fits, mark_of}
-use Rattle.vss_model.specs.Trail.{is_fault}
-use Rattle.vss_model.specs.Outcome.{EndsAs, told_act}
-use Rattle.vss_model.proofs.Appending.{state-append}
-use Rattle.vss_model.proofs.OrderlyActs.{orderly}
-use Rattle.provider.specs.Groups.{AreGroups}
-use Rattle.provider.specs.Devices.{counts_of, AreKept}
-use Rattle.provider.specs.Preparing.{ProviderValue}
-use Rattle.sessions.specs.Keeps.{SessionsValue, Leaves}
-use Rattle.sessions.specs.Moves.{IsMove, IsAtOver, after_move, images_after, is_add}
-use Rattle.sessions.specs.Sets.{current_of}
-use Rattle.sessions.specs.declared.session_move.SessionMove.{SessionMove}
-use Rattle.sessions.proofs.Concluding.{current_kept}
-use Rattle.vss_world.specs.Changes.{IsSettled, IsEndPrepared, begins_snapshot}
-use Rattle.vss_world.specs.Stands.{IsOf, IsPrepared, number_prepared, IsStanding, IfStands}
-use Rattle.vss_world.specs.Moves.{IsMoved}
-use Rattle.vss_model.proofs.Rows.{none_over}
 use Rattle.vss_world.proofs.Moved.{world_of, IsProviderAt, clean_devices, leaves_of, goes_on, in_order}
 use Rattle.vss_world.proofs.Simple.{after_line}
-use Rattle.vss_world.specs.Provided.{is_to_come, provided}
 use Rattle.vss_world.proofs.ToCome.{no_set_provided, no_agenda_provided, all_provided}
 use Rattle.vss_world.proofs.SetGoesOn.{GoesOn, BeginsSnapshot}
 use Rattle.vss_world.proofs.LinesGoOn.{LineGoes, SnapshotGoes, StartsSet, line_goes}

@@ -1,22 +1,13 @@
 -- How far images go for a write: as far by the histories that the provider has as by those of the definitions.
-use Rattle.std.proofs.Common.{◌≡◌, ℕ, zero, suc, ◌<◌, ◌==◌, List, [], ◌∷◌, ◌++◌, length, refl, ap, sym, ◌∙◌, subst, arith, Bool, true, false, ◌&&◌, Option, Some, None, ◌⊎◌, inl, inr}
-use Rattle.std.proofs.Common.{slice_get}
-use Rattle.std.specs.Prelude.{not, nat_lt, option_map, if◌then◌else◌, unwrap_or}
-use Rattle.std.specs.List.{range_with_len}
-use Rattle.std.proofs.lemmas.Bool.Decides.{nat_tests}
-use Rattle.write_history.specs.History.{Image, History, point_in, after_set, AreLater, AreInTime}
-use Rattle.write_history.specs.Slots.{Placed, gone_up_to, group_used, needs_slot_in, lacks_slot, evicted_up_to}
-use Rattle.scenario.specs.Plan.{Plan}
-use Rattle.vss_model.specs.State.{SetRow, in_progress, history_in, is_held}
-use Rattle.vss_model.specs.Acts.{Act, state}
-use Rattle.vss_model.proofs.Orderly.{true_not_false}
-use Rattle.vss_world.specs.Provided.{is_to_come, dropped_if, comes, number_of, without, provided}
+use Rattle.std.proofs.Common.{◌≡◌, ℕ, zero, suc, ◌<◌, ◌==◌, List, [], ◌∷◌, ◌++◌, length, refl, ap, sym, ◌∙◌, subst, arith, Bool, true, false, ◌&&◌, Option, Some, None, ◌⊎◌, inl, inr, slice_get, not}
+use Rattle.std.proofs.Common.{nat_lt, option_map, if◌then◌else◌}
+use Rattle.vss_world.proofs.Words.{Act, AreInTime, AreLater, History, Image, Placed, Plan, SetRow, after_set, comes, dropped_if, evicted_up_to, find_same, gone_up_to, group_used, history_in}
+use Rattle.vss_world.proofs.Words.{in_progress, is_held, is_to_come, lacks_slot, nat_tests, needs_slot_in, number_of, point_in, provided, range_with_len, state, true_not_false, unwrap_or, without}
 use Rattle.vss_world.proofs.Options.{none_from}
 use Rattle.vss_world.proofs.KeptSets.{later_filter, in_time_filter}
 use Rattle.vss_world.proofs.ToCome.{held_to_come}
 use Rattle.vss_world.proofs.Unnamed.{IsUnnamed, without_none, later_last}
 use Rattle.vss_world.proofs.WithoutImages.{AreUnnamed, without_get, gone_without, group_used_without}
-use Rattle.provider.proofs.InGroup.{find_same}
 
 -- ## images after a set
 

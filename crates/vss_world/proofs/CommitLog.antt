@@ -1,24 +1,12 @@
 -- What the log of a running agenda says of the Commit steps: once a Release step is made, or the agenda is over, all of them are; and
 -- where one is the next step, the Cut step is made.
-use Rattle.std.proofs.Common.{◌≡◌, ℕ, ◌==◌, List, [], ◌∷◌, refl, sym, ◌∙◌, subst, Bool, true, false, Some, map}
-use Rattle.std.specs.Prelude.{◌&&◌, ◌||◌}
-use Rattle.std.proofs.lemmas.List.Folds.{list_any-append}
-use Rattle.std.proofs.lemmas.Bool.{and_parts, both_ways, false_from_ne_true, false≢true}
-use Rattle.vss_names.specs.declared.level.Level.TheVariants.{System, BackEnd, FrontEnd}
-use Rattle.vss_names.specs.declared.order.Order.TheVariants.{Identify, PrepareBackup, PrepareSnapshot, Freeze, BackupComplete}
-use Rattle.writer_state.specs.declared.said.Said.{Said}
-use Rattle.set_agenda.specs.declared.group.Group.{Group}
-use Rattle.set_agenda.specs.declared.group.Group.TheVariants.{Orders, PreCommit, Flush, Hold, Cut, Commit, Release}
-use Rattle.set_agenda.specs.declared.kind.Kind.{Kind}
-use Rattle.set_agenda.specs.declared.kind.Kind.TheVariants.{Gather, Prepare, Snapshot, Complete}
-use Rattle.set_agenda.specs.declared.place.Place.{Place}
-use Rattle.set_agenda.specs.Agenda.{Agenda, Entry, Open, plain, at_level, places, same_place, has_said, waited_for, with_group, left_from, groups_left, open_place, is_among, is_done, at_place}
-use Rattle.set_agenda.specs.Agenda.{all_say}
-use Rattle.scenario.specs.Plan.{Plan}
-use Rattle.vss_model.specs.Acts.{Act, state}
-use Rattle.vss_model.proofs.AtCut.{all_said}
-use Rattle.vss_model.proofs.LogRule.{IsKeptInLog, Running, in_log}
-use Rattle.vss_model.proofs.Spoken.{new_said, fewer_wait}
+use Rattle.std.proofs.Common.{◌≡◌, ℕ, ◌==◌, List, [], ◌∷◌, refl, sym, ◌∙◌, subst, Bool, true, false, Some, map, ◌&&◌, ◌||◌}
+use Rattle.vss_world.proofs.Words.{Act, Agenda, BackEnd, BackupComplete, Commit, Cut, Entry, Flush, Freeze, FrontEnd, Gather, Group, Hold, Identify, IsKeptInLog, Kind, Open, Orders, Place, Plan}
+use Rattle.vss_world.proofs.Words.{PreCommit, Prepare, PrepareBackup, PrepareSnapshot, Release, Said, Snapshot, System, all_said, all_say, and_parts, at_level, at_place, both_ways, false_from_ne_true}
+use Rattle.vss_world.proofs.Words.{false≢true, fewer_wait, groups_left, has_said, in_log, is_among, is_done, left_from, list_any-append, new_said, open_place, places, plain, same_place, state}
+use Rattle.vss_world.proofs.Words.{waited_for, with_group}
+use Rattle.vss_model.proofs.Words.{Running}
+use Rattle.set_agenda.specs.declared.kind.Kind.TheVariants.{Complete}
 
 -- ## groups before the open one
 

@@ -1,32 +1,9 @@
 -- At a Commit step the provider can cut the image of its set on the step's volume.
-use Rattle.std.proofs.Common.{◌≡◌, ℕ, suc, ◌<◌, ◌≤◌, ◌==◌, List, [], ◌∷◌, length, refl, ap, sym, ◌∙◌, subst, arith, Bool, true, false, Option, Some, All}
-use Rattle.std.specs.Prelude.{IfSome, is_some, option_map, not, if◌then◌else◌}
-use Rattle.std.proofs.lemmas.List.Elements.{All-nil, All-cons}
-use Rattle.std.proofs.lemmas.List.Filters.{length-filter_both}
-use Rattle.std.proofs.lemmas.Bool.{cond_both, not-true}
-use Rattle.write_history.specs.History.{Image, History, point_in, without_set}
-use Rattle.write_history.specs.declared.evicted.Evicted.{Evicted}
-use Rattle.cow_volume.proofs.Group.{slice_get_inside}
-use Rattle.set_agenda.specs.declared.group.Group.{Group}
-use Rattle.set_agenda.specs.declared.group.Group.TheVariants.{Commit}
-use Rattle.set_agenda.specs.Agenda.{Agenda, is_among}
-use Rattle.scenario.specs.Plan.{Plan}
-use Rattle.vss_model.specs.State.{State, SetRow, in_progress, history_in, history_of}
-use Rattle.vss_model.specs.Acts.{Act, state}
-use Rattle.vss_model.specs.Facts.{NumberedFrom, OverButNewest}
-use Rattle.vss_model.specs.Sessions.{volumes_of}
-use Rattle.vss_model.proofs.Completed.{image_once_cut}
-use Rattle.vss_model.proofs.FewerImages.{as_many_volumes}
-use Rattle.vss_model.proofs.NewestImage.{UpTo, images_up_to}
-use Rattle.vss_model.proofs.OneCut.{newest_number}
-use Rattle.vss_model.proofs.OrderlyActs.{orderly}
-use Rattle.vss_model.proofs.RoomForImage.{room_with_image}
-use Rattle.provider.specs.Groups.{history_at}
-use Rattle.provider.specs.Preparing.{ProviderValue, CanCutOn}
-use Rattle.sessions.specs.Keeps.{SessionsValue}
-use Rattle.sessions.specs.Moves.{IsNextStep}
-use Rattle.vss_world.specs.Provided.{is_to_come, dropped_if, provided}
-use Rattle.vss_world.specs.Stands.{Stands}
+use Rattle.std.proofs.Common.{◌≡◌, ℕ, suc, ◌<◌, ◌≤◌, ◌==◌, List, [], ◌∷◌, length, refl, ap, sym, ◌∙◌, subst, arith, Bool, true, false, Option, Some, All, IfSome, is_some, option_map, not}
+use Rattle.std.proofs.Common.{if◌then◌else◌}
+use Rattle.vss_world.proofs.Words.{Act, Agenda, All-cons, All-nil, CanCutOn, Commit, Evicted, Group, History, Image, IsNextStep, NumberedFrom, OverButNewest, Plan, ProviderValue, SessionsValue}
+use Rattle.vss_world.proofs.Words.{SetRow, Stands, State, UpTo, as_many_volumes, cond_both, dropped_if, history_at, history_in, history_of, image_once_cut, images_up_to, in_progress, is_among}
+use Rattle.vss_world.proofs.Words.{is_to_come, length-filter_both, newest_number, not-true, orderly, point_in, provided, room_with_image, slice_get_inside, state, volumes_of, without_set}
 use Rattle.vss_world.proofs.InPlan.{volumes_below}
 use Rattle.vss_world.proofs.Moved.{world_of}
 use Rattle.vss_world.proofs.Prepared.{provided_at}

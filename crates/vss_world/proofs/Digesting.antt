@@ -1,36 +1,14 @@
 -- Digests of volumes and of images: what is told of them, and that nothing but counts of devices changes.
-use Rattle.std.proofs.Common.{◌≡◌, ℕ, ◌<◌, List, length, ap, sym, ◌∙◌, subst, true, false, Option, Some, None, slice_get}
-use Rattle.std.specs.Prelude.{is_some, Result, Ok, Err, IfOk, IfSome, All}
-use Rattle.std.specs.List.{concat}
-use Rattle.std.proofs.lemmas.List.Elements.{All-weaker}
-use Rattle.std.proofs.lemmas.Bool.{true≢false}
-use Rattle.volume_device.specs.declared.device.Device.{Ghosts}
-use Rattle.hex.specs.Hex.{IsBytes}
-use Rattle.lent_digests.specs.declared.digested.Digested.{Digested}
-use Rattle.write_history.specs.declared.evicted.Evicted.{Evicted}
-use Rattle.write_history.specs.History.{Write, contents, point_in}
-use Rattle.scenario.specs.Plan.{Plan, blocks_of}
-use Rattle.vss_model.specs.State.{State, history_of, kept, is_kept_set}
-use Rattle.vss_model.specs.Acts.{Act, state}
-use Rattle.vss_model.specs.Told.{IsDigestIf}
-use Rattle.provider.specs.Groups.{AreGroups, IfStandFor, IsPointOf, history_at}
-use Rattle.provider.specs.Devices.{devices_of}
-use Rattle.provider.specs.Calls.{IsDigestShown, IsDigestTold, IsDigestedAt, HasImage}
-use Rattle.provider.specs.Calls.{IsQuiet as IsGroupsQuiet}
-use Rattle.provider.specs.Preparing.{ProviderValue}
-use Rattle.cow_volume.specs.declared.cause.Cause.{Cause}
-use Rattle.sessions.specs.Keeps.{SessionsValue}
-use Rattle.vss_world.specs.Devices.{tells_of}
-use Rattle.vss_world.specs.Reading.{IsDigestOf, IsDigestedIf}
-use Rattle.vss_world.specs.Stands.{WorldValue, IsOf, Stands, IfStands, IsStanding}
-use Rattle.vss_world.specs.Quiet.{IsQuiet, AreDevicesAlone}
-use Rattle.vss_world.specs.Provided.{provided}
+use Rattle.std.proofs.Common.{◌≡◌, ℕ, ◌<◌, List, length, ap, sym, ◌∙◌, subst, true, false, Option, Some, None, slice_get, is_some, Result, Ok, Err, IfOk, IfSome, All}
+use Rattle.vss_world.proofs.Words.{Act, All-weaker, AreDevicesAlone, AreGroups, Cause, Digested, Evicted, Ghosts, HasImage, IfStandFor, IfStands, IsBytes, IsDigestIf, IsDigestOf, IsDigestShown}
+use Rattle.vss_world.proofs.Words.{IsDigestTold, IsDigestedAt, IsDigestedIf, IsOf, IsPointOf, IsQuiet, IsStanding, Plan, ProviderValue, SessionsValue, Stands, State, WorldValue, Write, blocks_of}
+use Rattle.vss_world.proofs.Words.{concat, contents, devices_of, history_at, history_of, is_kept_set, kept, point_before as kept_point, point_in, provided, state, tells_of, true≢false}
+use Rattle.provider.proofs.Words.{IsQuiet as IsGroupsQuiet}
 use Rattle.vss_world.proofs.Moved.{world_of, in_order, of_kept}
 use Rattle.vss_world.proofs.Options.{some_is}
 use Rattle.vss_world.proofs.OnProvided.{writes_at, kept_at}
 use Rattle.vss_world.proofs.Simple.{same_parts}
 use Rattle.vss_world.proofs.Seen.{digest_slot}
-use Rattle.cow_volume.proofs.Merging.{point_before as kept_point}
 
 -- ## nothing but counts changes
 

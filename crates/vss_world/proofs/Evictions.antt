@@ -1,24 +1,11 @@
 -- The kept images that go for a write: those that the provider tells, but for sets that are not complete, are those of the definitions.
-use Rattle.std.proofs.Common.{◌≡◌, ℕ, zero, suc, ◌+◌, ◌<◌, ◌≤◌, ◌==◌, List, [], ◌∷◌, ◌++◌, length, refl, ap, sym, ◌∙◌, arith, Bool, true, false, ◌&&◌, ◌||◌, Option, Some, None, filter}
-use Rattle.std.specs.Prelude.{is_some, not, nat_le, nat_lt, if◌then◌else◌}
-use Rattle.std.specs.List.{flat_map, range_with_len}
-use Rattle.std.proofs.lemmas.Bool.Decides.{nat_tests}
-use Rattle.std.proofs.lemmas.List.Elements.{filter-append}
-use Rattle.std.proofs.lemmas.Bool.{eq-eqb, le-leb, leb-false, lt-leb, ne_eqb}
-use Rattle.write_history.specs.declared.evicted.Evicted.{Evicted}
-use Rattle.write_history.specs.History.{Image, History, point_in, after_set}
-use Rattle.write_history.specs.Slots.{Placed, gone_up_to, evicted_of}
-use Rattle.scenario.specs.Plan.{Plan, group_of}
-use Rattle.vss_model.specs.State.{State, SetRow, in_progress, is_complete, is_kept_set, has_image}
-use Rattle.vss_model.specs.Effects.{volumes_losing, evicted_for}
-use Rattle.vss_model.specs.Facts.{NumberedFrom}
-use Rattle.vss_model.specs.Images.{going_up_to}
-use Rattle.vss_model.proofs.Rows.{has_complete, none_below}
-use Rattle.provider.specs.Calls.{holders, images_going}
-use Rattle.vss_world.specs.Provided.{comes, number_of, without, provided}
+use Rattle.std.proofs.Common.{◌≡◌, ℕ, zero, suc, ◌+◌, ◌<◌, ◌≤◌, ◌==◌, List, [], ◌∷◌, ◌++◌, length, refl, ap, sym, ◌∙◌, arith, Bool, true, false, ◌&&◌, ◌||◌, Option, Some, None, filter, is_some, not}
+use Rattle.std.proofs.Common.{nat_le, nat_lt, if◌then◌else◌}
+use Rattle.vss_world.proofs.Words.{Evicted, History, Image, NumberedFrom, Placed, Plan, SetRow, State, after_set, and-true, comes, eq-eqb, evicted_for, evicted_of, filter-append, flat_map}
+use Rattle.vss_world.proofs.Words.{going_up_to, gone_up_to, group_of, has_complete, has_image, holders, images_going, in_progress, is_complete, is_kept_set, le-leb, leb-false, lt-leb, nat_tests}
+use Rattle.vss_world.proofs.Words.{ne_eqb, none_below, number_of, or-false, point_in, provided, range_with_len, volumes_losing, without}
 use Rattle.vss_world.proofs.Losing.{stays, and_not}
 use Rattle.vss_world.proofs.OnProvided.{has_if, other_set}
-use Rattle.set_agenda.proofs.WriterSets.{and-true, or-false}
 use Rattle.vss_world.proofs.SetGoesOn.{skip}
 
 -- ## the volumes that lose an image

@@ -1,21 +1,7 @@
 -- What the core stands for before any act.
 use Rattle.std.proofs.Common.{◌≡◌, ℕ, List, [], length, refl, ap, sym, ◌∙◌, subst, arith, Option, Some, map, slice_get}
-use Rattle.std.proofs.lemmas.Option.{slice_get_within, get_or_from_slice_get}
-use Rattle.write_history.specs.declared.evicted.Evicted.{Evicted}
-use Rattle.write_history.specs.History.{fresh}
-use Rattle.scenario.specs.declared.volume_row.VolumeRow.{VolumeRow}
-use Rattle.scenario.specs.Plan.{Plan}
-use Rattle.scenario.specs.Bounds.{IsPlan, IsInGroup, group_slots}
-use Rattle.cow_volume.specs.GroupValue.{GroupValue}
-use Rattle.cow_volume.proofs.Group.{slice_get_inside}
-use Rattle.vss_model.specs.State.{start}
-use Rattle.provider.specs.Groups.{AreFresh, AreGroups, AreWhole, HasGroups}
-use Rattle.set_agenda.specs.Begin.{are_distinct}
-use Rattle.provider.specs.Preparing.{ProviderValue}
-use Rattle.sessions.specs.Keeps.{SessionsValue}
-use Rattle.vss_world.specs.Quiet.{AreFirst}
-use Rattle.vss_world.specs.Stands.{IsOf, Stands}
-use Rattle.vss_world.specs.Quiet.{AreNew}
+use Rattle.vss_world.proofs.Words.{AreFirst, AreFresh, AreGroups, AreNew, AreWhole, Evicted, GroupValue, HasGroups, IsInGroup, IsOf, IsPlan, Plan, ProviderValue, SessionsValue, Stands, VolumeRow}
+use Rattle.vss_world.proofs.Words.{are_distinct, fresh, get_or_from_slice_get, group_slots, slice_get_inside, slice_get_within, start}
 use Rattle.vss_world.proofs.Moved.{world_of}
 use Rattle.vss_world.proofs.ToCome.{no_set_provided}
 

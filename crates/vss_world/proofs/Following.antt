@@ -1,37 +1,11 @@
 -- A move of the sessions, against the acts: what they come to, with the images that go.
 use Rattle.std.proofs.Common.{◌≡◌, ℕ, ◌*◌, ◌<◌, ◌≤◌, ◌^◌, ◌-◌, List, [], ◌∷◌, ◌++◌, length, refl, ap, sym, ◌∙◌, subst, arith, true, false, Bool, Option, Some, None, map}
-use Rattle.volume_device.specs.declared.device.Device.{Ghosts}
-use Rattle.write_history.specs.declared.mark.Mark.{Mark}
-use Rattle.write_history.specs.declared.mark.Mark.TheVariants.{Clean, Fault, FaultAfter}
-use Rattle.write_history.specs.History.{dropped}
-use Rattle.scenario.specs.Plan.{Plan}
-use Rattle.write_history.specs.declared.evicted.Evicted.{Evicted}
-use Rattle.vss_model.specs.declared.event.Event.{Event}
-use Rattle.vss_model.specs.State.{State, SetRow, in_progress}
-use Rattle.vss_model.specs.Acts.{Act, state, after}
-use Rattle.set_agenda.specs.Agenda.{Agenda, is_snapshot}
-use Rattle.vss_model.specs.Sessions.{volumes_of}
-use Rattle.vss_model.specs.Effects.{ended_of}
-use Rattle.vss_model.specs.Facts.{NumberedFrom}
-use Rattle.vss_model.specs.Told.{mark_of}
-use Rattle.vss_model.specs.Trail.{is_fault}
-use Rattle.vss_model.specs.Outcome.{IsOutcome, EndsAs, told_act}
-use Rattle.vss_model.proofs.Appending.{state-append}
-use Rattle.vss_model.proofs.FlushFails.{outcome_is_running}
-use Rattle.vss_model.proofs.Gathered.{named_known_components}
-use Rattle.vss_model.proofs.OrderlyActs.{orderly}
-use Rattle.provider.specs.Devices.{devices_of}
-use Rattle.provider.specs.Preparing.{ProviderValue}
-use Rattle.sessions.specs.Keeps.{SessionsValue, Keeps, IsAt, IsStanding as IsSessionsStanding, IsStandingIn, IsOf as IsSessionsOf}
-use Rattle.sessions.specs.Moves.{IsMove, IsWait, after_move, event_volumes, images_after}
-use Rattle.sessions.specs.declared.session_move.SessionMove.{SessionMove}
-use Rattle.sessions.proofs.Newest.{length_bare}
-use Rattle.vss_world.specs.Devices.{tells_of}
-use Rattle.vss_world.specs.Changes.{IsSettled}
-use Rattle.vss_world.specs.Stands.{IsOf, IsPrepared, number_prepared, IsStanding, IfStands}
-use Rattle.vss_world.specs.Moves.{IsMoved, IsBlocked}
+use Rattle.vss_world.proofs.Words.{Act, Agenda, Clean, EndsAs, Event, Evicted, Fault, FaultAfter, Ghosts, IfStands, IsAt, IsBlocked, IsMove, IsMoved, IsOf, IsOutcome, IsPrepared, IsSettled}
+use Rattle.vss_world.proofs.Words.{IsStanding, IsStandingIn, IsWait, Keeps, Mark, NumberedFrom, Plan, ProviderValue, SessionMove, SessionsValue, SetRow, State, after, after_move, devices_of, dropped}
+use Rattle.vss_world.proofs.Words.{ended_of, event_volumes, images_after, in_progress, is_fault, is_snapshot, is_to_come, length_bare, mark_of, named_known_components, number_prepared, orderly}
+use Rattle.vss_world.proofs.Words.{outcome_is_running, provided, state, state-append, tells_of, told_act, volumes_of}
+use Rattle.vss_world.specs.Words.{IsOf as IsSessionsOf, IsStanding as IsSessionsStanding}
 use Rattle.vss_world.proofs.Moved.{world_of, IsProviderAt, OfDevices, Goes, in_order, moved, clean_devices}
-use Rattle.vss_world.specs.Provided.{is_to_come, provided}
 use Rattle.vss_world.proofs.ToCome.{agenda_volumes, has_snapshot_set, no_set_provided}
 use Rattle.vss_world.proofs.InPlan.{IsEventIn, in_plan_after}
 use Rattle.vss_world.proofs.Prepared.{IsSetMove, none_of_zero, provided_dropped, provided_at, no_image_elsewhere, settled_comes, settled_keeps}
@@ -129,7 +103,12 @@ module _ {D : Type 0} (device : Ghosts D) (s : Plan) (event : Event) (m : Sessio
         is_enabled = move.is_enabled st here;
         is_allowed = move.is_allowed st here;
         outcome = λ rows are. subst (λ (z : List Evicted). IsOutcome tells s st event m.outcome l z rows) (sym none) (move.outcome st tells l rows here are);
-        parts = record { groups = (comes acts stands).1; prepared = (comes acts stands).0; sessions = move.keeps st here; plan = in_plan_after s st (told_act event m.outcome.told) (rows_long s x st stands.at.sessions of.writers) within stands.at.plan };
+        parts = record {
+          groups = (comes acts stands).1;
+          prepared = (comes acts stands).0;
+          sessions = move.keeps st here;
+          plan = in_plan_after s st (told_act event m.outcome.told) (rows_long s x st stands.at.sessions of.writers) within stands.at.plan;
+        };
       })
 
   -- one in which the set in progress goes on, or is over

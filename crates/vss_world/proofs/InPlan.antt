@@ -1,43 +1,18 @@
 -- The volumes of sets and agendas, and the writers that take part or are disabled, stay those of the scenario, whatever happens.
-use Rattle.std.proofs.Common.{◌≡◌, ℕ, ◌+◌, ◌<◌, ◌≤◌, ◌==◌, List, [], ◌∷◌, ◌++◌, Option, Some, None, refl, Bool, true, false, subst, length, arith}
-use Rattle.std.specs.Prelude.{option_map, map, filter, find, if◌then◌else◌, not}
-use Rattle.vss_names.specs.declared.order.Order.{Order}
-use Rattle.vss_names.specs.declared.level.Level.{Level}
-use Rattle.vss_names.specs.declared.set_outcome.SetOutcome.{SetOutcome}
-use Rattle.vss_names.specs.declared.vss_result.VssResult.{VssResult}
-use Rattle.writer_state.specs.declared.said.Said.{Said}
-use Rattle.writer_state.specs.declared.said.Said.TheVariants.{Ok}
-use Rattle.set_agenda.specs.declared.kind.Kind.{Kind}
-use Rattle.set_agenda.specs.declared.group.Group.{Group}
-use Rattle.set_agenda.specs.declared.group.Group.TheVariants.{Orders, PreCommit, Flush, Hold, Cut, Commit, Release, PostCommit}
-use Rattle.set_agenda.specs.declared.member.Member.{Member}
-use Rattle.set_agenda.specs.declared.place.Place.{Place}
-use Rattle.set_agenda.specs.Agenda.{Agenda, Open, left, left_from, with_group, places, waited_for, members_of, has_said, all_say, next_member, next_volume, volume_if, is_over_volumes, open_group}
-use Rattle.set_agenda.specs.Course.{Course, failed, posted, begun, told, worked, released}
-use Rattle.vss_names.specs.declared.vss_result.VssResult.TheVariants.{AsyncCancelled}
-use Rattle.writer_state.specs.declared.writer_row.WriterRow.{WriterRow}
-use Rattle.writer_state.specs.WriterRow.{row_gathered}
-use Rattle.write_history.specs.declared.mark.Mark.{Mark}
+use Rattle.std.proofs.Common.{◌≡◌, ℕ, ◌+◌, ◌<◌, ◌≤◌, ◌==◌, List, [], ◌∷◌, ◌++◌, Option, Some, None, refl, Bool, true, false, subst, length, arith, option_map, map, filter, find, if◌then◌else◌, not}
+use Rattle.vss_world.proofs.Words.{Act, Agenda, AgendaEnds, AreBelow, AsyncCancelled, Clean, Commit, Course, Covers, Cut, Ending, Event, Fault, FaultAfter, Flush, Group, History, Hold, IsAgendaIn}
+use Rattle.vss_world.proofs.Words.{IsInPlan, IsKeptInCourse, IsOp, Kept, Kind, Level, Line, Mark, Member, MembersBelow, NothingEnds, Ok, Open, Order, Orders, Pair, Place, Plan, PostCommit, PreCommit}
+use Rattle.vss_world.proofs.Words.{Release, Said, Session, SetFails, SetOutcome, SetRow, SetsBelow, State, VssResult, Write, WriterRow, after, after_by, all_say, begun, by_if, cleared, concluded}
+use Rattle.vss_world.proofs.Words.{course_answered, course_begun, course_stepped, course_timed, covered, cut_set, ending, failed_in, has_no_volume, has_said, idle_now, in_progress, is_over_volumes}
+use Rattle.vss_world.proofs.Words.{is_running, later, left, left_from, left_now, member_if, members_from, members_of, next_member, next_volume, open_group, places, put, reverted_as, row_changed}
+use Rattle.vss_world.proofs.Words.{row_cut, row_gathered, row_settled, runs, said_of, set_loses_image, step_made, stepped_as, volume_if, volumes_of, waited_for, with_cut, with_group, with_room}
+use Rattle.vss_world.proofs.Words.{with_room_if, with_volume}
+use Rattle.set_agenda.specs.Course.{failed, posted, told, worked, released}
 use Rattle.set_agenda.specs.declared.kind.Kind.TheVariants as kind
-use Rattle.set_agenda.specs.Course.{members_from, member_if}
-use Rattle.requestor.specs.Session.{Session}
-use Rattle.scenario.specs.Bounds.{IsOp}
-use Rattle.scenario.specs.Plan.{Plan}
-use Rattle.vss_model.specs.State.{State, SetRow, in_progress, is_running, row_changed, Kept, left_now}
-use Rattle.vss_model.specs.Ending.{Ending, NothingEnds, AgendaEnds, SetFails, ending, concluded, followed, row_settled, failed_in, failed as set_failed, runs}
-use Rattle.vss_model.specs.Sessions.{with_volume, volumes_of, has_no_volume, closed}
-use Rattle.vss_model.specs.Steps.{with_cut, row_cut, cut_set, step_made, stepped, stepped_as, answered, later, ticked}
-use Rattle.vss_world.specs.Stands.{AreBelow, MembersBelow, SetsBelow, IsAgendaIn, IsInPlan}
-use Rattle.component_doc.specs.Selection.{Pair}
-use Rattle.set_agenda.proofs.CourseRule.{IsKeptInCourse, course_answered, course_begun, course_stepped, course_timed}
-use Rattle.vss_model.proofs.ByEvent.{Covers, after_by, by_if, covered}
-use Rattle.vss_model.specs.Acts.{Act, after, idle_now}
-use Rattle.vss_model.specs.Images.{cleared, put, reverted_as, set_loses_image, with_room, with_room_if, write}
-use Rattle.vss_model.specs.declared.event.Event.{Event}
-use Rattle.vss_model.specs.declared.event.Event.TheVariants.{Line}
-use Rattle.write_history.specs.History.{History, Write}
-use Rattle.write_history.specs.declared.mark.Mark.TheVariants.{Clean, Fault, FaultAfter}
-use Rattle.writer_calls.specs.Script.{said_of}
+use Rattle.vss_model.specs.Ending.{followed, failed as set_failed}
+use Rattle.vss_model.specs.Sessions.{closed}
+use Rattle.vss_model.specs.Steps.{stepped, answered, ticked}
+use Rattle.vss_model.specs.Images.{write}
 
 -- ## the course
 
@@ -205,7 +180,8 @@ members_filter test n (m ∷ ms) h = by_test (test m) (members_filter test n ms 
     by_test true k = (h.0, k)
     by_test false k = k
 
-begins_in : (s : Plan) (st : State) (k : Kind) (ms : List Member) (vs : List ℕ) (c : Course) → MembersBelow (length s.writers) ms → AreBelow (length s.volumes) vs → MembersBelow (length s.writers) c.members
+begins_in : (s : Plan) (st : State) (k : Kind) (ms : List Member) (vs : List ℕ) (c : Course) → MembersBelow (length s.writers) ms → AreBelow (length s.volumes) vs
+    → MembersBelow (length s.writers) c.members
     → AreBelow (length s.writers) c.disabled → SetsBelow (length s.volumes) st.sets → IsInPlan s (followed true (begun k ms vs st.clock c) st)
 begins_in s st k ms vs c members below of disabled sets =
     in_followed s true (begun k ms vs st.clock c) st (course_begun (IsCourseIn s) (in_course s) k ms vs st.clock c ((below, members), of, disabled)) sets
@@ -286,7 +262,8 @@ in_plan s st rows h =
       names = λ lane w full q explicit mark g e i. unseen s st _ _ _ _ h;
       starts = λ lane q mark g e i. record { sets = sets_append (length s.volumes) st.sets _ h.sets tt; agenda = h.agenda; members = h.members; disabled = h.disabled };
       adds = λ lane v r q mark g e f i. record { sets = sets_joined (length s.volumes) r.number v st.sets i h.sets; agenda = h.agenda; members = h.members; disabled = h.disabled };
-      prepares = λ lane q mark g i. by_if (λ r. IsInPlan s r.1) (has_no_volume (in_progress st)) _ _ h (begins_in s st kind.Prepare _ [] (record st.course { members = _ }) (all _) tt (all _) h.disabled h.sets);
+      prepares = λ lane q mark g i. by_if (λ r. IsInPlan s r.1) (has_no_volume (in_progress st)) _ _ h
+          (begins_in s st kind.Prepare _ [] (record st.course { members = _ }) (all _) tt (all _) h.disabled h.sets);
       snapshots = λ lane q mark g i. by_if (λ r. IsInPlan s r.1) (has_no_volume (in_progress st)) _ _ h
           (begins_in s st kind.Snapshot st.course.members _ st.course h.members (volumes_below (length s.volumes) st h.sets) h.members h.disabled h.sets);
       completes = λ lane q mark g i. begins_in s st kind.Complete _ [] st.course (members_filter _ (length s.writers) st.course.members h.members) tt h.members h.disabled h.sets;

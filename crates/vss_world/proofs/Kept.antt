@@ -1,13 +1,8 @@
 -- Whether an image is kept: its set is complete, and it stands.
-use Rattle.std.proofs.Common.{◌≡◌, ℕ, ◌+◌, List, [], ◌∷◌, refl, ap, ◌∙◌, arith, Bool, true, false, ◌&&◌, ◌||◌, ◌==◌, Option, Some, None}
-use Rattle.std.specs.Prelude.{find, if◌then◌else◌, is_some}
-use Rattle.std.specs.List.{list_any}
-use Rattle.std.proofs.lemmas.Bool.{both_ways, eqb-true}
-use Rattle.write_history.specs.History.{point_in}
-use Rattle.vss_model.specs.State.{State, SetRow, kept_of, kept_at, kept_if, kept_image, is_kept_set, is_complete, row_of, history_of}
-use Rattle.vss_model.specs.Facts.{NumberedFrom}
+use Rattle.std.proofs.Common.{◌≡◌, ℕ, ◌+◌, List, [], ◌∷◌, refl, ap, ◌∙◌, arith, Bool, true, false, ◌&&◌, ◌||◌, ◌==◌, Option, Some, None, find, if◌then◌else◌, is_some}
+use Rattle.vss_world.proofs.Words.{NumberedFrom, SetRow, State, both_ways, eqb-true, history_of, is_complete, is_kept_set, kept_at, kept_if, kept_image, kept_of, list_any, none_below, point_in}
+use Rattle.vss_world.proofs.Words.{row_of}
 use Rattle.vss_world.proofs.Options.{none_is, some_is}
-use Rattle.vss_model.proofs.Rows.{none_below}
 
 not_kept : (rows : List SetRow) (n : ℕ) (o : Option ℕ) → list_any (λ r. (r.number == n) && is_complete r.result) rows ≡ false → kept_of (find (λ r. r.number == n) rows) o ≡ None
 not_kept [] n o no_set = refl

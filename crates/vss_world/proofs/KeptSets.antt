@@ -1,23 +1,8 @@
 -- Which images of a volume are kept: all of them but the newest, where its set is in progress.
-use Rattle.std.proofs.Common.{◌≡◌, ℕ, zero, suc, ◌+◌, ◌<◌, List, [], ◌∷◌, length, refl, ap, sym, ◌∙◌, arith, Bool, true, false, ◌&&◌, ◌||◌, ◌==◌, take}
-use Rattle.std.specs.Prelude.{filter, not, if◌then◌else◌, slice_index}
-use Rattle.std.specs.List.{list_any}
-use Rattle.std.proofs.lemmas.Bool.{both_ways, cond-true, cond_both, eqb-true}
-use Rattle.std.proofs.lemmas.List.{length-map}
-use Rattle.vss_names.specs.declared.set_outcome.SetOutcome.{SetOutcome}
-use Rattle.vss_names.specs.declared.set_outcome.SetOutcome.TheVariants.{Running, Complete, Failed}
-use Rattle.write_history.specs.History.{Image, History, sets_of, AreLater, AreInTime}
-use Rattle.scenario.specs.Plan.{Plan}
-use Rattle.vss_model.specs.State.{State, SetRow, is_running, is_complete, is_kept_set, kept, history_of}
-use Rattle.vss_model.specs.Facts.{NumberedFrom, OverButNewest, AreLive, is_live, has_failed}
-use Rattle.vss_model.specs.Acts.{Act, state}
-use Rattle.vss_model.proofs.OrderlyActs.{orderly}
-use Rattle.vss_model.proofs.Failures.{live_at, no_live_below}
-use Rattle.vss_model.proofs.OneCut.{images_in_time}
-use Rattle.vss_model.proofs.NewestImage.{UpTo, images_up_to}
-use Rattle.vss_model.proofs.Orderly.{live-filter}
-use Rattle.provider.specs.Groups.{history_at}
-use Rattle.vss_world.specs.Provided.{provided}
+use Rattle.std.proofs.Common.{◌≡◌, ℕ, zero, suc, ◌+◌, ◌<◌, List, [], ◌∷◌, length, refl, ap, sym, ◌∙◌, arith, Bool, true, false, ◌&&◌, ◌||◌, ◌==◌, take, filter, not, if◌then◌else◌, slice_index}
+use Rattle.vss_world.proofs.Words.{Act, AreInTime, AreLater, AreLive, Complete, Failed, History, Image, NumberedFrom, OverButNewest, Plan, Running, SetOutcome, SetRow, State, UpTo, both_ways}
+use Rattle.vss_world.proofs.Words.{cond-true, cond_both, eqb-true, has_failed, history_at, history_of, images_in_time, images_up_to, is_complete, is_kept_set, is_live, is_running, kept, length-map}
+use Rattle.vss_world.proofs.Words.{list_any, live-filter, live_at, no_live_below, orderly, provided, sets_of, state}
 use Rattle.vss_world.proofs.OnProvided.{on_provided, kept_at}
 
 over_live : (o : SetOutcome) → is_running o ≡ false → has_failed o ≡ false → is_complete o ≡ true

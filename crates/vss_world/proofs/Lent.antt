@@ -1,15 +1,7 @@
 -- What was lent is told as it is, and nothing changes.
-use Rattle.std.proofs.Common.{◌≡◌, ℕ, List, refl, subst, Option, None}
-use Rattle.std.specs.Prelude.{take}
-use Rattle.volume_device.specs.declared.device.Device.{Ghosts}
-use Rattle.block_data.specs.Digest.{sha256}
-use Rattle.scenario.specs.Plan.{Plan}
+use Rattle.std.proofs.Common.{◌≡◌, ℕ, List, refl, subst, Option, None, take}
+use Rattle.vss_world.proofs.Words.{Fingerprint, Ghosts, IsBlockSeen, IsFingerprint, IsReading, IsShown, IsWide, Plan, ProviderValue, kept_same, sha256}
 use Rattle.vss_model.specs.declared.told.Told.TheVariants as told
-use Rattle.provider.specs.Calls.{IsShown}
-use Rattle.provider.specs.Preparing.{ProviderValue}
-use Rattle.provider.proofs.Kept.{kept_same}
-use Rattle.vss_world.specs.declared.fingerprint.Fingerprint.{Fingerprint}
-use Rattle.vss_world.specs.Reading.{IsFingerprint, IsWide, IsReading, IsBlockSeen}
 
 pub reading_itself : {D : Type 0} (device : Ghosts D) (s : Plan) (p : ProviderValue D) (v : ℕ) → IsReading device s p p v None
 reading_itself device s p v = record {

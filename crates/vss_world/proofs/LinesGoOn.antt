@@ -1,41 +1,18 @@
 -- What a session line does to the set in progress, and to its images that are still to come.
-use Rattle.std.proofs.Common.{◌≡◌, ℕ, ◌==◌, [], refl, ap, sym, ◌∙◌, subst, Bool, true, false, Option, Some, None, ◌⊎◌, inl, inr}
-use Rattle.std.specs.Prelude.{is_some, if◌then◌else◌, ◌&&◌}
-use Rattle.vss_names.specs.declared.vss_result.VssResult.{VssResult}
-use Rattle.vss_names.specs.declared.vss_result.VssResult.TheVariants.{AsyncCancelled, AsyncPending, BadState}
-use Rattle.write_history.specs.declared.mark.Mark.{Mark}
+use Rattle.std.proofs.Common.{◌≡◌, ℕ, ◌==◌, [], refl, ap, sym, ◌∙◌, subst, Bool, true, false, Option, Some, None, ◌⊎◌, inl, inr, is_some, if◌then◌else◌, ◌&&◌}
+use Rattle.vss_world.proofs.Words.{AsyncCancelled, AsyncPending, BadState, Calls, Coded, Covers, Event, Go, IsOfSession, Line, Mark, Op, Plan, Refused, Replied, Session, SetRow, Start, State, Target}
+use Rattle.vss_world.proofs.Words.{Verdict, VssResult, allows, by_if, call_in, call_of, check, check_other, covered, enabled, failed, find-append_new, has_no_volume, has_writers, in_progress, is_add}
+use Rattle.vss_world.proofs.Words.{is_to_come, judged, line, line_in, new_set, none_after, none_runs, not_started, other_goes, owner_only, runs, target_in, verdict_of, volumes_of}
+use Rattle.vss_model.specs.Words.{Blocked, Reply}
+use Rattle.vss_model.specs.Words.{line_of}
 use Rattle.set_agenda.specs.declared.kind.Kind.TheVariants as kind
 use Rattle.set_agenda.specs.Course.{released}
-use Rattle.requestor.specs.declared.verdict.Verdict.{Verdict}
-use Rattle.requestor.specs.declared.verdict.Verdict.TheVariants.{Go, Blocked, Refused}
 use Rattle.requestor.specs.declared.session_call.SessionCall.TheVariants as call
-use Rattle.requestor.specs.Session.{Session, has_writers}
-use Rattle.requestor.specs.Check.{check, check_other, owner_only, verdict_of, allows}
-use Rattle.scenario.specs.declared.op.Op.{Op}
-use Rattle.scenario.specs.declared.op.Op.TheVariants.{Start, Snapshot}
-use Rattle.scenario.specs.Calls.{call_of, Target, call_in, line_of, target_in}
-use Rattle.scenario.specs.Plan.{Plan}
-use Rattle.vss_model.specs.Reply.{Coded, Reply}
-use Rattle.vss_model.specs.State.{State, SetRow, in_progress}
-use Rattle.vss_model.specs.Ending.{failed, runs}
-use Rattle.vss_model.specs.Images.{Replied}
-use Rattle.vss_model.specs.Facts.{IsOfSession}
-use Rattle.vss_model.specs.Sessions.{has_no_volume, volumes_of, new_set, closed, line_in, judged}
-use Rattle.vss_model.specs.Lines.{called, line}
-use Rattle.vss_model.proofs.Orderly.{find-append_new}
-use Rattle.vss_model.proofs.OrderlyActs.{none_after}
-use Rattle.sessions.specs.Moves.{is_add}
-use Rattle.vss_world.specs.Provided.{is_to_come}
+use Rattle.scenario.specs.declared.op.Op.TheVariants.{Snapshot}
+use Rattle.vss_model.specs.Sessions.{closed}
+use Rattle.vss_model.specs.Lines.{called}
 use Rattle.vss_world.proofs.SetGoesOn.{GoesOn, IsSameSet, IsOverIf, IsOfAgenda, BeginsSnapshot, goes_nowhere, failed_goes, begun_goes, snapshot_begins}
 use Rattle.scenario.specs.declared.line.Line.{Line as Does}
-use Rattle.scenario.specs.declared.line.Line.TheVariants.{Calls}
-use Rattle.sessions.proofs.Lines.{not_started}
-use Rattle.vss_model.proofs.ByEvent.{Covers, by_if, covered}
-use Rattle.vss_model.proofs.GoingOn.{other_goes}
-use Rattle.vss_model.proofs.Rows.{none_runs}
-use Rattle.vss_model.specs.Acts.{enabled}
-use Rattle.vss_model.specs.declared.event.Event.{Event}
-use Rattle.vss_model.specs.declared.event.Event.TheVariants.{Line}
 
 -- a set starts, without a volume, where none was in progress
 pub record StartsSet (st next : State) : Type 0 where
@@ -145,7 +122,8 @@ module _ (s : Plan) (lane : ℕ) (st : State) (of : IsOfAgenda st) where
   snapshot_in : check_other st.session (runs st) lane call.Snapshot ≡ Go → (o : Option Session) → SnapshotGoes st (line_in s lane Snapshot o st)
   snapshot_in go None = inl (BadState, refl, not_pending, goes_nowhere st)
   snapshot_in go (Some q) = snapshot_if (has_no_volume (in_progress st)) _ _ refl (inl (BadState, refl, not_pending, goes_nowhere st))
-      (λ some. inr (snapshot_begins st.course.members (volumes_of (in_progress st)) st.clock st.course st some (none_runs st.course.agenda ((other_goes st.session (runs st) lane call.Snapshot go).quiet refl)) refl, refl))
+      (λ some. inr (snapshot_begins st.course.members (volumes_of (in_progress st)) st.clock st.course st some
+          (none_runs st.course.agenda ((other_goes st.session (runs st) lane call.Snapshot go).quiet refl)) refl, refl))
 
   judged_snapshot : (verdict : Verdict) → check_other st.session (runs st) lane call.Snapshot ≡ verdict → SnapshotGoes st (judged verdict s lane Snapshot st)
   judged_snapshot Go e = snapshot_in e st.session

@@ -1,19 +1,7 @@
 -- The list of sets after a step: a move that lists no sets leaves it empty, and what the core stands for is as it was.
-use Rattle.std.proofs.Common.{◌≡◌, ℕ, List, [], refl, ap, ◌∙◌, Bool, true, false, Option}
-use Rattle.std.specs.Prelude.{if◌then◌else◌}
-use Rattle.writer_state.specs.declared.writer_row.WriterRow.{WriterRow}
-use Rattle.scenario.specs.Plan.{Plan}
-use Rattle.vss_model.specs.declared.event.Event.{Event}
-use Rattle.vss_model.specs.declared.told.Told.{Told}
-use Rattle.vss_model.specs.Reply.{Reply, KeptSets, StatusOf}
-use Rattle.vss_model.specs.Acts.{Act, state, reply}
-use Rattle.vss_model.specs.Told.{Fits}
-use Rattle.vss_model.specs.Outcome.{HasLists, told_act}
-use Rattle.vss_world.specs.declared.reply.Reply.{Reply as Answer}
-use Rattle.vss_world.specs.declared.reply.Reply.TheVariants.{Blocked, Moved}
-use Rattle.vss_world.specs.Devices.{tells_of}
-use Rattle.vss_world.specs.Stands.{WorldValue, Stands}
-use Rattle.vss_world.specs.Moves.{IsStepped, listed_after, lists_sets}
+use Rattle.std.proofs.Common.{◌≡◌, ℕ, List, [], refl, ap, ◌∙◌, Bool, true, false, Option, if◌then◌else◌}
+use Rattle.vss_world.proofs.Words.{Blocked, IsStepped, Moved, Reply as Answer, Stands, StatusOf, WorldValue, listed_after, lists_sets, tells_of}
+use Rattle.vss_model.specs.Words.{Act, Event, Fits, HasLists, KeptSets, Plan, Reply, Told, WriterRow, reply, state, told_act}
 
 if_listed : (b : Bool) (listed : List ℕ) → b ≡ true → (if b then listed else []) ≡ listed
 if_listed true listed e = refl

@@ -1,46 +1,16 @@
 -- Each line that looks at volumes or images, against the definitions.
-use Rattle.std.proofs.Common.{◌≡◌, ℕ, ◌<◌, List, [], length, refl, ap, sym, ◌∙◌, subst, Bool, true, false, Option, Some, None}
-use Rattle.std.specs.Prelude.{is_some, unwrap_or, option_map}
-use Rattle.std.proofs.lemmas.Bool.{true_from_ne_false}
-use Rattle.std.proofs.lemmas.Option.{none-some}
-use Rattle.volume_device.specs.declared.device.Device.{Ghosts}
-use Rattle.vss_names.specs.declared.vss_result.VssResult.TheVariants.{ObjectNotFound}
-use Rattle.write_history.specs.declared.evicted.Evicted.{Evicted}
-use Rattle.write_history.specs.declared.mark.Mark.TheVariants.{Clean}
-use Rattle.write_history.specs.History.{Write, point_in, sets_of}
-use Rattle.write_history.specs.Slots.{used_by}
-use Rattle.scenario.specs.declared.op.Op.{Op}
-use Rattle.scenario.specs.declared.op.Op.TheVariants.{Read, ImageDigest, ImageBlock, Query, Properties}
-use Rattle.scenario.specs.Bounds.{IsBlock}
-use Rattle.scenario.specs.Plan.{Plan, blocks_of}
-use Rattle.vss_model.specs.declared.event.Event.TheVariants.{Line}
-use Rattle.vss_model.specs.declared.told.Told.{Told}
+use Rattle.std.proofs.Common.{◌≡◌, ℕ, ◌<◌, List, [], length, refl, ap, sym, ◌∙◌, subst, Bool, true, false, Option, Some, None, is_some, option_map}
+use Rattle.vss_world.proofs.Words.{Act, Clean, Coded, Evicted, Ghosts, HasImage, IfStandFor, IfStands, ImageBlock, ImageDigest, IsBlock, IsBlockSeen, IsDigestSeen, IsMoved, IsOf, Keeps, Kept}
+use Rattle.vss_world.proofs.Words.{KeptSets, Line, ObjectNotFound, Op, Plan, Properties, PropertiesOf, ProviderValue, Query, Read, SessionsValue, SetFacts, SetRow, Stands, State, Told, WorldValue}
+use Rattle.vss_world.proofs.Words.{Write, blocks_of, facts_of, history_at as provided_at, history_of, image_block, image_blocks, is_complete, is_kept_set, kept, kept_if, kept_image, kept_of, line}
+use Rattle.vss_world.proofs.Words.{none-some, point_in, properties, provided, row_number, row_of, sets_of, simple_outcome, state, true_from_ne_false, unwrap_or, used_by}
 use Rattle.vss_model.specs.declared.told.Told.TheVariants as told
-use Rattle.vss_model.specs.Reply.{Coded, KeptSets, PropertiesOf}
-use Rattle.vss_model.specs.State.{State, SetRow, Kept, kept, kept_of, kept_if, kept_image, is_complete, row_of, history_of}
-use Rattle.vss_model.specs.Images.{image_block, image_blocks, properties}
-use Rattle.vss_model.specs.Lines.{line}
-use Rattle.vss_model.specs.Acts.{Act, state}
-use Rattle.provider.specs.Preparing.{ProviderValue}
-use Rattle.sessions.specs.Keeps.{SessionsValue}
-use Rattle.vss_world.specs.Stands.{WorldValue, IsOf, Stands, IfStands}
-use Rattle.vss_world.specs.Moves.{IsMoved, simple_outcome}
-use Rattle.vss_world.specs.Provided.{provided}
-use Rattle.vss_world.specs.Reading.{IsBlockSeen, IsDigestSeen}
-use Rattle.provider.specs.Calls.{HasImage}
-use Rattle.sessions.specs.Keeps.{Keeps}
-use Rattle.sessions.specs.Sets.{facts_of}
-use Rattle.sessions.specs.declared.set_facts.SetFacts.{SetFacts}
-use Rattle.vss_model.proofs.OneCut.{row_number}
-use Rattle.provider.specs.Groups.{IfStandFor}
-use Rattle.provider.specs.Groups.{history_at as provided_at}
-use Rattle.vss_model.specs.State.{is_kept_set}
 use Rattle.vss_world.proofs.Options.{none_is, some_is}
 use Rattle.vss_world.proofs.Kept.{not_complete, not_standing, kept_is}
 use Rattle.vss_world.proofs.Moved.{world_of, in_order}
 use Rattle.vss_world.proofs.OnProvided.{writes_at, point_at}
-use Rattle.vss_world.proofs.Used.{used_by_at}
 use Rattle.vss_world.proofs.Seen.{IsPlain, block_moves, digest_moves, answered_moves, refused_moves}
+use Rattle.vss_world.proofs.ToCome.{used_by_at}
 
 -- ## images
 

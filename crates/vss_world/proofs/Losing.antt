@@ -1,15 +1,8 @@
 -- For a write the image of the set in progress goes just where the sets go up to it.
-use Rattle.std.proofs.Common.{◌≡◌, ℕ, zero, suc, ◌+◌, ◌<◌, ◌≤◌, ◌==◌, List, [], ◌∷◌, refl, ap, sym, ◌∙◌, arith, Bool, true, false, Option, Some, None, slice_get}
-use Rattle.std.specs.Prelude.{◌&&◌, not, find, nat_lt, is_some, unwrap_or, if◌then◌else◌}
-use Rattle.std.specs.List.{range_with_len}
-use Rattle.std.proofs.lemmas.Bool.Decides.{nat_tests}
-use Rattle.std.proofs.lemmas.Bool.{cond-false, cond-true, eqb-true, le-ltb, lt-ltb, or_from, or_parts}
-use Rattle.write_history.specs.History.{Image, History, point_in, after_set}
-use Rattle.write_history.specs.Slots.{Placed, gone_up_to, needs_slot_in, lacks_slot, group_used, evicted_up_to}
-use Rattle.vss_model.specs.State.{has_image}
-use Rattle.vss_model.specs.Images.{has_lost_image}
-use Rattle.vss_model.proofs.NewestImage.{UpTo}
-use Rattle.set_agenda.proofs.WriterSets.{and-true}
+use Rattle.std.proofs.Common.{◌≡◌, ℕ, zero, suc, ◌+◌, ◌<◌, ◌≤◌, ◌==◌, List, [], ◌∷◌, refl, ap, sym, ◌∙◌, arith, Bool, true, false, Option, Some, None, slice_get, ◌&&◌, not, find, nat_lt, is_some}
+use Rattle.std.proofs.Common.{if◌then◌else◌}
+use Rattle.vss_world.proofs.Words.{History, Image, Placed, UpTo, after_set, and-true, cond-false, cond-true, eqb-true, evicted_up_to, gone_up_to, group_used, has_image, has_lost_image, lacks_slot}
+use Rattle.vss_world.proofs.Words.{le-ltb, lt-ltb, nat_tests, needs_slot_in, or_from, or_parts, point_in, range_with_len, unwrap_or}
 
 -- no image of these volumes is of a set after n
 abbrev pub AllUpTo : ℕ → List History → Type 0

@@ -1,30 +1,10 @@
 -- A move, from what it does to the devices and what it comes to at each state.
-use Rattle.std.proofs.Common.{◌≡◌, ℕ, ◌+◌, ◌≤◌, List, [], ◌∷◌, ◌++◌, length, refl, ap, sym, ◌∙◌, subst, arith, Bool, true, false, Option, map}
-use Rattle.std.proofs.lemmas.List.{length-append}
-use Rattle.volume_device.specs.declared.device.Device.{Ghosts}
-use Rattle.writer_state.specs.declared.writer_row.WriterRow.{WriterRow}
-use Rattle.write_history.specs.declared.evicted.Evicted.{Evicted}
-use Rattle.scenario.specs.Plan.{Plan}
-use Rattle.vss_model.specs.declared.event.Event.{Event}
-use Rattle.vss_model.specs.declared.outcome.Outcome.{Outcome}
-use Rattle.vss_model.specs.State.{State}
-use Rattle.vss_model.specs.Acts.{Act, state, after, enabled, event_allows}
-use Rattle.vss_model.specs.Told.{mark_of}
-use Rattle.vss_model.specs.Trail.{is_fault}
-use Rattle.vss_model.specs.Outcome.{IsOutcome, told_act}
-use Rattle.vss_model.proofs.Appending.{state-append}
-use Rattle.vss_model.proofs.OrderlyActs.{orderly}
-use Rattle.vss_model.proofs.Orderly.{true_not_false}
-use Rattle.provider.specs.Groups.{AreGroups}
-use Rattle.provider.specs.Devices.{devices_of, counts_of, AreKept, AreLater}
-use Rattle.provider.specs.Preparing.{ProviderValue}
-use Rattle.provider.proofs.Kept.{later_same}
-use Rattle.coordinator.specs.Coordinator.{Registered}
-use Rattle.sessions.specs.Keeps.{SessionsValue, IsInOrder, Leaves, later_by, IsOf as IsSessionsOf}
-use Rattle.vss_world.specs.Devices.{tells_of, RoseFor}
-use Rattle.vss_world.specs.Stands.{WorldValue, IsOf, IsPrepared, StandsAt, Stands}
-use Rattle.vss_world.specs.Provided.{provided}
-use Rattle.vss_world.specs.Moves.{IsMoved, volume_of}
+use Rattle.std.proofs.Common.{◌≡◌, ℕ, ◌+◌, ◌≤◌, List, [], ◌∷◌, ◌++◌, length, refl, ap, sym, ◌∙◌, subst, arith, Bool, true, false, Option, map, Some, inl, inr}
+use Rattle.vss_world.proofs.Words.{Act, AreGroups, AreKept, Area, Cause, Event, Evicted, Ghosts, GroupValue, HasCause, IsInOrder, IsMoved, IsOf, IsOutcome, IsPrepared, Leaves, NoSuchBlock, Outcome}
+use Rattle.vss_world.proofs.Words.{Plan, ProviderValue, Registered, RoseFor, SessionsValue, Stands, StandsAt, State, Volume, WorldValue, WriterRow, after, counts_of, devices_of, enabled, event_allows}
+use Rattle.vss_world.proofs.Words.{is_fault, later_by, later_same, length-append, mark_of, orderly, provided, state, state-append, tells_of, told_act, true_not_false, volume_of}
+use Rattle.vss_world.specs.Words.{IsOf as IsSessionsOf}
+use Rattle.provider.proofs.Words.{AreLater}
 
 -- the core with these parts
 abbrev pub world_of : {D : Type 0} → ProviderValue D → SessionsValue → List ℕ → List Evicted → WorldValue D
@@ -73,6 +53,12 @@ pub record OfDevices {D : Type 0} (told : D → Option (List (List ℕ))) (count
   pub later : AreLater (map count old.devices) (map count new.devices)
   pub rose : is_fault (mark_of o.told) ≡ true → RoseFor s (volume_of event o.told) (map count old.devices) (map count new.devices)
   pub unfailed : is_fault (mark_of o.told) ≡ false → map count new.devices ≡ map count old.devices
+
+pub rose_for : {D : Type 0} (count : D → ℕ) (s : Plan) (v : ℕ) (fault : Cause) (old new : List (GroupValue D)) → HasCause count s v (Some fault) old new
+    → RoseFor s (Some v) (counts_of count old) (counts_of count new)
+rose_for count s v NoSuchBlock old new cause = absurd cause
+rose_for count s v Volume old new cause = inl cause
+rose_for count s v Area old new cause = inr cause
 
 -- the groups go on to others of the same devices
 pub of_kept : {D : Type 0} (device : Ghosts D) (s : Plan) (p q : ProviderValue D) (x y : SessionsValue) (l k : List ℕ) (e f : List Evicted)

@@ -1,15 +1,8 @@
 -- What is asked of the histories of the definitions, by those that the provider has: the writes of each volume are the same, and so are
 -- the images that are kept, since the set in progress is not complete.
-use Rattle.std.proofs.Common.{◌≡◌, ℕ, ◌==◌, List, [], ◌∷◌, refl, ap, sym, ◌∙◌, subst, Bool, true, false, Option, Some, None, filter, slice_get}
-use Rattle.std.specs.Prelude.{not, is_some, option_map, if◌then◌else◌}
-use Rattle.std.proofs.lemmas.Bool.{both_ways, cond-false, eqb-true, ne_eqb}
-use Rattle.write_history.specs.History.{Image, History, dropped, without_set, point_in}
-use Rattle.set_agenda.specs.Agenda.{Agenda}
-use Rattle.vss_model.specs.State.{State, SetRow, in_progress, is_kept_set, has_image, kept, history_in, history_of}
-use Rattle.vss_model.specs.Facts.{NumberedFrom}
-use Rattle.vss_model.proofs.Rows.{running_incomplete}
-use Rattle.provider.specs.Groups.{history_at}
-use Rattle.vss_world.specs.Provided.{is_to_come, dropped_if, without, comes, number_of, provided_of, provided}
+use Rattle.std.proofs.Common.{◌≡◌, ℕ, ◌==◌, List, [], ◌∷◌, refl, ap, sym, ◌∙◌, subst, Bool, true, false, Option, Some, None, filter, slice_get, not, is_some, option_map, if◌then◌else◌}
+use Rattle.vss_world.proofs.Words.{Agenda, History, Image, NumberedFrom, SetRow, State, both_ways, comes, cond-false, dropped, dropped_if, eqb-true, has_image, history_at, history_in, history_of}
+use Rattle.vss_world.proofs.Words.{in_progress, is_kept_set, is_to_come, kept, ne_eqb, number_of, point_in, provided, provided_of, running_incomplete, without, without_set}
 use Rattle.vss_world.proofs.WithoutImages.{without_get}
 
 -- ## one volume

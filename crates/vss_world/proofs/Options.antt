@@ -1,6 +1,5 @@
 -- Whether there is one.
-use Rattle.std.proofs.Common.{◌≡◌, refl, Option, Some, None, true, false}
-use Rattle.std.specs.Prelude.{is_some}
+use Rattle.std.proofs.Common.{◌≡◌, refl, Option, Some, None, true, false, is_some}
 
 pub none_from : {X : Type 0} (o : Option X) → ((x : X) → o ≡ Some x → ⊥) → o ≡ None
 none_from None never = refl

@@ -1,38 +1,12 @@
 -- The set that the provider prepares is the one in progress, after each move of the sessions too.
-use Rattle.std.proofs.Common.{◌≡◌, ℕ, zero, suc, ◌+◌, ◌<◌, ◌≤◌, ◌==◌, List, [], ◌∷◌, ◌++◌, refl, ap, sym, ◌∙◌, subst, arith, Bool, true, false, Option, Some, None, inl, inr, map, slice_get, find}
-use Rattle.std.specs.Prelude.{not, ◌&&◌, if◌then◌else◌}
-use Rattle.std.proofs.lemmas.Bool.Decides.{nat_tests}
-use Rattle.std.proofs.lemmas.Bool.{eqb-true}
-use Rattle.volume_device.specs.declared.device.Device.{Ghosts}
-use Rattle.vss_names.specs.declared.set_outcome.SetOutcome.{SetOutcome}
-use Rattle.vss_names.specs.declared.set_outcome.SetOutcome.TheVariants.{Running, Complete, Failed}
-use Rattle.write_history.specs.History.{Image, History, dropped, without_set, point_in}
-use Rattle.set_agenda.specs.declared.group.Group.TheVariants.{Cut, Commit}
-use Rattle.set_agenda.specs.Agenda.{Agenda, plain, has_said, is_snapshot, is_among}
-use Rattle.set_agenda.specs.Begin.{are_distinct}
-use Rattle.scenario.specs.Plan.{Plan}
-use Rattle.vss_model.specs.State.{State, SetRow, in_progress, is_running, history_in}
-use Rattle.vss_model.specs.Acts.{Act, state}
-use Rattle.vss_model.specs.Effects.{ended_of}
-use Rattle.vss_model.specs.Facts.{NumberedFrom, has_failed, is_live, AreLive, AllLive}
-use Rattle.vss_model.specs.Outcome.{EndsAs}
-use Rattle.vss_model.specs.Sessions.{volumes_of}
-use Rattle.vss_model.specs.Steps.{cut_if, cut_each}
-use Rattle.vss_model.proofs.HeldImage.{image_runs}
-use Rattle.vss_model.proofs.OrderlyActs.{orderly}
-use Rattle.vss_model.proofs.Orderly.{true_not_false}
-use Rattle.provider.specs.Groups.{AreGroups}
-use Rattle.provider.specs.Devices.{devices_of, counts_of, AreKept}
-use Rattle.provider.specs.Preparing.{ProviderValue}
-use Rattle.provider.proofs.Kept.{kept_same, kept_trans}
-use Rattle.sessions.specs.Concluded.{failed_set, without_images}
-use Rattle.sessions.specs.Moves.{images_after}
-use Rattle.sessions.specs.declared.session_move.SessionMove.{SessionMove}
-use Rattle.vss_world.specs.Provided.{is_to_come, without, comes, number_of, provided_of, provided}
-use Rattle.vss_world.specs.Changes.{IsEndedAs, IsEnded, IsReleased, IsSettled}
-use Rattle.vss_world.specs.Stands.{IsPrepared, number_prepared}
+use Rattle.std.proofs.Common.{◌≡◌, ℕ, zero, suc, ◌+◌, ◌<◌, ◌≤◌, ◌==◌, List, [], ◌∷◌, ◌++◌, refl, ap, sym, ◌∙◌, subst, arith, Bool, true, false, Option, Some, None, inl, inr, map, slice_get, find, not}
+use Rattle.std.proofs.Common.{◌&&◌, if◌then◌else◌}
+use Rattle.vss_world.proofs.Words.{Act, Agenda, AllLive, AreGroups, AreKept, AreLive, Commit, Complete, Cut, EndsAs, Failed, Ghosts, History, Image, IsEnded, IsEndedAs, IsPrepared, IsReleased}
+use Rattle.vss_world.proofs.Words.{IsSettled, NumberedFrom, Plan, ProviderValue, Running, SessionMove, SetOutcome, SetRow, State, are_distinct, comes, counts_of, cut_each, cut_if, devices_of, dropped}
+use Rattle.vss_world.proofs.Words.{ended_of, eqb-true, failed_set, has_failed, has_said, history_in, image_runs, images_after, in_progress, is_among, is_live, is_running, is_snapshot, is_to_come}
+use Rattle.vss_world.proofs.Words.{kept_same, kept_trans, nat_tests, none_over, number_of, number_prepared, orderly, plain, point_in, provided, provided_of, state, true_not_false, volumes_of, without}
+use Rattle.vss_world.proofs.Words.{without_images, without_set}
 use Rattle.vss_world.proofs.Options.{none_from}
-use Rattle.vss_model.proofs.Rows.{none_over}
 use Rattle.vss_world.proofs.SetGoesOn.{skip, GoesBy, StaysOn, IsOver, IsOverIf, IsSameSet, runs_snapshot}
 use Rattle.vss_world.proofs.Unnamed.{without_none}
 use Rattle.vss_world.proofs.WithoutImages.{dropped_apart, dropped_without, map_without, none_without, nothing_without, without_like}

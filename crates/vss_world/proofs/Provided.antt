@@ -1,19 +1,7 @@
 -- The number of the set in progress, and the volume of the provider's next step.
-use Rattle.std.proofs.Common.{◌≡◌, ℕ, ◌<◌, ◌==◌, List, [], ◌∷◌, length, refl, sym, ◌∙◌, subst, arith, Bool, true, false, ◌||◌, Option, Some, None}
-use Rattle.std.specs.Prelude.{IfSome}
-use Rattle.std.proofs.lemmas.Bool.{eqb-true}
-use Rattle.write_history.specs.declared.evicted.Evicted.{Evicted}
-use Rattle.set_agenda.specs.Agenda.{next_volume, is_among}
-use Rattle.scenario.specs.Plan.{Plan}
-use Rattle.vss_model.specs.State.{State, SetRow, in_progress, left_now}
-use Rattle.vss_model.specs.Acts.{Act, state}
-use Rattle.vss_model.proofs.OrderlyActs.{orderly}
-use Rattle.vss_model.proofs.Rows.{found_above}
-use Rattle.provider.specs.Preparing.{ProviderValue}
-use Rattle.sessions.specs.Keeps.{SessionsValue}
-use Rattle.sessions.specs.Sets.{current_of}
-use Rattle.sessions.proofs.Concluding.{current_kept}
-use Rattle.vss_world.specs.Stands.{AreBelow, IsInPlan, Stands}
+use Rattle.std.proofs.Common.{◌≡◌, ℕ, ◌<◌, ◌==◌, List, [], ◌∷◌, length, refl, sym, ◌∙◌, subst, arith, Bool, true, false, ◌||◌, Option, Some, None, IfSome}
+use Rattle.vss_world.proofs.Words.{Act, AreBelow, Evicted, IsInPlan, Plan, ProviderValue, SessionsValue, SetRow, Stands, State, current_kept, current_of, eqb-true, found_above, in_progress, is_among}
+use Rattle.vss_world.proofs.Words.{left_now, next_volume, orderly, state}
 use Rattle.vss_world.proofs.Moved.{world_of}
 use Rattle.vss_world.proofs.InPlan.{IsBelowIf, next_below}
 use Rattle.vss_world.proofs.Putting.{some_current}

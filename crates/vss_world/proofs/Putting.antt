@@ -2,73 +2,34 @@
 use Rattle.std.proofs.Common.{◌≡◌, ℕ, zero, suc, ◌<◌, ◌≤◌, ◌==◌, List, [], ◌∷◌, length, refl, ap, sym, ◌∙◌, subst, arith, Bool, true, false, Option, Some, None, map, filter, slice_get}
 use Rattle.std.specs.Prelude.{option_map, is_some, not, ◌&&◌, ◌||◌, if◌then◌else◌, Result, Ok, Err}
 use Rattle.std.proofs.lemmas.Bool.{and_parts, eqb-true, not-true}
-use Rattle.block_data.specs.declared.payload.Payload.{Payload}
-use Rattle.volume_device.specs.declared.device.Device.{Ghosts}
-use Rattle.vss_names.specs.declared.set_outcome.SetOutcome.{SetOutcome}
-use Rattle.vss_names.specs.declared.set_outcome.SetOutcome.TheVariants.{Running, Failed}
-use Rattle.vss_names.specs.declared.vss_result.VssResult.TheVariants.{InsufficientStorage}
-use Rattle.writer_state.specs.declared.writer_row.WriterRow.{WriterRow}
-use Rattle.write_history.specs.declared.evicted.Evicted.{Evicted}
-use Rattle.write_history.specs.declared.mark.Mark.{Mark}
-use Rattle.write_history.specs.History.{Write, Image, History, point_in, written, dropped}
-use Rattle.write_history.specs.Slots.{Placed, gone_up_to}
-use Rattle.set_agenda.specs.Agenda.{Agenda, order_now}
-use Rattle.set_agenda.proofs.WriterSets.{new-is}
-use Rattle.set_agenda.specs.Course.{change_at}
-use Rattle.scenario.specs.declared.op.Op.{Op}
+use Rattle.vss_model.specs.Words.{Act, Agenda, EndsAs, Evicted, Failed, Fits, HasLists, History, Image, InsufficientStorage, IsBlock, Line, Mark, Op, Outcome, Placed, Plan, Replied, Reply, Running}
+use Rattle.vss_model.specs.Words.{SetOutcome, SetRow, State, Write, WriterRow, Writes, act_of, acts_as, after, allows_by, change_at, cleared, does, dropped, ended_of, evicted, evicted_at, evicted_for}
+use Rattle.vss_model.specs.Words.{failed_in, going_up_to, gone_up_to, group_of, has_image, has_lost_image, history_in, history_of, images_dropped, in_progress, is_free, is_held, is_kept_set}
+use Rattle.vss_model.specs.Words.{is_running, left_now, line, line_allows, line_enabled, line_of, lost, lost_after, lost_order_if, mark_of, may_do, may_write, order_now, placed, placed_in, point_in}
+use Rattle.vss_model.specs.Words.{put, reply_of_mark, set_loses_image, slots_of, state, target_in, ticks_by, with_room, with_room_if, written}
+use Rattle.provider.specs.Words.{Cause, Ghosts, Payload}
+use Rattle.vss_world.specs.Words.{IsFailed, IsInOrder, IsOf as IsSessionsOf, Keeps, Leaves, SessionsValue, current_of}
+use Rattle.vss_model.proofs.Words.{UpTo, image_runs, images_up_to, new-is, newest_number, none_after, orderly, some_rows}
+use Rattle.provider.proofs.Kept.{kept_same}
+use Rattle.provider.proofs.Kept.{kept_trans}
+use Rattle.provider.proofs.Words.{AreGroups, AreKept, AreWithout, HasCause, IsLastSet, IsPut, ProviderValue, counts_of, devices_of, fault_of, images_going}
+use Rattle.provider.proofs.Words.{number_is as own_number, put_if, slice_get_inside, slice_get_map}
+use Rattle.vss_world.proofs.Words.{IfStands, IsBlocked, IsInPlan, IsMoved, IsOf, IsPrepared, IsWriteBy, IsWriteLine, MakesRoom, RoseFor, Stands, StandsAt, WorldValue, comes, current_kept, is_to_come}
+use Rattle.vss_world.proofs.Words.{no_row as none_current, number_of, number_prepared, provided, provided_of, simple_outcome, tells_of, told_if, volume_by}
 use Rattle.scenario.specs.declared.line.Line.{Line as Does}
-use Rattle.scenario.specs.declared.line.Line.TheVariants.{Writes}
-use Rattle.scenario.specs.Calls.{line_of, target_in}
-use Rattle.scenario.specs.Bounds.{IsBlock}
-use Rattle.scenario.specs.Plan.{Plan, placed, placed_in, slots_of, group_of, acts_as}
-use Rattle.vss_model.specs.declared.event.Event.TheVariants.{Line}
-use Rattle.vss_model.specs.declared.outcome.Outcome.{Outcome}
-use Rattle.vss_model.specs.Reply.{Reply}
-use Rattle.vss_model.specs.State.{State, SetRow, in_progress, is_running, is_kept_set, has_image, history_in, history_of, left_now, is_held}
-use Rattle.vss_model.specs.Ending.{failed_in, images_dropped}
-use Rattle.vss_model.specs.Images.{Replied, cleared, going_up_to, put, with_room, with_room_if, set_loses_image, write, has_lost_image, reply_of_mark}
-use Rattle.vss_model.specs.Lines.{does, line}
-use Rattle.vss_model.specs.Effects.{evicted, evicted_at, evicted_for, lost, lost_after, ticks_by, lost_order_if, ended_of}
-use Rattle.vss_model.specs.Acts.{Act, state, after, may_write, is_free, may_do, line_enabled, allows_by, line_allows}
-use Rattle.vss_model.specs.Told.{Fits, mark_of}
-use Rattle.vss_model.specs.Trail.{act_of}
-use Rattle.vss_model.specs.Outcome.{HasLists, EndsAs}
-use Rattle.vss_model.proofs.HeldImage.{image_runs}
-use Rattle.vss_model.proofs.OrderlyActs.{orderly, none_after}
-use Rattle.vss_model.proofs.NewestImage.{UpTo, images_up_to}
-use Rattle.vss_model.proofs.OneCut.{newest_number}
-use Rattle.provider.specs.Groups.{AreGroups}
-use Rattle.provider.specs.Devices.{devices_of, counts_of, AreKept, HasCause, fault_of}
-use Rattle.provider.specs.Calls.{IsLastSet, IsPut, put_if, AreWithout, images_going}
-use Rattle.provider.specs.Preparing.{ProviderValue}
-use Rattle.cow_volume.specs.declared.cause.Cause.{Cause}
-use Rattle.cow_volume.proofs.Group.{slice_get_inside, slice_get_map, number_is as own_number}
-use Rattle.provider.proofs.Kept.{kept_same, kept_trans}
-use Rattle.sessions.specs.Sets.{current_of}
-use Rattle.sessions.specs.Keeps.{SessionsValue, Keeps, IsInOrder, Leaves, IsOf as IsSessionsOf}
-use Rattle.sessions.specs.Moves.{IsFailed}
-use Rattle.sessions.proofs.Concluding.{current_kept}
-use Rattle.vss_model.proofs.Rows.{some_rows}
-use Rattle.vss_world.specs.Devices.{tells_of, RoseFor}
-use Rattle.vss_world.specs.Provided.{is_to_come, comes, number_of, provided_of, provided}
-use Rattle.vss_world.specs.Stands.{WorldValue, IsOf, IsInPlan, IsPrepared, number_prepared, Stands, StandsAt, IfStands}
-use Rattle.vss_world.specs.Moves.{IsMoved, IsBlocked, simple_outcome, volume_by, volume_of_line}
-use Rattle.vss_world.specs.Changes.{IsWriteBy, IsWriteLine, MakesRoom, told_if}
-use Rattle.vss_world.proofs.Moved.{world_of, OfDevices, Comes, goes_on, leaves_of, in_order, moved, clean_devices, failed_devices}
-use Rattle.vss_world.proofs.Simple.{LineComes, line_moves, after_line}
-use Rattle.vss_world.proofs.Rising.{rose_for}
-use Rattle.vss_world.proofs.Failing.{failed_ends}
+use Rattle.vss_model.specs.Images.{write}
+use Rattle.vss_world.proofs.Moved.{world_of, OfDevices, Comes, goes_on, leaves_of, in_order, moved, clean_devices, failed_devices, rose_for}
+use Rattle.vss_world.proofs.Simple.{LineComes, with_volumes, line_moves, after_line}
 use Rattle.vss_world.proofs.InPlan.{in_failed_in}
 use Rattle.vss_world.proofs.Losing.{AllUpTo, not_lost, lost_at, up_to_most}
 use Rattle.vss_world.proofs.KeptSets.{up_to_filter}
 use Rattle.vss_world.proofs.OnProvided.{on_provided}
 use Rattle.vss_world.proofs.Evictions.{evicted_is}
 use Rattle.vss_world.proofs.Clearing.{as_far, free_volume}
-use Rattle.vss_world.proofs.SetGoesOn.{runs_snapshot}
+use Rattle.vss_world.proofs.SetGoesOn.{runs_snapshot, failed_ends}
 use Rattle.vss_world.proofs.ToCome.{all_unnamed}
 use Rattle.vss_world.proofs.WithoutImages.{written_apart, change_without, dropped_without, gone_without, none_without}
 use Rattle.vss_world.proofs.Prepared.{prepared_same, prepared_none, runs_number}
-use Rattle.sessions.proofs.Concluding.{no_row as none_current}
 
 -- ## facts of every list of acts
 
@@ -104,7 +65,7 @@ pub record IsWriting (s : Plan) (lane : ℕ) (op : Op) (v : ℕ) (w : Write) : T
   pub allowed : (done : Result Unit Cause) (st : State) → line_allows s st op (mark_of (told_if done)) ≡ true
   pub target : (st : State) → evicted s st (Line lane op) ≡ evicted_for s st v w.block
   pub nobody : (st : State) → lost st (Line lane op) ≡ []
-  pub of_volume : volume_of_line op ≡ Some v
+  pub of_volume : volume_by (line_of op) ≡ Some v
 
 allowed_by : (s : Plan) (v b : ℕ) (payload : Payload) (done : Result Unit Cause) (st : State) → allows_by s st (Writes v b payload) (mark_of (told_if done)) ≡ true
 allowed_by s v b payload (Ok done) st = refl
@@ -197,12 +158,7 @@ put_provided (Err cause) v w o a hs = refl
 put_parts : {D : Type 0} (blocks_told : D → Option (List (List ℕ))) (q : ProviderValue D) (x : SessionsValue) (s : Plan) (done : Result Unit Cause) (v : ℕ) (w : Write) (st : State)
     → Keeps x st → IsInPlan s st → IsPrepared q st → AreGroups blocks_told s q.groups (provided_of (in_progress st) st.course.agenda (put_if done v w st.volumes))
     → StandsAt blocks_told q x s (put v w (mark_of (told_if done)) st)
-put_parts blocks_told q x s (Ok done) v w st k plan prepared groups = record {
-  groups = groups;
-  prepared = record { volumes = prepared.volumes; set = prepared.set; distinct = prepared.distinct };
-  sessions = record { session = k.session; made = k.made; course = k.course; sets = k.sets; clock = k.clock; explicit = k.explicit; over = k.over; on_time = k.on_time; disabled = k.disabled };
-  plan = record { sets = plan.sets; agenda = plan.agenda; members = plan.members; disabled = plan.disabled };
-}
+put_parts blocks_told q x s (Ok done) v w st k plan prepared groups = with_volumes blocks_told q x s st (put_if (Ok done) v w st.volumes) k plan prepared groups
 put_parts blocks_told q x s (Err cause) v w st k plan prepared groups = record { groups = groups; prepared = prepared; sessions = k; plan = plan }
 
 map_put : (done : Result Unit Cause) (v : ℕ) (w : Write) (n : ℕ) (hs : List History) → map (dropped n) (put_if done v w hs) ≡ put_if done v w (map (dropped n) hs)

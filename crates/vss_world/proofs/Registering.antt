@@ -1,26 +1,12 @@
 -- The writers of a scenario, registered one after another: none has the name of one before it.
-use Rattle.std.proofs.Common.{◌≡◌, ℕ, zero, suc, ◌+◌, ◌≤◌, List, [], ◌∷◌, ◌++◌, length, refl, ap, sym, ◌∙◌, subst, arith, add-one, take, Bool, true, false, Option, Some, None, map, slice_get}
-use Rattle.std.specs.Prelude.{option_map, Result, if◌then◌else◌}
-use Rattle.std.specs.List.{position_from}
-use Rattle.std.specs.Str.{bytes_eq}
-use Rattle.std.proofs.lemmas.Slice.Eq.{bytes_eq-Decides}
-use Rattle.std.proofs.lemmas.Iterator.Adapters.{position_from-zero}
-use Rattle.std.proofs.lemmas.List.{take_all}
-use Rattle.std.proofs.lemmas.Simd.{map-map}
-use Rattle.writer_meta.specs.declared.metadata.Metadata.{Metadata}
-use Rattle.writer_meta.specs.Metadata.{Meta, meta_of}
-use Rattle.writer_state.specs.declared.writer_row.WriterRow.{WriterRow}
-use Rattle.writer_state.specs.WriterRow.{first_row}
-use Rattle.set_agenda.specs.Course.{Course, course_start}
-use Rattle.coordinator.specs.declared.register_fault.RegisterFault.{RegisterFault}
-use Rattle.coordinator.specs.Coordinator.{CoordinatorState, Registered, Stands, IsOnTime, double_of, place_of, registered_in, writer_count}
-use Rattle.scenario.specs.declared.span.Span.{Span}
-use Rattle.scenario.specs.Fields.{bytes_of}
-use Rattle.scenario.specs.Plan.{Plan, WriterPlan, token}
-use Rattle.scenario.specs.Named.{HasNames, Differ, Distinct, writer_spans}
-use Rattle.vss_model.specs.State.{start, row_of_writer}
-use Rattle.sessions.specs.Keeps.{SessionsValue, Keeps, classes_registered}
-use Rattle.vss_world.specs.Quiet.{AreFirst, HasRegistered, registered_as}
+use Rattle.std.proofs.Common.{◌≡◌, ℕ, zero, suc, ◌+◌, ◌≤◌, List, [], ◌∷◌, ◌++◌, length, refl, ap, sym, ◌∙◌, subst, arith, take, Bool, false, Option, Some, None, map, slice_get, option_map, Result}
+use Rattle.std.proofs.Common.{if◌then◌else◌}
+use Rattle.vss_world.proofs.Words.{AreFirst, CoordinatorState, Course, Differ, Distinct, HasNames, HasRegistered, IsOnTime, Keeps, Meta, Metadata, Plan, RegisterFault, Registered, SessionsValue, Span}
+use Rattle.vss_world.proofs.Words.{WriterPlan, WriterRow, bytes_eq, bytes_eq-Decides, bytes_of, classes_registered, course_start, double_of, false_from_ne_true, first_row, map-append, map-map}
+use Rattle.vss_world.proofs.Words.{meta_of, place_of, position_from, position_from-zero, registered_as, registered_in, row_of_writer, start, take_all, token, true_not_false, writer_count}
+use Rattle.vss_world.proofs.Words.{writer_spans}
+use Rattle.vss_world.specs.Words.{Stands}
+use Rattle.cow_volume.proofs.Reverting.{take_next}
 
 -- ## the writer at a place
 
@@ -39,14 +25,7 @@ meta_at found w m at e = let same : Some m ≡ Some w.meta = sym e ∙ ap (optio
 -- ## no two have one name
 
 swapped : (a b : List ℕ) → bytes_eq a b ≡ false → bytes_eq b a ≡ false
-swapped a b e = by_answer (bytes_eq b a) refl
-  where
-    both_ways : (t : Bool) → t ≡ true → t ≡ false → ⊥
-    both_ways t f g = cc
-
-    by_answer : (t : Bool) → bytes_eq b a ≡ t → t ≡ false
-    by_answer true f = absurd (both_ways (bytes_eq a b) ((bytes_eq-Decides a b).1 (sym ((bytes_eq-Decides b a).0 f))) e)
-    by_answer false f = refl
+swapped a b e = false_from_ne_true (bytes_eq b a) (λ f. true_not_false (bytes_eq a b) ((bytes_eq-Decides a b).1 (sym ((bytes_eq-Decides b a).0 f))) e)
 
 differs : (text : List ℕ) (first : Span) (ws : List WriterPlan) (k : ℕ) (w : WriterPlan) → slice_get ws k ≡ Some w → Differ text first (writer_spans ws)
     → bytes_eq (bytes_of text first) (bytes_of text w.name) ≡ false
@@ -73,17 +52,13 @@ no_double s k x span name result at names before e is says double =
     let none : place_of name x.writers ≡ None =
     ap (λ (z : List ℕ). place_of z x.writers) own ∙ ap (place_of (token s w.writer.name)) before.writers
     ∙ position_from-zero (λ (r : Registered). bytes_eq (token s w.writer.name) r.name) (map (registered_as s) (take k s.writers)) ∙ apart_from s s.writers k w.writer 0 w.at names.writers_apart in
-    never (double_of result) at double (says ∙ none)
-  where
-    never : (o : Option ℕ) (at : ℕ) → o ≡ Some at → o ≡ None → ⊥
-    never o at e f = cc
+    let no : Some at ≡ None = sym double ∙ says ∙ none in
+    cc
 
 -- ## one writer more
 
-more : {X Y : Type 0} (f : X → Y) (xs : List X) (k : ℕ) (x : X) → slice_get xs k ≡ Some x → map f (take (suc k) xs) ≡ map f (take k xs) ++ f x ∷ []
-more f [] k x at = cc
-more f (y ∷ ys) zero x at = let same : y ≡ x = cc in ap (λ z. f z ∷ []) same
-more f (y ∷ ys) (suc k) x at = ap (λ zs. f y ∷ zs) (more f ys k x at)
+more : {X Y : Type 0} (f : X → Y) (xs : List X) (k : ℕ) (x : X) → slice_get xs k ≡ Some x → map f (take (k + 1) xs) ≡ map f (take k xs) ++ f x ∷ []
+more f xs k x at = ap (map f) (take_next xs k x at) ∙ map-append f (take k xs) (x ∷ [])
 
 pub registers : (s : Plan) (k : ℕ) (old new : CoordinatorState) (span : Span) (name : List ℕ) (found given : Metadata) → HasRegistered s k old
     → option_map (λ (w : WriterPlan). w.name) (slice_get s.writers k) ≡ Some span
@@ -96,15 +71,14 @@ registers s k old new span name found given before e meta copied is stands write
     let same : meta_of given ≡ w.writer.meta = copied ∙ meta_at (slice_get s.writers k) w.writer (meta_of found) w.at meta in
     let row : first_row given.level given.freeze_timeout ≡ row_of_writer w.writer = ap (λ (m : Meta). first_row m.level m.freeze_timeout) same in
     let rows : map row_of_writer (take k s.writers) ++ first_row given.level given.freeze_timeout ∷ [] ≡ map row_of_writer (take (k + 1) s.writers) =
-    ap (λ (r : WriterRow). map row_of_writer (take k s.writers) ++ r ∷ []) row ∙ sym (more row_of_writer s.writers k w.writer w.at)
-    ∙ ap (λ n. map row_of_writer (take n s.writers)) (sym (add-one k)) in
+    ap (λ (r : WriterRow). map row_of_writer (take k s.writers) ++ r ∷ []) row ∙ sym (more row_of_writer s.writers k w.writer w.at) in
     let entry : record { name = name; class = given.class } ≡ registered_as s w.writer =
     ap (λ (z : List ℕ). record { name = z; class = given.class }) (is ∙ ap (token s) (sym w.name)) ∙ ap (λ (m : Meta). record { name = token s w.writer.name; class = m.class }) same in
     record {
       stands = subst (λ (rs : List WriterRow). Stands new (course_start rs)) rows (stands (course_start (map row_of_writer (take k s.writers))) before.stands);
       writers = writers ∙ ap (λ (rs : List Registered). rs ++ record { name = name; class = given.class } ∷ []) before.writers
           ∙ ap (λ (r : Registered). map (registered_as s) (take k s.writers) ++ r ∷ []) entry
-          ∙ sym (more (registered_as s) s.writers k w.writer w.at) ∙ ap (λ n. map (registered_as s) (take n s.writers)) (sym (add-one k));
+          ∙ sym (more (registered_as s) s.writers k w.writer w.at);
       count = count ∙ ap (λ n. n + 1) before.count;
       times = times 0 before.times;
       posts = posts ∙ before.posts;

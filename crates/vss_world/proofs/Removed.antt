@@ -1,46 +1,21 @@
 -- Images that are deleted, and volumes that are brought back to one, against the definitions.
-use Rattle.std.proofs.Common.{◌≡◌, ℕ, suc, ◌+◌, ◌<◌, ◌≤◌, ◌==◌, List, [], ◌∷◌, length, refl, ap, sym, ◌∙◌, subst, arith, Bool, true, false, ◌&&◌, Option, Some, None, map, take}
-use Rattle.std.specs.Prelude.{is_none, nat_lt, not, option_map, if◌then◌else◌, Ok, Err}
-use Rattle.std.proofs.lemmas.Bool.{lt-ltb}
-use Rattle.volume_device.specs.declared.device.Device.{Ghosts}
-use Rattle.vss_names.specs.declared.vss_result.VssResult.{VssResult}
-use Rattle.vss_names.specs.declared.vss_result.VssResult.TheVariants.{ObjectNotFound, UnsupportedContext, SnapshotSetInProgress}
-use Rattle.write_history.specs.declared.evicted.Evicted.{Evicted}
-use Rattle.write_history.specs.declared.mark.Mark.{Mark}
-use Rattle.write_history.specs.declared.mark.Mark.TheVariants.{Clean, FaultAfter}
-use Rattle.write_history.specs.History.{Write, Image, History, point_in, dropped, reverted, reverted_in_part, to_restore}
-use Rattle.cow_volume.specs.GroupValue.{GroupValue}
-use Rattle.set_agenda.specs.Agenda.{is_among}
-use Rattle.set_agenda.specs.Course.{change_at}
-use Rattle.scenario.specs.declared.op.Op.TheVariants.{DeleteSet, DeleteImage, Revert}
-use Rattle.scenario.specs.Bounds.{IsPlan}
-use Rattle.scenario.specs.Plan.{Plan, blocks_of}
-use Rattle.vss_model.specs.declared.event.Event.TheVariants.{Line}
+use Rattle.std.proofs.Common.{◌≡◌, ℕ, suc, ◌+◌, ◌<◌, ◌≤◌, ◌==◌, List, [], ◌∷◌, length, refl, ap, sym, ◌∙◌, subst, arith, Bool, true, false, ◌&&◌, Option, Some, None, map, take, is_none, nat_lt, not}
+use Rattle.std.proofs.Common.{option_map, if◌then◌else◌, Ok, Err}
+use Rattle.vss_world.proofs.Words.{Act, AreGroups, AreWithout, Cause, Clean, DeleteImage, DeleteSet, Deleted, Evicted, FaultAfter, FaultedAfter, Fine, Ghosts, GroupValue, HasGroups, History}
+use Rattle.vss_world.proofs.Words.{Image, IsDropped, IsMoved, IsOf, IsPlan, IsRevert, Keeps, Kept, Line, Mark, ObjectNotFound, Plan, ProviderValue, Revert, SessionsValue, SetFacts, SetRow}
+use Rattle.vss_world.proofs.Words.{SnapshotSetInProgress, Stands, State, UnsupportedContext, VssResult, Write, blocks_of, change_at, comes, count_images, count_within as few_images, delete_kept}
+use Rattle.vss_world.proofs.Words.{dropped, facts_of, has_image, history_at, history_of, in_progress, is_among, is_backup, is_in_set, is_kept_set, kept_image, lt-ltb, may_stop_after, number_of}
+use Rattle.vss_world.proofs.Words.{point_in, provided, refused, restorable, revert_refusal, revert_to, reverted, reverted_in_part, row_number, row_of, simple_outcome, state, to_restore, volumes_of}
+use Rattle.vss_world.proofs.Words.{without}
+use Rattle.provider.specs.Words.{Fault}
 use Rattle.vss_model.specs.declared.told.Told.TheVariants as told
-use Rattle.vss_model.specs.Reply.{Fine, FaultedAfter, Coded, Deleted}
-use Rattle.vss_model.specs.State.{State, SetRow, Kept, kept_image, is_kept_set, row_of, in_progress, history_of, has_image}
-use Rattle.vss_model.specs.Images.{refused, count_images, delete_set, delete_kept, delete_image, is_backup, is_in_set, revert_refusal, revert_to, revert}
-use Rattle.vss_model.specs.Sessions.{volumes_of}
-use Rattle.vss_model.specs.Acts.{Act, state, may_stop_after, restorable}
-use Rattle.vss_model.proofs.OneCut.{row_number}
-use Rattle.provider.specs.Groups.{HasGroups, AreGroups, history_at}
-use Rattle.provider.specs.Calls.{AreWithout, IsDropped, IsRevert}
-use Rattle.provider.specs.Preparing.{ProviderValue}
-use Rattle.cow_volume.specs.declared.cause.Cause.{Cause}
-use Rattle.cow_volume.specs.declared.revert_fault.RevertFault.TheVariants.{Fault}
-use Rattle.sessions.specs.Keeps.{SessionsValue, Keeps}
-use Rattle.sessions.specs.Sets.{facts_of}
-use Rattle.sessions.specs.declared.set_facts.SetFacts.{SetFacts}
-use Rattle.vss_world.specs.Stands.{IsOf, Stands}
-use Rattle.vss_world.specs.Moves.{IsMoved, simple_outcome}
-use Rattle.vss_world.specs.Provided.{comes, number_of, without, provided}
+use Rattle.vss_model.specs.Images.{delete_set, delete_image, revert}
 use Rattle.vss_world.proofs.Moved.{world_of, in_order}
 use Rattle.vss_world.proofs.OnProvided.{has_if, writes_at, other_set}
 use Rattle.vss_world.proofs.WithoutImages.{LeavesApart, filter_twice, dropped_apart, map_without, change_without}
 use Rattle.vss_world.proofs.Seen.{IsPlain, clean_moves, failed_moves, refused_moves}
 use Rattle.vss_world.proofs.Options.{some_is}
 use Rattle.vss_world.proofs.Looking.{IsKeptIf, IsOnImage, of_image, provided_point}
-use Rattle.provider.proofs.DroppedAll.{count_within as few_images}
 
 -- ## what the provider has
 
@@ -71,24 +46,13 @@ count_at s acts n complete =
 
 -- ## a set
 
-set_not_complete : (n : ℕ) (st : State) → is_kept_set st n ≡ false → delete_set n st ≡ (Coded ObjectNotFound, st)
+-- one is deleted where it is complete and has an image
+deleted_if : (n : ℕ) (st : State) (complete some : Bool) → is_kept_set st n ≡ complete → nat_lt 0 (count_images n st.volumes) ≡ some
+    → delete_set n st ≡ (if complete && some then (Deleted (count_images n st.volumes), record st { volumes = map (dropped n) st.volumes }) else refused ObjectNotFound st)
 unfolding delete_set
-set_not_complete n st e = ap
+deleted_if n st complete some e f = ap
     (λ (t : Bool). if t && nat_lt 0 (count_images n st.volumes) then (Deleted (count_images n st.volumes), record st { volumes = map (dropped n) st.volumes }) else refused ObjectNotFound st) e
-
-set_no_image : (n : ℕ) (st : State) → is_kept_set st n ≡ true → count_images n st.volumes ≡ 0 → delete_set n st ≡ (Coded ObjectNotFound, st)
-unfolding delete_set
-set_no_image n st e none =
-    ap (λ (t : Bool). if t && nat_lt 0 (count_images n st.volumes) then (Deleted (count_images n st.volumes), record st { volumes = map (dropped n) st.volumes }) else refused ObjectNotFound st) e
-    ∙ ap (λ (m : ℕ). if nat_lt 0 m then (Deleted (count_images n st.volumes), record st { volumes = map (dropped n) st.volumes }) else refused ObjectNotFound st) none
-
-set_deleted : (n : ℕ) (st : State) → is_kept_set st n ≡ true → 0 < count_images n st.volumes
-    → delete_set n st ≡ (Deleted (count_images n st.volumes), record st { volumes = map (dropped n) st.volumes })
-unfolding delete_set
-set_deleted n st e some =
-    ap (λ (t : Bool). if t && nat_lt 0 (count_images n st.volumes) then (Deleted (count_images n st.volumes), record st { volumes = map (dropped n) st.volumes }) else refused ObjectNotFound st) e
-    ∙ ap (λ (t : Bool). if t then (Deleted (count_images n st.volumes), record st { volumes = map (dropped n) st.volumes }) else refused ObjectNotFound st)
-    (lt-ltb 0 (count_images n st.volumes) some)
+    ∙ ap (λ (t : Bool). if complete && t then (Deleted (count_images n st.volumes), record st { volumes = map (dropped n) st.volumes }) else refused ObjectNotFound st) f
 
 pub few_gone : {D : Type 0} (device : Ghosts D) (s : Plan) (old new : List (GroupValue D)) (set stood : ℕ) (hs : List History) → IsPlan s → HasGroups s old → AreGroups device.told s old hs
     → AreWithout device old new set stood → stood < 4294967296
@@ -161,7 +125,8 @@ module _ {D : Type 0} (device : Ghosts D) {s : Plan} {p : ProviderValue D} {x : 
 
   pub set_refused : {lane n : ℕ} → ((st : State) → Keeps x st → is_kept_set st n ≡ false)
       → IsMoved device.told device.count (world_of p x l e) (world_of p x l f) s (Line lane (DeleteSet n)) (simple_outcome (told.Result ObjectNotFound))
-  set_refused {n = n} is = refused_moves device of none ObjectNotFound set_plain (λ acts stands. set_not_complete n (state s acts) (is (state s acts) stands.at.sessions))
+  set_refused {n = n} is = refused_moves device of none ObjectNotFound set_plain
+      (λ acts stands. let st = state s acts in deleted_if n st false (nat_lt 0 (count_images n st.volumes)) (is st stands.at.sessions) refl)
 
   module _ {n k : ℕ} {q : ProviderValue D} (is : (st : State) → Keeps x st → is_kept_set st n ≡ true) (without : AreWithout device p.groups q.groups n k)
       (rest : q ≡ record p { groups = q.groups }) where
@@ -172,7 +137,8 @@ module _ {D : Type 0} (device : Ghosts D) {s : Plan} {p : ProviderValue D} {x : 
     set_none {lane = lane} zero_is =
         subst (λ (z : ProviderValue D). IsMoved device.told device.count (world_of p x l e) (world_of z x l f) s (Line lane (DeleteSet n)) (simple_outcome (told.Result ObjectNotFound)))
         (sym (same_provider p q rest (without.none zero_is)))
-        (refused_moves device of none ObjectNotFound set_plain (λ acts stands. let st = state s acts in set_no_image n st (is st stands.at.sessions) (sym (number_at acts stands) ∙ zero_is)))
+        (refused_moves device of none ObjectNotFound set_plain
+        (λ acts stands. let st = state s acts in deleted_if n st true false (is st stands.at.sessions) (ap (nat_lt 0) (sym (number_at acts stands) ∙ zero_is))))
 
     pub set_gone : {lane : ℕ} → 0 < k → IsMoved device.told device.count (world_of p x l e) (world_of q x l f) s (Line lane (DeleteSet n)) (simple_outcome (told.Deleted k))
     set_gone some =
@@ -181,7 +147,7 @@ module _ {D : Type 0} (device : Ghosts D) {s : Plan} {p : ProviderValue D} {x : 
           allowed = refl;
           said = Deleted (count_images n st.volumes);
           volumes = map (dropped n) st.volumes;
-          is = set_deleted n st (is st stands.at.sessions) (subst (λ (m : ℕ). 0 < m) number some);
+          is = deleted_if n st true true (is st stands.at.sessions) (lt-ltb 0 (count_images n st.volumes) (subst (λ (m : ℕ). 0 < m) number some));
           fits = ap told.Deleted number;
           lists = λ rows. tt;
           groups = subst (AreGroups device.told s q.groups)

@@ -1,46 +1,14 @@
 -- What is read of volumes and images, against the definitions.
-use Rattle.std.proofs.Common.{◌≡◌, ℕ, ◌<◌, List, [], length, refl, ap, sym, ◌∙◌, subst, Bool, true, false, Option, Some, slice_get}
-use Rattle.std.specs.Prelude.{is_some}
-use Rattle.std.specs.List.{concat}
-use Rattle.volume_device.specs.declared.device.Device.{Ghosts}
-use Rattle.writer_state.specs.declared.writer_row.WriterRow.{WriterRow}
-use Rattle.write_history.specs.declared.evicted.Evicted.{Evicted}
-use Rattle.write_history.specs.declared.mark.Mark.{Mark}
-use Rattle.write_history.specs.declared.mark.Mark.TheVariants.{Clean, Fault}
-use Rattle.write_history.specs.History.{Write, History, content, contents}
-use Rattle.block_data.specs.Digest.{sha256}
-use Rattle.hex.specs.Hex.{IsBytes}
-use Rattle.scenario.specs.declared.op.Op.{Op}
-use Rattle.scenario.specs.Plan.{Plan, blocks_of}
-use Rattle.vss_model.specs.declared.event.Event.TheVariants.{Line}
-use Rattle.vss_model.specs.declared.told.Told.{Told}
+use Rattle.std.proofs.Common.{◌≡◌, ℕ, ◌<◌, List, [], length, refl, ap, sym, ◌∙◌, subst, Bool, true, false, Option, Some, slice_get, is_some}
+use Rattle.vss_world.proofs.Words.{AreGroups, AreKept, BlockOf, BlocksOf, Cause, Clean, Coded, Evicted, Fault, Faulted, Fits, Ghosts, HasCause, HasLists, History, IfStands, IsBlockSeen, IsBlockTold}
+use Rattle.vss_world.proofs.Words.{IsBytes, IsDigestIf, IsDigestSeen, IsDigestTold, IsFingerprint, IsFirstIf, IsMoved, IsOf, IsPointOf, IsReading, IsWide, Line, Mark, Op, Plan, ProviderValue, RoseFor}
+use Rattle.vss_world.proofs.Words.{SessionsValue, State, Told, VssResult, Write, WriterRow, blocks_of, concat, content, contents, counts_of, devices_of, evicted, history_at, history_of, is_fault}
+use Rattle.vss_world.proofs.Words.{kept_same, line, line_allows, line_enabled, lost, mark_of, provided, read_as, sha256, simple_outcome, state, tells_of, tells_of-at, told_at, volume_by}
+use Rattle.vss_model.specs.Words.{line_of, Reply}
 use Rattle.vss_model.specs.declared.told.Told.TheVariants as told
-use Rattle.vss_names.specs.declared.vss_result.VssResult.{VssResult}
-use Rattle.vss_model.specs.Reply.{Reply, BlockOf, BlocksOf, Faulted, Coded}
-use Rattle.vss_model.specs.State.{State, history_of}
-use Rattle.vss_model.specs.Images.{read_as}
-use Rattle.vss_model.specs.Lines.{line}
-use Rattle.vss_model.specs.Acts.{state, line_enabled, line_allows}
-use Rattle.vss_model.specs.Effects.{evicted, lost}
-use Rattle.vss_model.specs.Told.{Fits, IsFirstIf, IsDigestIf, mark_of}
-use Rattle.vss_model.specs.Trail.{is_fault}
-use Rattle.vss_model.specs.Outcome.{HasLists}
-use Rattle.provider.specs.Groups.{AreGroups, IsPointOf, history_at}
-use Rattle.provider.specs.Devices.{devices_of, counts_of, told_at, AreKept, HasCause}
-use Rattle.provider.specs.Calls.{IsDigestTold}
-use Rattle.provider.specs.Preparing.{ProviderValue}
-use Rattle.cow_volume.specs.declared.cause.Cause.{Cause}
-use Rattle.provider.proofs.Kept.{tells_of-at, kept_same}
-use Rattle.sessions.specs.Keeps.{SessionsValue}
-use Rattle.vss_world.specs.Devices.{tells_of, RoseFor}
-use Rattle.vss_world.specs.Provided.{provided}
-use Rattle.vss_world.specs.Stands.{IsOf, IfStands}
-use Rattle.vss_world.specs.Moves.{IsMoved, simple_outcome, volume_of_line}
-use Rattle.vss_world.specs.Reading.{IsFingerprint, IsWide, IsReading, IsBlockTold, IsBlockSeen, IsDigestSeen}
 use Rattle.vss_world.proofs.OnProvided.{writes_at}
-use Rattle.vss_world.proofs.Moved.{world_of, OfDevices, clean_devices, failed_devices}
+use Rattle.vss_world.proofs.Moved.{world_of, OfDevices, clean_devices, failed_devices, rose_for}
 use Rattle.vss_world.proofs.Simple.{line_moves, volumes_parts}
-use Rattle.vss_world.proofs.Rising.{rose_for}
 
 -- ## what is told fits
 
@@ -129,7 +97,7 @@ module _ {D : Type 0} (device : Ghosts D) {s : Plan} {p : ProviderValue D} {x : 
       said_moves answer plain (clean_devices device s (Line lane op) (simple_outcome answer) p q x x l k e f of kept of.writers same clean) rest says
 
   -- a device of the line's volume failed
-  pub failed_moves : {lane : ℕ} {op : Op} {q : ProviderValue D} (answer : Told) (v : ℕ) (fault : Cause) → volume_of_line op ≡ Some v → IsPlain s lane op → AreKept device p.groups q.groups
+  pub failed_moves : {lane : ℕ} {op : Op} {q : ProviderValue D} (answer : Told) (v : ℕ) (fault : Cause) → volume_by (line_of op) ≡ Some v → IsPlain s lane op → AreKept device p.groups q.groups
       → HasCause device.count s v (Some fault) p.groups q.groups → is_fault (mark_of answer) ≡ true → q ≡ record p { groups = q.groups }
       → IfStands device.told (world_of p x l e) s (Says device.told s lane op answer p q l)
       → IsMoved device.told device.count (world_of p x l e) (world_of q x l f) s (Line lane op) (simple_outcome answer)
@@ -153,7 +121,7 @@ module _ {D : Type 0} (device : Ghosts D) {s : Plan} {p : ProviderValue D} {x : 
 
   -- ## lines that read
 
-  module _ {lane : ℕ} {op : Op} {q : ProviderValue D} {v : ℕ} {set : Option ℕ} (plain : IsPlain s lane op) (at : volume_of_line op ≡ Some v) where
+  module _ {lane : ℕ} {op : Op} {q : ProviderValue D} {v : ℕ} {set : Option ℕ} (plain : IsPlain s lane op) (at : volume_by (line_of op) ≡ Some v) where
     fault_moves : {X : Type 0} {reply_of : X → Reply} {of : List Write → ℕ → X} (fault : Cause) → IfStands device.told (world_of p x l e) s (Shows s lane op reply_of of v set)
         → IsReading device s p q v (Some fault)
         → IsMoved device.told device.count (world_of p x l e) (world_of q x l f) s (Line lane op) (simple_outcome told.Fault)

@@ -1,56 +1,31 @@
 -- What becomes of the set in progress and of its images that are still to come, as the course goes on: it stays, with its number, its
 -- volumes and its snapshot's agenda; or it is in progress no more, and its row says how it ended. What writers say and what time brings
 -- adds no step of the provider to the log.
-use Rattle.std.proofs.Common.{◌≡◌, ℕ, ◌==◌, List, [], ◌∷◌, ◌++◌, refl, ap, sym, ◌∙◌, subst, Bool, true, false, Option, Some, None, ◌⊎◌, inl, inr, map, find}
-use Rattle.std.specs.Prelude.{is_some, not, ◌&&◌, ◌||◌, option_map, if◌then◌else◌}
-use Rattle.vss_names.specs.declared.order.Order.TheVariants.{Identify}
-use Rattle.vss_names.specs.declared.set_outcome.SetOutcome.{SetOutcome}
-use Rattle.vss_names.specs.declared.vss_result.VssResult.{VssResult}
-use Rattle.vss_names.specs.declared.set_outcome.SetOutcome.TheVariants.{Running, Complete as CompleteSet, Failed}
-use Rattle.writer_state.specs.declared.said.Said.{Said}
-use Rattle.set_agenda.specs.declared.group.Group.{Group}
-use Rattle.set_agenda.specs.declared.group.Group.TheVariants.{Orders, Cut, Commit}
-use Rattle.set_agenda.specs.declared.kind.Kind.{Kind}
-use Rattle.set_agenda.specs.declared.kind.Kind.TheVariants.{Gather, Prepare, Snapshot, Complete}
-use Rattle.set_agenda.specs.declared.place.Place.{Place}
-use Rattle.set_agenda.specs.Agenda.{Agenda, Entry, plain, same_place, group_code, level_code, is_orders, is_snapshot, is_among, is_done, has_said, at_place, all_say, groups_left, open_place}
-use Rattle.set_agenda.specs.declared.member.Member.{Member}
-use Rattle.set_agenda.specs.Course.{Course, outcome_after, begun, posted, settled, settled_if}
-use Rattle.vss_model.specs.State.{State, SetRow, in_progress, is_running}
-use Rattle.vss_model.specs.Ending.{Ending, NothingEnds, AgendaEnds, SetFails, ending, row_settled, concluded, followed, runs, failed_in, failed}
-use Rattle.vss_model.specs.Effects.{ended_of}
-use Rattle.vss_model.specs.Facts.{NumberedFrom, has_failed}
-use Rattle.vss_model.specs.Sessions.{volumes_of}
-use Rattle.vss_model.specs.Steps.{row_cut, cut_set, step_made}
-use Rattle.vss_model.proofs.HeldOfSet.{find-row_cut, volumes-row_cut_if}
-use Rattle.vss_model.proofs.Orderly.{find-settled_over, find-settled_running, true_not_false}
-use Rattle.vss_model.proofs.LogRule.{unspoken}
-use Rattle.vss_model.proofs.OrderlyActs.{ending_idle, ending_on, none_after}
-use Rattle.vss_model.proofs.OneCut.{ends_settle}
-use Rattle.vss_model.proofs.CourseCalls.{Call, IsCall, Settles}
-use Rattle.vss_world.specs.Provided.{is_to_come}
+use Rattle.std.proofs.Common.{◌≡◌, ℕ, ◌==◌, List, [], ◌∷◌, ◌++◌, refl, ap, sym, ◌∙◌, subst, Bool, true, false, Option, Some, None, ◌⊎◌, inl, inr, map, find, is_some, not, ◌&&◌, ◌||◌, option_map}
+use Rattle.std.proofs.Common.{if◌then◌else◌}
+use Rattle.vss_world.proofs.Words.{Agenda, AgendaEnds, Call, Commit, Complete as CompleteSet, Course, Cut, Ending, Entry, Failed, Gather, Group, Identify, IsCall, Kind, Member, NothingEnds}
+use Rattle.vss_world.proofs.Words.{NumberedFrom, Orders, Place, Prepare, Running, Said, SetFails, SetOutcome, SetRow, Settles, Snapshot, State, VssResult, all_say, at_place, concluded, cut_set}
+use Rattle.vss_world.proofs.Words.{ended_of, ending, ending_idle, ending_on, ends_settle, failed, failed_in, find-row_cut, find-settled_over, find-settled_running, group_code, groups_left, has_failed}
+use Rattle.vss_world.proofs.Words.{has_said, in_progress, is_among, is_done, is_orders, is_running, is_snapshot, is_to_come, level_code, none_after, number-cut, open_place, outcome_after, plain}
+use Rattle.vss_world.proofs.Words.{row_cut, row_settled, runs, same_place, settled_if, settled_row, step_made, true_not_false, unspoken, volumes-row_cut_if, volumes_of}
+use Rattle.set_agenda.specs.declared.kind.Kind.TheVariants.{Complete}
+use Rattle.set_agenda.specs.Course.{begun, posted, settled}
+use Rattle.vss_model.specs.Ending.{followed}
 use Rattle.vss_world.proofs.CommitLog.{committed_at_end, never_done}
-use Rattle.vss_world.proofs.Failing.{failed_course}
-use Rattle.vss_model.proofs.Rows.{settled_row}
+use Rattle.set_agenda.specs.Course.{failed as course_failed}
 
 -- ## what writers say
 
 -- a place of writers is no place of the provider
-not_cut : (p : Place) → is_orders p.group ≡ true → same_place p (plain Cut) ≡ false
-not_cut p e = by_group p.group e
+not_there : (cut : Bool) (p : Place) → is_orders p.group ≡ true → same_place p (plain (if cut then Cut else Commit)) ≡ false
+not_there cut p e = by_group cut p.group e
   where
-    by_group : (g : Group) → is_orders g ≡ true → ((group_code g == 10) && (level_code p.level == 0)) ≡ false
-    by_group (Orders Identify) e = refl
-    by_group (Orders _) e = refl
-    by_group _ e = cc
-
-not_commit : (p : Place) → is_orders p.group ≡ true → same_place p (plain Commit) ≡ false
-not_commit p e = by_group p.group e
-  where
-    by_group : (g : Group) → is_orders g ≡ true → ((group_code g == 11) && (level_code p.level == 0)) ≡ false
-    by_group (Orders Identify) e = refl
-    by_group (Orders _) e = refl
-    by_group _ e = cc
+    by_group : (cut : Bool) (g : Group) → is_orders g ≡ true → ((group_code g == group_code (if cut then Cut else Commit)) && (level_code p.level == 0)) ≡ false
+    by_group true (Orders Identify) e = refl
+    by_group true (Orders _) e = refl
+    by_group false (Orders Identify) e = refl
+    by_group false (Orders _) e = refl
+    by_group cut _ e = cc
 
 pub skip : (t u b : Bool) → t ≡ false → ((t && u) || b) ≡ b
 skip false u b e = refl
@@ -68,8 +43,20 @@ writers_say : (a : Agenda) (said : Said) (now : ℕ) (ws : List ℕ) → is_orde
 writers_say a said now ws e v =
     let p = open_place (groups_left a) in
     let new = map (at_place p said now) ws in
-    ap (λ (t : Bool). is_snapshot a.kind && t && not (has_said (a.log ++ new) (plain Commit) v)) (said_same a.log new (plain Cut) 0 (none_new p (plain Cut) said now 0 ws (not_cut p e)))
-    ∙ ap (λ (t : Bool). is_snapshot a.kind && has_said a.log (plain Cut) 0 && not t) (said_same a.log new (plain Commit) v (none_new p (plain Commit) said now v ws (not_commit p e)))
+    ap (λ (t : Bool). is_snapshot a.kind && t && not (has_said (a.log ++ new) (plain Commit) v)) (said_same a.log new (plain Cut) 0 (none_new p (plain Cut) said now 0 ws (not_there true p e)))
+    ∙ ap (λ (t : Bool). is_snapshot a.kind && has_said a.log (plain Cut) 0 && not t) (said_same a.log new (plain Commit) v (none_new p (plain Commit) said now v ws (not_there false p e)))
+
+-- ## a set that fails
+
+pub failed_course : (why : VssResult) (c : Course) → ((course_failed why c).agenda ≡ None) × ((course_failed why c).outcome ≡ Failed why)
+unfolding course_failed
+failed_course why c = (refl, refl)
+
+pub failed_ends : (r : SetRow) (why : VssResult) (st : State) → NumberedFrom 1 st.sets → in_progress st ≡ Some r
+    → ended_of (Some r) (failed_in (Some r) why st).sets ≡ Some (record r { result = Failed why })
+failed_ends r why st numbered e =
+    ap (λ (o : SetOutcome). find (λ q. (q.number == r.number) && not (is_running q.result)) (map (row_settled o) st.sets)) (failed_course why st.course).1
+    ∙ settled_row 1 (Failed why) refl st.sets r numbered e
 
 -- ## what becomes of the set
 
@@ -311,10 +298,6 @@ failed_goes why st numbered = by_set (in_progress st) refl
 
 -- ## a step of the provider, before what follows
 
-pub number_cut : (b : Bool) (now : ℕ) (r : SetRow) → (if b then record r { cut_at = Some now } else r).number ≡ r.number
-number_cut true now r = refl
-number_cut false now r = refl
-
 cut_same : (o : Option SetRow) (st : State) → in_progress st ≡ o → IsSameSet (in_progress st) (in_progress (cut_set o st))
 cut_same None st e = same_set (in_progress st)
 cut_same (Some r) st e =
@@ -322,7 +305,7 @@ cut_same (Some r) st e =
   where
     by_set : (x : Option SetRow) → IsSameSet x (option_map (row_cut r.number st.clock) x)
     by_set None = tt
-    by_set (Some q) = (number_cut (q.number == r.number) st.clock q, volumes-row_cut_if (q.number == r.number) st.clock q)
+    by_set (Some q) = (number-cut (q.number == r.number) st.clock q, volumes-row_cut_if (q.number == r.number) st.clock q)
 
 pub step_same : (g : Group) (st : State) → IsSameSet (in_progress st) (in_progress (step_made (Some g) st))
 step_same Cut st = cut_same (in_progress st) st refl

@@ -1,36 +1,10 @@
 -- Lines that begin or end nothing: they are answered, and at most the volumes change.
 use Rattle.std.proofs.Common.{◌≡◌, ℕ, List, [], refl, ap, sym, ◌∙◌, subst, Bool, true, Option}
-use Rattle.vss_names.specs.declared.set_outcome.SetOutcome.TheVariants.{Running}
-use Rattle.writer_state.specs.declared.writer_row.WriterRow.{WriterRow}
-use Rattle.write_history.specs.declared.evicted.Evicted.{Evicted}
-use Rattle.write_history.specs.declared.mark.Mark.{Mark}
-use Rattle.write_history.specs.History.{History}
-use Rattle.set_agenda.specs.Agenda.{order_now}
-use Rattle.set_agenda.proofs.WriterSets.{new-is}
-use Rattle.scenario.specs.declared.op.Op.{Op}
-use Rattle.scenario.specs.Plan.{Plan}
-use Rattle.vss_model.specs.declared.event.Event.{Event}
-use Rattle.vss_model.specs.declared.event.Event.TheVariants.{Line}
-use Rattle.vss_model.specs.declared.told.Told.{Told}
-use Rattle.vss_model.specs.Reply.{Reply}
-use Rattle.vss_model.specs.State.{State, SetRow, left_now, in_progress}
-use Rattle.vss_model.specs.Images.{Replied}
-use Rattle.vss_model.specs.Lines.{line}
-use Rattle.vss_model.specs.Acts.{Act, state, after, after_if, enabled, happens, reply, line_enabled, line_allows}
-use Rattle.vss_model.specs.Effects.{evicted, lost, lost_order_if, ended_of}
-use Rattle.vss_model.specs.Facts.{NumberedFrom}
-use Rattle.vss_model.specs.Trail.{act_of}
-use Rattle.vss_model.specs.Told.{Fits, mark_of}
-use Rattle.vss_model.specs.Outcome.{HasLists, EndsAs, told_act}
-use Rattle.provider.specs.Groups.{AreGroups}
-use Rattle.provider.specs.Devices.{devices_of}
-use Rattle.provider.specs.Preparing.{ProviderValue}
-use Rattle.sessions.specs.Keeps.{SessionsValue}
-use Rattle.vss_world.specs.Devices.{tells_of}
-use Rattle.vss_world.specs.Stands.{Stands, StandsAt}
-use Rattle.vss_world.specs.Moves.{IsMoved, simple_outcome}
-use Rattle.vss_world.specs.Provided.{provided}
-use Rattle.vss_model.proofs.Rows.{none_ends}
+use Rattle.vss_world.proofs.Words.{Act, AreGroups, EndsAs, Event, Evicted, Fits, HasLists, History, IsInPlan, IsMoved, IsPrepared, Keeps, Line, Mark, NumberedFrom, Op, Plan, ProviderValue, Replied}
+use Rattle.vss_world.proofs.Words.{Running, SessionsValue, SetRow, Stands, StandsAt, State, Told, WriterRow, act_of, after_if, devices_of, enabled, ended_of, evicted, happens, in_progress, left_now}
+use Rattle.vss_world.proofs.Words.{line, line_allows, line_enabled, lost, lost_order_if, mark_of, new-is, none_ends, order_now, provided, reply, simple_outcome, state, tells_of, told_act}
+use Rattle.vss_model.specs.Words.{Reply}
+use Rattle.vss_model.specs.Acts.{after}
 use Rattle.vss_world.proofs.Prepared.{prepared_same}
 use Rattle.vss_world.proofs.Moved.{world_of, OfDevices, Comes, in_order, goes_nowhere, moved}
 
@@ -87,17 +61,18 @@ line_moves told count s lane op answer p q x l k e f devices comes =
 
 -- ## the parts, where at most the volumes change
 
+pub with_volumes : {D : Type 0} (told : D → Option (List (List ℕ))) (q : ProviderValue D) (x : SessionsValue) (s : Plan) (st : State) (hs : List History) → Keeps x st → IsInPlan s st → IsPrepared q st
+    → AreGroups told s q.groups (provided (record st { volumes = hs })) → StandsAt told q x s (record st { volumes = hs })
+with_volumes told q x s st hs k plan d groups = record {
+  groups = groups;
+  prepared = record { volumes = d.volumes; set = d.set; distinct = d.distinct };
+  sessions = record { session = k.session; made = k.made; course = k.course; sets = k.sets; clock = k.clock; explicit = k.explicit; over = k.over; on_time = k.on_time; disabled = k.disabled };
+  plan = record { sets = plan.sets; agenda = plan.agenda; members = plan.members; disabled = plan.disabled };
+}
+
 pub volumes_parts : {D : Type 0} (told : D → Option (List (List ℕ))) (p q : ProviderValue D) (x : SessionsValue) (s : Plan) (st : State) (hs : List History) → StandsAt told p x s st
     → q ≡ record p { groups = q.groups } → AreGroups told s q.groups (provided (record st { volumes = hs })) → StandsAt told q x s (record st { volumes = hs })
-volumes_parts told p q x s st hs parts same groups =
-    let k = parts.sessions in
-    let d = prepared_same p q st same parts.prepared in
-    record {
-      groups = groups;
-      prepared = record { volumes = d.volumes; set = d.set; distinct = d.distinct };
-      sessions = record { session = k.session; made = k.made; course = k.course; sets = k.sets; clock = k.clock; explicit = k.explicit; over = k.over; on_time = k.on_time; disabled = k.disabled };
-      plan = record { sets = parts.plan.sets; agenda = parts.plan.agenda; members = parts.plan.members; disabled = parts.plan.disabled };
-    }
+volumes_parts told p q x s st hs parts same groups = with_volumes told q x s st hs parts.sessions parts.plan (prepared_same p q st same parts.prepared) groups
 
 pub same_parts : {D : Type 0} (told : D → Option (List (List ℕ))) (p q : ProviderValue D) (x : SessionsValue) (s : Plan) (st : State) → StandsAt told p x s st → q ≡ record p { groups = q.groups }
     → AreGroups told s q.groups (provided st) → StandsAt told q x s st

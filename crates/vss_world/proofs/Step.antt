@@ -1,67 +1,43 @@
 -- A step of the provider, made or failed: what it comes to.
-use Rattle.std.proofs.Common.{◌≡◌, ℕ, ◌<◌, ◌==◌, List, [], ◌∷◌, ◌++◌, refl, ap, sym, ◌∙◌, subst, Bool, true, false, ◌&&◌, Option, Some, None, inl, map}
-use Rattle.std.specs.Prelude.{not, is_ok, IfSome, OnOk, Result, Ok, Err, slice_get}
-use Rattle.std.proofs.lemmas.Bool.{false≢true, true≢false}
-use Rattle.volume_device.specs.declared.device.Device.{Ghosts}
-use Rattle.write_history.specs.declared.mark.Mark.TheVariants.{Clean, Fault}
-use Rattle.write_history.specs.declared.evicted.Evicted.{Evicted}
-use Rattle.write_history.specs.History.{History, dropped}
-use Rattle.set_agenda.specs.declared.group.Group.{Group}
-use Rattle.set_agenda.specs.declared.group.Group.TheVariants.{Orders, Flush, Cut}
-use Rattle.set_agenda.specs.Agenda.{Agenda, plain, open_group, next_volume, is_working, is_snapshot, is_done, groups_left, left, left_from, places, waited_for, with_group}
-use Rattle.set_agenda.specs.declared.kind.Kind.{Kind}
+use Rattle.std.proofs.Common.{◌≡◌, ℕ, ◌<◌, ◌==◌, List, [], ◌∷◌, ◌++◌, refl, ap, sym, ◌∙◌, subst, Bool, true, false, ◌&&◌, Option, Some, None, inl, map, not, is_ok, IfSome, OnOk, Result, Ok, Err}
+use Rattle.std.proofs.Common.{slice_get}
+use Rattle.vss_world.proofs.Words.{Act, Agenda, AreGroups, AreKept, BackupComplete, Call, Cause, Clean, Course, Cut, Evicted, Fault, Flush, Ghosts, Group, HasStepCause, History, Identify, IfStandFor}
+use Rattle.vss_world.proofs.Words.{IfStands, IsAt, IsMove, IsMoved, IsNextStep, IsOf, IsPrepared, IsSettled, Keeps, Kind, LastsAt, Leaves, Mark, NumberedFrom, Orders, Place, Plan, PrepareBackup}
+use Rattle.vss_world.proofs.Words.{Provider, ProviderValue, RoseAlone, RoseFor, Running, SessionMove, SessionsValue, SetOutcome, SetRow, Settles, Stands, State, Told, UnexpectedProviderError, after}
+use Rattle.vss_world.proofs.Words.{after_move, after_provider, counts_of, course-step_made, cut_set, devices_of, dropped, event_volumes, false≢true, followed, groups_left, has_failed, images_after}
+use Rattle.vss_world.proofs.Words.{in_progress, is_done, is_failed_step, is_fault, is_flush, is_snapshot, is_to_come, is_working, kept_trans, left, left-is, left_from, left_now, mark_if, mark_of}
+use Rattle.vss_world.proofs.Words.{next_volume, number-cut, number_prepared, numbered-map, open_group, orderly, places, plain, provided, row_cut, runs, state, state-append, step_made, step_taken}
+use Rattle.vss_world.proofs.Words.{stepped as course_stepped, stepped_as, told_act, true≢false, volume_of_step, volume_place, waited_for, with_group, without}
 use Rattle.set_agenda.specs.declared.kind.Kind.TheVariants as kind
-use Rattle.set_agenda.specs.declared.place.Place.{Place}
-use Rattle.vss_names.specs.declared.order.Order.TheVariants.{Identify, PrepareBackup, BackupComplete}
-use Rattle.vss_names.specs.declared.set_outcome.SetOutcome.{SetOutcome}
-use Rattle.vss_names.specs.declared.set_outcome.SetOutcome.TheVariants.{Running}
-use Rattle.vss_names.specs.declared.vss_result.VssResult.TheVariants.{UnexpectedProviderError}
-use Rattle.set_agenda.specs.Course.{Course, posted, stepped as course_stepped}
-use Rattle.scenario.specs.Plan.{Plan}
-use Rattle.vss_model.specs.declared.event.Event.TheVariants.{Provider}
-use Rattle.vss_model.specs.declared.told.Told.{Told}
+use Rattle.set_agenda.specs.Course.{posted}
 use Rattle.vss_model.specs.declared.told.Told.TheVariants as told
-use Rattle.vss_model.specs.State.{State, SetRow, in_progress, left_now}
-use Rattle.vss_model.specs.Ending.{followed, runs}
-use Rattle.vss_model.specs.Facts.{NumberedFrom, has_failed}
-use Rattle.vss_model.specs.Steps.{is_flush, row_cut, cut_set, step_made}
-use Rattle.vss_model.specs.Acts.{Act, state, after}
-use Rattle.vss_model.specs.Told.{mark_if, mark_of}
-use Rattle.vss_model.specs.Trail.{is_fault}
-use Rattle.vss_model.specs.Outcome.{told_act}
-use Rattle.vss_model.proofs.Appending.{state-append}
-use Rattle.vss_model.proofs.CourseCalls.{Call, Settles}
-use Rattle.vss_model.proofs.CutStep.{after_provider}
-use Rattle.vss_model.proofs.LogRule.{course-step_made}
-use Rattle.vss_model.proofs.Orderly.{numbered-map}
-use Rattle.vss_model.proofs.OrderlyActs.{orderly}
-use Rattle.coordinator.proofs.Following.{left-is}
-use Rattle.cow_volume.specs.declared.cause.Cause.{Cause}
-use Rattle.provider.specs.Groups.{AreGroups, IfStandFor}
-use Rattle.provider.specs.Devices.{devices_of, counts_of, AreKept, LastsAt, RoseAlone, volume_place}
-use Rattle.provider.specs.Preparing.{ProviderValue, HasStepCause, step_taken}
-use Rattle.provider.proofs.Kept.{kept_trans}
-use Rattle.sessions.specs.Keeps.{SessionsValue, Keeps, IsAt, Leaves}
-use Rattle.sessions.specs.Moves.{IsMove, IsNextStep, after_move, event_volumes, images_after}
-use Rattle.sessions.specs.declared.session_move.SessionMove.{SessionMove}
-use Rattle.vss_world.specs.Devices.{RoseFor}
-use Rattle.vss_world.specs.Provided.{is_to_come, without, provided}
-use Rattle.vss_world.specs.Changes.{IsSettled}
-use Rattle.vss_world.specs.Stands.{IsOf, IsPrepared, number_prepared, Stands, IfStands}
-use Rattle.vss_world.specs.Moves.{IsMoved, volume_of_step}
 use Rattle.vss_world.proofs.Moved.{world_of, IsProviderAt, clean_devices, failed_devices, goes_on, leaves_of}
 use Rattle.vss_world.proofs.Following.{at_of, course_of, set_move, ends_of, session_comes}
-use Rattle.vss_world.proofs.Failing.{failed_course}
-use Rattle.vss_world.proofs.Made.{stepped_made, stepped_fails}
 use Rattle.vss_world.proofs.Prepared.{volumes_same, IsSetMove, NoneOfZero, none_of_zero, cut_above, runs_number, prepared_same, settled_comes, settled_keeps, settled_devices}
 use Rattle.vss_world.proofs.Provided.{number_above}
-use Rattle.vss_world.proofs.SetGoesOn.{number_cut, GoesBy, GoesOn, IsOfAgenda, IsSameSet, runs_snapshot, followed_goes, stepped_goes, goes_from, step_same}
+use Rattle.vss_world.proofs.SetGoesOn.{GoesBy, GoesOn, IsOfAgenda, IsSameSet, runs_snapshot, followed_goes, stepped_goes, goes_from, step_same, failed_course}
 use Rattle.vss_world.proofs.StepComes.{IsStepping, with_step, step_settles, step_leaves, made_elsewhere}
 use Rattle.vss_world.proofs.ToCome.{has_snapshot_set}
 use Rattle.vss_world.proofs.WithoutImages.{dropped_without}
+use Rattle.vss_model.specs.Steps.{stepped}
 
 pub working : (x : SessionsValue) (group : Group) (volume : Option ℕ) (st : State) → IsNextStep x group volume → Keeps x st → is_working (left_now st) ≡ true
 working x group volume st next keeps = sym (ap is_working (left-is x.coordinator.kept st.course keeps.course.follows)) ∙ next.working
+
+-- ## which of the two it is
+
+pub stepped_made : (g : Group) (mark : Mark) (st : State) → open_group (left_now st) ≡ Some g → mark ≡ mark_if (not true && is_flush (open_group (left_now st)))
+    → stepped mark st ≡ followed (runs st) (course_stepped true st.clock st.course) (step_made (Some g) st)
+unfolding stepped
+stepped_made g mark st e f =
+    ap (λ (m : Mark). stepped_as (is_failed_step (is_flush (open_group (left_now st))) m) (open_group (left_now st)) st) f ∙ ap (λ (o : Option Group). stepped_as false o st) e
+
+pub stepped_fails : (mark : Mark) (st : State) → open_group (left_now st) ≡ Some Flush → mark ≡ mark_if (not false && is_flush (open_group (left_now st)))
+    → stepped mark st ≡ followed (runs st) (course_stepped false st.clock st.course) st
+unfolding stepped
+stepped_fails mark st e f =
+    ap (λ (m : Mark). stepped_as (is_failed_step (is_flush (open_group (left_now st))) m) (open_group (left_now st)) st) f
+    ∙ ap (λ (o : Option Group). stepped_as (is_failed_step (is_flush o) (mark_if (is_flush o))) o st) e
 
 -- ## the agenda that works is a snapshot's
 
@@ -87,7 +63,7 @@ step_number p st r prepared works is = prepared.set ∙ ap (λ (o : Option SetRo
 
 cut_numbered : (o : Option SetRow) (st : State) → NumberedFrom 1 st.sets → NumberedFrom 1 (cut_set o st).sets
 cut_numbered None st h = h
-cut_numbered (Some r) st h = numbered-map (row_cut r.number st.clock) (λ q. number_cut (q.number == r.number) st.clock q) 1 st.sets h
+cut_numbered (Some r) st h = numbered-map (row_cut r.number st.clock) (λ q. number-cut (q.number == r.number) st.clock q) 1 st.sets h
 
 step_numbered : (g : Group) (st : State) → NumberedFrom 1 st.sets → NumberedFrom 1 (step_made (Some g) st).sets
 step_numbered Cut st h = cut_numbered (in_progress st) st h

@@ -1,36 +1,15 @@
 -- What a step of the provider makes of the images that are still to come: the Cut step leaves all of them to come, and a Commit step cuts
 -- that of its volume. No other step has to do with them.
 use Rattle.std.proofs.Common.{◌≡◌, ℕ, zero, suc, ◌+◌, ◌<◌, ◌==◌, List, [], ◌∷◌, ◌++◌, length, refl, ap, sym, ◌∙◌, subst, arith, Bool, true, false, ◌&&◌, ◌||◌, Option, Some, None, inl, inr, map}
-use Rattle.std.proofs.Common.{filter, slice_get}
-use Rattle.std.specs.Prelude.{not, is_some, if◌then◌else◌, option_map}
-use Rattle.std.proofs.lemmas.Bool.{eq-eqb, ne_eqb, not-true, or_left, or_right}
-use Rattle.std.proofs.lemmas.Option.{slice_get_within}
-use Rattle.std.proofs.lemmas.List.Folds.{list_any-append}
-use Rattle.vss_names.specs.declared.order.Order.{Order}
-use Rattle.vss_names.specs.declared.order.Order.TheVariants.{Identify}
+use Rattle.std.proofs.Common.{filter, slice_get, not, is_some, if◌then◌else◌, option_map}
+use Rattle.vss_world.proofs.Words.{Act, Agenda, Commit, Course, Cut, Entry, Flush, Group, History, Hold, Identify, Image, IsAtCut, Kind, Open, Order, Orders, Place, Plan, PostCommit, PreCommit}
+use Rattle.vss_world.proofs.Words.{Release, SetRow, Settles, Snapshot, State, all_say, and_three, as_many_volumes, at_place, change_at, cut as history_cut, cut_each, cut_if, cut_is_open, cut_set}
+use Rattle.vss_world.proofs.Words.{cuts, dropped, dropped_if, eq-eqb, group_code, groups_left, has_said, head_or_0, history_in, history_of, image_once_cut, in_progress, is_among, is_cut_group}
+use Rattle.vss_world.proofs.Words.{is_done, is_over_volumes, is_snapshot, is_to_come, kind_is, left, left_from, level_code, list_any-append, ne_eqb, next_member, next_volume, not-true, open_group}
+use Rattle.vss_world.proofs.Words.{open_place, or-false, or_left, or_right, places, plain, point_in, provided, same_place, settled_if, settled_in, slice_get_within, state, step_made, step_taken}
+use Rattle.vss_world.proofs.Words.{stepped as course_stepped, uncut_at_cut, volume_if, waited_for, with_group, without, without_set}
 use Rattle.writer_state.specs.declared.said.Said.TheVariants as said
-use Rattle.write_history.specs.History.{Image, History, dropped, without_set, point_in, cut as history_cut}
-use Rattle.set_agenda.specs.declared.group.Group.{Group}
-use Rattle.set_agenda.specs.declared.group.Group.TheVariants.{Orders, PreCommit, Flush, Hold, Cut, Commit, Release, PostCommit}
-use Rattle.set_agenda.specs.declared.kind.Kind.{Kind}
-use Rattle.set_agenda.specs.declared.kind.Kind.TheVariants.{Gather, Prepare, Snapshot, Complete}
-use Rattle.set_agenda.specs.declared.place.Place.{Place}
-use Rattle.set_agenda.specs.Agenda.{Agenda, Entry, Open, plain, same_place, group_code, level_code, places, with_group, waited_for, left, left_from, groups_left, open_group, open_place, head_or_0}
-use Rattle.set_agenda.specs.Agenda.{next_member, volume_if, next_volume, is_over_volumes, is_snapshot, is_among, is_done, has_said, at_place, all_say}
-use Rattle.set_agenda.specs.Course.{Course, change_at, posted, settled, settled_if, settled_in, worked, stepped as course_stepped}
-use Rattle.set_agenda.proofs.WriterSets.{or-false}
-use Rattle.scenario.specs.Plan.{Plan}
-use Rattle.vss_model.specs.State.{State, SetRow, in_progress, history_in, history_of}
-use Rattle.vss_model.specs.Acts.{Act, state}
-use Rattle.vss_model.specs.Cut.{is_cut_group}
-use Rattle.vss_model.specs.Steps.{cut_if, cut_each, cut_set, step_made}
-use Rattle.vss_model.proofs.AtCut.{IsAtCut, cuts, cut_is_open}
-use Rattle.vss_model.proofs.Completed.{image_once_cut}
-use Rattle.vss_model.proofs.CourseCalls.{Settles}
-use Rattle.vss_model.proofs.FewerImages.{as_many_volumes}
-use Rattle.vss_model.proofs.OneCut.{uncut_at_cut}
-use Rattle.provider.specs.Preparing.{step_taken}
-use Rattle.vss_world.specs.Provided.{is_to_come, dropped_if, without, provided}
+use Rattle.set_agenda.specs.Course.{posted, settled, worked}
 use Rattle.vss_world.proofs.Options.{none_from}
 use Rattle.vss_world.proofs.CommitLog.{uncommitted, cut_made}
 use Rattle.vss_world.proofs.SetGoesOn.{said_same, none_new}
@@ -101,14 +80,8 @@ cut_plain = (λ e. cc, (λ e. cc, (λ e. cc, (λ e. cc, (λ e. cc, (λ e. cc, (�
 commit_plain : IsPlain Commit (places Snapshot)
 commit_plain = (λ e. cc, (λ e. cc, (λ e. cc, (λ e. cc, (λ e. cc, (λ e. cc, (λ e. cc, (λ e. cc, (λ e. refl, (λ e. cc, (λ e. cc, (λ e. cc, (λ e. cc, (λ e. cc, (λ e. cc, tt)))))))))))))))
 
-kind_of : (k : Kind) → is_snapshot k ≡ true → k ≡ Snapshot
-kind_of Snapshot e = refl
-kind_of Gather e = cc
-kind_of Prepare e = cc
-kind_of Complete e = cc
-
 open_at : (a : Agenda) (g : Group) → is_snapshot a.kind ≡ true → IsPlain g (places Snapshot) → open_group (groups_left a) ≡ Some g → IsOpen a (groups_left a) g
-open_at a g snapshot h e = open_is a (places a.kind) g (subst (λ (k : Kind). IsPlain g (places k)) (sym (kind_of a.kind snapshot)) h) e
+open_at a g snapshot h e = open_is a (places a.kind) g (subst (λ (k : Kind). IsPlain g (places k)) (sym (kind_is a.kind snapshot)) h) e
 
 group_at : (os : List Open) (g : Group) → open_group os ≡ Some g → (open_place os).group ≡ g
 group_at [] g e = cc
@@ -188,12 +161,6 @@ said_so true t w u e f = refl
 said_so false true w u e f = ap (λ (k : ℕ). k == u) f ∙ eq-eqb u u refl
 said_so false false w u e f = cc
 
-all_come : (b c d : Bool) → b ≡ true → c ≡ true → d ≡ false → (b && c && not d) ≡ true
-all_come true true false e f g = refl
-all_come true true true e f g = cc
-all_come true false d e f g = cc
-all_come false c d e f g = cc
-
 next_is : (a : Agenda) → a.kind ≡ Snapshot → IsAtCut a → next_member (groups_left a) ≡ 0
 next_is a kind at = ap (λ (k : Kind). next_member (left_from a (places k))) kind ∙ ap next_member (cut_is_open a at)
 
@@ -268,7 +235,7 @@ module _ (s : Plan) (acts : List Act) where
       ∙ sym (without_cut n k.row.volumes 0 st.volumes (λ i h e. none_from (point_in n h.images)
       (λ q f. uncut_at_cut s acts k.row i q c k.is (ap (λ (y : History). point_in n y.images) (ap history_in e) ∙ f))))
       ∙ sym (without_like (is_to_come (Some x)) (λ u. true) n (cut_each n k.row.volumes 0 st.volumes)
-      (λ u. all_come (is_snapshot a.kind) (has_said x.log (plain Cut) 0) (has_said x.log (plain Commit) u) k.snapshot cut_is (open_not u)))
+      (λ u. and_three (is_snapshot a.kind) (has_said x.log (plain Cut) 0) (has_said x.log (plain Commit) u) k.snapshot cut_is (open_not u)))
       ∙ sym (ap (λ (o : Option SetRow). without (is_to_come (Some x)) n (cut_set o st).volumes) k.is)
     where
       nothing : (b c : Bool) → (b && false && c) ≡ false
@@ -288,7 +255,7 @@ module _ (s : Plan) (acts : List Act) where
         place = at.place;
         next = at.next;
         cut_is = cut_is;
-        coming = all_come (is_snapshot a.kind) (has_said a.log (plain Cut) 0) (has_said a.log (plain Commit) at.first) k.snapshot cut_is (not-true (has_said a.log (plain Commit) at.first) passed.0);
+        coming = and_three (is_snapshot a.kind) (has_said a.log (plain Cut) 0) (has_said a.log (plain Commit) at.first) k.snapshot cut_is (not-true (has_said a.log (plain Commit) at.first) passed.0);
         among = ap (is_among at.first) (sym (agenda_volumes s acts a k.row k.runs k.snapshot k.is)) ∙ passed.1;
       }
     where

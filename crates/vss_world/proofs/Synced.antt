@@ -1,36 +1,16 @@
 -- A group's area is brought to where it lasts: every other device is as it was, and the area's holds the copies.
-use Rattle.std.proofs.Common.{◌≡◌, ℕ, suc, ◌<◌, ◌==◌, List, [], ◌∷◌, length, refl, ap, sym, ◌∙◌, subst, arith, Bool, true, false, Option, Some, map, slice_get, None, slice_set}
-use Rattle.std.specs.Prelude.{is_some, option_map, Result, Ok, Err, OnOk, IfErr, IsErr}
-use Rattle.std.proofs.lemmas.Bool.{eqb-true, eqb-false}
-use Rattle.std.proofs.lemmas.Option.{slice_get_within, slice_get-map}
-use Rattle.volume_device.specs.declared.device.Device.{Ghosts}
-use Rattle.diff_area.specs.Copies.{AreStored}
-use Rattle.write_history.specs.declared.evicted.Evicted.{Evicted}
-use Rattle.write_history.specs.Slots.{copies}
-use Rattle.scenario.specs.Plan.{Plan, placed}
-use Rattle.cow_volume.specs.GroupValue.{GroupValue, placed as all_placed}
-use Rattle.cow_volume.specs.Ending.{AllTell as AllDevicesTell}
-use Rattle.cow_volume.proofs.Group.{slice_get_inside, slice_get-set_same, slice_get-set_other}
-use Rattle.vss_model.specs.State.{in_progress}
-use Rattle.vss_model.specs.Acts.{Act, state}
-use Rattle.scenario.specs.Places.{of_group, blocks_in_group}
-use Rattle.provider.specs.Groups.{HasGroups}
-use Rattle.provider.specs.Devices.{devices_of, area_place, AreLasting, HasSyncCause, LastsAt, RoseAlone}
-use Rattle.cow_volume.specs.declared.cause.Cause.{Cause}
-use Rattle.cow_volume.specs.declared.cause.Cause.TheVariants.{Area}
-use Rattle.provider.specs.Devices.{IsSynced as AreSynced}
-use Rattle.provider.specs.Preparing.{ProviderValue}
-use Rattle.provider.proofs.Flat.{area_device_at, area_is_set, device_at}
-use Rattle.sessions.specs.Keeps.{SessionsValue}
-use Rattle.vss_world.specs.Devices.{told_of, told_by}
-use Rattle.vss_world.specs.Stands.{WorldValue, IsOf}
-use Rattle.vss_world.specs.Provided.{comes, number_of, provided}
-use Rattle.vss_world.specs.Quiet.{IsSynced, IsAreaHeld}
+use Rattle.std.proofs.Common.{◌≡◌, ℕ, suc, ◌<◌, ◌==◌, List, [], ◌∷◌, length, refl, ap, sym, ◌∙◌, subst, arith, Bool, true, false, Option, Some, map, slice_get, None, slice_set, is_some, option_map}
+use Rattle.std.proofs.Common.{Result, Ok, Err, OnOk, IfErr, IsErr}
+use Rattle.vss_world.proofs.Words.{Act, AllTell as AllDevicesTell, AreLasting, AreStored, Area, Cause, Evicted, Ghosts, GroupValue, HasGroups, HasSyncCause, IsAreaHeld, IsOf, IsSynced, LastsAt, Plan}
+use Rattle.vss_world.proofs.Words.{ProviderValue, RoseAlone, SessionsValue, WorldValue, area_device_at, area_is_set, area_place, blocks_in_group, comes, copies, copies_in_group, device_at, devices_of}
+use Rattle.vss_world.proofs.Words.{eqb-false, eqb-true, in_progress, number_of, of_group, placed, provided, slice_get-map, slice_get-set_other, slice_get-set_same, slice_get_inside, slice_get_within}
+use Rattle.vss_world.proofs.Words.{state, told_by, told_of}
+use Rattle.provider.specs.Words.{placed as all_placed}
+use Rattle.provider.proofs.Words.{IsSynced as AreSynced}
 use Rattle.vss_world.proofs.Moved.{world_of, of_kept}
 use Rattle.vss_world.proofs.Digesting.{stands_still, devices_alone}
 use Rattle.vss_world.proofs.ToCome.{all_unnamed}
 use Rattle.vss_world.proofs.WithoutImages.{copies_without_all}
-use Rattle.provider.proofs.Ended.{copies_in_group}
 
 -- ## one device of the list differs
 

@@ -1,21 +1,8 @@
 -- The devices against the groups: they hold the content of the volumes.
-use Rattle.std.proofs.Common.{◌≡◌, ℕ, List, length, refl, ap, sym, ◌∙◌, subst, arith, Option, Some, None, slice_get}
-use Rattle.std.specs.Prelude.{IfSome}
-use Rattle.write_history.specs.History.{Write, History, contents}
-use Rattle.scenario.specs.Plan.{Plan}
-use Rattle.scenario.specs.Places.{of_group}
-use Rattle.cow_volume.specs.GroupValue.{GroupValue}
-use Rattle.cow_volume.specs.StandsFor.{told_in}
-use Rattle.cow_volume.proofs.Group.{slice_get_inside}
-use Rattle.provider.specs.Groups.{AreGroups, HasGroups}
-use Rattle.provider.specs.Devices.{devices_of}
+use Rattle.std.proofs.Common.{◌≡◌, ℕ, List, length, refl, ap, sym, ◌∙◌, subst, arith, Option, Some, None, slice_get, IfSome}
+use Rattle.vss_world.proofs.Words.{AllTied, AreGroups, GroupValue, HasGroups, History, IsOf, Plan, StandsAt, State, WorldValue, Write, blocks_there, contents, devices_of, found_row, in_progress}
+use Rattle.vss_world.proofs.Words.{inside, of_group, provided, slice_get_inside, told_here, told_in}
 use Rattle.provider.proofs.InGroup.{at_place}
-use Rattle.provider.proofs.Places.{blocks_there}
-use Rattle.provider.proofs.Found.{found_row, inside, told_here}
-use Rattle.vss_model.specs.State.{State, in_progress}
-use Rattle.vss_world.specs.Devices.{AllTied}
-use Rattle.vss_world.specs.Provided.{provided}
-use Rattle.vss_world.specs.Stands.{WorldValue, IsOf, StandsAt}
 use Rattle.vss_world.proofs.OnProvided.{there}
 
 if_told : (o : Option (List (List ℕ))) (blocks : List (List ℕ)) (want : List (List ℕ)) → IfSome o (λ bs. bs ≡ want) → o ≡ Some blocks → blocks ≡ want

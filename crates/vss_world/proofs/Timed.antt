@@ -1,27 +1,12 @@
 -- Time that goes by, and what writers answer, against the acts.
 use Rattle.std.proofs.Common.{◌≡◌, ℕ, ◌+◌, ◌≤◌, List, [], refl, sym, ◌∙◌, subst, arith, true, false}
-use Rattle.volume_device.specs.declared.device.Device.{Ghosts}
-use Rattle.write_history.specs.declared.evicted.Evicted.{Evicted}
+use Rattle.vss_world.proofs.Words.{Act, Answer as AnswerEvent, Event, Evicted, Ghosts, Idle, IfStands, IsAt, IsMove, IsMoved, IsOf, IsSettled, IsStanding, Leaves, LeavesWithin, Line, Plan}
+use Rattle.vss_world.proofs.Words.{ProviderValue, SessionMove, SessionsValue, State, Tick, after_move, call_answered, call_timed, event_allows, event_volumes, happens, idle_now, is_fault, later}
+use Rattle.vss_world.proofs.Words.{later_by, mark_of, said_of, state, timed as course_timed}
+use Rattle.vss_world.specs.Words.{IsOf as IsSessionsOf}
 use Rattle.writer_calls.specs.declared.answer.Answer.{Answer}
-use Rattle.writer_calls.specs.Script.{said_of}
-use Rattle.set_agenda.specs.Course.{answered as course_answered, timed as course_timed}
-use Rattle.scenario.specs.declared.op.Op.TheVariants.{Tick}
-use Rattle.scenario.specs.Plan.{Plan}
-use Rattle.vss_model.specs.declared.event.Event.{Event}
-use Rattle.vss_model.specs.declared.event.Event.TheVariants.{Line, Answer as AnswerEvent, Idle}
-use Rattle.vss_model.specs.State.{State}
-use Rattle.vss_model.specs.Steps.{answered, ticked, later}
-use Rattle.vss_model.specs.Acts.{Act, state, event_allows, idle_now, happens}
-use Rattle.vss_model.specs.Told.{mark_of}
-use Rattle.vss_model.specs.Trail.{is_fault}
-use Rattle.vss_model.proofs.CourseCalls.{call_answered, call_timed}
-use Rattle.provider.specs.Preparing.{ProviderValue}
-use Rattle.sessions.specs.Keeps.{SessionsValue, IsAt, Leaves, LeavesWithin, later_by, IsOf as IsSessionsOf}
-use Rattle.sessions.specs.Moves.{IsMove, after_move, event_volumes}
-use Rattle.sessions.specs.declared.session_move.SessionMove.{SessionMove}
-use Rattle.vss_world.specs.Stands.{IsOf, IsStanding, IfStands}
-use Rattle.vss_world.specs.Moves.{IsMoved}
-use Rattle.vss_world.specs.Changes.{IsSettled}
+use Rattle.set_agenda.specs.Course.{answered as course_answered}
+use Rattle.vss_model.specs.Steps.{answered, ticked}
 use Rattle.vss_world.proofs.Moved.{world_of, Goes, leaves_of, later_of, goes_on, goes_later}
 use Rattle.vss_world.proofs.Simple.{after_on}
 use Rattle.vss_world.proofs.SetGoesOn.{GoesOn, followed_goes}

@@ -1,27 +1,16 @@
 -- What the provider has, at the states of acts: the image of the set in progress is missing only where it is held back, newest, and names
 -- no block. So all that is asked of the histories is the same of those of the definitions.
-use Rattle.std.proofs.Common.{◌≡◌, ℕ, List, refl, ap, sym, ◌∙◌, subst, Bool, true, false, Option, Some, None, inl, inr}
-use Rattle.std.specs.Prelude.{not, ◌&&◌}
-use Rattle.write_history.specs.History.{History, point_in}
-use Rattle.set_agenda.specs.declared.group.Group.TheVariants.{Hold, Cut, Commit, Release}
-use Rattle.set_agenda.specs.declared.kind.Kind.{Kind}
-use Rattle.set_agenda.specs.declared.kind.Kind.TheVariants.{Gather, Prepare, Snapshot, Complete}
-use Rattle.set_agenda.specs.declared.member.Member.{Member}
-use Rattle.set_agenda.specs.Agenda.{Agenda, plain, has_said, is_snapshot, is_among}
+use Rattle.std.proofs.Common.{◌≡◌, ℕ, List, refl, ap, sym, ◌∙◌, subst, true, false, Option, Some, None, inl, inr}
+use Rattle.vss_world.proofs.Words.{Act, Agenda, Commit, Cut, Gather, History, Hold, IsNewest, Kind, Member, Plan, Prepare, Release, SetRow, Snapshot, State, Tied, and_three, comes, has_said}
+use Rattle.vss_world.proofs.Words.{held_parts, held_point, history_at, history_in, history_of, image_runs, images_in_time, in_progress, is_among, is_held, is_kept_set, is_snapshot, is_to_come}
+use Rattle.vss_world.proofs.Words.{kind_is, newest_image, number_of, orderly, plain, point_in, provided, provided_of, state, tied, used, used_by}
+use Rattle.vss_model.proofs.Words.{IsOf}
+use Rattle.set_agenda.specs.declared.kind.Kind.TheVariants.{Complete}
 use Rattle.set_agenda.specs.Agenda.{is_held as agenda_holds}
-use Rattle.scenario.specs.Plan.{Plan}
-use Rattle.vss_model.specs.State.{State, SetRow, in_progress, history_in, history_of, is_held}
-use Rattle.vss_model.specs.Acts.{Act, state}
-use Rattle.vss_model.specs.Facts.{IsNewest}
-use Rattle.vss_model.proofs.HeldOfSet.{IsOf, Tied, tied}
-use Rattle.vss_model.proofs.HeldImage.{image_runs, held_point}
-use Rattle.vss_model.proofs.NewestImage.{newest_image}
-use Rattle.vss_model.proofs.OneCut.{images_in_time}
-use Rattle.vss_model.proofs.Rows.{kind_is}
-use Rattle.vss_world.specs.Provided.{is_to_come, comes, number_of, provided_of, provided}
-use Rattle.vss_world.proofs.Unnamed.{IsUnnamed}
 use Rattle.vss_world.proofs.WithoutImages.{AreUnnamed, none_without}
 use Rattle.vss_world.proofs.CommitLog.{unreleased}
+use Rattle.vss_world.proofs.OnProvided.{on_provided, progress_not_kept, apart_of}
+use Rattle.vss_world.proofs.Unnamed.{IsUnnamed, used_without, used_by_without}
 
 -- ## where an image is to come
 
@@ -53,29 +42,17 @@ has_snapshot_set s acts a runs snapshot e =
     let st = state s acts in
     no_set_is a.kind a.volumes a.members st.course.members (in_progress st) (kind_is a.kind snapshot) e (subst (λ (o : Option Agenda). Tied o st.course.members (in_progress st)) runs (tied s acts))
 
-to_come_parts : (a b c : Bool) → (a && b && not c) ≡ true → (a ≡ true) × (b ≡ true) × (c ≡ false)
-to_come_parts true true true e = cc
-to_come_parts true true false e = (refl, refl, refl)
-to_come_parts true false c e = cc
-to_come_parts false b c e = cc
-
-held_so : (a b c : Bool) → a ≡ true → b ≡ true → c ≡ false → (a && b && not c) ≡ true
-held_so true true false e f g = refl
-held_so true true true e f g = cc
-held_so true false c e f g = cc
-held_so false b c e f g = cc
-
 -- where it stands in the definitions its volume is held
 pub held_to_come : (s : Plan) (acts : List Act) (r : SetRow) (v p : ℕ) → in_progress (state s acts) ≡ Some r → is_to_come (state s acts).course.agenda v ≡ true
     → point_in r.number (history_of (state s acts) v).images ≡ Some p → is_held (state s acts) v ≡ true
 held_to_come s acts r v p e coming has =
     let st = state s acts in
     let h = image_runs s acts r v p e has in
-    let parts = to_come_parts (is_snapshot h.agenda.kind) (has_said h.agenda.log (plain Cut) 0) (has_said h.agenda.log (plain Commit) v)
+    let parts = held_parts (is_snapshot h.agenda.kind) (has_said h.agenda.log (plain Cut) 0) (has_said h.agenda.log (plain Commit) v)
     (subst (λ (o : Option Agenda). is_to_come o v ≡ true) h.runs coming) in
     let among : is_among v h.agenda.volumes ≡ true = ap (is_among v) (agenda_volumes s acts h.agenda r h.runs h.snapshot e) ∙ h.among in
     subst (λ (o : Option Agenda). agenda_holds o v ≡ true) (sym h.runs)
-    (held_so (is_snapshot h.agenda.kind) (has_said h.agenda.log (plain Hold) v) (has_said h.agenda.log (plain Release) v) h.snapshot h.hold (unreleased s acts h.agenda v h.runs among parts.2))
+    (and_three (is_snapshot h.agenda.kind) (has_said h.agenda.log (plain Hold) v) (has_said h.agenda.log (plain Release) v) h.snapshot h.hold (unreleased s acts h.agenda v h.runs among parts.2))
 
 -- and it is the newest, and names no block
 pub unnamed_at : (s : Plan) (acts : List Act) (r : SetRow) (v : ℕ) → in_progress (state s acts) ≡ Some r → is_to_come (state s acts).course.agenda v ≡ true
@@ -112,3 +89,22 @@ all_unnamed s acts k h at coming = by_set (in_progress (state s acts)) refl comi
     by_set : (o : Option SetRow) → in_progress (state s acts) ≡ o → comes o (state s acts).course.agenda k ≡ true → IsUnnamed (number_of o) h
     by_set None e coming = cc
     by_set (Some r) e coming = subst (λ (x : History). IsUnnamed r.number x) (ap history_in at) (unnamed_at s acts r k e coming)
+
+-- ## slots
+
+pub used_at : (s : Plan) (acts : List Act) (v blocks : ℕ)
+    → used blocks (history_at (provided (state s acts)) v).writes (history_at (provided (state s acts)) v).images ≡ used blocks (history_of (state s acts) v).writes
+    (history_of (state s acts) v).images
+used_at s acts v blocks =
+    let h = history_of (state s acts) v in
+    on_provided (λ x. used blocks x.writes x.images ≡ used blocks h.writes h.images) (state s acts) v refl (λ r e coming. used_without blocks r.number h (unnamed_at s acts r v e coming))
+
+-- those of the image of a complete set
+pub used_by_at : (s : Plan) (acts : List Act) (n v blocks : ℕ) → is_kept_set (state s acts) n ≡ true
+    → used_by blocks (history_at (provided (state s acts)) v).writes (history_at (provided (state s acts)) v).images n ≡ used_by blocks (history_of (state s acts) v).writes
+    (history_of (state s acts) v).images n
+used_by_at s acts n v blocks complete =
+    let st = state s acts in
+    let h = history_of st v in
+    on_provided (λ x. used_by blocks x.writes x.images n ≡ used_by blocks h.writes h.images n) st v refl
+    (λ r e coming. used_by_without blocks r.number n h (apart_of st r.number n (progress_not_kept st r (orderly s acts).numbered e) complete) (unnamed_at s acts r v e coming))

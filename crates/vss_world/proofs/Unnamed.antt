@@ -1,15 +1,8 @@
 -- An image that is the newest of its volume and names no block: without it the volume's images use the same slots, and need as many.
-use Rattle.std.proofs.Common.{◌≡◌, ℕ, ◌+◌, ◌<◌, ◌≤◌, ◌==◌, List, [], ◌∷◌, ◌++◌, length, refl, ap, sym, ◌∙◌, subst, arith, Bool, true, false, Option, Some, None, ◌⊎◌, inl, inr, map, drop}
-use Rattle.std.specs.Prelude.{not, if◌then◌else◌, slice_range}
-use Rattle.std.proofs.Math.Seq.{drop-length}
-use Rattle.std.proofs.lemmas.List.{append-nil}
-use Rattle.std.proofs.lemmas.List.Folds.{drop_split}
-use Rattle.std.specs.List.{range_with_len}
-use Rattle.std.proofs.lemmas.Bool.{eq-eqb, ne_eqb}
-use Rattle.write_history.specs.History.{Write, Image, History, blocks_named, point_in, without_set, AreLater, AreInTime}
-use Rattle.write_history.specs.Slots.{Copy, writes_since, named, used, used_by, copy_of, copies_of}
-use Rattle.vss_model.specs.Facts.{IsNewest}
-use Rattle.vss_model.proofs.HeldImage.{no_names}
+use Rattle.std.proofs.Common.{◌≡◌, ℕ, ◌+◌, ◌<◌, ◌≤◌, ◌==◌, List, [], ◌∷◌, ◌++◌, length, refl, ap, sym, ◌∙◌, subst, arith, Bool, true, false, Option, Some, None, ◌⊎◌, inl, inr, map, drop, not}
+use Rattle.std.proofs.Common.{if◌then◌else◌, slice_range}
+use Rattle.vss_world.proofs.Words.{AreInTime, AreLater, Copy, History, Image, IsNewest, Write, append-nil, blocks_named, copies_of, copy_of, drop-length, drop_split, eq-eqb, named, ne_eqb, no_names}
+use Rattle.vss_world.proofs.Words.{point_in, range_with_len, used, used_by, without_set, writes_since}
 
 -- no image of the set stands, or it is the newest, cut at the present end
 abbrev pub IsUnnamed : ℕ → History → Type 0

@@ -1,11 +1,7 @@
 -- Histories without the image of a set on some volumes: what is done to the volumes is done to these likewise.
-use Rattle.std.proofs.Common.{◌≡◌, ℕ, zero, suc, ◌+◌, ◌==◌, List, [], ◌∷◌, ◌++◌, refl, ap, sym, ◌∙◌, Bool, true, false, Some, map, filter, slice_get}
-use Rattle.std.specs.Prelude.{not, nat_lt, if◌then◌else◌, option_map}
-use Rattle.std.proofs.lemmas.Bool.{true≢false}
-use Rattle.write_history.specs.History.{Write, Image, History, dropped, written, without_set, after_set}
-use Rattle.write_history.specs.Slots.{Placed, Copy, gone_up_to, group_used, used, copies_from, copies_of}
-use Rattle.set_agenda.specs.Course.{change_at}
-use Rattle.vss_world.specs.Provided.{dropped_if, without}
+use Rattle.std.proofs.Common.{◌≡◌, ℕ, zero, suc, ◌+◌, ◌==◌, List, [], ◌∷◌, ◌++◌, refl, ap, sym, ◌∙◌, Bool, true, false, Some, map, filter, slice_get, not, nat_lt, if◌then◌else◌, option_map}
+use Rattle.vss_world.proofs.Words.{Copy, History, Image, Placed, Write, after_set, change_at, copies_from, copies_of, dropped, dropped_if, gone_up_to, group_used, true≢false, used, without}
+use Rattle.vss_world.proofs.Words.{without_set, written}
 use Rattle.vss_world.proofs.Unnamed.{IsUnnamed, used_without, copies_without}
 
 -- ## lists

@@ -1,30 +1,12 @@
 -- What a step does to the provider: a line writes a block, for which kept images may go; and where a move of the sessions ends the set
 -- that is prepared, the provider prepares none any more. (This project's own.)
 use Rattle.std.specs.Prelude.{ℕ, ◌≡◌, Bool, true, false, zero, suc, List, [], filter, Option, Some, None, Result, Ok, Err}
-use Rattle.volume_device.specs.declared.device.Device.{Ghosts}
-use Rattle.vss_names.specs.declared.set_outcome.SetOutcome.{SetOutcome}
-use Rattle.vss_names.specs.declared.set_outcome.SetOutcome.TheVariants.{Running, Complete, Failed}
-use Rattle.vss_names.specs.declared.vss_result.VssResult.TheVariants.{AsyncPending}
-use Rattle.block_data.specs.PayloadBytes.{payload_bytes}
-use Rattle.write_history.specs.declared.evicted.Evicted.{Evicted}
-use Rattle.write_history.specs.History.{Write}
-use Rattle.write_history.specs.Slots.{gone_up_to}
-use Rattle.cow_volume.specs.declared.cause.Cause.{Cause}
-use Rattle.scenario.specs.declared.op.Op.{Op}
+use Rattle.vss_model.specs.Words.{AsyncPending, Complete, Evicted, Failed, Op, Plan, Running, SetOutcome, State, Told, Write, Writes, gone_up_to, group_of, is_kept_set, line_of}
+use Rattle.provider.specs.Words.{Cause, Ghosts, payload_bytes}
+use Rattle.vss_world.specs.Words.{AreGroups, AreWithout, GoUpTo, HasRoom, IfStandFor, IsCallOn, Keeps, ProviderValue, SessionMove, SessionsValue, devices_of, images_going}
 use Rattle.scenario.specs.declared.op.Op.TheVariants.{Snapshot}
 use Rattle.scenario.specs.declared.line.Line.{Line}
-use Rattle.scenario.specs.declared.line.Line.TheVariants.{Writes}
-use Rattle.scenario.specs.Calls.{line_of}
-use Rattle.scenario.specs.Plan.{Plan, group_of}
-use Rattle.vss_model.specs.declared.told.Told.{Told}
 use Rattle.vss_model.specs.declared.told.Told.TheVariants as told
-use Rattle.vss_model.specs.State.{State, is_kept_set}
-use Rattle.provider.specs.Groups.{AreGroups, IfStandFor}
-use Rattle.provider.specs.Devices.{devices_of, IsCallOn}
-use Rattle.provider.specs.Calls.{AreWithout, GoUpTo, HasRoom, images_going}
-use Rattle.provider.specs.Preparing.{ProviderValue}
-use Rattle.sessions.specs.Keeps.{SessionsValue, Keeps}
-use Rattle.sessions.specs.declared.session_move.SessionMove.{SessionMove}
 
 -- ## a line that writes
 

@@ -1,15 +1,10 @@
 -- The devices of all groups as one list, in the order in which they are given back. What is said of the two devices of a volume, its
 -- own and that of its group's area: that they hold its content, and that one of them failed. (This project's own.)
 use Rattle.std.specs.Prelude.{ℕ, ◌≡◌, ◌<◌, ◌+◌, ◌⊎◌, true, List, length, Option, Some, None, is_some, slice_get}
-use Rattle.write_history.specs.History.{History, contents}
-use Rattle.write_history.specs.Slots.{copies}
-use Rattle.scenario.specs.declared.volume_row.VolumeRow.{VolumeRow}
-use Rattle.scenario.specs.Plan.{Plan}
-use Rattle.diff_area.specs.Copies.{AreStored}
-use Rattle.cow_volume.specs.GroupValue.{placed}
-use Rattle.scenario.specs.Places.{of_group, blocks_in_group}
+use Rattle.vss_model.specs.Words.{History, Plan, VolumeRow, blocks_in_group, contents, copies, of_group}
+use Rattle.provider.specs.Words.{AreStored, placed}
+use Rattle.vss_world.specs.Words.{RoseAlone, area_place, first_place, volume_place, volumes_area}
 pub use Rattle.provider.specs.Devices.{told_of, told_by, told_at, tells_from, tells_of, HasFailed}
-use Rattle.provider.specs.Devices.{RoseAlone, first_place, area_place, volume_place, volumes_area}
 
 -- ## what is held
 

@@ -5,3 +5,4 @@ pub mod Quiet
 pub mod Reading
 pub mod Changes
 pub mod Provided
+pub mod Words

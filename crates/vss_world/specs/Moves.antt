@@ -1,26 +1,11 @@
 -- What a step of the core promises: it waits exactly where the event is not enabled, and else it is answered as defined, and stands for
 -- the acts with this one. (This project's own.)
 use Rattle.std.specs.Prelude.{ℕ, ◌≡◌, ◌<◌, Bool, true, false, List, [], ◌∷◌, ◌++◌, length, map, if◌then◌else◌, Option, Some, None, slice_get}
-use Rattle.vss_names.specs.declared.set_outcome.SetOutcome.TheVariants.{Running}
-use Rattle.writer_state.specs.declared.writer_row.WriterRow.{WriterRow}
-use Rattle.set_agenda.specs.declared.group.Group.TheVariants.{Flush}
-use Rattle.scenario.specs.declared.op.Op.{Op}
+use Rattle.vss_model.specs.Words.{Act, Answer as AnswerEvent, Event, Flush, IsOp, IsOutcome, Line, Op, Outcome, Plan, Provider, Reads, Reverts, Running, ShowsBlock, ShowsImage, Told, WriterRow}
+use Rattle.vss_model.specs.Words.{Writes, after, enabled, event_allows, is_fault, line_of, mark_of, state, told_act}
+use Rattle.vss_world.specs.Words.{AreLater, takes_memory as takes_for, volume_place}
 use Rattle.scenario.specs.declared.line.Line.{Line as Does}
-use Rattle.scenario.specs.declared.line.Line.TheVariants.{Writes, Reads, ShowsImage, ShowsBlock, Reverts}
-use Rattle.scenario.specs.Calls.{line_of}
-use Rattle.scenario.specs.Plan.{Plan}
-use Rattle.scenario.specs.Bounds.{IsOp}
-use Rattle.vss_model.specs.declared.event.Event.{Event}
-use Rattle.vss_model.specs.declared.event.Event.TheVariants.{Line, Answer as AnswerEvent, Provider}
-use Rattle.vss_model.specs.declared.outcome.Outcome.{Outcome}
-use Rattle.vss_model.specs.declared.told.Told.{Told}
 use Rattle.vss_model.specs.declared.told.Told.TheVariants as told
-use Rattle.vss_model.specs.Acts.{Act, state, after, enabled, event_allows}
-use Rattle.vss_model.specs.Told.{mark_of}
-use Rattle.vss_model.specs.Trail.{is_fault}
-use Rattle.vss_model.specs.Outcome.{IsOutcome, told_act}
-use Rattle.sessions.specs.Moves.{takes_memory as takes_for}
-use Rattle.provider.specs.Devices.{AreLater, volume_place}
 use Rattle.vss_world.specs.declared.reply.Reply.{Reply}
 use Rattle.vss_world.specs.declared.reply.Reply.TheVariants.{Blocked, Moved}
 use Rattle.vss_world.specs.Devices.{tells_of, RoseFor}
@@ -48,15 +33,12 @@ volume_by (ShowsBlock n v b) = Some v
 volume_by (Reverts n v) = Some v
 volume_by _ = None
 
-abbrev pub volume_of_line : Op → Option ℕ
-volume_of_line op = volume_by (line_of op)
-
 abbrev pub volume_of_step : Told → Option ℕ
 volume_of_step (told.Step g v fault) = v
 volume_of_step _ = None
 
 abbrev pub volume_of : Event → Told → Option ℕ
-volume_of (Line lane op) answer = volume_of_line op
+volume_of (Line lane op) answer = volume_by (line_of op)
 volume_of Provider answer = volume_of_step answer
 volume_of _ answer = None
 

@@ -2,10 +2,7 @@
 -- them in the Commit step of its volume. Until then the volume is held, so that the image names no block and is the newest. (That each
 -- volume has a step of its own is after the SDK's sequence of a snapshot's creation; the rest is this project's own.)
 use Rattle.std.specs.Prelude.{ℕ, Bool, true, false, suc, List, [], ◌∷◌, ◌&&◌, not, Option, Some, None}
-use Rattle.write_history.specs.History.{History, dropped}
-use Rattle.set_agenda.specs.declared.group.Group.TheVariants.{Cut, Commit}
-use Rattle.set_agenda.specs.Agenda.{Agenda, plain, has_said, is_snapshot}
-use Rattle.vss_model.specs.State.{State, SetRow, in_progress}
+use Rattle.vss_model.specs.Words.{Agenda, Commit, Cut, History, SetRow, State, dropped, has_said, in_progress, is_snapshot, plain}
 
 -- the image of the set in progress is still to come on volume v: the Cut step was made, and the volume's Commit step was not
 abbrev pub is_to_come : Option Agenda → ℕ → Bool

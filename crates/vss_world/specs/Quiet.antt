@@ -1,21 +1,11 @@
 -- The beginning: the groups and the sessions before any act, with the scenario's writers, who are registered one after another. And the
 -- calls that are no acts: they leave what the core stands for as it was. (This project's own.)
 use Rattle.std.specs.Prelude.{ℕ, ◌≡◌, List, [], length, map, take, Option, Some, None, slice_get}
-use Rattle.write_history.specs.History.{History, contents, fresh, sets_of}
-use Rattle.write_history.specs.Slots.{used}
-use Rattle.scenario.specs.declared.volume_row.VolumeRow.{VolumeRow}
-use Rattle.set_agenda.specs.Course.{course_start}
-use Rattle.coordinator.specs.Coordinator.{CoordinatorState, Registered, Stands as CoordinatorStands, IsOnTime, writer_count}
-use Rattle.scenario.specs.Plan.{Plan, GroupPlan, WriterPlan, token}
-use Rattle.cow_volume.specs.GroupValue.{GroupValue}
-use Rattle.cow_volume.specs.StandsFor.{StandsFor}
-use Rattle.vss_model.specs.State.{history_of, kept, row_of_writer, start}
-use Rattle.vss_model.specs.Acts.{Act, state}
-use Rattle.sessions.specs.Keeps.{SessionsValue, Keeps, IsOf as IsSessionsOf}
-use Rattle.provider.specs.Preparing.{ProviderValue}
-use Rattle.scenario.specs.Places.{blocks_in_group}
-use Rattle.provider.specs.Groups.{AreGroups}
-use Rattle.provider.specs.Devices.{AreLater, area_place}
+use Rattle.vss_model.specs.Words.{Act, GroupPlan, History, Plan, VolumeRow, WriterPlan, blocks_in_group, contents, course_start, fresh, history_of, kept, row_of_writer, sets_of, start, state, token}
+use Rattle.vss_model.specs.Words.{used}
+use Rattle.provider.specs.Words.{GroupValue, StandsFor}
+use Rattle.vss_world.specs.Words.{AreGroups, AreLater, CoordinatorState, IsOf as IsSessionsOf, IsOnTime, Keeps, ProviderValue, Registered, SessionsValue, Stands as CoordinatorStands, area_place}
+use Rattle.vss_world.specs.Words.{writer_count}
 use Rattle.vss_world.specs.Provided.{provided}
 use Rattle.vss_world.specs.Devices.{tells_of, told_by, AreaHolds}
 use Rattle.vss_world.specs.Stands.{WorldValue, IsOf, Stands}

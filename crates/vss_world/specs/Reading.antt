@@ -2,20 +2,10 @@
 -- groups stand for as it was. (This project's own.)
 use Rattle.std.specs.Prelude.{ℕ, ◌≡◌, ◌<◌, Bool, true, false, List, length, take, Option, Some, None, IfSome, slice_get}
 use Rattle.std.specs.List.{concat}
-use Rattle.hex.specs.Hex.{IsBytes}
-use Rattle.block_data.specs.Digest.{sha256}
-use Rattle.lent_digests.specs.declared.digested.Digested.{Digested}
-use Rattle.write_history.specs.History.{content, contents, point_in}
-use Rattle.scenario.specs.Plan.{Plan, blocks_of}
-use Rattle.vss_model.specs.declared.told.Told.{Told}
+use Rattle.vss_model.specs.Words.{IsDigestIf, Plan, State, Told, blocks_of, content, contents, history_of, kept, point_in}
+use Rattle.provider.specs.Words.{Cause, Digested, Ghosts, IsBytes, sha256}
+use Rattle.vss_world.specs.Words.{HasCause, HasImage, IfShown, IsDigestTold, IsQuiet, ProviderValue}
 use Rattle.vss_model.specs.declared.told.Told.TheVariants as told
-use Rattle.vss_model.specs.State.{State, history_of, kept}
-use Rattle.vss_model.specs.Told.{IsDigestIf}
-use Rattle.provider.specs.Devices.{HasCause}
-use Rattle.provider.specs.Calls.{IsQuiet, HasImage, IfShown, IsDigestTold}
-use Rattle.provider.specs.Preparing.{ProviderValue}
-use Rattle.volume_device.specs.declared.device.Device.{Ghosts}
-use Rattle.cow_volume.specs.declared.cause.Cause.{Cause}
 use Rattle.vss_world.specs.declared.fingerprint.Fingerprint.{Fingerprint}
 
 pub record IsFingerprint (bytes : List ℕ) (f : Fingerprint) : Type 0 where
@@ -64,7 +54,8 @@ IsSeenIf blocks_told s old new v set Seen (Some answer) = HasImage blocks_told s
 -- the digest is that of all blocks of volume v, or of those that the kept image of a set on it shows, as far as the volume tells
 abbrev pub IsDigestOf : List Bool → Plan → State → ℕ → Option ℕ → List ℕ → Type 0
 IsDigestOf tells s st v None digest = IsDigestIf (slice_get tells v) (concat (contents (blocks_of s v) (history_of st v).writes (length (history_of st v).writes))) digest
-IsDigestOf tells s st v (Some set) digest = (point : ℕ) → point_in set (kept st (history_of st v)) ≡ Some point → IsDigestIf (slice_get tells v) (concat (contents (blocks_of s v) (history_of st v).writes point)) digest
+IsDigestOf tells s st v (Some set) digest = (point : ℕ) → point_in set (kept st (history_of st v)) ≡ Some point
+    → IsDigestIf (slice_get tells v) (concat (contents (blocks_of s v) (history_of st v).writes point)) digest
 
 -- where there is a digest it is that of what it is said to be of
 abbrev pub IsDigestedIf : List Bool → Plan → State → Digested → Type 0

@@ -2,18 +2,8 @@
 -- images of the set in progress that are still to come; the provider prepares the set in progress; and its other parts stand for the
 -- rest of the state. (This project's own.)
 use Rattle.std.specs.Prelude.{ℕ, ◌≡◌, ◌<◌, ◌≤◌, ◌*◌, true, List, [], ◌∷◌, length, if◌then◌else◌, Option, Some, None}
-use Rattle.set_agenda.specs.declared.member.Member.{Member}
-use Rattle.set_agenda.specs.Agenda.{Agenda, is_snapshot}
-use Rattle.set_agenda.specs.Begin.{are_distinct}
-use Rattle.scenario.specs.Plan.{Plan}
-use Rattle.write_history.specs.declared.evicted.Evicted.{Evicted}
-use Rattle.vss_model.specs.State.{State, SetRow, in_progress}
-use Rattle.vss_model.specs.Sessions.{volumes_of}
-use Rattle.vss_model.specs.Acts.{Act, state}
-use Rattle.provider.specs.Groups.{AreGroups, HasGroups}
-use Rattle.provider.specs.Devices.{devices_of}
-use Rattle.provider.specs.Preparing.{ProviderValue}
-use Rattle.sessions.specs.Keeps.{SessionsValue, Keeps, IsOf as IsSessionsOf}
+use Rattle.vss_model.specs.Words.{Act, Agenda, Evicted, Member, Plan, SetRow, State, are_distinct, in_progress, is_snapshot, state, volumes_of}
+use Rattle.vss_world.specs.Words.{AreGroups, HasGroups, IsOf as IsSessionsOf, Keeps, ProviderValue, SessionsValue, devices_of}
 use Rattle.vss_world.specs.Provided.{provided}
 
 -- what a contract sees: the devices, in the order in which they are given back; the lists that the last step told beside its outcome;

@@ -1,5 +1,4 @@
-use Rattle.std.proofs.Common.{List, sym, subst}
-use Rattle.std.specs.Prelude.{All}
+use Rattle.std.proofs.Common.{List, sym, subst, All}
 use Rattle.lent_digests.specs.declared.lent_blocks.LentBlocks.{LentBlocks}
 use Rattle.provider.specs.Calls.{IsLentRow}
 use Rattle.provider.proofs.LentRows.{digested_all}

@@ -1,6 +1,5 @@
 use Rattle.std.proofs.Common.{ap, ◌∙◌, Err}
-use Rattle.coordinator.specs.declared.register_fault.RegisterFault.{RegisterFault}
-use Rattle.coordinator.specs.Coordinator.{double_of}
+use Rattle.vss_world.specs.Words.{RegisterFault, double_of}
 use Rattle.vss_world.proofs.Registering.{no_double, registers}
 use Rattle.vss_world.proofs.beginning.register.Goals as goal
 

@@ -1,9 +1,9 @@
 use Rattle.std.proofs.Common.{arith, subst, sym}
 use Rattle.provider.specs.Preparing.{CanCutOn, ProviderValue}
-use Rattle.provider.proofs.Keeping.{provider_kept}
 use Rattle.provider.proofs.Found.{found_by, group_low, inside}
 use Rattle.provider.proofs.Called.{called, cut_of, newest_of, room_of}
 use Rattle.provider.proofs.provider.Provider.commit.Goals as goal
+use Rattle.provider.proofs.Kept.{provider_kept}
 
 pub index_mut-requires : goal.index_mut-requires
 index_mut-requires g c = let low = group_low c.self.view_is c.requires.has c.place-place.ensures in omega (arith, low, c.self.inside.groups.ok.0)

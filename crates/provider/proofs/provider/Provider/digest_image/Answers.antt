@@ -1,9 +1,9 @@
 use Rattle.std.proofs.Common.{arith, refl, Some}
 use Rattle.std.proofs.lemmas.Result.{IfOk-weaker}
-use Rattle.provider.proofs.Keeping.{provider_kept}
 use Rattle.provider.proofs.Found.{digest_shown, found_by, group_low, inside}
 use Rattle.provider.proofs.Called.{called, image_cause_of, quiet_of}
 use Rattle.provider.proofs.provider.Provider.digest_image.Goals as goal
+use Rattle.provider.proofs.Kept.{provider_kept}
 
 pub index_mut-group-requires : goal.index_mut-group-requires
 index_mut-group-requires g c = let low = group_low c.self.view_is c.requires.has c.place-place.ensures in omega (arith, low, c.self.inside.groups.ok.0)

@@ -1,5 +1,5 @@
-use Rattle.provider.proofs.Keeping.{provider_kept}
 use Rattle.provider.proofs.provider.Provider.drop_set.Goals as goal
+use Rattle.provider.proofs.Kept.{provider_kept}
 
 pub invariant_of-self : goal.invariant_of-self
 invariant_of-self g c =

@@ -1,8 +1,8 @@
 use Rattle.std.proofs.Common.{arith, refl}
-use Rattle.provider.proofs.Keeping.{provider_kept}
 use Rattle.provider.proofs.Found.{found_by, group_low, inside, on_ok}
 use Rattle.provider.proofs.Called.{called, cause_of, flush_lasts, flush_rose, quiet_of}
 use Rattle.provider.proofs.provider.Provider.flush.Goals as goal
+use Rattle.provider.proofs.Kept.{provider_kept}
 
 pub index_mut-requires : goal.index_mut-requires
 index_mut-requires g c = let low = group_low c.self.view_is c.requires.has c.place-place.ensures in omega (arith, low, c.self.inside.groups.ok.0)

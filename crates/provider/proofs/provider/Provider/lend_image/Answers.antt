@@ -1,6 +1,5 @@
-use Rattle.std.specs.Prelude.{is_some, IfOk}
-use Rattle.std.proofs.Common.{◌≡◌, Some, true, false}
-use Rattle.std.proofs.lemmas.Result.{IfErr-weaker, IfOk-weaker}
+use Rattle.std.proofs.Common.{is_some, IfOk, ◌≡◌, Some, true, false}
+use Rattle.provider.proofs.Words.{IfErr-weaker, IfOk-weaker}
 use Rattle.write_history.specs.History.{content}
 use Rattle.cow_volume.specs.Parts.{IsLentBy}
 use Rattle.provider.proofs.Found.{below, found_by, image_of, inside, on_ok, shown_of, some_map, there}

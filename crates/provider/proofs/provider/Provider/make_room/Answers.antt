@@ -2,11 +2,11 @@ use Rattle.std.proofs.Common.{◌∙◌, ap, arith, length, map}
 use Rattle.std.proofs.lemmas.List.{length-map}
 use Rattle.write_history.specs.declared.evicted.Evicted.{Evicted}
 use Rattle.provider.specs.Calls.{renumbered}
-use Rattle.provider.proofs.Keeping.{provider_kept}
 use Rattle.provider.proofs.Found.{below, found_by, group_low, inside}
 use Rattle.provider.proofs.Called.{called}
 use Rattle.provider.proofs.Room.{few_within, room_of}
 use Rattle.provider.proofs.provider.Provider.make_room.Goals as goal
+use Rattle.provider.proofs.Kept.{provider_kept}
 
 pub index_mut-group-requires : goal.index_mut-group-requires
 index_mut-group-requires g c = let low = group_low c.self.view_is c.requires.has c.place-place.ensures in omega (arith, low, c.self.inside.groups.ok.0)

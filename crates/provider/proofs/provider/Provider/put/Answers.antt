@@ -1,11 +1,10 @@
 use Rattle.std.proofs.Common.{arith, subst, sym}
-use Rattle.provider.specs.Calls.{HasRoom}
-use Rattle.provider.specs.Preparing.{ProviderValue}
-use Rattle.provider.proofs.Keeping.{provider_kept}
+use Rattle.provider.proofs.Words.{HasRoom, ProviderValue}
 use Rattle.provider.proofs.Found.{below, found_by, group_low, inside}
 use Rattle.provider.proofs.Called.{called, put_of}
 use Rattle.provider.proofs.Room.{room_here}
 use Rattle.provider.proofs.provider.Provider.put.Goals as goal
+use Rattle.provider.proofs.Kept.{provider_kept}
 
 pub index_mut-requires : goal.index_mut-requires
 index_mut-requires g c = let low = group_low c.self.view_is c.requires.has c.place-place.ensures in omega (arith, low, c.self.inside.groups.ok.0)

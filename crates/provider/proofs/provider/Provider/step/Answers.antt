@@ -1,10 +1,5 @@
-use Rattle.std.proofs.Common.{◌≡◌, ℕ, List, Option, refl, sym, subst}
-use Rattle.std.specs.Prelude.{◌≢◌}
-use Rattle.write_history.specs.History.{History}
-use Rattle.set_agenda.specs.declared.group.Group.{Group}
-use Rattle.set_agenda.specs.declared.group.Group.TheVariants.{Commit}
-use Rattle.provider.specs.Groups.{AreGroups}
-use Rattle.provider.specs.Preparing.{step_taken}
+use Rattle.std.proofs.Common.{◌≡◌, ℕ, List, Option, refl, sym, subst, ◌≢◌}
+use Rattle.provider.proofs.Words.{AreGroups, Commit, Group, History, step_taken}
 use Rattle.provider.proofs.Kept.{kept_same}
 use Rattle.provider.proofs.provider.Provider.step.Goals as goal
 

@@ -1,9 +1,8 @@
 use Rattle.std.proofs.Common.{refl, ap, arith, length}
-use Rattle.provider.specs.Preparing.{ProviderValue}
-use Rattle.cow_volume.proofs.DeviceCalls.{device_read}
-use Rattle.provider.proofs.Keeping.{provider_kept}
+use Rattle.provider.proofs.Words.{ProviderValue, device_read}
 use Rattle.provider.proofs.Ended.{sync_cause, sync_lasts, sync_of}
 use Rattle.provider.proofs.provider.Provider.sync.Goals as goal
+use Rattle.provider.proofs.Kept.{provider_kept}
 
 pub invariant_of-self : goal.invariant_of-self
 invariant_of-self g c =

@@ -1,9 +1,7 @@
 use Rattle.std.proofs.Common.{◌∙◌}
-use Rattle.scenario.specs.Plan.{blocks_of}
-use Rattle.vss_model.specs.Acts.{state}
-use Rattle.vss_world.specs.Provided.{provided}
-use Rattle.vss_world.proofs.Used.{used_at}
+use Rattle.vss_world.proofs.Words.{blocks_of, provided, state}
 use Rattle.vss_world.proofs.world.World.used.Goals as goal
+use Rattle.vss_world.proofs.ToCome.{used_at}
 
 pub returns : goal.returns
 returns g c acts stands =

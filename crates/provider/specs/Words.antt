@@ -1,0 +1,27 @@
+-- The words of devices and of volumes on them, from one place.
+pub use Rattle.block_data.specs.Digest.{sha256}
+pub use Rattle.block_data.specs.Hashed.{HasTaken}
+pub use Rattle.block_data.specs.PayloadBytes.{payload_bytes}
+pub use Rattle.block_data.specs.declared.hasher.Hasher.{Hasher}
+pub use Rattle.block_data.specs.declared.payload.Payload.{Payload}
+pub use Rattle.cow_volume.specs.Calls.{AreaRose, DeviceRose, HasCauseAt, HasImageCause, IsChanged, IsEvicted, IsKept, IsNow, IsQuiet, IsRevert, IsSameDevice, IsUnfailed, VolumeRose, blocks_at}
+pub use Rattle.cow_volume.specs.Calls.{blocks_in, changed_at, history_at, history_in, is_among, made_room, sets_at, sets_in}
+pub use Rattle.cow_volume.specs.Changes.{gone_row}
+pub use Rattle.cow_volume.specs.Ending.{AllTell, IsSync, IsSynced}
+pub use Rattle.cow_volume.specs.GroupValue.{GroupValue, placed}
+pub use Rattle.cow_volume.specs.Parts.{IsUnseen}
+pub use Rattle.cow_volume.specs.Room.{HasRoom, gone_group, holders, images_going, lacks_slot}
+pub use Rattle.cow_volume.specs.StandsFor.{StandsFor, told_in}
+pub use Rattle.cow_volume.specs.Steps.{IsPutOr}
+pub use Rattle.cow_volume.specs.declared.cause.Cause.{Cause}
+pub use Rattle.cow_volume.specs.declared.cause.Cause.TheVariants.{Area, NoSuchBlock, Volume}
+pub use Rattle.cow_volume.specs.declared.image_fault.ImageFault.{ImageFault}
+pub use Rattle.cow_volume.specs.declared.image_fault.ImageFault.TheVariants.{NoSuchImage}
+pub use Rattle.cow_volume.specs.declared.revert_fault.RevertFault.{RevertFault}
+pub use Rattle.cow_volume.specs.declared.revert_fault.RevertFault.TheVariants.{Fault}
+pub use Rattle.diff_area.specs.Copies.{AreStored}
+pub use Rattle.hex.specs.Hex.{IsBytes}
+pub use Rattle.lent_digests.specs.Lent.{IsDigestIfLent, IsDigestOf, bytes_of}
+pub use Rattle.lent_digests.specs.declared.digested.Digested.{Digested}
+pub use Rattle.lent_digests.specs.declared.lent_blocks.LentBlocks.{LentBlocks}
+pub use Rattle.volume_device.specs.declared.device.Device.{Ghosts}

@@ -1,0 +1,27 @@
+-- The lemmas of the model and of what is below it that crates above it cite, from one place.
+pub use Rattle.scenario.proofs.Groups.{get_some_left}
+pub use Rattle.scenario.proofs.Places.{number_is, one_place, same_number}
+pub use Rattle.set_agenda.proofs.CourseRule.{IsKeptInCourse, course_answered, course_begun, course_stepped, course_timed}
+pub use Rattle.set_agenda.proofs.WriterSets.{and-true, new-is, or-false}
+pub use Rattle.vss_model.proofs.Appending.{state-append}
+pub use Rattle.vss_model.proofs.AtCut.{IsAtCut, all_said, and_three, cut_is_open, cuts}
+pub use Rattle.vss_model.proofs.ByEvent.{Covers, after_by, by_if, covered}
+pub use Rattle.vss_model.proofs.Completed.{image_once_cut}
+pub use Rattle.vss_model.proofs.CourseCalls.{Call, IsCall, Settles, call_answered, call_timed}
+pub use Rattle.vss_model.proofs.CutStep.{after_provider}
+pub use Rattle.vss_model.proofs.Failures.{live_at, no_live_below}
+pub use Rattle.vss_model.proofs.FewerImages.{as_many_volumes}
+pub use Rattle.vss_model.proofs.FlushFails.{outcome_is_running}
+pub use Rattle.vss_model.proofs.Gathered.{named_known_components}
+pub use Rattle.vss_model.proofs.GoingOn.{other_goes}
+pub use Rattle.vss_model.proofs.HeldImage.{held_parts, held_point, image_runs, no_names}
+pub use Rattle.vss_model.proofs.HeldOfSet.{IsOf, Tied, find-row_cut, tied, volumes-row_cut_if}
+pub use Rattle.vss_model.proofs.LogRule.{IsKeptInLog, Running, course-step_made, in_log, unspoken}
+pub use Rattle.vss_model.proofs.NewestImage.{UpTo, images_up_to, newest_image}
+pub use Rattle.vss_model.proofs.OneCut.{ends_settle, images_in_time, newest_number, row_number, uncut_at_cut}
+pub use Rattle.vss_model.proofs.Orderly.{find-append_new, find-map, find-settled_over, find-settled_running, live-filter, numbered-map, true_not_false}
+pub use Rattle.vss_model.proofs.OrderlyActs.{ending_idle, ending_on, none_after, orderly}
+pub use Rattle.vss_model.proofs.RoomForImage.{room_with_image}
+pub use Rattle.vss_model.proofs.Rows.{found_above, has_complete, kind_is, none_below, none_ends, none_over, none_runs, number-cut, running_incomplete, settled_row, some_rows}
+pub use Rattle.vss_model.proofs.Spoken.{fewer_wait, new_said}
+pub use Rattle.vss_model.proofs.Volumes.{as_many_gone}
