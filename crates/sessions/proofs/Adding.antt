@@ -1,40 +1,17 @@
 -- A volume joins the set in progress: what is kept here does not change, and what the volume is refused for is the
 -- provider's to say.
+use Rattle.sessions.proofs.Words.{length-map, Running, VssResult, SessionCall, Stage, Started, Verdict, Go, Session, makes_set, check, is_stage, Plan, Line, Fine, Coded, State, SetRow, in_progress}
+use Rattle.sessions.proofs.Words.{row_changed, runs, ended_of, IsOfSession, add, add_refusal, add_to, change_set, with_volume, line_in, EndsAs, SessionsValue, Keeps, IsInOrder, MayAdd, told_alone}
+use Rattle.sessions.proofs.Words.{other_goes, IsSameRow, numbered-map, same_changed, none_ends, none_runs}
 use Rattle.std.proofs.Common.{◌≡◌, ℕ, refl, ap, sym, ◌∙◌, subst, true, false, Option, Some, None, map}
-use Rattle.std.proofs.lemmas.List.{length-map}
-use Rattle.vss_names.specs.declared.set_outcome.SetOutcome.TheVariants.{Running}
-use Rattle.vss_names.specs.declared.vss_result.VssResult.{VssResult}
-use Rattle.requestor.specs.declared.session_call.SessionCall.{SessionCall}
 use Rattle.requestor.specs.declared.session_call.SessionCall.TheVariants as call
-use Rattle.requestor.specs.declared.stage.Stage.{Stage}
-use Rattle.requestor.specs.declared.stage.Stage.TheVariants.{Started}
-use Rattle.requestor.specs.declared.verdict.Verdict.{Verdict}
-use Rattle.requestor.specs.declared.verdict.Verdict.TheVariants.{Go}
-use Rattle.requestor.specs.Session.{Session, makes_set}
-use Rattle.requestor.specs.Check.{check, is_stage}
 use Rattle.scenario.specs.declared.op.Op.TheVariants as op
-use Rattle.scenario.specs.Plan.{Plan}
-use Rattle.vss_model.specs.declared.event.Event.TheVariants.{Line}
 use Rattle.vss_model.specs.declared.told.Told.TheVariants as told
-use Rattle.vss_model.specs.Reply.{Fine, Coded}
-use Rattle.vss_model.specs.State.{State, SetRow, in_progress, row_changed}
-use Rattle.vss_model.specs.Ending.{runs}
-use Rattle.vss_model.specs.Effects.{ended_of}
-use Rattle.vss_model.specs.Facts.{IsOfSession}
-use Rattle.vss_model.specs.Sessions.{add, add_refusal, add_to, change_set, with_volume, line_in}
-use Rattle.vss_model.specs.Outcome.{EndsAs}
-use Rattle.sessions.specs.Keeps.{SessionsValue, Keeps, IsInOrder}
-use Rattle.sessions.specs.Moves.{MayAdd}
 use Rattle.sessions.proofs.Newest.{unseen_bare}
 use Rattle.sessions.proofs.Moving.{Happens, line_happens}
 use Rattle.sessions.proofs.Lines.{alone, line_of}
 use Rattle.sessions.proofs.Concluding.{no_end, ended_mapped}
 use Rattle.sessions.proofs.Keeping.{keeps_rows}
-use Rattle.sessions.specs.Concluded.{told_alone}
-use Rattle.vss_model.proofs.GoingOn.{other_goes}
-use Rattle.vss_model.proofs.Orderly.{IsSameRow, numbered-map}
-use Rattle.vss_model.proofs.OrderlyActs.{same_changed}
-use Rattle.vss_model.proofs.Rows.{none_ends, none_runs}
 
 -- ## the checks let it go
 

@@ -1,34 +1,15 @@
 -- The session lines that begin an agenda.
+use Rattle.sessions.proofs.Words.{list_any, OutOfMemory, BadState, AsyncPending, row_gathered, Member, Course, begun, gathered, Held, Registered, class_at, are_equal, is_disabled as is_disabled_kept}
+use Rattle.sessions.proofs.Words.{writer_count, members-agree, Op, Plan, WriterPlan, class_of, class_in, Coded, State, SetRow, in_progress, runs, followed, SessionMove, SessionsValue, Keeps, IsOf}
+use Rattle.sessions.proofs.Words.{classes_registered, classes_of, IsAt, CameTo, ComesTo, HasBegun, IsAtOver, told_alone, cond-false, cond-true, Goes, after}
 use Rattle.std.proofs.Common.{◌≡◌, ℕ, zero, suc, ◌+◌, ◌<◌, ◌==◌, List, [], ◌∷◌, length, refl, ap, sym, ◌∙◌, arith, Bool, true, false, Option, Some, None, map, slice_get, subst}
 use Rattle.std.specs.Prelude.{All, not, ◌||◌, IfOk, Result, Ok, Err}
-use Rattle.std.specs.List.{list_any}
-use Rattle.vss_names.specs.declared.out_of_memory.OutOfMemory.{OutOfMemory}
-use Rattle.vss_names.specs.declared.vss_result.VssResult.TheVariants.{BadState, AsyncPending}
-use Rattle.writer_state.specs.WriterRow.{row_gathered}
 use Rattle.set_agenda.specs.declared.kind.Kind.TheVariants as kind
-use Rattle.set_agenda.specs.declared.member.Member.{Member}
-use Rattle.set_agenda.specs.Course.{Course, begun, gathered}
 use Rattle.requestor.specs.declared.session_call.SessionCall.TheVariants as call
-use Rattle.component_doc.specs.Held.{Held}
-use Rattle.coordinator.specs.Coordinator.{Registered, class_at, are_equal, is_disabled as is_disabled_kept, writer_count}
-use Rattle.coordinator.proofs.Members.{members-agree}
-use Rattle.scenario.specs.declared.op.Op.{Op}
 use Rattle.scenario.specs.declared.op.Op.TheVariants as op
-use Rattle.scenario.specs.Plan.{Plan, WriterPlan, class_of, class_in}
 use Rattle.vss_model.specs.declared.told.Told.TheVariants as told
-use Rattle.vss_model.specs.Reply.{Coded}
-use Rattle.vss_model.specs.State.{State, SetRow, in_progress}
-use Rattle.vss_model.specs.Ending.{runs, followed}
 use Rattle.vss_model.specs.Sessions.{line_in, pending, has_no_volume, volumes_of, is_disabled}
-use Rattle.sessions.specs.declared.session_move.SessionMove.{SessionMove}
-use Rattle.sessions.specs.Keeps.{SessionsValue, Keeps, IsOf, classes_registered, classes_of, IsAt}
-use Rattle.sessions.specs.Moves.{CameTo, ComesTo, HasBegun, IsAtOver}
 use Rattle.sessions.proofs.Lines.{line_of, refuses}
-use Rattle.sessions.specs.Concluded.{told_alone}
-use Rattle.std.proofs.lemmas.Bool.{cond-false, cond-true}
-use Rattle.vss_model.proofs.GoingOn.{Goes}
-use Rattle.vss_model.specs.Acts.{after}
-use Rattle.vss_model.specs.Lines.{does}
 
 -- what began, as a line
 pub pends : {s : Plan} {lane : ℕ} {op_ : Op} {st : State} {new : SessionsValue} {m : SessionMove} (c : Course) → line_in s lane op_ st.session st ≡ pending c st

@@ -1,39 +1,17 @@
 -- What follows from a step of the course: an agenda ends, or the set in progress fails.
+use Rattle.sessions.proofs.Words.{length-map, Order, VssResult, SetOutcome, Running, Complete, Failed, History, Agenda, Session, after_agenda, ended, Effects, CoordinatorState, KeepsWriters, Stands}
+use Rattle.sessions.proofs.Words.{IsOnTime, failed_if_running, writer_count, Tells, outcome_told, Told, State, SetRow, is_running, in_progress, ended_of, EndsAs, IsOfSession, NumberedFrom, has_failed}
+use Rattle.sessions.proofs.Words.{found_above, is_over_row, none_ends, none_over, settled_row, settled_running, Ended, SessionMove, bare, current_of, running_in, SessionsValue, Keeps, IsInOrder}
+use Rattle.sessions.proofs.Words.{ended_so, ends_as, failed_set, nothing_ends, told_alone, told_of, without_images, CameTo, Concludes, HasCome, outcome_in, IsSameRow, find-map}
 use Rattle.std.proofs.Common.{◌≡◌, ℕ, ◌<◌, List, [], ◌∷◌, refl, ap, sym, ◌∙◌, subst, arith, Bool, true, false, Option, Some, None, map}
 use Rattle.std.specs.Prelude.{All, ◌&&◌, ◌||◌, not, is_some, find, option_map}
-use Rattle.std.proofs.lemmas.List.{length-map}
-use Rattle.vss_names.specs.declared.order.Order.{Order}
-use Rattle.vss_names.specs.declared.vss_result.VssResult.{VssResult}
-use Rattle.vss_names.specs.declared.set_outcome.SetOutcome.{SetOutcome}
-use Rattle.vss_names.specs.declared.set_outcome.SetOutcome.TheVariants.{Running, Complete, Failed}
-use Rattle.write_history.specs.History.{History}
-use Rattle.set_agenda.specs.Agenda.{Agenda}
 use Rattle.set_agenda.specs.WriterSet.{writers, writers_of}
 use Rattle.set_agenda.specs.Course.{Course, failed as course_failed}
-use Rattle.requestor.specs.Session.{Session}
-use Rattle.requestor.specs.Requestor.{after_agenda, ended}
-use Rattle.coordinator.specs.declared.effects.Effects.{Effects}
-use Rattle.coordinator.specs.Coordinator.{CoordinatorState, KeepsWriters, Stands, IsOnTime, failed_if_running, writer_count}
-use Rattle.coordinator.specs.Effects.{Tells, outcome_told}
-use Rattle.vss_model.specs.declared.told.Told.{Told}
 use Rattle.vss_model.specs.declared.told.Told.TheVariants as told
-use Rattle.vss_model.specs.State.{State, SetRow, is_running, in_progress}
-use Rattle.vss_model.specs.Effects.{ended_of}
-use Rattle.vss_model.specs.Outcome.{EndsAs}
 use Rattle.vss_model.specs.Ending.{Ending, AgendaEnds, NothingEnds, SetFails, ending, row_settled, followed, concluded, failed_in, images_dropped}
-use Rattle.vss_model.specs.Facts.{IsOfSession, NumberedFrom, has_failed}
-use Rattle.vss_model.proofs.Rows.{found_above, is_over_row, none_ends, none_over, settled_row, settled_running}
-use Rattle.sessions.specs.declared.ended.Ended.{Ended}
-use Rattle.sessions.specs.declared.session_move.SessionMove.{SessionMove}
-use Rattle.sessions.specs.Sets.{bare, current_of, running_in}
-use Rattle.sessions.specs.Keeps.{SessionsValue, Keeps, IsInOrder}
-use Rattle.sessions.specs.Concluded.{ended_so, ends_as, failed_set, nothing_ends, told_alone, told_of, without_images}
-use Rattle.sessions.specs.Moves.{CameTo, Concludes, HasCome}
 use Rattle.sessions.proofs.Newest.{changed_none, current_bare, settled_bare, unchanged}
 use Rattle.sessions.proofs.Keeping.{keeps_course, keeps_rows}
 use Rattle.sessions.proofs.Disabled.{disabled_failed}
-use Rattle.vss_model.proofs.FlushFails.{outcome_in}
-use Rattle.vss_model.proofs.Orderly.{IsSameRow, find-map}
 
 pub nobody : writers_of 0 ≡ []
 unfolding writers

@@ -1,50 +1,22 @@
 -- A call of the coordinator is a step of the course, with what follows from it: an answer, a step of the provider, an
 -- agenda that begins, or time that goes by.
+use Rattle.sessions.proofs.Words.{length-map, Order, SetOutcome, Mark, Standing, said_of, Group, left, open_order, open_group, next_volume, is_working, is_asking, order_now, Session, Effects}
+use Rattle.sessions.proofs.Words.{HasTicked}
+use Rattle.sessions.proofs.Words.{CoordinatorState, IsOnTime, KeepsWriters, Stands, writer_count, Tells, lost_order_if as lost_order_kept, ticks_if, standing_in, number_in, by-later, Plan, Tick, Line}
+use Rattle.sessions.proofs.Words.{Answer as AnswerEvent, Provider, Idle, Told, Fine, Answered, Stepped, Idled, State, SetRow, in_progress, left_now, is_cut_group, runs, followed, answer_reply}
+use Rattle.sessions.proofs.Words.{step_reply, flush_allows, idle_now, after, IsOfSession, EndsAs, mark_if, IsSameRow, numbered-map, newest-map, find-map, same_changed, SessionMove, bare}
+use Rattle.sessions.proofs.Words.{running_changed, SessionsValue, Keeps, IsInOrder, CameTo, Concludes, HasCome, stepped_volumes}
 use Rattle.std.proofs.Common.{◌≡◌, ℕ, ◌+◌, ◌<◌, List, [], ◌∷◌, refl, ap, sym, ◌∙◌, subst, arith, Bool, true, false, Option, Some, None, map}
 use Rattle.std.specs.Prelude.{All, is_some, option_map}
-use Rattle.std.proofs.lemmas.List.{length-map}
-use Rattle.vss_names.specs.declared.order.Order.{Order}
-use Rattle.vss_names.specs.declared.set_outcome.SetOutcome.{SetOutcome}
-use Rattle.write_history.specs.declared.mark.Mark.{Mark}
 use Rattle.writer_calls.specs.declared.answer.Answer.{Answer}
-use Rattle.writer_calls.specs.declared.standing.Standing.{Standing}
-use Rattle.writer_calls.specs.Script.{said_of}
-use Rattle.set_agenda.specs.declared.group.Group.{Group}
 use Rattle.set_agenda.specs.declared.group.Group.TheVariants as group
-use Rattle.set_agenda.specs.Agenda.{left, open_order, open_group, next_volume, is_working, is_asking, order_now}
 use Rattle.set_agenda.specs.Course.{Course, sent, lost_writers, answered as course_answered, stepped as course_stepped, timed as course_timed}
-use Rattle.requestor.specs.Session.{Session}
-use Rattle.coordinator.specs.declared.effects.Effects.{Effects}
-use Rattle.coordinator.specs.Coordinator.{CoordinatorState, IsOnTime, KeepsWriters, Stands, writer_count}
-use Rattle.coordinator.specs.Effects.{Tells, lost_order_if as lost_order_kept}
-use Rattle.coordinator.specs.KeptCourse.{ticks_if}
-use Rattle.coordinator.specs.OpenOrders.{standing_in, number_in}
-use Rattle.coordinator.proofs.KeptLimits.{by-later}
-use Rattle.scenario.specs.Plan.{Plan}
-use Rattle.scenario.specs.declared.op.Op.TheVariants.{Tick}
-use Rattle.vss_model.specs.declared.event.Event.TheVariants.{Line, Answer as AnswerEvent, Provider, Idle}
-use Rattle.vss_model.specs.declared.told.Told.{Told}
 use Rattle.vss_model.specs.declared.told.Told.TheVariants as told
-use Rattle.vss_model.specs.Reply.{Fine, Answered, Stepped, Idled}
-use Rattle.vss_model.specs.State.{State, SetRow, in_progress, left_now}
-use Rattle.vss_model.specs.Cut.{is_cut_group}
-use Rattle.vss_model.specs.Ending.{runs, followed}
 use Rattle.vss_model.specs.Steps.{answered, stepped, stepped_as, step_made, cut_set, row_cut, with_cut, is_flush, is_failed_step, later, ticked}
-use Rattle.vss_model.specs.Acts.{answer_reply, step_reply, flush_allows, idle_now, after}
 use Rattle.vss_model.specs.Effects.{ended_of, lost_after, lost_order_if}
-use Rattle.vss_model.specs.Facts.{IsOfSession}
-use Rattle.vss_model.specs.Outcome.{EndsAs}
-use Rattle.vss_model.specs.Told.{mark_if}
-use Rattle.vss_model.proofs.Orderly.{IsSameRow, numbered-map, newest-map, find-map}
-use Rattle.vss_model.proofs.OrderlyActs.{same_changed}
-use Rattle.sessions.specs.declared.session_move.SessionMove.{SessionMove}
-use Rattle.sessions.specs.Sets.{bare, running_changed}
-use Rattle.sessions.specs.Keeps.{SessionsValue, Keeps, IsInOrder}
-use Rattle.sessions.specs.Moves.{CameTo, Concludes, HasCome, stepped_volumes}
 use Rattle.sessions.proofs.Keeping.{keeps_course, keeps_rows}
 use Rattle.sessions.proofs.Moving.{Happens}
 use Rattle.sessions.proofs.Newest.{changed_bare, changed_by_number, changed_none}
-use Rattle.vss_model.specs.Lines.{does}
 use Rattle.sessions.proofs.Concluding.{ended_mapped}
 
 -- ## a step of the course
@@ -214,29 +186,19 @@ same_order (w ∷ ws) o = refl
 pub time_goes : (new : SessionsValue) (st : State) (t : Told) (n : ℕ) (m : SessionMove)
     → HasCome t (lost_writers (st.clock + n) st.course) (lost_order_kept (lost_writers (st.clock + n) st.course) (order_now (left st.course.agenda))) (in_progress st) st.volumes
     (followed (runs st) (course_timed (st.clock + n) st.course) (later n st)) new m
-    → HasCome t (lost_after (Some n) st) (lost_order_if (lost_after (Some n) st) (order_now (left_now st))) (in_progress st) st.volumes (ticked n st) new m
+    → HasTicked t n st new m
 unfolding ticked
 time_goes new st t n m came = subst (λ (o : Option Order). HasCome t (lost_after (Some n) st) o (in_progress st) st.volumes (ticked n st) new m)
     (same_order (lost_after (Some n) st) (order_now (left_now st))) came
 
 pub tick_happens : (s : Plan) (new : SessionsValue) (st : State) (lane n : ℕ) (m : SessionMove)
-    → HasCome told.Ok (lost_after (Some n) st) (lost_order_if (lost_after (Some n) st) (order_now (left_now st))) (in_progress st) st.volumes (ticked n st) new m
+    → HasTicked told.Ok n st new m
     → Happens s st (Line lane (Tick n)) new m
-tick_happens s new st lane n m came = record {
-  told = told.Ok;
-  on = refl;
-  allowed = refl;
-  reply = Fine;
-  after = ticked n st;
-  does = refl;
-  fits = λ tells. refl;
-  lists = λ listed rows e. tt;
-  evicts = refl;
-  came = came;
-}
+tick_happens s new st lane n m came =
+    record { told = told.Ok; on = refl; allowed = refl; reply = Fine; after = ticked n st; does = refl; fits = λ tells. refl; lists = λ listed rows e. tt; evicts = refl; came = came }
 
 pub idle_happens : (s : Plan) (new : SessionsValue) (st : State) (n : ℕ) (m : SessionMove) → is_asking (left_now st) ≡ true → n ≡ idle_now st
-    → HasCome (told.Ticks n) (lost_after (Some n) st) (lost_order_if (lost_after (Some n) st) (order_now (left_now st))) (in_progress st) st.volumes (ticked n st) new m → Happens s st Idle new m
+    → HasTicked (told.Ticks n) n st new m → Happens s st Idle new m
 idle_happens s new st n m asks is came = record {
   told = told.Ticks (idle_now st);
   on = asks;
@@ -247,7 +209,7 @@ idle_happens s new st n m asks is came = record {
   fits = λ tells. refl;
   lists = λ listed rows e. tt;
   evicts = refl;
-  came = subst (λ (k : ℕ). HasCome (told.Ticks k) (lost_after (Some k) st) (lost_order_if (lost_after (Some k) st) (order_now (left_now st))) (in_progress st) st.volumes (ticked k st) new m) is came;
+  came = subst (λ (k : ℕ). HasTicked (told.Ticks k) k st new m) is came;
 }
 
 pub ticks_are : (b : Bool) (n m : ℕ) → Some n ≡ ticks_if b m → n ≡ m

@@ -1,15 +1,8 @@
 -- Who is disabled stays, whatever is said or begins.
+use Rattle.sessions.proofs.Words.{VssResult, Said, Kind, Member, Held, Registered, begun_as, IsKeptInCourse, course_answered, course_begun, course_stepped, course_timed}
 use Rattle.std.proofs.Common.{◌≡◌, ℕ, List, [], refl, Bool}
-use Rattle.vss_names.specs.declared.vss_result.VssResult.{VssResult}
-use Rattle.writer_state.specs.declared.said.Said.{Said}
-use Rattle.set_agenda.specs.declared.kind.Kind.{Kind}
 use Rattle.set_agenda.specs.declared.kind.Kind.TheVariants.{Gather, Prepare, Snapshot, Complete}
-use Rattle.set_agenda.specs.declared.member.Member.{Member}
 use Rattle.set_agenda.specs.Course.{Course, posted, begun, told, worked, answered, stepped, timed, failed}
-use Rattle.component_doc.specs.Held.{Held}
-use Rattle.coordinator.specs.Coordinator.{Registered}
-use Rattle.coordinator.specs.Beginning.{begun_as}
-use Rattle.set_agenda.proofs.CourseRule.{IsKeptInCourse, course_answered, course_begun, course_stepped, course_timed}
 
 still : (ds : List ℕ) → IsKeptInCourse (λ (c : Course). c.disabled ≡ ds)
 unfolding posted told worked failed

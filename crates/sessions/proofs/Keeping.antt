@@ -1,17 +1,8 @@
 -- What is kept still stands for a state after a part of both changed.
+use Rattle.sessions.proofs.Words.{History, Session, Sessions as Requestor, Held, Named, Pair, CoordinatorState, Stands, IsOnTime, writer_count, State, SetRow, bare, SessionsValue, Keeps, selected}
 use Rattle.std.proofs.Common.{◌≡◌, ℕ, ◌<◌, List, [], length, refl, sym, ◌∙◌, subst, arith, Option, map}
 use Rattle.std.specs.Prelude.{All, None}
-use Rattle.write_history.specs.History.{History}
 use Rattle.set_agenda.specs.Course.{Course, released}
-use Rattle.requestor.specs.Session.{Session}
-use Rattle.requestor.specs.Requestor.{Sessions as Requestor}
-use Rattle.component_doc.specs.Held.{Held}
-use Rattle.component_doc.specs.Selection.{Named, Pair}
-use Rattle.coordinator.specs.Coordinator.{CoordinatorState, Stands, IsOnTime, writer_count}
-use Rattle.vss_model.specs.State.{State, SetRow}
-use Rattle.sessions.specs.Sets.{bare}
-use Rattle.sessions.specs.Keeps.{SessionsValue, Keeps}
-use Rattle.vss_model.specs.Sessions.{selected}
 
 -- the coordinator goes on
 pub keeps_course : (x : SessionsValue) (k : CoordinatorState) (st : State) (c : Course) → Keeps x st → Stands k c → writer_count k ≡ writer_count x.coordinator

@@ -1,53 +1,25 @@
 -- Whom the session knows, and what it takes: from what is kept, as the definitions say.
+use Rattle.sessions.proofs.Words.{list_all, list_any, range_with_len, BadState, ObjectNotFound, ObjectAlreadyExists, sha256, Clean, Span, AddFault, document_text, Told, Reply, Fine, Coded}
+use Rattle.sessions.proofs.Words.{NotSelectable, DocumentOf, HasLists, Fits, mark_of, WriterRow, Meta, IsAllowed, prepared, Mode, Session, Held, all_have_few, pairs_of, is_named, Naming, Names}
+use Rattle.sessions.proofs.Words.{naming, Selected, Named, AllOf, all_of, is_taker, takers, AreAllowed, IsSelectedOver, meta_at, names_selectable, is_ascending, begun_as, enabled}
+use Rattle.sessions.proofs.Words.{is_disabled as is_disabled_kept, writer_count, named, Plan, WriterPlan, token, IsWriter, State, in_progress, runs, has_no_volume, SessionMove, SessionsValue, Keeps}
+use Rattle.sessions.proofs.Words.{IsOf, IsAt, ComesTo, HasBegun, IsDocumentIn, is_all, takes_all_of, IsAtOver, told_alone, told_named, and_from, and_parts, cond-false, cond-true, le-leb, Goes}
+use Rattle.sessions.proofs.Words.{all_known, known_at, named_known}
 use Rattle.std.proofs.Common.{◌≡◌, ℕ, zero, suc, ◌+◌, ◌<◌, ◌==◌, List, [], ◌∷◌, ◌++◌, drop, length, refl, ap, sym, ◌∙◌, subst, arith, append_assoc, add-one, Bool, true, false, Option, Some}
 use Rattle.std.proofs.Common.{slice_get}
 use Rattle.std.specs.Prelude.{All, filter, nat_le, is_some, option_map, not, ◌&&◌, if◌then◌else◌, Result, Ok, Err, OnOk, OnErr, IfErr}
-use Rattle.std.specs.List.{list_all, list_any, range_with_len}
-use Rattle.vss_names.specs.declared.vss_result.VssResult.TheVariants.{BadState, ObjectNotFound, ObjectAlreadyExists}
-use Rattle.block_data.specs.Digest.{sha256}
-use Rattle.write_history.specs.declared.mark.Mark.TheVariants.{Clean}
-use Rattle.scenario.specs.declared.span.Span.{Span}
-use Rattle.component_doc.specs.declared.add_fault.AddFault.{AddFault}
 use Rattle.component_doc.specs.declared.add_fault.AddFault.TheVariants as fault
 use Rattle.component_doc.specs.Refusal.{Tells}
-use Rattle.component_doc.specs.Document.{document_text}
-use Rattle.vss_model.specs.declared.told.Told.{Told}
-use Rattle.vss_model.specs.Reply.{Reply, Fine, Coded, NotSelectable, DocumentOf}
-use Rattle.vss_model.specs.Outcome.{HasLists}
-use Rattle.vss_model.specs.Told.{Fits, mark_of}
-use Rattle.writer_state.specs.declared.writer_row.WriterRow.{WriterRow}
-use Rattle.writer_meta.specs.Metadata.{Meta}
-use Rattle.writer_meta.specs.Allowed.{IsAllowed}
 use Rattle.set_agenda.specs.declared.kind.Kind.TheVariants as kind
-use Rattle.set_agenda.specs.Course.{prepared}
-use Rattle.requestor.specs.declared.mode.Mode.{Mode}
 use Rattle.requestor.specs.declared.mode.Mode.TheVariants.{Components, All as AllMode}
 use Rattle.requestor.specs.declared.session_call.SessionCall.TheVariants as call
-use Rattle.requestor.specs.Session.{Session}
-use Rattle.component_doc.specs.Held.{Held, all_have_few, pairs_of, is_named}
-use Rattle.component_doc.specs.Selection.{Naming, Names, naming, Selected, Named, AllOf, all_of, is_taker, takers}
-use Rattle.component_doc.specs.Over.{AreAllowed, IsSelectedOver, meta_at, names_selectable, is_ascending}
-use Rattle.coordinator.specs.Beginning.{begun_as, enabled}
-use Rattle.coordinator.specs.Coordinator.{is_disabled as is_disabled_kept, writer_count, named}
 use Rattle.scenario.specs.declared.op.Op.TheVariants as op
-use Rattle.scenario.specs.Plan.{Plan, WriterPlan, token}
-use Rattle.scenario.specs.Bounds.{IsWriter}
 use Rattle.vss_model.specs.declared.told.Told.TheVariants as told
-use Rattle.vss_model.specs.State.{State, in_progress}
-use Rattle.vss_model.specs.Ending.{runs}
 use Rattle.vss_model.specs.Sessions.{line_in, component_in, named_as, is_disabled, has_failed_identify, is_identify_failure, is_known, meta_if, known_from, known_metas, selected, selected_in}
-use Rattle.vss_model.specs.Sessions.{has_no_volume}
-use Rattle.sessions.specs.declared.session_move.SessionMove.{SessionMove}
-use Rattle.sessions.specs.Keeps.{SessionsValue, Keeps, IsOf, IsAt}
-use Rattle.sessions.specs.Moves.{ComesTo, HasBegun, IsDocumentIn, is_all, takes_all_of, IsAtOver}
 use Rattle.sessions.proofs.Lines.{alone, line_of, refuses}
 use Rattle.sessions.proofs.AgendaLines.{pends, is_disabled_same, volume_test}
 use Rattle.sessions.proofs.Concluding.{no_end}
 use Rattle.sessions.proofs.Keeping.{keeps_named}
-use Rattle.sessions.specs.Concluded.{told_alone, told_named}
-use Rattle.std.proofs.lemmas.Bool.{and_from, and_parts, cond-false, cond-true, le-leb}
-use Rattle.vss_model.proofs.GoingOn.{Goes}
-use Rattle.vss_model.proofs.Gathered.{all_known, known_at, named_known}
 
 -- ## whom the session knows
 

@@ -1,3 +1,4 @@
+pub mod Words
 pub mod Newest
 pub mod Keeping
 pub mod Concluding

@@ -1,47 +1,19 @@
 -- The session lines that the checks let go: what each comes to.
+use Rattle.sessions.proofs.Words.{All-push, Context, Backup, AppRollback, NasRollback, SetOutcome, Running, Failed, VssResult, BadState, AsyncCancelled, UnsupportedContext, Clean, History, WriterRow}
+use Rattle.sessions.proofs.Words.{released, Verdict, Go, Session, context_of, opened, started, makes_set, applied, ended as ended_session, check_begin, check_other, check_owner, owner_only}
+use Rattle.sessions.proofs.Words.{begin_verdict, CoordinatorState, KeepsWriters, Stands, IsOnTime, writer_count, named, Op, Plan, Told, Reply, Fine, Coded, Numbered, StatusOf, State, SetRow}
+use Rattle.sessions.proofs.Words.{in_progress, ended_of, IsOfSession, HasLists, EndsAs, Fits, mark_of, Goes, SessionMove, bare, SessionsValue, Keeps, IsAt, IsInOrder, nothing_named_in, failed_set}
+use Rattle.sessions.proofs.Words.{released_by, told_alone, without_images, CameTo, ComesTo}
 use Rattle.std.proofs.Common.{◌≡◌, ℕ, ◌+◌, ◌<◌, ◌==◌, List, [], ◌∷◌, ◌++◌, length, refl, ap, sym, ◌∙◌, subst, arith, Bool, true, false, Option, Some, None, map}
 use Rattle.std.specs.Prelude.{is_some, option_map, option_and_then, unwrap_or}
-use Rattle.std.proofs.lemmas.List.Elements.{All-push}
-use Rattle.vss_names.specs.declared.context.Context.{Context}
-use Rattle.vss_names.specs.declared.context.Context.TheVariants.{Backup, AppRollback, NasRollback}
-use Rattle.vss_names.specs.declared.set_outcome.SetOutcome.{SetOutcome}
-use Rattle.vss_names.specs.declared.set_outcome.SetOutcome.TheVariants.{Running, Failed}
-use Rattle.vss_names.specs.declared.vss_result.VssResult.{VssResult}
-use Rattle.vss_names.specs.declared.vss_result.VssResult.TheVariants.{BadState, AsyncCancelled, UnsupportedContext}
-use Rattle.write_history.specs.declared.mark.Mark.TheVariants.{Clean}
-use Rattle.write_history.specs.History.{History}
-use Rattle.writer_state.specs.declared.writer_row.WriterRow.{WriterRow}
-use Rattle.set_agenda.specs.Course.{released}
-use Rattle.requestor.specs.declared.verdict.Verdict.{Verdict}
-use Rattle.requestor.specs.declared.verdict.Verdict.TheVariants.{Go}
 use Rattle.requestor.specs.declared.session_call.SessionCall.TheVariants as call
-use Rattle.requestor.specs.Session.{Session, context_of, opened, started, makes_set}
-use Rattle.requestor.specs.Requestor.{applied, ended as ended_session}
-use Rattle.requestor.specs.Check.{check_begin, check_other, check_owner, owner_only, begin_verdict}
-use Rattle.coordinator.specs.Coordinator.{CoordinatorState, KeepsWriters, Stands, IsOnTime, writer_count, named}
-use Rattle.scenario.specs.declared.op.Op.{Op}
 use Rattle.scenario.specs.declared.op.Op.TheVariants as op
-use Rattle.scenario.specs.Plan.{Plan}
-use Rattle.vss_model.specs.declared.told.Told.{Told}
 use Rattle.vss_model.specs.declared.told.Told.TheVariants as told
-use Rattle.vss_model.specs.Reply.{Reply, Fine, Coded, Numbered, StatusOf}
-use Rattle.vss_model.specs.State.{State, SetRow, in_progress}
 use Rattle.vss_model.specs.Ending.{runs, failed}
-use Rattle.vss_model.specs.Effects.{ended_of}
-use Rattle.vss_model.specs.Facts.{IsOfSession}
 use Rattle.vss_model.specs.Sessions.{line_in, session_line, begin_in, start_set, new_set, new_number, images_released, closed, await_last}
-use Rattle.vss_model.specs.Outcome.{HasLists, EndsAs}
-use Rattle.vss_model.specs.Told.{Fits, mark_of}
-use Rattle.vss_model.proofs.GoingOn.{Goes}
-use Rattle.sessions.specs.declared.session_move.SessionMove.{SessionMove}
-use Rattle.sessions.specs.Sets.{bare}
-use Rattle.sessions.specs.Keeps.{SessionsValue, Keeps, IsAt, IsInOrder, nothing_named_in}
-use Rattle.sessions.specs.Concluded.{failed_set, released_by, told_alone, without_images}
-use Rattle.sessions.specs.Moves.{CameTo, ComesTo}
 use Rattle.sessions.proofs.Concluding.{no_end, nobody}
 use Rattle.sessions.proofs.Keeping.{keeps_course, keeps_named, keeps_rows, closes}
 use Rattle.sessions.proofs.Newest.{append_bare}
-use Rattle.vss_model.specs.Lines.{does}
 
 -- of an owner's call, the line is the session's
 pub line_of : (s : Plan) (lane : ℕ) (op : Op) (st : State) (q : Session) → st.session ≡ Some q → line_in s lane op st.session st ≡ session_line s lane op q st

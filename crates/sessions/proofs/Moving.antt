@@ -1,44 +1,17 @@
 -- From what an event comes to at a state, what is promised of it.
+use Rattle.sessions.proofs.Words.{Mark, Clean, WriterRow, VssResult, is_working, order_now, Verdict, Go, Blocked, Refused, SessionCall, check, check_other, left-is, runs-is, Op, Calls, Plan, Event}
+use Rattle.sessions.proofs.Words.{Line, Told, Reply, Coded, State, in_progress, left_now, runs, Replied, judged, Fits, mark_of, HasLists, EndsAs, IsOutcome, told_act, Goes, other_goes, SessionMove}
+use Rattle.sessions.proofs.Words.{told_alone, SessionsValue, Keeps, IsInOrder, IsMove, CameTo, ComesTo, HasCome, after_move, event_volumes, images_after, after_enabled}
 use Rattle.std.proofs.Common.{◌≡◌, ◌⊎◌, inl, inr, ℕ, List, [], refl, ap, sym, ◌∙◌, subst, Bool, true, false, Option, Some, None}
 use Rattle.std.specs.Prelude.{not}
-use Rattle.write_history.specs.declared.mark.Mark.{Mark}
-use Rattle.write_history.specs.declared.mark.Mark.TheVariants.{Clean}
-use Rattle.writer_state.specs.declared.writer_row.WriterRow.{WriterRow}
-use Rattle.vss_names.specs.declared.vss_result.VssResult.{VssResult}
-use Rattle.set_agenda.specs.Agenda.{is_working, order_now}
-use Rattle.requestor.specs.declared.verdict.Verdict.{Verdict}
-use Rattle.requestor.specs.declared.verdict.Verdict.TheVariants.{Go, Blocked, Refused}
-use Rattle.requestor.specs.declared.session_call.SessionCall.{SessionCall}
-use Rattle.requestor.specs.Check.{check, check_other}
 use Rattle.coordinator.specs.Coordinator.{CoordinatorState, Stands, runs as runs_kept, works}
-use Rattle.coordinator.proofs.Following.{left-is}
-use Rattle.coordinator.proofs.Telling.{runs-is}
-use Rattle.scenario.specs.declared.op.Op.{Op}
 use Rattle.scenario.specs.declared.line.Line.{Line as Does}
-use Rattle.scenario.specs.declared.line.Line.TheVariants.{Calls}
 use Rattle.scenario.specs.Calls.{call_in, call_of, line_of, target_in, target_of}
-use Rattle.scenario.specs.Plan.{Plan}
-use Rattle.vss_model.specs.declared.event.Event.{Event}
-use Rattle.vss_model.specs.declared.event.Event.TheVariants.{Line}
-use Rattle.vss_model.specs.declared.told.Told.{Told}
 use Rattle.vss_model.specs.declared.told.Told.TheVariants as told
-use Rattle.vss_model.specs.Reply.{Reply, Coded}
-use Rattle.vss_model.specs.State.{State, in_progress, left_now}
-use Rattle.vss_model.specs.Ending.{runs}
-use Rattle.vss_model.specs.Images.{Replied}
-use Rattle.vss_model.specs.Sessions.{judged}
 use Rattle.vss_model.specs.Lines.{called, does, line}
 use Rattle.vss_model.specs.Acts.{enabled, event_allows, happens, after, line_enabled, line_allows, may_call, may_do, is_blocked}
 use Rattle.vss_model.specs.Effects.{evicted, evicted_at, line_ticks, ticks_by, lost, lost_after, lost_order, lost_order_if, ended_of}
-use Rattle.vss_model.specs.Told.{Fits, mark_of}
-use Rattle.vss_model.specs.Outcome.{HasLists, EndsAs, IsOutcome, told_act}
-use Rattle.vss_model.proofs.GoingOn.{Goes, other_goes}
-use Rattle.sessions.specs.declared.session_move.SessionMove.{SessionMove}
-use Rattle.sessions.specs.Concluded.{told_alone}
-use Rattle.sessions.specs.Keeps.{SessionsValue, Keeps, IsInOrder}
-use Rattle.sessions.specs.Moves.{IsMove, CameTo, ComesTo, HasCome, after_move, event_volumes, images_after}
 use Rattle.sessions.proofs.Concluding.{no_end, nobody}
-use Rattle.vss_model.proofs.ByEvent.{after_enabled}
 
 -- ## an event
 

@@ -1,17 +1,10 @@
 -- Lists of sets, numbered from 1 on, of which the newest alone may be in progress.
-use Rattle.std.proofs.Common.{◌≡◌, ℕ, zero, suc, ◌+◌, ◌<◌, ◌≤◌, ◌==◌, List, [], ◌∷◌, ◌++◌, length, refl, ap, sym, ◌∙◌, arith, Bool, true, false, Option, Some, None, map, slice_get, slice_set}
+use Rattle.sessions.proofs.Words.{length-map, SetOutcome, SetRow, is_running, is_complete, row_changed, NumberedFrom, OverButNewest, has_failed, row_settled, numbered-map, newest-map, cond_both}
+use Rattle.sessions.proofs.Words.{none_head, none_tail}
+use Rattle.sessions.proofs.Words.{numbered-settled, newest-settled, numbered-append, newest-append, newest_number, SetFacts, AreSets, bare, current_of, facts_of, is_complete_in, running_in}
+use Rattle.sessions.proofs.Words.{running_changed, and_left, cond-false, cond-true, eq-eqb, eqb-true, ne_eqb, or_from, apart}
+use Rattle.std.proofs.Common.{◌≡◌, ℕ, zero, suc, ◌+◌, ◌<◌, ◌==◌, List, [], ◌∷◌, ◌++◌, length, refl, ap, sym, ◌∙◌, arith, Bool, true, false, Option, Some, None, map, slice_get, slice_set}
 use Rattle.std.specs.Prelude.{find, option_map, if◌then◌else◌, ◌&&◌, ◌||◌}
-use Rattle.std.proofs.lemmas.List.{length-map}
-use Rattle.vss_names.specs.declared.set_outcome.SetOutcome.{SetOutcome}
-use Rattle.vss_model.specs.State.{SetRow, is_running, is_complete, row_changed}
-use Rattle.vss_model.specs.Facts.{NumberedFrom, OverButNewest, has_failed}
-use Rattle.vss_model.specs.Ending.{row_settled}
-use Rattle.vss_model.proofs.Orderly.{numbered-map, newest-map, numbered-settled, newest-settled, numbered-append, newest-append}
-use Rattle.vss_model.proofs.OneCut.{newest_number}
-use Rattle.sessions.specs.declared.set_facts.SetFacts.{SetFacts}
-use Rattle.sessions.specs.Sets.{AreSets, bare, current_of, facts_of, is_complete_in, running_in, running_changed}
-use Rattle.std.proofs.lemmas.Bool.{and_left, cond-false, cond-true, eq-eqb, eqb-true, ne_eqb, or_from}
-use Rattle.vss_model.proofs.Rows.{apart}
 
 -- ## the newest alone changes
 
@@ -33,16 +26,8 @@ changed_last f (q ∷ p ∷ rows) (suc n) r h e long =
 pub changed_none : (f : SetRow → SetRow) (rows : List SetRow) → running_in rows ≡ None → map (running_changed f) rows ≡ rows
 changed_none f [] e = refl
 changed_none f (r ∷ rows) e =
-    ap (λ (x : SetRow). x ∷ map (running_changed f) rows) (unchanged f r (not_found (is_running r.result) r _ e))
-    ∙ ap (λ (xs : List SetRow). r ∷ xs) (changed_none f rows (rest_none (is_running r.result) r _ e))
-  where
-    not_found : (b : Bool) (x : SetRow) (other : Option SetRow) → (if b then Some x else other) ≡ None → b ≡ false
-    not_found true x other e = cc
-    not_found false x other e = refl
-
-    rest_none : (b : Bool) (x : SetRow) (other : Option SetRow) → (if b then Some x else other) ≡ None → other ≡ None
-    rest_none true x other e = cc
-    rest_none false x other e = e
+    ap (λ (x : SetRow). x ∷ map (running_changed f) rows) (unchanged f r (none_head (is_running r.result) r _ e))
+    ∙ ap (λ (xs : List SetRow). r ∷ xs) (changed_none f rows (none_tail (is_running r.result) r _ e))
 
 -- the set in progress is the last, if that is in progress
 pub running_last : (rows : List SetRow) (n : ℕ) (r : SetRow) → OverButNewest rows → slice_get rows n ≡ Some r → length rows ≡ suc n → running_in rows ≡ running_in (r ∷ [])
@@ -86,27 +71,15 @@ changed_by_number f m (q ∷ p ∷ rows) r n h e =
 
 -- ## what is kept
 
-pub record IsMild (f : SetRow → SetRow) : Type 0 where
-  pub number : (r : SetRow) → (f r).number ≡ r.number
-  pub result : (r : SetRow) → (f r).result ≡ r.result
-
-mild_number : (b : Bool) (f : SetRow → SetRow) (r : SetRow) → IsMild f → (if b then f r else r).number ≡ r.number
-mild_number true f r h = h.number r
-mild_number false f r h = refl
-
-mild_result : (b : Bool) (f : SetRow → SetRow) (r : SetRow) → IsMild f → (if b then f r else r).result ≡ r.result
-mild_result true f r h = h.result r
-mild_result false f r h = refl
-
-pub sets_changed : (f : SetRow → SetRow) (rows : List SetRow) → IsMild f → AreSets rows → AreSets (map (running_changed f) rows)
-sets_changed f rows mild h = record {
-  numbered = numbered-map (running_changed f) (λ r. mild_number (is_running r.result) f r mild) 1 rows h.numbered;
-  newest = newest-map (running_changed f) (record {
-    number = λ r. mild_number (is_running r.result) f r mild;
-    running = λ r. ap is_running (mild_result (is_running r.result) f r mild);
-    failed = λ r. ap has_failed (mild_result (is_running r.result) f r mild);
-  }) rows h.newest;
-}
+pub sets_changed : (f : SetRow → SetRow) (rows : List SetRow) → ((r : SetRow) → (f r).number ≡ r.number) → ((r : SetRow) → (f r).result ≡ r.result) → AreSets rows
+    → AreSets (map (running_changed f) rows)
+sets_changed f rows number result h =
+    let same_number = λ (r : SetRow). cond_both (is_running r.result) (f r) r (λ (q : SetRow). q.number ≡ r.number) (λ e. number r) (λ e. refl) in
+    let same_result = λ (r : SetRow). cond_both (is_running r.result) (f r) r (λ (q : SetRow). q.result ≡ r.result) (λ e. result r) (λ e. refl) in
+    record {
+      numbered = numbered-map (running_changed f) same_number 1 rows h.numbered;
+      newest = newest-map (running_changed f) (record { number = same_number; running = λ r. ap is_running (same_result r); failed = λ r. ap has_failed (same_result r) }) rows h.newest;
+    }
 
 pub sets_settled : (o : SetOutcome) (rows : List SetRow) → AreSets rows → AreSets (map (row_settled o) rows)
 sets_settled o rows h = record { numbered = numbered-settled o 1 rows h.numbered; newest = newest-settled o rows h.newest }
@@ -129,11 +102,6 @@ none_at_zero m (r ∷ rows) h l = cond-false (r.number == 0) _ _ (let first = h.
 
 pub running_is : (b : Bool) (r : SetRow) → is_running r.result ≡ b → running_in (r ∷ []) ≡ (if b then Some r else None)
 running_is b r e = ap (λ (t : Bool). if t then Some r else None) e
-
-pub past_end : (rows : List SetRow) (i : ℕ) → length rows ≤ i → slice_get rows i ≡ None
-past_end [] i l = refl
-past_end (r ∷ rows) zero l = absurd (omega (arith, l))
-past_end (r ∷ rows) (suc i) l = past_end rows i (omega (arith, l))
 
 abbrev pub is_complete_told : Option SetFacts → Bool
 is_complete_told None = false
@@ -173,20 +141,19 @@ complete_by_facts rows n o h e = complete_found 1 rows n h.numbered ∙ told (fi
 
 -- ## rows without volumes
 
--- a change that does not look at the volumes
-pub map_bare : (f : SetRow → SetRow) → ((r : SetRow) → f (bare r) ≡ bare (f r)) → (rows : List SetRow) → map f (map bare rows) ≡ map bare (map f rows)
-map_bare f same [] = refl
-map_bare f same (r ∷ rows) = ap (λ (x : SetRow). x ∷ map f (map bare rows)) (same r) ∙ ap (λ (xs : List SetRow). bare (f r) ∷ xs) (map_bare f same rows)
-
 if_bare : (b : Bool) (f : SetRow → SetRow) (r : SetRow) → f (bare r) ≡ bare (f r) → (if b then f (bare r) else bare r) ≡ bare (if b then f r else r)
 if_bare true f r e = e
 if_bare false f r e = refl
 
-pub settled_bare : (o : SetOutcome) (rows : List SetRow) → map (row_settled o) (map bare rows) ≡ map bare (map (row_settled o) rows)
-settled_bare o = map_bare (row_settled o) (λ r. if_bare (is_running r.result) (λ (x : SetRow). record x { result = o }) r refl)
-
+-- a change that does not look at the volumes
 pub changed_bare : (f : SetRow → SetRow) → ((r : SetRow) → f (bare r) ≡ bare (f r)) → (rows : List SetRow) → map (running_changed f) (map bare rows) ≡ map bare (map (running_changed f) rows)
-changed_bare f same = map_bare (running_changed f) (λ r. if_bare (is_running r.result) f r (same r))
+changed_bare f same [] = refl
+changed_bare f same (r ∷ rows) =
+    ap (λ (x : SetRow). x ∷ map (running_changed f) (map bare rows)) (if_bare (is_running r.result) f r (same r))
+    ∙ ap (λ (xs : List SetRow). bare (running_changed f r) ∷ xs) (changed_bare f same rows)
+
+pub settled_bare : (o : SetOutcome) (rows : List SetRow) → map (row_settled o) (map bare rows) ≡ map bare (map (row_settled o) rows)
+settled_bare o = changed_bare (λ (r : SetRow). record r { result = o }) (λ r. refl)
 
 found_bare : (p : SetRow → Bool) → ((r : SetRow) → p (bare r) ≡ p r) → (rows : List SetRow) → find p (map bare rows) ≡ option_map bare (find p rows)
 found_bare p same [] = refl
@@ -229,8 +196,5 @@ append_bare (q ∷ rows) r = ap (λ (xs : List SetRow). bare q ∷ xs) (append_b
 -- what happens to the volumes of a row is not seen
 pub unseen_bare : (f : SetRow → SetRow) → ((r : SetRow) → bare (f r) ≡ bare r) → (n : ℕ) (rows : List SetRow) → map bare (map (row_changed n f) rows) ≡ map bare rows
 unseen_bare f same n [] = refl
-unseen_bare f same n (r ∷ rows) = ap (λ (x : SetRow). x ∷ map bare (map (row_changed n f) rows)) (by_test (r.number == n)) ∙ ap (λ (xs : List SetRow). bare r ∷ xs) (unseen_bare f same n rows)
-  where
-    by_test : (b : Bool) → bare (if b then f r else r) ≡ bare r
-    by_test true = same r
-    by_test false = refl
+unseen_bare f same n (r ∷ rows) = ap (λ (x : SetRow). x ∷ map bare (map (row_changed n f) rows)) (cond_both (r.number == n) (f r) r (λ (q : SetRow). bare q ≡ bare r) (λ e. same r) (λ e. refl))
+    ∙ ap (λ (xs : List SetRow). bare r ∷ xs) (unseen_bare f same n rows)

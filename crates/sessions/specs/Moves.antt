@@ -154,10 +154,13 @@ HasStepped fails g v old new m = (st : State) → IsInOrder st → Keeps old st 
 
 -- ## time
 
--- so many ticks went by, with what follows, and this is told
+-- so many ticks went by from a state on, with what follows, and this is told
+abbrev pub HasTicked : Told → ℕ → State → SessionsValue → SessionMove → Type 0
+HasTicked t n st new m =
+    HasCome t (lost_after (Some n) st) (lost_order_if (lost_after (Some n) st) (order_now (left_now st))) (in_progress st) st.volumes (ticked n st) new m
+
 abbrev pub HasGoneOn : Told → ℕ → SessionsValue → SessionsValue → SessionMove → Type 0
-HasGoneOn t ticks old new m = (st : State) → IsInOrder st → Keeps old st → HasCome t (lost_after (Some ticks) st)
-    (lost_order_if (lost_after (Some ticks) st) (order_now (left_now st))) (in_progress st) st.volumes (ticked ticks st) new m
+HasGoneOn t n old new m = (st : State) → IsInOrder st → Keeps old st → HasTicked t n st new m
 
 -- ## what the session selects
 

@@ -1,9 +1,5 @@
+use Rattle.sessions.proofs.Words.{said_of, answered as course_answered, Answer as AnswerEvent, runs, Keeps, IsAt, value_of}
 use Rattle.std.proofs.Common.{sym, ◌∙◌, None, []}
-use Rattle.writer_calls.specs.Script.{said_of}
-use Rattle.set_agenda.specs.Course.{answered as course_answered}
-use Rattle.vss_model.specs.declared.event.Event.TheVariants.{Answer as AnswerEvent}
-use Rattle.vss_model.specs.Ending.{runs}
-use Rattle.sessions.specs.Keeps.{Keeps, IsAt, value_of}
 use Rattle.sessions.proofs.Disabled.{disabled_answered}
 use Rattle.sessions.proofs.Moving.{happens_moves}
 use Rattle.sessions.proofs.CourseSteps.{answer_happens, goes_on}

@@ -1,8 +1,7 @@
+use Rattle.sessions.proofs.Words.{Sessions as Requestor, IsAt, nothing_named_in, value_of}
 use Rattle.std.proofs.Common.{sym, ◌∙◌, ap}
 use Rattle.sessions.proofs.Lines.{begins, begins_not}
 use Rattle.sessions.proofs.sessions.Sessions.begin.Goals as goal
-use Rattle.requestor.specs.Requestor.{Sessions as Requestor}
-use Rattle.sessions.specs.Keeps.{IsAt, nothing_named_in, value_of}
 use Rattle.std.specs.Prelude.{is_some, not}
 
 pub returns-then-is_none-clause-gone : goal.returns-then-is_none-clause-gone

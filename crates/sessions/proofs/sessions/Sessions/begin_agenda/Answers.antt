@@ -1,15 +1,9 @@
+use Rattle.sessions.proofs.Words.{Course, Held, begun_as, CameTo, HasBegun, followed, AsyncPending, value_of}
 use Rattle.std.proofs.Common.{sym, subst, true, [], None}
-use Rattle.set_agenda.specs.Course.{Course}
 use Rattle.vss_model.specs.declared.told.Told.TheVariants as told
-use Rattle.component_doc.specs.Held.{Held}
-use Rattle.coordinator.specs.Beginning.{begun_as}
 use Rattle.sessions.proofs.Disabled.{disabled_begun_as}
 use Rattle.sessions.proofs.sessions.Sessions.begin_agenda.Goals as goal
 use Rattle.sessions.proofs.CourseSteps.{goes_on}
-use Rattle.sessions.specs.Moves.{CameTo, HasBegun}
-use Rattle.vss_model.specs.Ending.{followed}
-use Rattle.vss_names.specs.declared.vss_result.VssResult.TheVariants.{AsyncPending}
-use Rattle.sessions.specs.Keeps.{value_of}
 
 pub returns-clause-begun : goal.returns-clause-begun
 returns-clause-begun c =

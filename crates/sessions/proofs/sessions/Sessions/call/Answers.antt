@@ -1,11 +1,8 @@
+use Rattle.sessions.proofs.Words.{Line, SessionMove, IsAtOver, told_alone}
 use Rattle.std.proofs.Common.{sym, ◌∙◌, subst, refl}
-use Rattle.vss_model.specs.declared.event.Event.TheVariants.{Line}
 use Rattle.vss_model.specs.declared.told.Told.TheVariants as told
-use Rattle.sessions.specs.declared.session_move.SessionMove.{SessionMove}
-use Rattle.sessions.specs.Moves.{IsAtOver}
 use Rattle.sessions.proofs.Moving.{Happens, checked_same, happens_moves, line_happens, line_waits, refused_happens}
 use Rattle.sessions.proofs.sessions.Sessions.call.Goals as goal
-use Rattle.sessions.specs.Concluded.{told_alone}
 
 pub returns-in-Blocked-clause-called : goal.returns-in-Blocked-clause-called
 returns-in-Blocked-clause-called c = record {

@@ -1,7 +1,5 @@
+use Rattle.sessions.proofs.Words.{Sessions as Requestor, released, SessionsValue, Keeps, value_of}
 use Rattle.std.proofs.Common.{[], None, ap, subst, sym}
-use Rattle.requestor.specs.Requestor.{Sessions as Requestor}
-use Rattle.set_agenda.specs.Course.{released}
-use Rattle.sessions.specs.Keeps.{SessionsValue, Keeps, value_of}
 use Rattle.sessions.proofs.sessions.Sessions.close.Goals as goal
 use Rattle.sessions.proofs.Keeping.{closes}
 

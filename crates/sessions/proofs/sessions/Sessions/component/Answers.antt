@@ -1,7 +1,5 @@
+use Rattle.sessions.proofs.Words.{metas_of, all_have_few, IsAt, value_of, takes_all_of}
 use Rattle.std.proofs.Common.{ap, ◌≡◌, ◌∙◌}
-use Rattle.component_doc.specs.Held.{metas_of, all_have_few}
-use Rattle.sessions.specs.Keeps.{IsAt, value_of}
-use Rattle.sessions.specs.Moves.{takes_all_of}
 use Rattle.sessions.proofs.Knowing.{known_few, names_not, names_component}
 use Rattle.sessions.proofs.sessions.Sessions.component.Goals as goal
 use Rattle.sessions.proofs.Moving.{owner_at}

@@ -1,9 +1,7 @@
+use Rattle.sessions.proofs.Words.{told_of, SessionMove, value_of}
 use Rattle.std.proofs.Common.{sym, ◌∙◌, ap}
 use Rattle.sessions.proofs.Concluding.{concluded_then, concluded_else}
 use Rattle.sessions.proofs.sessions.Sessions.conclude.Goals as goal
-use Rattle.sessions.specs.Concluded.{told_of}
-use Rattle.sessions.specs.declared.session_move.SessionMove.{SessionMove}
-use Rattle.sessions.specs.Keeps.{value_of}
 
 pub returns-then-not-ends-clause-concludes : goal.returns-then-not-ends-clause-concludes
 returns-then-not-ends-clause-concludes c = concluded_else c.args.self.now c.args.told c.args.effects c.of.result (sym c.ends.ensures ∙ c.if-not-ends.true)

@@ -1,7 +1,5 @@
+use Rattle.sessions.proofs.Words.{SetRow, step_made, Keeps, value_of}
 use Rattle.std.proofs.Common.{◌≡◌, sym, ◌∙◌, subst, List, Some}
-use Rattle.vss_model.specs.State.{SetRow}
-use Rattle.vss_model.specs.Steps.{step_made}
-use Rattle.sessions.specs.Keeps.{Keeps, value_of}
 use Rattle.sessions.proofs.CourseSteps.{is_cut_now}
 use Rattle.sessions.proofs.sessions.Sessions.cut_at.Goals as goal
 

@@ -1,14 +1,10 @@
+use Rattle.sessions.proofs.Words.{Session, Keeps, value_of, Context, AsyncCancelled, released_by}
 use Rattle.std.proofs.Common.{ap, ◌∙◌, Option}
-use Rattle.requestor.specs.Session.{Session}
-use Rattle.sessions.specs.Keeps.{Keeps, value_of}
 use Rattle.std.specs.Prelude.{option_map}
-use Rattle.vss_names.specs.declared.context.Context.{Context}
-use Rattle.vss_names.specs.declared.vss_result.VssResult.TheVariants.{AsyncCancelled}
 use Rattle.coordinator.specs.Coordinator.{runs}
 use Rattle.vss_model.specs.Ending.{failed}
 use Rattle.sessions.proofs.Lines.{ends, may_end}
 use Rattle.sessions.proofs.sessions.Sessions.end.Goals as goal
-use Rattle.sessions.specs.Concluded.{released_by}
 use Rattle.sessions.proofs.Moving.{owner_at}
 
 pub close-requires : goal.close-requires

@@ -1,7 +1,6 @@
+use Rattle.sessions.proofs.Words.{Session, Sessions as Requestor}
 use Rattle.std.proofs.Common.{ap, ◌∙◌}
-use Rattle.requestor.specs.Session.{Session}
 use Rattle.std.specs.Prelude.{option_map}
-use Rattle.requestor.specs.Requestor.{Sessions as Requestor}
 use Rattle.sessions.proofs.Lines.{owner_kept}
 use Rattle.sessions.proofs.sessions.Sessions.end_so.Goals as goal
 

@@ -1,8 +1,6 @@
+use Rattle.sessions.proofs.Words.{SetRow, Keeps, value_of, facts_of}
 use Rattle.std.proofs.Common.{List, ◌==◌, ap, ◌∙◌}
 use Rattle.std.specs.Prelude.{find, option_map}
-use Rattle.vss_model.specs.State.{SetRow}
-use Rattle.sessions.specs.Keeps.{Keeps, value_of}
-use Rattle.sessions.specs.Sets.{facts_of}
 use Rattle.sessions.proofs.Newest.{facts_bare}
 use Rattle.sessions.proofs.sessions.Sessions.facts.Goals as goal
 

@@ -1,7 +1,6 @@
+use Rattle.sessions.proofs.Words.{Keeps, value_of, told_of}
 use Rattle.std.proofs.Common.{sym, ap, ◌∙◌, None}
 use Rattle.vss_model.specs.declared.told.Told.TheVariants as told
-use Rattle.sessions.specs.Keeps.{Keeps, value_of}
-use Rattle.sessions.specs.Concluded.{told_of}
 use Rattle.sessions.proofs.Concluding.{fails_not, fails_so}
 use Rattle.sessions.proofs.sessions.Sessions.fail_so.Goals as goal
 

@@ -1,12 +1,7 @@
-use Rattle.set_agenda.specs.Course.{timed as course_timed, lost_writers}
-use Rattle.vss_model.specs.Steps.{later}
-use Rattle.vss_model.specs.Ending.{runs}
-use Rattle.sessions.specs.Keeps.{Keeps, value_of}
+use Rattle.sessions.proofs.Words.{timed as course_timed, lost_writers, later, runs, Keeps, value_of, lost_order_if as lost_order_kept, left, order_now}
 use Rattle.sessions.proofs.Disabled.{disabled_timed}
 use Rattle.sessions.proofs.sessions.Sessions.go_on.Goals as goal
 use Rattle.sessions.proofs.CourseSteps.{later_keeps, later_order, goes_on, time_goes}
-use Rattle.coordinator.specs.Effects.{lost_order_if as lost_order_kept}
-use Rattle.set_agenda.specs.Agenda.{left, order_now}
 
 pub returns-clause-gone : goal.returns-clause-gone
 returns-clause-gone c st order kept0 =

@@ -1,8 +1,6 @@
+use Rattle.sessions.proofs.Words.{idle_ticks, Idle, Keeps, IsAt, value_of}
 use Rattle.std.proofs.Common.{◌≡◌, ℕ, sym, ap, ◌∙◌}
 use Rattle.std.specs.Prelude.{is_some}
-use Rattle.set_agenda.specs.Course.{idle_ticks}
-use Rattle.vss_model.specs.declared.event.Event.TheVariants.{Idle}
-use Rattle.sessions.specs.Keeps.{Keeps, IsAt, value_of}
 use Rattle.sessions.proofs.Moving.{happens_moves}
 use Rattle.sessions.proofs.sessions.Sessions.idle.Goals as goal
 use Rattle.sessions.proofs.CourseSteps.{idle_happens, ticks_are}

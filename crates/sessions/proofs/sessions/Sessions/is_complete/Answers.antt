@@ -1,7 +1,5 @@
+use Rattle.sessions.proofs.Words.{SetRow, Keeps, value_of, is_complete_in}
 use Rattle.std.proofs.Common.{List, ap, ◌∙◌}
-use Rattle.vss_model.specs.State.{SetRow}
-use Rattle.sessions.specs.Keeps.{Keeps, value_of}
-use Rattle.sessions.specs.Sets.{is_complete_in}
 use Rattle.sessions.proofs.Newest.{complete_bare}
 use Rattle.sessions.proofs.sessions.Sessions.is_complete.Goals as goal
 

@@ -1,9 +1,6 @@
+use Rattle.sessions.proofs.Words.{metas_of, State, known_from, known_metas, Keeps}
 use Rattle.std.proofs.Common.{◌≡◌, ◌++◌, drop, map, length}
 use Rattle.std.specs.Prelude.{option_map}
-use Rattle.component_doc.specs.Held.{metas_of}
-use Rattle.vss_model.specs.State.{State}
-use Rattle.vss_model.specs.Sessions.{known_from, known_metas}
-use Rattle.sessions.specs.Keeps.{Keeps}
 use Rattle.sessions.proofs.sessions.Sessions.metas.Given as goal
 
 -- the metadata that are known of the writers so far, and then those of the others

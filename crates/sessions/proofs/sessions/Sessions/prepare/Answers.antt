@@ -1,7 +1,5 @@
+use Rattle.sessions.proofs.Words.{Held, Named, all_of, known_metas}
 use Rattle.std.proofs.Common.{sym, ap, ◌∙◌, refl, true, false}
-use Rattle.component_doc.specs.Held.{Held}
-use Rattle.component_doc.specs.Selection.{Named, all_of}
-use Rattle.vss_model.specs.Sessions.{known_metas}
 use Rattle.sessions.proofs.AgendaLines.{then_ok}
 use Rattle.sessions.proofs.Knowing.{prepares, prepares_not, takes_named, takes_known, mode_at}
 use Rattle.sessions.proofs.sessions.Sessions.prepare.Goals as goal

@@ -1,13 +1,10 @@
+use Rattle.sessions.proofs.Words.{Keeps, IsAt, value_of, running_in, Sessions as Requestor, applied, SetRow}
 use Rattle.std.proofs.Common.{ℕ, ◌+◌, sym, ap, ◌∙◌, List}
 use Rattle.requestor.specs.declared.session_call.SessionCall.TheVariants as call
-use Rattle.sessions.specs.Keeps.{Keeps, IsAt, value_of}
 use Rattle.sessions.proofs.Lines.{at_rest, starts}
-use Rattle.sessions.specs.Sets.{running_in}
 use Rattle.sessions.proofs.Newest.{none_bare}
 use Rattle.sessions.proofs.sessions.Sessions.start.Goals as goal
-use Rattle.requestor.specs.Requestor.{Sessions as Requestor, applied}
 use Rattle.sessions.proofs.Moving.{owner_at}
-use Rattle.vss_model.specs.State.{SetRow}
 
 pub returns-clause-gone : goal.returns-clause-gone
 returns-clause-gone c s st found =

@@ -1,12 +1,9 @@
+use Rattle.sessions.proofs.Words.{Provider, is_flush, IsAt, and_parts}
 use Rattle.std.proofs.Common.{sym, ◌∙◌, true, false, Some}
 use Rattle.std.specs.Prelude.{not}
-use Rattle.vss_model.specs.declared.event.Event.TheVariants.{Provider}
-use Rattle.vss_model.specs.Steps.{is_flush}
-use Rattle.sessions.specs.Keeps.{IsAt}
 use Rattle.sessions.proofs.Moving.{happens_moves, works_same}
 use Rattle.sessions.proofs.CourseSteps.{step_happens}
 use Rattle.sessions.proofs.sessions.Sessions.step.Goals as goal
-use Rattle.std.proofs.lemmas.Bool.{and_parts}
 
 pub returns-then-fails_at-clause-moves : goal.returns-then-fails_at-clause-moves
 returns-then-fails_at-clause-moves c s =

@@ -1,7 +1,5 @@
+use Rattle.sessions.proofs.Words.{stepped as course_stepped, runs, Keeps, value_of}
 use Rattle.std.proofs.Common.{false, None, []}
-use Rattle.set_agenda.specs.Course.{stepped as course_stepped}
-use Rattle.vss_model.specs.Ending.{runs}
-use Rattle.sessions.specs.Keeps.{Keeps, value_of}
 use Rattle.sessions.proofs.Disabled.{disabled_stepped}
 use Rattle.sessions.proofs.sessions.Sessions.step_fails.Goals as goal
 use Rattle.sessions.proofs.CourseSteps.{goes_on}

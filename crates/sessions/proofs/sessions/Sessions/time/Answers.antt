@@ -1,6 +1,4 @@
-use Rattle.scenario.specs.declared.op.Op.TheVariants.{Tick}
-use Rattle.vss_model.specs.declared.event.Event.TheVariants.{Line}
-use Rattle.sessions.specs.Keeps.{IsAt}
+use Rattle.sessions.proofs.Words.{Tick, Line, IsAt}
 use Rattle.sessions.proofs.Moving.{happens_moves}
 use Rattle.sessions.proofs.sessions.Sessions.time.Goals as goal
 use Rattle.sessions.proofs.CourseSteps.{tick_happens}

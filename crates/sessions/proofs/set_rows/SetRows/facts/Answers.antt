@@ -1,9 +1,7 @@
+use Rattle.sessions.proofs.Words.{slice_get_past, slice_get_read, SetRow, facts_of}
 use Rattle.std.proofs.Common.{◌<◌, ◌≤◌, ℕ, ◌-◌, ◌==◌, length, sym, ap, ◌∙◌, refl, arith, Some}
 use Rattle.std.specs.Prelude.{find, option_map}
-use Rattle.std.proofs.lemmas.Option.{slice_get_read}
-use Rattle.vss_model.specs.State.{SetRow}
-use Rattle.sessions.specs.Sets.{facts_of}
-use Rattle.sessions.proofs.Newest.{found_at, none_at_zero, past_end}
+use Rattle.sessions.proofs.Newest.{found_at, none_at_zero}
 use Rattle.sessions.proofs.set_rows.SetRows.facts.Goals as goal
 
 pub returns-then-set-eq0 : goal.returns-then-set-eq0
@@ -17,7 +15,7 @@ returns-then-at-count c =
     let rows = c.self.inside.rows.items in
     let past : length rows ≤ c.args.set - 1 = omega (arith, c.len-count.ensures, c.if-at-count.true) in
     rw (← c.self.view_is)
-    (sym (ap (option_map facts_of) (found_at 1 rows (c.args.set - 1) c.args.set c.self.invariant.numbered (omega (arith, c.if-set-eq0.false)) ∙ past_end rows (c.args.set - 1) past)))
+    (sym (ap (option_map facts_of) (found_at 1 rows (c.args.set - 1) c.args.set c.self.invariant.numbered (omega (arith, c.if-set-eq0.false)) ∙ slice_get_past rows (c.args.set - 1) past)))
 
 pub returns : goal.returns
 returns c =

@@ -1,8 +1,6 @@
+use Rattle.sessions.proofs.Words.{slice_get_read, AreSets, SetRow}
 use Rattle.std.proofs.Common.{◌≡◌, ◌-◌, suc, length, slice_set, sym, ap, subst, ◌∙◌, refl, arith}
-use Rattle.std.proofs.lemmas.Option.{slice_get_read}
-use Rattle.sessions.specs.Sets.{AreSets}
 use Rattle.sessions.proofs.Newest.{changed_last, sets_settled}
-use Rattle.vss_model.specs.State.{SetRow}
 use Rattle.sessions.proofs.set_rows.SetRows.settle.Goals as goal
 
 pub invariant_of-self : goal.invariant_of-self

@@ -1,6 +1,5 @@
+use Rattle.sessions.proofs.Words.{SetRow, AreSets}
 use Rattle.std.proofs.Common.{◌∙◌, List, sym, ap, subst}
-use Rattle.vss_model.specs.State.{SetRow}
-use Rattle.sessions.specs.Sets.{AreSets}
 use Rattle.sessions.proofs.Newest.{sets_started}
 use Rattle.sessions.proofs.set_rows.SetRows.start.Goals as goal
 
