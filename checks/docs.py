@@ -4,6 +4,7 @@ Pages are README.md, docs/*.md, examples/README.md and crates/*/README.md. A nam
 the scripts and the examples; a path, from the top, from the page's own folder, from crates/, and from the crate that the page is of. A word
 of the scenario language, a line of a report and a piece of JSON are left alone.
 """
+import functools
 import glob
 import os
 import re
@@ -108,6 +109,33 @@ def samples():
             wrong.append(f"docs/LIBRARY.md: no example has the line `{shown}`")
 
 
+@functools.cache
+def defined(path):
+    """The names that a file of specs/ knows, each with the words of its definition, or with the file and the name that it is brought in from."""
+    known, text = {}, re.sub("--.*", "", text_of(path))
+    for crate, place, names, module in re.findall(r"^use Rattle\.(\w+)\.([\w.]+?)(?:\.\{(.*)\}| as (\w+))$", text, re.M):
+        for name in (names or module).split(", "):
+            first, _, here = name.partition(" as ")
+            known[here or first] = f"crates/{crate}/{place.replace('.', '/')}.antt", first
+    for head, rest in re.findall(r"^(?!use |unfolding )(\S.*)((?:\n .*|\n)*)", text, re.M):
+        name = re.sub("^(abbrev |unfoldable |pub |record |data )*", "", head).split()[0]
+        known.setdefault(name, set()).update(re.findall(r"[^\s(){}\[\];,.]+", head + rest))
+    return known
+
+
+def files_below(path, name):
+    """How many files of specs/ have a definition, and what it uses, but for `IsAsPromised`."""
+    places = [(path, name)]
+    for path, name in places:
+        words = defined(path).get(name)
+        for word in sorted(words - {"IsAsPromised"}) if isinstance(words, set) else []:
+            known = defined(path).get(word, ("", ""))
+            place = (path, word) if isinstance(known, set) else known
+            if place not in places and os.path.exists(place[0]):
+                places.append(place)
+    return len({path for path, name in places})
+
+
 def counts():
     """Numbers that pages say, each as a form of words and as it is."""
     rows = [line for line in text_of("crates.txt").splitlines() if ":" in line and not line.startswith("#")]
@@ -123,6 +151,8 @@ def counts():
         r"(\d+) of \d+ wrong bodies": in_gate,
         r"\d+ of (\d+) wrong bodies": in_gate + by_hand,
         r"(\d+) laws of `promises`": len(promised),
+        r"definitions of (\d+) files": files_below("crates/promises/specs/Headline.antt", "Headline"),
+        r"and the devices it is (\d+)": files_below("crates/vss_main/specs/TopCall.antt", "IsDone"),
     }
     for form, count in kept.items():
         said = [(page, int(number)) for page in PAGES for number in re.findall(form, text_of(page))]

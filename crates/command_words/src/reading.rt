@@ -1,6 +1,6 @@
 //! What the words ask for.
 
-ghost use Rattle.std.specs.Prelude.{◌≡◌, not, map, string_bytes, option_map, IfOk};
+ghost use Rattle.std.specs.Prelude.{◌≡◌, not, true, map, slice_get, string_bytes, option_map, is_some, IfOk, IfErr};
 ghost use Rattle.std.specs.List.{list_all};
 ghost use Rattle.command_words.specs.Command.{shown, is_dashed, are_plain, folder_of, number_of, with_folder, run_with, generate_with, inspect_with, meant, command};
 
@@ -104,16 +104,38 @@ fn meant<'a>(parts: Parts<'a>) -> Option<Command<'a>>
     }
 }
 
-/// What the words ask for: `run`, `run F`, `gen N`, `gen N F` or `inspect`. None exactly where they are no command.
+/// The word at a place.
+fn word_at<'a>(words: &'a [String], at: usize) -> Option<&'a str>
+    ensures { option_map (λ s. s.now) result ≡ slice_get (map string_bytes words.entry.now) at }
+{
+    match words.get(at) {
+        None => None,
+        Some(word) => Some(word.as_str()),
+    }
+}
+
+/// What the words ask for: `run`, `run F`, `gen N`, `gen N F` or `inspect`. None exactly where they are no command, even if there is no
+/// memory to part them.
 pub fn command_of<'a>(
     alloc: Global,
     words: &'a [String],
 ) -> Result<Option<Command<'a>>, OutOfMemory>
-    ensures { IfOk result (λ found. option_map shown found ≡ command (map string_bytes words.entry.now)) }
+    ensures found { IfOk result (λ found. option_map shown found ≡ command (map string_bytes words.entry.now)) }
+    ensures wanting { IfErr result (λ _. is_some (command (map string_bytes words.entry.now)) ≡ true) }
 {
     if !are_plain(words) {
         return Ok(None);
     }
-    let parts = parts_of(alloc, words)?;
-    Ok(meant(parts))
+    if let Ok(parts) = parts_of(alloc, words) {
+        return Ok(meant(parts));
+    }
+    let parts = Parts {
+        first: word_at(words, 0),
+        second: word_at(words, 1),
+        third: word_at(words, 2),
+    };
+    match meant(parts) {
+        None => Ok(None),
+        Some(_) => Err(OutOfMemory),
+    }
 }

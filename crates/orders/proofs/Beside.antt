@@ -63,8 +63,8 @@ first_as s t trail first moves actors movers plan same_trail same (inr stop) =
 
 -- ## to the report
 
-replayed : {D : Type 0} (told : D → Option (List (List ℕ))) (count : D → ℕ) (tells : Bool) (s : Plan) (moves : List Move) (p q : Played D) (text : TextValue)
-    → IsFresh told count tells s p → IsFollowedFar told count p q moves → IsEndedInTurn told count q text → IsReplayed count tells s moves text.bytes
+replayed : {D : Type 0} {lasting : D → Option (List (List ℕ))} (told : D → Option (List (List ℕ))) (count : D → ℕ) (tells : Bool) (s : Plan) (moves : List Move) (p q : Played D)
+    (text : TextValue) → IsFresh told count tells s p → IsFollowedFar told count p q moves → IsEndedInTurn told lasting count q text → IsReplayed count tells s moves text.bytes
 unfolding onward_stands
 replayed told count tells s moves p q text fresh far h =
     let begun = onward_stands told count tells s p q fresh far.led.onward in
@@ -76,10 +76,11 @@ replayed told count tells s moves p q text fresh far h =
       reported = reported_in_turn told count tells s far.led.onward.rest q text begun h;
     }
 
-pub replayed_if : {D : Type 0} (told : D → Option (List (List ℕ))) (count : D → ℕ) (tells : Bool) (s : Plan) (moves : List Move) (p q : Played D) (result : Result TextValue PlayFault)
-    → IsFresh told count tells s p → IsFollowedFar told count p q moves → IfOk result (IsEndedInTurn told count q) → IfOk result (λ text. IsReplayed count tells s moves text.bytes)
-replayed_if told count tells s moves p q (Ok text) fresh far h = replayed told count tells s moves p q text fresh far h
-replayed_if told count tells s moves p q (Err e) fresh far h = tt
+pub replayed_if : {D : Type 0} (told lasting : D → Option (List (List ℕ))) (count : D → ℕ) (tells : Bool) (s : Plan) (moves : List Move) (p q : Played D)
+    (result : Result TextValue PlayFault) → IsFresh told count tells s p → IsFollowedFar told count p q moves → IfOk result (IsEndedInTurn told lasting count q)
+    → IfOk result (λ text. IsReplayed count tells s moves text.bytes)
+replayed_if told lasting count tells s moves p q (Ok text) fresh far h = replayed told count tells s moves p q text fresh far h
+replayed_if told lasting count tells s moves p q (Err e) fresh far h = tt
 
 -- ## the moves of a text
 

@@ -57,9 +57,9 @@ stands_on told count tells s trail q r at h = record {
   tell = λ t. h.tells ∙ at.tell t;
 }
 
-pub reported : {D : Type 0} (told : D → Option (List (List ℕ))) (count : D → ℕ) (tells : Bool) (s : Plan) (trail : List Move) (q : Played D) (places : ℕ) (kept_first kept_last : Option (List D))
-    (first last : ℕ) (text : TextValue)
-    → StandsAt told tells s trail q → is_complete q.plan q.trail ≡ true → IsEnded told count q places kept_first kept_last first last (Ok text) → IsReported count tells s trail text.bytes
+pub reported : {D : Type 0} {lasting : D → Option (List (List ℕ))} (told : D → Option (List (List ℕ))) (count : D → ℕ) (tells : Bool) (s : Plan) (trail : List Move) (q : Played D)
+    (places : ℕ) (kept_first kept_last : Option (List D)) (first last : ℕ) (text : TextValue)
+    → StandsAt told tells s trail q → is_complete q.plan q.trail ≡ true → IsEnded told lasting count q places kept_first kept_last first last (Ok text) → IsReported count tells s trail text.bytes
 reported {D} told count tells s trail q places kept_first kept_last first last text at complete ended =
     let r : Played D = ended.new in
     let quiet = ended.quiet in
@@ -80,22 +80,22 @@ pub in_turn_as : {D : Type 0} (told : D → Option (List (List ℕ))) (tells : B
     → AreInTurn q.plan q.trail rest → AreInTurn s trail rest
 in_turn_as told tells s trail q rest at h = subst (λ (ms : List Move). AreInTurn s ms rest) at.trail_is (subst (λ (x : Plan). AreInTurn x q.trail rest) at.plan h)
 
-pub ended_in_turn : {D : Type 0} (told : D → Option (List (List ℕ))) (count : D → ℕ) (p q : Played D) (places : ℕ) (kept_first kept_last : Option (List D)) (first last : ℕ)
-    (result : Result TextValue PlayFault)
-    → IsPlayedInTurn told count p q → IsEnded told count q places kept_first kept_last first last result → IfOk result (IsEndedInTurn told count p)
+pub ended_in_turn : {D : Type 0} {lasting : D → Option (List (List ℕ))} (told : D → Option (List (List ℕ))) (count : D → ℕ) (p q : Played D) (places : ℕ) (kept_first kept_last : Option (List D))
+    (first last : ℕ) (result : Result TextValue PlayFault)
+    → IsPlayedInTurn told count p q → IsEnded told lasting count q places kept_first kept_last first last result → IfOk result (IsEndedInTurn told lasting count p)
 ended_in_turn told count p q places kept_first kept_last first last (Ok text) turned ended =
     record { last = q; turned = turned; places = places; kept_before = kept_first; kept_now = kept_last; count_before = first; count_now = last; ended = ended }
 ended_in_turn told count p q places kept_first kept_last first last (Err e) turned ended = tt
 
 -- the report of what was made first and of what came in turn
-pub reported_in_turn : {D : Type 0} (told : D → Option (List (List ℕ))) (count : D → ℕ) (tells : Bool) (s : Plan) (first : List Move) (q : Played D) (text : TextValue)
-    → StandsAt told tells s first q → (h : IsEndedInTurn told count q text) → IsReported count tells s (first ++ h.turned.played.onward.rest) text.bytes
+pub reported_in_turn : {D : Type 0} {lasting : D → Option (List (List ℕ))} (told : D → Option (List (List ℕ))) (count : D → ℕ) (tells : Bool) (s : Plan) (first : List Move) (q : Played D)
+    (text : TextValue) → StandsAt told tells s first q → (h : IsEndedInTurn told lasting count q text) → IsReported count tells s (first ++ h.turned.played.onward.rest) text.bytes
 reported_in_turn told count tells s first q text at h =
     reported told count tells s _ h.last h.places h.kept_before h.kept_now h.count_before h.count_now text (stands_on told count tells s first q h.last at h.turned.played.onward)
     h.turned.played.complete h.ended
 
-pub ordered : {D : Type 0} (told : D → Option (List (List ℕ))) (count : D → ℕ) (tells : Bool) (s : Plan) (entries : List Entry) (p q : Played D) (text : TextValue)
-    → IsFresh told count tells s p → IsLedBy told count p (actors_of entries) q → IsEndedInTurn told count q text → IsOrdered count tells s entries text.bytes
+pub ordered : {D : Type 0} {lasting : D → Option (List (List ℕ))} (told : D → Option (List (List ℕ))) (count : D → ℕ) (tells : Bool) (s : Plan) (entries : List Entry) (p q : Played D)
+    (text : TextValue) → IsFresh told count tells s p → IsLedBy told count p (actors_of entries) q → IsEndedInTurn told lasting count q text → IsOrdered count tells s entries text.bytes
 unfolding onward_stands
 ordered told count tells s entries p q text fresh led h =
     let begun = onward_stands told count tells s p q fresh led.onward in
@@ -130,9 +130,9 @@ unplayed_so told count tells s entries p q first last halt.OutOfMemory fresh h k
 
 -- ## by draws
 
-pub of_seed : {D : Type 0} (told : D → Option (List (List ℕ))) (count : D → ℕ) (tells : Bool) (s : Plan) (number : ℕ) (p r : Played D) (places : ℕ) (kept_first kept_last : Option (List D))
-    (first last : ℕ) (text : TextValue)
-    → IsFresh told count tells s p → IsPlayedAsDrawn told count number p r → IsEnded told count r places kept_first kept_last first last (Ok text) → IsOfSeed count tells s number text.bytes
+pub of_seed : {D : Type 0} {lasting : D → Option (List (List ℕ))} (told : D → Option (List (List ℕ))) (count : D → ℕ) (tells : Bool) (s : Plan) (number : ℕ) (p r : Played D)
+    (places : ℕ) (kept_first kept_last : Option (List D)) (first last : ℕ) (text : TextValue)
+    → IsFresh told count tells s p → IsPlayedAsDrawn told count number p r → IsEnded told lasting count r places kept_first kept_last first last (Ok text) → IsOfSeed count tells s number text.bytes
 of_seed told count tells s number p r places kept_first kept_last first last text fresh drawn ended =
     let whole = onward_stands told count tells s p r fresh drawn.onward in
     record {
@@ -141,9 +141,9 @@ of_seed told count tells s number p r places kept_first kept_last first last tex
       reported = reported told count tells s _ r places kept_first kept_last first last text whole drawn.complete ended;
     }
 
-pub of_seed_if : {D : Type 0} (told : D → Option (List (List ℕ))) (count : D → ℕ) (tells : Bool) (s : Plan) (number : ℕ) (p r : Played D) (places : ℕ) (kept_first kept_last : Option (List D))
-    (first last : ℕ) (result : Result TextValue PlayFault)
-    → IsFresh told count tells s p → IsPlayedAsDrawn told count number p r → IsEnded told count r places kept_first kept_last first last result
+pub of_seed_if : {D : Type 0} {lasting : D → Option (List (List ℕ))} (told : D → Option (List (List ℕ))) (count : D → ℕ) (tells : Bool) (s : Plan) (number : ℕ) (p r : Played D)
+    (places : ℕ) (kept_first kept_last : Option (List D)) (first last : ℕ) (result : Result TextValue PlayFault)
+    → IsFresh told count tells s p → IsPlayedAsDrawn told count number p r → IsEnded told lasting count r places kept_first kept_last first last result
     → IfOk result (λ text. IsOfSeed count tells s number text.bytes)
 of_seed_if told count tells s number p r places kept_first kept_last first last
     (Ok text) fresh drawn ended = of_seed told count tells s number p r places kept_first kept_last first last text fresh drawn ended

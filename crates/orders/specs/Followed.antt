@@ -35,7 +35,7 @@ IsFollowed told count old new entries (Err (At entry why)) = IsHaltedAt told cou
 IsFollowed told count old new entries (Err OutOfMemory) = Unit {0}
 
 -- the run went on in turn to its end, was closed with this report, and gave its devices back
-pub record IsEndedInTurn {D : Type 0} (told : D → Option (List (List ℕ))) (count : D → ℕ) (old : Played D) (text : TextValue) : Type 0 where
+pub record IsEndedInTurn {D : Type 0} (told lasting : D → Option (List (List ℕ))) (count : D → ℕ) (old : Played D) (text : TextValue) : Type 0 where
   pub last : Played D
   pub turned : IsPlayedInTurn told count old last
   pub places : ℕ
@@ -43,4 +43,4 @@ pub record IsEndedInTurn {D : Type 0} (told : D → Option (List (List ℕ))) (c
   pub kept_now : Option (List D)
   pub count_before : ℕ
   pub count_now : ℕ
-  pub ended : IsEnded told count last places kept_before kept_now count_before count_now (Ok text)
+  pub ended : IsEnded told lasting count last places kept_before kept_now count_before count_now (Ok text)

@@ -1,11 +1,14 @@
 -- Who takes part: along the acts of a session the participants are those that its `prepare` chose, of what its lines have said.
-use Rattle.std.proofs.Common.{◌≡◌, ◌∙◌, ℕ, ◌==◌, List, [], ◌∷◌, ◌++◌, Option, Some, None, refl, Bool, true, false, ap, sym, subst, map, fold, length}
+use Rattle.std.proofs.Common.{◌≡◌, ◌∙◌, ℕ, ◌==◌, List, [], ◌∷◌, ◌++◌, Option, Some, None, refl, Bool, true, false, ap, ap₂, sym, subst, map, fold, length}
 use Rattle.std.specs.Prelude.{◌&&◌, ◌||◌, not, if◌then◌else◌, slice_get}
 use Rattle.std.specs.List.{list_any}
 use Rattle.std.proofs.lemmas.List.{length-map}
 use Rattle.std.proofs.lemmas.List.Folds.{list_any-append}
 use Rattle.vss_names.specs.declared.context.Context.{Context}
 use Rattle.vss_names.specs.declared.vss_result.VssResult.TheVariants.{BadState, AsyncCancelled}
+use Rattle.vss_names.specs.declared.writer_state.WriterState.{WriterState}
+use Rattle.vss_names.specs.declared.writer_state.WriterState.TheVariants.{FailedAtIdentify}
+use Rattle.writer_state.specs.declared.writer_row.WriterRow.{WriterRow}
 use Rattle.writer_state.specs.WriterRow.{row_gathered, row_ended}
 use Rattle.write_history.specs.declared.mark.Mark.{Mark}
 use Rattle.writer_calls.specs.Script.{said_of}
@@ -28,14 +31,24 @@ use Rattle.vss_model.specs.Reply.{Reply}
 use Rattle.vss_model.specs.State.{State, start, in_progress, row_of_writer}
 use Rattle.vss_model.specs.Ending.{followed, failed}
 use Rattle.vss_model.specs.Images.{Replied, refused, write}
-use Rattle.vss_model.specs.Sessions.{is_disabled, known_metas, disable, pending, selected, has_no_volume, volumes_of, closed}
+use Rattle.vss_model.specs.Sessions.{is_disabled, is_identify_failure, has_failed_identify, known_metas, disable, pending, selected, has_no_volume, volumes_of, closed}
 use Rattle.vss_model.specs.Acts.{Act, enabled, idle_now, after, state}
 use Rattle.vss_model.specs.Replies.{is_fine, is_pending}
-use Rattle.promises.specs.Participants.{Choosing, unsaid, is_chosen, line_says, event_says, is_unfit, choosing_if, choosing_from, choosing, is_writer, ChosenTakePart}
+use Rattle.promises.specs.Participants.{Choosing, unsaid, is_chosen, line_says, event_says, is_unfit_state, is_unfit_row, is_unfit, choosing_if, choosing_from, choosing, is_writer, ChosenTakePart}
 use Rattle.promises.proofs.Truth.{or_false}
 use Rattle.vss_model.proofs.ByEvent.{Covers, ChangesNothing, covered, after_enabled, after_not_enabled}
 use Rattle.promises.proofs.Members.{is_selected, selected_are}
 use Rattle.promises.proofs.SameChoice.{same_course, SameChoice, same_choice, same_beside, mode_in, on_begun, on_agenda_begun, on_followed, on_failed_in, on_answered, on_ticked, on_stepped, on_write, on_revert}
+
+-- ## who has failed at Identify, in the words of the promise
+
+unfit_state_is : (x : WriterState) → is_identify_failure x ≡ is_unfit_state x
+unfit_state_is FailedAtIdentify = refl
+unfit_state_is _ = refl
+
+unfit_is : (o : Option WriterRow) → has_failed_identify o ≡ is_unfit_row o
+unfit_is None = refl
+unfit_is (Some r) = unfit_state_is r.state
 
 -- ## what the session has said, and where it stands
 
@@ -195,7 +208,7 @@ module _ (s : Plan) (w : ℕ) (st : State) (c : Choosing) (h : Follows s w st c)
   -- whom the session chooses
   pub chosen_by : (m : Mode) (all : Bool) → m ≡ mode_of all → list_any (λ (p : Pair). p.writer == w) st.explicit ≡ c.named → is_disabled s st w ≡ c.disabled
       → is_selected s st m w ≡ (if all then not c.disabled && not (is_unfit st w) else c.named)
-  chosen_by All true e named off = ap (λ b. not b && not (is_unfit st w)) off
+  chosen_by All true e named off = ap₂ (λ a b. not a && not b) off (unfit_is (slice_get st.course.rows w))
   chosen_by All false e named off = absurd cc
   chosen_by Components true e named off = absurd cc
   chosen_by Components false e named off = named

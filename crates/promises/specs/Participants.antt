@@ -3,8 +3,11 @@
 -- Before it nobody takes part, and until the session ends no other act changes who does, so at the cut it is the same. (That the
 -- writers of the components in the backup take part, and that a class can be disabled, are the SDK's; a session that takes all is its
 -- backup without component selection.)
-use Rattle.std.specs.Prelude.{ℕ, ◌≡◌, ◌==◌, ◌&&◌, ◌||◌, not, if◌then◌else◌, nat_lt, Bool, true, false, List, [], ◌∷◌, Some, None, length, slice_get}
+use Rattle.std.specs.Prelude.{ℕ, ◌≡◌, ◌==◌, ◌&&◌, ◌||◌, not, if◌then◌else◌, nat_lt, Bool, true, false, List, [], ◌∷◌, Option, Some, None, length, slice_get}
 use Rattle.vss_names.specs.declared.vss_result.VssResult.TheVariants.{AsyncPending}
+use Rattle.vss_names.specs.declared.writer_state.WriterState.{WriterState}
+use Rattle.vss_names.specs.declared.writer_state.WriterState.TheVariants.{FailedAtIdentify}
+use Rattle.writer_state.specs.declared.writer_row.WriterRow.{WriterRow}
 use Rattle.set_agenda.specs.Course.{is_member}
 use Rattle.requestor.specs.Session.{Session}
 use Rattle.scenario.specs.declared.op.Op.{Op}
@@ -14,7 +17,6 @@ use Rattle.vss_model.specs.declared.event.Event.{Event}
 use Rattle.vss_model.specs.declared.event.Event.TheVariants.{Line}
 use Rattle.vss_model.specs.Reply.{Reply, Coded}
 use Rattle.vss_model.specs.State.{State, SetRow, start, in_progress}
-use Rattle.vss_model.specs.Sessions.{has_failed_identify}
 use Rattle.vss_model.specs.Acts.{Act, enabled, reply, after, state}
 use Rattle.vss_model.specs.Replies.{is_fine, is_pending}
 
@@ -50,9 +52,17 @@ abbrev pub event_says : Plan → ℕ → Bool → Event → Reply → Choosing �
 event_says s w failed (Line lane op) told c = line_says s w failed op told c
 event_says s w failed _ told c = c
 
+abbrev pub is_unfit_state : WriterState → Bool
+is_unfit_state FailedAtIdentify = true
+is_unfit_state _ = false
+
+abbrev pub is_unfit_row : Option WriterRow → Bool
+is_unfit_row None = false
+is_unfit_row (Some r) = is_unfit_state r.state
+
 -- writer w stands as failed at Identify
 abbrev pub is_unfit : State → ℕ → Bool
-is_unfit st w = has_failed_identify (slice_get st.course.rows w)
+is_unfit st w = is_unfit_row (slice_get st.course.rows w)
 
 abbrev pub choosing_if : Bool → Plan → ℕ → State → Choosing → Act → Choosing
 choosing_if true s w st c act = event_says s w (is_unfit st w) act.event (reply s st act) c

@@ -1,31 +1,34 @@
 -- What is known of every task: want of memory is an answer before anything is touched, and the words of a task are no wrong words.
-use Rattle.std.proofs.Common.{◌≡◌, ℕ, ◌-◌, ◌<◌, ◌≤◌, List, length, refl, sym, ◌∙◌, arith, Bool, Option, Some, None, subst}
-use Rattle.std.specs.Prelude.{◌↔◌, IfSome}
-use Rattle.io_edge.specs.Streams.{IfGave}
+use Rattle.std.proofs.Common.{◌≡◌, ℕ, ◌-◌, ◌<◌, ◌≤◌, List, [], length, refl, ap, sym, ◌∙◌, arith, Bool, true, Option, Some, None, subst, inl, inr}
+use Rattle.std.specs.Prelude.{◌↔◌, ◌⊎◌, is_some, IfSome}
+use Rattle.io_edge.specs.Streams.{Gave, IfGave}
 use Rattle.volume_device.specs.declared.store.Store.{Store}
 use Rattle.area_listing.specs.declared.inspection.Inspection.{Inspection}
 use Rattle.area_listing.specs.declared.inspection.Inspection.TheVariants as ended
+use Rattle.scenario.specs.Grammar.{reading_of, IsScenario}
+use Rattle.scenario.specs.Plan.{Plan}
 use Rattle.command_words.specs.Command.{Asked}
 use Rattle.command_words.specs.declared.task.Task.{Task}
 use Rattle.command_words.specs.declared.task.Task.TheVariants.{Run, Generate, Inspect}
-use Rattle.vss_main.specs.Command.{most_bytes_for, most_for_task}
+use Rattle.vss_main.specs.Command.{most_bytes, most_bytes_for, most_for_task}
 use Rattle.vss_main.specs.Inspected.{status_of}
 use Rattle.vss_main.specs.Tasks.{IsTask, IsTaskWhereItCan, IsAnswer, IsAnsweredWhereItCan}
 use Rattle.vss_main.specs.Outside.{Around}
-use Rattle.vss_main.specs.TopCall.{IsDone, IsUntouched}
+use Rattle.vss_main.specs.TopCall.{IsCounted, IsDone, IsInputOf, IsMadeOfInput, IsUntouched}
 use Rattle.vss_main.specs.declared.status.Status.{Status}
-use Rattle.vss_main.specs.declared.status.Status.TheVariants.{Done, Usage, OutOfMemory, TooLong}
+use Rattle.vss_main.specs.declared.status.Status.TheVariants.{Done, Usage, OutOfMemory}
 
 no_less : (a b : ℕ) → b ≡ a → a ≤ b
 no_less a b e = omega arith
 
-untouched : {D : Type 0} (told : D → Option (List (List ℕ))) (tells : Store → Bool) (folder : Option (List ℕ)) (task : Task) (a : Around D) → IsUntouched a → IsTask told tells folder task a OutOfMemory
-untouched told tells folder Run a h = record { reads = h.reads; later = no_less a.count_first a.count_last h.unmade.count; unwritten = h.unwritten }
-untouched told tells folder (Generate n) a h = (
+untouched : {D : Type 0} (told lasting : D → Option (List (List ℕ))) (tells : Store → Bool) (folder : Option (List ℕ)) (task : Task) (a : Around D) → IsUntouched a
+    → IsTask told lasting tells folder task a OutOfMemory
+untouched told lasting tells folder Run a h = record { reads = h.reads; later = no_less a.count_first a.count_last h.unmade.count; counted = inl h.unmade.count; unwritten = h.unwritten }
+untouched told lasting tells folder (Generate n) a h = (
   record { left = h.left; reads = h.reads },
-  record { later = no_less a.count_first a.count_last h.unmade.count; nothing = record { taken = h.unwritten.taken; writes = h.unwritten.writes } },
+  record { later = no_less a.count_first a.count_last h.unmade.count; counted = inl h.unmade.count; nothing = record { taken = h.unwritten.taken; writes = h.unwritten.writes } },
 )
-untouched told tells folder Inspect a h = record {
+untouched told lasting tells folder Inspect a h = record {
   ended = ended.OutOfMemory;
   status_is = refl;
   inspected = record { reads = h.reads; silent = record { taken = h.unwritten.taken; writes = h.unwritten.writes } };
@@ -33,9 +36,18 @@ untouched told tells folder Inspect a h = record {
   unmade = h.unmade;
 }
 
-pub wants_memory : {D : Type 0} (told : D → Option (List (List ℕ))) (tells : Store → Bool) (asked : Option Asked) (a : Around D) → IsUntouched a → IsAnswer told tells asked a OutOfMemory
-wants_memory told tells None a h = (tt, h)
-wants_memory told tells (Some asked) a h = untouched told tells asked.folder asked.task a h
+pub wants_memory : {D : Type 0} (told lasting : D → Option (List (List ℕ))) (tells : Store → Bool) (asked : Option Asked) (a : Around D) → is_some asked ≡ true → IsUntouched a
+    → IsAnswer told lasting tells asked a OutOfMemory
+wants_memory told lasting tells None a some h = absurd cc
+wants_memory told lasting tells (Some asked) a some h = untouched told lasting tells asked.folder asked.task a h
+
+-- no status but Usage where the words are a command
+pub asked_not_usage : {status : Status} (asked : Option Asked) → is_some asked ≡ true → (status ≡ Usage → ⊥) → (status ≡ Usage) ↔ (asked ≡ None)
+asked_not_usage None some never = absurd cc
+asked_not_usage (Some asked) some never = (λ e. absurd (never e), λ e. absurd cc)
+
+pub memory_not_usage : OutOfMemory ≡ Usage → ⊥
+memory_not_usage e = cc
 
 task_wants : {D : Type 0} (task : Task) (a : Around D) → IsTaskWhereItCan task a OutOfMemory
 task_wants Run a = λ bytes s had few read none. tt
@@ -54,13 +66,14 @@ not_usage ended.WriteFault h = cc
 not_usage ended.TooLong h = cc
 not_usage ended.OutOfMemory h = cc
 
-no_usage : {D : Type 0} (told : D → Option (List (List ℕ))) (tells : Store → Bool) (folder : Option (List ℕ)) (task : Task) (a : Around D) → IsTask told tells folder task a Usage → ⊥
-no_usage told tells folder Run a h = h
-no_usage told tells folder (Generate n) a h = h.1
-no_usage told tells folder Inspect a h = not_usage h.ended h.status_is
+no_usage : {D : Type 0} (told lasting : D → Option (List (List ℕ))) (tells : Store → Bool) (folder : Option (List ℕ)) (task : Task) (a : Around D) → IsTask told lasting tells folder task a Usage → ⊥
+no_usage told lasting tells folder Run a h = h
+no_usage told lasting tells folder (Generate n) a h = h.1
+no_usage told lasting tells folder Inspect a h = not_usage h.ended h.status_is
 
-pub never_usage : {D : Type 0} (told : D → Option (List (List ℕ))) (tells : Store → Bool) (folder : Option (List ℕ)) (task : Task) (a : Around D) (status : Status) → IsTask told tells folder task a status → status ≡ Usage → ⊥
-never_usage told tells folder task a status h e = no_usage told tells folder task a (subst (λ (x : Status). IsTask told tells folder task a x) e h)
+pub never_usage : {D : Type 0} (told lasting : D → Option (List (List ℕ))) (tells : Store → Bool) (folder : Option (List ℕ)) (task : Task) (a : Around D) (status : Status)
+    → IsTask told lasting tells folder task a status → status ≡ Usage → ⊥
+never_usage told lasting tells folder task a status h e = no_usage told lasting tells folder task a (subst (λ (x : Status). IsTask told lasting tells folder task a x) e h)
 
 -- nothing was read
 pub nothing_given : (left : Option (List ℕ)) (most : ℕ) (A : Type 0) → (A → ⊥) → IfGave left left (λ n. A ↔ (most < n))
@@ -72,30 +85,47 @@ nothing_given (Some bytes) most A never = (λ a. absurd (never a), λ l. absurd 
 
 -- ## by the words
 
-pub answer_by : {D : Type 0} (told : D → Option (List (List ℕ))) (tells : Store → Bool) (asked : Option Asked) (given : Asked) (a : Around D) (status : Status) → Some given ≡ asked → IsTask told tells given.folder given.task a status → IsAnswer told tells asked a status
-answer_by told tells asked given a status e h = subst (λ (o : Option Asked). IsAnswer told tells o a status) e h
+pub answer_by : {D : Type 0} (told lasting : D → Option (List (List ℕ))) (tells : Store → Bool) (asked : Option Asked) (given : Asked) (a : Around D) (status : Status) → Some given ≡ asked
+    → IsTask told lasting tells given.folder given.task a status → IsAnswer told lasting tells asked a status
+answer_by told lasting tells asked given a status e h = subst (λ (o : Option Asked). IsAnswer told lasting tells o a status) e h
 
 pub where_by : {D : Type 0} (asked : Option Asked) (given : Asked) (a : Around D) (status : Status) → Some given ≡ asked → IsTaskWhereItCan given.task a status → IsAnsweredWhereItCan asked a status
 where_by asked given a status e h = subst (λ (o : Option Asked). IsAnsweredWhereItCan o a status) e h
 
-pub most_by : (before after : Option (List ℕ)) (A : Type 0) (asked : Option Asked) (given : Asked) → Some given ≡ asked → IfGave before after (λ n. A ↔ (most_for_task given.task < n)) → IfGave before after (λ n. A ↔ (most_bytes_for asked < n))
+pub most_by : (before after : Option (List ℕ)) (A : Type 0) (asked : Option Asked) (given : Asked) → Some given ≡ asked → IfGave before after (λ n. A ↔ (most_for_task given.task < n))
+    → IfGave before after (λ n. A ↔ (most_bytes_for asked < n))
 most_by before after A asked given e h = subst (λ (o : Option Asked). IfGave before after (λ n. A ↔ (most_bytes_for o < n))) e h
 
-pub none_by : (A : Type 0) (asked : Option Asked) (given : Asked) → Some given ≡ asked → asked ≡ None → A
-none_by A asked given e none = absurd cc
+pub some_by : (asked : Option Asked) (given : Asked) → Some given ≡ asked → is_some asked ≡ true
+some_by asked given e = subst (λ (o : Option Asked). is_some o ≡ true) e refl
 
 -- ## by the task
 
-pub task_as : {D : Type 0} (told : D → Option (List (List ℕ))) (tells : Store → Bool) (folder : Option (List ℕ)) (task other : Task) (a : Around D) (status : Status) → task ≡ other → IsTask told tells folder other a status → IsTask told tells folder task a status
-task_as told tells folder task other a status e h = subst (λ (t : Task). IsTask told tells folder t a status) (sym e) h
+pub task_as : {D : Type 0} (told lasting : D → Option (List (List ℕ))) (tells : Store → Bool) (folder : Option (List ℕ)) (task other : Task) (a : Around D) (status : Status) → task ≡ other
+    → IsTask told lasting tells folder other a status → IsTask told lasting tells folder task a status
+task_as told lasting tells folder task other a status e h = subst (λ (t : Task). IsTask told lasting tells folder t a status) (sym e) h
 
 pub where_as : {D : Type 0} (task other : Task) (a : Around D) (status : Status) → task ≡ other → IsTaskWhereItCan other a status → IsTaskWhereItCan task a status
 where_as task other a status e h = subst (λ (t : Task). IsTaskWhereItCan t a status) (sym e) h
 
-pub most_as : (before after : Option (List ℕ)) (A : Type 0) (task other : Task) → task ≡ other → IfGave before after (λ n. A ↔ (most_for_task other < n)) → IfGave before after (λ n. A ↔ (most_for_task task < n))
+pub most_as : (before after : Option (List ℕ)) (A : Type 0) (task other : Task) → task ≡ other → IfGave before after (λ n. A ↔ (most_for_task other < n))
+    → IfGave before after (λ n. A ↔ (most_for_task task < n))
 most_as before after A task other e h = subst (λ (t : Task). IfGave before after (λ n. A ↔ (most_for_task t < n))) (sym e) h
 
 -- where a run was asked for, and ended well
-pub done_by : {D : Type 0} (told : D → Option (List (List ℕ))) (tells : Store → Bool) (asked : Option Asked) (folder : Option (List ℕ)) (a : Around D) (status : Status)
-    → IsAnswer told tells asked a status → asked ≡ Some (record { task = Run; folder = folder }) → status ≡ Done → IsDone told tells folder a
-done_by told tells asked folder a status h e f = subst (λ o. IsAnswer told tells o a Done) e (subst (λ x. IsAnswer told tells asked a x) f h)
+pub done_by : {D : Type 0} (told lasting : D → Option (List (List ℕ))) (tells : Store → Bool) (asked : Option Asked) (folder : Option (List ℕ)) (a : Around D) (status : Status)
+    → IsAnswer told lasting tells asked a status → asked ≡ Some (record { task = Run; folder = folder }) → status ≡ Done → IsDone told lasting tells folder a
+done_by told lasting tells asked folder a status h e f = subst (λ o. IsAnswer told lasting tells o a Done) e (subst (λ x. IsAnswer told lasting tells asked a x) f h)
+
+-- ## by the input
+
+-- the text that was read is this scenario
+pub input_of : {D : Type 0} (a : Around D) (text bytes : List ℕ) (s : Plan) → Gave a.left_first text a.left_last → IfSome a.left_last (λ rest. rest ≡ []) → length text ≤ most_bytes
+    → bytes ≡ text → reading_of bytes ≡ IsScenario s → IsInputOf a s
+input_of a text bytes s gave to_the_end within same is =
+    record { input = text; is_input = record { gave = gave; to_the_end = to_the_end; within = within }; is_scenario = ap reading_of (sym same) ∙ is }
+
+pub counted_by : {D : Type 0} (told : D → Option (List (List ℕ))) (a : Around D) (s : Plan) → IsInputOf a s
+    → IsCounted told a.named_first a.named_last a.kept_first a.kept_last a.count_first a.count_last s → (a.count_last ≡ a.count_first) ⊎ IsMadeOfInput told a
+counted_by told a s input (inl e) = inl e
+counted_by told a s input (inr made) = inr (record { scenario = s; is_input = input; made = made })

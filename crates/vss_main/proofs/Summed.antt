@@ -1,10 +1,10 @@
 -- A run of a generated scenario, from its beginning to the devices that are given back, and its summary.
-use Rattle.std.proofs.Common.{◌≡◌, ℕ, zero, suc, ◌+◌, ◌<◌, ◌≤◌, List, [], ◌∷◌, ◌++◌, length, take, map, refl, ap, ap₂, sym, ◌∙◌, arith, Bool, true, false, cond, Option, Some, None, subst, inl, inr}
-use Rattle.std.specs.Prelude.{◌||◌, sum, option_map, slice_get, IsTrue, ◌⊎◌, Result, Ok, Err}
+use Rattle.std.proofs.Common.{◌≡◌, ℕ, zero, suc, ◌+◌, ◌<◌, ◌≤◌, List, [], ◌∷◌, length, map, refl, ap, ap₂, sym, ◌∙◌, arith, Bool, true, false, cond, Option, Some, None, subst, inl, inr}
+use Rattle.std.specs.Prelude.{◌||◌, slice_get, ◌⊎◌, Result, Ok, Err}
 use Rattle.std.specs.List.{concat, range_with_len, list_any}
 use Rattle.std.proofs.lemmas.List.Sums.{sum_by-cons}
 use Rattle.std.proofs.lemmas.Option.{slice_get_past, slice_get_within}
-use Rattle.vss_names.specs.Faults.{Rose}
+use Rattle.vss_names.specs.Faults.{Rose, most}
 use Rattle.block_data.specs.Digest.{sha256}
 use Rattle.write_history.specs.declared.move_item.Move.{Move}
 use Rattle.write_history.specs.History.{Write, contents}
@@ -17,22 +17,20 @@ use Rattle.scenario.specs.Grammar.{reading_of, IsScenario, IsBad, IsRefusal}
 use Rattle.generator_text.specs.ScenarioText.{gen_text}
 use Rattle.generated.specs.Reading.{IsRead}
 use Rattle.generator_text.specs.Contents.{final_blocks}
-use Rattle.generator_text.specs.Summary.{summary, summary_with, final_digest, final_digests}
+use Rattle.generator_text.specs.Summary.{summary_with, final_digest, final_digests}
 use Rattle.vss_model.specs.Told.{IsDigestIf}
 use Rattle.vss_model.specs.Trail.{is_fault, is_legal, is_complete, faults}
 use Rattle.vss_report.specs.ToldReport.{all_tell}
 use Rattle.vss_report.proofs.DigestBytes.{digest_if}
 use Rattle.generated.specs.Scenario.{Shape, shape_of, own_shape, IsGenerated}
 use Rattle.generated.proofs.Ending.{ends_in_blocks, ends_well}
-use Rattle.vss_world.specs.Devices.{tells_of}
 use Rattle.vss_play.specs.declared.play_fault.PlayFault.{PlayFault}
 use Rattle.vss_play.specs.Closing.{history_after}
 use Rattle.vss_play.specs.Digested.{AreDigests, bytes_after}
 use Rattle.vss_play.specs.Played.{Played, AreNamed, device_names, IsFresh, IsPlayedOut, tells_in, AnyRose}
-use Rattle.vss_play.proofs.MakerCount.{rose-positive, rose-counted, member-le-sum, clean-counted, complete_moved}
-use Rattle.vss_main.specs.Generated.{IsOfNumber, AreEight, IsSummed, IsDigested}
-use Rattle.vss_main.specs.TopCall.{AreGivenBack}
-use Rattle.vss_main.proofs.Ran.{as_many, take_all}
+use Rattle.vss_play.proofs.MakerCount.{rose-positive, rose-counted, member-le-sum}
+use Rattle.vss_main.specs.Generated.{IsOfNumber, AreEight, IsSummed, IsDigested, IsDigestedTo}
+use Rattle.vss_main.proofs.Ran.{IsWhole, same_plan, ends_complete, all_told, made-of}
 
 length_map : {X Y : Type 0} (f : X → Y) (xs : List X) → length (map f xs) ≡ length xs
 length_map f [] = refl
@@ -43,7 +41,8 @@ length_map f (x ∷ xs) = ap suc (length_map f xs)
 pub short_as : (n : ℕ) (text : List ℕ) → text ≡ gen_text n → length (gen_text n) < 4294967295 → length text < 4294967295
 short_as n text e short = subst (λ (bs : List ℕ). length bs < 4294967295) (sym e) short
 
-pub of_number : (n : ℕ) (text : List ℕ) (s : Plan) → text ≡ gen_text n → reading_of text ≡ IsScenario s → ((plan : Plan) → reading_of (gen_text n) ≡ IsScenario plan → IsGenerated n plan) → IsOfNumber n s
+pub of_number : (n : ℕ) (text : List ℕ) (s : Plan) → text ≡ gen_text n → reading_of text ≡ IsScenario s → ((plan : Plan) → reading_of (gen_text n) ≡ IsScenario plan → IsGenerated n plan)
+    → IsOfNumber n s
 of_number n text s e read law = let is : reading_of (gen_text n) ≡ IsScenario s = ap reading_of (sym e) ∙ read in record { read = is; generated = law s is }
 
 not_bad : (n : ℕ) (text : List ℕ) (line : ℕ) (reason : Reason) → text ≡ gen_text n → IsRead n → reading_of text ≡ IsBad line reason → ⊥
@@ -81,11 +80,13 @@ by_told None bytes digest told h = h
 by_told (Some true) bytes digest told h = h
 by_told (Some false) bytes digest told h = absurd (told refl)
 
-final_is : (n v k : ℕ) (writes : List Write) (digest : List ℕ) → digest ≡ sha256 (concat (contents k writes (length writes))) → k ≡ 256 → contents 256 writes (length writes) ≡ final_blocks n v → digest ≡ final_digest n v
+final_is : (n v k : ℕ) (writes : List Write) (digest : List ℕ) → digest ≡ sha256 (concat (contents k writes (length writes))) → k ≡ 256 → contents 256 writes (length writes) ≡ final_blocks n v
+    → digest ≡ final_digest n v
 unfolding final_digest
 final_is n v k writes digest e blocks ends = e ∙ ap (λ (m : ℕ). sha256 (concat (contents m writes (length writes)))) blocks ∙ ap (λ (bs : List (List ℕ)). sha256 (concat bs)) ends
 
-all_are : (f : ℕ → List ℕ) (a : ℕ) (digests : List (List ℕ)) → ((v : ℕ) (digest : List ℕ) → slice_get digests v ≡ Some digest → digest ≡ f (a + v)) → digests ≡ map f (range_with_len a (length digests))
+all_are : (f : ℕ → List ℕ) (a : ℕ) (digests : List (List ℕ)) → ((v : ℕ) (digest : List ℕ) → slice_get digests v ≡ Some digest → digest ≡ f (a + v))
+    → digests ≡ map f (range_with_len a (length digests))
 all_are f a [] h = refl
 all_are f a (d ∷ digests) h =
     ap₂ (λ (x : List ℕ) (xs : List (List ℕ)). x ∷ xs) (h 0 d refl ∙ ap f (omega arith))
@@ -101,7 +102,8 @@ digests_final n s trail digests g legal complete clean are eight =
     let told = by_told (slice_get (all_tell s) v) (bytes_after s trail v) digest (not_untold s.volumes v) (are v digest below is) in
     let same : v ≡ 0 + v = omega arith in
     subst (λ (w : ℕ). digest ≡ final_digest n w) same
-    (final_is n v (blocks_of s v) (history_after s trail v).writes digest told (blocks_at s.volumes (range_with_len 0 8) v g.volumes below) (ends_in_blocks n s trail g legal complete clean v (omega arith))))
+    (final_is n v (blocks_of s v) (history_after s trail v).writes digest told (blocks_at s.volumes (range_with_len 0 8) v g.volumes below)
+    (ends_in_blocks n s trail g legal complete clean v (omega arith))))
     ∙ ap (λ (k : ℕ). map (final_digest n) (range_with_len 0 k)) eight
 
 are_eight : (tells : List Bool) (s : Plan) (trail : List Move) (digests : List (List ℕ)) → length digests ≡ 8 → length s.volumes ≡ 8 → AreDigests tells s trail digests → AreEight digests
@@ -124,12 +126,14 @@ marked_with false any n total e h rest = let l = rest h in omega arith
 pub no_mark : (trail : List Move) → list_any (λ m. is_fault m.mark) trail ≡ false → faults trail ≡ 0
 no_mark [] e = refl
 no_mark (m ∷ trail) e =
-    unmarked_with (is_fault m.mark) (list_any (λ (x : Move). is_fault x.mark) trail) (faults trail) (faults (m ∷ trail)) (sum_by-cons (λ (x : Move). cond (is_fault x.mark) 1 0) m trail) e (no_mark trail)
+    unmarked_with (is_fault m.mark) (list_any (λ (x : Move). is_fault x.mark) trail) (faults trail) (faults (m ∷ trail)) (sum_by-cons (λ (x : Move). cond (is_fault x.mark) 1 0) m trail) e
+    (no_mark trail)
 
 pub some_mark : (trail : List Move) → list_any (λ m. is_fault m.mark) trail ≡ true → 1 ≤ faults trail
 some_mark [] e = absurd cc
 some_mark (m ∷ trail) e =
-    marked_with (is_fault m.mark) (list_any (λ (x : Move). is_fault x.mark) trail) (faults trail) (faults (m ∷ trail)) (sum_by-cons (λ (x : Move). cond (is_fault x.mark) 1 0) m trail) e (some_mark trail)
+    marked_with (is_fault m.mark) (list_any (λ (x : Move). is_fault x.mark) trail) (faults trail) (faults (m ∷ trail)) (sum_by-cons (λ (x : Move). cond (is_fault x.mark) 1 0) m trail) e
+    (some_mark trail)
 
 pub marked_as : (trail moves : List Move) (b : Bool) → moves ≡ trail → b ≡ list_any (λ m. is_fault m.mark) moves → b ≡ true → 1 ≤ faults trail
 marked_as trail moves b same is e = some_mark trail (ap (list_any (λ m. is_fault m.mark)) (sym same) ∙ sym is ∙ e)
@@ -139,83 +143,74 @@ unmarked_as trail moves b same is e = no_mark trail (ap (list_any (λ m. is_faul
 
 -- ## the run
 
--- what is known of a run that was begun, played to its end and digested
-pub record IsSummedUp {D : Type 0} (told : D → Option (List (List ℕ))) (count : D → ℕ) (tells : Bool) (named_first named_last : Option (List (List ℕ))) (kept_first kept_made kept_last : Option (List D)) (places first made last n : ℕ) (s : Plan) (p q : Played D) (result : Result (List (List ℕ)) PlayFault) : Type 0 where
-  pub fresh : IsFresh told count tells s p
-  pub named : AreNamed (device_names s) named_first named_last
-  pub later : first ≤ made
-  pub unmoved : made ≡ first
-  pub played : IsPlayedOut told count p q
-  pub enough : length p.devices ≤ places
-  pub kept_new : kept_made ≡ kept_first
-  pub of_number : IsOfNumber n s
-  pub ended : IsDigested told count q places kept_made kept_last made last result
+-- a run that was begun, played to its end and digested
+pub whole-digested : {D : Type 0} {told lasting : D → Option (List (List ℕ))} {count : D → ℕ} {tells : Bool} {named_first named_last : Option (List (List ℕ))}
+    {kept_first kept_made kept_last : Option (List D)} {places first made last : ℕ} {s : Plan} {p q : Played D} {result : Result (List (List ℕ)) PlayFault}
+    → IsFresh told count tells s p → AreNamed (device_names s) named_first named_last → made ≡ first → IsPlayedOut told count p q → length p.devices ≤ places → kept_made ≡ kept_first
+    → (ended : IsDigested told lasting count q places kept_made kept_last made last result)
+    → IsWhole told count tells named_first named_last kept_first kept_made kept_last places first made last s p q ended.new
+whole-digested fresh named unmoved played enough kept_new ended = record {
+  fresh = fresh;
+  named = named;
+  unmoved = unmoved;
+  played = played;
+  enough = enough;
+  kept_new = kept_new;
+  quiet = ended.quiet;
+  keeps = ended.keeps;
+  kept = ended.kept;
+  count_is = ended.count_is;
+}
 
-many_back : {D : Type 0} → (told : D → Option (List (List ℕ))) (count : D → ℕ) (tells : Bool) (named_first named_last : Option (List (List ℕ))) (kept_first kept_made kept_last : Option (List D)) (places first made last n : ℕ) (s : Plan) (p q : Played D) (result : Result (List (List ℕ)) PlayFault)
-    → (h : IsSummedUp told count tells named_first named_last kept_first kept_made kept_last places first made last n s p q result) → length h.ended.new.devices ≡ length p.devices
-many_back told count tells named_first named_last kept_first kept_made kept_last places first made last n s p q result h = as_many count q.devices h.ended.new.devices h.ended.quiet.later ∙ as_many count p.devices q.devices h.played.onward.later
+module _ {D : Type 0} {told : D → Option (List (List ℕ))} {count : D → ℕ} {tells : Bool} {named_first named_last : Option (List (List ℕ))}
+    {kept_first kept_made kept_last : Option (List D)} {places first made last : ℕ} {s : Plan} {p q r : Played D}
+    (h : IsWhole told count tells named_first named_last kept_first kept_made kept_last places first made last s p q r) where
+  pub summed-of : {lasting : D → Option (List (List ℕ))} (n : ℕ) (digests : List (List ℕ)) (text : List ℕ) → IsOfNumber n s → IsDigestedTo told lasting count q r (Ok digests)
+      → text ≡ summary_with n digests → IsSummed told lasting tells named_first named_last kept_first kept_last first last n s text
+  unfolding made-of
+  summed-of {lasting} n digests text of_number ends is =
+      let same = same_plan h in
+      let complete = ends_complete h in
+      let legal = h.keeps.legal in
+      let are : AreDigests (tells_in told r) r.plan r.trail digests = ends.0 in
+      let unmarked : faults r.trail ≡ 0 = ends.2 in
+      let eight : length digests ≡ 8 = ends.4 in
+      let generated : IsGenerated n r.plan = subst (λ (x : Plan). IsGenerated n x) (sym same) of_number.generated in
+      subst (λ (x : Plan). IsSummed told lasting tells named_first named_last kept_first kept_last first last n x text) same (record {
+        made = made-of h ends.3;
+        unmarked = unmarked;
+        ends_well = ends_well n r.plan r.trail generated legal complete unmarked;
+        digests = digests;
+        are_digests = are_eight (tells_in told r) r.plan r.trail digests eight (eight_volumes n r.plan generated) are;
+        is_text = is;
+        only = λ t. is ∙ ap (summary_with n) (digests_final n r.plan r.trail digests generated legal complete unmarked
+            (subst (λ (ts : List Bool). AreDigests ts r.plan r.trail digests) (all_told h t) are) eight);
+        areas = ends.1;
+        lasted = ends.5;
+      })
 
-back : {D : Type 0} → (told : D → Option (List (List ℕ))) (count : D → ℕ) (tells : Bool) (named_first named_last : Option (List (List ℕ))) (kept_first kept_made kept_last : Option (List D)) (places first made last n : ℕ) (s : Plan) (p q : Played D) (result : Result (List (List ℕ)) PlayFault)
-    → (h : IsSummedUp told count tells named_first named_last kept_first kept_made kept_last places first made last n s p q result) → kept_last ≡ option_map (λ ds. ds ++ h.ended.new.devices) kept_first
-back told count tells named_first named_last kept_first kept_made kept_last places first made last n s p q result h =
-    h.ended.kept (subst (λ k. k ≤ places) (sym (many_back told count tells named_first named_last kept_first kept_made kept_last places first made last n s p q result h)) h.enough) ∙ ap (option_map (λ ds. ds ++ h.ended.new.devices)) h.kept_new
-
-pub summed-of : {D : Type 0} → (told : D → Option (List (List ℕ))) (count : D → ℕ) (tells : Bool) (named_first named_last : Option (List (List ℕ))) (kept_first kept_made kept_last : Option (List D)) (places first made last n : ℕ) (s : Plan) (p q : Played D) (digests : List (List ℕ)) (text : List ℕ)
-    → IsSummedUp told count tells named_first named_last kept_first kept_made kept_last places first made last n s p q (Ok digests) → text ≡ summary_with n digests → IsSummed told tells named_first named_last kept_first kept_last first last n s text
-summed-of {D} told count tells named_first named_last kept_first kept_made kept_last places first made last n s p q digests text h is =
-    let ended = h.ended in
-    let played = h.played in
-    let r : Played D = ended.new in
-    let quiet = ended.quiet in
-    let kept = ended.keeps in
-    let are : AreDigests (tells_in told r) r.plan r.trail digests = ended.ends.0 in
-    let unmarked : faults r.trail ≡ 0 = ended.ends.2 in
-    let eight : length digests ≡ 8 = ended.ends.4 in
-    let same : r.plan ≡ s = quiet.plan ∙ played.onward.plan ∙ h.fresh.plan in
-    let generated : IsGenerated n r.plan = subst (λ (x : Plan). IsGenerated n x) (sym same) h.of_number.generated in
-    let complete : is_complete r.plan r.trail ≡ true = complete_moved told count q r quiet played.complete in
-    let rest : r.trail ≡ played.onward.rest = quiet.trail ∙ played.onward.trail ∙ ap (λ (ms : List Move). ms ++ played.onward.rest) h.fresh.trail in
-    let tell : IsTrue tells → tells_of told r.plan r.devices ≡ all_tell r.plan = λ t. quiet.tells ∙ played.onward.tells ∙ h.fresh.tell t ∙ ap (λ (x : Plan). all_tell x) (sym same) in
-    subst (λ (x : Plan). IsSummed told tells named_first named_last kept_first kept_last first last n x text) same (record {
-      trail = r.trail;
-      devices = r.devices;
-      legal = kept.legal;
-      complete = complete;
-      unmarked = unmarked;
-      ends_well = ends_well n r.plan r.trail generated kept.legal complete unmarked;
-      digests = digests;
-      are_digests = are_eight (tells_in told r) r.plan r.trail digests eight (eight_volumes n r.plan generated) are;
-      is_text = is;
-      only = λ t. is ∙ ap (summary_with n) (digests_final n r.plan r.trail digests generated kept.legal complete unmarked (subst (λ (ts : List Bool). AreDigests ts r.plan r.trail digests) (tell t) are) eight);
-      holds = kept.holds;
-      areas = ended.ends.1;
-      named = subst (λ (x : Plan). AreNamed (device_names x) named_first named_last) (sym same) h.named;
-      given_back = back told count tells named_first named_last kept_first kept_made kept_last places first made last n s p q (Ok digests) h;
-      counted = clean-counted first made last (map count r.devices) (ap sum (ended.ends.3 ∙ played.onward.clean (ap faults (sym rest) ∙ unmarked)) ∙ h.fresh.counts) h.unmoved ended.count_is;
-    })
+  -- no fault was counted
+  pub none_counted : {lasting : D → Option (List (List ℕ))} (digests : List (List ℕ)) → IsDigestedTo told lasting count q r (Ok digests) → (last ≡ first) ⊎ (last ≡ most)
+  unfolding made-of
+  none_counted digests ends = (made-of h ends.3).clean ends.2
 
 -- ## a run without a summary
 
-fault-by : {D : Type 0} → (told : D → Option (List (List ℕ))) (count : D → ℕ) (q : Played D) (places first made last : ℕ) (kept_first kept_last : Option (List D)) (why : PlayFault) → first ≤ made → IsDigested told count q places kept_first kept_last made last (Err why) → Rose first last
-fault-by {D} told count q places first made last kept_first kept_last why later ended = by_cause ended.ends
+fault-by : {D : Type 0} → (told lasting : D → Option (List (List ℕ))) (count : D → ℕ) (q : Played D) (places first made last : ℕ) (kept_first kept_last : Option (List D)) (why : PlayFault)
+    → first ≤ made → IsDigested told lasting count q places kept_first kept_last made last (Err why) → Rose first last
+fault-by {D} told lasting count q places first made last kept_first kept_last why later ended = by_cause ended.ends
   where
     counts : List ℕ
     counts = map count ended.new.devices
 
     by_cause : (AnyRose (map count q.devices) (map count ended.new.devices)) ⊎ (1 ≤ faults ended.new.trail) → Rose first last
-    by_cause (inl any) = rose-counted first made last (map count ended.new.devices) any.now (rose-positive any.before any.now any.rose) (member-le-sum (map count ended.new.devices) any.at any.now any.is) later ended.count_is
+    by_cause (inl any) = rose-counted first made last (map count ended.new.devices) any.now (rose-positive any.before any.now any.rose)
+        (member-le-sum (map count ended.new.devices) any.at any.now any.is) later ended.count_is
     by_cause (inr one) = rose-counted first made last (map count ended.new.devices) (faults ended.new.trail) (omega arith) ended.keeps.faults later ended.count_is
 
-pub fault-of : {D : Type 0} → (told : D → Option (List (List ℕ))) (count : D → ℕ) (q : Played D) (places first made last : ℕ) (kept_first kept_last : Option (List D)) (result : Result (List (List ℕ)) PlayFault) (why : PlayFault) → first ≤ made → IsDigested told count q places kept_first kept_last made last result → result ≡ Err why → Rose first last
-fault-of told count q places first made last kept_first kept_last result why later ended e =
-    fault-by told count q places first made last kept_first kept_last why later (subst (λ (r : Result (List (List ℕ)) PlayFault). IsDigested told count q places kept_first kept_last made last r) e ended)
-
-pub given-back : {D : Type 0} → (told : D → Option (List (List ℕ))) (count : D → ℕ) (tells : Bool) (named_first named_last : Option (List (List ℕ))) (kept_first kept_made kept_last : Option (List D)) (places first made last n : ℕ) (s : Plan) (p q : Played D) (result : Result (List (List ℕ)) PlayFault)
-    → IsSummedUp told count tells named_first named_last kept_first kept_made kept_last places first made last n s p q result → AreGivenBack s named_first named_last kept_first kept_last
-given-back told count tells named_first named_last kept_first kept_made kept_last places first made last n s p q result h =
-    let many = many_back told count tells named_first named_last kept_first kept_made kept_last places first made last n s p q result h ∙ h.fresh.many in
-    record {
-      devices = h.ended.new.devices;
-      named = subst (λ names. AreNamed names named_first named_last) (sym (take_all (device_names s) (length h.ended.new.devices) (sym many))) h.named;
-      kept = back told count tells named_first named_last kept_first kept_made kept_last places first made last n s p q result h;
-    }
+pub fault-of : {D : Type 0}
+    → (told lasting : D → Option (List (List ℕ))) (count : D → ℕ) (q : Played D) (places first made last : ℕ) (kept_first kept_last : Option (List D)) (result : Result (List (List ℕ)) PlayFault)
+    (why : PlayFault) → first ≤ made → IsDigested told lasting count q places kept_first kept_last made last result → result ≡ Err why → Rose first last
+fault-of told lasting count q places first made last kept_first kept_last result why later ended e =
+    fault-by told lasting count q places first made last kept_first kept_last why later
+    (subst (λ (r : Result (List (List ℕ)) PlayFault). IsDigested told lasting count q places kept_first kept_last made last r) e ended)

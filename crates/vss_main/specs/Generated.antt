@@ -1,27 +1,25 @@
 -- What a run of the generated scenario of a number promises of the top call, by its status. At status 0 the output grew by the summary of
 -- that number: what the run's own volumes held at its end, by their digests. It is a function of the number alone where the maker tells
 -- its devices, so it shows nothing of the run but that its trail is one. (This project's own.)
-use Rattle.std.specs.Prelude.{ℕ, ◌≡◌, ◌≤◌, ◌⊎◌, Bool, true, IsTrue, List, ◌++◌, length, map, Option, Some, Result, Ok, Err, option_map, slice_get}
+use Rattle.std.specs.Prelude.{ℕ, ◌≡◌, ◌≤◌, ◌⊎◌, Bool, IsTrue, List, ◌++◌, length, map, Option, Some, Result, Ok, Err, option_map, slice_get}
 use Rattle.hex.specs.Hex.{IsBytes}
 use Rattle.vss_names.specs.Faults.{Rose, most, all_counted}
 use Rattle.io_edge.specs.Streams.{Took, TookPart}
 use Rattle.volume_device.specs.declared.store.Store.{Store}
-use Rattle.write_history.specs.declared.move_item.Move.{Move}
 use Rattle.scenario.specs.Plan.{Plan}
 use Rattle.scenario.specs.Grammar.{reading_of, IsScenario}
 use Rattle.generator_text.specs.ScenarioText.{gen_text}
 use Rattle.generator_text.specs.Summary.{summary, summary_with}
-use Rattle.vss_model.specs.Acts.{state}
-use Rattle.vss_model.specs.Trail.{acts, is_legal, is_complete, faults}
+use Rattle.vss_model.specs.Trail.{faults}
 use Rattle.generated.specs.Scenario.{IsGenerated}
 use Rattle.generated.specs.EndsWell.{EndsWell}
-use Rattle.vss_world.specs.Devices.{AllTied}
 use Rattle.vss_play.specs.declared.play_fault.PlayFault.{PlayFault}
 use Rattle.vss_play.specs.Digested.{AreDigests}
-use Rattle.vss_play.specs.Played.{Played, AnyRose, AreNamed, AreasHold, IsKept, IsQuietPlay, device_names, tells_in}
+use Rattle.vss_play.specs.Lasting.{HaveLasted}
+use Rattle.vss_play.specs.Played.{Played, AnyRose, AreasHold, IsKept, IsQuietPlay, tells_in}
 use Rattle.vss_main.specs.Command.{IsStoreOf}
 use Rattle.vss_main.specs.Outside.{SinkAndMaker}
-use Rattle.vss_main.specs.TopCall.{AreGivenBack, IsDoneOrWantsMemory}
+use Rattle.vss_main.specs.TopCall.{AreGivenBack, MadeRun, IsDoneOrWantsMemory}
 use Rattle.vss_main.specs.declared.status.Status.{Status}
 use Rattle.vss_main.specs.declared.status.Status.TheVariants.{Done, WriteFault, DeviceFault, OutOfMemory}
 
@@ -40,32 +38,26 @@ pub record AreEight (digests : List (List ℕ)) : Type 0 where
 
 -- The text is the summary of a run of this scenario: of its own trail, without a fault mark, over the devices that the maker then got
 -- back. Where the devices do not tell, any digests may stand in it.
-pub record IsSummed {D : Type 0} (told : D → Option (List (List ℕ))) (tells : Bool) (named_first named_last : Option (List (List ℕ))) (kept_first kept_last : Option (List D)) (count_first count_last n : ℕ) (s : Plan) (text : List ℕ) : Type 0 where
-  pub trail : List Move
-  -- for each group of volumes in order: its volumes', in order, and then its area's
-  pub devices : List D
-  pub legal : is_legal s trail ≡ true
-  pub complete : is_complete s trail ≡ true
-  pub unmarked : faults trail ≡ 0
+pub record IsSummed {D : Type 0} (told lasting : D → Option (List (List ℕ))) (tells : Bool) (named_first named_last : Option (List (List ℕ))) (kept_first kept_last : Option (List D)) (count_first count_last n : ℕ) (s : Plan) (text : List ℕ) : Type 0 where
+  pub made : MadeRun told named_first named_last kept_first kept_last count_first count_last s
+  pub unmarked : faults made.trail ≡ 0
   -- its four sets are complete, nothing was evicted, and each volume has the contents whose digest stands in the summary
-  pub ends_well : EndsWell n s trail
+  pub ends_well : EndsWell n s made.trail
   pub digests : List (List ℕ)
   pub are_digests : AreEight digests
   pub is_text : text ≡ summary_with n digests
   pub only : IsTrue tells → text ≡ summary n
-  pub holds : AllTied told s (state s (acts s trail)).volumes devices
-  pub areas : AreasHold told s trail devices
-  pub named : AreNamed (device_names s) named_first named_last
-  pub given_back : kept_last ≡ option_map (λ ds. ds ++ devices) kept_first
-  pub counted : (count_last ≡ count_first) ⊎ (count_last ≡ most)
+  pub areas : AreasHold told s made.trail made.devices
+  -- the device of each volume and of each area was flushed when it told what it tells
+  pub lasted : HaveLasted told lasting s made.devices
 
 -- a summary of a run of the generated scenario of n over devices in the folder of this name, or in memory where there is none
-pub record IsSummedIn {D : Type 0} (told : D → Option (List (List ℕ))) (tells : Store → Bool) (folder : Option (List ℕ)) (named_first named_last : Option (List (List ℕ))) (kept_first kept_last : Option (List D)) (count_first count_last n : ℕ) (text : List ℕ) : Type 0 where
+pub record IsSummedIn {D : Type 0} (told lasting : D → Option (List (List ℕ))) (tells : Store → Bool) (folder : Option (List ℕ)) (named_first named_last : Option (List (List ℕ))) (kept_first kept_last : Option (List D)) (count_first count_last n : ℕ) (text : List ℕ) : Type 0 where
   pub plan : Plan
   pub is_plan : IsOfNumber n plan
   pub store : Store
   pub is_store : IsStoreOf folder store
-  pub summed : IsSummed told (tells store) named_first named_last kept_first kept_last count_first count_last n plan text
+  pub summed : IsSummed told lasting (tells store) named_first named_last kept_first kept_last count_first count_last n plan text
 
 -- the devices of such a run were given back, though it has no summary
 pub record IsUnsummed {D : Type 0} (n : ℕ) (named_first named_last : Option (List (List ℕ))) (kept_first kept_last : Option (List D)) : Type 0 where
@@ -76,18 +68,19 @@ pub record IsUnsummed {D : Type 0} (n : ℕ) (named_first named_last : Option (L
 -- ## the end of a run
 
 -- its volumes were digested, its areas written, and it has no fault mark; or the count of some device rose, or it has one
-abbrev pub IsDigestedTo : {D : Type 0} → (D → Option (List (List ℕ))) → (D → ℕ) → Played D → Played D → Result (List (List ℕ)) PlayFault → Type 0
-IsDigestedTo told count old new (Ok digests) =
+abbrev pub IsDigestedTo : {D : Type 0} → (D → Option (List (List ℕ))) → (D → Option (List (List ℕ))) → (D → ℕ) → Played D → Played D → Result (List (List ℕ)) PlayFault → Type 0
+IsDigestedTo told lasting count old new (Ok digests) =
     AreDigests (tells_in told new) new.plan new.trail digests × AreasHold told new.plan new.trail new.devices × (faults new.trail ≡ 0) × (map count new.devices ≡ map count old.devices) × (length digests ≡ 8)
-IsDigestedTo told count old new (Err why) = AnyRose (map count old.devices) (map count new.devices) ⊎ (1 ≤ faults new.trail)
+    × HaveLasted told lasting new.plan new.devices
+IsDigestedTo told lasting count old new (Err why) = AnyRose (map count old.devices) (map count new.devices) ⊎ (1 ≤ faults new.trail)
 
 -- a run was digested, and its devices were given back
-pub record IsDigested {D : Type 0} (told : D → Option (List (List ℕ))) (count : D → ℕ) (old : Played D) (places : ℕ) (kept_before kept_now : Option (List D)) (count_before count_now : ℕ) (result : Result (List (List ℕ)) PlayFault) : Type 0 where
+pub record IsDigested {D : Type 0} (told lasting : D → Option (List (List ℕ))) (count : D → ℕ) (old : Played D) (places : ℕ) (kept_before kept_now : Option (List D)) (count_before count_now : ℕ) (result : Result (List (List ℕ)) PlayFault) : Type 0 where
   -- as it was given back
   pub new : Played D
   pub quiet : IsQuietPlay told count old new
   pub keeps : IsKept told count new
-  pub ends : IsDigestedTo told count old new result
+  pub ends : IsDigestedTo told lasting count old new result
   pub kept : length new.devices ≤ places → kept_now ≡ option_map (λ devices. devices ++ new.devices) kept_before
   pub count_is : count_now ≡ all_counted count_before (map count new.devices)
 
@@ -97,16 +90,16 @@ pub record IsNothingTaken {D : Type 0} (o : SinkAndMaker D) : Type 0 where
   pub taken : o.taken_last ≡ o.taken_first
   pub writes : o.writes_last ≡ o.writes_first
 
-pub record IsSummaryWritten {D : Type 0} (told : D → Option (List (List ℕ))) (tells : Store → Bool) (folder : Option (List ℕ)) (n : ℕ) (o : SinkAndMaker D) : Type 0 where
+pub record IsSummaryWritten {D : Type 0} (told lasting : D → Option (List (List ℕ))) (tells : Store → Bool) (folder : Option (List ℕ)) (n : ℕ) (o : SinkAndMaker D) : Type 0 where
   pub text : List ℕ
-  pub summed : IsSummedIn told tells folder o.named_first o.named_last o.kept_first o.kept_last o.count_first o.count_last n text
+  pub summed : IsSummedIn told lasting tells folder o.named_first o.named_last o.kept_first o.kept_last o.count_first o.count_last n text
   pub written : Took o.taken_first text o.taken_last
   pub writes : o.writes_last ≡ o.writes_first
 
 -- a first part of the summary was written
-pub record IsSummaryInPart {D : Type 0} (told : D → Option (List (List ℕ))) (tells : Store → Bool) (folder : Option (List ℕ)) (n : ℕ) (o : SinkAndMaker D) : Type 0 where
+pub record IsSummaryInPart {D : Type 0} (told lasting : D → Option (List (List ℕ))) (tells : Store → Bool) (folder : Option (List ℕ)) (n : ℕ) (o : SinkAndMaker D) : Type 0 where
   pub text : List ℕ
-  pub summed : IsSummedIn told tells folder o.named_first o.named_last o.kept_first o.kept_last o.count_first o.count_last n text
+  pub summed : IsSummedIn told lasting tells folder o.named_first o.named_last o.kept_first o.kept_last o.count_first o.count_last n text
   pub part : TookPart o.taken_first text o.taken_last
   pub rose : Rose o.writes_first o.writes_last
 
@@ -116,16 +109,18 @@ pub record IsGeneratedFault {D : Type 0} (n : ℕ) (o : SinkAndMaker D) : Type 0
   pub unsummed : IsUnsummed n o.named_first o.named_last o.kept_first o.kept_last
   pub nothing : IsNothingTaken o
 
+-- memory was refused, at any place before the writing; nothing had failed
 pub record IsGeneratedWanting {D : Type 0} (o : SinkAndMaker D) : Type 0 where
   pub later : o.count_first ≤ o.count_last
+  pub counted : (o.count_last ≡ o.count_first) ⊎ (o.count_last ≡ most)
   pub nothing : IsNothingTaken o
 
-abbrev pub IsGeneration : {D : Type 0} → (D → Option (List (List ℕ))) → (Store → Bool) → Option (List ℕ) → ℕ → SinkAndMaker D → Status → Type 0
-IsGeneration told tells folder n o Done = IsSummaryWritten told tells folder n o
-IsGeneration told tells folder n o WriteFault = IsSummaryInPart told tells folder n o
-IsGeneration told tells folder n o DeviceFault = IsGeneratedFault n o
-IsGeneration told tells folder n o OutOfMemory = IsGeneratedWanting o
-IsGeneration told tells folder n o _ = ⊥
+abbrev pub IsGeneration : {D : Type 0} → (D → Option (List (List ℕ))) → (D → Option (List (List ℕ))) → (Store → Bool) → Option (List ℕ) → ℕ → SinkAndMaker D → Status → Type 0
+IsGeneration told lasting tells folder n o Done = IsSummaryWritten told lasting tells folder n o
+IsGeneration told lasting tells folder n o WriteFault = IsSummaryInPart told lasting tells folder n o
+IsGeneration told lasting tells folder n o DeviceFault = IsGeneratedFault n o
+IsGeneration told lasting tells folder n o OutOfMemory = IsGeneratedWanting o
+IsGeneration told lasting tells folder n o _ = ⊥
 
 -- Where no count rises, the summary is written or memory is wanting.
 pub record NothingStops {D : Type 0} (o : SinkAndMaker D) : Type 0 where

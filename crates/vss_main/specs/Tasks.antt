@@ -9,28 +9,23 @@ use Rattle.vss_main.specs.Inspected.{IsListing}
 use Rattle.vss_main.specs.Outside.{Around, sink_and_maker}
 use Rattle.vss_main.specs.TopCall.{IsUntouched, IsStatus, IsRunWhereItCan}
 use Rattle.vss_main.specs.declared.status.Status.{Status}
-use Rattle.vss_main.specs.declared.status.Status.TheVariants.{Usage, OutOfMemory}
+use Rattle.vss_main.specs.declared.status.Status.TheVariants.{Usage}
 
 -- the source was left alone
 pub record IsUnread {D : Type 0} (a : Around D) : Type 0 where
   pub left : a.left_last ≡ a.left_first
   pub reads : a.reads_last ≡ a.reads_first
 
-abbrev pub IsUsageOrWantsMemory : Status → Type 0
-IsUsageOrWantsMemory Usage = Unit {0}
-IsUsageOrWantsMemory OutOfMemory = Unit {0}
-IsUsageOrWantsMemory _ = ⊥
-
 -- a task was done, or ended with another status for its cause
-abbrev pub IsTask : {D : Type 0} → (D → Option (List (List ℕ))) → (Store → Bool) → Option (List ℕ) → Task → Around D → Status → Type 0
-IsTask told tells folder Run a status = IsStatus told tells folder a status
-IsTask told tells folder (Generate n) a status = IsUnread a × IsGeneration told tells folder n (sink_and_maker a) status
-IsTask told tells folder Inspect a status = IsListing a status
+abbrev pub IsTask : {D : Type 0} → (D → Option (List (List ℕ))) → (D → Option (List (List ℕ))) → (Store → Bool) → Option (List ℕ) → Task → Around D → Status → Type 0
+IsTask told lasting tells folder Run a status = IsStatus told lasting tells folder a status
+IsTask told lasting tells folder (Generate n) a status = IsUnread a × IsGeneration told lasting tells folder n (sink_and_maker a) status
+IsTask told lasting tells folder Inspect a status = IsListing a status
 
 -- where the words are no command, nothing is read, made or written
-abbrev pub IsAnswer : {D : Type 0} → (D → Option (List (List ℕ))) → (Store → Bool) → Option Asked → Around D → Status → Type 0
-IsAnswer told tells None a status = IsUsageOrWantsMemory status × IsUntouched a
-IsAnswer told tells (Some asked) a status = IsTask told tells asked.folder asked.task a status
+abbrev pub IsAnswer : {D : Type 0} → (D → Option (List (List ℕ))) → (D → Option (List (List ℕ))) → (Store → Bool) → Option Asked → Around D → Status → Type 0
+IsAnswer told lasting tells None a status = (status ≡ Usage) × IsUntouched a
+IsAnswer told lasting tells (Some asked) a status = IsTask told lasting tells asked.folder asked.task a status
 
 -- where no count rises
 abbrev pub IsTaskWhereItCan : {D : Type 0} → Task → Around D → Status → Type 0

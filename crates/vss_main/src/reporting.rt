@@ -5,7 +5,7 @@ ghost use Rattle.vss_names.specs.Faults.{Rose};
 ghost use Rattle.io_edge.specs.Streams.{IfGave};
 ghost use Rattle.vss_main.specs.Command.{most_bytes};
 ghost use Rattle.vss_main.specs.Outside.{around};
-ghost use Rattle.vss_main.specs.TopCall.{Ran, AreGivenBack, IsStatus, IsRunWhereItCan};
+ghost use Rattle.vss_main.specs.TopCall.{Ran, IsCounted, AreGivenBack, IsStatus, IsRunWhereItCan};
 
 use crate::status::Status;
 use crate::stores::store_of;
@@ -30,10 +30,11 @@ fn report_of<R: Threads + Wait + Sync, M: Maker, G: Gate>(
     maker: &mut M,
     gate: &G,
 ) -> Result<Text, PlayFault>
-    ensures ran { IfOk result (λ report. Ran M.Made.told (M.tells maker.old store.now) (M.named maker.old) (M.named maker.new) (M.kept maker.old) (M.kept maker.new) (M.count maker.old) (M.count maker.new) scenario report.bytes) }
+    ensures ran { IfOk result (λ report. Ran M.Made.told M.Made.lasting (M.tells maker.old store.now) (M.named maker.old) (M.named maker.new) (M.kept maker.old) (M.kept maker.new) (M.count maker.old) (M.count maker.new) scenario report.bytes) }
     ensures later { M.count maker.old ≤ M.count maker.new }
     ensures given_back { IsErrOf result PlayFault.Failed → AreGivenBack scenario (M.named maker.old) (M.named maker.new) (M.kept maker.old) (M.kept maker.new) }
     ensures rose { IsErrOf result PlayFault.Failed → Rose (M.count maker.old) (M.count maker.new) }
+    ensures counted { IsErrOf result PlayFault.OutOfMemory → IsCounted M.Made.told (M.named maker.old) (M.named maker.new) (M.kept maker.old) (M.kept maker.new) (M.count maker.old) (M.count maker.new) scenario }
 {
     let _facts = scenario.volumes();
     let play = Play::new(alloc, scenario, store, maker)?;
@@ -54,7 +55,7 @@ pub fn run_input<R: Threads + Wait + Sync, S: Source, K: Sink, M: Maker, G: Gate
     gate: &G,
 ) -> Status
     ensures too_long { IfGave (S.left source.old) (S.left source.new) (λ n. (result ≡ Status.TooLong) ↔ (most_bytes < n)) }
-    ensures status { IsStatus M.Made.told (λ store. M.tells maker.old store) (option_map (λ s. s.now) folder.entry) (around S.Source K.Sink M.Maker source.old source.new sink.old sink.new maker.old maker.new) result }
+    ensures status { IsStatus M.Made.told M.Made.lasting (λ store. M.tells maker.old store) (option_map (λ s. s.now) folder.entry) (around S.Source K.Sink M.Maker source.old source.new sink.old sink.new maker.old maker.new) result }
     ensures answered { IsRunWhereItCan (around S.Source K.Sink M.Maker source.old source.new sink.old sink.new maker.old maker.new) result }
 {
     let text = match read_all(alloc, source, MOST_BYTES) {

@@ -13,17 +13,18 @@ use Rattle.vss_play.specs.declared.play_fault.PlayFault.TheVariants.{Failed, Out
 use Rattle.vss_play.specs.Played.{Played, IsEnd, IsEnded, AreasHold, AnyRose}
 use Rattle.vss_play.specs.Running.{IsPlay}
 use Rattle.vss_play.specs.Closing.{IsEnding, HasClosing}
+use Rattle.vss_play.specs.Lasting.{HaveLasted}
 use Rattle.vss_play.proofs.ClosingLines.{closed_as, play_ending}
 use Rattle.vss_play.proofs.Finishing.{play_kept}
 
-pub ended_as : {D : Type 0} (told : D → Option (List (List ℕ))) (count : D → ℕ) (s : Plan) (old new : WorldValue D) (cursors : List ℕ) (trail : List Move) (text : List ℕ) (p : Played D) (ds : List D) (places : ℕ) (kept_first kept_last : Option (List D)) (count_first count_last : ℕ) (result : Result TextValue PlayFault)
+pub ended_as : {D : Type 0} (told lasting : D → Option (List (List ℕ))) (count : D → ℕ) (s : Plan) (old new : WorldValue D) (cursors : List ℕ) (trail : List Move) (text : List ℕ) (p : Played D) (ds : List D) (places : ℕ) (kept_first kept_last : Option (List D)) (count_first count_last : ℕ) (result : Result TextValue PlayFault)
     → record { plan = s; trail = trail; devices = old.devices; lines = text } ≡ p → IsPlay told count s old cursors trail text → IsEnding told count old new s → ds ≡ new.devices
     → (length ds ≤ places → kept_last ≡ option_map (λ xs. xs ++ ds) kept_first) → count_last ≡ all_counted count_first (map count ds)
-    → IsEnd told count (record { plan = s; trail = trail; devices = old.devices; lines = text }) (record { plan = s; trail = trail; devices = new.devices; lines = text }) result
-    → IsEnded told count p places kept_first kept_last count_first count_last result
-ended_as {D} told count s old new cursors trail text p ds places kept_first kept_last count_first count_last result is kept ending same given counts ends =
+    → IsEnd told lasting count (record { plan = s; trail = trail; devices = old.devices; lines = text }) (record { plan = s; trail = trail; devices = new.devices; lines = text }) result
+    → IsEnded told lasting count p places kept_first kept_last count_first count_last result
+ended_as {D} told lasting count s old new cursors trail text p ds places kept_first kept_last count_first count_last result is kept ending same given counts ends =
     let r : Played D = record { plan = s; trail = trail; devices = new.devices; lines = text } in
-    subst (λ (q : Played D). IsEnded told count q places kept_first kept_last count_first count_last result) is (record {
+    subst (λ (q : Played D). IsEnded told lasting count q places kept_first kept_last count_first count_last result) is (record {
       new = r;
       quiet = record { plan = refl; trail = refl; lines = refl; tells = ending.tells; later = ending.later };
       keeps = play_kept told count s new cursors trail text r refl (play_ending told count s old new cursors trail text kept ending);
@@ -33,10 +34,11 @@ ended_as {D} told count s old new cursors trail text p ds places kept_first kept
     })
 
 -- its report is whole
-pub reported : {D : Type 0} (told : D → Option (List (List ℕ))) (count : D → ℕ) (s : Plan) (old new : WorldValue D) (cursors : List ℕ) (trail : List Move) (text : List ℕ) (report : TextValue) → IsPlay told count s old cursors trail text → IsEnding told count old new s
+pub reported : {D : Type 0} (told lasting : D → Option (List (List ℕ))) (count : D → ℕ) (s : Plan) (old new : WorldValue D) (cursors : List ℕ) (trail : List Move) (text : List ℕ) (report : TextValue) → IsPlay told count s old cursors trail text → IsEnding told count old new s
     → HasClosing (tells_of told s old.devices) s trail text report.bytes → AreasHold told s trail new.devices → map count new.devices ≡ map count old.devices
-    → IsEnd told count (record { plan = s; trail = trail; devices = old.devices; lines = text }) (record { plan = s; trail = trail; devices = new.devices; lines = text }) (Ok report)
-reported {D} told count s old new cursors trail text report kept ending closing areas same =
+    → HaveLasted told lasting s new.devices
+    → IsEnd told lasting count (record { plan = s; trail = trail; devices = old.devices; lines = text }) (record { plan = s; trail = trail; devices = new.devices; lines = text }) (Ok report)
+reported {D} told lasting count s old new cursors trail text report kept ending closing areas same lasted =
     let closed = closed_as told s trail new.devices text (tells_of told s old.devices) text report.bytes ending.tells areas closing in (
       record {
         so_far = text;
@@ -48,10 +50,11 @@ reported {D} told count s old new cursors trail text report kept ending closing 
       areas,
       same,
       record { text = closed.closing; is = closed.is },
+      lasted,
     )
 
 -- it has none, by which fault
-pub unreported : {D : Type 0} (told : D → Option (List (List ℕ))) (count : D → ℕ) (s : Plan) (trail : List Move) (old new : List D) (text : List ℕ) (fault : PlayFault) → (fault ≡ OutOfMemory → map count new ≡ map count old) → (fault ≡ Failed → AnyRose (map count old) (map count new))
-    → IsEnd told count (record { plan = s; trail = trail; devices = old; lines = text }) (record { plan = s; trail = trail; devices = new; lines = text }) (Err fault)
-unreported told count s trail old new text Failed wanting rose = rose refl
-unreported told count s trail old new text OutOfMemory wanting rose = wanting refl
+pub unreported : {D : Type 0} (told lasting : D → Option (List (List ℕ))) (count : D → ℕ) (s : Plan) (trail : List Move) (old new : List D) (text : List ℕ) (fault : PlayFault) → (fault ≡ OutOfMemory → map count new ≡ map count old) → (fault ≡ Failed → AnyRose (map count old) (map count new))
+    → IsEnd told lasting count (record { plan = s; trail = trail; devices = old; lines = text }) (record { plan = s; trail = trail; devices = new; lines = text }) (Err fault)
+unreported told lasting count s trail old new text Failed wanting rose = rose refl
+unreported told lasting count s trail old new text OutOfMemory wanting rose = wanting refl

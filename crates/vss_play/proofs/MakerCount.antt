@@ -55,14 +55,16 @@ complete_moved told count q r quiet h =
     subst (λ (ms : List Move). is_complete r.plan ms ≡ true) (sym quiet.trail) (subst (λ (x : Plan). is_complete x q.trail ≡ true) (sym quiet.plan) h)
 
 -- a device's fault is a fault of the maker that gets it back
-fault-by : {D : Type 0} → (told : D → Option (List (List ℕ))) (count : D → ℕ) (q : Played D) (places first made last : ℕ) (kept_first kept_last : Option (List D)) → first ≤ made
-    → IsEnded told count q places kept_first kept_last made last (Err Failed) → Rose first last
+fault-by : {D : Type 0} {lasting : D → Option (List (List ℕ))} → (told : D → Option (List (List ℕ))) (count : D → ℕ) (q : Played D)
+    (places first made last : ℕ) (kept_first kept_last : Option (List D)) → first ≤ made
+    → IsEnded told lasting count q places kept_first kept_last made last (Err Failed) → Rose first last
 fault-by told count q places first made last kept_first kept_last later ended =
     let any = ended.ends in
     rose-counted first made last (map count ended.new.devices) any.now
     (rose-positive any.before any.now any.rose) (member-le-sum (map count ended.new.devices) any.at any.now any.is) later ended.count_is
 
-pub fault-of : {D : Type 0} → (told : D → Option (List (List ℕ))) (count : D → ℕ) (q : Played D) (places first made last : ℕ) (kept_first kept_last : Option (List D))
-    (result : Result TextValue PlayFault) → first ≤ made → IsEnded told count q places kept_first kept_last made last result → IsErrOf result Failed → Rose first last
-fault-of told count q places first made last kept_first kept_last result later ended e =
-    fault-by told count q places first made last kept_first kept_last later (subst (λ (r : Result TextValue PlayFault). IsEnded told count q places kept_first kept_last made last r) e ended)
+pub fault-of : {D : Type 0} {lasting : D → Option (List (List ℕ))} → (told : D → Option (List (List ℕ))) (count : D → ℕ) (q : Played D)
+    (places first made last : ℕ) (kept_first kept_last : Option (List D))
+    (result : Result TextValue PlayFault) → first ≤ made → IsEnded told lasting count q places kept_first kept_last made last result → IsErrOf result Failed → Rose first last
+fault-of {D} {lasting} told count q places first made last kept_first kept_last result later ended e =
+    fault-by told count q places first made last kept_first kept_last later (subst (λ (r : Result TextValue PlayFault). IsEnded told lasting count q places kept_first kept_last made last r) e ended)

@@ -314,7 +314,7 @@ impl<D: Device> Play<D> {
         rt: &R,
         maker: &mut M,
     ) -> Result<Text, PlayFault>
-        ensures ended { IsEnded D.told D.count self (M.places maker.old) (M.kept maker.old) (M.kept maker.new) (M.count maker.old) (M.count maker.new) result }
+        ensures ended { IsEnded D.told D.lasting D.count self (M.places maker.old) (M.kept maker.old) (M.kept maker.new) (M.count maker.old) (M.count maker.new) result }
         ensures tells { M.tells maker.new ≡ M.tells maker.old }
         ensures named { M.named maker.new ≡ M.named maker.old }
         ensures later { M.count maker.old ≤ M.count maker.new }

@@ -9,4 +9,5 @@ pub returns-in-Ok : goal.returns-in-Ok
 returns-in-Ok c = of_number c.args.number c.bytes.result.now c.in-Ok.scenario (c.bytes.ensures ∙ c.in_ok-text.ensures) c.in-Ok.ensures.read c.generated_texts_are_read.ensures.generated
 
 pub unreachable-requires : goal.unreachable-requires
-unreachable-requires c = not_refused c.args.number c.bytes.result.now c.in-Err-Line.field-0 _ _ (c.bytes.ensures ∙ c.in_ok-text.ensures) c.generated_texts_are_read.ensures.read c.in-Err-Line.ensures.refused c.in-Err-Line.field-0-is
+unreachable-requires c = not_refused c.args.number c.bytes.result.now c.in-Err-Line.field-0 _ _
+    (c.bytes.ensures ∙ c.in_ok-text.ensures) c.generated_texts_are_read.ensures.read c.in-Err-Line.ensures.refused c.in-Err-Line.field-0-is
