@@ -1,6 +1,6 @@
 -- The names that are taken: as many as there are of their kind, and a new one is none of them.
 use Rattle.std.proofs.Common.{◌≡◌, ℕ, ◌+◌, Bool, true, false, cond, List, [], ◌∷◌, ◌++◌, length, map, Vec, Global, Some, None, refl, ap, sym, ◌∙◌}
-use Rattle.std.specs.Prelude.{position, if◌then◌else◌}
+use Rattle.std.specs.Prelude.{position, if◌then◌else◌, is_some, ok_or}
 use Rattle.std.specs.List.{position_from, list_any}
 use Rattle.std.specs.Str.{bytes_eq}
 use Rattle.std.proofs.lemmas.List.{length-map, map-append}
@@ -8,20 +8,40 @@ use Rattle.std.proofs.lemmas.Iterator.Adapters.{position_from-zero}
 use Rattle.indexmap.specs.IndexSet.{insert_key}
 use Rattle.scenario.specs.declared.area_row.AreaRow.{AreaRow}
 use Rattle.scenario.specs.declared.volume_row.VolumeRow.{VolumeRow}
-use Rattle.scenario.specs.Plan.{WriterPlan}
+use Rattle.scenario.specs.declared.span.Span.{Span}
+use Rattle.scenario.specs.declared.field.Field.TheVariants.{Text}
+use Rattle.scenario.specs.declared.name_kind.NameKind.{NameKind}
+use Rattle.scenario.specs.declared.name_kind.NameKind.TheVariants as kind
+use Rattle.scenario.specs.declared.reason.Reason.TheVariants.{UnknownName}
+use Rattle.scenario.specs.Plan.{WriterPlan, LanePlan}
 use Rattle.scenario.specs.Fields.{bytes_of}
-use Rattle.scenario.specs.Names.{place_of}
+use Rattle.scenario.specs.Names.{place_of, area_named, volume_named, writer_named, lane_named}
+use Rattle.scenario.specs.Ops.{volume_field, writer_field}
 use Rattle.scenario.specs.SoFar.{SoFar}
-use Rattle.scenario.specs.Drafts.{Names, AreNames}
+use Rattle.scenario.specs.Declarations.{name_field, new_name, count_of, declared_at}
+use Rattle.scenario.specs.Drafts.{Names, names_of, AreNames}
 
-pub count_areas : (text : List ℕ) (d : SoFar) (names : Names) → AreNames text d names → length names.areas ≡ length d.areas
-count_areas text d names h = rw h.areas (length-map d.areas (λ (a : AreaRow). bytes_of text a.name))
+pub count_names : (text : List ℕ) (d : SoFar) (names : Names) (k : NameKind) → AreNames text d names → length (names_of names k) ≡ count_of d k
+count_names text d names kind.Area h = rw h.areas (length-map d.areas (λ (a : AreaRow). bytes_of text a.name))
+count_names text d names kind.Volume h = rw h.volumes (length-map d.volumes (λ (r : VolumeRow). bytes_of text r.name))
+count_names text d names kind.Writer h = rw h.writers (length-map d.writers (λ (w : WriterPlan). bytes_of text w.name))
+count_names text d names kind.Lane h = rw h.lanes (length-map d.lanes (λ (l : LanePlan). bytes_of text l.name))
 
-pub count_volumes : (text : List ℕ) (d : SoFar) (names : Names) → AreNames text d names → length names.volumes ≡ length d.volumes
-count_volumes text d names h = rw h.volumes (length-map d.volumes (λ (r : VolumeRow). bytes_of text r.name))
+pub new_name_is : (text : List ℕ) (d : SoFar) (names : Names) (k : NameKind) (name : Span) → AreNames text d names
+    → new_name text d k name ≡ name_field text (is_some (place_of (bytes_of text name) (names_of names k))) name
+unfolding area_named volume_named writer_named lane_named
+new_name_is text d names kind.Area name h = rw h.areas refl
+new_name_is text d names kind.Volume name h = rw h.volumes refl
+new_name_is text d names kind.Writer name h = rw h.writers refl
+new_name_is text d names kind.Lane name h = rw h.lanes refl
 
-pub count_writers : (text : List ℕ) (d : SoFar) (names : Names) → AreNames text d names → length names.writers ≡ length d.writers
-count_writers text d names h = rw h.writers (length-map d.writers (λ (w : WriterPlan). bytes_of text w.name))
+pub declared_text : (text : List ℕ) (d : SoFar) (names : Names) (k : NameKind) (name : Span) → AreNames text d names
+    → declared_at text d k (Text name) ≡ ok_or (place_of (bytes_of text name) (names_of names k)) UnknownName
+unfolding area_named volume_named writer_named lane_named volume_field writer_field
+declared_text text d names kind.Area name h = rw h.areas refl
+declared_text text d names kind.Volume name h = rw h.volumes refl
+declared_text text d names kind.Writer name h = rw h.writers refl
+declared_text text d names kind.Lane name h = rw h.lanes refl
 
 -- ## a table of names
 

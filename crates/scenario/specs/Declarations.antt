@@ -21,11 +21,13 @@ use Rattle.scenario.specs.declared.asked.Asked.{Asked}
 use Rattle.scenario.specs.declared.field.Field.{Field}
 use Rattle.scenario.specs.declared.field.Field.TheVariants.{Text}
 use Rattle.scenario.specs.declared.fields.Fields.{Fields}
+use Rattle.scenario.specs.declared.name_kind.NameKind.{NameKind}
+use Rattle.scenario.specs.declared.name_kind.NameKind.TheVariants as kind
 use Rattle.scenario.specs.declared.fields.Fields.TheVariants.{One, Two, Three, Four, Five}
-use Rattle.scenario.specs.Plan.{WriterPlan, script_in}
+use Rattle.scenario.specs.Plan.{WriterPlan, LanePlan, script_in}
 use Rattle.scenario.specs.Fields.{bytes_of, span_of}
 use Rattle.scenario.specs.Names.{is_name, area_named, volume_named, writer_named, lane_named}
-use Rattle.scenario.specs.Ops.{◌>>=◌, number_at, writer_at, number_below, is_word}
+use Rattle.scenario.specs.Ops.{◌>>=◌, number_at, volume_at, writer_at, number_below, is_word}
 use Rattle.scenario.specs.SoFar.{SoFar, Saying, group_for, answer_count}
 use Rattle.scenario.specs.SoFar as saying
 
@@ -194,3 +196,28 @@ abbrev pub lane_of : List ℕ → SoFar → Fields → Result Saying Reason
 lane_of text d (One name) = free_lane_of text d (span_of name)
 lane_of text d (Three name kind writer) = acting_lane_of text d (span_of name) kind writer
 lane_of text d _ = Err BadCount
+
+-- ## by the kind of the name
+
+abbrev pub new_name : List ℕ → SoFar → NameKind → Span → Result Span Reason
+new_name text d kind.Area name = new_area text d name
+new_name text d kind.Volume name = new_volume text d name
+new_name text d kind.Writer name = new_writer text d name
+new_name text d kind.Lane name = new_lane text d name
+
+abbrev pub count_of : SoFar → NameKind → ℕ
+count_of d kind.Area = length d.areas
+count_of d kind.Volume = length d.volumes
+count_of d kind.Writer = length d.writers
+count_of d kind.Lane = length d.lanes
+
+abbrev pub lane_at : List ℕ → List LanePlan → Field → Result ℕ Reason
+lane_at text lanes (Text span) = ok_or (lane_named text lanes (bytes_of text span)) UnknownName
+lane_at text lanes field = number_below (length lanes) field
+
+-- the number of what was declared
+abbrev pub declared_at : List ℕ → SoFar → NameKind → Field → Result ℕ Reason
+declared_at text d kind.Area field = area_number text d.areas field
+declared_at text d kind.Volume field = volume_at text d.volumes field
+declared_at text d kind.Writer field = writer_at text d.writers field
+declared_at text d kind.Lane field = lane_at text d.lanes field

@@ -14,6 +14,8 @@ use Rattle.scenario.specs.declared.span.Span.{Span}
 use Rattle.scenario.specs.declared.area_row.AreaRow.{AreaRow}
 use Rattle.scenario.specs.declared.volume_row.VolumeRow.{VolumeRow}
 use Rattle.scenario.specs.declared.counts.Counts.{Counts}
+use Rattle.scenario.specs.declared.name_kind.NameKind.{NameKind}
+use Rattle.scenario.specs.declared.name_kind.NameKind.TheVariants as kind
 use Rattle.scenario.specs.declared.entry.Entry.{Entry}
 use Rattle.scenario.specs.declared.entry.Entry.TheVariants as entry
 use Rattle.scenario.specs.Plan.{GroupPlan, LaneLine, LanePlan, script_in}
@@ -29,6 +31,12 @@ pub record Names : Type 0 where
   pub volumes : List (List ℕ)
   pub writers : List (List ℕ)
   pub lanes : List (List ℕ)
+
+abbrev pub names_of : Names → NameKind → List (List ℕ)
+names_of names kind.Area = names.areas
+names_of names kind.Volume = names.volumes
+names_of names kind.Writer = names.writers
+names_of names kind.Lane = names.lanes
 
 pub record DraftValue : Type 0 where
   pub said : SoFar

@@ -2,11 +2,11 @@
 ghost use Rattle.std.specs.Prelude.{◌≡◌, ◌<◌, ◌≤◌, ◌+◌, ◌^◌, ◌&&◌, false, [], None, Some, nat_le, nat_lt, length, slice_get, is_some, true, IfOk, IfErr, IfSome, IsTrue};
 ghost use Rattle.scenario.specs.declared.entry.Entry.TheVariants as entry;
 ghost use Rattle.scenario.specs.Fields.{bytes_of, IsPart, IsField, AreFields};
-ghost use Rattle.scenario.specs.Names.{place_of, area_named};
+ghost use Rattle.scenario.specs.Names.{place_of};
 ghost use Rattle.scenario.specs.SoFar.{group_for};
 ghost use Rattle.scenario.specs.Bounds.{IsShortPart};
-ghost use Rattle.scenario.specs.Drafts.{DraftValue, by_reason, IsDraft, IsEntry, told};
-ghost use Rattle.scenario.specs.Declarations.{name_field, opening_of, has_space, has_volume_room, new_area, area_of, area_number, area_field, new_volume, own_volume_of, shared_volume_of, volume_of, new_lane, lane_if, free_lane_of, acting_lane_of, lane_of};
+ghost use Rattle.scenario.specs.Drafts.{DraftValue, names_of, by_reason, IsDraft, IsEntry, told};
+ghost use Rattle.scenario.specs.Declarations.{name_field, opening_of, new_name, has_space, has_volume_room, area_of, area_field, own_volume_of, shared_volume_of, volume_of, lane_if, free_lane_of, acting_lane_of, lane_of};
 
 use crate::area_row::AreaRow;
 use crate::cause::Cause;
@@ -14,7 +14,7 @@ use crate::draft::Draft;
 use crate::entry::Entry;
 use crate::expected::Expected;
 use crate::field::Field;
-use crate::field_values::{is_word, number_below, number_field, writer_field};
+use crate::field_values::{declared_field, is_word, number_field};
 use crate::fields::{Fields, bytes_of};
 use crate::group_row::GroupRow;
 use crate::name_kind::NameKind;
@@ -38,12 +38,7 @@ const MOST_LANES: usize = 64;
 
 /// A new name, where `taken` is the place of the one of its kind that has it.
 #[tactic(auto, unfolding(crate::specs::Declarations::name_field))]
-pub(crate) fn name_field(
-    text: &[u8],
-    kind: NameKind,
-    taken: Option<usize>,
-    span: Span,
-) -> Result<Span, Cause>
+fn name_field(text: &[u8], kind: NameKind, taken: Option<usize>, span: Span) -> Result<Span, Cause>
     requires { IsPart (length text.now) span }
     ensures value { by_reason result ≡ name_field text.now (is_some taken) span }
     ensures short { IfOk result (IsShortPart (length text.now)) }
@@ -58,6 +53,24 @@ pub(crate) fn name_field(
         return Err(Cause::field(Reason::DoubleName, Field::Text(span), expected));
     }
     Ok(span)
+}
+
+/// The name of one of this kind that is new.
+#[tactic(auto, using(crate::proofs::Taken::new_name_is))]
+pub(crate) fn new_name(
+    text: &[u8],
+    draft: &Draft,
+    kind: NameKind,
+    name: Span,
+) -> Result<Span, Cause>
+    requires part { IsPart (length text.now) name }
+    requires draft { IsDraft text.now draft.now }
+    ensures value { by_reason result ≡ new_name text.now draft.now.said kind name }
+    ensures short { IfOk result (IsShortPart (length text.now)) }
+    ensures new { IfOk result (λ n. place_of (bytes_of text.now n) (names_of draft.now.names kind) ≡ None) }
+{
+    let taken = draft.named(kind, bytes_of(text, name));
+    name_field(text, kind, taken, name)
 }
 
 /// `scenario 1`.
@@ -92,19 +105,6 @@ fn no_space() -> Cause
     )
 }
 
-/// The name of an area that is new.
-#[tactic(auto, unfolding(crate::specs::Names::area_named))]
-fn new_area(text: &[u8], draft: &Draft, name: Span) -> Result<Span, Cause>
-    requires part { IsPart (length text.now) name }
-    requires draft { IsDraft text.now draft.now }
-    ensures value { by_reason result ≡ new_area text.now draft.now.said name }
-    ensures short { IfOk result (IsShortPart (length text.now)) }
-    ensures new { IfOk result (λ n. place_of (bytes_of text.now n) draft.now.names.areas ≡ None) }
-{
-    let taken = draft.area_named(bytes_of(text, name));
-    name_field(text, NameKind::Area, taken, name)
-}
-
 /// `area name slots`.
 #[tactic(auto, unfolding(crate::specs::Declarations::area_of))]
 pub(crate) fn area_of(text: &[u8], draft: &Draft, fields: Fields) -> Result<Entry, Cause>
@@ -116,7 +116,7 @@ pub(crate) fn area_of(text: &[u8], draft: &Draft, fields: Fields) -> Result<Entr
     let Fields::Two(name, slots) = fields else {
         return Err(Cause::no_form());
     };
-    let name = new_area(text, draft, name.span())?;
+    let name = new_name(text, draft, NameKind::Area, name.span())?;
     let slots = number_field(text, Quantity::Slots, 0, MOST_SLOTS, slots)?;
     if draft.areas().len() >= MOST_AREAS {
         return Err(Cause::too_many("areas", MOST_AREAS as u64));
@@ -125,19 +125,6 @@ pub(crate) fn area_of(text: &[u8], draft: &Draft, fields: Fields) -> Result<Entr
         return Err(no_space());
     }
     Ok(Entry::Area(GroupRow { name, slots }))
-}
-
-/// The name of a volume that is new.
-#[tactic(auto, unfolding(crate::specs::Names::volume_named))]
-fn new_volume(text: &[u8], draft: &Draft, name: Span) -> Result<Span, Cause>
-    requires part { IsPart (length text.now) name }
-    requires draft { IsDraft text.now draft.now }
-    ensures value { by_reason result ≡ new_volume text.now draft.now.said name }
-    ensures short { IfOk result (IsShortPart (length text.now)) }
-    ensures new { IfOk result (λ n. place_of (bytes_of text.now n) draft.now.names.volumes ≡ None) }
-{
-    let taken = draft.volume_named(bytes_of(text, name));
-    name_field(text, NameKind::Volume, taken, name)
 }
 
 /// Goes on where one more volume, of so many blocks and slots, has its place.
@@ -173,7 +160,7 @@ fn own_volume_of(
     ensures value { told result ≡ own_volume_of text.now draft.now.said name blocks slots }
     ensures kept { IfOk result (IsEntry text.now draft.now) }
 {
-    let name = new_volume(text, draft, name)?;
+    let name = new_name(text, draft, NameKind::Volume, name)?;
     let blocks = number_field(text, Quantity::Blocks, 1, MOST_BLOCKS, blocks)?;
     let slots = number_field(text, Quantity::Slots, 0, MOST_SLOTS, slots)?;
     volume_room(draft, blocks + slots)?;
@@ -185,23 +172,6 @@ fn own_volume_of(
     }))
 }
 
-/// The number of a declared area.
-#[tactic(auto, unfolding(crate::specs::Names::area_named), using(crate::proofs::Taken::count_areas))]
-fn area_number(text: &[u8], draft: &Draft, field: Field) -> Result<u32, Cause>
-    requires part { IsField (length text.now) field }
-    requires draft { IsDraft text.now draft.now }
-    ensures value { by_reason result ≡ area_number text.now draft.now.said.areas field }
-    ensures in_range { IfOk result (λ a. a < length draft.now.said.areas) }
-{
-    let Field::Text(span) = field else {
-        return number_below(NameKind::Area, draft.areas().len(), field);
-    };
-    match draft.area_named(bytes_of(text, span)) {
-        Some(a) => Ok(a as u32),
-        None => Err(Cause::undeclared(field, NameKind::Area)),
-    }
-}
-
 /// A declared area, with its number.
 #[tactic(auto, unfolding(crate::specs::Declarations::area_field))]
 fn area_field(text: &[u8], draft: &Draft, field: Field) -> Result<(u32, AreaRow), Cause>
@@ -211,7 +181,7 @@ fn area_field(text: &[u8], draft: &Draft, field: Field) -> Result<(u32, AreaRow)
     ensures found { IfOk result (λ p. slice_get draft.now.said.areas p.0 ≡ Some p.1) }
     ensures few_slots { IfOk result (λ p. p.1.slots ≤ 65536) }
 {
-    let a = area_number(text, draft, field)?;
+    let a = declared_field(text, draft, NameKind::Area, field)?;
     Ok((a, draft.areas()[a as usize]))
 }
 
@@ -245,7 +215,7 @@ fn shared_volume_of(
     ensures value { told result ≡ shared_volume_of text.now draft.now.said name blocks kind area }
     ensures kept { IfOk result (IsEntry text.now draft.now) }
 {
-    let name = new_volume(text, draft, name)?;
+    let name = new_name(text, draft, NameKind::Volume, name)?;
     let blocks = number_field(text, Quantity::Blocks, 1, MOST_BLOCKS, blocks)?;
     if !is_word(text, kind, b"in") {
         return Err(Cause::no_word(kind, "`in`"));
@@ -284,26 +254,13 @@ pub(crate) fn volume_of(text: &[u8], draft: &Draft, fields: Fields) -> Result<En
     }
 }
 
-/// The name of a lane that is new.
-#[tactic(auto, unfolding(crate::specs::Names::lane_named))]
-fn new_lane(text: &[u8], draft: &Draft, name: Span) -> Result<Span, Cause>
-    requires part { IsPart (length text.now) name }
-    requires draft { IsDraft text.now draft.now }
-    ensures value { by_reason result ≡ new_lane text.now draft.now.said name }
-    ensures short { IfOk result (IsShortPart (length text.now)) }
-    ensures new { IfOk result (λ n. place_of (bytes_of text.now n) draft.now.names.lanes ≡ None) }
-{
-    let taken = draft.lane_named(bytes_of(text, name));
-    name_field(text, NameKind::Lane, taken, name)
-}
-
 /// One lane more.
 fn lane_if(draft: &Draft, name: Span, whom: Option<u32>) -> Result<Entry, Cause>
     ensures value { told result ≡ lane_if draft.now.said name whom }
     ensures same { IfOk result (λ e. e ≡ entry.Lane name whom) }
     ensures few { IfOk result (λ e. length draft.now.said.lanes < 64) }
 {
-    if draft.lanes() >= MOST_LANES {
+    if draft.count(NameKind::Lane) >= MOST_LANES {
         return Err(Cause::too_many("lanes", MOST_LANES as u64));
     }
     Ok(Entry::Lane(name, whom))
@@ -317,7 +274,7 @@ fn free_lane_of(text: &[u8], draft: &Draft, name: Span) -> Result<Entry, Cause>
     ensures value { told result ≡ free_lane_of text.now draft.now.said name }
     ensures kept { IfOk result (IsEntry text.now draft.now) }
 {
-    let name = new_lane(text, draft, name)?;
+    let name = new_name(text, draft, NameKind::Lane, name)?;
     lane_if(draft, name, None)
 }
 
@@ -337,11 +294,11 @@ fn acting_lane_of(
     ensures value { told result ≡ acting_lane_of text.now draft.now.said name kind writer }
     ensures kept { IfOk result (IsEntry text.now draft.now) }
 {
-    let name = new_lane(text, draft, name)?;
+    let name = new_name(text, draft, NameKind::Lane, name)?;
     if !is_word(text, kind, b"as") {
         return Err(Cause::no_word(kind, "`as`"));
     }
-    let writer = writer_field(text, draft, writer)?;
+    let writer = declared_field(text, draft, NameKind::Writer, writer)?;
     lane_if(draft, name, Some(writer))
 }
 

@@ -1,6 +1,6 @@
 ghost use Rattle.std.specs.Prelude.{◌≡◌, ◌<◌, true, length, map, IfSome, OnOk};
 ghost use Rattle.scenario.specs.Bounds.{begins_agenda};
-ghost use Rattle.scenario.specs.Declarations.{is_answered};
+ghost use Rattle.scenario.specs.Declarations.{is_answered, count_of};
 ghost use Rattle.scenario.specs.Rows.{writer_plan, lane_plan};
 
 use crate::area_row::AreaRow;
@@ -71,7 +71,7 @@ impl Draft {
     ghost use Rattle.scenario.specs.SoFar.{after, closed_lane};
     ghost use Rattle.scenario.specs.SoFar as saying;
     ghost use Rattle.scenario.specs.Names.{place_of};
-    ghost use Rattle.scenario.specs.Drafts.{new_draft, counts_after, with_entry, IsDraft, IsEntry, IsNewAnswer};
+    ghost use Rattle.scenario.specs.Drafts.{names_of, new_draft, counts_after, with_entry, IsDraft, IsEntry, IsNewAnswer};
 
     /// Nothing, or the `scenario` line alone.
     pub(crate) fn new(alloc: Global, opened: bool) -> Draft
@@ -111,26 +111,10 @@ impl Draft {
         &self.areas
     }
 
-    /// The place of the area with this name.
-    pub(crate) fn area_named(&self, name: &[u8]) -> Option<usize>
-        ensures place { result ≡ place_of name.now self.now.names.areas }
-        ensures within { IfSome result (λ i. i < length self.now.names.areas) }
-    {
-        self.area_names.place_of(name)
-    }
-
     pub(crate) fn volumes(&self) -> &[VolumeRow]
         ensures { result.now ≡ self.now.said.volumes }
     {
         &self.volumes
-    }
-
-    /// The place of the volume with this name.
-    pub(crate) fn volume_named(&self, name: &[u8]) -> Option<usize>
-        ensures place { result ≡ place_of name.now self.now.names.volumes }
-        ensures within { IfSome result (λ i. i < length self.now.names.volumes) }
-    {
-        self.volume_names.place_of(name)
     }
 
     /// How many groups there are.
@@ -147,19 +131,16 @@ impl Draft {
         self.size
     }
 
-    /// How many writers there are.
-    pub(crate) fn writers(&self) -> usize
-        ensures { result ≡ length self.now.said.writers }
+    /// How many of this kind were declared.
+    pub(crate) fn count(&self, kind: NameKind) -> usize
+        ensures { result ≡ count_of self.now.said kind }
     {
-        self.writers.len()
-    }
-
-    /// The place of the writer with this name.
-    pub(crate) fn writer_named(&self, name: &[u8]) -> Option<usize>
-        ensures place { result ≡ place_of name.now self.now.names.writers }
-        ensures within { IfSome result (λ i. i < length self.now.names.writers) }
-    {
-        self.writer_names.place_of(name)
+        match kind {
+            NameKind::Area => self.areas.len(),
+            NameKind::Volume => self.volumes.len(),
+            NameKind::Writer => self.writers.len(),
+            NameKind::Lane => self.lanes.len(),
+        }
     }
 
     /// Whether a row of the writer's script speaks of this order.
@@ -173,19 +154,17 @@ impl Draft {
             .is_some()
     }
 
-    /// How many lanes there are.
-    pub(crate) fn lanes(&self) -> usize
-        ensures { result ≡ length self.now.said.lanes }
+    /// The place of a name among those of its kind.
+    pub(crate) fn named(&self, kind: NameKind, name: &[u8]) -> Option<usize>
+        ensures place { result ≡ place_of name.now (names_of self.now.names kind) }
+        ensures within { IfSome result (λ i. i < length (names_of self.now.names kind)) }
     {
-        self.lanes.len()
-    }
-
-    /// The place of the lane with this name.
-    pub(crate) fn lane_named(&self, name: &[u8]) -> Option<usize>
-        ensures place { result ≡ place_of name.now self.now.names.lanes }
-        ensures within { IfSome result (λ i. i < length self.now.names.lanes) }
-    {
-        self.lane_names.place_of(name)
+        match kind {
+            NameKind::Area => self.area_names.place_of(name),
+            NameKind::Volume => self.volume_names.place_of(name),
+            NameKind::Writer => self.writer_names.place_of(name),
+            NameKind::Lane => self.lane_names.place_of(name),
+        }
     }
 
     pub(crate) fn counts(&self) -> Counts

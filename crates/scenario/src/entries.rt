@@ -18,6 +18,7 @@ use crate::expected::Expected;
 use crate::field::Field;
 use crate::fields::{Fields, bytes_of, fields_for, word_at};
 use crate::lane_line::LaneLine;
+use crate::name_kind::NameKind;
 use crate::op::Op;
 use crate::ops::op_of;
 use crate::reason::Reason;
@@ -50,7 +51,7 @@ fn is_skipped(bytes: &[u8]) -> bool
 pub(crate) fn has_lane(draft: &Draft) -> bool
     ensures { result ≡ has_lane draft.now.said.lanes }
 {
-    0 < draft.lanes()
+    0 < draft.count(NameKind::Lane)
 }
 
 /// Whether a line that begins with this word may stand after those before it.

@@ -3,7 +3,8 @@ ghost use Rattle.std.specs.Prelude.{◌≡◌, ◌<◌, ◌≤◌, length, IfOk,
 ghost use Rattle.scenario.specs.Plan.{blocks_in};
 ghost use Rattle.scenario.specs.Fields.{IsField, AreFields};
 ghost use Rattle.scenario.specs.Drafts.{IsDraft, by_reason};
-ghost use Rattle.scenario.specs.Ops.{number_at, number_below, volume_at, writer_at, block_at, is_word, volume_alone, set_and_volume};
+ghost use Rattle.scenario.specs.Declarations.{count_of, declared_at};
+ghost use Rattle.scenario.specs.Ops.{number_at, number_below, block_at, is_word, volume_alone, set_and_volume};
 
 use crate::cause::Cause;
 use crate::draft::Draft;
@@ -75,7 +76,7 @@ pub(crate) fn number_field(
 }
 
 /// The number of one of so many of this kind that were declared.
-pub(crate) fn number_below(kind: NameKind, count: usize, field: Field) -> Result<u32, Cause>
+fn number_below(kind: NameKind, count: usize, field: Field) -> Result<u32, Cause>
     requires { count < 4294967296 }
     ensures value { by_reason result ≡ number_below count field }
     ensures below { IfOk result (λ n. n < count) }
@@ -91,37 +92,25 @@ pub(crate) fn number_below(kind: NameKind, count: usize, field: Field) -> Result
     }
 }
 
-/// The number of a declared volume.
-#[tactic(auto, unfolding(crate::specs::Ops::volume_field, crate::specs::Names::volume_named), using(crate::proofs::Taken::count_volumes))]
-pub(crate) fn volume_field(text: &[u8], draft: &Draft, field: Field) -> Result<u32, Cause>
+/// The number of what was declared.
+#[tactic(auto, using(crate::proofs::Taken::count_names))]
+pub(crate) fn declared_field(
+    text: &[u8],
+    draft: &Draft,
+    kind: NameKind,
+    field: Field,
+) -> Result<u32, Cause>
     requires part { IsField (length text.now) field }
     requires draft { IsDraft text.now draft.now }
-    ensures value { by_reason result ≡ volume_at text.now draft.now.said.volumes field }
-    ensures in_range { IfOk result (λ v. v < length draft.now.said.volumes) }
+    ensures value { by_reason result ≡ declared_at text.now draft.now.said kind field }
+    ensures in_range { IfOk result (λ n. n < count_of draft.now.said kind) }
 {
     let Field::Text(span) = field else {
-        return number_below(NameKind::Volume, draft.volumes().len(), field);
+        return number_below(kind, draft.count(kind), field);
     };
-    match draft.volume_named(bytes_of(text, span)) {
-        Some(v) => Ok(v as u32),
-        None => Err(Cause::undeclared(field, NameKind::Volume)),
-    }
-}
-
-/// The number of a declared writer.
-#[tactic(auto, unfolding(crate::specs::Ops::writer_field, crate::specs::Names::writer_named), using(crate::proofs::Taken::count_writers))]
-pub(crate) fn writer_field(text: &[u8], draft: &Draft, field: Field) -> Result<u32, Cause>
-    requires part { IsField (length text.now) field }
-    requires draft { IsDraft text.now draft.now }
-    ensures value { by_reason result ≡ writer_at text.now draft.now.said.writers field }
-    ensures in_range { IfOk result (λ w. w < length draft.now.said.writers) }
-{
-    let Field::Text(span) = field else {
-        return number_below(NameKind::Writer, draft.writers(), field);
-    };
-    match draft.writer_named(bytes_of(text, span)) {
-        Some(w) => Ok(w as u32),
-        None => Err(Cause::undeclared(field, NameKind::Writer)),
+    match draft.named(kind, bytes_of(text, span)) {
+        Some(at) => Ok(at as u32),
+        None => Err(Cause::undeclared(field, kind)),
     }
 }
 
@@ -170,7 +159,7 @@ pub(crate) fn volume_alone(text: &[u8], draft: &Draft, fields: Fields) -> Result
     ensures in_range { IfOk result (λ v. v < length draft.now.said.volumes) }
 {
     match fields {
-        Fields::One(volume) => volume_field(text, draft, volume),
+        Fields::One(volume) => declared_field(text, draft, NameKind::Volume, volume),
         _ => Err(Cause::no_form()),
     }
 }
@@ -191,6 +180,6 @@ pub(crate) fn set_and_volume(
         return Err(Cause::no_form());
     };
     let set = set_field(text, set)?;
-    let volume = volume_field(text, draft, volume)?;
+    let volume = declared_field(text, draft, NameKind::Volume, volume)?;
     Ok((set, volume))
 }

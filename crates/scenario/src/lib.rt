@@ -65,7 +65,7 @@ pub use lane_line::LaneLine;
 pub use line::Line;
 pub use name_kind::NameKind;
 pub use op::Op;
-pub use parsing::{parse, refusal_of};
+pub use parsing::{parse, parse_text, refusal_of};
 pub use place::Place;
 pub use quantity::Quantity;
 pub use reason::Reason;

@@ -10,10 +10,11 @@ use crate::cause::Cause;
 use crate::draft::Draft;
 use crate::expected::Expected;
 use crate::field_values::{
-    block_field, is_word, long_field, number_field, set_and_volume, set_field, volume_alone,
-    volume_field, writer_field,
+    block_field, declared_field, is_word, long_field, number_field, set_and_volume, set_field,
+    volume_alone,
 };
 use crate::fields::Fields;
+use crate::name_kind::NameKind;
 use crate::op::Op;
 use crate::quantity::Quantity;
 use crate::reason::Reason;
@@ -32,7 +33,7 @@ fn write_of(text: &[u8], draft: &Draft, fields: Fields) -> Result<Op, Cause>
     let Fields::Four(volume, block, kind, number) = fields else {
         return Err(Cause::no_form());
     };
-    let volume = volume_field(text, draft, volume)?;
+    let volume = declared_field(text, draft, NameKind::Volume, volume)?;
     let block = block_field(text, draft, volume, block)?;
     if is_word(text, kind, b"fill") {
         let byte = number_field(text, Quantity::Byte, 0, 255, number)? as u8;
@@ -64,7 +65,7 @@ pub(crate) fn read_of(text: &[u8], draft: &Draft, fields: Fields) -> Result<Op, 
     let Fields::Two(volume, block) = fields else {
         return Err(Cause::no_form());
     };
-    let volume = volume_field(text, draft, volume)?;
+    let volume = declared_field(text, draft, NameKind::Volume, volume)?;
     let block = block_field(text, draft, volume, block)?;
     Ok(Op::Read { volume, block })
 }
@@ -80,12 +81,12 @@ pub(crate) fn image_of(text: &[u8], draft: &Draft, fields: Fields) -> Result<Op,
     match fields {
         Fields::Two(set, volume) => {
             let set = set_field(text, set)?;
-            let volume = volume_field(text, draft, volume)?;
+            let volume = declared_field(text, draft, NameKind::Volume, volume)?;
             Ok(Op::ImageDigest { set, volume })
         }
         Fields::Three(set, volume, block) => {
             let set = set_field(text, set)?;
-            let volume = volume_field(text, draft, volume)?;
+            let volume = declared_field(text, draft, NameKind::Volume, volume)?;
             let block = block_field(text, draft, volume, block)?;
             Ok(Op::ImageBlock { set, volume, block })
         }
@@ -147,7 +148,7 @@ pub(crate) fn disable_of(text: &[u8], draft: &Draft, fields: Fields) -> Result<O
     let Fields::One(writer) = fields else {
         return Err(Cause::no_form());
     };
-    let writer = writer_field(text, draft, writer)?;
+    let writer = declared_field(text, draft, NameKind::Writer, writer)?;
     Ok(Op::Disable { writer })
 }
 
@@ -166,7 +167,7 @@ pub(crate) fn delete_of(text: &[u8], draft: &Draft, fields: Fields) -> Result<Op
         }
         Fields::Two(set, volume) => {
             let set = set_field(text, set)?;
-            let volume = volume_field(text, draft, volume)?;
+            let volume = declared_field(text, draft, NameKind::Volume, volume)?;
             Ok(Op::DeleteImage { set, volume })
         }
         _ => Err(Cause::no_form()),
@@ -224,7 +225,7 @@ fn component_of(text: &[u8], draft: &Draft, fields: Fields) -> Result<Op, Cause>
     let Fields::Two(writer, full) = fields else {
         return Err(Cause::no_form());
     };
-    let writer = writer_field(text, draft, writer)?;
+    let writer = declared_field(text, draft, NameKind::Writer, writer)?;
     let full = full.span();
     Ok(Op::Component { writer, full })
 }

@@ -85,26 +85,29 @@ fn read(alloc: Global, text: &[u8], draft: &mut Draft) -> Result<(), Stopped>
 }
 
 /// The scenario of a text and of what its lines say; the draft is over.
-pub(crate) fn finish(alloc: Global, text: &[u8], draft: &mut Draft) -> Result<Scenario, OutOfMemory>
-    requires short { length text.now < 4294967295 }
-    requires draft { IsDraft text.now draft.old }
-    requires names { HasNames (plan_in text.now draft.old.said) }
-    ensures { IfOk result (λ scenario. scenario ≡ plan_in text.now draft.old.said) }
+pub(crate) fn finish(
+    alloc: Global,
+    source: Text,
+    draft: &mut Draft,
+) -> Result<Scenario, OutOfMemory>
+    requires short { length source.bytes < 4294967295 }
+    requires draft { IsDraft source.bytes draft.old }
+    requires names { HasNames (plan_in source.bytes draft.old.said) }
+    ensures { IfOk result (λ scenario. scenario ≡ plan_in source.bytes draft.old.said) }
 {
     draft.close_lanes(alloc)?;
     let places = places_of(alloc, draft.volumes())?;
-    let source = Text::copy(alloc, text)?;
     Ok(Scenario::of(source, draft.take_parts(alloc), places))
 }
 
-/// What `parse` answers, by a draft that nothing was read into.
-fn parse_into(alloc: Global, text: &[u8], draft: &mut Draft) -> Result<Scenario, Refused>
-    requires short { length text.now < 4294967295 }
+/// What `parse_text` answers, by a draft that nothing was read into.
+fn parse_into(alloc: Global, text: Text, draft: &mut Draft) -> Result<Scenario, Refused>
+    requires short { length text.bytes < 4294967295 }
     requires empty { draft.old ≡ empty_draft }
-    ensures read { IfOk result (λ scenario. reading_of text.now ≡ IsScenario scenario) }
-    ensures refused { IfErr result (IsRefusal text.now) }
+    ensures read { IfOk result (λ scenario. reading_of text.bytes ≡ IsScenario scenario) }
+    ensures refused { IfErr result (IsRefusal text.bytes) }
 {
-    match read(alloc, text, draft) {
+    match read(alloc, text.bytes(), draft) {
         Err(stopped) => Err(Refused::at(stopped.line, stopped.unread)),
         Ok(()) => match finish(alloc, text, draft) {
             Ok(scenario) => Ok(scenario),
@@ -113,18 +116,30 @@ fn parse_into(alloc: Global, text: &[u8], draft: &mut Draft) -> Result<Scenario,
     }
 }
 
-/// Reads a scenario from its text, forward and once. A text is refused at its first bad line, with the first check that
-/// this does not pass. Memory is taken for a copy of the text, for all that it declares, the names among it, for each metadata document that is read,
-/// for the lines of the lanes, and for the places of the volumes.
-pub fn parse(alloc: Global, text: &[u8]) -> Result<Scenario, Refused>
-    requires { length text.now < 4294967295 }
-    ensures read { IfOk result (λ scenario. reading_of text.now ≡ IsScenario scenario) }
-    ensures refused { IfErr result (IsRefusal text.now) }
+/// Reads a scenario from its text, forward and once, and keeps the text. A text is refused at its first bad line, with the first check
+/// that this does not pass. Memory is taken for all that it declares, the names among it, for each metadata document that is read, for the
+/// lines of the lanes, and for the places of the volumes.
+pub fn parse_text(alloc: Global, text: Text) -> Result<Scenario, Refused>
+    requires { length text.bytes < 4294967295 }
+    ensures read { IfOk result (λ scenario. reading_of text.bytes ≡ IsScenario scenario) }
+    ensures refused { IfErr result (IsRefusal text.bytes) }
 {
     let mut draft = Draft::new(alloc, false);
     let answer = parse_into(alloc, text, &mut draft);
     drop(draft);
     answer
+}
+
+/// What `parse_text` answers of a copy of the text.
+pub fn parse(alloc: Global, text: &[u8]) -> Result<Scenario, Refused>
+    requires { length text.now < 4294967295 }
+    ensures read { IfOk result (λ scenario. reading_of text.now ≡ IsScenario scenario) }
+    ensures refused { IfErr result (IsRefusal text.now) }
+{
+    match Text::copy(alloc, text) {
+        Ok(text) => parse_text(alloc, text),
+        Err(_) => Err(Refused::OutOfMemory),
+    }
 }
 
 /// Why the line is refused at which the reading stopped, in full. `draft` has what the lines before it say.
@@ -160,7 +175,7 @@ fn refusal_in(alloc: Global, text: &[u8], draft: &mut Draft) -> Result<Option<Re
 }
 
 /// Why `parse` refuses a text, in full; none exactly where the text is a scenario. Line and reason are those of `parse`. Memory is taken
-/// as by `parse`, and for the list of the names.
+/// as by `parse_text`, and for the list of the names.
 pub fn refusal_of(alloc: Global, text: &[u8]) -> Result<Option<Refusal>, OutOfMemory>
     requires { length text.now < 4294967295 }
     ensures { IfOk result (λ refusal. option_map told_bad refusal ≡ first_bad (reading_of text.now)) }

@@ -14,7 +14,7 @@ use crate::scenario::Scenario;
 use crate::value::Value;
 use std::alloc::Global;
 use std::marker::Model;
-use vss_names::OutOfMemory;
+use vss_names::{OutOfMemory, Text};
 use writer_calls::Scripted;
 use writer_meta::Metadata;
 
@@ -177,6 +177,6 @@ impl ScenarioBuilder {
             mut draft,
             ..
         } = self.given;
-        finish(alloc, &source, &mut draft)
+        finish(alloc, Text::of(source), &mut draft)
     }
 }

@@ -14,8 +14,9 @@ use crate::entries::{has_lane, line_if, may_stand, missed_place, row_of};
 use crate::entry::Entry;
 use crate::expected::Expected;
 use crate::field::{Field, number};
-use crate::field_values::{block_field, volume_field, writer_field};
+use crate::field_values::{block_field, declared_field};
 use crate::fields::Fields;
+use crate::name_kind::NameKind;
 use crate::op::Op;
 use crate::ops::{
     add_of, delete_of, disable_of, image_of, properties_of, query_of, read_of, revert_of, tick_of,
@@ -68,7 +69,7 @@ fn of_block(text: &[u8], draft: &Draft, volume: u32, block: u32, op: Op) -> Resu
     ensures same { IfOk result (λ o. o ≡ op) }
     ensures ranged { IfOk result (λ o. IsBlockOf draft.now.said.volumes volume block) }
 {
-    let volume = volume_field(text, draft, number(volume))?;
+    let volume = declared_field(text, draft, NameKind::Volume, number(volume))?;
     block_field(text, draft, volume, number(block))?;
     Ok(op)
 }
@@ -114,7 +115,7 @@ fn op_in(text: &[u8], draft: &Draft, op: Op) -> Result<Op, Cause>
         Op::Disable { writer } => disable_of(text, draft, Fields::One(number(writer))),
         Op::Add { volume } => add_of(text, draft, Fields::One(number(volume))),
         Op::Component { writer, full } => {
-            writer_field(text, draft, number(writer))?;
+            declared_field(text, draft, NameKind::Writer, number(writer))?;
             of_part(text, full, op)
         }
         Op::Begin { .. }

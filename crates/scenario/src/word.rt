@@ -36,7 +36,7 @@ pub enum Word {
 
 impl Word {
     /// All words.
-    pub const ALL: [Word; 28] = [
+    pub const ALL: [Word; Word::End as usize + 1] = [
         Word::Scenario,
         Word::Area,
         Word::Volume,

@@ -6,19 +6,19 @@ ghost use Rattle.scenario.specs.Names.{place_of};
 ghost use Rattle.scenario.specs.SoFar.{answer_count};
 ghost use Rattle.scenario.specs.Bounds.{IsShortPart};
 ghost use Rattle.scenario.specs.Drafts.{AreCounts, by_reason, IsDraft, IsEntry, saying_in, told, IsUnread};
-ghost use Rattle.scenario.specs.Declarations.{order_field, code_field, is_answered, nth_field, asked_of, row_for, answer_if, lost_if, veto_if, answer_of, new_writer, writer_if, writer_of};
+ghost use Rattle.scenario.specs.Declarations.{order_field, code_field, is_answered, nth_field, asked_of, row_for, answer_if, lost_if, veto_if, answer_of, writer_if, writer_of};
 ghost use Rattle.scenario.specs.Built.{writer_said, answer_said};
 ghost use Rattle.writer_meta.specs.Metadata.{meta_of};
 ghost use Rattle.writer_meta.specs.Allowed.{IsAllowed};
 
 use crate::asked::Asked;
 use crate::cause::Cause;
-use crate::declarations::name_field;
+use crate::declarations::new_name;
 use crate::draft::Draft;
 use crate::entry::Entry;
 use crate::expected::Expected;
 use crate::field::{Field, number};
-use crate::field_values::{is_word, number_field, writer_field};
+use crate::field_values::{declared_field, is_word, number_field};
 use crate::fields::{Fields, bytes_of};
 use crate::name_kind::NameKind;
 use crate::quantity::Quantity;
@@ -36,26 +36,13 @@ const MOST_NTH: u32 = 2_000;
 /// Of the `answer` lines.
 const MOST_ANSWERS: usize = 10_000;
 
-/// The name of a writer that is new.
-#[tactic(auto, unfolding(crate::specs::Names::writer_named))]
-fn new_writer(text: &[u8], draft: &Draft, name: Span) -> Result<Span, Cause>
-    requires part { IsPart (length text.now) name }
-    requires draft { IsDraft text.now draft.now }
-    ensures value { by_reason result ≡ new_writer text.now draft.now.said name }
-    ensures short { IfOk result (IsShortPart (length text.now)) }
-    ensures new { IfOk result (λ n. place_of (bytes_of text.now n) draft.now.names.writers ≡ None) }
-{
-    let taken = draft.writer_named(bytes_of(text, name));
-    name_field(text, NameKind::Writer, taken, name)
-}
-
 /// One writer more.
 fn writer_if(draft: &Draft, name: Span, metadata: Metadata) -> Result<Entry, Cause>
     ensures value { told result ≡ writer_if draft.now.said name (meta_of metadata) }
     ensures same { IfOk result (λ e. e ≡ entry.Writer name metadata) }
     ensures few { IfOk result (λ e. length draft.now.said.writers < 64) }
 {
-    if draft.writers() >= MOST_WRITERS {
+    if draft.count(NameKind::Writer) >= MOST_WRITERS {
         return Err(Cause::too_many("writers", MOST_WRITERS as u64));
     }
     Ok(Entry::Writer(name, metadata))
@@ -75,7 +62,7 @@ pub(crate) fn writer_of_value(
     ensures value { told result ≡ writer_said text.now draft.now.said name (meta_of metadata) }
     ensures kept { IfOk result (IsEntry text.now draft.now) }
 {
-    let name = new_writer(text, draft, name)?;
+    let name = new_name(text, draft, NameKind::Writer, name)?;
     writer_if(draft, name, metadata)
 }
 
@@ -97,7 +84,7 @@ pub(crate) fn writer_of(
     let Fields::Two(name, document) = fields else {
         return Err(Unread::Bad(Cause::no_form()));
     };
-    let name = match new_writer(text, draft, name.span()) {
+    let name = match new_name(text, draft, NameKind::Writer, name.span()) {
         Ok(name) => name,
         Err(cause) => return Err(Unread::Bad(cause)),
     };
@@ -181,7 +168,7 @@ fn asked_of(
     ensures most { IfOk result (λ a. a.nth ≤ 2000) }
     ensures new { IfOk result (λ a. is_answered draft.now.said.writers a.writer a.order a.nth ≡ false) }
 {
-    let writer = writer_field(text, draft, writer)?;
+    let writer = declared_field(text, draft, NameKind::Writer, writer)?;
     let order = order_field(text, order)?;
     let nth = nth_field(text, draft, writer, order, nth)?;
     Ok(Asked { writer, order, nth })
@@ -220,7 +207,7 @@ pub(crate) fn answer_of_value(
     ensures value { told result ≡ answer_said text.now draft.now.said writer row }
     ensures kept { IfOk result (IsEntry text.now draft.now) }
 {
-    let writer = writer_field(text, draft, number(writer))?;
+    let writer = declared_field(text, draft, NameKind::Writer, number(writer))?;
     let order = row.order;
     let nth = nth_field(text, draft, writer, order, number(row.nth))?;
     answer_if(draft, Asked { writer, order, nth }, row.answer)

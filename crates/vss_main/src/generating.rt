@@ -13,7 +13,7 @@ use crate::stores::store_of;
 use generated::laws::generated_texts_are_read;
 use generator_text::{gen_scenario, summary_of};
 use io_edge::{Sink, write_all};
-use scenario::{Refused, Scenario, parse};
+use scenario::{Refused, Scenario, parse_text};
 use std::alloc::Global;
 use std::sync::Wait;
 use std::thread::Threads;
@@ -28,7 +28,7 @@ fn scenario_of(alloc: Global, number: u32) -> Result<Scenario, OutOfMemory>
 {
     generated_texts_are_read(number);
     let text = gen_scenario(alloc, number)?;
-    match parse(alloc, text.bytes()) {
+    match parse_text(alloc, text) {
         Ok(scenario) => Ok(scenario),
         Err(Refused::OutOfMemory) => Err(OutOfMemory),
         Err(Refused::Line { .. }) => unreachable!(),

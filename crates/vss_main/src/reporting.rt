@@ -10,7 +10,7 @@ ghost use Rattle.vss_main.specs.TopCall.{Ran, IsCounted, AreGivenBack, IsStatus,
 use crate::status::Status;
 use crate::stores::store_of;
 use io_edge::{ReadError, Sink, Source, read_all, write_all};
-use scenario::{Refused, Scenario, parse};
+use scenario::{Refused, Scenario, parse_text};
 use std::alloc::Global;
 use std::sync::Wait;
 use std::thread::Threads;
@@ -64,7 +64,7 @@ pub fn run_input<R: Threads + Wait + Sync, S: Source, K: Sink, M: Maker, G: Gate
         Err(ReadError::OutOfMemory) => return Status::OutOfMemory,
         Err(ReadError::TooLong) => return Status::TooLong,
     };
-    let scenario = match parse(alloc, text.bytes()) {
+    let scenario = match parse_text(alloc, text) {
         Ok(scenario) => scenario,
         Err(Refused::Line { line, reason }) => return Status::ScenarioRefused { line, reason },
         Err(Refused::OutOfMemory) => return Status::OutOfMemory,

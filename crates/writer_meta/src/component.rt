@@ -35,10 +35,12 @@ impl Component {
         if self.path.is_empty() {
             return Text::copy(alloc, self.name.bytes());
         }
-        let mut name = Text::copy(alloc, self.path.bytes())?;
-        name.add(b"\\")?;
-        name.add(self.name.bytes())?;
-        Ok(name)
+        let (path, name) = (self.path.bytes(), self.name.bytes());
+        let mut full = Vec::with_capacity(alloc, path.len() + 1 + name.len())?;
+        full.extend_from_slice(path)?;
+        full.push(b'\\')?;
+        full.extend_from_slice(name)?;
+        Ok(Text::of(full))
     }
 
     /// Whether the format allows its path and its name.

@@ -5,11 +5,10 @@ ghost use Rattle.writer_meta.specs.Document.{double_after};
 
 use crate::component::Component;
 use std::alloc::Global;
-use std::collections::BTreeSet;
+use std::collections::HashSet;
 use vss_names::{OutOfMemory, Text};
 
-/// The first full name that an earlier component has. The names so far are kept in order, so that each is looked up
-/// in a few comparisons.
+/// The first full name that an earlier component has.
 pub(crate) fn first_double(
     alloc: Global,
     components: &[Component],
@@ -17,13 +16,12 @@ pub(crate) fn first_double(
     ensures { IfOk result (λ double. option_map (λ name. name.bytes) double
         ≡ double_after [] (map part_of components.now)) }
 {
-    let mut names = BTreeSet::new(alloc);
+    let mut names = HashSet::new(alloc);
     for component in components {
         let name = component.full_name(alloc)?.into_vec();
-        if names.contains(&name) {
-            return Ok(Some(Text::of(name)));
+        if !names.insert(name)? {
+            return Ok(Some(component.full_name(alloc)?));
         }
-        names.insert(name)?;
     }
     Ok(None)
 }

@@ -35,16 +35,25 @@ pub(crate) fn unknown_of_component(members: &Map<String, Value>) -> Option<&str>
     first_unknown(members, &COMPONENT_MEMBERS)
 }
 
+/// Whether the format has a member of this name. Members come in order of their names, so most often it is the next one.
+fn is_known(known: &[&str], next: usize, name: &str) -> bool
+    ensures { result ≡ list_any (λ k. bytes_eq k.now name.now) known.now }
+{
+    (next < known.len() && known[next] == name) || known.contains(&name)
+}
+
 #[tactic(auto, unfolding(crate::specs::Document::unknown_in))]
 fn first_unknown<'v>(members: &'v Map<String, Value>, known: &[&str]) -> Option<&'v str>
     ensures { option_map (λ name. name.now) result
         ≡ unknown_in (λ name. list_any (λ k. bytes_eq k.now name) known.now)
         (members_view members.now.entries) }
 {
+    let mut next = 0usize;
     for (name, _value) in members.iter() {
-        if !(&*known).contains(&name.as_str()) {
+        if !is_known(known, next, name.as_str()) {
             return Some(name.as_str());
         }
+        next = next.wrapping_add(1);
     }
     None
 }

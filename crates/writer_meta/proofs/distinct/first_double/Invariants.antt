@@ -1,8 +1,6 @@
 use Rattle.std.proofs.Common.{◌≡◌, ℕ, List, [], drop, map, Vec}
-use Rattle.std.specs.BTreeSet.{contains}
-use Rattle.std.specs.Cmp.Lexicographic.{slice_cmp}
+use Rattle.std.specs.HashSet.{contains}
 use Rattle.std.specs.List.{list_any}
-use Rattle.std.specs.Ordering.{nat_cmp}
 use Rattle.std.specs.Str.{bytes_eq}
 use Rattle.std.specs.declared.alloc.Global.{Global}
 use Rattle.writer_meta.specs.Metadata.{part_of}
@@ -13,5 +11,5 @@ use Rattle.writer_meta.proofs.distinct.first_double.Given as goal
 abbrev pub invariant-loop-component : goal.invariant-loop-component
 invariant-loop-component l =
     (so_far : List (List ℕ))
-    × ((q : Vec ℕ Global) → contains (λ x y. slice_cmp nat_cmp x.items y.items) l.names q ≡ list_any (λ name. bytes_eq name q.items) so_far)
+    × ((q : Vec ℕ Global) → contains (λ x y. bytes_eq x.items y.items) l.names q ≡ list_any (λ name. bytes_eq name q.items) so_far)
     × (double_after [] (map part_of l.components) ≡ double_after so_far (map part_of (drop l.component-index l.components)))
