@@ -87,11 +87,6 @@ gone_is {D = D} area new maps v up_to m n at copies n_is new_is =
     (new_is ∙ ap (λ rs. with_records rs area) (followed_is area.records v m n (gone_rule up_to) (gone_on_row v up_to) copies (ap (λ (x : MapValue). x.copies) n_is) (rule-gone area.records v up_to)))
     (images_after maps v n ∙ ap (λ s. slice_set (images_of maps) v s) (ap (λ (x : MapValue). x.images) n_is ∙ ap (after up_to) (sym on)))
 
--- records that follow a rule follow the map that it makes
-pub follows_map : {D : Type 0} (area new : AreaValue D) (v : ℕ) (m n : MapValue) (rule : Copied → Option Copied) → m.copies ≡ map (copied_for v) area.records → n.copies ≡ renewed rule m.copies
-    → new ≡ with_records (followed v (renewed rule (map (copied_for v) area.records)) area.records) area → new ≡ with_records (followed v n.copies area.records) area
-follows_map area new v m n rule was is new_is = new_is ∙ ap (λ cs. with_records (followed v cs area.records) area) (sym (is ∙ ap (λ cs. renewed rule cs) was))
-
 pub note_is : {D : Type 0} (area new : AreaValue D) (maps : List MapValue) (v b slot set : ℕ) (m n : MapValue) → slice_get maps v ≡ Some m → n.images ≡ m.images → set ≡ newest m.images
     → new ≡ with_records (slice_set area.records slot (record_of v set b)) area
     → ◌≡◌ {A = CopiesValue D} (record { area = new; images = images_of (slice_set maps v n) }) (after_note (record { area = area; images = images_of maps }) v b slot)

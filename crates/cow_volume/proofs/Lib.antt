@@ -17,9 +17,8 @@ pub mod Rows
 pub mod FollowedRows
 pub mod Ties
 pub mod Renewed
-pub mod Passing
-pub mod HandingDown
-pub mod EntryCounts
+pub mod Following
+pub mod NotedCounts
 pub mod MergeRules
 pub mod Gone
 pub mod DeviceCalls

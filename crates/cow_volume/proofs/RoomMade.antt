@@ -8,7 +8,7 @@ use Rattle.diff_map.specs.MapValue.{newest}
 use Rattle.cow_volume.specs.GroupValue.{GroupValue, placed}
 use Rattle.cow_volume.specs.StandsFor.{StandsFor, record_of}
 use Rattle.cow_volume.specs.Changes.{has_record, gone_to}
-use Rattle.cow_volume.specs.Calls.{blocks_at, sets_in, sets_at, made_room, IsEvicted}
+use Rattle.cow_volume.specs.Calls.{blocks_at, sets_in, sets_at, IsEvicted}
 use Rattle.cow_volume.specs.Room.{lacks_copy, lacks_slot, lacks_after, all_after, gone_group, IsRoomMade, HasRoom}
 use Rattle.cow_volume.specs.Tied.{CopiesValue, AreOfImages}
 use Rattle.cow_volume.specs.CopiesAfter.{after_gone}

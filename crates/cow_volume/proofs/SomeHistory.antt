@@ -2,7 +2,7 @@
 -- of which it has a copy. Where no device tells what it holds, the group stands for them.
 use Rattle.std.proofs.Common.{ℕ, zero, suc, ◌≡◌, ◌<◌, ◌≤◌, ◌+◌, ◌-◌, Bool, true, false, List, [], ◌∷◌, ◌++◌, length, take, drop, Option, Some, None, slice_get, refl, sym, ap, ◌∙◌, subst, arith}
 use Rattle.std.proofs.Common.{append_assoc, append-nil, length-append}
-use Rattle.std.specs.Prelude.{◌==◌, ◌&&◌, ◌||◌, if◌then◌else◌, is_some, All, AllPairs}
+use Rattle.std.specs.Prelude.{◌==◌, ◌&&◌, ◌||◌, if◌then◌else◌, All, AllPairs}
 use Rattle.std.specs.List.{slice_range}
 use Rattle.std.proofs.Math.Seq.{drop-append_seam}
 use Rattle.std.proofs.lemmas.List.{take-append-le, take_all}
@@ -11,11 +11,10 @@ use Rattle.std.proofs.lemmas.List.Elements.{All-nil, All-cons, All-head, All-tai
 use Rattle.std.proofs.lemmas.Option.{none-some, same_Some, slice_get_within, get_or_from_slice_get}
 use Rattle.write_history.specs.History.{Write, Image, History, AreInTime, AreLater, names, sets_of}
 use Rattle.write_history.specs.Slots.{writes_since}
-use Rattle.diff_area.specs.Records.{is_free}
 use Rattle.diff_area.specs.declared.table_record.Record.{Record}
 use Rattle.diff_map.specs.MapValue.{AreImages as ArePlaced}
 use Rattle.cow_volume.specs.GroupValue.{GroupValue}
-use Rattle.cow_volume.specs.StandsFor.{AreImages, IsVolume, StandsFor, told_in, is_named, record_of}
+use Rattle.cow_volume.specs.StandsFor.{AreImages, IsVolume, StandsFor, is_named, record_of}
 use Rattle.cow_volume.specs.Calls.{is_among, sets_in}
 use Rattle.cow_volume.specs.Changes.{is_of}
 use Rattle.cow_volume.specs.Resuming.{AllHaveImages, NoneTell}

@@ -16,12 +16,12 @@ ghost use Rattle.cow_volume.specs.Resuming.{AllHaveImages, IsResumeFault};
 ghost use Rattle.cow_volume.specs.Tied.{AreOfImages, new_map};
 ghost use Rattle.cow_volume.specs.CopiesAfter.{images_on, after_cut, after_note, after_merge, after_clear, after_gone, after_gone_on};
 
-use crate::renewing::{free_records, merge_records};
+use crate::renewing::{free_copies, merge_copies};
 use crate::resume_fault::ResumeFault;
 use crate::resuming::{maps_of, note_copies, pool_of};
 use block_data::{BLOCK, BlockView};
 use diff_area::{Area, AreaFault, Record};
-use diff_map::{DiffMap, Going, next_older};
+use diff_map::{DiffMap, Going};
 use slot_pool::SlotPool;
 use std::alloc::Global;
 use std::marker::Model;
@@ -130,9 +130,7 @@ impl<D: Device> Copies<D> {
         requires { v < length self.now.area.volumes }
         ensures { result ≡ count_on v self.now.area.records }
     {
-        let _facts = self.area.slots();
-        let entries = self.maps[v as usize].entries();
-        entries.len() as u32
+        self.maps[v as usize].used()
     }
 
     /// How many slots hold copies for the image of a set on the volume.
@@ -341,9 +339,8 @@ impl<D: Device> Copies<D> {
         ensures { self.new ≡ after_gone_on self.old v set }
     {
         let map = &mut self.maps[v as usize];
-        let _facts = map.images();
-        free_records(&mut self.area, map.entries(), v, Going::UpTo(set));
-        map.drop_up_to(set, &mut self.pool);
+        free_copies(&mut self.area, map, &mut self.pool, v, Going::UpTo(set));
+        map.forget_up_to(set);
         let _facts = map.images();
     }
 
@@ -354,9 +351,9 @@ impl<D: Device> Copies<D> {
         ensures { self.new ≡ after_merge self.old v set }
     {
         let map = &mut self.maps[v as usize];
-        let older = next_older(map.images(), set);
-        merge_records(&mut self.area, map.entries(), v, set, older);
-        map.merge_down(set, &mut self.pool);
+        let _facts = map.images();
+        merge_copies(&mut self.area, map, &mut self.pool, v, set);
+        map.forget(set);
         let _facts = map.images();
     }
 
@@ -368,8 +365,8 @@ impl<D: Device> Copies<D> {
     {
         let map = &mut self.maps[v as usize];
         let _facts = map.images();
-        free_records(&mut self.area, map.entries(), v, Going::From(set));
-        map.clear_from(set, &mut self.pool);
+        free_copies(&mut self.area, map, &mut self.pool, v, Going::From(set));
+        map.forget_newer(set);
         let _facts = map.images();
     }
 }

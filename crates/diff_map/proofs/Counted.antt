@@ -1,152 +1,251 @@
--- The numbers that a map keeps beside its images: where an image is cut, a slot is noted, and images go.
-use Rattle.std.proofs.Common.{ℕ, ◌≡◌, ◌≢◌, ◌+◌, ◌<◌, ◌≤◌, ◌^◌, ◌++◌, inl, inr, Bool, true, false, not, eqb, leb, ltb, List, [], ◌∷◌, length, get_or, set, map, Option, Some, None, refl, ap, sym, ◌∙◌, subst, arith, All, Contains, Vec, vec_capacity}
-use Rattle.std.specs.List.{slice_get, count_by, filter, AllPairs}
+-- What a map keeps beside its copies: where an image is cut, a slot is noted or loses its copy, and images go.
+use Rattle.std.proofs.Common.{ℕ, ◌≡◌, ◌≢◌, ◌+◌, ◌-◌, ◌<◌, ◌≤◌, ◌^◌, ◌++◌, inl, inr, Bool, true, false, cond, List, [], ◌∷◌, length, get_or, set, map, Option, Some, None, refl, ap, sym, ◌∙◌, subst, arith, All, Contains, Vec, vec_capacity}
+use Rattle.std.specs.List.{slice_get, filter, AllPairs}
 use Rattle.std.specs.declared.alloc.Global.{Global}
 use Rattle.std.specs.Prelude.{IfSome}
+use Rattle.std.proofs.Math.Seq.{map-set_same}
 use Rattle.std.proofs.lemmas.Bool.{cases_eq, cases_lt}
-use Rattle.std.proofs.lemmas.Bool.Decides.{nat_tests}
-use Rattle.std.proofs.lemmas.List.{get_or-map, length-append, length-map, length-set, map-append, get_or_default}
-use Rattle.std.proofs.lemmas.List.Elements.{All-nil, All-cons, All-append, Contains-append_left}
+use Rattle.std.proofs.lemmas.List.{get_or-map, get_or-set_same, get_or-set_other, length-append, length-map, length-set, map-append, get_or_default}
+use Rattle.std.proofs.lemmas.List.Elements.{All-nil, All-cons, All-append, All-filter, Contains-append_left}
 use Rattle.std.proofs.lemmas.List.Quantifiers.{all_pairs_push}
 use Rattle.std.proofs.lemmas.List.Sums.{count_by-le-length}
 use Rattle.std.proofs.lemmas.Option.{same_Some, none-some, slice_get_within, get_or_from_slice_get}
 use Rattle.diff_map.specs.declared.copied.Copied.{Copied}
-use Rattle.diff_map.specs.declared.entry.Entry.{Entry}
-use Rattle.diff_map.specs.declared.going.Going.TheVariants.{From, UpTo}
 use Rattle.diff_map.specs.declared.image_count.ImageCount.{ImageCount}
 use Rattle.diff_map.specs.Copies.{copied_at, copy_of}
-use Rattle.diff_map.specs.Counts.{is_for, used_for, counted, renumbered, recounted, KeepsCounts, IsOldestUsed, IsFirstUsed}
-use Rattle.diff_map.specs.Index.{IsIndex, KeepsIndex}
-use Rattle.diff_map.specs.Leaving.{rule_of}
-use Rattle.diff_map.specs.MapValue.{AreImages}
-use Rattle.diff_map.specs.Rules.{renewed, merged, next_older}
-use Rattle.diff_map.proofs.Counting.{used_noted, used_noted_other, used_none, used_some, used_at, used_kept, used_gone, kept_up_to, kept_from, gone_from, kept_merged, entries_used, counted_sets, counted_filter, counted_one, counted_filter_one}
-use Rattle.diff_map.proofs.Images.{AreImages-filter, Contains-filter, next_older_is}
+use Rattle.diff_map.specs.Counts.{is_for, used_for, IsFor, IsChain, IsCounted, KeepsCounts, IsOldestUsed, IsFirstUsed}
+use Rattle.diff_map.specs.MapValue.{AreImages, KeepsImages}
+use Rattle.diff_map.proofs.Chained.{not_for, IsChain-other, IsChain-other_out, IsChain-noted, IsChain-popped, IsFor-first}
+use Rattle.diff_map.proofs.Counting.{used_noted, used_noted_other, used_none, used_some, used_at, used_out, used_out_other}
+use Rattle.diff_map.proofs.Images.{AreImages-filter, Contains-filter}
+use Rattle.diff_map.proofs.Renewal.{row_within}
 
--- ## one number
+abbrev none_of : ImageCount
+none_of = record { set = 0; used = 0; first = 0 }
 
--- the number at an image's place
-pub number_at : (images : List ℕ) (counts : List ImageCount) (copies : List (Option Copied)) (image n : ℕ) (d : ImageCount) → counts ≡ map (counted copies) images → n < length images → ((e : ℕ) → get_or images n e ≡ image) → get_or counts n d ≡ counted copies image
-number_at images counts copies image n d are inside is =
-    ap (λ (cs : List ImageCount). get_or cs n d) are ∙ get_or-map (counted copies) images n 0 d inside ∙ ap (counted copies) (is 0)
+abbrev sets_of : List ImageCount → List ℕ
+sets_of counts = map (λ c. c.set) counts
 
-pub as_many : (images : List ℕ) (counts : List ImageCount) (copies : List (Option Copied)) → counts ≡ map (counted copies) images → length counts ≡ length images
-as_many images counts copies are = ap length are ∙ length-map images (counted copies)
+-- ## one count
+
+pub as_many : (images : List ℕ) (counts : List ImageCount) → sets_of counts ≡ images → length counts ≡ length images
+as_many images counts same = sym (length-map counts (λ (c : ImageCount). c.set)) ∙ ap length same
+
+pub set_at : (images : List ℕ) (counts : List ImageCount) (k : ℕ) (d : ImageCount) → sets_of counts ≡ images → k < length counts → (get_or counts k d).set ≡ get_or images k 0
+set_at images counts k d same inside = sym (get_or-map (λ (c : ImageCount). c.set) counts k d 0 inside) ∙ ap (λ (xs : List ℕ). get_or xs k 0) same
+
+-- the count at an image's place is that of the image
+pub count_at : (images : List ℕ) (counts : List ImageCount) (next : List ℕ) (copies : List (Option Copied)) (image n : ℕ) (d : ImageCount) → sets_of counts ≡ images → All (IsCounted next copies) counts → n < length images → ((e : ℕ) → get_or images n e ≡ image) → ((get_or counts n d).set ≡ image) × IsCounted next copies (get_or counts n d)
+count_at images counts next copies image n d same each inside is =
+    let many = as_many images counts same in
+    (set_at images counts n d same (omega arith) ∙ is 0, each n d (omega arith))
+
+-- the counts at other places are of other images
+other_image_at : (images : List ℕ) (image n k : ℕ) → AllPairs (λ older newer. older < newer) images → n < length images → ((d : ℕ) → get_or images n d ≡ image) → k < length images → k ≢ n → get_or images k 0 ≢ image
+other_image_at images image n k rise inside is within other e = elim (cases_lt k n) [
+  | inl low ↦ let up = rise k n 0 low inside in let here = is 0 in omega arith
+  | inr high ↦ let up = rise n k 0 (omega arith) within in let here = is 0 in omega arith
+]
+
+-- one count changes
+module _ (images : Vec ℕ Global) (counts newer : Vec ImageCount Global) (next later : List ℕ) (copies after : List (Option Copied)) (image n : ℕ) (new : ImageCount)
+    (keeps : KeepsCounts images counts next copies) (rise : AllPairs (λ older newer. older < newer) images.items) (inside : n < length images.items) (is : (d : ℕ) → get_or images.items n d ≡ image)
+    (items : newer.items ≡ set counts.items n new) (cap : vec_capacity counts ≤ vec_capacity newer) (set_is : new.set ≡ image) (as_long : length later ≡ length after) (ok : IsCounted later after new)
+    (others : (c : ImageCount) → c.set ≢ image → IsCounted next copies c → IsCounted later after c) where
+  each_now : All (IsCounted later after) (set counts.items n new)
+  each_now k d within =
+      let long = length-set counts.items n new in
+      let many = as_many images.items counts.items keeps.sets in
+      elim (cases_eq k n) [
+        | inl same ↦ subst (IsCounted later after) (sym (ap (λ j. get_or (set counts.items n new) j d) same ∙ get_or-set_same counts.items n new d (omega arith))) ok
+        | inr differ ↦
+            let apart = other_image_at images.items image n k rise inside is (omega arith) differ in
+            subst (IsCounted later after) (sym (get_or-set_other counts.items n k new d differ))
+            (others (get_or counts.items k d) (λ e. apart (sym (set_at images.items counts.items k d keeps.sets (omega arith)) ∙ e)) (keeps.each k d (omega arith)))
+      ]
+
+  pub KeepsCounts-one : KeepsCounts images newer later after
+  KeepsCounts-one =
+      let many = as_many images.items counts.items keeps.sets in
+      record {
+        sets = ap sets_of items ∙ map-set_same (λ (c : ImageCount). c.set) counts.items n new none_of (set_is ∙ sym (is 0) ∙ sym (set_at images.items counts.items n none_of keeps.sets (omega arith))) ∙ keeps.sets;
+        each = subst (All (IsCounted later after)) (sym items) each_now;
+        count_room = let r = keeps.count_room in omega arith;
+        long = as_long;
+      }
+
+-- ## a slot is noted
+
+pub noted_other : (next : List ℕ) (copies : List (Option Copied)) (slot image block value : ℕ) → slice_get copies slot ≡ Some None → (c : ImageCount) → c.set ≢ image → IsCounted next copies c → IsCounted (set next slot value) (set copies slot (Some (copy_of image block))) c
+noted_other next copies slot image block value unnoted c apart is =
+    let none = get_or_from_slice_get copies slot None None unnoted in
+    let inside = slice_get_within copies slot None unnoted in
+    record {
+      used = is.used ∙ sym (used_noted_other copies slot image block c.set unnoted apart);
+      chain = IsChain-other next copies c.set c.first slot value (Some (copy_of image block)) (not_for copies c.set slot none)
+          (λ it. apart (ap (λ (x : Copied). x.set) (same_Some (copy_of c.set it.0) (copy_of image block) (sym it.1 ∙ get_or-set_same copies slot (Some (copy_of image block)) None inside)))) is.chain;
+    }
+
+pub noted_here : (next : List ℕ) (copies : List (Option Copied)) (slot image block : ℕ) (c : ImageCount) → slice_get copies slot ≡ Some None → length next ≡ length copies → c.set ≡ image → IsCounted next copies c
+    → IsCounted (set next slot c.first) (set copies slot (Some (copy_of image block))) (record { set = image; used = c.used + 1; first = slot })
+noted_here next copies slot image block c unnoted long set_is is =
+    let none = get_or_from_slice_get copies slot None None unnoted in
+    let inside = slice_get_within copies slot None unnoted in
+    let used = is.used in
+    let same : used_for copies c.set ≡ used_for copies image = ap (used_for copies) set_is in
+    let more = used_noted copies slot image block unnoted in
+    record {
+      used = omega arith;
+      chain = IsChain-noted next copies image c.first slot block (omega arith) inside none (subst (λ s. IsChain next copies s c.first) set_is is.chain);
+    }
+
+-- a slot that is not noted leaves room for one more
+pub one_more_fits : (copies : List (Option Copied)) (slot image : ℕ) → length copies < 2 ^ 32 → slice_get copies slot ≡ Some None → used_for copies image + 1 < 2 ^ 32
+one_more_fits copies slot image narrow unnoted =
+    let now = used_noted copies slot image 0 unnoted in
+    let most = count_by-le-length (is_for image) (set copies slot (Some (copy_of image 0))) in
+    let long = length-set copies slot (Some (copy_of image 0)) in
+    omega arith
+
+-- a row that changes keeps the images, if it is of one of them
+pub KeepsImages-set : (images : Vec ℕ Global) (copies : List (Option Copied)) (slot : ℕ) (row : Option Copied) → KeepsImages images copies → IfSome row (λ c. Contains images.items c.set) → KeepsImages images (set copies slot row)
+KeepsImages-set images copies slot row keeps ok = record {
+  are_images = keeps.are_images;
+  of_images = λ k c is. elim (cases_eq k slot) [
+    | inl same ↦ of_row row ok c (sym (get_or-set_same copies slot row None (subst (λ j. j < length copies) same (let w = row_within (set copies slot row) k c is in let l = length-set copies slot row in omega arith))) ∙ ap (λ j. copied_at (set copies slot row) j) (sym same) ∙ is)
+    | inr differ ↦ keeps.of_images k c (sym (get_or-set_other copies slot k row None differ) ∙ is)
+  ];
+  image_room = keeps.image_room;
+} where
+  of_row : (o : Option Copied) → IfSome o (λ c. Contains images.items c.set) → (c : Copied) → o ≡ Some c → Contains images.items c.set
+  of_row None ok c is = absurd (none-some c is)
+  of_row (Some x) ok c is = subst (λ (y : Copied). Contains images.items y.set) (same_Some x c is) ok
+
+-- ## a slot loses its copy
+
+pub popped_other : (next : List ℕ) (copies : List (Option Copied)) (slot image block : ℕ) → copied_at copies slot ≡ Some (copy_of image block) → (c : ImageCount) → c.set ≢ image → IsCounted next copies c → IsCounted next (set copies slot None) c
+popped_other next copies slot image block was c apart is =
+    let inside = row_within copies slot (copy_of image block) was in
+    record {
+      used = is.used ∙ sym (used_out_other copies slot image block c.set was apart);
+      chain = IsChain-other_out next copies c.set c.first slot None
+          (λ it. apart (ap (λ (x : Copied). x.set) (same_Some (copy_of c.set it.0) (copy_of image block) (sym it.1 ∙ was))))
+          (not_for (set copies slot None) c.set slot (get_or-set_same copies slot None None inside)) is.chain;
+    }
+
+pub popped_here : (next : List ℕ) (copies : List (Option Copied)) (image block value : ℕ) (c : ImageCount) → copied_at copies c.first ≡ Some (copy_of image block) → c.set ≡ image → value ≡ get_or next c.first 0 → IsCounted next copies c
+    → IsCounted next (set copies c.first None) (record { set = image; used = c.used - 1; first = value })
+popped_here next copies image block value c was set_is value_is is =
+    let used = is.used in
+    let same : used_for copies c.set ≡ used_for copies image = ap (used_for copies) set_is in
+    let less = used_out copies c.first image block was in
+    record {
+      used = omega arith;
+      chain = subst (λ k. IsChain next (set copies c.first None) image k) (sym value_is) (IsChain-popped next copies image c.first (subst (λ s. IsChain next copies s c.first) set_is is.chain) (block, was));
+    }
+
+-- the first slot of an image that has a copy
+pub first_for : (next : List ℕ) (copies : List (Option Copied)) (image : ℕ) (c : ImageCount) → c.set ≡ image → IsCounted next copies c → 0 < c.used → IsFor copies image c.first
+first_for next copies image c set_is is some =
+    let used = is.used in
+    let same : used_for copies c.set ≡ used_for copies image = ap (used_for copies) set_is in
+    IsFor-first next copies image c.first (subst (λ s. IsChain next copies s c.first) set_is is.chain) (omega arith)
+
+-- ## both, in what a map keeps
+
+module _ (images : Vec ℕ Global) (counts : Vec ImageCount Global) (next : List ℕ) (copies : List (Option Copied)) (image n : ℕ) (count : ImageCount)
+    (index : KeepsImages images copies) (keeps : KeepsCounts images counts next copies) (inside : n < length images.items) (is : (d : ℕ) → get_or images.items n d ≡ image) (read : count ≡ get_or counts.items n count) where
+  pub count_is : (count.set ≡ image) × IsCounted next copies count
+  count_is = subst (λ (c : ImageCount). (c.set ≡ image) × IsCounted next copies c) (sym read) (count_at images.items counts.items next copies image n count keeps.sets keeps.each inside is)
+
+  pub used_is : count.used ≡ used_for copies image
+  used_is = count_is.1.used ∙ ap (used_for copies) count_is.0
+
+  pub KeepsCounts-noted : (newer : Vec ImageCount Global) (slot block : ℕ) → slice_get copies slot ≡ Some None → newer.items ≡ set counts.items n (record { set = image; used = count.used + 1; first = slot }) → vec_capacity counts ≤ vec_capacity newer
+      → KeepsCounts images newer (set next slot count.first) (set copies slot (Some (copy_of image block)))
+  KeepsCounts-noted newer slot block unnoted items cap =
+      let long = keeps.long in
+      let long_next = length-set next slot count.first in
+      let long_copies = length-set copies slot (Some (copy_of image block)) in
+      KeepsCounts-one images counts newer next (set next slot count.first) copies (set copies slot (Some (copy_of image block))) image n (record { set = image; used = count.used + 1; first = slot })
+      keeps index.are_images.ascend inside is items cap refl (omega arith) (noted_here next copies slot image block count unnoted long count_is.0 count_is.1)
+      (noted_other next copies slot image block count.first unnoted)
+
+  pub KeepsCounts-popped : (newer : Vec ImageCount Global) (block value : ℕ) → copied_at copies count.first ≡ Some (copy_of image block) → value ≡ get_or next count.first 0 → newer.items ≡ set counts.items n (record { set = image; used = count.used - 1; first = value }) → vec_capacity counts ≤ vec_capacity newer
+      → KeepsCounts images newer next (set copies count.first None)
+  KeepsCounts-popped newer block value was value_is items cap =
+      let long = keeps.long in
+      let long_copies = length-set copies count.first None in
+      KeepsCounts-one images counts newer next next copies (set copies count.first None) image n (record { set = image; used = count.used - 1; first = value })
+      keeps index.are_images.ascend inside is items cap refl (omega arith) (popped_here next copies image block value count was count_is.0 value_is count_is.1)
+      (popped_other next copies count.first image block was)
 
 -- ## an image is cut
 
-pub KeepsIndex-cut : (blocks : ℕ) (images later : Vec ℕ Global) (entries : Vec Entry Global) (copies : List (Option Copied)) (image : ℕ) → KeepsIndex blocks images entries copies → length images.items < 512 → 0 < image → image < 2 ^ 32 → All (λ i. i < image) images.items → later.items ≡ images.items ++ image ∷ []
-    → vec_capacity images ≤ vec_capacity later → KeepsIndex blocks later entries copies
-KeepsIndex-cut blocks images later entries copies image keeps short some narrow newest longer cap = record {
-  index = keeps.index;
+pub KeepsImages-cut : (images later : Vec ℕ Global) (copies : List (Option Copied)) (image : ℕ) → KeepsImages images copies → length images.items < 512 → 0 < image → image < 2 ^ 32 → All (λ i. i < image) images.items → later.items ≡ images.items ++ image ∷ []
+    → vec_capacity images ≤ vec_capacity later → KeepsImages later copies
+KeepsImages-cut images later copies image keeps short some narrow newest longer cap = record {
   are_images = subst AreImages (sym longer) (record {
     ascend = all_pairs_push (λ older newer. older < newer) images.items image keeps.are_images.ascend (λ k d inside. newest k d inside);
     above_zero = All-append (λ i. (0 < i) × (i < 2 ^ 32)) images.items (image ∷ []) keeps.are_images.above_zero (All-cons (λ i. (0 < i) × (i < 2 ^ 32)) image [] (some, narrow) (All-nil (λ i. (0 < i) × (i < 2 ^ 32))));
     few = let long = length-append images.items (image ∷ []) in omega arith;
   });
   of_images = λ slot c row. subst (λ (xs : List ℕ). Contains xs c.set) (sym longer) (Contains-append_left images.items (image ∷ []) c.set (keeps.of_images slot c row));
-  of_blocks = keeps.of_blocks;
-  room = keeps.room;
-  narrow = keeps.narrow;
   image_room = let r = keeps.image_room in omega arith;
 }
 
-pub KeepsCounts-cut : (blocks : ℕ) (images later : Vec ℕ Global) (counts newer : Vec ImageCount Global) (entries : Vec Entry Global) (copies : List (Option Copied)) (image : ℕ) → KeepsIndex blocks images entries copies → KeepsCounts images counts copies → All (λ i. i < image) images.items → later.items ≡ images.items ++ image ∷ []
-    → newer.items ≡ counts.items ++ (record { set = image; used = 0 }) ∷ [] → vec_capacity counts ≤ vec_capacity newer → KeepsCounts later newer copies
-KeepsCounts-cut blocks images later counts newer entries copies image index keeps newest longer more cap =
-    let none : used_for copies image ≡ 0 = used_none copies image (λ slot c row same. let at = index.of_images slot c row in let low = newest at.0 c.set at.1 in let is : get_or images.items at.0 c.set ≡ c.set = at.2 in absurd (omega arith)) in
+pub KeepsCounts-cut : (images later : Vec ℕ Global) (counts newer : Vec ImageCount Global) (next : List ℕ) (copies : List (Option Copied)) (image : ℕ) → KeepsImages images copies → KeepsCounts images counts next copies → All (λ i. i < image) images.items → later.items ≡ images.items ++ image ∷ []
+    → newer.items ≡ counts.items ++ (record { set = image; used = 0; first = 0 }) ∷ [] → vec_capacity counts ≤ vec_capacity newer → KeepsCounts later newer next copies
+KeepsCounts-cut images later counts newer next copies image index keeps newest longer more cap =
+    let apart : (slot : ℕ) (c : Copied) → copied_at copies slot ≡ Some c → c.set ≢ image = λ slot c row same. let at = index.of_images slot c row in let low = newest at.0 c.set at.1 in let is : get_or images.items at.0 c.set ≡ c.set = at.2 in absurd (omega arith) in
+    let new : ImageCount = record { set = image; used = 0; first = 0 } in
+    let counted : IsCounted next copies new = record {
+      used = sym (used_none copies image apart);
+      chain = record { slots = []; lead = tt; once = tt; each = λ slot among. absurd among; all = λ slot it. absurd (apart slot (copy_of image it.0) it.1 refl) };
+    } in
     record {
-      are = more ∙ ap (λ (n : ℕ). counts.items ++ (record { set = image; used = n }) ∷ []) (sym none) ∙ ap (λ (cs : List ImageCount). cs ++ counted copies image ∷ []) keeps.are ∙ sym (map-append (counted copies) images.items (image ∷ [])) ∙ ap (map (counted copies)) (sym longer);
+      sets = ap sets_of more ∙ map-append (λ (c : ImageCount). c.set) counts.items (new ∷ []) ∙ ap (λ (xs : List ℕ). xs ++ image ∷ []) keeps.sets ∙ sym longer;
+      each = subst (All (IsCounted next copies)) (sym more) (All-append (IsCounted next copies) counts.items (new ∷ []) keeps.each (All-cons (IsCounted next copies) new [] counted (All-nil (IsCounted next copies))));
       count_room = let r = keeps.count_room in omega arith;
+      long = keeps.long;
     }
-
--- ## a slot is noted
-
-pub KeepsCounts-noted : (images : Vec ℕ Global) (counts newer : Vec ImageCount Global) (copies : List (Option Copied)) (slot image block used : ℕ) → KeepsCounts images counts copies → slice_get copies slot ≡ Some None → used ≡ used_for copies image → newer.items ≡ map (renumbered image (used + 1)) counts.items → vec_capacity newer ≡ vec_capacity counts
-    → KeepsCounts images newer (set copies slot (Some (copy_of image block)))
-KeepsCounts-noted images counts newer copies slot image block used keeps unnoted is more cap = record {
-  are = more ∙ ap (map (renumbered image (used + 1))) keeps.are
-      ∙ counted_one copies (set copies slot (Some (copy_of image block))) image (used + 1) images.items (let now = used_noted copies slot image block unnoted in omega arith) (λ s other. used_noted_other copies slot image block s unnoted other);
-  count_room = let r = keeps.count_room in omega arith;
-}
-
--- a slot that is not noted leaves room for one more
-pub one_more_fits : (blocks : ℕ) (images : Vec ℕ Global) (entries : Vec Entry Global) (copies : List (Option Copied)) (slot image : ℕ) → KeepsIndex blocks images entries copies → slice_get copies slot ≡ Some None → used_for copies image + 1 < 2 ^ 32
-one_more_fits blocks images entries copies slot image keeps unnoted =
-    let now = used_noted copies slot image 0 unnoted in
-    let most = count_by-le-length (is_for image) (set copies slot (Some (copy_of image 0))) in
-    let long = length-set copies slot (Some (copy_of image 0)) in
-    let narrow = keeps.narrow in
-    omega arith
-
--- the entries of an image fit a number of four bytes
-pub recount_fits : (o : Option ℕ) (blocks : ℕ) (images : Vec ℕ Global) (entries : Vec Entry Global) (copies : List (Option Copied)) → KeepsIndex blocks images entries copies → IfSome o (λ image. count_by (λ (e : Entry). eqb e.set image) entries.items < 2 ^ 32)
-recount_fits None blocks images entries copies keeps = tt
-recount_fits (Some image) blocks images entries copies keeps =
-    let used = entries_used entries.items copies image keeps.index in
-    let most = count_by-le-length (is_for image) copies in
-    let narrow = keeps.narrow in
-    omega arith
 
 -- ## images go
 
--- what is left has the images that are left
-pub sets_left : (p : ℕ → Bool) (images later : List ℕ) (counts left : List ImageCount) (copies : List (Option Copied)) → counts ≡ map (counted copies) images → later ≡ filter p images → left ≡ filter (λ (c : ImageCount). p c.set) counts → map (λ (c : ImageCount). c.set) left ≡ later
-sets_left p images later counts left copies are fewer less =
-    ap (map (λ (c : ImageCount). c.set)) (less ∙ ap (filter (λ (c : ImageCount). p c.set)) are ∙ counted_filter p copies copies images (λ s e. refl))
-    ∙ counted_sets copies (filter p images) ∙ sym fewer
+sets-filter : (p : ℕ → Bool) (counts : List ImageCount) → sets_of (filter (λ c. p c.set) counts) ≡ filter p (sets_of counts)
+sets-filter p [] = refl
+sets-filter p (c ∷ cs) = by_test (p c.set) refl (sets-filter p cs) where
+  by_test : (t : Bool) → p c.set ≡ t → sets_of (filter (λ c. p c.set) cs) ≡ filter p (sets_of cs)
+      → sets_of (cond (p c.set) (c ∷ filter (λ c. p c.set) cs) (filter (λ c. p c.set) cs)) ≡ cond (p c.set) (c.set ∷ filter p (sets_of cs)) (filter p (sets_of cs))
+  by_test true e rest = ap (λ b. sets_of (cond b (c ∷ filter (λ c. p c.set) cs) (filter (λ c. p c.set) cs))) e ∙ ap (λ xs. c.set ∷ xs) rest ∙ sym (ap (λ b. cond b (c.set ∷ filter p (sets_of cs)) (filter p (sets_of cs))) e)
+  by_test false e rest = ap (λ b. sets_of (cond b (c ∷ filter (λ c. p c.set) cs) (filter (λ c. p c.set) cs))) e ∙ rest ∙ sym (ap (λ b. cond b (c.set ∷ filter p (sets_of cs)) (filter p (sets_of cs))) e)
 
-pub KeepsCounts-gone : (images later : Vec ℕ Global) (counts newer : Vec ImageCount Global) (copies : List (Option Copied)) (newest : ℕ) → KeepsCounts images counts copies → later.items ≡ filter (λ image. ltb newest image) images.items
-    → newer.items ≡ filter (λ (c : ImageCount). ltb newest c.set) counts.items → vec_capacity newer ≡ vec_capacity counts → KeepsCounts later newer (renewed (rule_of (UpTo newest)) copies)
-KeepsCounts-gone images later counts newer copies newest keeps fewer less cap = record {
-  are = less ∙ ap (filter (λ (c : ImageCount). ltb newest c.set)) keeps.are
-      ∙ counted_filter (λ image. ltb newest image) copies (renewed (rule_of (UpTo newest)) copies) images.items (λ s past. used_kept (rule_of (UpTo newest)) copies s (kept_up_to newest s past))
-      ∙ ap (map (counted (renewed (rule_of (UpTo newest)) copies))) (sym fewer);
+pub KeepsCounts-left : (p : ℕ → Bool) (images later : Vec ℕ Global) (counts left : Vec ImageCount Global) (next : List ℕ) (copies : List (Option Copied)) → KeepsCounts images counts next copies → later.items ≡ filter p images.items → left.items ≡ filter (λ c. p c.set) counts.items → vec_capacity left ≡ vec_capacity counts → KeepsCounts later left next copies
+KeepsCounts-left p images later counts left next copies keeps fewer less cap = record {
+  sets = ap sets_of less ∙ sets-filter p counts.items ∙ ap (filter p) keeps.sets ∙ sym fewer;
+  each = subst (All (IsCounted next copies)) (sym less) (All-filter (λ c. p c.set) (IsCounted next copies) counts.items keeps.each);
   count_room = let r = keeps.count_room in omega arith;
+  long = keeps.long;
 }
 
-pub KeepsCounts-cleared : (images later : Vec ℕ Global) (counts left newer : Vec ImageCount Global) (copies : List (Option Copied)) (oldest : ℕ) → KeepsCounts images counts copies → later.items ≡ filter (λ image. leb image oldest) images.items
-    → left.items ≡ filter (λ (c : ImageCount). leb c.set oldest) counts.items → vec_capacity left ≡ vec_capacity counts → newer.items ≡ map (renumbered oldest 0) left.items → vec_capacity newer ≡ vec_capacity left → KeepsCounts later newer (renewed (rule_of (From oldest)) copies)
-KeepsCounts-cleared images later counts left newer copies oldest keeps fewer less less_cap now cap =
-    let none = used_gone (rule_of (From oldest)) copies oldest (gone_from oldest) in
-    record {
-      are = now ∙ ap (map (renumbered oldest 0)) (less ∙ ap (filter (λ (c : ImageCount). leb c.set oldest)) keeps.are)
-          ∙ counted_filter_one (λ image. leb image oldest) copies (renewed (rule_of (From oldest)) copies) oldest 0 images.items (sym none) (λ s low other. used_kept (rule_of (From oldest)) copies s (kept_from oldest s low other))
-          ∙ ap (map (counted (renewed (rule_of (From oldest)) copies))) (sym fewer);
-      count_room = let r = keeps.count_room in omega arith;
-    }
-
-not_gone : (s gone : ℕ) → not (eqb s gone) ≡ true → s ≢ gone
-not_gone s gone test same = let it : eqb s gone ≡ true = grind (arith, nat_tests) in absurd (grind (arith, nat_tests))
-
-merged_counts : (older : Option ℕ) (images : List ℕ) (entries : List Entry) (copies after : List (Option Copied)) (gone : ℕ) → after ≡ renewed (merged copies older gone) copies → IsIndex entries after
-    → recounted entries older (filter (λ (c : ImageCount). not (eqb c.set gone)) (map (counted copies) images)) ≡ map (counted after) (filter (λ image. not (eqb image gone)) images)
-merged_counts None images entries copies after gone is index =
-    counted_filter (λ image. not (eqb image gone)) copies after images (λ s test. ap (λ (rows : List (Option Copied)). used_for rows s) is ∙ used_kept (merged copies None gone) copies s (kept_merged copies None gone s (not_gone s gone test) (λ e. none-some s e)))
-merged_counts (Some older) images entries copies after gone is index =
-    counted_filter_one (λ image. not (eqb image gone)) copies after older (count_by (λ (e : Entry). eqb e.set older) entries) images (entries_used entries after older index)
-    (λ s test other. ap (λ (rows : List (Option Copied)). used_for rows s) is ∙ used_kept (merged copies (Some older) gone) copies s (kept_merged copies (Some older) gone s (not_gone s gone test) (λ e. other (sym (same_Some older s e)))))
-
-pub KeepsCounts-merged : (older : Option ℕ) (images later : Vec ℕ Global) (counts left newer : Vec ImageCount Global) (entries : List Entry) (copies after : List (Option Copied)) (gone : ℕ) → KeepsCounts images counts copies → after ≡ renewed (merged copies older gone) copies → IsIndex entries after
-    → later.items ≡ filter (λ image. not (eqb image gone)) images.items → left.items ≡ filter (λ (c : ImageCount). not (eqb c.set gone)) counts.items → vec_capacity left ≡ vec_capacity counts → newer.items ≡ recounted entries older left.items → vec_capacity newer ≡ vec_capacity left → KeepsCounts later newer after
-KeepsCounts-merged older images later counts left newer entries copies after gone keeps is index fewer less less_cap now cap = record {
-  are = now ∙ ap (recounted entries older) (less ∙ ap (filter (λ (c : ImageCount). not (eqb c.set gone))) keeps.are) ∙ merged_counts older images.items entries copies after gone is index ∙ ap (map (counted after)) (sym fewer);
-  count_room = let r = keeps.count_room in omega arith;
+pub KeepsImages-left : (p : ℕ → Bool) (images later : Vec ℕ Global) (copies : List (Option Copied)) → KeepsImages images copies → ((slot : ℕ) (c : Copied) → copied_at copies slot ≡ Some c → p c.set ≡ true) → later.items ≡ filter p images.items → vec_capacity later ≡ vec_capacity images → KeepsImages later copies
+KeepsImages-left p images later copies keeps stays fewer cap = record {
+  are_images = subst AreImages (sym fewer) (AreImages-filter p images.items keeps.are_images);
+  of_images = λ slot c row. subst (λ (xs : List ℕ). Contains xs c.set) (sym fewer) (Contains-filter p images.items c.set (stays slot c row) (keeps.of_images slot c row));
+  image_room = let r = keeps.image_room in omega arith;
 }
 
 -- ## the oldest image with a copy
 
-pub oldest_found : (o : Option ℕ) (blocks : ℕ) (images : Vec ℕ Global) (counts : Vec ImageCount Global) (entries : Vec Entry Global) (copies : List (Option Copied)) → KeepsIndex blocks images entries copies → KeepsCounts images counts copies → IfSome o (IsFirstUsed counts.items) → IfSome o (IsOldestUsed copies)
-oldest_found None blocks images counts entries copies index keeps first = tt
-oldest_found (Some image) blocks images counts entries copies index keeps first =
-    let long = as_many images.items counts.items copies keeps.are in
+pub oldest_found : (o : Option ℕ) (images : Vec ℕ Global) (counts : Vec ImageCount Global) (next : List ℕ) (copies : List (Option Copied)) → KeepsImages images copies → KeepsCounts images counts next copies → IfSome o (IsFirstUsed counts.items) → IfSome o (IsOldestUsed copies)
+oldest_found None images counts next copies index keeps first = tt
+oldest_found (Some image) images counts next copies index keeps first =
+    let long = as_many images.items counts.items keeps.sets in
     let inside = slice_get_within counts.items first.place first.count first.at in
-    let it : get_or images.items first.place 0 ≡ image =
-    ap (λ (c : ImageCount). c.set) (sym (get_or-map (counted copies) images.items first.place 0 first.count (omega arith)) ∙ ap (λ (cs : List ImageCount). get_or cs first.place first.count) (sym keeps.are) ∙ get_or_from_slice_get counts.items first.place first.count first.count first.at) ∙ first.set_is in
-    let used_is : used_for copies (get_or images.items first.place 0) ≡ first.count.used =
-    ap (λ (c : ImageCount). c.used) (sym (get_or-map (counted copies) images.items first.place 0 first.count (omega arith)) ∙ ap (λ (cs : List ImageCount). get_or cs first.place first.count) (sym keeps.are) ∙ get_or_from_slice_get counts.items first.place first.count first.count first.at) in
+    let there_is : get_or counts.items first.place first.count ≡ first.count = get_or_from_slice_get counts.items first.place first.count first.count first.at in
+    let it : get_or images.items first.place 0 ≡ image = sym (set_at images.items counts.items first.place first.count keeps.sets inside) ∙ ap (λ (c : ImageCount). c.set) there_is ∙ first.set_is in
+    let used_is : first.count.used ≡ used_for copies image = (subst (IsCounted next copies) there_is (keeps.each first.place first.count inside)).used ∙ ap (used_for copies) first.set_is in
     let some = first.some in
-    let more : used_for copies (get_or images.items first.place 0) ≡ used_for copies image = ap (used_for copies) it in
     let at = used_at copies image (omega arith) in
     record {
       slot = at.0;
@@ -159,7 +258,9 @@ oldest_found (Some image) blocks images counts entries copies index keeps first 
           elim (cases_lt there.0 first.place) [
             | inl before ↦
                 let zero : (get_or counts.items there.0 first.count).used ≡ 0 = first.none_before there.0 first.count (omega arith) before in
-                let number : (get_or counts.items there.0 first.count).used ≡ used_for copies c.set = ap (λ (x : ImageCount). x.used) (ap (λ (cs : List ImageCount). get_or cs there.0 first.count) keeps.are ∙ get_or-map (counted copies) images.items there.0 c.set first.count within ∙ ap (counted copies) is) in
+                let same : (get_or counts.items there.0 first.count).set ≡ c.set = set_at images.items counts.items there.0 first.count keeps.sets (omega arith) ∙ get_or_default images.items there.0 0 c.set within ∙ is in
+                let number = (keeps.each there.0 first.count (omega arith)).used in
+                let of_set : used_for copies (get_or counts.items there.0 first.count).set ≡ used_for copies c.set = ap (used_for copies) same in
                 let positive = used_some copies other c row in
                 absurd (omega arith)
             | inr after ↦ elim (cases_eq there.0 first.place) [
@@ -169,36 +270,18 @@ oldest_found (Some image) blocks images counts entries copies index keeps first 
           ];
     }
 
-pub none_used : (blocks : ℕ) (images : Vec ℕ Global) (counts : Vec ImageCount Global) (entries : Vec Entry Global) (copies : List (Option Copied)) → KeepsIndex blocks images entries copies → KeepsCounts images counts copies → All (λ (c : ImageCount). c.used ≡ 0) counts.items → (slot : ℕ) → copied_at copies slot ≡ None
-none_used blocks images counts entries copies index keeps zero slot = by_row (copied_at copies slot) refl where
+pub none_used : (images : Vec ℕ Global) (counts : Vec ImageCount Global) (next : List ℕ) (copies : List (Option Copied)) → KeepsImages images copies → KeepsCounts images counts next copies → All (λ (c : ImageCount). c.used ≡ 0) counts.items → (slot : ℕ) → copied_at copies slot ≡ None
+none_used images counts next copies index keeps zero slot = by_row (copied_at copies slot) refl where
   by_row : (o : Option Copied) → copied_at copies slot ≡ o → copied_at copies slot ≡ None
   by_row None row = row
   by_row (Some c) row =
       let there = index.of_images slot c row in
       let within = there.1 in
       let is : get_or images.items there.0 c.set ≡ c.set = there.2 in
-      let d : ImageCount = record { set = 0; used = 0 } in
-      let long = as_many images.items counts.items copies keeps.are in
-      let none : (get_or counts.items there.0 d).used ≡ 0 = zero there.0 d (omega arith) in
-      let number : (get_or counts.items there.0 d).used ≡ used_for copies c.set = ap (λ (x : ImageCount). x.used) (ap (λ (cs : List ImageCount). get_or cs there.0 d) keeps.are ∙ get_or-map (counted copies) images.items there.0 c.set d within ∙ ap (counted copies) is) in
+      let long = as_many images.items counts.items keeps.sets in
+      let none : (get_or counts.items there.0 none_of).used ≡ 0 = zero there.0 none_of (omega arith) in
+      let same : (get_or counts.items there.0 none_of).set ≡ c.set = set_at images.items counts.items there.0 none_of keeps.sets (omega arith) ∙ get_or_default images.items there.0 0 c.set within ∙ is in
+      let number = (keeps.each there.0 none_of (omega arith)).used in
+      let of_set : used_for copies (get_or counts.items there.0 none_of).set ≡ used_for copies c.set = ap (used_for copies) same in
       let positive = used_some copies slot c row in
       absurd (omega arith)
-
--- ## a search among the images that are left
-
-pub left_rise : (p : ℕ → Bool) (images later : List ℕ) → AreImages images → later ≡ filter p images → AllPairs (λ older newer. older < newer) later
-left_rise p images later are fewer = subst (λ (xs : List ℕ). AllPairs (λ older newer. older < newer) xs) (sym fewer) (AreImages-filter p images are).ascend
-
-pub left_contains : (p : ℕ → Bool) (images later : List ℕ) (image : ℕ) → p image ≡ true → Contains images image → later ≡ filter p images → Contains later image
-left_contains p images later image passes at fewer = subst (λ (xs : List ℕ). Contains xs image) (sym fewer) (Contains-filter p images image passes at)
-
-pub older_left : (o : Option ℕ) (images later : List ℕ) (gone : ℕ) → o ≡ next_older images gone → later ≡ filter (λ image. not (eqb image gone)) images → IfSome o (Contains later)
-older_left None images later gone is fewer = tt
-older_left (Some older) images later gone is fewer =
-    let next = next_older_is images gone older (sym is) in
-    let below = next.0 in
-    left_contains (λ image. not (eqb image gone)) images later older (not_it (eqb older gone) refl) next.1 fewer
-  where
-    not_it : (t : Bool) → eqb older gone ≡ t → not (eqb older gone) ≡ true
-    not_it true e = let below = (next_older_is images gone older (sym is)).0 in let same : older ≡ gone = grind (arith, nat_tests) in absurd (omega arith)
-    not_it false e = ap not e

@@ -1,18 +1,16 @@
 -- Each image but the one that goes finds what it found before.
-use Rattle.std.proofs.Common.{ℕ, ◌≡◌, ◌≢◌, ◌<◌, ◌≤◌, ◌^◌, inl, inr, false, List, Option, Some, None, refl, ap, sym, ◌∙◌, arith, Contains}
+use Rattle.std.proofs.Common.{ℕ, ◌≡◌, ◌≢◌, ◌≤◌, inl, inr, false, List, Option, Some, None, refl, ap, sym, ◌∙◌, arith, Contains}
 use Rattle.std.specs.Option.{option_and_then}
-use Rattle.std.proofs.lemmas.Bool.{cases_eq, false≢true}
+use Rattle.std.proofs.lemmas.Bool.{cases_eq}
 use Rattle.std.proofs.lemmas.Option.{none-some, same_Some}
 use Rattle.diff_map.specs.declared.copied.Copied.{Copied}
-use Rattle.diff_map.specs.declared.entry.Entry.{Entry}
 use Rattle.diff_map.specs.Copies.{copied_at, copy_of, has_copy}
 use Rattle.diff_map.specs.Chains.{IsFound, IsAbsent, KeepsFinds}
 use Rattle.diff_map.specs.MapValue.{AreImages}
 use Rattle.diff_map.specs.Rules.{renewed, merged, next_older}
-use Rattle.diff_map.specs.Index.{IsIndex}
 use Rattle.diff_map.proofs.Images.{next_older_is, next_older_reaches}
-use Rattle.diff_map.proofs.Kept.{copied_at-renewed, row_before, row_narrow, KeepsOrder}
-use Rattle.diff_map.proofs.Ruling.{true_or_false, row_from_has, has_from_row, merged_goes, merged_moves, merged_stays, merged_nowhere}
+use Rattle.diff_map.proofs.Kept.{copied_at-renewed, row_before}
+use Rattle.diff_map.proofs.Ruling.{true_or_false, row_from_has, merged_goes, merged_moves, merged_stays, merged_nowhere}
 
 -- what a merge made of a row: it stays for another image, or it went to the next older one, which lacked it
 pub data Merged (copies : List (Option Copied)) (older : Option ℕ) (image : ℕ) (c d : Copied) : Type 0 where
@@ -32,41 +30,7 @@ merged_from copies older image c d gives = elim (cases_eq c.set image) [
   | inl same ↦ merged_down copies older image c d same gives
 ]
 
-module _ (entries : List Entry) (copies : List (Option Copied)) (images : List ℕ) (image : ℕ) (index : IsIndex entries copies) (are : AreImages images) (of_images : (slot : ℕ) (c : Copied) → copied_at copies slot ≡ Some c → Contains images c.set) where
-  -- the order of two copies of one block stays
-  in_order : (slot other : ℕ) (c e d f : Copied) → copied_at copies slot ≡ Some c → copied_at copies other ≡ Some e → c.block ≡ e.block → c.set < e.set → Merged copies (next_older images image) image c d → Merged copies (next_older images image) image e f → d.set < f.set
-  in_order slot other c e d f c_row e_row same low (stayed c_other c_is) (stayed e_other e_is) =
-      let a : d.set ≡ c.set = ap (λ x. x.set) c_is in
-      let b : f.set ≡ e.set = ap (λ x. x.set) e_is in
-      omega arith
-  in_order slot other c e d f c_row e_row same low (stayed c_other c_is) (moved next e_same is e_is lacks) =
-      let a : d.set ≡ c.set = ap (λ x. x.set) c_is in
-      let b : f.set ≡ next = ap (λ x. x.set) e_is in
-      let reached = next_older_reaches images image c.set are.ascend (of_images slot c c_row) (omega arith) in
-      let is_next : reached.0 ≡ next = same_Some reached.0 next (sym reached.1 ∙ is) in
-      let most : c.set ≤ reached.0 = reached.2 in
-      elim (cases_eq c.set next) [
-        | inl equal ↦ absurd (false≢true (sym lacks ∙ has_from_row copies slot next e.block (c_row ∙ ap (λ s. Some (copy_of s c.block)) equal ∙ ap (λ k. Some (copy_of next k)) same)))
-        | inr apart ↦ omega arith
-      ]
-  in_order slot other c e d f c_row e_row same low (moved next c_same is c_is lacks) (stayed e_other e_is) =
-      let a : d.set ≡ next = ap (λ x. x.set) c_is in
-      let b : f.set ≡ e.set = ap (λ x. x.set) e_is in
-      let below = (next_older_is images image next is).0 in
-      omega arith
-  in_order slot other c e d f c_row e_row same low (moved next c_same is c_is lacks) (moved next2 e_same is2 e_is lacks2) = absurd (omega arith)
-
-  kept_block : (slot : ℕ) (c d : Copied) → copied_at copies slot ≡ Some c → Merged copies (next_older images image) image c d → (d.block ≡ c.block) × (d.set < 2 ^ 32)
-  kept_block slot c d row (stayed other is) = (ap (λ x. x.block) is, let e : d.set ≡ c.set = ap (λ x. x.set) is in let narrow = row_narrow entries copies index slot c row in omega arith)
-  kept_block slot c d row (moved next same is d_is lacks) =
-      (ap (λ x. x.block) d_is, let e : d.set ≡ next = ap (λ x. x.set) d_is in let below = (next_older_is images image next is).0 in let narrow = row_narrow entries copies index slot c row in omega arith)
-
-  pub merge_keeps_order : KeepsOrder (merged copies (next_older images image) image) copies
-  merge_keeps_order = record {
-    stays = λ slot c d row gives. kept_block slot c d row (merged_from copies (next_older images image) image c d gives);
-    order = λ slot other c e d f c_row e_row same low c_gives e_gives. in_order slot other c e d f c_row e_row same low (merged_from copies (next_older images image) image c d c_gives) (merged_from copies (next_older images image) image e f e_gives);
-  }
-
+module _ (copies : List (Option Copied)) (images : List ℕ) (image : ℕ) (are : AreImages images) (of_images : (slot : ℕ) (c : Copied) → copied_at copies slot ≡ Some c → Contains images c.set) where
   abbrev rows : List (Option Copied)
   rows = renewed (merged copies (next_older images image) image) copies
 

@@ -1,19 +1,15 @@
 -- The ordered list after its rows were renewed and it was settled: it is their index again.
-use Rattle.std.proofs.Common.{ℕ, zero, suc, ◌≡◌, ◌+◌, ◌*◌, ◌<◌, ◌^◌, inl, inr, List, [], ◌∷◌, length, get_or, Option, Some, None, refl, ap, sym, ◌∙◌, subst, arith, All, Contains, Vec, vec_capacity}
+use Rattle.std.proofs.Common.{ℕ, zero, suc, ◌≡◌, ◌+◌, ◌*◌, ◌<◌, ◌^◌, inl, inr, List, [], ◌∷◌, length, get_or, Option, Some, None, refl, ap, sym, ◌∙◌, subst, arith, All, Contains}
 use Rattle.std.specs.List.{AllPairs, filter_map, cons_option}
 use Rattle.std.specs.Option.{option_and_then, option_map}
-use Rattle.std.specs.declared.alloc.Global.{Global}
 use Rattle.std.proofs.lemmas.Bool.{cases_eq}
-use Rattle.std.proofs.lemmas.List.{length-map}
 use Rattle.std.proofs.lemmas.List.Elements.{All-nil, All-cons, All-head, All-tail}
 use Rattle.std.proofs.lemmas.List.Kept.{AllPairs-cons}
 use Rattle.diff_map.specs.declared.copied.Copied.{Copied}
 use Rattle.diff_map.specs.declared.entry.Entry.{Entry}
 use Rattle.diff_map.specs.Copies.{copied_at, copy_of}
-use Rattle.diff_map.specs.MapValue.{AreImages}
 use Rattle.diff_map.specs.Rules.{renewed}
-use Rattle.diff_map.specs.Leaving.{entry_now}
-use Rattle.diff_map.specs.Index.{place, IsIndex, IsNoted, KeepsIndex}
+use Rattle.diff_map.specs.Index.{place, IsIndex, IsNoted, entry_now}
 
 module _ {X Y : Type 0} (h : X → Option Y) where
   all_of : (Q : Y → Type 0) (x : X) (ys : List Y) → ((y : Y) → h x ≡ Some y → Q y) → All Q ys → (o : Option Y) → h x ≡ o → All Q (cons_option o ys)
@@ -130,20 +126,3 @@ row_narrow entries copies index slot c row =
     let narrow = (index.each at.0 f at.1).narrow in
     let same : (get_or entries at.0 f).set ≡ c.set = ap (λ x. x.set) at.2 in
     omega arith
-
-pub KeepsIndex-renewed : (blocks : ℕ) (images later : Vec ℕ Global) (entries settled : Vec Entry Global) (copies : List (Option Copied)) (rule : Copied → Option Copied) → KeepsIndex blocks images entries copies → KeepsOrder rule copies → AreImages later.items → ((slot : ℕ) (c d : Copied) → copied_at copies slot ≡ Some c → rule c ≡ Some d → Contains later.items d.set) → vec_capacity later ≡ vec_capacity images → settled.items ≡ filter_map (entry_now (renewed rule copies)) entries.items → vec_capacity settled ≡ vec_capacity entries → KeepsIndex blocks later settled (renewed rule copies)
-KeepsIndex-renewed blocks images later entries settled copies rule was keeps are of images_cap items cap = record {
-  index = subst (λ (xs : List Entry). IsIndex xs (renewed rule copies)) (sym items) (IsIndex-renewed rule entries.items copies was.index keeps);
-  are_images = are;
-  of_images = λ slot d row. let before = row_before rule copies slot d row in of slot before.0 d before.1 before.2;
-  of_blocks = λ slot d row.
-      let before = row_before rule copies slot d row in
-      let stays = keeps.stays slot before.0 d before.1 before.2 in
-      let same : d.block ≡ before.0.block = stays.0 in
-      let low = was.of_blocks slot before.0 before.1 in
-      omega arith;
-  room = let long = length-map copies (option_and_then rule) in let r = was.room in omega arith;
-  narrow =
-      let long = length-map copies (option_and_then rule) in let r = was.narrow in omega arith;
-  image_room = let r = was.image_room in omega arith;
-}

@@ -1,10 +1,9 @@
 -- A slot that is noted for a block of the newest image: its entry goes in at its place, and there is room for it.
-use Rattle.std.proofs.Common.{ℕ, suc, ◌≡◌, ◌≢◌, ◌+◌, ◌-◌, ◌<◌, ◌≤◌, ◌^◌, ◌⊎◌, inl, inr, true, false, eqb, List, ◌∷◌, length, get_or, set, take, drop, map, Option, Some, None, ap, sym, ◌∙◌, subst, arith, All, Contains, Vec, vec_capacity}
+use Rattle.std.proofs.Common.{ℕ, suc, ◌≡◌, ◌≢◌, ◌+◌, ◌-◌, ◌<◌, ◌≤◌, ◌^◌, inl, inr, true, false, eqb, List, ◌∷◌, length, get_or, set, take, drop, map, Option, Some, None, ap, sym, ◌∙◌, subst, arith, All, Contains}
 use Rattle.std.specs.List.{AllWithin, insert, slice_get, IsDistinct}
-use Rattle.std.specs.declared.alloc.Global.{Global}
 use Rattle.std.proofs.lemmas.Bool.{cases_eq, cases_lt}
 use Rattle.std.proofs.lemmas.Bool.Decides.{nat_tests}
-use Rattle.std.proofs.lemmas.List.{length-map, length-set, get_or-set_same, get_or-set_other, get_or_default, get_or-map, take-append-drop}
+use Rattle.std.proofs.lemmas.List.{length-map, get_or-set_same, get_or-set_other, get_or-map, take-append-drop}
 use Rattle.std.proofs.lemmas.List.Edits.{get_or-insert_below, get_or-insert_at, get_or-insert_above, length-insert}
 use Rattle.std.proofs.lemmas.List.Elements.{All-append, All-cons, All-take, All-drop, All-map, recursion_from_All, Contains-append_cases, Contains-append_left, Contains-append_right}
 use Rattle.std.proofs.lemmas.List.Folds.{Any-from_list_any}
@@ -14,37 +13,9 @@ use Rattle.std.proofs.lemmas.Option.{same_Some, none-some, get_or_from_slice_get
 use Rattle.diff_map.specs.declared.copied.Copied.{Copied}
 use Rattle.diff_map.specs.declared.entry.Entry.{Entry}
 use Rattle.diff_map.specs.Copies.{copied_at, copy_of, HasCopy}
-use Rattle.diff_map.specs.MapValue.{AreImages, IsMap}
-use Rattle.diff_map.specs.Index.{place, place_of, IsInOrder, IsIndex, IsNoted, KeepsIndex}
+use Rattle.diff_map.specs.MapValue.{AreImages}
+use Rattle.diff_map.specs.Index.{place, place_of, IsInOrder, IsIndex, IsNoted}
 use Rattle.diff_map.proofs.Renewal.{slots_apart, row_within}
-
--- no two slots are noted for one block of one image
-pub noted_once : (entries : List Entry) (copies : List (Option Copied)) → IsIndex entries copies → (slot other : ℕ) (c : Copied) → copied_at copies slot ≡ Some c → copied_at copies other ≡ Some c → slot ≡ other
-noted_once entries copies index slot other c row row2 =
-    let f : Entry = record { block = c.block; set = c.set; slot = slot } in
-    let g : Entry = record { block = c.block; set = c.set; slot = other } in
-    let a = index.all slot c row in
-    let b = index.all other c row2 in
-    let a_is : get_or entries a.0 f ≡ f = a.2 in
-    let b_is : get_or entries b.0 f ≡ g = get_or_default entries b.0 f g b.1 ∙ b.2 in
-    let a_place : place (get_or entries a.0 f) ≡ place f = ap place a_is in
-    let b_place : place (get_or entries b.0 f) ≡ place g = ap place b_is in
-    elim (cases_eq a.0 b.0) [
-      | inl same ↦ ap (λ x. x.slot) (sym a_is ∙ ap (λ k. get_or entries k f) same ∙ b_is)
-      | inr apart ↦ absurd (elim (cases_lt a.0 b.0) [
-        | inl low ↦ let up = index.in_order a.0 b.0 f low b.1 in omega arith
-        | inr high ↦ let up = index.in_order b.0 a.0 f (omega arith) a.1 in omega arith
-      ])
-    ]
-
--- what holds of each map
-pub IsMap-kept : (blocks : ℕ) (images : Vec ℕ Global) (entries : Vec Entry Global) (copies : List (Option Copied)) → KeepsIndex blocks images entries copies → IsMap (record { blocks = blocks; images = images.items; copies = copies })
-IsMap-kept blocks images entries copies keeps = record {
-  images = keeps.are_images;
-  of_images = keeps.of_images;
-  of_blocks = keeps.of_blocks;
-  once = noted_once entries.items copies keeps.index;
-}
 
 module _ (entries : List Entry) (copies : List (Option Copied)) (slot image block n : ℕ) (index : IsIndex entries copies) (unnoted : slice_get copies slot ≡ Some None) (lacks : HasCopy copies image block → ⊥) (narrow : image < 2 ^ 32) (within : n ≤ length entries) (before : AllWithin (λ e. place e < place_of block image) entries 0 n) (onward : AllWithin (λ e. place_of block image ≤ place e) entries n (length entries)) where
   is_none : copied_at copies slot ≡ None
@@ -175,22 +146,3 @@ image_narrow images image are at =
     let is : get_or images at.0 image ≡ image = at.2 in
     let narrow = (are.above_zero at.0 image at.1).1 in
     omega arith
-
-pub KeepsIndex-noted : (blocks : ℕ) (images : Vec ℕ Global) (entries later : Vec Entry Global) (copies : List (Option Copied)) (slot image block n : ℕ) → KeepsIndex blocks images entries copies → slice_get copies slot ≡ Some None → (HasCopy copies image block → ⊥) → Contains images.items image → block < blocks → n ≤ length entries.items → AllWithin (λ e. place e < place_of block image) entries.items 0 n → AllWithin (λ e. place_of block image ≤ place e) entries.items n (length entries.items) → later.items ≡ insert entries.items n (record { block = block; set = image; slot = slot }) → vec_capacity entries ≤ vec_capacity later → KeepsIndex blocks images later (set copies slot (Some (copy_of image block)))
-KeepsIndex-noted blocks images entries later copies slot image block n keeps unnoted lacks at low within before onward items cap =
-    let narrow = image_narrow images.items image keeps.are_images at in
-    let is_new : copied_at (set copies slot (Some (copy_of image block))) slot ≡ Some (copy_of image block) = get_or-set_same copies slot (Some (copy_of image block)) None (slice_get_within copies slot None unnoted) in
-    let from : (k : ℕ) (c : Copied) → copied_at (set copies slot (Some (copy_of image block))) k ≡ Some c → (copied_at copies k ≡ Some c) ⊎ (copy_of image block ≡ c) = λ k c row. elim (cases_eq k slot) [
-      | inl same ↦ inr (same_Some (copy_of image block) c (sym is_new ∙ ap (copied_at (set copies slot (Some (copy_of image block)))) (sym same) ∙ row))
-      | inr other ↦ inl (sym (get_or-set_other copies slot k (Some (copy_of image block)) None other) ∙ row)
-    ] in
-    record {
-      index = subst (λ (xs : List Entry). IsIndex xs (set copies slot (Some (copy_of image block)))) (sym items) (IsIndex-noted entries.items copies slot image block n keeps.index unnoted lacks narrow within before onward);
-      are_images = keeps.are_images;
-      of_images = λ k c row. elim (from k c row) [ inl old ↦ keeps.of_images k c old | inr new ↦ subst (λ (x : Copied). Contains images.items x.set) new at ];
-      of_blocks = λ k c row. elim (from k c row) [ inl old ↦ keeps.of_blocks k c old | inr new ↦ subst (λ (x : Copied). x.block < blocks) new low ];
-      room = let long = length-set copies slot (Some (copy_of image block)) in let r = keeps.room in omega arith;
-      narrow =
-          let long = length-set copies slot (Some (copy_of image block)) in let r = keeps.narrow in omega arith;
-      image_room = keeps.image_room;
-    }

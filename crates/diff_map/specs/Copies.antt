@@ -1,7 +1,7 @@
 -- The copies of a volume's old blocks: for each slot of the diff area, in order of slots, the image and the block
 -- for which it is noted, or None. An image is named by its snapshot set. That a block is copied before its first
 -- overwrite is the Volume Shadow Copy Service's copy-on-write method; the rows are this project's own.
-use Rattle.std.specs.Prelude.{ℕ, ◌≡◌, List, Option, Some, None, Bool, false, ◌==◌, ◌&&◌, slice_index_or, IsSome}
+use Rattle.std.specs.Prelude.{ℕ, ◌≡◌, List, Option, Some, None, Bool, false, ◌==◌, ◌&&◌, slice_index_or, count_by, is_some, IsSome}
 use Rattle.std.specs.List.{list_any}
 use Rattle.diff_map.specs.declared.copied.Copied.{Copied}
 use Rattle.slot_pool.specs.Slots.{IsTaken}
@@ -13,6 +13,10 @@ copy_of image block = record { set = image; block = block }
 -- for what the slot is noted; None past the last slot
 abbrev pub copied_at : List (Option Copied) → ℕ → Option Copied
 copied_at copies slot = slice_index_or copies slot None
+
+-- how many slots are noted
+abbrev pub noted_in : List (Option Copied) → ℕ
+noted_in copies = count_by is_some copies
 
 -- some slot is noted for this block of the image
 abbrev pub HasCopy : List (Option Copied) → ℕ → ℕ → Type 0

@@ -1,6 +1,7 @@
 -- What a contract sees of a `DiffMap`, and what holds of each: the images ascend, each copy is of one of them and of
 -- a block of the volume, and no two slots are noted for one block of one image. (This project's own.)
-use Rattle.std.specs.Prelude.{ℕ, ◌≡◌, ◌<◌, ◌≤◌, ◌-◌, ◌^◌, List, Option, Some, length, slice_index, All, AllPairs, Contains}
+use Rattle.std.specs.Prelude.{ℕ, ◌≡◌, ◌<◌, ◌≤◌, ◌-◌, ◌^◌, List, Option, Some, length, slice_index, All, AllPairs, Contains, Vec, vec_capacity}
+use Rattle.std.specs.declared.alloc.Global.{Global}
 use Rattle.diff_map.specs.declared.copied.Copied.{Copied}
 use Rattle.diff_map.specs.Copies.{copied_at}
 
@@ -25,3 +26,9 @@ pub record IsMap (map : MapValue) : Type 0 where
   pub of_images : (slot : ℕ) (copied : Copied) → copied_at map.copies slot ≡ Some copied → Contains map.images copied.set
   pub of_blocks : (slot : ℕ) (copied : Copied) → copied_at map.copies slot ≡ Some copied → copied.block < map.blocks
   pub once : (slot other : ℕ) (copied : Copied) → copied_at map.copies slot ≡ Some copied → copied_at map.copies other ≡ Some copied → slot ≡ other
+
+-- what the images of a map keep: each copy is of one of them, and there is room for 512
+pub record KeepsImages (images : Vec ℕ Global) (copies : List (Option Copied)) : Type 0 where
+  pub are_images : AreImages images.items
+  pub of_images : (slot : ℕ) (copied : Copied) → copied_at copies slot ≡ Some copied → Contains images.items copied.set
+  pub image_room : 512 ≤ vec_capacity images

@@ -1,17 +1,18 @@
 ghost use Rattle.std.specs.Prelude.{ℕ, ◌≡◌, ◌≢◌, ◌<◌, ◌≤◌, ◌++◌, ◌∷◌, [], List, Option, Some, None, length, replicate, slice_get, slice_set, slice_index, filter, not, ◌==◌, nat_le, nat_lt, map, drop, All, Contains, IsTrue, IfOk, IfSome, IsNone, ◌↔◌};
 ghost use Rattle.diff_map.specs.MapValue.{AreImages, IsMap, newest};
-ghost use Rattle.diff_map.specs.Copies.{HasCopy, AllTaken, copied_at, copy_of};
+ghost use Rattle.diff_map.specs.Copies.{HasCopy, AllTaken, copied_at, copy_of, noted_in};
 ghost use Rattle.diff_map.specs.Chains.{IsFound, IsAbsent, KeepsFinds};
-ghost use Rattle.diff_map.specs.Counts.{IsOldestUsed, used_for};
-ghost use Rattle.diff_map.specs.Index.{IsIndex};
+ghost use Rattle.diff_map.specs.Counts.{IsOldestUsed, IsPopped, used_for};
+ghost use Rattle.diff_map.specs.Leaving.{rule_of};
 ghost use Rattle.diff_map.specs.Rules.{renewed, dropped, cleared, gone, merged, next_older, GivesBack};
 
 use crate::copied::Copied;
-use crate::counts::{first_used, place_from, recount, set_used};
+use crate::counts::{first_used, place_from};
 use crate::entry::Entry;
 use crate::going::Going;
 use crate::image_count::ImageCount;
-use crate::index::{first_from, free_images, merge_rows, next_older, settle};
+use crate::index::next_older;
+use crate::links::Links;
 use slot_pool::SlotPool;
 use std::alloc::Global;
 use std::marker::Model;
@@ -24,23 +25,26 @@ pub const MOST_IMAGES: usize = 512;
 /// share one pool of slots.
 #[derive(Drop)]
 pub struct DiffMap {
-    blocks: u32,
     images: Vec<u32>,
     counts: Vec<ImageCount>,
-    entries: Vec<Entry>,
-    copies: Vec<Option<Copied>>,
+    links: Links,
+    /// For each noted slot, the next one of its image.
+    next: Vec<u32>,
+    /// How many slots are noted.
+    used: u32,
 }
 
 impl Model for DiffMap {
-    ghost use Rattle.diff_map.specs.MapValue.{MapValue};
-    ghost use Rattle.diff_map.specs.Index.{KeepsIndex};
+    ghost use Rattle.std.specs.Prelude.{◌≡◌};
+    ghost use Rattle.diff_map.specs.Copies.{noted_in};
+    ghost use Rattle.diff_map.specs.MapValue.{MapValue, KeepsImages};
     ghost use Rattle.diff_map.specs.Counts.{KeepsCounts};
 
     ghost Value = { MapValue };
 
-    ghost view = { λ m. record { blocks = m.blocks; images = m.images.items; copies = m.copies.items } };
+    ghost view = { λ m. record { blocks = m.links.blocks; images = m.images.items; copies = m.links.copies } };
 
-    ghost invariant = { λ m. KeepsIndex m.blocks m.images m.entries m.copies.items × KeepsCounts m.images m.counts m.copies.items };
+    ghost invariant = { λ m. KeepsImages m.images m.links.copies × KeepsCounts m.images m.counts m.next.items m.links.copies × (m.used ≡ noted_in m.links.copies) };
 }
 
 impl DiffMap {
@@ -50,11 +54,11 @@ impl DiffMap {
         ensures { IfOk result (λ m. m ≡ record { blocks = blocks; images = []; copies = replicate slots None }) }
     {
         Ok(DiffMap {
-            blocks,
             images: Vec::with_capacity(alloc, MOST_IMAGES)?,
             counts: Vec::with_capacity(alloc, MOST_IMAGES)?,
-            entries: Vec::with_capacity(alloc, slots as usize)?,
-            copies: vec![in alloc; None; slots as usize]?,
+            links: Links::new(alloc, blocks, slots)?,
+            next: vec![in alloc; 0; slots as usize]?,
+            used: 0,
         })
     }
 
@@ -80,14 +84,14 @@ impl DiffMap {
     pub fn blocks(&self) -> u32
         ensures { result ≡ self.now.blocks }
     {
-        self.blocks
+        self.links.blocks()
     }
 
     /// How many slots the diff area has.
     pub fn slots(&self) -> u32
         ensures { result ≡ length self.now.copies }
     {
-        self.copies.len() as u32
+        self.links.slots()
     }
 
     /// The sets of the images, oldest first.
@@ -95,6 +99,7 @@ impl DiffMap {
         ensures images { result.now ≡ self.now.images }
         ensures valid { IsMap self.now }
     {
+        let _facts = self.links.slots();
         &self.images
     }
 
@@ -103,7 +108,7 @@ impl DiffMap {
         requires { slot < length self.now.copies }
         ensures { result ≡ copied_at self.now.copies slot }
     {
-        self.copies[slot as usize]
+        self.links.held_by(slot)
     }
 
     /// The slot that shows what the image of `set` holds at this block: that of the first image, from the asked one
@@ -112,23 +117,24 @@ impl DiffMap {
         ensures found { IfSome result (IsFound self.now.copies set block) }
         ensures none { IsNone result ↔ IsAbsent self.now.copies set block }
     {
-        let at = first_from(&self.entries, block, set);
-        if at == self.entries.len() {
-            return None;
-        }
-        let entry = self.entries[at];
-        if entry.block == block {
-            Some(entry.slot)
-        } else {
-            None
-        }
+        self.links.find(set, block)
     }
 
-    /// The noted slots, in order of block and then of set.
-    pub fn entries(&self) -> &[Entry]
-        ensures { IsIndex result.now self.now.copies }
+    /// Whether the image of `set` has a copy of this block.
+    pub fn has(&self, set: u32, block: u32) -> bool
+        ensures { IsTrue result ↔ HasCopy self.now.copies set block }
     {
-        &self.entries
+        let Some(slot) = self.links.find(set, block) else {
+            return false;
+        };
+        self.links.set_of(slot) == set
+    }
+
+    /// How many slots are noted.
+    pub fn used(&self) -> u32
+        ensures { result ≡ noted_in self.now.copies }
+    {
+        self.used
     }
 
     /// How many slots hold copies for the image of `set`.
@@ -153,7 +159,7 @@ impl DiffMap {
         ensures { IsTrue result ↔ HasCopy self.now.copies (newest self.now.images) block }
     {
         match self.images.last() {
-            Some(&set) => self.find(set, block).is_some(),
+            Some(&set) => self.has(set, block),
             None => false,
         }
     }
@@ -166,7 +172,11 @@ impl DiffMap {
         ensures { self.new ≡ record self.old { images = self.old.images ++ set ∷ [] } }
     {
         let _ = self.images.push(set);
-        let _ = self.counts.push(ImageCount { set, used: 0 });
+        let _ = self.counts.push(ImageCount {
+            set,
+            used: 0,
+            first: 0,
+        });
     }
 
     /// Notes the slot for this block of the newest image.
@@ -189,14 +199,118 @@ impl DiffMap {
         requires unnoted { slice_get self.old.copies slot ≡ Some None }
         ensures { self.new ≡ record self.old { copies = slice_set self.old.copies slot (Some (copy_of set block)) } }
     {
-        let used = self.used_by(set);
-        let at = first_from(&self.entries, block, set);
-        let _ = self.entries.insert(at, Entry { block, set, slot });
-        self.copies[slot as usize] = Some(Copied { set, block });
-        set_used(&mut self.counts, &self.images, set, used + 1);
+        let _facts = self.links.slots();
+        let at = place_from(&self.images, set);
+        let count = self.counts[at];
+        self.links.note(set, block, slot);
+        self.next[slot as usize] = count.first;
+        self.counts[at] = ImageCount {
+            set,
+            used: count.used + 1,
+            first: slot,
+        };
+        self.used += 1;
     }
 
-    /// Takes the oldest image out and gives its slots back. It walks the map's list of copies twice.
+    /// Takes a copy of the image of `set` out, and answers what it was. Its slot is not given back.
+    pub fn pop(&mut self, set: u32) -> Option<Entry>
+        requires { Contains self.old.images set }
+        ensures some { IfSome result (IsPopped self.old self.new set) }
+        ensures none { IsNone result → (self.new ≡ self.old) × (used_for self.old.copies set ≡ 0) }
+    {
+        let at = place_from(&self.images, set);
+        let count = self.counts[at];
+        if count.used == 0 {
+            return None;
+        }
+        let slot = count.first;
+        let block = self.links.take_out(slot);
+        self.counts[at] = ImageCount {
+            set,
+            used: count.used - 1,
+            first: self.next[slot as usize],
+        };
+        self.used -= 1;
+        Some(Entry { block, set, slot })
+    }
+
+    /// Takes the image of `set` out, which has no copy.
+    pub fn forget(&mut self, set: u32)
+        requires { (slot : ℕ) (copied : Copied) → copied_at self.old.copies slot ≡ Some copied → copied.set ≢ set }
+        ensures { self.new ≡ record self.old { images = filter (λ image. not (image == set)) self.old.images } }
+    {
+        self.images.retain(|&image| image != set);
+        self.counts.retain(|count| count.set != set);
+    }
+
+    /// Takes each image up to `set` out. None of them has a copy.
+    pub fn forget_up_to(&mut self, set: u32)
+        requires { (slot : ℕ) (copied : Copied) → copied_at self.old.copies slot ≡ Some copied → set < copied.set }
+        ensures { self.new ≡ record self.old { images = filter (λ image. nat_lt set image) self.old.images } }
+    {
+        self.images.retain(|&image| image > set);
+        self.counts.retain(|count| count.set > set);
+    }
+
+    /// Takes each image newer than `set` out. None of them has a copy.
+    pub fn forget_newer(&mut self, set: u32)
+        requires { (slot : ℕ) (copied : Copied) → copied_at self.old.copies slot ≡ Some copied → copied.set ≤ set }
+        ensures { self.new ≡ record self.old { images = filter (λ image. nat_le image set) self.old.images } }
+    {
+        self.images.retain(|&image| image <= set);
+        self.counts.retain(|count| count.set <= set);
+    }
+
+    /// Frees the slots of the images that go, which stay.
+    fn free(&mut self, going: Going, pool: &mut SlotPool)
+        requires taken { AllTaken self.old.copies pool.old }
+        ensures map { self.new ≡ record self.old { copies = renewed (rule_of going) self.old.copies } }
+        ensures slots { GivesBack self.old.copies self.new.copies pool.old pool.new }
+    {
+        for i in 0..self.images().len() {
+            let image = self.images()[i];
+            if going.takes(image) {
+                'copies: while let Some(entry) = self.pop(image) {
+                    pool.give(entry.slot);
+                }
+            }
+        }
+    }
+
+    /// Gives the copies of the image of `set` to the older one where it lacks the block, and frees the others' slots.
+    fn hand_down(&mut self, set: u32, older: u32, pool: &mut SlotPool)
+        requires image { Contains self.old.images set }
+        requires older { Contains self.old.images older }
+        requires below { older < set }
+        requires taken { AllTaken self.old.copies pool.old }
+        ensures map { self.new ≡ record self.old { copies = renewed (merged self.old.copies (Some older) set) self.old.copies } }
+        ensures slots { GivesBack self.old.copies self.new.copies pool.old pool.new }
+    {
+        let _facts = self.images();
+        'copies: while let Some(entry) = self.pop(set) {
+            if self.has(older, entry.block) {
+                pool.give(entry.slot);
+            } else {
+                self.note_for(older, entry.block, entry.slot);
+            }
+        }
+    }
+
+    /// Gives the copies of the image of `set` to the next older one where it lacks the block, and frees the others' slots, or
+    /// all where no image is older.
+    fn merge(&mut self, set: u32, pool: &mut SlotPool)
+        requires image { Contains self.old.images set }
+        requires taken { AllTaken self.old.copies pool.old }
+        ensures map { self.new ≡ record self.old { copies = renewed (merged self.old.copies (next_older self.old.images set) set) self.old.copies } }
+        ensures slots { GivesBack self.old.copies self.new.copies pool.old pool.new }
+    {
+        match next_older(self.images(), set) {
+            Some(older) => self.hand_down(set, older, pool),
+            None => self.free(Going::Image(set), pool),
+        }
+    }
+
+    /// Takes the oldest image out and gives its slots back.
     pub fn drop_oldest(&mut self, pool: &mut SlotPool)
         requires image { 0 < length self.old.images }
         requires taken { AllTaken self.old.copies pool.old }
@@ -208,21 +322,18 @@ impl DiffMap {
         self.merge_down(oldest, pool);
     }
 
-    /// Takes each image up to `set` out and gives their slots back. It walks the map's list of copies twice, however many
-    /// images go.
+    /// Takes each image up to `set` out and gives their slots back.
     pub fn drop_up_to(&mut self, set: u32, pool: &mut SlotPool)
         requires { AllTaken self.old.copies pool.old }
         ensures map { self.new ≡ record { blocks = self.old.blocks; images = filter (λ image. nat_lt set image) self.old.images; copies = renewed (gone set) self.old.copies } }
         ensures slots { GivesBack self.old.copies self.new.copies pool.old pool.new }
     {
-        self.images.retain(|&image| image > set);
-        free_images(&self.entries, &mut self.copies, pool, Going::UpTo(set));
-        self.entries.retain(|entry| entry.set > set);
-        self.counts.retain(|count| count.set > set);
+        self.free(Going::UpTo(set), pool);
+        self.forget_up_to(set);
     }
 
     /// Takes the image of `set` out. The next older image gets the copies of those blocks that it lacks; the other
-    /// copies' slots, or all where no image is older, are given back. It walks the map's list of copies twice.
+    /// copies' slots, or all where no image is older, are given back.
     pub fn merge_down(&mut self, set: u32, pool: &mut SlotPool)
         requires image { Contains self.old.images set }
         requires taken { AllTaken self.old.copies pool.old }
@@ -230,26 +341,20 @@ impl DiffMap {
         ensures slots { GivesBack self.old.copies self.new.copies pool.old pool.new }
         ensures others { KeepsFinds self.old self.new set }
     {
-        let older = next_older(&self.images, set);
-        merge_rows(&self.entries, &mut self.copies, pool, set, older);
-        self.images.retain(|&image| image != set);
-        settle(&mut self.entries, &self.copies);
-        self.counts.retain(|count| count.set != set);
-        recount(&mut self.counts, &self.images, &self.entries, older);
+        let _facts = self.images();
+        self.merge(set, pool);
+        self.forget(set);
     }
 
     /// Takes each image newer than `set` out and empties the image of `set`, which stays; all their slots are given
-    /// back. It walks the map's list of copies twice, however many images go.
+    /// back.
     pub fn clear_from(&mut self, set: u32, pool: &mut SlotPool)
         requires image { Contains self.old.images set }
         requires taken { AllTaken self.old.copies pool.old }
         ensures map { self.new ≡ record { blocks = self.old.blocks; images = filter (λ image. nat_le image set) self.old.images; copies = renewed (cleared set) self.old.copies } }
         ensures slots { GivesBack self.old.copies self.new.copies pool.old pool.new }
     {
-        self.images.retain(|&image| image <= set);
-        free_images(&self.entries, &mut self.copies, pool, Going::From(set));
-        self.entries.retain(|entry| entry.set < set);
-        self.counts.retain(|count| count.set <= set);
-        set_used(&mut self.counts, &self.images, set, 0);
+        self.free(Going::From(set), pool);
+        self.forget_newer(set);
     }
 }

@@ -1,6 +1,6 @@
 ghost use Rattle.std.specs.Prelude.{◌≡◌, nat_lt};
 
-/// A noted slot, in the map's list in order of block and then of set.
+/// A noted slot, with the block and the set of its copy.
 #[derive(Clone, Copy, Debug, PartialEq, Eq)]
 pub struct Entry {
     pub block: u32,
@@ -11,7 +11,7 @@ pub struct Entry {
 impl Entry {
     ghost use Rattle.diff_map.specs.Index.{place, place_of};
 
-    /// Whether this entry stands before those of this block from this set on.
+    /// Whether this entry stands before those of this block from this set on, in order of block and then of set.
     pub fn is_before(self, block: u32, set: u32) -> bool
         ensures { result ≡ nat_lt (place self) (place_of block set) }
     {

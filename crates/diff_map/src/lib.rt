@@ -14,9 +14,11 @@ mod entry;
 mod going;
 mod image_count;
 mod index;
+mod links;
+mod row;
 
 pub use copied::Copied;
 pub use diff_map::{DiffMap, MOST_IMAGES};
 pub use entry::Entry;
 pub use going::Going;
-pub use index::{follows, next_older};
+pub use index::next_older;

@@ -16,8 +16,7 @@ use Rattle.diff_area.specs.AreaValue.{AreaValue}
 use Rattle.diff_area.specs.Records.{free, is_free, AreRecords}
 use Rattle.diff_area.specs.declared.table_record.Record.{Record}
 use Rattle.diff_map.specs.Copies.{copied_at, copy_of, HasCopy}
-use Rattle.diff_map.specs.Index.{IsIndex, IsNoted, place, place_of}
-use Rattle.diff_map.specs.Leaving.{entry_now}
+use Rattle.diff_map.specs.Index.{IsIndex, IsNoted, entry_now, place, place_of}
 use Rattle.diff_map.specs.Rules.{renewed}
 use Rattle.diff_map.specs.declared.copied.Copied.{Copied}
 use Rattle.diff_map.specs.declared.entry.Entry.{Entry}

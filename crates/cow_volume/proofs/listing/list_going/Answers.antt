@@ -1,7 +1,7 @@
-use Rattle.std.proofs.Common.{◌≡◌, ◌≤◌, ◌+◌, ◌∙◌, ◌++◌, List, length, ap, sym, arith, vec_capacity}
+use Rattle.std.proofs.Common.{◌≤◌, ◌+◌, ◌∙◌, ◌++◌, List, length, ap, sym, arith, vec_capacity}
 use Rattle.write_history.specs.declared.evicted.Evicted.{Evicted}
 use Rattle.write_history.specs.Slots.{evicted_of}
-use Rattle.cow_volume.specs.Room.{holders, images_going}
+use Rattle.cow_volume.specs.Room.{holders}
 use Rattle.cow_volume.proofs.Listed.{next_is, few_next}
 use Rattle.cow_volume.proofs.listing.list_going.Goals as goal
 

@@ -1,5 +1,5 @@
 use Rattle.std.proofs.Common.{◌∙◌, ◌+◌, ℕ, ap, subst, sym, arith}
-use Rattle.cow_volume.specs.Room.{first_above, lesser}
+use Rattle.cow_volume.specs.Room.{lesser}
 use Rattle.cow_volume.proofs.Listed.{IsNextBelow, next_first, next_more, next_all}
 use Rattle.cow_volume.proofs.listing.next_set.Goals as goal
 

@@ -7,7 +7,7 @@ use Rattle.cow_volume.specs.Counts.{count_of}
 use Rattle.cow_volume.specs.CopiesAfter.{images_on}
 use Rattle.cow_volume.specs.Tied.{CopiesValue}
 use Rattle.cow_volume.proofs.Ties.{map_at, images_at}
-use Rattle.cow_volume.proofs.EntryCounts.{used_of}
+use Rattle.cow_volume.proofs.NotedCounts.{used_of}
 use Rattle.cow_volume.proofs.copies.Copies.used_of.Goals as goal
 
 pub used_by-requires : goal.used_by-requires

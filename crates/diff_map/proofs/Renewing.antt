@@ -1,0 +1,335 @@
+-- Copies that go or are handed down one after the other, and their slots that go back.
+use Rattle.std.proofs.Common.{ℕ, zero, suc, ◌∷◌, [], ◌≡◌, ◌≢◌, ◌+◌, ◌<◌, ◌≤◌, ◌⊎◌, inl, inr, Bool, true, false, leb, List, Option, Some, None, length, get_or, set, map, refl, ap, sym, ◌∙◌, subst, arith, Contains}
+use Rattle.std.specs.List.{slice_get}
+use Rattle.std.specs.Option.{option_and_then, is_some}
+use Rattle.std.proofs.lemmas.Bool.{cases_eq, false≢true}
+use Rattle.std.proofs.lemmas.Bool.Decides.{nat_tests}
+use Rattle.std.proofs.lemmas.List.{ext_get_or, get_or-map, length-map, length-set, get_or-set_same, get_or-set_other, get_or_default, set-set}
+use Rattle.std.proofs.lemmas.Option.{same_Some, none-some}
+use Rattle.diff_map.specs.declared.copied.Copied.{Copied}
+use Rattle.diff_map.specs.declared.going.Going.{Going}
+use Rattle.diff_map.specs.declared.going.Going.TheVariants.{From, UpTo}
+use Rattle.diff_map.specs.Copies.{copied_at, copy_of, AllTaken, HasCopy, has_copy}
+use Rattle.diff_map.specs.Counts.{used_for, IsPopped}
+use Rattle.diff_map.specs.declared.entry.Entry.{Entry}
+use Rattle.diff_map.specs.MapValue.{MapValue, IsMap}
+use Rattle.diff_map.specs.Rules.{renewed, merged, next_older, GivesBack}
+use Rattle.diff_map.specs.Leaving.{takes, rule_of, IsRenewing}
+use Rattle.diff_map.proofs.Counting.{used_some, used_out, used_out_other, used_noted_other}
+use Rattle.diff_map.proofs.Images.{next_older_is}
+use Rattle.diff_map.proofs.Kept.{copied_at-renewed}
+use Rattle.diff_map.proofs.Renewal.{GivesBack-none, GivesBack-free, GivesBack-keep, row_within, some_or_none, is_some_from}
+use Rattle.diff_map.proofs.Ruling.{true_or_false, rule_takes, rule_leaves, rule_gives, row_from_has, has_from_row, merged_goes, merged_moves, merged_stays, merged_nowhere}
+
+pub IsRenewing-none : (rule : Copied → Option Copied) (rows : List (Option Copied)) (pool : List Bool) → IsRenewing rule rows rows pool pool
+IsRenewing-none rule rows pool = record { each = λ slot. inl refl; long = refl; gives = GivesBack-none rows pool }
+
+-- a row that is none was none, or the rule has it so
+was_some : (rule : Copied → Option Copied) (before after : List (Option Copied)) (old new : List Bool) (slot : ℕ) (a : Copied) → IsRenewing rule before after old new → copied_at after slot ≡ Some a → (b : Copied) × (copied_at before slot ≡ Some b)
+was_some rule before after old new slot a is row = by_row (copied_at before slot) refl where
+  by_row : (o : Option Copied) → copied_at before slot ≡ o → (b : Copied) × (copied_at before slot ≡ Some b)
+  by_row (Some b) was = (b, was)
+  by_row None was = absurd (elim (is.each slot) [
+    | inl kept ↦ none-some a (sym was ∙ sym kept ∙ row)
+    | inr ruled ↦ none-some a (sym (ruled ∙ ap (option_and_then rule) was) ∙ row)
+  ])
+
+-- one row changes as the rule has it
+step : (rule : Copied → Option Copied) (before after : List (Option Copied)) (old new newer : List Bool) (slot : ℕ) (b : Copied) (row : Option Copied) → IsRenewing rule before after old new → slot < length after → copied_at before slot ≡ Some b → rule b ≡ row → GivesBack before (set after slot row) old newer → IsRenewing rule before (set after slot row) old newer
+step rule before after old new newer slot b row is inside was ruled gives = record {
+  each = λ k. elim (cases_eq k slot) [
+    | inl same ↦ inr (ap (copied_at (set after slot row)) same ∙ get_or-set_same after slot row None inside ∙ sym ruled ∙ sym (ap (option_and_then rule) (ap (copied_at before) same ∙ was)))
+    | inr differ ↦ elim (is.each k) [ inl kept ↦ inl (get_or-set_other after slot k row None differ ∙ kept) | inr r ↦ inr (get_or-set_other after slot k row None differ ∙ r) ]
+  ];
+  long = length-set after slot row ∙ is.long;
+  gives = gives;
+}
+
+-- a copy that is still as it was goes, and its slot goes back
+pub IsRenewing-freed : (rule : Copied → Option Copied) (before after : List (Option Copied)) (old new : List Bool) (slot : ℕ) (a b : Copied) → IsRenewing rule before after old new → AllTaken before old → copied_at after slot ≡ Some a → copied_at before slot ≡ Some b → rule b ≡ None → IsRenewing rule before (set after slot None) old (set new slot true)
+IsRenewing-freed rule before after old new slot a b is taken row was ruled =
+    step rule before after old new (set new slot true) slot b None is (row_within after slot a row) was ruled (GivesBack-free before after old new slot b a is.gives taken was row)
+
+pub IsRenewing-moved : (rule : Copied → Option Copied) (before after : List (Option Copied)) (old new : List Bool) (slot : ℕ) (a b v : Copied) → IsRenewing rule before after old new → copied_at after slot ≡ Some a → copied_at before slot ≡ Some b → rule b ≡ Some v → IsRenewing rule before (set after slot (Some v)) old new
+IsRenewing-moved rule before after old new slot a b v is row was ruled =
+    step rule before after old new new slot b (Some v) is (row_within after slot a row) was ruled (GivesBack-keep before after old new slot a v is.gives row)
+
+-- where no copy is left that the rule would change, all rows are renewed
+pub renewed_all : (rule : Copied → Option Copied) (before after : List (Option Copied)) (old new : List Bool) → IsRenewing rule before after old new → ((slot : ℕ) (c : Copied) → copied_at after slot ≡ Some c → copied_at before slot ≡ Some c → rule c ≡ Some c) → after ≡ renewed rule before
+renewed_all rule before after old new is rest =
+    ext_get_or None after (map (option_and_then rule) before) (is.long ∙ sym (length-map before (option_and_then rule)))
+    (λ k inside. row k (copied_at before k) refl ∙ sym (get_or-map (option_and_then rule) before k None None (let l = is.long in omega arith)))
+  where
+    row : (k : ℕ) (o : Option Copied) → copied_at before k ≡ o → copied_at after k ≡ option_and_then rule (copied_at before k)
+    row k None was = elim (is.each k) [ inl kept ↦ kept ∙ was ∙ ap (option_and_then rule) (sym was) | inr ruled ↦ ruled ]
+    row k (Some c) was = elim (is.each k) [ inl kept ↦ kept ∙ was ∙ sym (rest k c (kept ∙ was) was) ∙ ap (option_and_then rule) (sym was) | inr ruled ↦ ruled ]
+
+not_used : (copies : List (Option Copied)) (image slot : ℕ) (c : Copied) → used_for copies image ≡ 0 → copied_at copies slot ≡ Some c → c.set ≢ image
+not_used copies image slot c none row same = let some = used_some copies slot c row in let e : used_for copies c.set ≡ used_for copies image = ap (used_for copies) same in absurd (omega arith)
+
+-- a copy that the rule drops is as it was, if it is there
+pub as_before : (rule : Copied → Option Copied) (image block slot : ℕ) (before after : List (Option Copied)) (old new : List Bool) → IsRenewing rule before after old new → ((c d : Copied) → rule c ≡ Some d → d.set ≡ image → ⊥) → copied_at after slot ≡ Some (copy_of image block) → copied_at before slot ≡ Some (copy_of image block)
+as_before rule image block slot before after old new is never row = elim (is.each slot) [
+  | inl kept ↦ sym kept ∙ row
+  | inr ruled ↦ absurd (by_row (copied_at before slot) (sym ruled ∙ row))
+] where
+  by_row : (o : Option Copied) → option_and_then rule o ≡ Some (copy_of image block) → ⊥
+  by_row None e = none-some (copy_of image block) e
+  by_row (Some c) e = never c (copy_of image block) e refl
+
+-- the images up to the nth that go have no copies
+pub record FreesUpTo (going : Going) (images : List ℕ) (n : ℕ) (before after : List (Option Copied)) (old new : List Bool) : Type 0 where
+  pub renews : IsRenewing (rule_of going) before after old new
+  pub freed : (k d : ℕ) → k < n → k < length images → takes going (get_or images k d) ≡ true → used_for after (get_or images k d) ≡ 0
+
+pub FreesUpTo-none : (going : Going) (images : List ℕ) (rows : List (Option Copied)) (pool : List Bool) → FreesUpTo going images 0 rows rows pool pool
+FreesUpTo-none going images rows pool = record { renews = IsRenewing-none (rule_of going) rows pool; freed = λ k d low inside. absurd (omega arith) }
+
+pub FreesUpTo-past : (going : Going) (images : List ℕ) (n image : ℕ) (before after : List (Option Copied)) (old new : List Bool) → FreesUpTo going images n before after old new → n < length images → image ≡ get_or images n image → takes going image ≡ false → FreesUpTo going images (n + 1) before after old new
+FreesUpTo-past going images n image before after old new up inside is stays = record {
+  renews = up.renews;
+  freed = λ k d low within test. elim (cases_eq k n) [
+    | inl same ↦ absurd (false≢true (sym stays ∙ ap (takes going) (is ∙ get_or_default images n image d inside ∙ ap (λ j. get_or images j d) (sym same)) ∙ test))
+    | inr differ ↦ up.freed k d (omega arith) within test
+  ];
+}
+
+pub freed_all : (going : Going) (images : List ℕ) (n : ℕ) (before after : List (Option Copied)) (old new : List Bool) → ((slot : ℕ) (c : Copied) → copied_at before slot ≡ Some c → Contains images c.set) → FreesUpTo going images n before after old new → length images ≤ n → after ≡ renewed (rule_of going) before
+freed_all going images n before after old new of_images up end = renewed_all (rule_of going) before after old new up.renews (λ slot c now was. elim (true_or_false (takes going c.set)) [
+  | inr test ↦ rule_leaves going c test
+  | inl test ↦
+      let at = of_images slot c was in
+      let is : get_or images at.0 c.set ≡ c.set = at.2 in
+      absurd (not_used after (get_or images at.0 c.set) slot c (up.freed at.0 c.set (let l = at.1 in omega arith) at.1 (ap (takes going) is ∙ test)) now (sym is))
+])
+
+-- the slots of copies that are left are taken
+pub AllTaken-still : (rule : Copied → Option Copied) (before after : List (Option Copied)) (old new : List Bool) → IsRenewing rule before after old new → AllTaken before old → AllTaken after new
+AllTaken-still rule before after old new is taken slot some = by_row (copied_at after slot) refl where
+  by_row : (o : Option Copied) → copied_at after slot ≡ o → slice_get new slot ≡ Some false
+  by_row None at = absurd (some_or_none (copied_at after slot) some (ap is_some at))
+  by_row (Some a) at = let b = was_some rule before after old new slot a is at in is.gives.others slot (inr some) ∙ taken slot (is_some_from (copied_at before slot) b.0 b.1)
+
+-- ## a merge
+
+-- a copy of the image that goes is as it was
+merged_never : (copies : List (Option Copied)) (older image : ℕ) (c d : Copied) → older < image → merged copies (Some older) image c ≡ Some d → d.set ≡ image → ⊥
+merged_never copies older image c d below is same = elim (cases_eq c.set image) [
+  | inr apart ↦ apart (ap (λ (x : Copied). x.set) (same_Some c d (sym (merged_stays copies (Some older) image c apart) ∙ is)) ∙ same)
+  | inl it ↦ elim (true_or_false (has_copy copies older c.block)) [
+    | inl has ↦ none-some d (sym (merged_goes copies older image c it has) ∙ is)
+    | inr lacks ↦ let e : older ≡ d.set = ap (λ (x : Copied). x.set) (same_Some (copy_of older c.block) d (sym (merged_moves copies older image c it lacks) ∙ is)) in absurd (omega arith)
+  ]
+]
+
+module _ (before after : List (Option Copied)) (old new : List Bool) (older image block slot : ℕ) (below : older < image)
+    (once : (one other : ℕ) (c : Copied) → copied_at before one ≡ Some c → copied_at before other ≡ Some c → one ≡ other)
+    (is : IsRenewing (merged before (Some older) image) before after old new) (row : copied_at after slot ≡ Some (copy_of image block)) where
+  pub merging_was : copied_at before slot ≡ Some (copy_of image block)
+  merging_was = as_before (merged before (Some older) image) image block slot before after old new is (λ c d. merged_never before older image c d below) row
+
+  -- the older image has the block now where it had it
+  had_before : (other : ℕ) (o : Option Copied) → copied_at before other ≡ o → (copied_at after other ≡ o) ⊎ (copied_at after other ≡ option_and_then (merged before (Some older) image) o) → copied_at after other ≡ Some (copy_of older block) → HasCopy before older block
+  had_before other o was (inl kept) now = (other, was ∙ sym kept ∙ now)
+  had_before other None was (inr ruled) now = absurd (none-some (copy_of older block) (sym ruled ∙ now))
+  had_before other (Some c) was (inr ruled) now = elim (cases_eq c.set image) [
+    | inr apart ↦ (other, was ∙ sym (merged_stays before (Some older) image c apart) ∙ sym ruled ∙ now)
+    | inl it ↦ elim (true_or_false (has_copy before older c.block)) [
+      | inl has ↦ absurd (none-some (copy_of older block) (sym (merged_goes before older image c it has) ∙ sym ruled ∙ now))
+      | inr lacks ↦
+          let b : c.block ≡ block = ap (λ (x : Copied). x.block) (same_Some (copy_of older c.block) (copy_of older block) (sym (merged_moves before older image c it lacks) ∙ sym ruled ∙ now)) in
+          let same : slot ≡ other = once slot other (copy_of image block) merging_was (was ∙ ap (λ s. Some (copy_of s c.block)) it ∙ ap (λ k. Some (copy_of image k)) b) in
+          let e : older ≡ image = ap (λ (x : Copied). x.set) (same_Some (copy_of older block) (copy_of image block) (sym now ∙ ap (copied_at after) (sym same) ∙ row)) in
+          absurd (omega arith)
+    ]
+  ]
+
+  -- where the older image has the block, the rule drops the copy
+  pub merging_goes : HasCopy after older block → merged before (Some older) image (copy_of image block) ≡ None
+  merging_goes has =
+      let had = had_before has.0 (copied_at before has.0) refl (is.each has.0) has.1 in
+      merged_goes before older image (copy_of image block) refl (has_from_row before had.0 older block had.1)
+
+  -- elsewhere it hands it down
+  pub merging_moves : (HasCopy after older block → ⊥) → merged before (Some older) image (copy_of image block) ≡ Some (copy_of older block)
+  merging_moves lacks = elim (true_or_false (has_copy before older block)) [
+    | inr none ↦ merged_moves before older image (copy_of image block) refl none
+    | inl has ↦ let had = row_from_has before older block has in absurd (lacks (had.0, still had.0 had.1))
+  ] where
+    still : (other : ℕ) → copied_at before other ≡ Some (copy_of older block) → copied_at after other ≡ Some (copy_of older block)
+    still other was = elim (is.each other) [
+      | inl kept ↦ kept ∙ was
+      | inr ruled ↦ ruled ∙ ap (option_and_then (merged before (Some older) image)) was ∙ merged_stays before (Some older) image (copy_of older block) (λ e. absurd (omega arith))
+    ]
+
+pub merged_all : (before after : List (Option Copied)) (old new : List Bool) (older image : ℕ) → IsRenewing (merged before (Some older) image) before after old new → used_for after image ≡ 0 → after ≡ renewed (merged before (Some older) image) before
+merged_all before after old new older image is none = renewed_all (merged before (Some older) image) before after old new is (λ slot c now was. merged_stays before (Some older) image c (not_used after image slot c none now))
+
+-- ## a map in which copies go
+
+pub record IsRenewingMap (rule : Copied → Option Copied) (before after : MapValue) (old new : List Bool) : Type 0 where
+  pub blocks : after.blocks ≡ before.blocks
+  pub images : after.images ≡ before.images
+  pub renews : IsRenewing rule before.copies after.copies old new
+
+pub IsRenewingMap-none : (rule : Copied → Option Copied) (m : MapValue) (pool : List Bool) → IsRenewingMap rule m m pool pool
+IsRenewingMap-none rule m pool = record { blocks = refl; images = refl; renews = IsRenewing-none rule m.copies pool }
+
+pub renewed_map : (rule : Copied → Option Copied) (first after : MapValue) (old new : List Bool) → IsRenewingMap rule first after old new → after.copies ≡ renewed rule first.copies → after ≡ record { blocks = first.blocks; images = first.images; copies = renewed rule first.copies }
+renewed_map rule first after old new is all = map_same is.blocks is.images all where
+  map_of : ℕ → List ℕ → List (Option Copied) → MapValue
+  map_of blocks images copies = record { blocks = blocks; images = images; copies = copies }
+
+  map_same : after.blocks ≡ first.blocks → after.images ≡ first.images → after.copies ≡ renewed rule first.copies → ◌≡◌ {A = MapValue} (record { blocks = after.blocks; images = after.images; copies = after.copies }) (record { blocks = first.blocks; images = first.images; copies = renewed rule first.copies })
+  map_same b i c = ap (λ n. map_of n after.images after.copies) b ∙ ap (λ (xs : List ℕ). map_of first.blocks xs after.copies) i ∙ ap (λ (rows : List (Option Copied)). map_of first.blocks first.images rows) c
+
+-- a copy that is popped goes, and its slot goes back
+pub IsRenewingMap-freed : (rule : Copied → Option Copied) (first mid after : MapValue) (old new : List Bool) (image : ℕ) (e : Entry) → IsRenewingMap rule first mid old new → IsPopped mid after image e → AllTaken first.copies old → copied_at first.copies e.slot ≡ Some (copy_of image e.block) → rule (copy_of image e.block) ≡ None
+    → IsRenewingMap rule first after old (set new e.slot true)
+IsRenewingMap-freed rule first mid after old new image e is popped taken was ruled = subst (λ (m : MapValue). IsRenewingMap rule first m old (set new e.slot true)) (sym popped.gone) (record {
+  blocks = is.blocks;
+  images = is.images;
+  renews = IsRenewing-freed rule first.copies mid.copies old new e.slot (copy_of image e.block) (copy_of image e.block) is.renews taken popped.noted was ruled;
+})
+
+slice_get-set_here : (rows : List (Option Copied)) (slot : ℕ) (row : Option Copied) → slot < length rows → slice_get (set rows slot row) slot ≡ Some row
+slice_get-set_here [] slot row inside = absurd (omega arith)
+slice_get-set_here (x ∷ xs) zero row inside = refl
+slice_get-set_here (x ∷ xs) (suc slot) row inside = slice_get-set_here xs slot row (omega arith)
+
+module _ (first mid after : MapValue) (old new : List Bool) (older image : ℕ) (e : Entry) (below : older < image) (valid : IsMap first)
+    (is : IsRenewingMap (merged first.copies (Some older) image) first mid old new) (popped : IsPopped mid after image e) where
+  pub handing_was : copied_at first.copies e.slot ≡ Some (copy_of image e.block)
+  handing_was = merging_was first.copies mid.copies old new older image e.block e.slot below valid.once is.renews popped.noted
+
+  pub handing_range : e.block < after.blocks
+  handing_range =
+      let low = valid.of_blocks e.slot (copy_of image e.block) handing_was in
+      let same : mid.blocks ≡ first.blocks = is.blocks in
+      let later : after.blocks ≡ mid.blocks = ap (λ (m : MapValue). m.blocks) popped.gone in
+      omega arith
+
+  pub handing_unnoted : slice_get after.copies e.slot ≡ Some None
+  handing_unnoted = ap (λ (m : MapValue). slice_get m.copies e.slot) popped.gone ∙ slice_get-set_here mid.copies e.slot None (row_within mid.copies e.slot (copy_of image e.block) popped.noted)
+
+  -- the other rows are as they were before the copy was popped
+  has_then : HasCopy after.copies older e.block → HasCopy mid.copies older e.block
+  has_then has =
+      let now : copied_at (set mid.copies e.slot None) has.0 ≡ Some (copy_of older e.block) = ap (λ (m : MapValue). copied_at m.copies has.0) (sym popped.gone) ∙ has.1 in
+      let inside = row_within mid.copies e.slot (copy_of image e.block) popped.noted in
+      let differ : has.0 ≢ e.slot = λ same. none-some (copy_of older e.block) (sym (ap (copied_at (set mid.copies e.slot None)) same ∙ get_or-set_same mid.copies e.slot None None inside) ∙ now) in
+      (has.0, sym (get_or-set_other mid.copies e.slot has.0 None None differ) ∙ now)
+
+  pub has_now : HasCopy mid.copies older e.block → HasCopy after.copies older e.block
+  has_now has =
+      let differ : has.0 ≢ e.slot = λ same. let s : older ≡ image = ap (λ (x : Copied). x.set) (same_Some (copy_of older e.block) (copy_of image e.block) (sym has.1 ∙ ap (copied_at mid.copies) same ∙ popped.noted)) in absurd (omega arith) in
+      (has.0, ap (λ (m : MapValue). copied_at m.copies has.0) popped.gone ∙ get_or-set_other mid.copies e.slot has.0 None None differ ∙ has.1)
+
+  pub handing_frees : AllTaken first.copies old → HasCopy after.copies older e.block → IsRenewingMap (merged first.copies (Some older) image) first after old (set new e.slot true)
+  handing_frees taken has = IsRenewingMap-freed (merged first.copies (Some older) image) first mid after old new image e is popped taken handing_was
+      (merging_goes first.copies mid.copies old new older image e.block e.slot below valid.once is.renews popped.noted (has_then has))
+
+  pub handing_moves : (HasCopy after.copies older e.block → ⊥) → IsRenewingMap (merged first.copies (Some older) image) first (record { blocks = after.blocks; images = after.images; copies = set after.copies e.slot (Some (copy_of older e.block)) }) old new
+  handing_moves lacks = record {
+    blocks = ap (λ (m : MapValue). m.blocks) popped.gone ∙ is.blocks;
+    images = ap (λ (m : MapValue). m.images) popped.gone ∙ is.images;
+    renews = subst (λ (rows : List (Option Copied)). IsRenewing (merged first.copies (Some older) image) first.copies rows old new)
+        (sym (ap (λ (m : MapValue). set m.copies e.slot (Some (copy_of older e.block))) popped.gone ∙ set-set mid.copies e.slot None (Some (copy_of older e.block))))
+        (IsRenewing-moved (merged first.copies (Some older) image) first.copies mid.copies old new e.slot (copy_of image e.block) (copy_of image e.block) (copy_of older e.block) is.renews popped.noted handing_was
+        (merging_moves first.copies mid.copies old new older image e.block e.slot below valid.once is.renews popped.noted (λ has. lacks (has_now has))));
+  }
+
+  pub handing_smaller : used_for (set after.copies e.slot (Some (copy_of older e.block))) image < used_for mid.copies image
+  handing_smaller =
+      let less = used_out mid.copies e.slot image e.block popped.noted in
+      let at : used_for after.copies image ≡ used_for (set mid.copies e.slot None) image = ap (λ (m : MapValue). used_for m.copies image) popped.gone in
+      let same = used_noted_other after.copies e.slot older e.block image handing_unnoted (λ s. absurd (omega arith)) in
+      omega arith
+
+pub record FreesMapUpTo (going : Going) (n : ℕ) (before after : MapValue) (old new : List Bool) : Type 0 where
+  pub blocks : after.blocks ≡ before.blocks
+  pub images : after.images ≡ before.images
+  pub frees : FreesUpTo going before.images n before.copies after.copies old new
+
+pub FreesMapUpTo-none : (going : Going) (m : MapValue) (pool : List Bool) → FreesMapUpTo going 0 m m pool pool
+FreesMapUpTo-none going m pool = record { blocks = refl; images = refl; frees = FreesUpTo-none going m.images m.copies pool }
+
+pub FreesMapUpTo-past : (going : Going) (n image : ℕ) (first mid : MapValue) (old new : List Bool) → FreesMapUpTo going n first mid old new → n < length first.images → image ≡ get_or mid.images n 0 → takes going image ≡ false → FreesMapUpTo going (n + 1) first mid old new
+FreesMapUpTo-past going n image first mid old new up inside read stays = record {
+  blocks = up.blocks;
+  images = up.images;
+  frees = FreesUpTo-past going first.images n image first.copies mid.copies old new up.frees inside (read ∙ ap (λ (xs : List ℕ). get_or xs n 0) up.images ∙ get_or_default first.images n 0 image inside) stays;
+}
+
+pub freed_map : (going : Going) (n : ℕ) (first after : MapValue) (old new : List Bool) → IsMap first → FreesMapUpTo going n first after old new → length first.images ≤ n → after ≡ record { blocks = first.blocks; images = first.images; copies = renewed (rule_of going) first.copies }
+freed_map going n first after old new valid up end = renewed_map (rule_of going) first after old new (record { blocks = up.blocks; images = up.images; renews = up.frees.renews })
+    (freed_all going first.images n first.copies after.copies old new valid.of_images up.frees end)
+
+-- a copy of an image that goes is popped, and its slot goes back
+never_of : (going : Going) (image : ℕ) → takes going image ≡ true → (c d : Copied) → rule_of going c ≡ Some d → d.set ≡ image → ⊥
+never_of going image goes c d gives same =
+    let g = rule_gives going c d gives in
+    false≢true (sym g.0 ∙ ap (λ (x : Copied). takes going x.set) (sym g.1) ∙ ap (takes going) same ∙ goes)
+
+pub going_was : (going : Going) (n image : ℕ) (first mid after : MapValue) (old new : List Bool) (e : Entry) → FreesMapUpTo going n first mid old new → IsPopped mid after image e → takes going image ≡ true → copied_at first.copies e.slot ≡ Some (copy_of image e.block)
+going_was going n image first mid after old new e up popped goes = as_before (rule_of going) image e.block e.slot first.copies mid.copies old new up.frees.renews (never_of going image goes) popped.noted
+
+pub FreesMapUpTo-popped : (going : Going) (n image : ℕ) (first mid after : MapValue) (old new : List Bool) (e : Entry) → FreesMapUpTo going n first mid old new → IsPopped mid after image e → takes going image ≡ true → AllTaken first.copies old → FreesMapUpTo going n first after old (set new e.slot true)
+FreesMapUpTo-popped going n image first mid after old new e up popped goes taken =
+    let was = going_was going n image first mid after old new e up popped goes in
+    let freed = IsRenewingMap-freed (rule_of going) first mid after old new image e (record { blocks = up.blocks; images = up.images; renews = up.frees.renews }) popped taken was (rule_takes going (copy_of image e.block) goes) in
+    record {
+      blocks = freed.blocks;
+      images = freed.images;
+      frees = record {
+        renews = freed.renews;
+        freed = λ k d low within test. ap (λ (m : MapValue). used_for m.copies (get_or first.images k d)) popped.gone ∙ elim (cases_eq (get_or first.images k d) image) [
+          | inl same ↦ absurd (let none = up.frees.freed k d low within test in let less = used_out mid.copies e.slot image e.block popped.noted in let e2 : used_for mid.copies (get_or first.images k d) ≡ used_for mid.copies image = ap (used_for mid.copies) same in omega arith)
+          | inr differ ↦ used_out_other mid.copies e.slot image e.block (get_or first.images k d) popped.noted differ ∙ up.frees.freed k d low within test
+        ];
+      };
+    }
+
+pub FreesMapUpTo-done : (going : Going) (n image : ℕ) (first mid : MapValue) (old new : List Bool) → FreesMapUpTo going n first mid old new → n < length first.images → image ≡ get_or first.images n 0 → used_for mid.copies image ≡ 0 → FreesMapUpTo going (n + 1) first mid old new
+FreesMapUpTo-done going n image first mid old new up inside read none = record {
+  blocks = up.blocks;
+  images = up.images;
+  frees = record {
+    renews = up.frees.renews;
+    freed = λ k d low within test. elim (cases_eq k n) [
+      | inl same ↦ subst (λ s. used_for mid.copies s ≡ 0) (read ∙ get_or_default first.images n 0 d inside ∙ ap (λ j. get_or first.images j d) (sym same)) none
+      | inr differ ↦ up.frees.freed k d (omega arith) within test
+    ];
+  };
+}
+
+-- ## what is left where images go
+
+pub left_by : (rule : Copied → Option Copied) (P : ℕ → Type 0) (copies : List (Option Copied)) → ((c d : Copied) → rule c ≡ Some d → P d.set) → (slot : ℕ) (d : Copied) → copied_at (renewed rule copies) slot ≡ Some d → P d.set
+left_by rule P copies passes slot d row = by_row (copied_at copies slot) (sym (copied_at-renewed rule copies slot) ∙ row) where
+  by_row : (o : Option Copied) → option_and_then rule o ≡ Some d → P d.set
+  by_row None e = absurd (none-some d e)
+  by_row (Some c) e = passes c d e
+
+pub left_up_to : (newest : ℕ) (copies : List (Option Copied)) (slot : ℕ) (d : Copied) → copied_at (renewed (rule_of (UpTo newest)) copies) slot ≡ Some d → newest < d.set
+left_up_to newest copies = left_by (rule_of (UpTo newest)) (λ image. newest < image) copies (λ c d gives.
+    let rule = rule_gives (UpTo newest) c d gives in
+    let test : leb c.set newest ≡ false = rule.0 in
+    let same : d.set ≡ c.set = ap (λ (x : Copied). x.set) rule.1 in
+    grind (arith, nat_tests))
+
+pub left_from : (oldest : ℕ) (copies : List (Option Copied)) (slot : ℕ) (d : Copied) → copied_at (renewed (rule_of (From oldest)) copies) slot ≡ Some d → d.set ≤ oldest
+left_from oldest copies = left_by (rule_of (From oldest)) (λ image. image ≤ oldest) copies (λ c d gives.
+    let rule = rule_gives (From oldest) c d gives in
+    let test : leb oldest c.set ≡ false = rule.0 in
+    let same : d.set ≡ c.set = ap (λ (x : Copied). x.set) rule.1 in
+    grind (arith, nat_tests))
+
+pub left_merged : (images : List ℕ) (copies : List (Option Copied)) (image : ℕ) (slot : ℕ) (d : Copied) → copied_at (renewed (merged copies (next_older images image) image) copies) slot ≡ Some d → d.set ≢ image
+left_merged images copies image = left_by (merged copies (next_older images image) image) (λ s. s ≢ image) copies (λ c d gives. by_older c d (next_older images image) refl gives) where
+  by_older : (c d : Copied) (o : Option ℕ) → next_older images image ≡ o → merged copies o image c ≡ Some d → d.set ≢ image
+  by_older c d None is e same = elim (cases_eq c.set image) [
+    | inl it ↦ none-some d (sym (merged_nowhere copies image c it) ∙ e)
+    | inr apart ↦ apart (ap (λ (x : Copied). x.set) (same_Some c d (sym (merged_stays copies None image c apart) ∙ e)) ∙ same)
+  ]
+  by_older c d (Some older) is e same = merged_never copies older image c d (next_older_is images image older is).0 e same

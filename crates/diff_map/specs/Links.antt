@@ -1,0 +1,83 @@
+-- How the copies of a block hang together: a block leads to the slot of its newest copy, and the row of a copy to the next older one. A
+-- link is a slot, or the number of slots where there is no such copy. What a link means is said of the copies, not of the way there: it
+-- leads to the copy of the block with the greatest set below. So the sets fall along a chain, and it ends. (This project's own.)
+use Rattle.std.specs.Prelude.{ℕ, ◌≡◌, ◌<◌, ◌≤◌, ◌^◌, ◌⊎◌, List, Option, Some, None, ◌==◌, if◌then◌else◌, length, slice_index, slice_index_or, slice_set, IfSome}
+use Rattle.diff_map.specs.declared.copied.Copied.{Copied}
+use Rattle.diff_map.specs.declared.row.Row.{Row}
+use Rattle.diff_map.specs.Copies.{copied_at, copy_of}
+
+-- what a contract sees: how many blocks there are, and for each slot its copy
+pub record LinksValue : Type 0 where
+  pub blocks : ℕ
+  pub copies : List (Option Copied)
+
+-- what holds of each: the copies are of its blocks, and no two slots are noted for one block of one set
+pub record AreLinked (links : LinksValue) : Type 0 where
+  pub of_blocks : (slot : ℕ) (copied : Copied) → copied_at links.copies slot ≡ Some copied → copied.block < links.blocks
+  pub once : (slot other : ℕ) (copied : Copied) → copied_at links.copies slot ≡ Some copied → copied_at links.copies other ≡ Some copied → slot ≡ other
+  pub narrow : length links.copies < 2 ^ 32
+
+-- the copy that a row stands for; a row of set 0 stands for none
+abbrev pub copy_in : Row → Option Copied
+copy_in row = if row.set == 0 then None else Some (copy_of row.set row.block)
+
+-- the row of a slot; past the last one that of a slot without a copy
+abbrev pub row_at : List Row → ℕ → Row
+row_at rows slot = slice_index_or rows slot (record { block = 0; set = 0; older = 0 })
+
+-- the slot has a copy of the block
+abbrev pub HasBlock : List Row → ℕ → ℕ → Type 0
+HasBlock rows block slot = (0 < (row_at rows slot).set) × ((row_at rows slot).block ≡ block)
+
+-- each copy of the block above the low set is from the high one on
+abbrev pub NoneBetween : List Row → ℕ → ℕ → ℕ → Type 0
+NoneBetween rows block low high = (other : ℕ) → HasBlock rows block other → low < (row_at rows other).set → high ≤ (row_at rows other).set
+
+-- the link leads to the copy of the block with the greatest set below this one
+pub record LeadsBelow (rows : List Row) (link block set : ℕ) : Type 0 where
+  pub has : HasBlock rows block link
+  pub below : (row_at rows link).set < set
+  pub next : (other : ℕ) → HasBlock rows block other → (row_at rows other).set < set → (row_at rows other).set ≤ (row_at rows link).set
+
+-- the link leads there, or says that there is no such copy
+abbrev pub IsBelow : List Row → ℕ → ℕ → ℕ → Type 0
+IsBelow rows link block set = ((link ≡ length rows) × NoneBetween rows block 0 set) ⊎ LeadsBelow rows link block set
+
+-- ## the links of a block: one from the block itself, which stands above all sets, and one from each of its copies
+
+abbrev pub link_from : List ℕ → List Row → ℕ → Option ℕ → ℕ
+link_from newest rows block None = slice_index newest block
+link_from newest rows block (Some slot) = (row_at rows slot).older
+
+abbrev pub set_of : List Row → Option ℕ → ℕ
+set_of rows None = 2 ^ 32
+set_of rows (Some slot) = (row_at rows slot).set
+
+abbrev pub IsFrom : List ℕ → List Row → ℕ → Option ℕ → Type 0
+IsFrom newest rows block None = block < length newest
+IsFrom newest rows block (Some slot) = HasBlock rows block slot
+
+-- what the rows keep
+pub record KeepsLinks (newest : List ℕ) (rows : List Row) : Type 0 where
+  pub links : (block : ℕ) (from : Option ℕ) → IsFrom newest rows block from → IsBelow rows (link_from newest rows block from) block (set_of rows from)
+  pub once : (slot other : ℕ) → 0 < (row_at rows slot).set → HasBlock rows (row_at rows slot).block other → (row_at rows slot).set ≡ (row_at rows other).set → slot ≡ other
+  pub in_range : (slot : ℕ) → 0 < (row_at rows slot).set → (row_at rows slot).block < length newest
+  pub narrow_sets : (slot : ℕ) → (row_at rows slot).set < 2 ^ 32
+  pub narrow : length rows < 2 ^ 32
+  pub narrow_blocks : length newest < 2 ^ 32
+
+-- the copy of the block with the least set above the low one, or the block itself where there is none
+pub record IsNextAbove (rows : List Row) (block low : ℕ) (from : Option ℕ) : Type 0 where
+  pub has : IfSome from (HasBlock rows block)
+  pub above : low < set_of rows from
+  pub next : NoneBetween rows block low (set_of rows from)
+
+-- ## a slot gets another row, and the link of its block from above it leads elsewhere
+
+abbrev pub newest_after : List ℕ → ℕ → Option ℕ → ℕ → List ℕ
+newest_after newest block None to = slice_set newest block to
+newest_after newest block (Some slot) to = newest
+
+abbrev pub older_after : List Row → Option ℕ → ℕ → List Row
+older_after rows None to = rows
+older_after rows (Some slot) to = slice_set rows slot (record { block = (row_at rows slot).block; set = (row_at rows slot).set; older = to })

@@ -1,0 +1,185 @@
+//! Which slot holds which block for which set, in chains: one for each block, its copies from the newest on.
+
+ghost use Rattle.std.specs.Prelude.{◌≡◌, ◌<◌, ◌≤◌, ◌^◌, ◌↔◌, Some, None, length, replicate, slice_get, slice_set, IfOk, IfSome, IsNone};
+ghost use Rattle.diff_map.specs.Copies.{HasCopy, copied_at, copy_of};
+ghost use Rattle.diff_map.specs.Chains.{IsFound, IsAbsent};
+ghost use Rattle.diff_map.specs.Links.{AreLinked, row_at, HasBlock, NoneBetween, IsBelow, IsFrom, IsNextAbove, KeepsLinks, link_from, newest_after, older_after};
+
+use crate::copied::Copied;
+use crate::row::Row;
+use std::alloc::Global;
+use std::marker::Model;
+use vss_names::OutOfMemory;
+
+/// The copies of any number of blocks in so many slots.
+#[derive(Drop)]
+pub struct Links {
+    /// For each block, the slot of its newest copy; the number of slots where it has none.
+    newest: Vec<u32>,
+    rows: Vec<Row>,
+}
+
+impl Model for Links {
+    ghost use Rattle.std.specs.Prelude.{length, map};
+    ghost use Rattle.diff_map.specs.Links.{LinksValue, KeepsLinks, copy_in};
+
+    ghost Value = { LinksValue };
+
+    ghost view = { λ l. record { blocks = length l.newest.items; copies = map copy_in l.rows.items } };
+
+    ghost invariant = { λ l. KeepsLinks l.newest.items l.rows.items };
+}
+
+/// The slot that a link names, where its copy is above this set.
+fn reach(rows: &[Row], link: u32, low: u32) -> Option<u32>
+    ensures on { IfSome result (λ at. (at ≡ link) × (at < length rows.now) × (low < (row_at rows.now at).set)) }
+    ensures none { IsNone result → link < length rows.now → (row_at rows.now link).set ≤ low }
+{
+    if (link as usize) < rows.len() && rows[link as usize].set > low {
+        return Some(link);
+    }
+    None
+}
+
+/// The copy of a block with the least set above `low`. It walks the copies, the newest first.
+fn next_above(newest: &[u32], rows: &[Row], block: u32, low: u32) -> Option<u32>
+    requires keeps { KeepsLinks newest.now rows.now }
+    requires in_range { block < length newest.now }
+    ensures { IsNextAbove rows.now block low result }
+{
+    let Some(first) = reach(rows, newest[block as usize], low) else {
+        return None;
+    };
+    let mut at = first;
+    'chain: while let Some(older) = reach(rows, rows[at as usize].older, low) {
+        at = older;
+    }
+    Some(at)
+}
+
+/// The link of a block from this copy, or from the block itself.
+fn link_from(newest: &[u32], rows: &[Row], block: u32, from: Option<u32>) -> u32
+    requires in_range { block < length newest.now }
+    requires inside { IfSome from (λ slot. slot < length rows.now) }
+    ensures { result ≡ link_from newest.now rows.now block from }
+{
+    match from {
+        Some(slot) => rows[slot as usize].older,
+        None => newest[block as usize],
+    }
+}
+
+/// That link leads elsewhere now.
+fn lead(newest: &mut Vec<u32>, rows: &mut Vec<Row>, block: u32, from: Option<u32>, to: u32)
+    requires in_range { block < length newest.old.items }
+    requires inside { IfSome from (λ slot. slot < length rows.old.items) }
+    ensures newest { newest.new.items ≡ newest_after newest.old.items block from to }
+    ensures rows { rows.new.items ≡ older_after rows.old.items from to }
+{
+    match from {
+        Some(slot) => {
+            let row = rows[slot as usize];
+            rows[slot as usize] = Row { older: to, ..row };
+        }
+        None => newest[block as usize] = to,
+    }
+}
+
+impl Links {
+    /// No copies, for so many blocks and slots. It takes all memory that is ever needed.
+    pub fn new(alloc: Global, blocks: u32, slots: u32) -> Result<Links, OutOfMemory>
+        ensures { IfOk result (λ links. links ≡ record { blocks = blocks; copies = replicate slots None }) }
+    {
+        let empty = Row {
+            block: 0,
+            set: 0,
+            older: slots,
+        };
+        Ok(Links {
+            newest: vec![in alloc; slots; blocks as usize]?,
+            rows: vec![in alloc; empty; slots as usize]?,
+        })
+    }
+
+    /// How many blocks there are.
+    pub fn blocks(&self) -> u32
+        ensures { result ≡ self.now.blocks }
+    {
+        self.newest.len() as u32
+    }
+
+    /// How many slots there are.
+    pub fn slots(&self) -> u32
+        ensures slots { result ≡ length self.now.copies }
+        ensures valid { AreLinked self.now }
+    {
+        self.rows.len() as u32
+    }
+
+    /// The copy that the slot has.
+    pub fn held_by(&self, slot: u32) -> Option<Copied>
+        requires { slot < length self.now.copies }
+        ensures { result ≡ copied_at self.now.copies slot }
+    {
+        let row = self.rows[slot as usize];
+        if row.set == 0 {
+            return None;
+        }
+        Some(Copied {
+            set: row.set,
+            block: row.block,
+        })
+    }
+
+    /// The set of the copy that the slot has.
+    pub fn set_of(&self, slot: u32) -> u32
+        requires { (copied : Copied) × (copied_at self.now.copies slot ≡ Some copied) }
+        ensures { (copied : Copied) → copied_at self.now.copies slot ≡ Some copied → copied.set ≡ result }
+    {
+        self.rows[slot as usize].set
+    }
+
+    /// The slot of the first copy of a block, from this set to the newest.
+    pub fn find(&self, set: u32, block: u32) -> Option<u32>
+        ensures found { IfSome result (IsFound self.now.copies set block) }
+        ensures none { IsNone result ↔ IsAbsent self.now.copies set block }
+    {
+        if (block as usize) >= self.newest.len() {
+            return None;
+        }
+        next_above(&self.newest, &self.rows, block, set.saturating_sub(1))
+    }
+
+    /// Notes the slot for a block and a set, which has no copy of it.
+    pub fn note(&mut self, set: u32, block: u32, slot: u32)
+        requires in_range { block < self.old.blocks }
+        requires above_zero { 0 < set }
+        requires lacks { HasCopy self.old.copies set block → ⊥ }
+        requires unnoted { slice_get self.old.copies slot ≡ Some None }
+        ensures { self.new ≡ record self.old { copies = slice_set self.old.copies slot (Some (copy_of set block)) } }
+    {
+        let above = next_above(&self.newest, &self.rows, block, set);
+        let older = link_from(&self.newest, &self.rows, block, above);
+        self.rows[slot as usize] = Row { block, set, older };
+        lead(&mut self.newest, &mut self.rows, block, above, slot);
+    }
+
+    /// Takes the copy of a slot out. The answer is its block.
+    pub fn take_out(&mut self, slot: u32) -> u32
+        requires { (copied : Copied) × (copied_at self.old.copies slot ≡ Some copied) }
+        ensures links { self.new ≡ record self.old { copies = slice_set self.old.copies slot None } }
+        ensures block { (copied : Copied) → copied_at self.old.copies slot ≡ Some copied → copied.block ≡ result }
+    {
+        let row = self.rows[slot as usize];
+        let above = next_above(&self.newest, &self.rows, row.block, row.set);
+        self.rows[slot as usize] = Row { set: 0, ..row };
+        lead(
+            &mut self.newest,
+            &mut self.rows,
+            row.block,
+            above,
+            row.older,
+        );
+        row.block
+    }
+}
