@@ -20,7 +20,7 @@ use Rattle.vss_shards.specs.Entries.{part_of, count_of}
 use Rattle.vss_shards.specs.Shards.{ShardValue}
 use Rattle.vss_shards.specs.Journals.{JournalValue, first_off, most_cuts}
 use Rattle.vss_shards.specs.Drafts.{DraftValue}
-use Rattle.vss_shards.specs.Calls.{IsRecorded, IsWriteOn, MayBeWritten, HaveRoom, after_write, fault_from}
+use Rattle.vss_shards.specs.Calls.{IsPut, IsRecorded, MayBeWritten, after_write, fault_from}
 use Rattle.vss_shards.specs.Gathered.{IsFree, IsPart, IsGathered, IsOffIn, DifferFirst}
 
 -- ## record_cut
@@ -65,14 +65,14 @@ off_is_told shards journal place s (DiffersAt w at own other) free before here o
 
 -- ## write_on
 
-pub fault_is_told : {D : Type 0} → (told : D → Option (List (List ℕ))) (size count : D → ℕ) (lending : D → Bool) (old new : ShardValue D) (j : JournalValue) (block : ℕ) (payload : Small) (fault : WriteFault)
-    → MayBeWritten old block → HaveRoom old j → IsOneUnwritten told size count lending old.volume new.volume block fault → new ≡ after_write old new.volume fault.evicted_up_to old.entries
-    → IsWriteOn told size count lending old new j j block payload (Err (fault_from fault.cause))
-fault_is_told told size count lending old new j block payload fault may room unwritten is = by_cause fault.cause refl unwritten.cause where
-  by_cause : (c : Cause) → fault.cause ≡ c → HasCauseAt count 0 block old.volume new.volume c → IsWriteOn told size count lending old new j j block payload (Err (fault_from c))
+pub fault_is_told : {D : Type 0} → (told : D → Option (List (List ℕ))) (size count : D → ℕ) (lending : D → Bool) (old new : ShardValue D) (block : ℕ) (payload : Small) (fault : WriteFault)
+    → MayBeWritten old block → IsOneUnwritten told size count lending old.volume new.volume block fault → new ≡ after_write old new.volume fault.evicted_up_to old.entries
+    → IsPut told size count lending old new block payload (Err (fault_from fault.cause))
+fault_is_told told size count lending old new block payload fault may unwritten is = by_cause fault.cause refl unwritten.cause where
+  by_cause : (c : Cause) → fault.cause ≡ c → HasCauseAt count 0 block old.volume new.volume c → IsPut told size count lending old new block payload (Err (fault_from c))
   by_cause NoBlockCause e cause = (let low = may.in_range in let high = cause.0 in absurd (omega arith))
-  by_cause VolumeCause e cause = record { may = may; room = room; fault = fault; because = e; unwritten = unwritten; shard = is; journal = refl }
-  by_cause AreaCause e cause = record { may = may; room = room; fault = fault; because = e; unwritten = unwritten; shard = is; journal = refl }
+  by_cause VolumeCause e cause = record { fault = fault; because = e; unwritten = unwritten; shard = is }
+  by_cause AreaCause e cause = record { fault = fault; because = e; unwritten = unwritten; shard = is }
 
 -- ## images that go
 

@@ -25,6 +25,7 @@ mod record_fault;
 mod recorded_cut;
 mod shard;
 mod shard_fault;
+mod shard_lock;
 mod shards;
 mod small;
 mod writing;
