@@ -16,7 +16,7 @@ use Rattle.vss_shards.specs.declared.collect_fault.CollectFault.TheVariants.{Hel
 use Rattle.vss_shards.specs.declared.record_fault.RecordFault.{RecordFault}
 use Rattle.vss_shards.specs.declared.record_fault.RecordFault.TheVariants.{Full as FullOfCuts, Differs, OutOfMemory as NoMemoryForCut}
 use Rattle.vss_shards.specs.Entries.{write_of, most_entries}
-use Rattle.vss_shards.specs.Shards.{ShardValue, shard_value, most_images}
+use Rattle.vss_shards.specs.Shards.{IsShard, ShardValue, shard_value, most_images}
 use Rattle.vss_shards.specs.Journals.{JournalValue, Cut, appended, first_off, journal_value, most_cuts}
 use Rattle.vss_shards.specs.Drafts.{DraftValue, IsTakenOut}
 
@@ -103,6 +103,25 @@ IsWriteOn told size count lending old new jold jnew block payload (Err Full) = M
 IsWriteOn told size count lending old new jold jnew block payload (Err OutOfMemory) = MayBeWritten old block × HaveRoom old jold × (new ≡ old) × (jnew ≡ jold)
 IsWriteOn told size count lending old new jold jnew block payload (Err Volume) = IsNotEntered told size count lending old new jold jnew block VolumeCause
 IsWriteOn told size count lending old new jold jnew block payload (Err Area) = IsNotEntered told size count lending old new jold jnew block AreaCause
+
+-- ## write, under locks
+
+-- what a write of a shard says, between whatever else was done to the shard
+abbrev pub IsWriteSaid : {D : Type 0} → (D → Option (List (List ℕ))) → (D → ℕ) → (D → ℕ) → (D → Bool) → ShardValue D → ShardValue D → ℕ → Small → Result ℕ ShardFault → Type 0
+IsWriteSaid told size count lending old new block payload (Ok answer) = MayBeWritten old block × IsPutIn told size count lending old new (entry_of old block payload) × (answer ≤ most_entries)
+IsWriteSaid told size count lending old new block payload (Err Held) = IsAllowed old block (Err Held) × (new ≡ old)
+IsWriteSaid told size count lending old new block payload (Err NoSuchBlock) = IsAllowed old block (Err NoSuchBlock) × (new ≡ old)
+IsWriteSaid told size count lending old new block payload (Err Full) = MayBeWritten old block × (new ≡ old)
+IsWriteSaid told size count lending old new block payload (Err OutOfMemory) = MayBeWritten old block × (new ≡ old)
+IsWriteSaid told size count lending old new block payload (Err Volume) = MayBeWritten old block × IsNotPut told size count lending old new block VolumeCause
+IsWriteSaid told size count lending old new block payload (Err Area) = MayBeWritten old block × IsNotPut told size count lending old new block AreaCause
+
+-- some shard was found under the lock, and left there as the call says
+pub record IsWriteUnderLock {D : Type 0} (told : D → Option (List (List ℕ))) (size count : D → ℕ) (lending : D → Bool) (block : ℕ) (payload : Small) (result : Result ℕ ShardFault) : Type 0 where
+  pub found : ShardValue D
+  pub left : ShardValue D
+  pub is : IsShard told found
+  pub said : IsWriteSaid told size count lending found left block payload result
 
 -- ## collect
 

@@ -10,12 +10,10 @@ use crate::part::Part;
 use crate::record_fault::RecordFault;
 use crate::recorded_cut::RecordedCut;
 use crate::shard::MOST_ENTRIES;
+use diff_area::MOST_VOLUMES;
 use std::alloc::Global;
 use std::marker::Model;
 use vss_names::OutOfMemory;
-
-/// How many volumes there may be.
-pub(crate) const MOST_VOLUMES: usize = 128;
 
 /// How many cuts a journal may have.
 const MOST_CUTS: usize = 65_536;
@@ -48,7 +46,7 @@ impl Journal {
     pub(crate) fn new(alloc: Global) -> Result<Journal, OutOfMemory>
         ensures { IfOk result (λ journal. journal ≡ journal_value [] [] 0) }
     {
-        let counts = vec![in alloc; 0u32; MOST_VOLUMES]?;
+        let counts = vec![in alloc; 0u32; MOST_VOLUMES as usize]?;
         Ok(Journal {
             places: 0,
             entries: Vec::new(alloc),
@@ -104,6 +102,7 @@ impl Journal {
         requires volume { entry.volume < most_volumes }
         ensures entry { self.new ≡ appended entry (with_places (self.old.places - 1) self.old) }
         ensures count { result ≡ length self.old.entries + 1 }
+        ensures few { result ≤ most_entries }
     {
         self.entries.push_reserved(entry);
         self.counts[entry.volume as usize] += 1;

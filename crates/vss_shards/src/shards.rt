@@ -1,9 +1,11 @@
-ghost use Rattle.std.specs.Prelude.{◌≡◌, ◌<◌, ◌≤◌, length, vec_len, IfOk};
+ghost use Rattle.std.specs.Prelude.{◌≡◌, ◌<◌, ◌≤◌, ◌⊎◌, length, vec_len, IfErr, IfOk};
 ghost use Rattle.std.specs.List.{All};
 ghost use Rattle.std.specs.List.Sorted.{IsNonDecreasingBy};
 ghost use Rattle.write_history.specs.History.{fresh};
 ghost use Rattle.cow_volume.specs.OneVolume.{StandsForOne};
-ghost use Rattle.vss_shards.specs.Entries.{most_volumes};
+ghost use Rattle.vss_shards.specs.Entries.{most_entries, most_volumes};
+ghost use Rattle.vss_shards.specs.Calls.{IsWriteUnderLock};
+ghost use Rattle.vss_shards.specs.declared.shard_fault.ShardFault.TheVariants.{Full, OutOfMemory as NoMemory};
 ghost use Rattle.vss_shards.specs.Shards.{ShardValue};
 
 use crate::entry::Entry;
@@ -90,6 +92,7 @@ impl<D: Device> Shards<D> {
         payload: Small,
     ) -> Result<u32, ShardFault>
         requires { v < self.now }
+        ensures { IsWriteUnderLock D.told D.size D.count D.lending block payload result }
     {
         let own = &self.shards[v as usize];
         let mut shard = own.shard.lock(rt);
@@ -108,7 +111,9 @@ impl<D: Device> Shards<D> {
     }
 
     /// Takes a place in the journal: a new one, or where it is full one that is kept for the next write of some shard.
-    fn take_place<R: Wait>(&self, rt: &R) -> Result<(), ShardFault> {
+    fn take_place<R: Wait>(&self, rt: &R) -> Result<(), ShardFault>
+        ensures { IfErr result (λ fault. (fault ≡ Full) ⊎ (fault ≡ NoMemory)) }
+    {
         let mut journal = self.journal.lock(rt);
         if !journal.is_full() {
             return reserve(&mut journal);
@@ -125,6 +130,7 @@ impl<D: Device> Shards<D> {
     /// There is a place as long as no one exchanges what the locks keep; if there is none, it waits for one.
     fn append<R: Wait>(&self, rt: &R, own: &ShardLock<D>, entry: Entry) -> u32
         requires { entry.volume < most_volumes }
+        ensures { result ≤ most_entries }
     {
         for _ in rt.forever() {
             let mut journal = self.journal.lock(rt);

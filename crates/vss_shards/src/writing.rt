@@ -3,6 +3,7 @@ ghost use Rattle.write_history.specs.History.{Image, after_set};
 ghost use Rattle.vss_shards.specs.Entries.{most_entries, most_volumes};
 ghost use Rattle.vss_shards.specs.Calls.{IsAllowed, IsPut, IsWriteOn, MayBeWritten, fault_from};
 ghost use Rattle.vss_shards.specs.Journals.{with_places};
+ghost use Rattle.vss_shards.specs.Shards.{IsShard};
 ghost use Rattle.vss_shards.specs.declared.shard_fault.ShardFault.TheVariants.{OutOfMemory};
 ghost use Rattle.vss_shards.specs.GoingOn.{GoesOn};
 
@@ -85,7 +86,8 @@ pub(crate) fn put<D: Device>(
 
 /// Looks whether a shard may be written at a block, and its list takes one more entry.
 pub(crate) fn may_write<D: Device>(shard: &Shard<D>, block: u32) -> Result<(), ShardFault>
-    ensures { IsAllowed shard.now block result }
+    ensures allowed { IsAllowed shard.now block result }
+    ensures kept { IsShard D.told shard.now }
 {
     if shard.held.is_some() {
         return Err(ShardFault::Held);
