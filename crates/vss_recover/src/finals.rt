@@ -12,7 +12,7 @@ use std::alloc::Global;
 use vss_names::OutOfMemory;
 
 /// The most claims of a window.
-pub(crate) const MOST_CLAIMS: usize = 64;
+pub const MOST_CLAIMS: usize = 64;
 
 /// The memory that a volume keeps for its windows, with the sets of the final images.
 #[derive(Drop)]

@@ -19,6 +19,7 @@ mod recover_revert;
 mod recover_volume;
 
 pub use claim::Claim;
+pub use finals::MOST_CLAIMS;
 pub use laws::{
     images_show_what_was_made_since_the_cut, recoveries_are_made_in_the_window,
     recoveries_leave_the_volume,

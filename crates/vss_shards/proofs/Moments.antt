@@ -1,5 +1,5 @@
 -- The counts of a journal, and what a beginning of it says of each volume.
-use Rattle.std.proofs.Common.{◌≡◌, ◌≢◌, ℕ, ◌≤◌, ◌<◌, ◌+◌, List, [], ◌∷◌, ◌++◌, length, take, drop, refl, ap, sym, ◌∙◌, arith, Bool, true, false, cond, Some, None, subst, length-append}
+use Rattle.std.proofs.Common.{◌≡◌, ◌≢◌, ℕ, ◌≤◌, ◌<◌, ◌+◌, ◌-◌, List, [], ◌∷◌, ◌++◌, length, take, drop, refl, ap, sym, ◌∙◌, arith, Bool, true, false, cond, Some, None, subst, length-append}
 use Rattle.std.specs.Prelude.{slice_get, slice_set, ◌==◌, if◌then◌else◌, map, All}
 use Rattle.std.proofs.lemmas.List.{length_push, append-nil, take-append-le, take-append-drop, take_all, take-map}
 use Rattle.std.proofs.lemmas.List.Elements.{All-nil, All-cons, All-push, All-weaker, All-contains, filter-append}
@@ -10,9 +10,9 @@ use Rattle.cow_volume.proofs.Group.{same_number, other_number, number_is, number
 use Rattle.vss_shards.specs.declared.entry.Entry.{Entry}
 use Rattle.vss_shards.specs.declared.part.Part.{Part}
 use Rattle.vss_shards.specs.declared.record_fault.RecordFault.TheVariants.{Differs}
-use Rattle.vss_shards.specs.Entries.{write_of, part_of, count_of, most_entries, most_volumes}
+use Rattle.vss_shards.specs.Entries.{write_of, part_of, count_of, most_volumes}
 use Rattle.vss_shards.specs.Shards.{ShardValue}
-use Rattle.vss_shards.specs.Journals.{Cut, JournalValue, IsMoment, IsJournal, AreCounts, first_off, most_cuts}
+use Rattle.vss_shards.specs.Journals.{Cut, JournalValue, IsMoment, IsJournal, AreCounts, first_off, journal_value, most_cuts}
 use Rattle.vss_shards.specs.OneMoment.{IsImageOf, ShowsMoment}
 
 -- ## one more entry
@@ -63,10 +63,11 @@ moment_more entries more c is = record {
   counts = subst (λ (es : List Entry). All (λ (p : Part). p.count ≡ count_of es p.volume) c.parts) (sym (take-append-le c.at entries more is.within)) is.counts;
 }
 
-pub journal_more : (entries : List Entry) (cuts : List Cut) (e : Entry) → length entries < most_entries → IsJournal (record { entries = entries; cuts = cuts })
-    → IsJournal (record { entries = entries ++ e ∷ []; cuts = cuts })
-journal_more entries cuts e room is = record {
-  few = (let l = length_push entries e in omega arith);
+-- a place is taken for the entry
+pub journal_more : (entries : List Entry) (cuts : List Cut) (places : ℕ) (e : Entry) → 0 < places → IsJournal (journal_value entries cuts places)
+    → IsJournal (journal_value (entries ++ e ∷ []) cuts (places - 1))
+journal_more entries cuts places e taken is = record {
+  few = (let l = length_push entries e in let few = is.few in omega arith);
   few_cuts = is.few_cuts;
   moments = All-weaker (IsMoment entries) (IsMoment (entries ++ e ∷ [])) (λ c moment. moment_more entries (e ∷ []) c moment) cuts is.moments;
 }
@@ -80,9 +81,9 @@ counts_hold entries (p ∷ parts) none = by_test (p.count == count_of entries p.
   by_test true same rest e = All-cons (λ (q : Part). q.count ≡ count_of entries q.volume) p parts (same_number p.count (count_of entries p.volume) same) (rest e)
   by_test false same rest e = absurd cc
 
-pub journal_cut : (entries : List Entry) (cuts : List Cut) (at : ℕ) (parts : List Part) → at ≡ length entries → length cuts < most_cuts → first_off entries parts ≡ None → IsJournal (record { entries = entries; cuts = cuts })
-    → IsJournal (record { entries = entries; cuts = cuts ++ record { at = at; parts = parts } ∷ [] })
-journal_cut entries cuts at parts whole room none is = record {
+pub journal_cut : (entries : List Entry) (cuts : List Cut) (places at : ℕ) (parts : List Part) → at ≡ length entries → length cuts < most_cuts → first_off entries parts ≡ None
+    → IsJournal (journal_value entries cuts places) → IsJournal (journal_value entries (cuts ++ record { at = at; parts = parts } ∷ []) places)
+journal_cut entries cuts places at parts whole room none is = record {
   few = is.few;
   few_cuts = (let l = length_push cuts (record { at = at; parts = parts }) in omega arith);
   moments = All-push (IsMoment entries) cuts (record { at = at; parts = parts }) is.moments (record {

@@ -1,6 +1,6 @@
 -- Refusals of the calls, case by case.
-use Rattle.std.proofs.Common.{◌≡◌, ℕ, ◌<◌, List, [], ◌∷◌, length, refl, ap, sym, arith, Bool, true, false, Option, Some, subst}
-use Rattle.std.specs.Prelude.{slice_get, ◌==◌, if◌then◌else◌, Err, nat_lt, All}
+use Rattle.std.proofs.Common.{◌≡◌, ℕ, ◌<◌, ◌≤◌, ◌⊎◌, inl, inr, List, [], ◌∷◌, length, refl, ap, sym, arith, Bool, true, false, Option, Some, subst}
+use Rattle.std.specs.Prelude.{slice_get, ◌==◌, if◌then◌else◌, Ok, Err, nat_lt, All}
 use Rattle.std.proofs.lemmas.List.Elements.{All-head, All-tail}
 use Rattle.std.proofs.lemmas.Bool.{ltb-false}
 use Rattle.write_history.specs.History.{Image, after_set}
@@ -16,11 +16,13 @@ use Rattle.vss_shards.specs.declared.record_fault.RecordFault.{RecordFault}
 use Rattle.vss_shards.specs.declared.record_fault.RecordFault.TheVariants.{Full, Differs, OutOfMemory}
 use Rattle.vss_shards.specs.declared.gather_fault.GatherFault.{GatherFault}
 use Rattle.vss_shards.specs.declared.gather_fault.GatherFault.TheVariants.{Held, Differs as DiffersAt}
-use Rattle.vss_shards.specs.Entries.{part_of, count_of}
-use Rattle.vss_shards.specs.Shards.{ShardValue}
+use Rattle.vss_shards.specs.Entries.{part_of, count_of, most_entries}
+use Rattle.vss_shards.specs.Shards.{IsShard, ShardValue}
 use Rattle.vss_shards.specs.Journals.{JournalValue, first_off, most_cuts}
 use Rattle.vss_shards.specs.Drafts.{DraftValue}
-use Rattle.vss_shards.specs.Calls.{IsRecorded, IsWriteOn, MayBeWritten, HaveRoom, after_write, fault_from}
+use Rattle.vss_shards.specs.Calls.{IsAllowed, IsPut, IsPutIn, IsRecorded, IsWriteSaid, IsWriteUnderLock, MayBeWritten, after_write, fault_from}
+use Rattle.vss_shards.specs.declared.shard_fault.ShardFault.{ShardFault}
+use Rattle.vss_shards.specs.declared.shard_fault.ShardFault.TheVariants.{Held as HeldNow, NoSuchBlock as NoBlock, Full as FullNow, OutOfMemory as NoMemory, Volume as VolumeFailed, Area as AreaFailed}
 use Rattle.vss_shards.specs.Gathered.{IsFree, IsPart, IsGathered, IsOffIn, DifferFirst}
 
 -- ## record_cut
@@ -65,14 +67,53 @@ off_is_told shards journal place s (DiffersAt w at own other) free before here o
 
 -- ## write_on
 
-pub fault_is_told : {D : Type 0} → (told : D → Option (List (List ℕ))) (size count : D → ℕ) (lending : D → Bool) (old new : ShardValue D) (j : JournalValue) (block : ℕ) (payload : Small) (fault : WriteFault)
-    → MayBeWritten old block → HaveRoom old j → IsOneUnwritten told size count lending old.volume new.volume block fault → new ≡ after_write old new.volume fault.evicted_up_to old.entries
-    → IsWriteOn told size count lending old new j j block payload (Err (fault_from fault.cause))
-fault_is_told told size count lending old new j block payload fault may room unwritten is = by_cause fault.cause refl unwritten.cause where
-  by_cause : (c : Cause) → fault.cause ≡ c → HasCauseAt count 0 block old.volume new.volume c → IsWriteOn told size count lending old new j j block payload (Err (fault_from c))
+pub fault_is_told : {D : Type 0} → (told : D → Option (List (List ℕ))) (size count : D → ℕ) (lending : D → Bool) (old new : ShardValue D) (block : ℕ) (payload : Small) (fault : WriteFault)
+    → MayBeWritten old block → IsOneUnwritten told size count lending old.volume new.volume block fault → new ≡ after_write old new.volume fault.evicted_up_to old.entries
+    → IsPut told size count lending old new block payload (Err (fault_from fault.cause))
+fault_is_told told size count lending old new block payload fault may unwritten is = by_cause fault.cause refl unwritten.cause where
+  by_cause : (c : Cause) → fault.cause ≡ c → HasCauseAt count 0 block old.volume new.volume c → IsPut told size count lending old new block payload (Err (fault_from c))
   by_cause NoBlockCause e cause = (let low = may.in_range in let high = cause.0 in absurd (omega arith))
-  by_cause VolumeCause e cause = record { may = may; room = room; fault = fault; because = e; unwritten = unwritten; shard = is; journal = refl }
-  by_cause AreaCause e cause = record { may = may; room = room; fault = fault; because = e; unwritten = unwritten; shard = is; journal = refl }
+  by_cause VolumeCause e cause = record { fault = fault; because = e; unwritten = unwritten; shard = is }
+  by_cause AreaCause e cause = record { fault = fault; because = e; unwritten = unwritten; shard = is }
+
+-- ## write, under locks
+
+pub refused_under_lock : {D : Type 0} → (told : D → Option (List (List ℕ))) (size count : D → ℕ) (lending : D → Bool) (s : ShardValue D) (block : ℕ) (payload : Small) (f : ShardFault)
+    → IsShard told s → IsAllowed s block (Err f) → IsWriteUnderLock told size count lending block payload (Err f)
+refused_under_lock told size count lending s block payload f is allowed = record { found = s; left = s; is = is; said = by_fault f allowed } where
+  by_fault : (g : ShardFault) → IsAllowed s block (Err g) → IsWriteSaid told size count lending s s block payload (Err g)
+  by_fault HeldNow a = (a, refl)
+  by_fault NoBlock a = (a, refl)
+  by_fault FullNow a = (a.0, refl)
+  by_fault NoMemory a = absurd a
+  by_fault VolumeFailed a = absurd a
+  by_fault AreaFailed a = absurd a
+
+-- the journal has no place
+pub unplaced_under_lock : {D : Type 0} → (told : D → Option (List (List ℕ))) (size count : D → ℕ) (lending : D → Bool) (s : ShardValue D) (block : ℕ) (payload : Small) (f : ShardFault)
+    → IsShard told s → MayBeWritten s block → (f ≡ FullNow) ⊎ (f ≡ NoMemory) → IsWriteUnderLock told size count lending block payload (Err f)
+unplaced_under_lock told size count lending s block payload f is may (inl e) = subst (λ (g : ShardFault). IsWriteUnderLock told size count lending block payload (Err g)) (sym e) (record { found = s; left = s; is = is; said = (may, refl) })
+unplaced_under_lock told size count lending s block payload f is may (inr e) = subst (λ (g : ShardFault). IsWriteUnderLock told size count lending block payload (Err g)) (sym e) (record { found = s; left = s; is = is; said = (may, refl) })
+
+pub unput_under_lock : {D : Type 0} → (told : D → Option (List (List ℕ))) (size count : D → ℕ) (lending : D → Bool) (s new : ShardValue D) (block : ℕ) (payload : Small) (f : ShardFault)
+    → IsShard told s → MayBeWritten s block → IsPut told size count lending s new block payload (Err f) → IsWriteUnderLock told size count lending block payload (Err f)
+unput_under_lock told size count lending s new block payload f is may put = record { found = s; left = new; is = is; said = by_fault f put } where
+  by_fault : (g : ShardFault) → IsPut told size count lending s new block payload (Err g) → IsWriteSaid told size count lending s new block payload (Err g)
+  by_fault HeldNow p = absurd p
+  by_fault NoBlock p = absurd p
+  by_fault FullNow p = absurd p
+  by_fault NoMemory p = (may, p)
+  by_fault VolumeFailed p = (may, p)
+  by_fault AreaFailed p = (may, p)
+
+pub put_under_lock : {D : Type 0} → (told : D → Option (List (List ℕ))) (size count : D → ℕ) (lending : D → Bool) (s new : ShardValue D) (block : ℕ) (payload : Small) (e : Entry) (answer : ℕ)
+    → IsShard told s → MayBeWritten s block → IsPut told size count lending s new block payload (Ok e) → answer ≤ most_entries → IsWriteUnderLock told size count lending block payload (Ok answer)
+put_under_lock told size count lending s new block payload e answer is may put few = record {
+  found = s;
+  left = new;
+  is = is;
+  said = (may, subst (λ (x : Entry). IsPutIn told size count lending s new x) put.0 put.1, few);
+}
 
 -- ## images that go
 

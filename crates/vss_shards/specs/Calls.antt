@@ -16,8 +16,8 @@ use Rattle.vss_shards.specs.declared.collect_fault.CollectFault.TheVariants.{Hel
 use Rattle.vss_shards.specs.declared.record_fault.RecordFault.{RecordFault}
 use Rattle.vss_shards.specs.declared.record_fault.RecordFault.TheVariants.{Full as FullOfCuts, Differs, OutOfMemory as NoMemoryForCut}
 use Rattle.vss_shards.specs.Entries.{write_of, most_entries}
-use Rattle.vss_shards.specs.Shards.{ShardValue, shard_value, most_images}
-use Rattle.vss_shards.specs.Journals.{JournalValue, Cut, most_cuts, first_off}
+use Rattle.vss_shards.specs.Shards.{IsShard, ShardValue, shard_value, most_images}
+use Rattle.vss_shards.specs.Journals.{JournalValue, Cut, appended, first_off, journal_value, most_cuts}
 use Rattle.vss_shards.specs.Drafts.{DraftValue, IsTakenOut}
 
 -- ## write_on
@@ -33,17 +33,17 @@ pub record MayBeWritten {D : Type 0} (s : ShardValue D) (block : ℕ) : Type 0 w
 
 -- neither list is full
 abbrev pub HaveRoom : {D : Type 0} → ShardValue D → JournalValue → Type 0
-HaveRoom s j = (length s.entries < most_entries) × (length j.entries < most_entries)
+HaveRoom s j = (length s.entries < most_entries) × (length j.entries + j.places < most_entries)
 
--- what is in the way of a write: the first cause that stands
-abbrev pub IsAllowed : {D : Type 0} → ShardValue D → JournalValue → ℕ → Result Unit ShardFault → Type 0
-IsAllowed s j block (Ok done) = MayBeWritten s block × HaveRoom s j
-IsAllowed s j block (Err Held) = is_some s.held ≡ true
-IsAllowed s j block (Err NoSuchBlock) = (s.held ≡ None) × (blocks_of s.volume ≤ block)
-IsAllowed s j block (Err Full) = MayBeWritten s block × ((length s.entries ≡ most_entries) ⊎ (length j.entries ≡ most_entries))
-IsAllowed s j block (Err OutOfMemory) = ⊥
-IsAllowed s j block (Err Volume) = ⊥
-IsAllowed s j block (Err Area) = ⊥
+-- what of the shard is in the way of a write: the first cause that stands
+abbrev pub IsAllowed : {D : Type 0} → ShardValue D → ℕ → Result Unit ShardFault → Type 0
+IsAllowed s block (Ok done) = MayBeWritten s block × (length s.entries < most_entries)
+IsAllowed s block (Err Held) = is_some s.held ≡ true
+IsAllowed s block (Err NoSuchBlock) = (s.held ≡ None) × (blocks_of s.volume ≤ block)
+IsAllowed s block (Err Full) = MayBeWritten s block × (length s.entries ≡ most_entries)
+IsAllowed s block (Err OutOfMemory) = ⊥
+IsAllowed s block (Err Volume) = ⊥
+IsAllowed s block (Err Area) = ⊥
 
 -- why a shard was not written, as the volume's fault has it
 abbrev pub fault_from : Cause → ShardFault
@@ -55,35 +55,73 @@ fault_from AreaCause = Area
 abbrev pub after_write : {D : Type 0} → ShardValue D → GroupValue D → ℕ → List Entry → ShardValue D
 after_write s volume up_to entries = shard_value s.number volume entries (after_set up_to s.images) s.last s.held
 
--- the entry was written, and is the last one of the list and of the journal
-pub record IsEntered {D : Type 0} (told : D → Option (List (List ℕ))) (size count : D → ℕ) (lending : D → Bool) (old new : ShardValue D) (journal_old journal_new : JournalValue) (e : Entry) (answer : ℕ) : Type 0 where
-  pub may : MayBeWritten old e.block
-  pub room : HaveRoom old journal_old
+-- the entry was written, and is the last one of the shard's list
+pub record IsPutIn {D : Type 0} (told : D → Option (List (List ℕ))) (size count : D → ℕ) (lending : D → Bool) (old new : ShardValue D) (e : Entry) : Type 0 where
   -- up to which number images went, which the definition of slots decides
   pub up_to : ℕ
   pub written : IsOneWritten told size count lending old.volume new.volume (write_of e) up_to
   pub shard : new ≡ after_write old new.volume up_to (old.entries ++ e ∷ [])
-  pub journal : journal_new ≡ record { entries = journal_old.entries ++ e ∷ []; cuts = journal_old.cuts }
-  pub answered : answer ≡ length journal_old.entries + 1
 
 -- a device failed: images went all the same, and nothing else changed
-pub record IsNotEntered {D : Type 0} (told : D → Option (List (List ℕ))) (size count : D → ℕ) (lending : D → Bool) (old new : ShardValue D) (journal_old journal_new : JournalValue) (block : ℕ) (cause : Cause) : Type 0 where
-  pub may : MayBeWritten old block
-  pub room : HaveRoom old journal_old
+pub record IsNotPut {D : Type 0} (told : D → Option (List (List ℕ))) (size count : D → ℕ) (lending : D → Bool) (old new : ShardValue D) (block : ℕ) (cause : Cause) : Type 0 where
   pub fault : WriteFault
   pub because : fault.cause ≡ cause
   pub unwritten : IsOneUnwritten told size count lending old.volume new.volume block fault
   pub shard : new ≡ after_write old new.volume fault.evicted_up_to old.entries
+
+-- the shard's part of a write
+abbrev pub IsPut : {D : Type 0} → (D → Option (List (List ℕ))) → (D → ℕ) → (D → ℕ) → (D → Bool) → ShardValue D → ShardValue D → ℕ → Small → Result Entry ShardFault → Type 0
+IsPut told size count lending old new block payload (Ok e) = (e ≡ entry_of old block payload) × IsPutIn told size count lending old new e
+IsPut told size count lending old new block payload (Err Held) = ⊥
+IsPut told size count lending old new block payload (Err NoSuchBlock) = ⊥
+IsPut told size count lending old new block payload (Err Full) = ⊥
+IsPut told size count lending old new block payload (Err OutOfMemory) = new ≡ old
+IsPut told size count lending old new block payload (Err Volume) = IsNotPut told size count lending old new block VolumeCause
+IsPut told size count lending old new block payload (Err Area) = IsNotPut told size count lending old new block AreaCause
+
+-- the entry was written, and is the last one of the list and of the journal
+pub record IsEntered {D : Type 0} (told : D → Option (List (List ℕ))) (size count : D → ℕ) (lending : D → Bool) (old new : ShardValue D) (journal_old journal_new : JournalValue) (e : Entry) (answer : ℕ) : Type 0 where
+  pub may : MayBeWritten old e.block
+  pub room : HaveRoom old journal_old
+  pub put : IsPutIn told size count lending old new e
+  pub journal : journal_new ≡ appended e journal_old
+  pub answered : answer ≡ length journal_old.entries + 1
+
+-- a device failed
+pub record IsNotEntered {D : Type 0} (told : D → Option (List (List ℕ))) (size count : D → ℕ) (lending : D → Bool) (old new : ShardValue D) (journal_old journal_new : JournalValue) (block : ℕ) (cause : Cause) : Type 0 where
+  pub may : MayBeWritten old block
+  pub room : HaveRoom old journal_old
+  pub unput : IsNotPut told size count lending old new block cause
   pub journal : journal_new ≡ journal_old
 
 abbrev pub IsWriteOn : {D : Type 0} → (D → Option (List (List ℕ))) → (D → ℕ) → (D → ℕ) → (D → Bool) → ShardValue D → ShardValue D → JournalValue → JournalValue → ℕ → Small → Result ℕ ShardFault → Type 0
 IsWriteOn told size count lending old new jold jnew block payload (Ok answer) = IsEntered told size count lending old new jold jnew (entry_of old block payload) answer
-IsWriteOn told size count lending old new jold jnew block payload (Err Held) = IsAllowed old jold block (Err Held) × (new ≡ old) × (jnew ≡ jold)
-IsWriteOn told size count lending old new jold jnew block payload (Err NoSuchBlock) = IsAllowed old jold block (Err NoSuchBlock) × (new ≡ old) × (jnew ≡ jold)
-IsWriteOn told size count lending old new jold jnew block payload (Err Full) = IsAllowed old jold block (Err Full) × (new ≡ old) × (jnew ≡ jold)
+IsWriteOn told size count lending old new jold jnew block payload (Err Held) = IsAllowed old block (Err Held) × (new ≡ old) × (jnew ≡ jold)
+IsWriteOn told size count lending old new jold jnew block payload (Err NoSuchBlock) = IsAllowed old block (Err NoSuchBlock) × (new ≡ old) × (jnew ≡ jold)
+IsWriteOn told size count lending old new jold jnew block payload (Err Full) = MayBeWritten old block
+    × ((length old.entries ≡ most_entries) ⊎ (length jold.entries + jold.places ≡ most_entries)) × (new ≡ old) × (jnew ≡ jold)
 IsWriteOn told size count lending old new jold jnew block payload (Err OutOfMemory) = MayBeWritten old block × HaveRoom old jold × (new ≡ old) × (jnew ≡ jold)
 IsWriteOn told size count lending old new jold jnew block payload (Err Volume) = IsNotEntered told size count lending old new jold jnew block VolumeCause
 IsWriteOn told size count lending old new jold jnew block payload (Err Area) = IsNotEntered told size count lending old new jold jnew block AreaCause
+
+-- ## write, under locks
+
+-- what a write of a shard says, between whatever else was done to the shard
+abbrev pub IsWriteSaid : {D : Type 0} → (D → Option (List (List ℕ))) → (D → ℕ) → (D → ℕ) → (D → Bool) → ShardValue D → ShardValue D → ℕ → Small → Result ℕ ShardFault → Type 0
+IsWriteSaid told size count lending old new block payload (Ok answer) = MayBeWritten old block × IsPutIn told size count lending old new (entry_of old block payload) × (answer ≤ most_entries)
+IsWriteSaid told size count lending old new block payload (Err Held) = IsAllowed old block (Err Held) × (new ≡ old)
+IsWriteSaid told size count lending old new block payload (Err NoSuchBlock) = IsAllowed old block (Err NoSuchBlock) × (new ≡ old)
+IsWriteSaid told size count lending old new block payload (Err Full) = MayBeWritten old block × (new ≡ old)
+IsWriteSaid told size count lending old new block payload (Err OutOfMemory) = MayBeWritten old block × (new ≡ old)
+IsWriteSaid told size count lending old new block payload (Err Volume) = MayBeWritten old block × IsNotPut told size count lending old new block VolumeCause
+IsWriteSaid told size count lending old new block payload (Err Area) = MayBeWritten old block × IsNotPut told size count lending old new block AreaCause
+
+-- some shard was found under the lock, and left there as the call says
+pub record IsWriteUnderLock {D : Type 0} (told : D → Option (List (List ℕ))) (size count : D → ℕ) (lending : D → Bool) (block : ℕ) (payload : Small) (result : Result ℕ ShardFault) : Type 0 where
+  pub found : ShardValue D
+  pub left : ShardValue D
+  pub is : IsShard told found
+  pub said : IsWriteSaid told size count lending found left block payload result
 
 -- ## collect
 
@@ -108,7 +146,7 @@ cut_now j draft = record { at = length j.entries; parts = draft.parts }
 abbrev pub IsRecorded : JournalValue → JournalValue → DraftValue → DraftValue → Result ℕ RecordFault → Type 0
 IsRecorded jold jnew dold dnew (Ok number) = (length jold.cuts < most_cuts) × (first_off jold.entries dold.parts ≡ None)
     × (number ≡ length jold.cuts + 1)
-    × (jnew ≡ record { entries = jold.entries; cuts = jold.cuts ++ cut_now jold dold ∷ [] })
+    × (jnew ≡ journal_value jold.entries (jold.cuts ++ cut_now jold dold ∷ []) jold.places)
     × (dnew ≡ record { parts = dold.parts; recorded = Some number })
 IsRecorded jold jnew dold dnew (Err FullOfCuts) = (length jold.cuts ≡ most_cuts) × (jnew ≡ jold) × (dnew ≡ dold)
 IsRecorded jold jnew dold dnew (Err (Differs v listed journalled)) = (length jold.cuts < most_cuts)

@@ -1,6 +1,6 @@
 -- The journal of several volumes: all entries in one order, and the cuts that were recorded. A recorded cut is of one moment: each
 -- of its parts has the number of entries of its volume that the journal had then. (This project's own.)
-use Rattle.std.specs.Prelude.{ℕ, ◌≡◌, ◌<◌, ◌≤◌, List, [], ◌∷◌, length, take, ◌==◌, if◌then◌else◌, Option, Some, None, slice_get, All}
+use Rattle.std.specs.Prelude.{ℕ, ◌≡◌, ◌<◌, ◌≤◌, ◌+◌, ◌++◌, List, [], ◌∷◌, length, take, ◌==◌, if◌then◌else◌, Option, Some, None, slice_get, All}
 use Rattle.vss_shards.specs.declared.entry.Entry.{Entry}
 use Rattle.vss_shards.specs.declared.part.Part.{Part}
 use Rattle.vss_shards.specs.declared.record_fault.RecordFault.{RecordFault}
@@ -16,6 +16,19 @@ pub record Cut : Type 0 where
 pub record JournalValue : Type 0 where
   pub entries : List Entry
   pub cuts : List Cut
+  -- for how many entries that are being written there is room that is promised
+  pub places : ℕ
+
+abbrev pub journal_value : List Entry → List Cut → ℕ → JournalValue
+journal_value entries cuts places = record { entries = entries; cuts = cuts; places = places }
+
+-- with so many places
+abbrev pub with_places : ℕ → JournalValue → JournalValue
+with_places places j = journal_value j.entries j.cuts places
+
+-- with one more entry, the last
+abbrev pub appended : Entry → JournalValue → JournalValue
+appended e j = journal_value (j.entries ++ e ∷ []) j.cuts j.places
 
 -- how many cuts a journal may have
 abbrev pub most_cuts : ℕ
@@ -27,7 +40,7 @@ pub record IsMoment (entries : List Entry) (cut : Cut) : Type 0 where
   pub counts : All (λ (p : Part). p.count ≡ count_of (take cut.at entries) p.volume) cut.parts
 
 pub record IsJournal (j : JournalValue) : Type 0 where
-  pub few : length j.entries ≤ most_entries
+  pub few : length j.entries + j.places ≤ most_entries
   pub few_cuts : length j.cuts ≤ most_cuts
   pub moments : All (IsMoment j.entries) j.cuts
 

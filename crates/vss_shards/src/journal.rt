@@ -1,6 +1,6 @@
-ghost use Rattle.std.specs.Prelude.{◌≡◌, ◌<◌, ◌≤◌, ◌+◌, ◌-◌, ◌++◌, [], ◌∷◌, None, length, slice_get, All, IfOk, IfSome, OnOk, OnErr};
-ghost use Rattle.vss_shards.specs.Entries.{count_of, most_volumes};
-ghost use Rattle.vss_shards.specs.Journals.{IsJournal, first_off, most_cuts};
+ghost use Rattle.std.specs.Prelude.{◌≡◌, ◌<◌, ◌≤◌, ◌+◌, ◌-◌, ◌++◌, [], ◌∷◌, None, length, slice_get, All, IfOk, IfSome, IsTrue, OnOk, OnErr, false};
+ghost use Rattle.vss_shards.specs.Entries.{count_of, most_entries, most_volumes};
+ghost use Rattle.vss_shards.specs.Journals.{IsJournal, appended, first_off, journal_value, most_cuts, with_places};
 ghost use Rattle.vss_shards.specs.Drafts.{AreParts};
 ghost use Rattle.vss_shards.specs.Calls.{IsRecorded};
 
@@ -9,47 +9,105 @@ use crate::entry::Entry;
 use crate::part::Part;
 use crate::record_fault::RecordFault;
 use crate::recorded_cut::RecordedCut;
+use crate::shard::MOST_ENTRIES;
+use diff_area::MOST_VOLUMES;
 use std::alloc::Global;
 use std::marker::Model;
 use vss_names::OutOfMemory;
 
-/// How many volumes there may be.
-pub(crate) const MOST_VOLUMES: usize = 128;
-
 /// How many cuts a journal may have.
 const MOST_CUTS: usize = 65_536;
 
-/// All entries of several volumes in one order, and the recorded cuts. Contracts see both; a cut has the number of entries that the
-/// journal had, and its parts.
+/// All entries of several volumes in one order, and the recorded cuts. Contracts see both, and how many places are taken for entries
+/// that are being written; a cut has the number of entries that the journal had, and its parts.
 #[derive(Drop)]
 pub struct Journal {
+    /// For how many more entries there is room that is promised.
+    places: u32,
     pub(crate) entries: Vec<Entry>,
     /// How many entries each volume has.
-    pub(crate) counts: Vec<u32>,
+    counts: Vec<u32>,
     cuts: Vec<RecordedCut>,
 }
 
 impl Model for Journal {
-    ghost use Rattle.vss_shards.specs.Journals.{JournalValue, IsJournal, AreCounts};
+    ghost use Rattle.std.specs.Prelude.{◌≤◌, ◌+◌, vec_len, vec_capacity};
+    ghost use Rattle.vss_shards.specs.Journals.{JournalValue, IsJournal, AreCounts, journal_value};
 
     ghost Value = { JournalValue };
 
-    ghost view = { λ j. record { entries = j.entries.items; cuts = j.cuts.items } };
+    ghost view = { λ j. journal_value j.entries.items j.cuts.items j.places };
 
-    ghost invariant = { λ j. IsJournal (record { entries = j.entries.items; cuts = j.cuts.items }) × AreCounts j.counts.items j.entries.items };
+    ghost invariant = { λ j. IsJournal (journal_value j.entries.items j.cuts.items j.places) × AreCounts j.counts.items j.entries.items × (vec_len j.entries + j.places ≤ vec_capacity j.entries) };
 }
 
 impl Journal {
     /// A journal of no entries and no cuts.
     pub(crate) fn new(alloc: Global) -> Result<Journal, OutOfMemory>
-        ensures { IfOk result (λ journal. journal ≡ record { entries = []; cuts = [] }) }
+        ensures { IfOk result (λ journal. journal ≡ journal_value [] [] 0) }
     {
-        let counts = vec![in alloc; 0u32; MOST_VOLUMES]?;
+        let counts = vec![in alloc; 0u32; MOST_VOLUMES as usize]?;
         Ok(Journal {
+            places: 0,
             entries: Vec::new(alloc),
             counts,
             cuts: Vec::new(alloc),
         })
+    }
+
+    /// Whether there is no place for one more entry.
+    pub(crate) fn is_full(&self) -> bool
+        ensures full { IsTrue result → length self.now.entries + self.now.places ≡ most_entries }
+        ensures free { result ≡ false → length self.now.entries + self.now.places < most_entries }
+    {
+        self.entries.len() + self.places as usize >= MOST_ENTRIES
+    }
+
+    /// Takes a place for one more entry.
+    pub(crate) fn reserve(&mut self) -> Result<(), OutOfMemory>
+        requires { length self.old.entries + self.old.places < most_entries }
+        ensures taken { OnOk result (self.new ≡ with_places (self.old.places + 1) self.old) }
+        ensures refused { OnErr result (self.new ≡ self.old) }
+    {
+        self.entries.reserve(self.places as usize + 1)?;
+        self.places += 1;
+        Ok(())
+    }
+
+    /// Gives a place back.
+    pub(crate) fn release(&mut self)
+        requires { 0 < self.old.places }
+        ensures { self.new ≡ with_places (self.old.places - 1) self.old }
+    {
+        self.places -= 1;
+    }
+
+    /// Gives all places back.
+    pub(crate) fn release_all(&mut self)
+        ensures { self.new ≡ with_places 0 self.old }
+    {
+        self.places = 0;
+    }
+
+    /// Whether a place is taken.
+    pub(crate) fn has_place(&self) -> bool
+        ensures { IsTrue result → 0 < self.now.places }
+    {
+        self.places > 0
+    }
+
+    /// Puts an entry into a place, and answers how many entries there are then.
+    pub(crate) fn append(&mut self, entry: Entry) -> u32
+        requires place { 0 < self.old.places }
+        requires volume { entry.volume < most_volumes }
+        ensures entry { self.new ≡ appended entry (with_places (self.old.places - 1) self.old) }
+        ensures count { result ≡ length self.old.entries + 1 }
+        ensures few { result ≤ most_entries }
+    {
+        self.entries.push_reserved(entry);
+        self.counts[entry.volume as usize] += 1;
+        self.places -= 1;
+        self.entries.len() as u32
     }
 
     /// The cut: each part has to have the journal's number of entries of its volume, and then the parts are stored under the next
@@ -122,7 +180,7 @@ fn store(journal: &mut Journal, parts: &Vec<Part>) -> Result<u32, OutOfMemory>
     requires room { length journal.old.cuts < most_cuts }
     requires counts { first_off journal.old.entries parts.now.items ≡ None }
     ensures number { IfOk result (λ number. number ≡ length journal.old.cuts + 1) }
-    ensures stored { OnOk result (journal.new ≡ record { entries = journal.old.entries; cuts = journal.old.cuts ++ record { at = length journal.old.entries; parts = parts.now.items } ∷ [] }) }
+    ensures stored { OnOk result (journal.new ≡ journal_value journal.old.entries (journal.old.cuts ++ record { at = length journal.old.entries; parts = parts.now.items } ∷ []) journal.old.places) }
     ensures refused { OnErr result (journal.new ≡ journal.old) }
 {
     let parts = copied(parts)?;

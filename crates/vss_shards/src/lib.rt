@@ -1,8 +1,8 @@
 //! Volumes behind locks of their own, with one journal.
 //!
-//! Each volume has a lock, and the journal another, and all images of a cut belong to one moment. A write is made under both locks,
-//! so that writes do not run side by side; whatever else is done to a volume needs its own lock alone. All promises stand on
-//! functions that are lent what the locks keep: a `Shard` (a volume, the list of its entries and the points of its images) and the
+//! Each volume has a lock, and the journal another, and all images of a cut belong to one moment. `Shards::write` writes under the
+//! volume's lock, and takes the journal's only for the entry, so that writes of several volumes run side by side; whatever else is
+//! done to a volume needs its own lock alone. All promises stand on functions that are lent what the locks keep: a `Shard` (a volume, the list of its entries and the points of its images) and the
 //! `Journal` (all entries in one order, and the recorded cuts). A cut goes in three steps: `collect` holds each shard and notes how
 //! long its list is, `record_cut` compares these numbers with the journal and stores them, `give_back` makes the image and lets the
 //! shard go. Callers take the locks, a shard's before the journal's; no order of locks is proved, and nothing is promised of waiting.
@@ -25,6 +25,7 @@ mod record_fault;
 mod recorded_cut;
 mod shard;
 mod shard_fault;
+mod shard_lock;
 mod shards;
 mod small;
 mod writing;

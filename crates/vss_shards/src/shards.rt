@@ -1,17 +1,25 @@
-ghost use Rattle.std.specs.Prelude.{◌≡◌, ◌<◌, ◌≤◌, length, vec_len, IfOk};
+ghost use Rattle.std.specs.Prelude.{◌≡◌, ◌<◌, ◌≤◌, ◌⊎◌, length, vec_len, IfErr, IfOk};
 ghost use Rattle.std.specs.List.{All};
 ghost use Rattle.std.specs.List.Sorted.{IsNonDecreasingBy};
 ghost use Rattle.write_history.specs.History.{fresh};
 ghost use Rattle.cow_volume.specs.OneVolume.{StandsForOne};
-ghost use Rattle.vss_shards.specs.Entries.{most_volumes};
+ghost use Rattle.vss_shards.specs.Entries.{most_entries, most_volumes};
+ghost use Rattle.vss_shards.specs.Calls.{IsWriteUnderLock};
+ghost use Rattle.vss_shards.specs.declared.shard_fault.ShardFault.TheVariants.{Full, OutOfMemory as NoMemory};
 ghost use Rattle.vss_shards.specs.Shards.{ShardValue};
 
+use crate::entry::Entry;
 use crate::journal::Journal;
 use crate::shard::Shard;
+use crate::shard_fault::ShardFault;
+use crate::shard_lock::ShardLock;
+use crate::small::Small;
+use crate::writing::{may_write, put, reserve};
 use cow_volume::CowVolume;
 use std::alloc::Global;
 use std::marker::Model;
-use std::sync::Mutex;
+use std::sync::atomic::Ordering;
+use std::sync::{Mutex, Wait};
 use volume_device::Device;
 use vss_names::OutOfMemory;
 
@@ -19,7 +27,7 @@ use vss_names::OutOfMemory;
 /// Contracts see how many shards there are.
 #[derive(Drop)]
 pub struct Shards<D: Device> {
-    shards: Vec<Mutex<Shard<D>>>,
+    shards: Vec<ShardLock<D>>,
     journal: Mutex<Journal>,
     /// Where the shards go once no lock is needed any more: nothing yet.
     states: Vec<Shard<D>>,
@@ -65,7 +73,7 @@ impl<D: Device> Shards<D> {
     pub fn shard(&self, v: u32) -> &Mutex<Shard<D>>
         requires { v < self.now }
     {
-        &self.shards[v as usize]
+        &self.shards[v as usize].shard
     }
 
     /// The journal's lock.
@@ -73,21 +81,91 @@ impl<D: Device> Shards<D> {
         &self.journal
     }
 
+    /// Writes a block of a shard under its lock, and answers how many entries the journal then has. The journal's lock is taken once,
+    /// for the entry and for a place that is kept for the shard's next write. Answers are those of `write_on`; the journal is full
+    /// where it has 1,048,576 entries with those that are being written.
+    pub fn write<R: Wait>(
+        &self,
+        rt: &R,
+        v: u32,
+        block: u32,
+        payload: Small,
+    ) -> Result<u32, ShardFault>
+        requires { v < self.now }
+        ensures { IsWriteUnderLock D.told D.size D.count D.lending block payload result }
+    {
+        let own = &self.shards[v as usize];
+        let mut shard = own.shard.lock(rt);
+        may_write(&shard, block)?;
+        if !own.has_place.swap(false, Ordering::SeqCst) {
+            self.take_place(rt)?;
+        }
+        let written = put(&mut shard, block, payload);
+        match written {
+            Ok(entry) => Ok(self.append(rt, own, entry)),
+            Err(fault) => {
+                own.has_place.store(true, Ordering::SeqCst);
+                Err(fault)
+            }
+        }
+    }
+
+    /// Takes a place in the journal: a new one, or where it is full one that is kept for the next write of some shard.
+    fn take_place<R: Wait>(&self, rt: &R) -> Result<(), ShardFault>
+        ensures { IfErr result (λ fault. (fault ≡ Full) ⊎ (fault ≡ NoMemory)) }
+    {
+        let mut journal = self.journal.lock(rt);
+        if !journal.is_full() {
+            return reserve(&mut journal);
+        }
+        for other in &self.shards {
+            if other.has_place.swap(false, Ordering::SeqCst) {
+                return Ok(());
+            }
+        }
+        Err(ShardFault::Full)
+    }
+
+    /// Puts an entry into the place that is taken for it, and keeps a place for the next write of the shard if there is one more.
+    /// There is a place as long as no one exchanges what the locks keep; if there is none, it waits for one.
+    fn append<R: Wait>(&self, rt: &R, own: &ShardLock<D>, entry: Entry) -> u32
+        requires { entry.volume < most_volumes }
+        ensures { result ≤ most_entries }
+    {
+        for _ in rt.forever() {
+            let mut journal = self.journal.lock(rt);
+            if journal.has_place() {
+                let count = journal.append(entry);
+                let keeps = !journal.is_full() && journal.reserve().is_ok();
+                own.has_place.store(keeps, Ordering::SeqCst);
+                return count;
+            }
+        }
+        unreachable!()
+    }
+
     /// What the locks keep, the shards in order of their numbers, whatever was exchanged among them, without taking memory.
     pub fn into_states(self) -> (Vec<Shard<D>>, Journal)
         ensures count { vec_len result.0 ≡ self }
         ensures ordered { IsNonDecreasingBy (λ (s : ShardValue D). s.number) result.0.items }
+        ensures places { result.1.places ≡ 0 }
     {
         let Shards {
             shards,
             journal,
             mut states,
         } = self;
-        for shard in shards {
+        for locked in shards {
+            let ShardLock {
+                shard,
+                has_place: _,
+            } = locked;
             states.push_reserved(shard.into_inner());
         }
         states.sort_unstable_by_key(|shard| shard.number());
-        (states, journal.into_inner())
+        let mut journal = journal.into_inner();
+        journal.release_all();
+        (states, journal)
     }
 }
 
@@ -95,7 +173,7 @@ impl<D: Device> Shards<D> {
 fn locked<D: Device>(
     alloc: Global,
     volumes: Vec<CowVolume<D>>,
-) -> Result<Vec<Mutex<Shard<D>>>, OutOfMemory>
+) -> Result<Vec<ShardLock<D>>, OutOfMemory>
     requires few { length volumes.items ≤ most_volumes }
     requires fresh { All (λ volume. StandsForOne D.told volume fresh) volumes.items }
     ensures { IfOk result (λ shards. vec_len shards ≡ length volumes.items) }
@@ -103,7 +181,7 @@ fn locked<D: Device>(
     let mut shards = Vec::with_capacity(alloc, volumes.len())?;
     let mut number = 0;
     for volume in volumes {
-        shards.push(Mutex::new(Shard::new(alloc, number, volume)?))?;
+        shards.push(ShardLock::new(Shard::new(alloc, number, volume)?))?;
         number += 1;
     }
     Ok(shards)

@@ -1,6 +1,10 @@
-ghost use Rattle.std.specs.Prelude.{◌≡◌, ◌<◌, ◌≤◌, vec_len, vec_capacity, OnOk, All};
+ghost use Rattle.std.specs.Prelude.{◌≡◌, ◌<◌, ◌+◌, length, vec_capacity, IfErr, IfOk, OnOk, All};
 ghost use Rattle.write_history.specs.History.{Image, after_set};
-ghost use Rattle.vss_shards.specs.Calls.{IsAllowed, IsWriteOn, fault_from};
+ghost use Rattle.vss_shards.specs.Entries.{most_entries, most_volumes};
+ghost use Rattle.vss_shards.specs.Calls.{IsAllowed, IsPut, IsWriteOn, MayBeWritten, fault_from};
+ghost use Rattle.vss_shards.specs.Journals.{with_places};
+ghost use Rattle.vss_shards.specs.Shards.{IsShard};
+ghost use Rattle.vss_shards.specs.declared.shard_fault.ShardFault.TheVariants.{OutOfMemory};
 ghost use Rattle.vss_shards.specs.GoingOn.{GoesOn};
 
 use crate::entry::Entry;
@@ -11,7 +15,6 @@ use crate::shard_fault::ShardFault;
 use crate::small::Small;
 use cow_volume::Cause;
 use volume_device::Device;
-use vss_names::OutOfMemory;
 
 /// Writes a block of a shard, and answers how many entries the journal then has. The entry goes to the end of the shard's list and to
 /// the end of the journal. Where the block's old bytes need a slot and none is free, the oldest images go first, until one is.
@@ -24,8 +27,45 @@ pub fn write_on<D: Device>(
     ensures write { IsWriteOn D.told D.size D.count D.lending shard.old shard.new journal.old journal.new block payload result }
     ensures goes_on { GoesOn shard.old shard.new }
 {
-    may_write(shard, journal, block)?;
-    if make_room(&mut shard.entries, &mut journal.entries).is_err() {
+    may_write(shard, block)?;
+    if journal.is_full() {
+        return Err(ShardFault::Full);
+    }
+    reserve(journal)?;
+    match put(shard, block, payload) {
+        Ok(entry) => Ok(journal.append(entry)),
+        Err(fault) => {
+            journal.release();
+            Err(fault)
+        }
+    }
+}
+
+/// Takes a place in the journal, if there is memory for it.
+pub(crate) fn reserve(journal: &mut Journal) -> Result<(), ShardFault>
+    requires { length journal.old.entries + journal.old.places < most_entries }
+    ensures taken { OnOk result (journal.new ≡ with_places (journal.old.places + 1) journal.old) }
+    ensures refused { IfErr result (λ fault. (fault ≡ OutOfMemory) × (journal.new ≡ journal.old)) }
+{
+    if journal.reserve().is_err() {
+        return Err(ShardFault::OutOfMemory);
+    }
+    Ok(())
+}
+
+/// Writes a block of a shard, for which the journal has a place, and answers the entry, the last of the shard's list.
+pub(crate) fn put<D: Device>(
+    shard: &mut Shard<D>,
+    block: u32,
+    payload: Small,
+) -> Result<Entry, ShardFault>
+    requires may { MayBeWritten shard.old block }
+    requires room { length shard.old.entries < most_entries }
+    ensures put { IsPut D.told D.size D.count D.lending shard.old shard.new block payload result }
+    ensures volume { IfOk result (λ entry. entry.volume < most_volumes) }
+    ensures goes_on { GoesOn shard.old shard.new }
+{
+    if shard.entries.reserve(1).is_err() {
         return Err(ShardFault::OutOfMemory);
     }
     match shard.volume.write(block, &payload.payload()) {
@@ -41,14 +81,13 @@ pub fn write_on<D: Device>(
         payload,
     };
     shard.entries.push_reserved(entry);
-    journal.entries.push_reserved(entry);
-    journal.counts[shard.number as usize] += 1;
-    Ok(journal.entries.len() as u32)
+    Ok(entry)
 }
 
-/// Looks whether a shard may be written at a block, and both lists take one more entry.
-fn may_write<D: Device>(shard: &Shard<D>, journal: &Journal, block: u32) -> Result<(), ShardFault>
-    ensures { IsAllowed shard.now journal.now block result }
+/// Looks whether a shard may be written at a block, and its list takes one more entry.
+pub(crate) fn may_write<D: Device>(shard: &Shard<D>, block: u32) -> Result<(), ShardFault>
+    ensures allowed { IsAllowed shard.now block result }
+    ensures kept { IsShard D.told shard.now }
 {
     if shard.held.is_some() {
         return Err(ShardFault::Held);
@@ -59,21 +98,6 @@ fn may_write<D: Device>(shard: &Shard<D>, journal: &Journal, block: u32) -> Resu
     if shard.entries.len() >= MOST_ENTRIES {
         return Err(ShardFault::Full);
     }
-    if journal.entries.len() >= MOST_ENTRIES {
-        return Err(ShardFault::Full);
-    }
-    Ok(())
-}
-
-/// Makes room for one more entry in both lists.
-fn make_room(list: &mut Vec<Entry>, journal: &mut Vec<Entry>) -> Result<(), OutOfMemory>
-    ensures list { list.new.items ≡ list.old.items }
-    ensures journal { journal.new.items ≡ journal.old.items }
-    ensures list_room { OnOk result (vec_len list.new < vec_capacity list.new) }
-    ensures journal_room { OnOk result (vec_len journal.new < vec_capacity journal.new) }
-{
-    list.reserve(1)?;
-    journal.reserve(1)?;
     Ok(())
 }
 
