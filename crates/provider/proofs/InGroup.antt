@@ -1,5 +1,5 @@
 -- What is said of all volumes with a mark for a group is what is said of the group's volumes alone.
-use Rattle.std.proofs.Common.{◌≡◌, ℕ, zero, suc, ◌+◌, ◌==◌, List, [], ◌∷◌, length, refl, ap, sym, ◌∙◌, arith, Bool, true, false, Option, Some, None, map, slice_get, ◌&&◌, not, find, if◌then◌else◌}
+use Rattle.std.proofs.Common.{◌≡◌, ℕ, zero, suc, ◌+◌, ◌==◌, List, [], ◌∷◌, length, refl, ap, sym, ◌∙◌, arith, Bool, true, false, Option, Some, map, slice_get, ◌&&◌, not, find, if◌then◌else◌}
 use Rattle.provider.proofs.Words.{History, VolumeRow, after_set, as_many_gone, blocks_in_group, change_at, changed_at, count_if, evicted_up_to, gone_up_to, group_used, lacks_slot, ne_eqb}
 use Rattle.provider.proofs.Words.{needs_slot_in, of_group, of_group_if, place_in, placed, range_with_len, same_number, unwrap_or, used}
 use Rattle.provider.specs.Words.{placed as all_placed}
@@ -65,10 +65,6 @@ get_if false x xs i o e = e
 get_first : {X : Type 0} (b : Bool) (x : X) (xs : List X) → b ≡ true → slice_get (of_group_if b x xs) 0 ≡ Some x
 get_first true x xs e = refl
 get_first false x xs e = cc
-
-get_nothing : {X : Type 0} (i : ℕ) → slice_get {X = X} [] i ≡ None
-get_nothing zero = refl
-get_nothing (suc i) = refl
 
 pub at_place : {X : Type 0} (g : ℕ) (rows : List VolumeRow) (xs : List X) (v : ℕ) (r : VolumeRow) → slice_get rows v ≡ Some r → r.group ≡ g
     → length xs ≡ length rows → slice_get (of_group g rows xs) (place_in g rows v) ≡ slice_get xs v

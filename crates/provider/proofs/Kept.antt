@@ -35,14 +35,6 @@ later_same xs ys e = subst (λ (zs : List ℕ). AreLater xs zs) (sym e) (itself 
     itself [] = tt
     itself (z ∷ zs) = (omega arith, itself zs)
 
-pub later_trans : (xs ys zs : List ℕ) → AreLater xs ys → AreLater ys zs → AreLater xs zs
-later_trans [] [] [] h k = tt
-later_trans [] [] (z ∷ zs) h k = elim k [ ]
-later_trans [] (y ∷ ys) zs h k = elim h [ ]
-later_trans (x ∷ xs) [] zs h k = elim h [ ]
-later_trans (x ∷ xs) (y ∷ ys) [] h k = elim k [ ]
-later_trans (x ∷ xs) (y ∷ ys) (z ∷ zs) h k = (let a = h.0 in let b = k.0 in omega (arith, a, b), later_trans xs ys zs h.1 k.1)
-
 -- ## all groups
 
 -- a device is another state of the same one

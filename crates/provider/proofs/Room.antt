@@ -4,8 +4,7 @@ use Rattle.provider.proofs.Words.{AreGroups, Evicted, Ghosts, GoUpTo, GroupValue
 use Rattle.provider.proofs.Words.{blocks_in_group, evicted_of, evicted_up_to, flat_map, flat_map-cons, gone_group, gone_row, gone_up_to, group_of, has_image, holders, images_going, length-map}
 use Rattle.provider.proofs.Words.{made_room, map-append, of_group, of_group_if, place_in, placed, placed_in, range_with_len, renumbered, sets_at, sets_of, slice_get_inside, slice_get_within, slots_in}
 use Rattle.provider.proofs.Words.{slots_of, volume_after, volume_in}
-use Rattle.provider.specs.Words.{HasRoom as HasGroupRoom, holders as group_holders, images_going as group_images, lacks_slot}
-use Rattle.provider.specs.Words.{placed as all_placed}
+use Rattle.provider.specs.Words.{HasRoom as HasGroupRoom, holders as group_holders, images_going as group_images, lacks_slot, placed as all_placed}
 use Rattle.provider.proofs.InGroup.{gone_in_group, gone_elsewhere, evicted_in_group}
 use Rattle.provider.proofs.Becoming.{becomes}
 use Rattle.provider.proofs.Called.{Called, call_of, called_found, devices_still}

@@ -1,6 +1,6 @@
 -- A volume joins the set in progress: what is kept here does not change, and what the volume is refused for is the
 -- provider's to say.
-use Rattle.sessions.proofs.Words.{length-map, Running, VssResult, SessionCall, Stage, Started, Verdict, Go, Session, makes_set, check, is_stage, Plan, Line, Fine, Coded, State, SetRow, in_progress}
+use Rattle.sessions.proofs.Words.{length-map, Running, VssResult, Stage, Started, Go, Session, makes_set, check, is_stage, Plan, Line, Fine, Coded, State, SetRow, in_progress}
 use Rattle.sessions.proofs.Words.{row_changed, runs, ended_of, IsOfSession, add, add_refusal, add_to, change_set, with_volume, line_in, EndsAs, SessionsValue, Keeps, IsInOrder, MayAdd, told_alone}
 use Rattle.sessions.proofs.Words.{other_goes, IsSameRow, numbered-map, same_changed, none_ends, none_runs}
 use Rattle.std.proofs.Common.{◌≡◌, ℕ, refl, ap, sym, ◌∙◌, subst, true, false, Option, Some, None, map}
@@ -28,9 +28,6 @@ may_add st lane goes order =
     by_set : (q : Session) (o : Option SetRow) → in_progress st ≡ o → makes_set q.stage ≡ true → IsOfSession (Some q) st.course.outcome o → st.course.agenda ≡ None → MayAdd st
     by_set q None e makes h rests = absurd (let f : makes_set q.stage ≡ false = h.0 in cc)
     by_set q (Some r) e makes h rests = record { row = r; is_in_progress = e; rests = rests }
-
-pub adds_at : (x : SessionsValue) (c : SessionCall) (st : State) (lane : ℕ) (v : Verdict) → v ≡ check st.session (runs st) lane c → v ≡ Go → c ≡ call.Add → IsInOrder st → MayAdd st
-adds_at x c st lane v is goes adds order = may_add st lane (ap (check st.session (runs st) lane) (sym adds) ∙ sym is ∙ goes) order
 
 -- ## what it comes to
 

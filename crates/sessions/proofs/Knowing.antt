@@ -5,8 +5,7 @@ use Rattle.sessions.proofs.Words.{naming, Selected, Named, AllOf, all_of, is_tak
 use Rattle.sessions.proofs.Words.{is_disabled as is_disabled_kept, writer_count, named, Plan, WriterPlan, token, IsWriter, State, in_progress, runs, has_no_volume, SessionMove, SessionsValue, Keeps}
 use Rattle.sessions.proofs.Words.{IsOf, IsAt, ComesTo, HasBegun, IsDocumentIn, is_all, takes_all_of, IsAtOver, told_alone, told_named, and_from, and_parts, cond-false, cond-true, le-leb, Goes}
 use Rattle.sessions.proofs.Words.{all_known, known_at, named_known}
-use Rattle.std.proofs.Common.{◌≡◌, ℕ, zero, suc, ◌+◌, ◌<◌, ◌==◌, List, [], ◌∷◌, ◌++◌, drop, length, refl, ap, sym, ◌∙◌, subst, arith, append_assoc, add-one, Bool, true, false, Option, Some}
-use Rattle.std.proofs.Common.{slice_get}
+use Rattle.std.proofs.Common.{◌≡◌, ℕ, zero, suc, ◌+◌, ◌<◌, ◌==◌, List, [], ◌∷◌, ◌++◌, drop, length, refl, ap, sym, ◌∙◌, subst, arith, append_assoc, add-one, Bool, true, false, Option, Some, slice_get}
 use Rattle.std.specs.Prelude.{All, filter, nat_le, is_some, option_map, not, ◌&&◌, if◌then◌else◌, Result, Ok, Err, OnOk, OnErr, IfErr}
 use Rattle.component_doc.specs.declared.add_fault.AddFault.TheVariants as fault
 use Rattle.component_doc.specs.Refusal.{Tells}

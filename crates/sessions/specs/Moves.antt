@@ -177,8 +177,6 @@ takes_all_of (Some q) = is_all q.mode
 abbrev pub IsDocumentIn : Plan → SessionsValue → List ℕ → Type 0
 IsDocumentIn s x bytes = (st : State) (q : Session) → IsAt x s st → st.session ≡ Some q → bytes ≡ document_text (known_metas s st) (selected s q st) q.context
 
--- ## memory
-
 -- the session lines that may want memory
 abbrev pub takes_memory : Op → Bool
 takes_memory (Component w full) = true

@@ -1,18 +1,15 @@
 -- How far images go for a write: as far by the histories that the provider has as by those of the definitions.
 use Rattle.std.proofs.Common.{◌≡◌, ℕ, zero, suc, ◌<◌, ◌==◌, List, [], ◌∷◌, ◌++◌, length, refl, ap, sym, ◌∙◌, subst, arith, Bool, true, false, ◌&&◌, Option, Some, None, ◌⊎◌, inl, inr, slice_get, not}
 use Rattle.std.proofs.Common.{nat_lt, option_map, if◌then◌else◌}
-use Rattle.vss_world.proofs.Words.{Act, AreInTime, AreLater, History, Image, Placed, Plan, SetRow, after_set, comes, dropped_if, evicted_up_to, find_same, gone_up_to, group_used, history_in}
+use Rattle.vss_world.proofs.Words.{Act, AreInTime, History, Image, Placed, Plan, SetRow, after_set, comes, dropped_if, evicted_up_to, find_same, gone_up_to, group_used, history_in}
 use Rattle.vss_world.proofs.Words.{in_progress, is_held, is_to_come, lacks_slot, nat_tests, needs_slot_in, number_of, point_in, provided, range_with_len, state, true_not_false, unwrap_or, without}
 use Rattle.vss_world.proofs.Options.{none_from}
-use Rattle.vss_world.proofs.KeptSets.{later_filter, in_time_filter}
+use Rattle.vss_world.proofs.KeptSets.{in_time_filter}
 use Rattle.vss_world.proofs.ToCome.{held_to_come}
 use Rattle.vss_world.proofs.Unnamed.{IsUnnamed, without_none, later_last}
 use Rattle.vss_world.proofs.WithoutImages.{AreUnnamed, without_get, gone_without, group_used_without}
 
 -- ## images after a set
-
-later_after : (m : ℕ) (i : Image) (images : List Image) → AreLater i images → AreLater i (after_set m images)
-later_after m i images h = later_filter (λ (j : Image). nat_lt m j.set) i images h
 
 in_time_after : (m k : ℕ) (images : List Image) → AreInTime k images → AreInTime k (after_set m images)
 in_time_after m k images h = in_time_filter (λ (j : Image). nat_lt m j.set) k images h

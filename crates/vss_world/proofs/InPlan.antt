@@ -1,7 +1,7 @@
 -- The volumes of sets and agendas, and the writers that take part or are disabled, stay those of the scenario, whatever happens.
 use Rattle.std.proofs.Common.{◌≡◌, ℕ, ◌+◌, ◌<◌, ◌≤◌, ◌==◌, List, [], ◌∷◌, ◌++◌, Option, Some, None, refl, Bool, true, false, subst, length, arith, option_map, map, filter, find, if◌then◌else◌, not}
 use Rattle.vss_world.proofs.Words.{Act, Agenda, AgendaEnds, AreBelow, AsyncCancelled, Clean, Commit, Course, Covers, Cut, Ending, Event, Fault, FaultAfter, Flush, Group, History, Hold, IsAgendaIn}
-use Rattle.vss_world.proofs.Words.{IsInPlan, IsKeptInCourse, IsOp, Kept, Kind, Level, Line, Mark, Member, MembersBelow, NothingEnds, Ok, Open, Order, Orders, Pair, Place, Plan, PostCommit, PreCommit}
+use Rattle.vss_world.proofs.Words.{IsInPlan, IsKeptInCourse, IsOp, Kept, Kind, Level, Line, Mark, Member, MembersBelow, NothingEnds, Ok, Open, Orders, Pair, Place, Plan, PostCommit, PreCommit}
 use Rattle.vss_world.proofs.Words.{Release, Said, Session, SetFails, SetOutcome, SetRow, SetsBelow, State, VssResult, Write, WriterRow, after, after_by, all_say, begun, by_if, cleared, concluded}
 use Rattle.vss_world.proofs.Words.{course_answered, course_begun, course_stepped, course_timed, covered, cut_set, ending, failed_in, has_no_volume, has_said, idle_now, in_progress, is_over_volumes}
 use Rattle.vss_world.proofs.Words.{is_running, later, left, left_from, left_now, member_if, members_from, members_of, next_member, next_volume, open_group, places, put, reverted_as, row_changed}
@@ -27,22 +27,15 @@ in_said : (s : Plan) (said : Said) (now : ℕ) (ws : List ℕ) (a : Option Agend
 in_said s said now ws None h = tt
 in_said s said now ws (Some a) h = h
 
-in_told : (s : Plan) (o : Order) (said : Said) (now : ℕ) (ws : List ℕ) (c : Course) → IsCourseIn s c → IsCourseIn s (told o said now ws c)
-unfolding told
-in_told s o said now ws c h = (in_said s said now ws c.agenda h.0, h.1, h.2)
-
 in_worked : (s : Plan) (now : ℕ) (c : Course) → IsCourseIn s c → IsCourseIn s (worked now c)
 unfolding worked
 in_worked s now c h = (in_said s Ok now (next_member (left c.agenda) ∷ []) c.agenda h.0, h.1, h.2)
 
-in_posted : (s : Plan) (before c : Course) → IsCourseIn s c → IsCourseIn s (posted before c)
-unfolding posted
-in_posted s before c h = h
-
 in_course : (s : Plan) → IsKeptInCourse (IsCourseIn s)
+unfolding posted told
 in_course s = record {
-  posts = in_posted s;
-  says = λ o said now ws. in_told s o said now ws;
+  posts = λ before c h. h;
+  says = λ o said now ws c h. (in_said s said now ws c.agenda h.0, h.1, h.2);
   works = in_worked s;
   fails = in_failed s;
   closes = λ k c h. (tt, h.1, h.2);

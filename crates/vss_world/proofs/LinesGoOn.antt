@@ -3,8 +3,7 @@ use Rattle.std.proofs.Common.{◌≡◌, ℕ, ◌==◌, [], refl, ap, sym, ◌�
 use Rattle.vss_world.proofs.Words.{AsyncCancelled, AsyncPending, BadState, Calls, Coded, Covers, Event, Go, IsOfSession, Line, Mark, Op, Plan, Refused, Replied, Session, SetRow, Start, State, Target}
 use Rattle.vss_world.proofs.Words.{Verdict, VssResult, allows, by_if, call_in, call_of, check, check_other, covered, enabled, failed, find-append_new, has_no_volume, has_writers, in_progress, is_add}
 use Rattle.vss_world.proofs.Words.{is_to_come, judged, line, line_in, new_set, none_after, none_runs, not_started, other_goes, owner_only, runs, target_in, verdict_of, volumes_of}
-use Rattle.vss_model.specs.Words.{Blocked, Reply}
-use Rattle.vss_model.specs.Words.{line_of}
+use Rattle.vss_model.specs.Words.{Blocked, Reply, line_of}
 use Rattle.set_agenda.specs.declared.kind.Kind.TheVariants as kind
 use Rattle.set_agenda.specs.Course.{released}
 use Rattle.requestor.specs.declared.session_call.SessionCall.TheVariants as call

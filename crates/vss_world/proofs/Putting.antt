@@ -10,8 +10,7 @@ use Rattle.vss_model.specs.Words.{put, reply_of_mark, set_loses_image, slots_of,
 use Rattle.provider.specs.Words.{Cause, Ghosts, Payload}
 use Rattle.vss_world.specs.Words.{IsFailed, IsInOrder, IsOf as IsSessionsOf, Keeps, Leaves, SessionsValue, current_of}
 use Rattle.vss_model.proofs.Words.{UpTo, image_runs, images_up_to, new-is, newest_number, none_after, orderly, some_rows}
-use Rattle.provider.proofs.Kept.{kept_same}
-use Rattle.provider.proofs.Kept.{kept_trans}
+use Rattle.provider.proofs.Kept.{kept_same, kept_trans}
 use Rattle.provider.proofs.Words.{AreGroups, AreKept, AreWithout, HasCause, IsLastSet, IsPut, ProviderValue, counts_of, devices_of, fault_of, images_going}
 use Rattle.provider.proofs.Words.{number_is as own_number, put_if, slice_get_inside, slice_get_map}
 use Rattle.vss_world.proofs.Words.{IfStands, IsBlocked, IsInPlan, IsMoved, IsOf, IsPrepared, IsWriteBy, IsWriteLine, MakesRoom, RoseFor, Stands, StandsAt, WorldValue, comes, current_kept, is_to_come}

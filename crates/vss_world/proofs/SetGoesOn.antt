@@ -9,10 +9,9 @@ use Rattle.vss_world.proofs.Words.{ended_of, ending, ending_idle, ending_on, end
 use Rattle.vss_world.proofs.Words.{has_said, in_progress, is_among, is_done, is_orders, is_running, is_snapshot, is_to_come, level_code, none_after, number-cut, open_place, outcome_after, plain}
 use Rattle.vss_world.proofs.Words.{row_cut, row_settled, runs, same_place, settled_if, settled_row, step_made, true_not_false, unspoken, volumes-row_cut_if, volumes_of}
 use Rattle.set_agenda.specs.declared.kind.Kind.TheVariants.{Complete}
-use Rattle.set_agenda.specs.Course.{begun, posted, settled}
+use Rattle.set_agenda.specs.Course.{begun, posted, settled, failed as course_failed}
 use Rattle.vss_model.specs.Ending.{followed}
 use Rattle.vss_world.proofs.CommitLog.{committed_at_end, never_done}
-use Rattle.set_agenda.specs.Course.{failed as course_failed}
 
 -- ## what writers say
 
