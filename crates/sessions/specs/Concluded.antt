@@ -1,7 +1,8 @@
 -- What a move comes to: the reply that is told, which set ends, and whose images go. (This project's own.)
 use Rattle.std.specs.Prelude.{ℕ, List, map, Option, Some, None, Result, Ok, Err}
-use Rattle.vss_model.specs.Words.{AddFault, AlreadyExists, Backup, Context, Failed, History, NotFound, ObjectAlreadyExists, ObjectNotFound, Order, OutOfMemory, Running, SetOutcome, Told, after_agenda}
+use Rattle.vss_model.specs.Words.{AddFault, AlreadyExists, Backup, Context, Failed, History, NotFound, ObjectAlreadyExists, ObjectNotFound, Order, OutOfMemory, Running, SetOutcome, after_agenda}
 use Rattle.vss_model.specs.Words.{dropped, lost_order, released, row_settled}
+use Rattle.sessions.specs.Words.{Told}
 use Rattle.component_doc.specs.declared.add_fault.AddFault.TheVariants as fault
 use Rattle.vss_model.specs.declared.told.Told.TheVariants as told
 use Rattle.sessions.specs.declared.ended.Ended.{Ended}

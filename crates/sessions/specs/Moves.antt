@@ -2,11 +2,11 @@
 -- reply and effects are those of the definitions, and after which what is kept stands for the state after it. (This
 -- project's own.)
 use Rattle.std.specs.Prelude.{ℕ, ◌≡◌, Bool, true, false, List, [], Option, Some, None}
-use Rattle.vss_model.specs.Words.{Add, All, AsyncPending, Clean, Component, Components, Course, Document, EndsAs, Event, Fits, Go, Group, HasLists, Held, History, IsOutcome, Kind, Mode, Op, Order}
-use Rattle.vss_model.specs.Words.{Plan, Provider, Reply, Session, SessionCall, SetRow, Start, State, Told, VssResult, WriterRow, after, check, document_text, enabled, ended_of, event_allows}
-use Rattle.vss_model.specs.Words.{failed_in, followed, in_progress, known_metas, left_now, line_in, lost_after, lost_order_if, mark_of, next_volume, open_group, order_now, released, selected}
-use Rattle.vss_model.specs.Words.{step_made, stepped_as, ticked, told_act, volumes_of, writers_of}
-use Rattle.sessions.specs.Words.{Effects, Tells, begun_as, runs, works}
+use Rattle.vss_model.specs.Words.{Add, All, AsyncPending, Clean, Component, Components, Course, Document, EndsAs, Fits, Go, Group, HasLists, Held, History, IsOutcome, Kind, Mode, Op, Order, Plan}
+use Rattle.vss_model.specs.Words.{Reply, Session, SessionCall, SetRow, Start, State, VssResult, WriterRow, after, check, document_text, enabled, ended_of, event_allows, failed_in, followed}
+use Rattle.vss_model.specs.Words.{in_progress, known_metas, left_now, line_in, lost_after, lost_order_if, mark_of, next_volume, open_group, order_now, released, selected, step_made, stepped_as}
+use Rattle.vss_model.specs.Words.{ticked, told_act, volumes_of, writers_of}
+use Rattle.sessions.specs.Words.{Effects, Event, Provider, Tells, Told, begun_as, runs, works}
 use Rattle.scenario.specs.declared.op.Op.TheVariants.{Gather, Prepare, Snapshot, Complete}
 use Rattle.vss_model.specs.declared.told.Told.TheVariants as told
 use Rattle.sessions.specs.declared.called.Called.{Called}

@@ -53,10 +53,6 @@ pub use Rattle.vss_model.specs.State.{left_now, row_changed, row_of, row_of_writ
 pub use Rattle.vss_model.specs.Steps.{cut_each, cut_if, cut_set, is_failed_step, is_flush, later, row_cut, step_made, stepped_as, ticked, with_cut}
 pub use Rattle.vss_model.specs.Told.{Fits, IsDigestIf, IsFirstIf, mark_if, mark_of}
 pub use Rattle.vss_model.specs.Trail.{act_of, is_fault}
-pub use Rattle.vss_model.specs.declared.event.Event.{Event}
-pub use Rattle.vss_model.specs.declared.event.Event.TheVariants.{Answer, Idle, Line, Provider}
-pub use Rattle.vss_model.specs.declared.outcome.Outcome.{Outcome}
-pub use Rattle.vss_model.specs.declared.told.Told.{Told}
 pub use Rattle.vss_names.specs.Faults.{Rose}
 pub use Rattle.vss_names.specs.declared.context.Context.{Context}
 pub use Rattle.vss_names.specs.declared.context.Context.TheVariants.{Backup}

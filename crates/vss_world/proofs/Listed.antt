@@ -1,7 +1,8 @@
 -- The list of sets after a step: a move that lists no sets leaves it empty, and what the core stands for is as it was.
 use Rattle.std.proofs.Common.{◌≡◌, ℕ, List, [], refl, ap, ◌∙◌, Bool, true, false, Option, if◌then◌else◌}
 use Rattle.vss_world.proofs.Words.{Blocked, IsStepped, Moved, Reply as Answer, Stands, StatusOf, WorldValue, listed_after, lists_sets, tells_of}
-use Rattle.vss_model.specs.Words.{Act, Event, Fits, HasLists, KeptSets, Plan, Reply, Told, WriterRow, reply, state, told_act}
+use Rattle.vss_model.specs.Words.{Act, Fits, HasLists, KeptSets, Plan, Reply, WriterRow, reply, state, told_act}
+use Rattle.vss_world.specs.Words.{Event, Told}
 
 if_listed : (b : Bool) (listed : List ℕ) → b ≡ true → (if b then listed else []) ≡ listed
 if_listed true listed e = refl

@@ -2,13 +2,13 @@
 use Rattle.std.proofs.Common.{◌≡◌, ℕ, zero, suc, ◌<◌, ◌≤◌, ◌==◌, List, [], ◌∷◌, length, refl, ap, sym, ◌∙◌, subst, arith, Bool, true, false, Option, Some, None, map, filter, slice_get}
 use Rattle.std.specs.Prelude.{option_map, is_some, not, ◌&&◌, ◌||◌, if◌then◌else◌, Result, Ok, Err}
 use Rattle.std.proofs.lemmas.Bool.{and_parts, eqb-true, not-true}
-use Rattle.vss_model.specs.Words.{Act, Agenda, EndsAs, Evicted, Failed, Fits, HasLists, History, Image, InsufficientStorage, IsBlock, Line, Mark, Op, Outcome, Placed, Plan, Replied, Reply, Running}
-use Rattle.vss_model.specs.Words.{SetOutcome, SetRow, State, Write, WriterRow, Writes, act_of, acts_as, after, allows_by, change_at, cleared, does, dropped, ended_of, evicted, evicted_at, evicted_for}
-use Rattle.vss_model.specs.Words.{failed_in, going_up_to, gone_up_to, group_of, has_image, has_lost_image, history_in, history_of, images_dropped, in_progress, is_free, is_held, is_kept_set}
-use Rattle.vss_model.specs.Words.{is_running, left_now, line, line_allows, line_enabled, line_of, lost, lost_after, lost_order_if, mark_of, may_do, may_write, order_now, placed, placed_in, point_in}
-use Rattle.vss_model.specs.Words.{put, reply_of_mark, set_loses_image, slots_of, state, target_in, ticks_by, with_room, with_room_if, written}
+use Rattle.vss_model.specs.Words.{Act, Agenda, EndsAs, Evicted, Failed, Fits, HasLists, History, Image, InsufficientStorage, IsBlock, Mark, Op, Placed, Plan, Replied, Reply, Running, SetOutcome}
+use Rattle.vss_model.specs.Words.{SetRow, State, Write, WriterRow, Writes, act_of, acts_as, after, allows_by, change_at, cleared, does, dropped, ended_of, evicted, evicted_at, evicted_for, failed_in}
+use Rattle.vss_model.specs.Words.{going_up_to, gone_up_to, group_of, has_image, has_lost_image, history_in, history_of, images_dropped, in_progress, is_free, is_held, is_kept_set, is_running}
+use Rattle.vss_model.specs.Words.{left_now, line, line_allows, line_enabled, line_of, lost, lost_after, lost_order_if, mark_of, may_do, may_write, order_now, placed, placed_in, point_in, put}
+use Rattle.vss_model.specs.Words.{reply_of_mark, set_loses_image, slots_of, state, target_in, ticks_by, with_room, with_room_if, written}
+use Rattle.vss_world.specs.Words.{IsFailed, IsInOrder, IsOf as IsSessionsOf, Keeps, Leaves, Line, Outcome, SessionsValue, current_of}
 use Rattle.provider.specs.Words.{Cause, Ghosts, Payload}
-use Rattle.vss_world.specs.Words.{IsFailed, IsInOrder, IsOf as IsSessionsOf, Keeps, Leaves, SessionsValue, current_of}
 use Rattle.vss_model.proofs.Words.{UpTo, image_runs, images_up_to, new-is, newest_number, none_after, orderly, some_rows}
 use Rattle.provider.proofs.Kept.{kept_same, kept_trans}
 use Rattle.provider.proofs.Words.{AreGroups, AreKept, AreWithout, HasCause, IsLastSet, IsPut, ProviderValue, counts_of, devices_of, fault_of, images_going}

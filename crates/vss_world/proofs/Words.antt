@@ -10,7 +10,28 @@ pub use Rattle.provider.proofs.InGroup.{find_same}
 pub use Rattle.provider.proofs.Kept.{kept_same, kept_trans, later_same, tells_of-at}
 pub use Rattle.provider.proofs.Places.{blocks_there}
 pub use Rattle.std.proofs.lemmas.List.{map-append}
-pub use Rattle.vss_model.specs.Words.{StatusOf}
+pub use Rattle.vss_model.specs.Words.{Act, Agenda, AgendaEnds, AllLive, AreInTime, AreLater, AreLive, AsyncCancelled, AsyncPending, BackEnd, BackupComplete, BadState, BlockOf, BlocksOf, Calls, Clean}
+pub use Rattle.vss_model.specs.Words.{Coded, Commit, Complete, Copy, Course, Cut, DeleteImage, DeleteSet, Deleted, Differ, Distinct, End, Ending, EndsAs, Entry, Evicted, Failed, Fault, FaultAfter}
+pub use Rattle.vss_model.specs.Words.{Faulted, FaultedAfter, Fine, Fits, Flush, Freeze, FrontEnd, Gather, Go, Group, HasLists, HasNames, History, Hold, Identify, Image, ImageBlock, ImageDigest}
+pub use Rattle.vss_model.specs.Words.{IsBlock, IsDigestIf, IsFirstIf, IsInGroup, IsNewest, IsOfSession, IsOp, IsOutcome, IsPlan, Kept, KeptSets, Kind, Level, Mark, MaximumNumberOfSnapshotsReached}
+pub use Rattle.vss_model.specs.Words.{MaximumNumberOfVolumesReached, Member, Meta, Metadata, NothingEnds, NumberedFrom, ObjectAlreadyExists, ObjectNotFound, Ok, Op, Open, Order, Orders, OverButNewest}
+pub use Rattle.vss_model.specs.Words.{Pair, Place, Placed, Plan, PostCommit, PreCommit, Prepare, PrepareBackup, PrepareSnapshot, Properties, PropertiesOf, Query, Read, Refused, Release, Replied}
+pub use Rattle.vss_model.specs.Words.{Revert, Running, Said, Session, SetFails, SetOutcome, SetRow, Snapshot, SnapshotSetInProgress, Span, Start, State, StatusOf, System, Target, Tick}
+pub use Rattle.vss_model.specs.Words.{UnexpectedProviderError, UnsupportedContext, Verdict, VolumeRow, VssResult, Write, WriterPlan, WriterRow, act_of, add, add_refusal, add_to, after, after_if}
+pub use Rattle.vss_model.specs.Words.{after_set, all_say, allows, are_distinct, at_level, at_place, begun, blocks_in_group, blocks_named, blocks_of, bytes_of, call_in, call_of, change_at, change_set}
+pub use Rattle.vss_model.specs.Words.{check, check_other, cleared, concluded, content, contents, copies, copies_from, copies_of, copy_of, count_images, course_start, cut, cut_each, cut_if, cut_set}
+pub use Rattle.vss_model.specs.Words.{delete_kept, dropped, enabled, ended_of, ending, event_allows, evicted, evicted_for, evicted_of, evicted_up_to, failed, failed_in, first_row, followed, fresh}
+pub use Rattle.vss_model.specs.Words.{going_up_to, gone_up_to, group_code, group_of, group_slots, group_used, groups_left, happens, has_failed, has_image, has_lost_image, has_no_volume, has_said}
+pub use Rattle.vss_model.specs.Words.{has_writers, head_or_0, history_in, history_of, idle_now, image_block, image_blocks, in_progress, is_among, is_backup, is_complete, is_cut_group, is_done}
+pub use Rattle.vss_model.specs.Words.{is_failed_step, is_fault, is_flush, is_held, is_in_set, is_kept_set, is_live, is_orders, is_over_volumes, is_running, is_snapshot, is_working, judged, kept}
+pub use Rattle.vss_model.specs.Words.{kept_at, kept_if, kept_image, kept_of, lacks_slot, later, left, left_from, left_now, level_code, line, line_allows, line_enabled, line_in, lost, lost_order_if}
+pub use Rattle.vss_model.specs.Words.{mark_if, mark_of, may_stop_after, member_if, members_from, members_of, meta_of, named, needs_slot_in, new_set, next_member, next_volume, of_group, open_group}
+pub use Rattle.vss_model.specs.Words.{open_place, order_now, outcome_after, owner_only, placed, places, plain, point_in, properties, put, read_as, refused, reply, restorable, revert_refusal}
+pub use Rattle.vss_model.specs.Words.{revert_to, reverted, reverted_as, reverted_in_part, row_changed, row_cut, row_gathered, row_of, row_of_writer, row_settled, runs, said_of, same_place}
+pub use Rattle.vss_model.specs.Words.{set_loses_image, sets_of, settled_if, settled_in, start, state, step_made, stepped, stepped_as, target_in, timed, to_restore, token, told_act, used, used_by}
+pub use Rattle.vss_model.specs.Words.{verdict_of, volume_if, volumes_losing, volumes_of, waited_for, with_cut, with_group, with_room, with_room_if, with_volume, without_set, writer_spans}
+pub use Rattle.vss_model.specs.Words.{writes_since, written}
+pub use Rattle.vss_world.specs.Words.{Answer, Event, Idle, Line, Outcome, Provider, Told}
 pub use Rattle.provider.specs.Words.{AllTell, AreStored, Area, Cause, Digested, Ghosts, GroupValue, IsBytes, NoSuchBlock, Volume, sha256, told_in}
 pub use Rattle.std.proofs.Math.Seq.{drop-length}
 pub use Rattle.std.proofs.lemmas.Bool.{and_from, and_parts, both_ways, cond-false, cond-true, cond_both, eq-eqb, eqb-false, eqb-true, false_from_ne_true, false≢true, le-leb, le-ltb, leb-false, lt-leb}
@@ -33,27 +54,6 @@ pub use Rattle.vss_model.proofs.Words.{ends_settle, fewer_wait, find-append_new,
 pub use Rattle.vss_model.proofs.Words.{image_once_cut, image_runs, images_in_time, images_up_to, in_log, kind_is, live-filter, live_at, named_known_components, new-is, new_said, newest_image}
 pub use Rattle.vss_model.proofs.Words.{newest_number, no_live_below, no_names, none_after, none_below, none_ends, none_over, none_runs, number-cut, numbered-map, or-false, orderly, other_goes}
 pub use Rattle.vss_model.proofs.Words.{outcome_is_running, room_with_image, row_number, running_incomplete, settled_row, state-append, tied, true_not_false, uncut_at_cut, unspoken, volumes-row_cut_if}
-pub use Rattle.vss_model.specs.Words.{Act, Agenda, AgendaEnds, AllLive, Answer, AreInTime, AreLater, AreLive, AsyncCancelled, AsyncPending, BackEnd, BackupComplete, BadState, BlockOf, BlocksOf, Calls}
-pub use Rattle.vss_model.specs.Words.{Clean, Coded, Commit, Complete, Copy, Course, Cut, DeleteImage, DeleteSet, Deleted, Differ, Distinct, End, Ending, EndsAs, Entry, Event, Evicted, Failed, Fault}
-pub use Rattle.vss_model.specs.Words.{FaultAfter, Faulted, FaultedAfter, Fine, Fits, Flush, Freeze, FrontEnd, Gather, Go, Group, HasLists, HasNames, History, Hold, Identify, Idle, Image, ImageBlock}
-pub use Rattle.vss_model.specs.Words.{ImageDigest, IsBlock, IsDigestIf, IsFirstIf, IsInGroup, IsNewest, IsOfSession, IsOp, IsOutcome, IsPlan, Kept, KeptSets, Kind, Level, Line, Mark}
-pub use Rattle.vss_model.specs.Words.{MaximumNumberOfSnapshotsReached, MaximumNumberOfVolumesReached, Member, Meta, Metadata, NothingEnds, NumberedFrom, ObjectAlreadyExists, ObjectNotFound, Ok, Op}
-pub use Rattle.vss_model.specs.Words.{Open, Order, Orders, Outcome, OverButNewest, Pair, Place, Placed, Plan, PostCommit, PreCommit, Prepare, PrepareBackup, PrepareSnapshot, Properties, PropertiesOf}
-pub use Rattle.vss_model.specs.Words.{Provider, Query, Read, Refused, Release, Replied, Revert, Running, Said, Session, SetFails, SetOutcome, SetRow, Snapshot, SnapshotSetInProgress, Span, Start}
-pub use Rattle.vss_model.specs.Words.{State, System, Target, Tick, Told, UnexpectedProviderError, UnsupportedContext, Verdict, VolumeRow, VssResult, Write, WriterPlan, WriterRow, act_of, add}
-pub use Rattle.vss_model.specs.Words.{add_refusal, add_to, after, after_if, after_set, all_say, allows, are_distinct, at_level, at_place, begun, blocks_in_group, blocks_named, blocks_of, bytes_of}
-pub use Rattle.vss_model.specs.Words.{call_in, call_of, change_at, change_set, check, check_other, cleared, concluded, content, contents, copies, copies_from, copies_of, copy_of, count_images}
-pub use Rattle.vss_model.specs.Words.{course_start, cut, cut_each, cut_if, cut_set, delete_kept, dropped, enabled, ended_of, ending, event_allows, evicted, evicted_for, evicted_of, evicted_up_to}
-pub use Rattle.vss_model.specs.Words.{failed, failed_in, first_row, followed, fresh, going_up_to, gone_up_to, group_code, group_of, group_slots, group_used, groups_left, happens, has_failed}
-pub use Rattle.vss_model.specs.Words.{has_image, has_lost_image, has_no_volume, has_said, has_writers, head_or_0, history_in, history_of, idle_now, image_block, image_blocks, in_progress, is_among}
-pub use Rattle.vss_model.specs.Words.{is_backup, is_complete, is_cut_group, is_done, is_failed_step, is_fault, is_flush, is_held, is_in_set, is_kept_set, is_live, is_orders, is_over_volumes}
-pub use Rattle.vss_model.specs.Words.{is_running, is_snapshot, is_working, judged, kept, kept_at, kept_if, kept_image, kept_of, lacks_slot, later, left, left_from, left_now, level_code, line}
-pub use Rattle.vss_model.specs.Words.{line_allows, line_enabled, line_in, lost, lost_order_if, mark_if, mark_of, may_stop_after, member_if, members_from, members_of, meta_of, named, needs_slot_in}
-pub use Rattle.vss_model.specs.Words.{new_set, next_member, next_volume, of_group, open_group, open_place, order_now, outcome_after, owner_only, placed, places, plain, point_in, properties, put}
-pub use Rattle.vss_model.specs.Words.{read_as, refused, reply, restorable, revert_refusal, revert_to, reverted, reverted_as, reverted_in_part, row_changed, row_cut, row_gathered, row_of}
-pub use Rattle.vss_model.specs.Words.{row_of_writer, row_settled, runs, said_of, same_place, set_loses_image, sets_of, settled_if, settled_in, start, state, step_made, stepped, stepped_as, target_in}
-pub use Rattle.vss_model.specs.Words.{timed, to_restore, token, told_act, used, used_by, verdict_of, volume_if, volumes_losing, volumes_of, waited_for, with_cut, with_group, with_room, with_room_if}
-pub use Rattle.vss_model.specs.Words.{with_volume, without_set, writer_spans, writes_since, written}
 pub use Rattle.vss_world.specs.Words.{CoordinatorState, IsAt, IsAtOver, IsInOrder, IsMove, IsNextStep, IsOnTime, IsStandingIn, IsWait, Keeps, Leaves, LeavesWithin, MayAdd, RegisterFault, Registered}
 pub use Rattle.vss_world.specs.Words.{SessionMove, SessionsValue, SetFacts, after_move, classes_registered, current_of, double_of, event_volumes, facts_of, failed_set, images_after, is_add, later_by}
 pub use Rattle.vss_world.specs.Words.{place_of, registered_in, told_alone, without_images, writer_count}

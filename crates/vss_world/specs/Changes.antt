@@ -1,9 +1,9 @@
 -- What a step does to the provider: a line writes a block, for which kept images may go; and where a move of the sessions ends the set
 -- that is prepared, the provider prepares none any more. (This project's own.)
 use Rattle.std.specs.Prelude.{ℕ, ◌≡◌, Bool, true, false, zero, suc, List, [], filter, Option, Some, None, Result, Ok, Err}
-use Rattle.vss_model.specs.Words.{AsyncPending, Complete, Evicted, Failed, Op, Plan, Running, SetOutcome, State, Told, Write, Writes, gone_up_to, group_of, is_kept_set, line_of}
+use Rattle.vss_model.specs.Words.{AsyncPending, Complete, Evicted, Failed, Op, Plan, Running, SetOutcome, State, Write, Writes, gone_up_to, group_of, is_kept_set, line_of}
+use Rattle.vss_world.specs.Words.{AreGroups, AreWithout, GoUpTo, HasRoom, IfStandFor, IsCallOn, Keeps, ProviderValue, SessionMove, SessionsValue, Told, devices_of, images_going}
 use Rattle.provider.specs.Words.{Cause, Ghosts, payload_bytes}
-use Rattle.vss_world.specs.Words.{AreGroups, AreWithout, GoUpTo, HasRoom, IfStandFor, IsCallOn, Keeps, ProviderValue, SessionMove, SessionsValue, devices_of, images_going}
 use Rattle.scenario.specs.declared.op.Op.TheVariants.{Snapshot}
 use Rattle.scenario.specs.declared.line.Line.{Line}
 use Rattle.vss_model.specs.declared.told.Told.TheVariants as told

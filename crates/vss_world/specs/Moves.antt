@@ -1,9 +1,9 @@
 -- What a step of the core promises: it waits exactly where the event is not enabled, and else it is answered as defined, and stands for
 -- the acts with this one. (This project's own.)
 use Rattle.std.specs.Prelude.{ℕ, ◌≡◌, ◌<◌, Bool, true, false, List, [], ◌∷◌, ◌++◌, length, map, if◌then◌else◌, Option, Some, None, slice_get}
-use Rattle.vss_model.specs.Words.{Act, Answer as AnswerEvent, Event, Flush, IsOp, IsOutcome, Line, Op, Outcome, Plan, Provider, Reads, Reverts, Running, ShowsBlock, ShowsImage, Told, WriterRow}
-use Rattle.vss_model.specs.Words.{Writes, after, enabled, event_allows, is_fault, line_of, mark_of, state, told_act}
-use Rattle.vss_world.specs.Words.{AreLater, takes_memory as takes_for, volume_place}
+use Rattle.vss_model.specs.Words.{Act, Flush, IsOp, IsOutcome, Op, Plan, Reads, Reverts, Running, ShowsBlock, ShowsImage, WriterRow, Writes, after, enabled, event_allows, is_fault, line_of, mark_of}
+use Rattle.vss_model.specs.Words.{state, told_act}
+use Rattle.vss_world.specs.Words.{Answer as AnswerEvent, AreLater, Event, Line, Outcome, Provider, Told, takes_memory as takes_for, volume_place}
 use Rattle.scenario.specs.declared.line.Line.{Line as Does}
 use Rattle.vss_model.specs.declared.told.Told.TheVariants as told
 use Rattle.vss_world.specs.declared.reply.Reply.{Reply}

@@ -11,3 +11,7 @@ pub use Rattle.sessions.specs.Moves.{IsAtOver, IsFailed, IsMove, IsNextStep, IsW
 pub use Rattle.sessions.specs.Sets.{current_of, facts_of}
 pub use Rattle.sessions.specs.declared.session_move.SessionMove.{SessionMove}
 pub use Rattle.sessions.specs.declared.set_facts.SetFacts.{SetFacts}
+pub use Rattle.vss_model.specs.declared.event.Event.{Event}
+pub use Rattle.vss_model.specs.declared.event.Event.TheVariants.{Answer, Idle, Line, Provider}
+pub use Rattle.vss_model.specs.declared.outcome.Outcome.{Outcome}
+pub use Rattle.vss_model.specs.declared.told.Told.{Told}
