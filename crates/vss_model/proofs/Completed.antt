@@ -2,6 +2,7 @@
 use Rattle.std.proofs.Common.{◌≡◌, ℕ, ◌+◌, ◌==◌, ◌<◌, zero, suc, List, [], ◌∷◌, ◌++◌, ◌⊎◌, Option, Some, None, refl, Bool, true, false, map, filter, length, ap, sym, ◌∙◌, subst, find, fold, inl, inr, arith}
 use Rattle.std.specs.Prelude.{is_some, option_map, ◌&&◌, ◌||◌, not, if◌then◌else◌}
 use Rattle.std.proofs.lemmas.List.Folds.{list_any-append}
+use Rattle.std.proofs.lemmas.Bool.{and_parts, eq-eqb, or_parts}
 use Rattle.vss_names.specs.declared.context.Context.{Context}
 use Rattle.vss_names.specs.declared.level.Level.TheVariants.{System, BackEnd, FrontEnd}
 use Rattle.vss_names.specs.declared.order.Order.TheVariants.{PrepareSnapshot, Freeze}
@@ -34,9 +35,9 @@ use Rattle.vss_model.specs.Acts.{idle_now, Act, after, state}
 use Rattle.vss_model.specs.Cut.{is_cut_group}
 use Rattle.vss_model.specs.Facts.{NumberedFrom, has_failed}
 use Rattle.vss_model.proofs.Appending.{state-append}
-use Rattle.vss_model.proofs.ByEvent.{Covers, Next, after_covered}
+use Rattle.vss_model.proofs.ByEvent.{Covers, Next, after_covered, some_same}
 use Rattle.vss_model.proofs.Rule.{no_set_of}
-use Rattle.vss_model.proofs.Orderly.{true_not_false}
+use Rattle.vss_model.proofs.Orderly.{true_not_false, other_way}
 use Rattle.vss_model.proofs.OrderlyActs.{Moves, MovesOn, moves_answered, moves_stepped, moves_timed, ending_on, orderly}
 use Rattle.vss_model.proofs.CourseCalls.{Settles, Says, Call, call_answered, call_stepped, call_timed}
 use Rattle.vss_model.proofs.LogRule.{unspoken}
@@ -59,10 +60,6 @@ abbrev Made : Option Agenda → Type 0
 Made None = ⊥
 Made (Some a) = is_cut_made a.log ≡ true
 
-both_parts : (a b : Bool) → (a && b) ≡ true → (a ≡ true) × (b ≡ true)
-both_parts true b e = (refl, e)
-both_parts false b e = absurd cc
-
 -- what is said elsewhere is no Cut step
 made_back : (said : Said) (now : ℕ) (ws : List ℕ) (a : Agenda) → is_cut_group (open_group (groups_left a)) ≡ false → is_cut_made (all_say said now ws a).log ≡ true → is_cut_made a.log ≡ true
 made_back said now ws a e f =
@@ -73,7 +70,7 @@ made_back said now ws a e f =
     by_cases true c g h = refl
     by_cases false false g h = absurd cc
     by_cases false true g h =
-        let parts = both_parts (same_place (open_place (groups_left a)) (plain Cut)) (is_among 0 ws) (new_said (open_place (groups_left a)) (plain Cut) said now 0 ws g) in
+        let parts = and_parts (same_place (open_place (groups_left a)) (plain Cut)) (is_among 0 ws) (new_said (open_place (groups_left a)) (plain Cut) said now 0 ws g) in
         absurd (true_not_false (is_cut_group (open_group (groups_left a))) (cut_open (groups_left a) parts.0) e)
 
 -- where nothing is left of a snapshot's agenda, its Cut step is made
@@ -212,19 +209,12 @@ none_lost n m (p ∷ ps) (x ∷ hs) e zero f = here (has_image n x) (has_image n
     here true true c e f = refl
     here true false c e f = absurd cc
     here false b c e f = absurd cc
-none_lost n m (p ∷ ps) (x ∷ hs) e (suc v) f = none_lost n m ps hs (later (has_image n x && not (has_image n (at (gone_up_to m (p ∷ ps) (x ∷ hs)) 0))) (has_lost_image n hs (gone_up_to m ps hs)) e) v f
-  where
-    later : (a b : Bool) → (a || b) ≡ false → b ≡ false
-    later true b e = absurd cc
-    later false b e = e
+none_lost n m (p ∷ ps) (x ∷ hs) e (suc v) f = none_lost n m ps hs (or_parts (has_image n x && not (has_image n (at (gone_up_to m (p ∷ ps) (x ∷ hs)) 0))) (has_lost_image n hs (gone_up_to m ps hs)) e).1 v f
 
 -- the images that the Cut step gives
 last_has : (images : List Image) (n p : ℕ) → is_some (point_in n (images ++ record { set = n; point = p } ∷ [])) ≡ true
-last_has [] n p = found (n == n) (own n)
+last_has [] n p = found (n == n) (eq-eqb n n refl)
   where
-    own : (a : ℕ) → (a == a) ≡ true
-    own a = grind arith
-
     found : (b : Bool) → b ≡ true → is_some (if b then Some p else None) ≡ true
     found true e = refl
     found false e = absurd cc
@@ -313,8 +303,6 @@ unfolding stepped
 imaged_steps mark st e w h = imaged_stepped_as (is_failed_step (is_flush (open_group (left_now st))) mark) (open_group (left_now st)) st e e w h
 
 -- the Cut step gives the images
-some_same : (q r : SetRow) → Some q ≡ Some r → q ≡ r
-some_same q r e = cc
 
 imaged_by_cut : (q : SetRow) (st : State) (r : SetRow) → in_progress st ≡ Some q → in_progress (cut_set (Some q) st) ≡ Some r → Imaged r.number r.volumes (cut_set (Some q) st).volumes
 imaged_by_cut q st r e f =
@@ -373,10 +361,7 @@ imaged_revert s v k (FaultAfter n) st e h = imaged_other (reverted_in_part (bloc
 
 -- a complete set is not the one in progress
 complete_other : (st : State) (m : ℕ) (r : SetRow) → NumberedFrom 1 st.sets → in_progress st ≡ Some r → has_complete st.sets m ≡ true → (m == r.number) ≡ false
-complete_other st m r h e f = flip r.number m (apart (has_complete st.sets) r.number m (running_incomplete st.sets r h e) f)
-  where
-    flip : (a b : ℕ) → (a == b) ≡ false → (b == a) ≡ false
-    flip a b e = grind arith
+complete_other st m r h e f = other_way r.number m (apart (has_complete st.sets) r.number m (running_incomplete st.sets r h e) f)
 
 imaged_deletes_set : (n : ℕ) (st : State) → NumberedFrom 1 st.sets → has_complete st.sets n ≡ true → IsImaged st → IsImaged (record st { volumes = map (dropped n) st.volumes })
 imaged_deletes_set n st o e h r f m =

@@ -16,6 +16,7 @@ use Rattle.writer_meta.specs.Metadata.{Meta}
 use Rattle.component_doc.specs.Selection.{Pair, naming, Names, is_taker, takers, known_from as known_of}
 use Rattle.component_doc.specs.Over.{meta_at, is_selectable_of, names_selectable}
 use Rattle.std.specs.List.{list_all}
+use Rattle.std.proofs.lemmas.Bool.{and_parts, eqb-true, or_from, or_right}
 use Rattle.set_agenda.specs.declared.group.Group.{Group}
 use Rattle.set_agenda.specs.declared.group.Group.TheVariants.{Orders, PreCommit, Flush, Hold, Cut, Commit, Release, PostCommit}
 use Rattle.set_agenda.specs.declared.kind.Kind.{Kind}
@@ -199,9 +200,6 @@ gathered_begun s k ms vs now st e fit h = gathered_followed s true (begun k ms v
 
 -- ## who takes part is known
 
-equal : (a b : ℕ) → (a == b) ≡ true → a ≡ b
-equal a b e = grind arith
-
 pub known_if : (b : Bool) (m : Meta) → is_some (meta_if b m) ≡ true → b ≡ true
 known_if true m e = refl
 known_if false m e = absurd cc
@@ -233,20 +231,12 @@ pub selectable_known : (i : ℕ) (o : Option Meta) → is_selectable_of i o ≡ 
 selectable_known i None e = absurd cc
 selectable_known i (Some m) e = refl
 
-and_left : (a b : Bool) → (a && b) ≡ true → a ≡ true
-and_left true b e = refl
-and_left false b e = absurd cc
-
-and_right : (a b : Bool) → (a && b) ≡ true → b ≡ true
-and_right true b e = e
-and_right false b e = absurd cc
-
 pub named_known : (ms : List (Option Meta)) (ps : List Pair) (w : ℕ) → list_all (names_selectable ms) ps ≡ true → list_any (λ (p : Pair). p.writer == w) ps ≡ true → is_some (meta_at (slice_get ms w)) ≡ true
 named_known ms [] w e f = absurd cc
-named_known ms (p ∷ ps) w e f = by_head (p.writer == w) refl f (named_known ms ps w (and_right (names_selectable ms p) (list_all (names_selectable ms) ps) e))
+named_known ms (p ∷ ps) w e f = by_head (p.writer == w) refl f (named_known ms ps w (and_parts (names_selectable ms p) (list_all (names_selectable ms) ps) e).1)
   where
     by_head : (b : Bool) → (p.writer == w) ≡ b → (b || list_any (λ (x : Pair). x.writer == w) ps) ≡ true → (list_any (λ (x : Pair). x.writer == w) ps ≡ true → is_some (meta_at (slice_get ms w)) ≡ true) → is_some (meta_at (slice_get ms w)) ≡ true
-    by_head true g h ih = subst (λ x. is_some (meta_at (slice_get ms x)) ≡ true) (equal p.writer w g) (selectable_known p.component (meta_at (slice_get ms p.writer)) (and_left (names_selectable ms p) (list_all (names_selectable ms) ps) e))
+    by_head true g h ih = subst (λ x. is_some (meta_at (slice_get ms x)) ≡ true) (eqb-true p.writer w g) (selectable_known p.component (meta_at (slice_get ms p.writer)) (and_parts (names_selectable ms p) (list_all (names_selectable ms) ps) e).0)
     by_head false g h ih = ih h
 
 -- the writers that are known, from number k on
@@ -256,17 +246,13 @@ none_known_below (None ∷ ms) k n l = none_known_below ms (k + 1) n (next n k l
   where
     next : (a b : ℕ) → a < b → a < b + 1
     next a b l = omega (arith, l)
-none_known_below (Some m ∷ ms) k n l = neither (k == n) (list_any (λ x. x == n) (known_of (k + 1) ms)) (differs k n l) (none_known_below ms (k + 1) n (next n k l))
+none_known_below (Some m ∷ ms) k n l = or_from (k == n) (list_any (λ x. x == n) (known_of (k + 1) ms)) (differs k n l) (none_known_below ms (k + 1) n (next n k l))
   where
     next : (a b : ℕ) → a < b → a < b + 1
     next a b l = omega (arith, l)
 
     differs : (a b : ℕ) → b < a → (a == b) ≡ false
     differs a b l = grind arith
-
-    neither : (a b : Bool) → a ≡ false → b ≡ false → (a || b) ≡ false
-    neither true b e f = absurd cc
-    neither false b e f = f
 
 pub all_known : (ms : List (Option Meta)) (k n w : ℕ) → n ≡ k + w → list_any (λ x. x == n) (known_of k ms) ≡ true → is_some (meta_at (slice_get ms w)) ≡ true
 all_known [] k n w e f = absurd cc
@@ -293,7 +279,7 @@ all_known (Some m ∷ ms) k n (suc w) e f = all_known ms (k + 1) n w (shift n k 
 
 taker_known : (mode : Mode) (s : Plan) (st : State) (w : ℕ) → AreOver (known_metas s st) st.explicit → is_taker (selected_in mode s st) w ≡ true → is_unfit st.course.rows w ≡ false
 taker_known Components s st w over e =
-    fit_of s st w (named_known (known_metas s st) st.explicit w (and_left (list_all (names_selectable (known_metas s st)) st.explicit) _ over) e)
+    fit_of s st w (named_known (known_metas s st) st.explicit w (and_parts (list_all (names_selectable (known_metas s st)) st.explicit) _ over).0 e)
 taker_known All s st w over e = fit_of s st w (all_known (known_metas s st) 0 w w (plus w) e)
   where
     plus : (a : ℕ) → a ≡ 0 + a
@@ -304,7 +290,7 @@ filter_passes test w [] e = absurd cc
 filter_passes test w (x ∷ xs) e = by_test (test x) refl e (filter_passes test w xs)
   where
     by_head : (b : Bool) → (x == w) ≡ b → test x ≡ true → (b || is_among w (filter test xs)) ≡ true → (is_among w (filter test xs) ≡ true → test w ≡ true) → test w ≡ true
-    by_head true f g h ih = subst (λ y. test y ≡ true) (equal x w f) g
+    by_head true f g h ih = subst (λ y. test y ≡ true) (eqb-true x w f) g
     by_head false f g h ih = ih h
 
     by_test : (b : Bool) → test x ≡ b → is_among w (if b then x ∷ filter test xs else filter test xs) ≡ true → (is_among w (filter test xs) ≡ true → test w ≡ true) → test w ≡ true
@@ -316,7 +302,7 @@ member_passes test k [] w e = absurd cc
 member_passes test k (r ∷ rows) w e = by_test (test k) refl e (member_passes test (k + 1) rows w)
   where
     by_head : (b : Bool) → (k == w) ≡ b → test k ≡ true → (b || is_member (members_from test (k + 1) rows) w) ≡ true → (is_member (members_from test (k + 1) rows) w ≡ true → test w ≡ true) → test w ≡ true
-    by_head true f g h ih = subst (λ y. test y ≡ true) (equal k w f) g
+    by_head true f g h ih = subst (λ y. test y ≡ true) (eqb-true k w f) g
     by_head false f g h ih = ih h
 
     by_test : (b : Bool) → test k ≡ b → is_member (member_if b k r ++ members_from test (k + 1) rows) w ≡ true → (is_member (members_from test (k + 1) rows) w ≡ true → test w ≡ true) → test w ≡ true
@@ -562,10 +548,6 @@ pub filter_member : (test : Member → Bool) (ms : List Member) (w : ℕ) → is
 filter_member test [] w e = e
 filter_member test (m ∷ ms) w e = by_test (test m) e (filter_member test ms w)
   where
-    or_right : (a b : Bool) → b ≡ true → (a || b) ≡ true
-    or_right true b e = refl
-    or_right false b e = e
-
     or_along : (a b c : Bool) → (b ≡ true → c ≡ true) → (a || b) ≡ true → (a || c) ≡ true
     or_along true b c f e = refl
     or_along false b c f e = f e

@@ -4,6 +4,7 @@ use Rattle.std.proofs.Common.{◌≡◌, ◌⊎◌, ℕ, ◌+◌, ◌==◌, ◌<
 use Rattle.std.specs.Prelude.{option_map, is_some, ◌&&◌, not, if◌then◌else◌, nat_lt, slice_get}
 use Rattle.std.specs.List.{range_with_len}
 use Rattle.std.proofs.Math.Seq.{drop-length}
+use Rattle.std.proofs.lemmas.Bool.{eq-eqb, eqb-true}
 use Rattle.vss_names.specs.declared.context.Context.{Context}
 use Rattle.vss_names.specs.declared.vss_result.VssResult.TheVariants.{AsyncCancelled}
 use Rattle.vss_names.specs.declared.set_outcome.SetOutcome.{SetOutcome}
@@ -39,6 +40,7 @@ use Rattle.vss_model.proofs.AtCut.{CutsNow, cuts, held_at_cut}
 use Rattle.vss_model.proofs.CutStep.{second_not, both, step_made_same, working_at_cut, after_cut, has_set}
 use Rattle.vss_model.proofs.OneCut.{ends_settle, plain_kind, changed_number, changed_result, uncut_at_cut, images_in_time}
 use Rattle.vss_model.proofs.NewestImage.{UpTo, image_of, images_up_to, newest_image}
+use Rattle.vss_model.proofs.Rows.{apart as apart_below}
 
 -- ## the fact
 
@@ -85,9 +87,6 @@ record Fewer (m : Bool) (h k : History) : Type 0 where
 fewer_same : (m : Bool) (h : History) → Fewer m h h
 fewer_same m h = record { writes = λ e. refl; images = λ n p e. e }
 
-equal : (a b : ℕ) → (a == b) ≡ true → a ≡ b
-equal a b e = grind arith
-
 passed_over : (b c : Bool) (x : ℕ) (less rest : Option ℕ) → (c ≡ true → b ≡ true) → b ≡ false → less ≡ rest → (if c then Some x else less) ≡ rest
 passed_over b true x less rest f g h = absurd (true_not_false b (f refl) g)
 passed_over b false x less rest f g h = h
@@ -110,7 +109,7 @@ point_in-filter test n [] = by_test (test n)
     by_test true = refl
     by_test false = refl
 point_in-filter test n (i ∷ images) =
-    filter_head (test i.set) (test n) i n (filter (λ j. test j.set) images) images (λ e. ap test (equal i.set n e)) (point_in-filter test n images)
+    filter_head (test i.set) (test n) i n (filter (λ j. test j.set) images) images (λ e. ap test (eqb-true i.set n e)) (point_in-filter test n images)
 
 some_of : (b : Bool) (o less : Option ℕ) (p : ℕ) → less ≡ (if b then o else None) → less ≡ Some p → o ≡ Some p
 some_of true o less p e f = sym e ∙ f
@@ -402,7 +401,7 @@ on_reverted m v u f st less e h = by_cases (u == v) refl
     by_cases true g =
         no_image_any m v st.course.agenda (in_progress st) _
         (no_image_fewer false (in_progress st) (history_of st v) _ (fewer-change_at false f less u st.volumes v)
-        (outside_no_image m v st.course.agenda (in_progress st) (history_of st v) (subst (λ x. is_in_set x (in_progress st) ≡ false) (equal u v g) e) h))
+        (outside_no_image m v st.course.agenda (in_progress st) (history_of st v) (subst (λ x. is_in_set x (in_progress st) ≡ false) (eqb-true u v g) e) h))
     by_cases false g = on_other m v u f st g h
 
 on_reverts : (m : Bool) (v : ℕ) (s : Plan) (u : ℕ) (k : Kept) (mark : Mark) (st : State) → is_in_set u (in_progress st) ≡ false → Unused m v st → Unused m v (reverted_as s u k mark st).1
@@ -453,10 +452,7 @@ cut_each_at n vs base (x ∷ hs) (suc v) u e = cut_each_at n vs (base + 1) hs v 
     shift a b u e = omega arith
 
 point_in-append : (n p : ℕ) (images : List Image) → point_in n images ≡ None → point_in n (images ++ image_of n p ∷ []) ≡ Some p
-point_in-append n p [] e = rw (own n) refl
-  where
-    own : (a : ℕ) → (a == a) ≡ true
-    own a = grind arith
+point_in-append n p [] e = rw (eq-eqb n n refl) refl
 point_in-append n p (i ∷ images) e = by_cases (i.set == n) e (point_in-append n p images)
   where
     by_cases : (b : Bool) → (if b then Some i.point else point_in n images) ≡ None → (point_in n images ≡ None → point_in n (images ++ image_of n p ∷ []) ≡ Some p) → (if b then Some i.point else point_in n (images ++ image_of n p ∷ [])) ≡ Some p
@@ -620,14 +616,8 @@ later_last i n p [] h = h.0
 later_last i n p (j ∷ older) h = later_last i n p older h.2
 
 used_by-last : (blocks n p writes : ℕ) (ws : List Write) (older : List Image) → AreInTime writes (older ++ image_of n p ∷ []) → used_by blocks ws (older ++ image_of n p ∷ []) n ≡ Some (length (named blocks ws (image_of n p) []))
-used_by-last blocks n p writes ws [] h = rw (own n) refl
-  where
-    own : (a : ℕ) → (a == a) ≡ true
-    own a = grind arith
-used_by-last blocks n p writes ws (i ∷ older) h = rw (differs i.set n (later_last i n p older h.1)) (used_by-last blocks n p writes ws older h.2)
-  where
-    differs : (a n : ℕ) → a < n → (a == n) ≡ false
-    differs a n l = grind arith
+used_by-last blocks n p writes ws [] h = rw (eq-eqb n n refl) refl
+used_by-last blocks n p writes ws (i ∷ older) h = rw (apart_below i.set n (later_last i n p older h.1)) (used_by-last blocks n p writes ws older h.2)
 
 -- and it uses no slot
 pub held_slots : (s : Plan) (acts : List Act) (r : SetRow) (v p blocks : ℕ) → in_progress (state s acts) ≡ Some r → is_held (state s acts) v ≡ true → point_in r.number (history_of (state s acts) v).images ≡ Some p

@@ -1,6 +1,7 @@
 -- The effective writes of a volume of the set in progress do not change while it is held.
 use Rattle.std.proofs.Common.{◌≡◌, ℕ, ◌+◌, ◌==◌, zero, suc, List, [], ◌∷◌, Option, Some, None, refl, Bool, true, false, map, ap, ◌∙◌, subst, arith}
 use Rattle.std.specs.Prelude.{if◌then◌else◌, slice_get}
+use Rattle.std.proofs.lemmas.Bool.{eqb-true}
 use Rattle.vss_names.specs.declared.context.Context.{Context}
 use Rattle.vss_names.specs.declared.context.Context.TheVariants.{Backup, AppRollback, NasRollback}
 use Rattle.vss_names.specs.declared.vss_result.VssResult.{VssResult}
@@ -182,11 +183,8 @@ on_reverts v ws s u k (FaultAfter n) st e h = writes-other (reverted_in_part (bl
 pub apart : (test : ℕ → Bool) (u v : ℕ) → test u ≡ false → test v ≡ true → (u == v) ≡ false
 apart test u v e f = by_cases (u == v) refl
   where
-    equal : (a b : ℕ) → (a == b) ≡ true → a ≡ b
-    equal a b e = grind arith
-
     by_cases : (b : Bool) → (u == v) ≡ b → b ≡ false
-    by_cases true g = absurd (true_not_false (test u) (ap test (equal u v g) ∙ f) e)
+    by_cases true g = absurd (true_not_false (test u) (ap test (eqb-true u v g) ∙ f) e)
     by_cases false g = refl
 
 kept_by_writes : (v : ℕ) (ws : List Write) (st : State) (r : SetRow) → in_progress st ≡ Some r → is_among v r.volumes ≡ true → is_held st v ≡ true → IsKeptByWrites (HasWrites v ws) st

@@ -4,6 +4,7 @@ use Rattle.std.specs.Prelude.{option_map, is_some, ◌&&◌, ◌||◌, if◌then
 use Rattle.std.proofs.lemmas.List.Folds.{list_any-append}
 use Rattle.std.proofs.Math.Seq.{take-append_seam}
 use Rattle.std.proofs.lemmas.List.{length_push}
+use Rattle.std.proofs.lemmas.Bool.{eq-eqb, eqb-true, ltb-true}
 use Rattle.vss_names.specs.declared.context.Context.{Context}
 use Rattle.vss_names.specs.declared.context.Context.TheVariants.{Backup, AppRollback, NasRollback}
 use Rattle.vss_names.specs.declared.vss_result.VssResult.{VssResult}
@@ -42,7 +43,8 @@ use Rattle.vss_model.proofs.HeldOfSet.{Follows, GoesOn, goes_answered, goes_step
 use Rattle.vss_model.proofs.CutLog.{is_cut_made}
 use Rattle.vss_model.proofs.AtCut.{IsAtCut, CutsNow, cuts, cut_group, later_places, cut_is_open}
 use Rattle.vss_model.proofs.CutStep.{second_not, both, step_made_same, working_at_cut, after_cut, has_set}
-use Rattle.vss_model.proofs.CutHistory.{Above, Shown, no_greater, Known, writes_at, ShownIn, IsShown, AllShown, all-map, all-change_at, all-gone, all_along, shown-reverted, shown-reverted_in_part, shown-dropped, shown-written, shown-cut, below-known, shown_at}
+use Rattle.vss_model.proofs.CutHistory.{Above, Shown, no_greater, Known, writes_at, ShownIn, IsShown, AllShown, all-map, all-change_at, all-gone, all_along, shown-reverted, shown-reverted_in_part, shown-dropped, shown-written, shown-cut, below-known, shown_at, append_none}
+use Rattle.vss_model.proofs.Rows.{apart}
 
 -- ## the fact
 
@@ -344,11 +346,8 @@ pub row_number : (n : ℕ) (rows : List SetRow) (r : SetRow) → find (λ q. q.n
 row_number n [] r e = absurd cc
 row_number n (q ∷ rows) r e = head_if (q.number == n) refl e (row_number n rows r)
   where
-    equal : (a b : ℕ) → (a == b) ≡ true → a ≡ b
-    equal a b e = grind arith
-
     head_if : (b : Bool) → (q.number == n) ≡ b → (if b then Some q else find (λ q. q.number == n) rows) ≡ Some r → (find (λ q. q.number == n) rows ≡ Some r → r.number ≡ n) → r.number ≡ n
-    head_if true f g ih = let same : q ≡ r = cc in subst (λ x. x.number ≡ n) same (equal q.number n f)
+    head_if true f g ih = let same : q ≡ r = cc in subst (λ x. x.number ≡ n) same (eqb-true q.number n f)
     head_if false f g ih = ih g
 
 pub kept_point : (n : ℕ) (o : Option SetRow) (p : Option ℕ) (x : Kept) → ((r : SetRow) → o ≡ Some r → r.number ≡ n) → kept_of o p ≡ Some x → (x.row.number ≡ n) × (p ≡ Some x.point)
@@ -546,17 +545,14 @@ newest k st r c e o h = record { number = number; none = λ m l. by_cases (nat_l
         made_not (k r.number) c.agenda c.at.cut
         (subst (λ x. Progress k (Some c.agenda) x) e (subst (λ a. Progress k a (in_progress st)) c.runs h.progress))
 
-    less : (a b : ℕ) → nat_lt a b ≡ true → a < b
-    less a b e = grind arith
-
     same : (a b m : ℕ) → a ≡ b → nat_lt b m ≡ false → a ≤ m → a ≡ m
     same a b m e f l = grind arith
 
     by_cases : (b : Bool) (m : ℕ) → nat_lt (length st.sets) m ≡ b → r.number ≤ m → k m ≡ None
-    by_cases true m f l = h.fresh m (less (length st.sets) m f)
+    by_cases true m f l = h.fresh m (ltb-true (length st.sets) m f)
     by_cases false m f l = subst (λ x. k x ≡ None) (same r.number (length st.sets) m number f l) own
 
-all_three : (a b c : Bool) → a ≡ true → b ≡ true → c ≡ true → (a && b && c) ≡ true
+pub all_three : (a b c : Bool) → a ≡ true → b ≡ true → c ≡ true → (a && b && c) ≡ true
 all_three true true true e f g = refl
 all_three true true false e f g = absurd cc
 all_three true false c e f g = absurd cc
@@ -570,10 +566,7 @@ last_not false b c e = refl
 cut_now : (k : Known) (st : State) (act : Act) (r : SetRow) → is_provider act.event ≡ true → is_cut_group (open_group (left_now st)) ≡ true → in_progress st ≡ Some r → k r.number ≡ None → next_known k st act r.number ≡ Some st.volumes
 cut_now k st act r e f g h =
     ap (λ o. or_else o (now_if (is_cut_of r.number st act) st.volumes)) h
-    ∙ ap (λ b. now_if b st.volumes) (all_three (is_provider act.event) (is_cut_group (open_group (left_now st))) (is_set r.number (in_progress st)) e f (ap (is_set r.number) g ∙ own r.number))
-  where
-    own : (a : ℕ) → (a == a) ≡ true
-    own a = grind arith
+    ∙ ap (λ b. now_if b st.volumes) (all_three (is_provider act.event) (is_cut_group (open_group (left_now st))) (is_set r.number (in_progress st)) e f (ap (is_set r.number) g ∙ eq-eqb r.number r.number refl))
 
 known_stays : (k : Known) (st : State) (act : Act) (m : ℕ) (hs : List History) → k m ≡ Some hs → next_known k st act m ≡ Some hs
 known_stays k st act m hs e = ap (λ o. or_else o (now_if (is_cut_of m st act) st.volumes)) e
@@ -581,10 +574,7 @@ known_stays k st act m hs e = ap (λ o. or_else o (now_if (is_cut_of m st act) s
 later_unknown : (k : Known) (st : State) (act : Act) (r : SetRow) (m : ℕ) → in_progress st ≡ Some r → r.number < m → k m ≡ None → next_known k st act m ≡ None
 later_unknown k st act r m e l f =
     ap (λ o. or_else o (now_if (is_cut_of m st act) st.volumes)) f
-    ∙ ap (λ b. now_if b st.volumes) (last_not (is_provider act.event) (is_cut_group (open_group (left_now st))) (is_set m (in_progress st)) (ap (is_set m) e ∙ differs r.number m l))
-  where
-    differs : (a b : ℕ) → a < b → (a == b) ≡ false
-    differs a b l = grind arith
+    ∙ ap (λ b. now_if b st.volumes) (last_not (is_provider act.event) (is_cut_group (open_group (left_now st))) (is_set m (in_progress st)) (ap (is_set m) e ∙ apart r.number m l))
 
 idle_none : (k : Known) (a : Option Agenda) (b : Agenda) (o : Option SetRow) → a ≡ Some b → IdleProgress k a o
 idle_none k None b o e = absurd cc
@@ -782,11 +772,7 @@ images_in_time s acts v = in_time_at (known_from s nothing_known (start s) acts)
 -- ## what an image reads
 
 pub all_taken : (ws : List Write) → take (length ws) ws ≡ ws
-all_taken ws = ap (take (length ws)) (more ws) ∙ take-append_seam ws []
-  where
-    more : (xs : List Write) → xs ≡ xs ++ []
-    more [] = refl
-    more (x ∷ xs) = ap (λ ys. x ∷ ys) (more xs)
+all_taken ws = ap (take (length ws)) (append_none ws) ∙ take-append_seam ws []
 
 reads_at : (s : Plan) (v p b : ℕ) (ws : List Write) (o : Option (List Act)) (before : List Act) → o ≡ Some before → IsShownAt s v p ws o
     → content ws p b ≡ content (history_of (state s before) v).writes (length (history_of (state s before) v).writes) b

@@ -1,6 +1,7 @@
 -- Every act keeps the state orderly.
 use Rattle.std.proofs.Common.{◌≡◌, ℕ, ◌+◌, ◌==◌, List, [], ◌∷◌, Option, Some, None, refl, Bool, true, false, map, ap, sym, ◌∙◌, subst, find, fold, inl, inr, length}
-use Rattle.std.specs.Prelude.{option_map, is_some, ◌&&◌, ◌⊎◌, not, if◌then◌else◌, nat_lt}
+use Rattle.std.specs.Prelude.{option_map, is_some, ◌⊎◌, not, if◌then◌else◌, nat_lt}
+use Rattle.std.proofs.lemmas.Bool.{and_parts}
 use Rattle.vss_names.specs.declared.context.Context.{Context}
 use Rattle.vss_names.specs.declared.context.Context.TheVariants.{Backup, AppRollback, NasRollback}
 use Rattle.vss_names.specs.declared.order.Order.{Order}
@@ -351,14 +352,6 @@ begun_well k ms vs now c st q f g w h =
     let a : Agenda = record { kind = k; members = ms; volumes = vs; begun = now; log = [] } in
     begun_at (is_done (groups_left a)) a c (record c { agenda = Some a }) st q refl f g w h
 
-and_first : (a b : Bool) → (a && b) ≡ true → a ≡ true
-and_first true b e = refl
-and_first false b e = absurd cc
-
-and_second : (a b : Bool) → (a && b) ≡ true → b ≡ true
-and_second true b e = e
-and_second false b e = absurd cc
-
 -- ## what the table of calls says
 
 is_opened : (s : Stage) → is_stage s Opened ≡ true → s ≡ Opened
@@ -614,10 +607,10 @@ kept_by_changes = record {
   steps = λ mark st e h. on_steps mark st e h;
   ticks = on_ticks;
   fails = λ why st h. on_failed_in (in_progress st) why st refl h;
-  gathers = λ s q st g h. begun_well Gather _ [] st.clock _ st q refl g.stands (is_opened q.stage (and_first (is_stage q.stage Opened) (has_writers q.context) g.allowed)) h;
-  prepares = λ s q st g h. either_orderly (has_no_volume (in_progress st)) _ _ h (begun_well Prepare _ [] st.clock _ st q refl g.stands (is_started q.stage (and_first (is_stage q.stage Started) (has_writers q.context) g.allowed), and_second (is_stage q.stage Started) (has_writers q.context) g.allowed) h);
+  gathers = λ s q st g h. begun_well Gather _ [] st.clock _ st q refl g.stands (is_opened q.stage (and_parts (is_stage q.stage Opened) (has_writers q.context) g.allowed).0) h;
+  prepares = λ s q st g h. either_orderly (has_no_volume (in_progress st)) _ _ h (begun_well Prepare _ [] st.clock _ st q refl g.stands (is_started q.stage (and_parts (is_stage q.stage Started) (has_writers q.context) g.allowed).0, (and_parts (is_stage q.stage Started) (has_writers q.context) g.allowed).1) h);
   snapshots = λ q st g h. either_orderly (has_no_volume (in_progress st)) _ _ h (begun_well Snapshot st.course.members _ st.clock st.course st q refl g.stands (snapshot_allowed (has_writers q.context) q.stage g.allowed) h);
-  completes = λ q st g h. begun_well Complete _ [] st.clock _ st q refl g.stands (is_done_stage q.stage (and_first (is_stage q.stage Done) (has_writers q.context) g.allowed)) h;
+  completes = λ q st g h. begun_well Complete _ [] st.clock _ st q refl g.stands (is_done_stage q.stage (and_parts (is_stage q.stage Done) (has_writers q.context) g.allowed).0) h;
   clears = λ s v b st h. volumes_orderly _ st (live_gone _ st.sets _ st.volumes h.live) h;
   deletes_set = λ n st h. volumes_orderly _ st (all_live-map (dropped n) st.sets (λ x g. live_dropped n st.sets x g) st.volumes h.live) h;
   deletes_image = λ n v st h. volumes_orderly _ st (all_live-change_at (dropped n) st.sets (λ x g. live_dropped n st.sets x g) v st.volumes h.live) h;

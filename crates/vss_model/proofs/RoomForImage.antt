@@ -4,6 +4,7 @@ use Rattle.std.proofs.Common.{◌≡◌, ℕ, zero, suc, ◌+◌, ◌==◌, ◌<
 use Rattle.std.specs.Prelude.{option_map, ◌&&◌, ◌||◌, if◌then◌else◌, nat_le}
 use Rattle.std.proofs.lemmas.List.{append_assoc, length-append}
 use Rattle.std.proofs.lemmas.List.Folds.{list_any-append}
+use Rattle.std.proofs.lemmas.Bool.{eq-eqb, eqb-true}
 use Rattle.vss_names.specs.declared.context.Context.{Context}
 use Rattle.vss_names.specs.declared.set_outcome.SetOutcome.{SetOutcome}
 use Rattle.vss_names.specs.declared.set_outcome.SetOutcome.TheVariants.{Running, Complete as CompleteSet, Failed as FailedSet}
@@ -33,7 +34,7 @@ use Rattle.vss_model.proofs.HeldOfSet.{find-row_cut, volumes-row_cut_if}
 use Rattle.vss_model.proofs.AtCut.{cuts}
 use Rattle.vss_model.proofs.CutStep.{second_not, both, step_made_same, after_cut, has_set}
 use Rattle.vss_model.proofs.CutAppend.{or_cut, append_nothing, cut-append}
-use Rattle.vss_model.proofs.OneCut.{changed_result, not_cut_yet}
+use Rattle.vss_model.proofs.OneCut.{changed_result, not_cut_yet, all_three}
 use Rattle.vss_model.proofs.Volumes.{at, FewerIn, fewer_in_map, fewer_in_change, fewer_in_gone, fewer_dropped, fewer_written, fewer_reverted, fewer_in_part}
 use Rattle.vss_model.proofs.FewerImages.{fewer_images_dropped, fewer_released}
 
@@ -102,12 +103,9 @@ fewer_than most n e = grind arith
 added : (vs : List ℕ) (v u : ℕ) → is_among u (vs ++ v ∷ []) ≡ true → (is_among u vs ≡ true) ⊎ (v ≡ u)
 added vs v u e = by_cases (is_among u vs) (v == u) refl (sym (list_any-append (λ (y : ℕ). y == u) vs (v ∷ [])) ∙ e)
   where
-    equal : (a b : ℕ) → (a == b) ≡ true → a ≡ b
-    equal a b e = grind arith
-
     by_cases : (b c : Bool) → (v == u) ≡ c → (b || (c || false)) ≡ true → (b ≡ true) ⊎ (v ≡ u)
     by_cases true c f g = inl refl
-    by_cases false true f g = inr (equal v u f)
+    by_cases false true f g = inr (eqb-true v u f)
     by_cases false false f g = absurd cc
 
 roomy_added : (b : Bool) (k : Cuts) (hs : List History) (v : ℕ) (r : SetRow) → length (at hs v).images < most_images → Roomy k hs (Some r) → Roomy k hs (Some (if b then with_volume v r else r))
@@ -277,16 +275,8 @@ at_cut s past act r e f g h =
     number true now = refl
     number false now = refl
 
-    all_true : (a b c : Bool) → a ≡ true → b ≡ true → c ≡ true → (a && b && c) ≡ true
-    all_true true true c e f g = g
-    all_true true false c e f g = absurd cc
-    all_true false b c e f g = absurd cc
-
-    own : (a : ℕ) → (a == a) ≡ true
-    own a = grind arith
-
     now : is_cut_of r.number (state s past) act ≡ true
-    now = all_true (is_provider act.event) (is_cut_group (open_group (left_now (state s past)))) (is_set r.number (in_progress (state s past))) e f (ap (is_set r.number) g ∙ own r.number)
+    now = all_three (is_provider act.event) (is_cut_group (open_group (left_now (state s past)))) (is_set r.number (in_progress (state s past))) e f (ap (is_set r.number) g ∙ eq-eqb r.number r.number refl)
 
     by_cut : (v : ℕ) (o : Option (List Act)) → known s (past ++ act ∷ []) (row_cut r.number (state s past).clock r).number ≡ o → is_among v r.volumes ≡ true
         → place_for o + length (at (cut_set (Some r) (state s past)).volumes v).images ≤ most_images

@@ -1,7 +1,8 @@
 -- A running agenda waits for somebody: for the provider's step, or for a writer's answer; and where it waits for an answer
 -- a limit runs, which an idle stretch spends.
 use Rattle.std.proofs.Common.{◌≡◌, ℕ, ◌+◌, ◌-◌, ◌==◌, ◌<◌, List, [], ◌∷◌, ◌++◌, Option, Some, None, refl, Bool, true, false, ap, sym, ◌∙◌, subst, fold, inl, inr, arith}
-use Rattle.std.specs.Prelude.{◌⊎◌, is_some, ◌&&◌, ◌||◌, not, if◌then◌else◌, nat_lt}
+use Rattle.std.specs.Prelude.{◌⊎◌, is_some, ◌&&◌, ◌||◌, not, if◌then◌else◌}
+use Rattle.std.proofs.lemmas.Bool.{lt-ltb}
 use Rattle.vss_names.specs.declared.context.Context.{Context}
 use Rattle.vss_names.specs.declared.order.Order.{Order}
 use Rattle.vss_names.specs.declared.order.Order.TheVariants.{Identify, PrepareBackup, PrepareSnapshot, Freeze, Thaw, PostSnapshot, BackupComplete}
@@ -247,11 +248,8 @@ agenda_goes_on s acts e = goes_at (state s acts).course.agenda e (open_fold s (s
 -- ## an idle stretch spends a limit
 
 spends_one : (now since ticks : ℕ) → is_spent (now + ticks_until now since ticks) since ticks ≡ true
-spends_one now since ticks = less ticks ((now + ((since + ticks + 1) - now)) - since) (enough now since ticks)
+spends_one now since ticks = lt-ltb ticks ((now + ((since + ticks + 1) - now)) - since) (enough now since ticks)
   where
-    less : (a b : ℕ) → a < b → nat_lt a b ≡ true
-    less a b l = grind arith
-
     enough : (now since ticks : ℕ) → ticks < (now + ((since + ticks + 1) - now)) - since
     enough now since ticks = omega arith
 
